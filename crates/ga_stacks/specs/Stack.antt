@@ -1,0 +1,47 @@
+-- The places of a stack, and what a change tells of the words that it overwrote.
+use Rattle.std.specs.Prelude.{ℕ, ◌<◌, ◌≤◌, ◌^◌, ◌≢◌, List, [], ◌∷◌, slice_index, slice_set, All, AllPairs, length}
+use Rattle.ga_stacks.specs.declared.place.StackPlace.{StackPlace}
+use Rattle.ga_stacks.specs.declared.place.StackPlace.TheVariants.{Pointer, Top, Second, Cell}
+use Rattle.ga_stacks.specs.Ring.{Ring}
+
+-- what stands at a place
+abbrev pub word_at : Ring → StackPlace → ℕ
+word_at ring Pointer = ring.pointer
+word_at ring Top = slice_index ring.registers 0
+word_at ring Second = slice_index ring.registers 1
+word_at ring (Cell k) = slice_index ring.cells k
+
+-- the stack with another value at a place
+abbrev pub with_word : Ring → StackPlace → ℕ → Ring
+with_word ring Pointer value = record ring { pointer = value }
+with_word ring Top value = record ring { registers = slice_set ring.registers 0 value }
+with_word ring Second value = record ring { registers = slice_set ring.registers 1 value }
+with_word ring (Cell k) value = record ring { cells = slice_set ring.cells k value }
+
+-- the stack with its old values written back, the last of them first
+abbrev pub restored : Ring → List (StackPlace × ℕ) → Ring
+restored ring [] = ring
+restored ring (saved ∷ rest) = with_word (restored ring rest) saved.0 saved.1
+
+-- a place that a stack with so many registers has
+abbrev pub HasPlace : ℕ → StackPlace → Type 0
+HasPlace registers Pointer = Unit {0}
+HasPlace registers Top = Unit {0}
+HasPlace registers Second = 2 ≤ registers
+HasPlace registers (Cell k) = k < 8
+
+-- a value in its place's range
+abbrev pub FitsPlace : StackPlace → ℕ → Type 0
+FitsPlace Pointer value = value < 8
+FitsPlace Top value = value < 2 ^ 18
+FitsPlace Second value = value < 2 ^ 18
+FitsPlace (Cell k) value = value < 2 ^ 18
+
+-- what a change of a stack with so many registers tells: places of that stack, with values in their ranges
+abbrev pub AreFit : ℕ → List (StackPlace × ℕ) → Type 0
+AreFit registers [] = Unit {0}
+AreFit registers (saved ∷ rest) = HasPlace registers saved.0 × FitsPlace saved.0 saved.1 × AreFit registers rest
+
+-- no place twice
+abbrev pub IsOnce : List (StackPlace × ℕ) → Type 0
+IsOnce saved = AllPairs (λ a b. a.0 ≢ b.0) saved

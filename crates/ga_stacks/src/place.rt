@@ -1,0 +1,23 @@
+//! The places of a stack, and what a change tells of them.
+
+use arrayvec::ArrayVec;
+
+/// How many cells a ring has.
+pub(crate) const CELLS: u8 = 8;
+
+/// A register, a cell or the pointer of a stack.
+#[derive(Clone, Copy, PartialEq, Eq, Debug, Default)]
+pub enum StackPlace {
+    /// The number of the newest cell, 0 to 7.
+    #[default]
+    Pointer,
+    /// T or R.
+    Top,
+    /// S, of a data stack alone.
+    Second,
+    /// A cell of the ring, 0 to 7.
+    Cell(u8),
+}
+
+/// The places that a change overwrote, each once, with their old values.
+pub type Overwritten = ArrayVec<(StackPlace, u32), 4>;

@@ -1,0 +1,138 @@
+//! The return stack.
+
+ghost use Rattle.std.specs.Prelude.{◌≡◌, ◌<◌, ◌≤◌, slice_index, length};
+ghost use Rattle.ga_stacks.specs.Ring.{fresh_ring, listed, pushed, popped_return, topped};
+ghost use Rattle.ga_stacks.specs.Stack.{word_at, with_word, restored, HasPlace, FitsPlace, AreFit, IsOnce};
+
+use crate::place::{CELLS, Overwritten, StackPlace};
+use arrayvec::ArrayVec;
+use ga_word::Word18;
+use std::marker::Model;
+
+/// The return stack: R over a ring of eight cells.
+#[derive(Drop)]
+pub struct ReturnStack {
+    top: Word18,
+    cells: [Word18; 8],
+    pointer: u8,
+}
+
+impl Model for ReturnStack {
+    ghost use Rattle.std.specs.Prelude.{ℕ, ◌<◌, List, [], ◌∷◌};
+    ghost use Rattle.ga_stacks.specs.Ring.{Ring};
+
+    ghost Value = { Ring };
+
+    ghost view = { λ s. record { registers = s.top ∷ []; cells = s.cells; pointer = s.pointer } };
+
+    ghost invariant = { λ s. s.pointer < 8 };
+}
+
+impl ReturnStack {
+    /// A stack with 015555 in each of its words.
+    pub fn new() -> Self
+        ensures { result ≡ fresh_ring 1 }
+    {
+        let word = Word18::low(0x15555);
+        ReturnStack {
+            top: word,
+            cells: [word; 8],
+            pointer: 0,
+        }
+    }
+
+    /// R, the top word.
+    pub fn top(&self) -> Word18
+        ensures { result ≡ slice_index (listed self.now) 0 }
+    {
+        self.top
+    }
+
+    /// The word at a place of the list, 0 for the top.
+    pub fn at(&self, place: u8) -> Word18
+        requires { place < 9 }
+        ensures { result ≡ slice_index (listed self.now) place }
+    {
+        match place {
+            0 => self.top,
+            _ => self.cells[((self.pointer + place - 1) % CELLS) as usize],
+        }
+    }
+
+    /// Puts a word on top; the oldest word is lost.
+    pub fn push(&mut self, word: Word18) -> Overwritten
+        ensures pushed { listed self.new ≡ pushed word (listed self.old) }
+        ensures undone { restored self.new result.items ≡ self.old }
+        ensures fit { AreFit 1 result.items }
+        ensures once { IsOnce result.items }
+        ensures count { length result.items ≤ 3 }
+    {
+        let pointer = (self.pointer + 7) % CELLS;
+        let mut saved = ArrayVec::new();
+        saved.push((StackPlace::Pointer, u32::from(self.pointer)));
+        saved.push((StackPlace::Cell(pointer), self.cells[pointer as usize].get()));
+        saved.push((StackPlace::Top, self.top.get()));
+        self.pointer = pointer;
+        self.cells[pointer as usize] = self.top;
+        self.top = word;
+        saved
+    }
+
+    /// Takes the top word away; the word that was second is also the new last one.
+    pub fn pop(&mut self) -> Overwritten
+        ensures popped { listed self.new ≡ popped_return (listed self.old) }
+        ensures undone { restored self.new result.items ≡ self.old }
+        ensures fit { AreFit 1 result.items }
+        ensures once { IsOnce result.items }
+        ensures count { length result.items ≤ 2 }
+    {
+        let mut saved = ArrayVec::new();
+        saved.push((StackPlace::Pointer, u32::from(self.pointer)));
+        saved.push((StackPlace::Top, self.top.get()));
+        self.top = self.cells[self.pointer as usize];
+        self.pointer = (self.pointer + 1) % CELLS;
+        saved
+    }
+
+    /// Puts another word in the place of the top.
+    pub fn replace_top(&mut self, word: Word18) -> Overwritten
+        ensures topped { listed self.new ≡ topped word (listed self.old) }
+        ensures undone { restored self.new result.items ≡ self.old }
+        ensures fit { AreFit 1 result.items }
+        ensures once { IsOnce result.items }
+        ensures count { length result.items ≤ 1 }
+    {
+        let mut saved = ArrayVec::new();
+        saved.push((StackPlace::Top, self.top.get()));
+        self.top = word;
+        saved
+    }
+
+    /// What stands in a register, a cell or the pointer.
+    pub fn get(&self, place: StackPlace) -> u32
+        requires { HasPlace 1 place }
+        ensures value { result ≡ word_at self.now place }
+        ensures in_range { FitsPlace place result }
+    {
+        match place {
+            StackPlace::Top => self.top.get(),
+            StackPlace::Second => unreachable!(),
+            StackPlace::Cell(k) => self.cells[k as usize].get(),
+            StackPlace::Pointer => u32::from(self.pointer),
+        }
+    }
+
+    /// Writes a register, a cell or the pointer.
+    pub fn set(&mut self, place: StackPlace, value: u32)
+        requires place { HasPlace 1 place }
+        requires in_range { FitsPlace place value }
+        ensures { self.new ≡ with_word self.old place value }
+    {
+        match place {
+            StackPlace::Top => self.top = Word18::low(value),
+            StackPlace::Second => unreachable!(),
+            StackPlace::Cell(k) => self.cells[k as usize] = Word18::low(value),
+            StackPlace::Pointer => self.pointer = value as u8,
+        }
+    }
+}
