@@ -1,0 +1,69 @@
+//! What an address names, and the address after it.
+
+ghost use Rattle.std.specs.Prelude.{◌≡◌, ◌<◌, ◌^◌};
+ghost use Rattle.ga_ports.specs.Address.{classified, advanced, IsTarget};
+
+use crate::side::PortSet;
+use ga_word::Word18;
+
+/// What an address names (DB001, addresses).
+#[derive(Clone, Copy, PartialEq, Eq, Debug)]
+pub enum Target {
+    /// A cell of RAM, 0 to 63.
+    Ram(u8),
+    /// A cell of ROM, 0 to 63.
+    Rom(u8),
+    /// The register `io`.
+    Io,
+    /// One or more ports.
+    Ports(PortSet),
+    /// None of these.
+    Bad,
+}
+
+/// What the low nine bits of a number name.
+pub fn classify(address: u32) -> Target
+    ensures value { result ≡ classified address }
+    ensures in_range { IsTarget result }
+{
+    let low = address % 512;
+    if low / 256 == 1 {
+        let x = low ^ 0x155;
+        if x == 8 {
+            return Target::Io;
+        }
+        if x == 0 || x % 16 != 0 {
+            return Target::Bad;
+        }
+        Target::Ports(PortSet::of((x / 16) as u8))
+    } else if low / 128 == 0 {
+        Target::Ram((low % 64) as u8)
+    } else {
+        Target::Rom((low % 64) as u8)
+    }
+}
+
+/// P after a word was read or written there: its low seven bits count up, unless it names a port.
+pub fn advance_p(p: u32) -> u32
+    requires { p < 2 ^ 10 }
+    ensures value { result ≡ advanced p }
+    ensures in_range { result < 2 ^ 10 }
+{
+    if p / 256 % 2 == 1 {
+        p
+    } else {
+        p / 128 * 128 + (p + 1) % 128
+    }
+}
+
+/// A after a word was read or written there, by the rule for P on A's own bits.
+pub fn advance_a(a: Word18) -> Word18
+    ensures { result ≡ advanced a }
+{
+    let address = a.get();
+    if address / 256 % 2 == 1 {
+        a
+    } else {
+        Word18::low(address / 128 * 128 + (address + 1) % 128)
+    }
+}
