@@ -1,0 +1,13 @@
+use Rattle.std.proofs.Common.{◌≡◌, ◌<◌, ◌/◌, ◌%◌, ◌^◌, ◌-◌, ◌==◌, false, refl, arith, sym, ◌∙◌, ap, bit_and}
+use Rattle.std.specs.Prelude.{bit_xor}
+use Rattle.std.proofs.Math.Nat.{mod-eq_of_lt}
+use Rattle.std.proofs.lemmas.Nat.{and_le_l, xor_lt}
+use Rattle.ga_node.proofs.Saving.{event_of, saves_then, saves_none, follows_ok, follows_err}
+use Rattle.ga_node.proofs.node.Node.run_and.Goals as goal
+
+pub returns : goal.returns
+returns c =
+    let small : bit_and c.get-x.result c.get-y.result < 2 ^ 18 = omega (arith, and_le_l c.get-x.result c.get-y.result) in
+    let whole : bit_and c.get-x.result c.get-y.result % 2 ^ 18 ≡ bit_and c.get-x.result c.get-y.result = mod-eq_of_lt small in
+    event_of c.requires (saves_then (saves_then c.pop_data.ensures.saves c.set_top.ensures.saves) c.go_on.ensures.saves)
+    (rw (c.go_on.ensures.changed, c.set_top.ensures.changed, c.pop_data.ensures.changed, c.low.ensures, whole, c.get-x.ensures.value, c.get-y.ensures.value, c.top-top.ensures, c.second-second.ensures, c.code.ensures.value) refl)

@@ -1,0 +1,12 @@
+use Rattle.std.proofs.Common.{◌≡◌, ◌<◌, ◌/◌, ◌%◌, ◌^◌, ◌-◌, ◌==◌, false, refl, arith, sym, ◌∙◌, ap, bit_and}
+use Rattle.std.specs.Prelude.{bit_xor}
+use Rattle.std.proofs.Math.Nat.{mod-eq_of_lt}
+use Rattle.std.proofs.lemmas.Nat.{and_le_l, xor_lt}
+use Rattle.ga_node.proofs.Saving.{event_of, saves_then, saves_none, follows_ok, follows_err}
+use Rattle.ga_node.proofs.node.Node.run_call.Goals as goal
+
+pub returns : goal.returns
+returns c =
+    let whole : c.p-p.result % 2 ^ 18 ≡ c.p-p.result = mod-eq_of_lt (omega arith) in
+    event_of c.requires.empty (saves_then (saves_then c.push_return.ensures.saves c.set_p.ensures.saves) c.skip.ensures.saves)
+    (rw (c.skip.ensures.changed, c.set_p.ensures.changed, c.push_return.ensures.changed, c.low.ensures, whole, c.target-to.ensures.value, c.p-p.ensures.value, c.i-i.ensures, c.slot-slot.ensures.value, c.code.ensures.value) refl)

@@ -1,0 +1,17 @@
+use Rattle.std.proofs.Common.{◌≡◌, ◌<◌, ◌/◌, ◌%◌, ◌^◌, ◌-◌, ◌==◌, false, refl, arith, sym, ◌∙◌, ap, bit_and}
+use Rattle.std.specs.Prelude.{bit_xor}
+use Rattle.std.proofs.Math.Nat.{mod-eq_of_lt}
+use Rattle.std.proofs.lemmas.Nat.{and_le_l, xor_lt}
+use Rattle.ga_node.proofs.Saving.{event_of, saves_then, saves_none, follows_ok, follows_err}
+use Rattle.ga_node.proofs.node.Node.run_fetch.Goals as goal
+
+pub returns-in-Err : goal.returns-in-Err
+returns-in-Err c =
+    let event = rw (c.get.ensures.value, c.a-a.ensures) at c.in-Err.ensures.event in
+    event_of c.requires.empty c.in-Err.ensures.saves (rw (event, follows_err) refl)
+
+pub returns-in-Ok : goal.returns-in-Ok
+returns-in-Ok c =
+    let given = rw (c.get.ensures.value, c.a-a.ensures) at c.in-Ok.ensures.word in
+    event_of c.requires.empty (saves_then (saves_then (saves_none _ _ _ _ 0 c.in-Ok.ensures.same c.in-Ok.ensures.unsaved) c.push_data.ensures.saves) c.go_on.ensures.saves)
+    (rw (given, follows_ok, c.go_on.ensures.changed, c.push_data.ensures.changed, c.in-Ok.ensures.same, c.code.ensures.value) refl)

@@ -1,0 +1,18 @@
+use Rattle.std.proofs.Common.{◌≡◌, ◌<◌, ◌/◌, ◌%◌, ◌^◌, ◌-◌, ◌==◌, false, refl, arith, sym, ◌∙◌, ap, bit_and}
+use Rattle.std.specs.Prelude.{bit_xor}
+use Rattle.std.proofs.Math.Nat.{mod-eq_of_lt}
+use Rattle.std.proofs.lemmas.Nat.{and_le_l, xor_lt}
+use Rattle.ga_node.proofs.Saving.{event_of, saves_then, saves_none, follows_ok, follows_err}
+use Rattle.ga_node.proofs.node.Node.run_next.Goals as goal
+
+pub returns-then-count-eq0 : goal.returns-then-count-eq0
+returns-then-count-eq0 c =
+    event_of c.requires.empty (saves_then c.pop_return.ensures.saves c.skip.ensures.saves)
+    (rw (c.skip.ensures.changed, c.pop_return.ensures.changed, ← c.top_return-top.ensures, ← c.get-count.ensures.value, c.if-count-eq0.true, c.code.ensures.value) refl)
+
+pub returns : goal.returns
+returns c =
+    let whole : (c.get-count.result - 1) % 2 ^ 18 ≡ (c.get-count.result - 1) = mod-eq_of_lt (omega arith) in
+    let more : (c.get-count.result == 0) ≡ false = grind arith in
+    event_of c.requires.empty (saves_then (saves_then c.set_top_return.ensures.saves c.set_p.ensures.saves) c.skip-2.ensures.saves)
+    (rw (c.skip-2.ensures.changed, c.set_p.ensures.changed, c.set_top_return.ensures.changed, c.target-to.ensures.value, c.p-p.ensures.value, c.i-i.ensures, c.slot-slot.ensures.value, c.low.ensures, whole, ← c.top_return-top.ensures, ← c.get-count.ensures.value, more, c.code-2.ensures.value) refl)

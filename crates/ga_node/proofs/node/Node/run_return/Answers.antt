@@ -1,0 +1,11 @@
+use Rattle.std.proofs.Common.{◌≡◌, ◌<◌, ◌/◌, ◌%◌, ◌^◌, ◌-◌, ◌==◌, false, refl, arith, sym, ◌∙◌, ap, bit_and}
+use Rattle.std.specs.Prelude.{bit_xor}
+use Rattle.std.proofs.Math.Nat.{mod-eq_of_lt}
+use Rattle.std.proofs.lemmas.Nat.{and_le_l, xor_lt}
+use Rattle.ga_node.proofs.Saving.{event_of, saves_then, saves_none, follows_ok, follows_err}
+use Rattle.ga_node.proofs.node.Node.run_return.Goals as goal
+
+pub returns : goal.returns
+returns c =
+    event_of c.requires (saves_then (saves_then c.set_p.ensures.saves c.pop_return.ensures.saves) c.skip.ensures.saves)
+    (rw (c.skip.ensures.changed, c.pop_return.ensures.changed, c.set_p.ensures.changed, c.get-p.ensures.value, c.top_return-top.ensures, c.code.ensures.value) refl)

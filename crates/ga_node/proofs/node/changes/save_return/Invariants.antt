@@ -1,0 +1,6 @@
+use Rattle.std.proofs.Common.{◌≡◌, ◌++◌, take}
+use Rattle.ga_node.specs.Saving.{return_values}
+use Rattle.ga_node.proofs.node.changes.save_return.Given as goal
+
+abbrev pub invariant-loop-place : goal.invariant-loop-place
+invariant-loop-place l = l.saved.items ≡ l.initial.saved.items ++ return_values (take l.place-index l.place-items)

@@ -1,0 +1,30 @@
+//! What an event of a node was, and why there is none.
+
+use thiserror::Error;
+
+/// What an event of a node's own was.
+#[derive(Clone, Copy, PartialEq, Eq, Debug)]
+pub enum Kind {
+    /// The word at P became the instruction word.
+    Fetch,
+    /// The opcode with this code was carried out.
+    Run(u8),
+    /// The node now waits at a port.
+    Wait,
+    /// The node is stopped: 1 for a write to several ports, 2 for an address that names nothing, 3 for a read of `io`.
+    Stop(u8),
+}
+
+/// Why an event can't be made.
+#[derive(Clone, Copy, PartialEq, Eq, Debug, Error)]
+pub enum NotReady {
+    /// The node waits (1).
+    #[error("the node waits")]
+    Waiting,
+    /// The node is stopped (2).
+    #[error("the node is stopped")]
+    Stopped,
+    /// The two ends of a transfer don't match (8). No event of a node's own is refused so.
+    #[error("the ends of the transfer don't match")]
+    Unmatched,
+}

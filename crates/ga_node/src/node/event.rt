@@ -1,0 +1,132 @@
+//! The events of a node's own: a fetch, an opcode, a wait or a stop.
+
+use super::{Node, Saved};
+use crate::kind::{Kind, NotReady};
+use crate::wait::{Reader, Wait};
+use arrayvec::ArrayVec;
+use ga_ports::advance_p;
+use ga_slots::{Op, opcode};
+
+impl Node {
+    ghost use Rattle.std.specs.Prelude.{◌≡◌, ◌+◌, ◌<◌, ◌≤◌, ◌^◌, ◌%◌, length, slice_index, slice_set, List, min, [], Ok, Err, IfOk, IfErr, OnOk, OnErr, Some, None, IfNone, MatchResult};
+    ghost use Rattle.ga_slots.specs.Codes.{code_of};
+    ghost use Rattle.ga_node.specs.State.{IsApart};
+    ghost use Rattle.ga_node.specs.Record.{record_of};
+    ghost use Rattle.ga_node.specs.Saving.{IsEvent};
+    ghost use Rattle.ga_node.specs.Table.{own, ran, fetched, refusal, IsRunning};
+
+    /// Carries out an opcode.
+    #[inline(always)]
+    pub(super) fn run(&mut self, saved: &mut Saved, op: Op) -> Kind
+        requires running { IsRunning (record_of self.old) }
+        requires slot { (record_of self.old).slot < 4 }
+        requires last { (record_of self.old).slot ≡ 3 → code_of op % 4 ≡ 0 }
+        requires empty { saved.old.items ≡ [] }
+        ensures { IsEvent self.old (ran op (record_of self.old)) self.new result saved.new.items }
+    {
+        match op {
+            Op::Return => self.run_return(saved),
+            Op::Execute => self.run_execute(saved),
+            Op::Jump => self.run_jump(saved),
+            Op::Call => self.run_call(saved),
+            Op::Unext => self.run_unext(saved),
+            Op::Next => self.run_next(saved),
+            Op::If => self.run_if(saved),
+            Op::MinusIf => self.run_minus_if(saved),
+            Op::FetchP => self.run_fetch_p(saved),
+            Op::FetchPlus => self.run_fetch_plus(saved),
+            Op::FetchB => self.run_fetch_b(saved),
+            Op::Fetch => self.run_fetch(saved),
+            Op::StoreP => self.run_store_p(saved),
+            Op::StorePlus => self.run_store_plus(saved),
+            Op::StoreB => self.run_store_b(saved),
+            Op::Store => self.run_store(saved),
+            Op::MultiplyStep => self.run_multiply_step(saved),
+            Op::TwoStar => self.run_two_star(saved),
+            Op::TwoSlash => self.run_two_slash(saved),
+            Op::Invert => self.run_invert(saved),
+            Op::Plus => self.run_plus(saved),
+            Op::And => self.run_and(saved),
+            Op::Or => self.run_or(saved),
+            Op::Drop => self.run_drop(saved),
+            Op::Dup => self.run_dup(saved),
+            Op::Pop => self.run_pop(saved),
+            Op::Over => self.run_over(saved),
+            Op::A => self.run_a(saved),
+            Op::Nop => self.run_nop(saved),
+            Op::Push => self.run_push(saved),
+            Op::BStore => self.run_b_store(saved),
+            Op::AStore => self.run_a_store(saved),
+        }
+    }
+
+    /// Why the node has no event of its own.
+    #[tactic(auto, unfolding(crate::specs::Record::record_of))]
+    pub(super) fn not_ready(&self) -> Option<NotReady>
+        ensures reason { result ≡ refusal (record_of self.now) }
+        ensures running { IfNone result (IsRunning (record_of self.now)) }
+    {
+        match self.wait {
+            Wait::Nothing => {
+                if self.stop == 0 { None } else { Some(NotReady::Stopped) }
+            }
+            _ => Some(NotReady::Waiting),
+        }
+    }
+
+    /// Fetches the word at P.
+    pub(super) fn fetch(&mut self, saved: &mut Saved) -> Kind
+        requires running { IsRunning (record_of self.old) }
+        requires empty { saved.old.items ≡ [] }
+        ensures { IsEvent self.old (fetched (record_of self.old)) self.new result saved.new.items }
+    {
+        let p = self.p();
+        match self.read(saved, p, Reader::Instruction) {
+            Err(kind) => kind,
+            Ok(word) => {
+                self.set_i(saved, word);
+                self.set_p(saved, advance_p(p));
+                self.start_again(saved);
+                Kind::Fetch
+            }
+        }
+    }
+
+    /// Makes the node's next event, as [`Node::own`] does, and puts the values that it overwrote into a list that the
+    /// caller keeps, which is empty before.
+    #[tactic(auto, unfolding(crate::specs::Table::own), using(crate::proofs::Saving::apart_from_running))]
+    pub fn own_into(&mut self, saved: &mut Saved) -> Result<Kind, NotReady>
+        requires { saved.old.items ≡ [] }
+        ensures ready { MatchResult result (λ _. refusal (record_of self.old) ≡ None) (λ reason. refusal (record_of self.old) ≡ Some reason) }
+        ensures event { IfOk result (λ kind. IsEvent self.old (own (record_of self.old)) self.new kind saved.new.items) }
+        ensures apart { OnOk result (IsApart self.old) }
+        ensures same { OnErr result (self.new ≡ self.old) }
+        ensures unsaved { OnErr result (saved.new.items ≡ []) }
+    {
+        if let Some(reason) = self.not_ready() {
+            return Err(reason);
+        }
+        let slot = self.slot();
+        if slot == 4 {
+            return Ok(self.fetch(saved));
+        }
+        let op = opcode(self.i(), slot);
+        Ok(self.run(saved, op))
+    }
+
+    /// Makes the node's next event: a fetch where one is due, else the opcode in the slot. An access to a port becomes a
+    /// wait, and a bad one a stop, in place of the whole event (DB001, opcodes and ports).
+    ///
+    /// # Errors
+    /// `Waiting` or `Stopped`, where the node waits or is stopped.
+    pub fn own(&mut self) -> Result<(Kind, Saved), NotReady>
+        ensures ready { MatchResult result (λ _. refusal (record_of self.old) ≡ None) (λ reason. refusal (record_of self.old) ≡ Some reason) }
+        ensures event { IfOk result (λ event. IsEvent self.old (own (record_of self.old)) self.new event.0 event.1.items) }
+        ensures apart { OnOk result (IsApart self.old) }
+        ensures same { OnErr result (self.new ≡ self.old) }
+    {
+        let mut saved = ArrayVec::new();
+        let kind = self.own_into(&mut saved)?;
+        Ok((kind, saved))
+    }
+}

@@ -1,0 +1,79 @@
+//! The two halves of a transfer between neighbours.
+
+use super::{Node, Saved};
+use crate::wait::Wait;
+use arrayvec::ArrayVec;
+use ga_word::Word18;
+
+impl Node {
+    ghost use Rattle.std.specs.Prelude.{◌≡◌, ◌+◌, ◌<◌, ◌≤◌, ◌^◌, ◌%◌, length, slice_index, slice_set, List, min, [], Ok, Err, IfOk, IfErr, OnOk, OnErr, Some, None, IfNone, MatchResult};
+    ghost use Rattle.ga_node.specs.State.{IsApart};
+    ghost use Rattle.ga_node.specs.Record.{record_of};
+    ghost use Rattle.ga_node.specs.Saving.{IsChange};
+    ghost use Rattle.ga_node.specs.Table.{t, sent, taken, IsWriting, IsReading};
+
+    /// Completes the writer's side, as [`Node::send_half`] does, with the overwritten values put into an empty list that
+    /// the caller keeps.
+    #[tactic(auto, unfolding(crate::specs::Table::sent))]
+    pub fn send_half_into(&mut self, saved: &mut Saved) -> Word18
+        requires writing { IsWriting (record_of self.old).wait }
+        requires empty { saved.old.items ≡ [] }
+        ensures word { result ≡ t (record_of self.old) }
+        ensures change { IsChange self.old (sent (record_of self.old)) self.new saved.new.items }
+        ensures apart { IsApart self.old }
+    {
+        let word = self.top();
+        self.end_wait(saved);
+        self.pop_data(saved);
+        self.go_on(saved);
+        word
+    }
+
+    /// Completes the writer's side of a transfer: T is popped and goes over. Answers T and the overwritten values.
+    pub fn send_half(&mut self) -> (Word18, Saved)
+        requires { IsWriting (record_of self.old).wait }
+        ensures word { result.0 ≡ t (record_of self.old) }
+        ensures change { IsChange self.old (sent (record_of self.old)) self.new result.1.items }
+        ensures apart { IsApart self.old }
+    {
+        let mut saved = ArrayVec::new();
+        let word = self.send_half_into(&mut saved);
+        (word, saved)
+    }
+
+    /// Completes the reader's side, as [`Node::take_half`] does, with the overwritten values put into an empty list that
+    /// the caller keeps.
+    pub fn take_half_into(&mut self, word: Word18, saved: &mut Saved)
+        requires reading { IsReading (record_of self.old).wait }
+        requires empty { saved.old.items ≡ [] }
+        ensures change { IsChange self.old (taken word (record_of self.old)) self.new saved.new.items }
+        ensures apart { IsApart self.old }
+    {
+        let wait = self.wait();
+        self.end_wait(saved);
+        match wait {
+            Wait::Fetch(_) => {
+                self.set_i(saved, word);
+                self.start_again(saved);
+            }
+            Wait::Read(_) => {
+                self.push_data(saved, word);
+                self.go_on(saved);
+            }
+            Wait::Nothing => unreachable!(),
+            Wait::Write(_) => unreachable!(),
+        }
+    }
+
+    /// Completes the reader's side of a transfer: the word becomes the instruction word or is pushed, by what the node
+    /// waits for. Answers the overwritten values.
+    pub fn take_half(&mut self, word: Word18) -> Saved
+        requires { IsReading (record_of self.old).wait }
+        ensures change { IsChange self.old (taken word (record_of self.old)) self.new result.items }
+        ensures apart { IsApart self.old }
+    {
+        let mut saved = ArrayVec::new();
+        self.take_half_into(word, &mut saved);
+        saved
+    }
+}
