@@ -1,1 +1,121 @@
+use crate::{Kind, Node, NotReady, Place, Wait};
+use ga_word::Word18;
 use std::test::Fail;
+
+/// A node at its defaults with P at 0 and these words in RAM.
+fn loaded(words: &[u32]) -> Node {
+    let mut node = Node::new(0);
+    for cell in 0..64u8 {
+        if let Some(word) = words.get(cell as usize) {
+            node.set(Place::Ram(cell), Word18::low(*word).get());
+        }
+    }
+    node
+}
+
+/// The node's events, until one is refused.
+fn run(node: &mut Node, kinds: &mut [Kind]) -> Option<NotReady> {
+    for kind in kinds.iter_mut() {
+        match node.own() {
+            Ok((made, _)) => *kind = made,
+            Err(reason) => return Some(reason),
+        }
+    }
+    None
+}
+
+#[test]
+fn defaults(rt: HostRuntime) {
+    let node = Node::new(0x195);
+    for (place, value) in [
+        (Place::P, 0x195),
+        (Place::A, 0),
+        (Place::B, 0x15d),
+        (Place::I, 0),
+        (Place::Io, 0x15555),
+        (Place::Carry, 0),
+        (Place::Slot, 4),
+        (Place::Wait, 0),
+        (Place::Stop, 0),
+        (Place::Ram(63), 0),
+        (Place::Rom(0), 0),
+        (Place::T, 0x15555),
+        (Place::ReturnCell(7), 0x15555),
+    ] {
+        assert_eq!(rt; node.get(place), value);
+    }
+    assert_eq!(rt; node.d(9), 0x15555);
+    assert_eq!(rt; node.r(8), 0x15555);
+}
+
+#[test]
+fn sends_a_word(rt: HostRuntime) {
+    let mut sender = loaded(&[0x04b12, 0x001d5, 0x0002a, 0x089b2]);
+    let mut kinds = [Kind::Fetch; 8];
+    assert_eq!(rt; run(&mut sender, &mut kinds), Some(NotReady::Waiting));
+    assert_eq!(rt;
+        kinds,
+        [
+            Kind::Fetch,
+            Kind::Run(0x08),
+            Kind::Run(0x1e),
+            Kind::Run(0x08),
+            Kind::Run(0x1c),
+            Kind::Fetch,
+            Kind::Wait,
+            Kind::Fetch,
+        ]
+    );
+    assert_eq!(rt; sender.get(Place::Wait), 56);
+}
+
+#[test]
+fn stops(rt: HostRuntime) {
+    let mut kinds = [Kind::Fetch; 8];
+    let mut several = loaded(&[0x04b12, 0x001a5, 0x00001, 0x089b2]);
+    assert_eq!(rt; run(&mut several, &mut kinds), Some(NotReady::Stopped));
+    assert_eq!(rt; kinds[6], Kind::Stop(1));
+    assert_eq!(rt; several.stop(), 1);
+    let mut input = loaded(&[0x009b2]);
+    assert_eq!(rt; run(&mut input, &mut kinds), Some(NotReady::Stopped));
+    assert_eq!(rt; kinds[1], Kind::Stop(3));
+}
+
+#[test]
+fn transfers_and_takes_back(rt: HostRuntime) {
+    let mut kinds = [Kind::Fetch; 8];
+    let mut sender = loaded(&[0x04b12, 0x001d5, 0x0002a, 0x089b2]);
+    let mut taker = loaded(&[0x04b02, 0x001d5]);
+    let _reason = run(&mut sender, &mut kinds);
+    let _reason = run(&mut taker, &mut kinds);
+    if let (Wait::Write(_), Wait::Read(_)) = (sender.wait(), taker.wait()) {
+        let (word, given) = sender.send_half();
+        let taken = taker.take_half(word);
+        assert_eq!(rt; word.get(), 0x2a);
+        assert_eq!(rt; taker.d(0), 0x2a);
+        assert_eq!(rt; taker.get(Place::Slot), 3);
+        assert_eq!(rt; sender.get(Place::Slot), 1);
+        sender.restore(&given);
+        taker.restore(&taken);
+    }
+    assert_eq!(rt; sender.get(Place::Wait), 56);
+    assert_eq!(rt; taker.get(Place::Wait), 40);
+    assert_eq!(rt; sender.d(0), 0x2a);
+    assert_eq!(rt; taker.d(0), 0x15555);
+}
+
+#[test]
+fn greatest_values(rt: HostRuntime) {
+    for (place, value) in [
+        (Place::T, 0x3ffff),
+        (Place::DataPointer, 7),
+        (Place::B, 0x1ff),
+        (Place::P, 0x3ff),
+        (Place::Slot, 4),
+        (Place::Carry, 1),
+        (Place::Wait, 56),
+        (Place::Stop, 3),
+    ] {
+        assert_eq!(rt; place.greatest(), value);
+    }
+}
