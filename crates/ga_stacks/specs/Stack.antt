@@ -1,5 +1,5 @@
 -- The places of a stack, and what a change tells of the words that it overwrote.
-use Rattle.std.specs.Prelude.{ℕ, ◌<◌, ◌≤◌, ◌^◌, ◌≢◌, List, [], ◌∷◌, slice_index, slice_set, All, AllPairs, length}
+use Rattle.std.specs.Prelude.{ℕ, ◌<◌, ◌≤◌, ◌^◌, ◌≢◌, List, [], ◌∷◌, slice_index, slice_set, AllPairs, map}
 use Rattle.ga_stacks.specs.declared.place.StackPlace.{StackPlace}
 use Rattle.ga_stacks.specs.declared.place.StackPlace.TheVariants.{Pointer, Top, Second, Cell}
 use Rattle.ga_stacks.specs.Ring.{Ring}
@@ -41,6 +41,10 @@ FitsPlace (Cell k) value = value < 2 ^ 18
 abbrev pub AreFit : ℕ → List (StackPlace × ℕ) → Type 0
 AreFit registers [] = Unit {0}
 AreFit registers (saved ∷ rest) = HasPlace registers saved.0 × FitsPlace saved.0 saved.1 × AreFit registers rest
+
+-- the places that a change tells
+abbrev pub places_in : List (StackPlace × ℕ) → List StackPlace
+places_in saved = map (λ v. v.0) saved
 
 -- no place twice
 abbrev pub IsOnce : List (StackPlace × ℕ) → Type 0

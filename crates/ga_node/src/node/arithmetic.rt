@@ -67,13 +67,11 @@ impl Node {
             let old = self.carry();
             let (sum, carry) = top.add_carry(second, old);
             self.set_carry(saved, carry);
-            self.pop_data(saved);
-            self.set_top(saved, sum);
+            self.pop_to(saved, sum);
             self.go_on(saved);
             return Kind::Run(Op::Plus.code());
         }
-        self.pop_data(saved);
-        self.set_top(saved, top.add(second));
+        self.pop_to(saved, top.add(second));
         self.go_on(saved);
         Kind::Run(Op::Plus.code())
     }
@@ -86,8 +84,7 @@ impl Node {
         let second = self.second();
         let x = top.get();
         let y = second.get();
-        self.pop_data(saved);
-        self.set_top(saved, Word18::low(x & y));
+        self.pop_to(saved, Word18::low(x & y));
         self.go_on(saved);
         Kind::Run(Op::And.code())
     }
@@ -100,8 +97,7 @@ impl Node {
         let second = self.second();
         let x = top.get();
         let y = second.get();
-        self.pop_data(saved);
-        self.set_top(saved, Word18::low(x ^ y));
+        self.pop_to(saved, Word18::low(x ^ y));
         self.go_on(saved);
         Kind::Run(Op::Or.code())
     }

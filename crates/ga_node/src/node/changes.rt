@@ -34,7 +34,7 @@ impl Node {
     ghost use Rattle.ga_node.specs.State.{IsApart};
     ghost use Rattle.ga_node.specs.Record.{record_of};
     ghost use Rattle.ga_node.specs.Saving.{Saves};
-    ghost use Rattle.ga_node.specs.Table.{push_d, pop_d, set_t, push_r, pop_r, set_r, set_p, goes_on, skips, again, IsRunning};
+    ghost use Rattle.ga_node.specs.Table.{push_d, pop_d, set_t, push_r, pop_r, set_r, set_p, after_pop, goes_on, skips, again, IsRunning};
 
     #[tactic(auto, unfolding(crate::specs::Record::record_of))]
     pub(super) fn set_p(&mut self, saved: &mut Saved, p: u32)
@@ -143,6 +143,18 @@ impl Node {
         ensures saves { Saves self.old saved.old.items self.new saved.new.items 1 }
     {
         save_data(saved, &self.data.replace_top(word));
+    }
+
+    /// T := the word, after a pop. T's old value is saved once.
+    #[tactic(auto, unfolding(crate::specs::Record::record_of))]
+    pub(super) fn pop_to(&mut self, saved: &mut Saved, word: Word18)
+        requires room { length saved.old.items + 3 ≤ 7 }
+        ensures changed { record_of self.new ≡ after_pop word (record_of self.old) }
+        ensures saves { Saves self.old saved.old.items self.new saved.new.items 3 }
+    {
+        let popped = self.data.pop();
+        let _top = self.data.replace_top(word);
+        save_data(saved, &popped);
     }
 
     #[tactic(auto, unfolding(crate::specs::Record::record_of))]

@@ -9,5 +9,5 @@ pub returns : goal.returns
 returns c =
     let small : bit_and c.get-x.result c.get-y.result < 2 ^ 18 = omega (arith, and_le_l c.get-x.result c.get-y.result) in
     let whole : bit_and c.get-x.result c.get-y.result % 2 ^ 18 ≡ bit_and c.get-x.result c.get-y.result = mod-eq_of_lt small in
-    event_of c.requires (saves_then (saves_then c.pop_data.ensures.saves c.set_top.ensures.saves) c.go_on.ensures.saves)
-    (rw (c.go_on.ensures.changed, c.set_top.ensures.changed, c.pop_data.ensures.changed, c.low.ensures, whole, c.get-x.ensures.value, c.get-y.ensures.value, c.top-top.ensures, c.second-second.ensures, c.code.ensures.value) refl)
+    event_of c.requires (saves_then c.pop_to.ensures.saves c.go_on.ensures.saves)
+    (rw (c.go_on.ensures.changed, c.pop_to.ensures.changed, c.low.ensures, whole, c.get-x.ensures.value, c.get-y.ensures.value, c.top-top.ensures, c.second-second.ensures, c.code.ensures.value) refl)
