@@ -1,0 +1,3 @@
+pub mod Chips
+pub mod Links
+pub mod NodeIds

@@ -1,0 +1,28 @@
+-- A node is its number.
+use Rattle.std.proofs.Common.{◌≡◌, ℕ, ◌<◌, Option, Some, None, ap, refl, sym, ◌∙◌, subst}
+use Rattle.std.specs.Prelude.{option_map}
+use Rattle.std.proofs.Math.Bridge.{le_prop}
+use Rattle.std.proofs.Math.Nat.{mod-eq_of_lt}
+use Rattle.ga_grid.specs.declared.node_id.NodeId.{NodeId}
+use Rattle.ga_grid.specs.NodeId.{number_in, node_id}
+
+abbrev node : (n : ℕ) → n < 144 → NodeId
+node n l = record { number = n; in_range = l }
+
+same_node : (n m : ℕ) (l : n < 144) → n ≡ m → (k : m < 144) → node n l ≡ node m k
+same_node n m l e = let P : ℕ → Type 0 = λ m. (k : m < 144) → node n l ≡ node m k in subst P e (λ k. ap (λ z. node n z) (le_prop l k))
+
+-- two nodes with one number are one
+pub NodeId-same : (a b : NodeId) → a.number ≡ b.number → a ≡ b
+NodeId-same a b e = same_node a.number b.number a.in_range e b.in_range
+
+pub node_id-number : (a : NodeId) → node_id a.number ≡ a
+node_id-number a = NodeId-same (node_id a.number) a (mod-eq_of_lt a.in_range)
+
+-- a node that is known by its number
+pub node_id-number_in : (found : Option NodeId) → option_map node_id (number_in found) ≡ found
+node_id-number_in None = refl
+node_id-number_in (Some a) = ap Some (node_id-number a)
+
+pub from_number_in : (found : Option NodeId) (number : Option ℕ) → number_in found ≡ number → found ≡ option_map node_id number
+from_number_in found number e = sym (node_id-number_in found) ∙ ap (λ z. option_map node_id z) e

@@ -1,0 +1,5 @@
+pub mod Grid
+pub mod NodeId
+pub mod Load
+pub mod Chip
+pub mod Lending

@@ -1,0 +1,13 @@
+//! The grid: the numbers of the 144 nodes, the links between neighbours, and the chip that holds the nodes.
+#![tactic(auto)]
+
+mod chip;
+mod link;
+mod node_id;
+
+pub use chip::{Chip, Memory};
+pub use link::neighbour;
+pub use node_id::{NODES, NodeId};
+
+#[cfg(test)]
+mod tests;

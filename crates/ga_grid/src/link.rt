@@ -1,0 +1,53 @@
+//! The links between neighbours.
+
+ghost use Rattle.std.specs.Prelude.{◌≡◌, ◌≢◌, ◌<◌, Some, IfSome, option_map};
+ghost use Rattle.ga_grid.specs.Grid.{stepped, neighbour_of};
+ghost use Rattle.ga_grid.specs.NodeId.{number_in, node_id};
+
+use crate::node_id::NodeId;
+use ga_ports::Side;
+
+// The next of so many places, or the one before.
+fn step(place: u8, size: u8, is_forward: bool) -> Option<u8>
+    requires { place < size }
+    ensures { result ≡ stepped place size is_forward }
+{
+    if !is_forward {
+        place.checked_sub(1)
+    } else if place + 1 < size {
+        Some(place + 1)
+    } else {
+        None
+    }
+}
+
+// The number of the node at the other end of the link on this side.
+fn number_beside(number: u8, side: Side) -> Option<u8>
+    requires { number < 144 }
+    ensures value { result ≡ neighbour_of number side }
+    ensures in_range { IfSome result (λ other. other < 144) }
+    ensures back { IfSome result (λ other. neighbour_of other side ≡ Some number) }
+    ensures other { IfSome result (λ other. other ≢ number) }
+{
+    let row = number / 18;
+    let column = number % 18;
+    let other = match side {
+        Side::Right => 18 * row + step(column, 18, column % 2 == 0)?,
+        Side::Left => 18 * row + step(column, 18, column % 2 == 1)?,
+        Side::Down => 18 * step(row, 8, row % 2 == 0)? + column,
+        Side::Up => 18 * step(row, 8, row % 2 == 1)? + column,
+    };
+    Some(other)
+}
+
+/// The node at the other end of the link on this side, or none at the edge of the grid. Both ends of a link have the same
+/// side.
+pub fn neighbour(node: NodeId, side: Side) -> Option<NodeId>
+    ensures value { number_in result ≡ neighbour_of node.number side }
+    ensures node { result ≡ option_map node_id (neighbour_of node.number side) }
+    ensures back { IfSome result (λ other. neighbour_of other.number side ≡ Some node.number) }
+    ensures other { IfSome result (λ other. other.number ≢ node.number) }
+{
+    let number = number_beside(node.number, side)?;
+    Some(NodeId { number })
+}

@@ -1,0 +1,63 @@
+//! The numbers and the names of the nodes.
+
+ghost use Rattle.std.specs.Prelude.{◌<◌};
+
+/// How many nodes the chip has.
+pub const NODES: usize = 144;
+
+/// A node of the grid, by its number: 18 for each row before its own, and its column.
+#[derive(Clone, Copy, PartialEq, Eq, Debug)]
+pub struct NodeId {
+    pub number: u8,
+    pub ghost in_range: { number < 144 },
+}
+
+impl NodeId {
+    ghost use Rattle.std.specs.Prelude.{◌≡◌, ◌≢◌, ◌<◌, ℕ, Some, IfSome, IfNone, option_map};
+    ghost use Rattle.ga_grid.specs.Grid.{yxx_of, node_of};
+    ghost use Rattle.ga_grid.specs.NodeId.{number_in, node_id};
+
+    /// The node with this number.
+    #[inline(always)]
+    pub fn new(number: u8) -> Self
+        requires { number < 144 }
+        ensures { result.number ≡ number }
+    {
+        NodeId { number }
+    }
+
+    /// The node that is named by 100 times its row plus its column, where there is one.
+    pub fn from_yxx(yxx: u32) -> Option<Self>
+        ensures value { number_in result ≡ node_of yxx }
+        ensures node { result ≡ option_map node_id (node_of yxx) }
+        ensures named { IfSome result (λ node. yxx_of node.number ≡ yxx) }
+        ensures none { IfNone result ((n : ℕ) → n < 144 → yxx_of n ≢ yxx) }
+    {
+        let row = yxx / 100;
+        let column = yxx % 100;
+        if row < 8 && column < 18 {
+            let number = (18 * row + column) as u8;
+            Some(NodeId { number })
+        } else {
+            None
+        }
+    }
+
+    /// The node's name: 100 times its row plus its column.
+    pub fn yxx(self) -> u32
+        ensures value { result ≡ yxx_of self.number }
+        ensures back { node_of result ≡ Some self.number }
+    {
+        let number = self.number as u32;
+        100 * (number / 18) + number % 18
+    }
+
+    /// The node's number as an index.
+    #[inline(always)]
+    pub fn index(self) -> usize
+        ensures value { result ≡ self.number }
+        ensures in_range { result < 144 }
+    {
+        self.number as usize
+    }
+}
