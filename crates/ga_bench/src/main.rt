@@ -1,6 +1,7 @@
 //! Times the events of a node. The sums go to standard output, and the nanoseconds an event to standard error.
 //!
-//! Words: the mode (`kinds`, `values` or `back`), the number of events and the number of rounds, of which the best counts.
+//! Words: the loop (`busy` or `mixed`), the mode (`own`, `into`, `values` or `back`), the number of events and the number of
+//! rounds, of which the best counts.
 #![tactic(auto)]
 
 use arrayvec::ArrayVec;
@@ -62,6 +63,20 @@ fn sum_kinds(node: &mut Node, count: u32) -> u32 {
     sum
 }
 
+/// The same with a list that is kept from one event to the next.
+#[inline(never)]
+fn sum_kinds_into(node: &mut Node, count: u32) -> u32 {
+    let mut sum = 0u32;
+    let mut saved: Saved = ArrayVec::new();
+    for _ in 0..count {
+        saved.clear();
+        if let Ok(Kind::Run(code)) = node.own_into(&mut saved) {
+            sum = sum.wrapping_add(u32::from(code));
+        }
+    }
+    sum
+}
+
 /// Makes so many events, and sums what they overwrote.
 #[inline(never)]
 fn sum_values(node: &mut Node, count: u32) -> u32 {
@@ -93,37 +108,46 @@ fn sum_backs(node: &mut Node, count: u32) -> u32 {
 }
 
 fn main(rt: HostRuntime) -> io::Result<()> {
+    let mut cells = BUSY.as_slice();
     let mut mode = 0u8;
     let mut count = 1_000_000u32;
     let mut rounds = 5u32;
     for (at, word) in env::args(&rt)?.enumerate() {
+        let word = word.as_str();
         match at {
-            1 => mode = match word.as_str() {
-                "values" => 1,
-                "back" => 2,
-                _ => 0
-            },
-            2 => count = word.as_str().parse::<u32>().unwrap_or(count),
-            3 => rounds = word.as_str().parse::<u32>().unwrap_or(rounds),
+            1 => {
+                if word == "mixed" {
+                    cells = MIXED.as_slice();
+                }
+            }
+            2 => {
+                mode = match word {
+                    "into" => 1,
+                    "values" => 2,
+                    "back" => 3,
+                    _ => 0,
+                }
+            }
+            3 => count = word.parse::<u32>().unwrap_or(count),
+            4 => rounds = word.parse::<u32>().unwrap_or(rounds),
             _ => {}
         }
     }
-    for (name, cells) in [("busy", BUSY.as_slice()), ("mixed", MIXED.as_slice())] {
-        let mut best = u128::MAX;
-        let mut sum = 0u32;
-        for _ in 0..rounds {
-            let mut node = loaded(cells);
-            let start = Instant::now(&rt)?;
-            sum = match mode {
-                0 => sum_kinds(&mut node, count),
-                1 => sum_values(&mut node, count),
-                _ => sum_backs(&mut node, count),
-            };
-            best = best.min(start.elapsed(&rt)?.as_nanos());
-        }
-        println!(rt; "{name} sum {sum}")?;
-        let hundredths = best.saturating_mul(100) / u128::from(count.max(1));
-        eprintln!(rt; "{name}: {hundredths} hundredths of a nanosecond an event")?;
+    let mut best = u128::MAX;
+    let mut sum = 0u32;
+    for _ in 0..rounds {
+        let mut node = loaded(cells);
+        let start = Instant::now(&rt)?;
+        sum = match mode {
+            0 => sum_kinds(&mut node, count),
+            1 => sum_kinds_into(&mut node, count),
+            2 => sum_values(&mut node, count),
+            _ => sum_backs(&mut node, count),
+        };
+        best = best.min(start.elapsed(&rt)?.as_nanos());
     }
+    println!(rt; "sum {sum}")?;
+    let hundredths = best.saturating_mul(100) / u128::from(count.max(1));
+    eprintln!(rt; "{hundredths} hundredths of a nanosecond an event")?;
     Ok(())
 }
