@@ -53,7 +53,11 @@ impl PortSet {
         ensures valid { IsSome result ↔ ((0 < sides) × (sides < 16)) }
         ensures value { IfSome result (λ s. s ≡ sides) }
     {
-        if 0 < sides && sides < 16 { Some(PortSet { sides }) } else { None }
+        if 0 < sides && sides < 16 {
+            Some(PortSet { sides })
+        } else {
+            None
+        }
     }
 
     /// The set of a number.

@@ -4,7 +4,12 @@ use std::test::Fail;
 
 #[test]
 fn advances(rt: HostRuntime) -> Result<(), Fail> {
-    for (p, next) in [(0x07f, 0x000), (0x0ff, 0x080), (0x1d5, 0x1d5), (0x27f, 0x200)] {
+    for (p, next) in [
+        (0x07f, 0x000),
+        (0x0ff, 0x080),
+        (0x1d5, 0x1d5),
+        (0x27f, 0x200),
+    ] {
         assert_eq!(rt; advance_p(p), next);
     }
     for (a, next) in [(0x2007f, 0x20000), (0x155, 0x155)] {
@@ -16,7 +21,16 @@ fn advances(rt: HostRuntime) -> Result<(), Fail> {
 
 #[test]
 fn addresses(rt: HostRuntime) -> Result<(), Fail> {
-    for (address, sides) in [(0x1d5, 8), (0x115, 4), (0x175, 2), (0x145, 1), (0x1a5, 15), (0x195, 12), (0x1b5, 14), (0x185, 13)] {
+    for (address, sides) in [
+        (0x1d5, 8),
+        (0x115, 4),
+        (0x175, 2),
+        (0x145, 1),
+        (0x1a5, 15),
+        (0x195, 12),
+        (0x1b5, 14),
+        (0x185, 13),
+    ] {
         let set = PortSet::new(sides).ok_or("no set")?;
         assert_eq!(rt; classify(address), Target::Ports(set));
     }

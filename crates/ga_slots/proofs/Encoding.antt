@@ -1,7 +1,7 @@
 -- A word of four opcodes, and its opcodes again.
 use Rattle.std.specs.Prelude.{bit_xor}
 use Rattle.std.specs.Int.Bits.{xor_assoc, xor_self, xor_zero_r}
-use Rattle.std.proofs.Common.{◌≡◌, ◌∙◌, ℕ, zero, suc, ◌+◌, ◌*◌, ◌/◌, ◌%◌, ◌^◌, ◌<◌, List, [], ◌∷◌, slice_index_or, ap, refl, sym, arith, lit<, Some, None, Bool, cond, eq-eqb}
+use Rattle.std.proofs.Common.{◌≡◌, ◌∙◌, ℕ, zero, suc, ◌+◌, ◌*◌, ◌/◌, ◌%◌, ◌^◌, ◌<◌, List, slice_index_or, ap, refl, sym, arith, lit<, Some, None, Bool, cond, eq-eqb}
 use Rattle.std.proofs.Math.Nat.{mod-eq_of_lt}
 use Rattle.std.proofs.lemmas.Nat.{xor_lt}
 use Rattle.ga_slots.specs.declared.op.Op.{Op}
@@ -137,7 +137,7 @@ encoded-fits ops fits =
     let op : ℕ → Op = λ i. slice_index_or ops i Return in
     ap (λ (b : Bool). cond b (Some (word_of (code_of (op 0)) (code_of (op 1)) (code_of (op 2)) (code_of (op 3)))) None) (eq-eqb (code_of (op 3) % 4) 0 fits)
     ∙ ap (λ (w : ℕ). Some w)
-      (sym (word_of-mod (code_of (op 0)) (code_of (op 1)) (code_of (op 2)) (code_of (op 3)) (code_of-lt (op 0)) (code_of-lt (op 1)) (code_of-lt (op 2)) (code_of-lt (op 3))))
+    (sym (word_of-mod (code_of (op 0)) (code_of (op 1)) (code_of (op 2)) (code_of (op 3)) (code_of-lt (op 0)) (code_of-lt (op 1)) (code_of-lt (op 2)) (code_of-lt (op 3))))
 
 -- its opcodes
 pub opcode-encoded : (ops : List Op) → let code = λ (i : ℕ). code_of (slice_index_or ops i Return) in
@@ -145,5 +145,5 @@ pub opcode-encoded : (ops : List Op) → let code = λ (i : ℕ). code_of (slice
 opcode-encoded ops fits slot below =
     let op : ℕ → Op = λ i. slice_index_or ops i Return in
     ap (λ (w : ℕ). opcode w slot)
-      (word_of-mod (code_of (op 0)) (code_of (op 1)) (code_of (op 2)) (code_of (op 3)) (code_of-lt (op 0)) (code_of-lt (op 1)) (code_of-lt (op 2)) (code_of-lt (op 3)))
+    (word_of-mod (code_of (op 0)) (code_of (op 1)) (code_of (op 2)) (code_of (op 3)) (code_of-lt (op 0)) (code_of-lt (op 1)) (code_of-lt (op 2)) (code_of-lt (op 3)))
     ∙ opcode-word_of ops fits slot below

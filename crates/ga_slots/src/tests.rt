@@ -30,7 +30,14 @@ fn fields(rt: HostRuntime) -> Result<(), Fail> {
 
 #[test]
 fn names(rt: HostRuntime) {
-    for (code, name) in [(0, ";"), (7, "-if"), (8, "@p"), (0x13, "invert"), (0x1c, "."), (0x1f, "a!")] {
+    for (code, name) in [
+        (0, ";"),
+        (7, "-if"),
+        (8, "@p"),
+        (0x13, "invert"),
+        (0x1c, "."),
+        (0x1f, "a!"),
+    ] {
         let op = Op::from_code(code);
         assert_eq!(rt; op.code(), code);
         assert_eq!(rt; op.name().as_bytes(), name.as_bytes());

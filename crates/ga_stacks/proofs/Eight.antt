@@ -1,8 +1,7 @@
 -- Facts on a ring of eight cells, by going through its places.
-use Rattle.std.proofs.Common.{◌≡◌, ℕ, zero, suc, ◌+◌, ◌-◌, ◌%◌, ◌<◌, List, [], ◌∷◌, ◌++◌, length, slice_index, slice_set, refl, sym, arith}
+use Rattle.std.proofs.Common.{◌≡◌, ℕ, zero, suc, ◌+◌, ◌%◌, ◌<◌, List, [], ◌∷◌, length, slice_index, slice_set, refl, arith}
 use Rattle.ga_stacks.specs.Ring.{Ring, listed, pushed}
 use Rattle.ga_stacks.specs.Stack.{restored}
-use Rattle.ga_stacks.specs.declared.place.StackPlace.{StackPlace}
 use Rattle.ga_stacks.specs.declared.place.StackPlace.TheVariants.{Pointer, Top, Second, Cell}
 
 -- what holds of each list of eight written out holds of each list of that length
@@ -30,8 +29,8 @@ pub each_ring : (P : List ℕ → ℕ → Type 0)
 each_ring P holds xs n eight below =
     each_eight (λ ys. P ys n)
     (λ a b c d e f g h.
-      let all = holds a b c d e f g h in
-      each_below (P (a ∷ b ∷ c ∷ d ∷ e ∷ f ∷ g ∷ h ∷ [])) all.0 all.1 all.2 all.3 all.4 all.5 all.6 all.7 n below)
+    let all = holds a b c d e f g h in
+    each_below (P (a ∷ b ∷ c ∷ d ∷ e ∷ f ∷ g ∷ h ∷ [])) all.0 all.1 all.2 all.3 all.4 all.5 all.6 all.7 n below)
     xs eight
 
 -- a stack of two registers after a push
@@ -40,7 +39,7 @@ after_push word top second cells pointer = record { registers = word ∷ top ∷
 
 pub listed-after_push : (word top second : ℕ) (cells : List ℕ) (pointer : ℕ) → length cells ≡ 8 → pointer < 8
     → listed (after_push word top second cells ((pointer + 7) % 8))
-      ≡ pushed word (listed (record { registers = top ∷ second ∷ []; cells = cells; pointer = pointer }))
+    ≡ pushed word (listed (record { registers = top ∷ second ∷ []; cells = cells; pointer = pointer }))
 listed-after_push word top second cells pointer eight below =
     each_ring
     (λ xs n. listed (after_push word top second xs ((n + 7) % 8)) ≡ pushed word (listed (record { registers = top ∷ second ∷ []; cells = xs; pointer = n })))
@@ -49,15 +48,15 @@ listed-after_push word top second cells pointer eight below =
 
 pub restored-after_push : (word top second : ℕ) (cells : List ℕ) (pointer : ℕ) → length cells ≡ 8 → pointer < 8
     → let q = (pointer + 7) % 8 in
-      restored (after_push word top second cells q)
-        ((Pointer, pointer) ∷ (Cell q, slice_index cells q) ∷ (Second, second) ∷ (Top, top) ∷ [])
-      ≡ record { registers = top ∷ second ∷ []; cells = cells; pointer = pointer }
+    restored (after_push word top second cells q)
+    ((Pointer, pointer) ∷ (Cell q, slice_index cells q) ∷ (Second, second) ∷ (Top, top) ∷ [])
+    ≡ record { registers = top ∷ second ∷ []; cells = cells; pointer = pointer }
 restored-after_push word top second cells pointer eight below =
     each_ring
     (λ xs n.
-      let q = (n + 7) % 8 in
-      restored (after_push word top second xs q) ((Pointer, n) ∷ (Cell q, slice_index xs q) ∷ (Second, second) ∷ (Top, top) ∷ [])
-      ≡ record { registers = top ∷ second ∷ []; cells = xs; pointer = n })
+    let q = (n + 7) % 8 in
+    restored (after_push word top second xs q) ((Pointer, n) ∷ (Cell q, slice_index xs q) ∷ (Second, second) ∷ (Top, top) ∷ [])
+    ≡ record { registers = top ∷ second ∷ []; cells = xs; pointer = n })
     (λ a b c d e f g h. (refl, refl, refl, refl, refl, refl, refl, refl))
     cells pointer eight below
 
@@ -67,7 +66,7 @@ after_push_one word top cells pointer = record { registers = word ∷ []; cells 
 
 pub listed-after_push_one : (word top : ℕ) (cells : List ℕ) (pointer : ℕ) → length cells ≡ 8 → pointer < 8
     → listed (after_push_one word top cells ((pointer + 7) % 8))
-      ≡ pushed word (listed (record { registers = top ∷ []; cells = cells; pointer = pointer }))
+    ≡ pushed word (listed (record { registers = top ∷ []; cells = cells; pointer = pointer }))
 listed-after_push_one word top cells pointer eight below =
     each_ring
     (λ xs n. listed (after_push_one word top xs ((n + 7) % 8)) ≡ pushed word (listed (record { registers = top ∷ []; cells = xs; pointer = n })))
@@ -76,13 +75,13 @@ listed-after_push_one word top cells pointer eight below =
 
 pub restored-after_push_one : (word top : ℕ) (cells : List ℕ) (pointer : ℕ) → length cells ≡ 8 → pointer < 8
     → let q = (pointer + 7) % 8 in
-      restored (after_push_one word top cells q) ((Pointer, pointer) ∷ (Cell q, slice_index cells q) ∷ (Top, top) ∷ [])
-      ≡ record { registers = top ∷ []; cells = cells; pointer = pointer }
+    restored (after_push_one word top cells q) ((Pointer, pointer) ∷ (Cell q, slice_index cells q) ∷ (Top, top) ∷ [])
+    ≡ record { registers = top ∷ []; cells = cells; pointer = pointer }
 restored-after_push_one word top cells pointer eight below =
     each_ring
     (λ xs n.
-      let q = (n + 7) % 8 in
-      restored (after_push_one word top xs q) ((Pointer, n) ∷ (Cell q, slice_index xs q) ∷ (Top, top) ∷ [])
-      ≡ record { registers = top ∷ []; cells = xs; pointer = n })
+    let q = (n + 7) % 8 in
+    restored (after_push_one word top xs q) ((Pointer, n) ∷ (Cell q, slice_index xs q) ∷ (Top, top) ∷ [])
+    ≡ record { registers = top ∷ []; cells = xs; pointer = n })
     (λ a b c d e f g h. (refl, refl, refl, refl, refl, refl, refl, refl))
     cells pointer eight below

@@ -1,6 +1,6 @@
 -- The stacks of the F18A Technology Reference (DB001): as they are kept, in registers, eight cells in a ring and a pointer,
 -- and as lists of words, the top first: ten words of data, nine of returns.
-use Rattle.std.specs.Prelude.{ℕ, ◌+◌, List, [], ◌∷◌, ◌++◌, take, drop, slice_index, length, replicate}
+use Rattle.std.specs.Prelude.{ℕ, List, [], ◌∷◌, ◌++◌, take, drop, slice_index, length, replicate}
 
 -- The newest of the cells is the one at the pointer, and the older ones follow it around the ring.
 pub record Ring : Type 0 where

@@ -72,7 +72,10 @@ impl ReturnStack {
         let pointer = (self.pointer + 7) % CELLS;
         let mut saved = ArrayVec::new();
         saved.push((StackPlace::Pointer, u32::from(self.pointer)));
-        saved.push((StackPlace::Cell(pointer), self.cells[pointer as usize].get()));
+        saved.push((
+            StackPlace::Cell(pointer),
+            self.cells[pointer as usize].get(),
+        ));
         saved.push((StackPlace::Top, self.top.get()));
         self.pointer = pointer;
         self.cells[pointer as usize] = self.top;

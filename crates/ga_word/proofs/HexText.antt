@@ -1,12 +1,12 @@
 -- The six digits of a word against the pairs of digits of its three bytes.
 use Rattle.std.specs.Prelude.{IsOk, OnOk, MatchResult}
-use Rattle.std.proofs.Common.{Result, Ok, Err, Option, Some, None, Bool, true, false, cond, rules, sym, ◌≡◌, ℕ, ◌/◌, ◌%◌, ◌*◌, ◌+◌, ◌^◌, ◌<◌, List, [], ◌∷◌, refl, arith, ap, slice_index, ◌==◌, ◌≢◌, length}
+use Rattle.std.proofs.Common.{Result, Ok, Err, Option, Some, None, Bool, true, false, cond, rules, sym, ◌≡◌, ℕ, ◌/◌, ◌%◌, ◌*◌, ◌+◌, ◌<◌, List, [], ◌∷◌, refl, arith, ap, slice_index, ◌==◌, ◌≢◌, length}
 use Rattle.std.specs.Option.{option_and_then}
 use Rattle.std.proofs.lemmas.Bool.{ne_eqb, eqb-false}
 use Rattle.hex.specs.declared.error.FromHexError.{FromHexError}
 use Rattle.hex.specs.declared.error.FromHexError.TheVariants.{OddLength, InvalidStringLength}
 use Rattle.hex.specs.Hex.{encode_with, encode_lower, lower_digits, decode_pairs, decode_sized, digit_or_error, hex_digit_value, ◌>>=◌}
-use Rattle.ga_word.specs.Word.{words, hex_digit, hex6_of, read6_of, digits_value}
+use Rattle.ga_word.specs.Word.{words, hex6_of, read6_of, digits_value}
 
 -- two digits from equal places
 pub six_same : (a b c d e f a' b' c' d' e' f' : ℕ) → a ≡ a' → b ≡ b' → c ≡ c' → d ≡ d' → e ≡ e' → f ≡ f' → (a ∷ b ∷ c ∷ d ∷ e ∷ f ∷ []) ≡ (a' ∷ b' ∷ c' ∷ d' ∷ e' ∷ f' ∷ [])
@@ -57,7 +57,7 @@ three u v w x y z a b c d e f = do
 abbrev value : (a b c d e f : Option ℕ) → Option ℕ
 value a b c d e f =
     option_and_then (λ u. option_and_then (λ v. option_and_then (λ w. option_and_then (λ x. option_and_then (λ y. option_and_then (λ z.
-      Some (16 * (16 * (16 * (16 * (16 * (16 * 0 + u) + v) + w) + x) + y) + z)) f) e) d) c) b) a
+    Some (16 * (16 * (16 * (16 * (16 * (16 * 0 + u) + v) + w) + x) + y) + z)) f) e) d) c) b) a
 
 six_agree : (u v w x y z : ℕ) (a b c d e f : Option ℕ) → Agrees (three u v w x y z a b c d e f) (value a b c d e f)
 six_agree u v w x y z None b c d e f = refl

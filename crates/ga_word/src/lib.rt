@@ -37,7 +37,11 @@ impl Word18 {
         ensures valid { IsSome result ↔ (value < words) }
         ensures value { IfSome result (λ w. w ≡ value) }
     {
-        if value < WORDS { Some(Word18 { bits: value }) } else { None }
+        if value < WORDS {
+            Some(Word18 { bits: value })
+        } else {
+            None
+        }
     }
 
     /// The lowest 18 bits of a number.

@@ -1,4 +1,4 @@
-use Rattle.std.proofs.Common.{◌≡◌, ◌∙◌, ap, sym, refl}
+use Rattle.std.proofs.Common.{sym}
 use Rattle.ga_slots.proofs.Encoding.{encoded-fits, opcode-encoded}
 use Rattle.ga_slots.proofs.slots.encode.Goals as goal
 

@@ -1,4 +1,4 @@
-use Rattle.std.proofs.Common.{◌≡◌, refl}
+use Rattle.std.proofs.Common.{refl}
 use Rattle.ga_word.proofs.HexText.{text_agrees, none-of_error, number-of_bytes}
 use Rattle.ga_word.proofs.Word18.read6.Goals as goal
 

@@ -1,4 +1,4 @@
-use Rattle.std.proofs.Common.{◌≡◌, ◌<◌, ◌%◌, ◌+◌, ℕ, length, slice_index, sym, refl, ◌∙◌, arith, rules, ap}
+use Rattle.std.proofs.Common.{◌≡◌, ◌%◌, ◌+◌, length, slice_index, ◌∙◌, arith, rules}
 use Rattle.std.proofs.lemmas.List.{get_or_default}
 use Rattle.ga_stacks.proofs.Eight.{listed-after_push_one, restored-after_push_one}
 use Rattle.ga_stacks.proofs.returns.ReturnStack.push.Goals as goal
