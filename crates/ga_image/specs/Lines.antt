@@ -1,0 +1,12 @@
+-- The lines of a text.
+use Rattle.std.specs.Prelude.{ℕ, List, [], ◌∷◌, ◌==◌, if◌then◌else◌}
+
+-- the lines, with one byte more at the front of the first
+abbrev pub with_byte : ℕ → List (List ℕ) → List (List ℕ)
+with_byte byte [] = (byte ∷ []) ∷ []
+with_byte byte (line ∷ lines) = (byte ∷ line) ∷ lines
+
+-- Each line is ended by a line feed, which the last may lack. An empty text has no line.
+abbrev pub lines_of : List ℕ → List (List ℕ)
+lines_of [] = []
+lines_of (byte ∷ text) = if byte == 10 then [] ∷ lines_of text else with_byte byte (lines_of text)
