@@ -1,0 +1,255 @@
+-- What is read is in the grammar.
+use Rattle.std.proofs.Common.{◌≡◌, ◌≢◌, ℕ, ◌+◌, ◌*◌, ◌/◌, ◌%◌, ◌<◌, ◌≤◌, inl, inr, Bool, true, false, cond, ◌&&◌, List, [], ◌∷◌, ◌++◌, length, map, flat_map, get_or, set, Option, Some, None, Result, Ok, refl, sym, ◌∙◌, ap, subst, arith, append_assoc}
+use Rattle.std.specs.Prelude.{nat_lt, is_none}
+use Rattle.std.specs.List.{AllByRecursion, list_any}
+use Rattle.std.proofs.lemmas.Bool.Decides.{nat_tests}
+use Rattle.std.proofs.lemmas.Slice.Eq.{bytes_eq-Decides}
+use Rattle.ga_node.specs.State.{NodeState}
+use Rattle.ga_image.specs.declared.field.Field.{Field}
+use Rattle.ga_image.specs.declared.field.Field.TheVariants.{A, B, P, Ram, Rom}
+use Rattle.ga_grid.specs.Grid.{node_of, yxx_of}
+use Rattle.ga_image.specs.Reading.{with_word}
+use Rattle.ga_image.specs.Progress.{Progress}
+use Rattle.ga_image.specs.Progress.{Stage}
+use Rattle.ga_image.specs.Progress as stage
+use Rattle.ga_image.specs.declared.fault.ImageFault.{ImageFault}
+use Rattle.ga_image.specs.declared.fault.ImageCause.{ImageCause}
+use Rattle.ga_image.specs.declared.fault.ImageCause.TheVariants as cause
+use Rattle.ga_image.specs.Forms.{Form, Node, Words, End, form}
+use Rattle.ga_image.specs.Fields.{writes, repeats, goes_past, is_too_great, greatest}
+use Rattle.ga_image.specs.Reading.{node_in, reading, refused, at_end, fault_of, line_fault, later_fault, form_fault, node_fault, words_fault, is_misplaced, after_line, after_form, with_block, start, header, nothing_given, is_header, has_block}
+use Rattle.ga_image.specs.Grammar.{Block, field_line_form, block_forms, all_writes, Fits, IsFieldLine, IsBlock, written, loaded, IsImage}
+use Rattle.ga_image.proofs.Apart.{seen_twice, AreBelow, once_apart, or_false}
+use Rattle.ga_image.proofs.Images.{reads, marked, repeats-append, line_later, past_later, still_later, short_past}
+use Rattle.ga_image.proofs.Accepted.{IsReady, numbers, repeats_numbers, fields_below, all_written, opened, opened_ready, nodes_below}
+
+-- a line that is not refused has no fault
+passed : (fault : Option ImageCause) (line : ℕ) (others : Result (List NodeState) ImageFault) (chip : List NodeState) → refused fault line others ≡ Ok chip → (fault ≡ None) × (others ≡ Ok chip)
+passed None line others chip e = (refl, e)
+passed (Some c) line others chip e = cc
+
+goes_on : (fault : Option ImageCause) (line : ℕ) (others : Result (List NodeState) ImageFault) → fault ≡ None → refused fault line others ≡ others
+goes_on fault line others none = rw none refl
+
+both : {A : Type 0} (x y : A) (xs ys : List A) → x ≡ y → xs ≡ ys → x ∷ xs ≡ y ∷ ys
+both x y xs ys p q = cc
+
+-- a test that doesn't hold is passed over
+pub neither : (b : Bool) (c : ImageCause) (others : Option ImageCause) → cond b (Some c) others ≡ None → (b ≡ false) × (others ≡ None)
+neither true c others e = cc
+neither false c others e = (refl, e)
+
+pub not_short : (progress : Progress) (text : List ℕ) → fault_of progress text ≡ None → line_fault progress.stage progress text ≡ None
+unfolding fault_of
+not_short progress text e = (neither (nat_lt 200 (length text)) cause.Long (line_fault progress.stage progress text) e).1
+
+pub some_form : (st : Stage) (found : Option Form) → st ≢ stage.Header → is_misplaced st found ≡ false → (f : Form) × (found ≡ Some f)
+some_form stage.Header found later e = absurd (later refl)
+some_form stage.Open None later e = cc
+some_form (stage.Block node) None later e = cc
+some_form stage.Ended None later e = cc
+some_form stage.Open (Some f) later e = (f, refl)
+some_form (stage.Block node) (Some f) later e = (f, refl)
+some_form stage.Ended (Some f) later e = (f, refl)
+
+-- lines that are read have meanings
+pub forms_of : (lines : List (List ℕ)) (progress : Progress) (line : ℕ) (chip : List NodeState) → progress.stage ≢ stage.Header → reading progress line lines ≡ Ok chip
+    → (forms : List Form) × (map form lines ≡ map (λ f. Some f) forms) × (reads progress line forms ≡ Ok chip)
+unfolding reading
+forms_of [] progress line chip later e = ([], refl, e)
+forms_of (text ∷ lines) progress line chip later e =
+    let parts = passed (fault_of progress text) line (reading (after_line progress text) (line + 1) lines) chip e in
+    let none : later_fault progress (form text) ≡ None = sym (line_later progress.stage progress text later) ∙ not_short progress text parts.0 in
+    let placed = neither (is_misplaced progress.stage (form text)) cause.Line (form_fault progress (form text)) none in
+    let meaning = some_form progress.stage (form text) later placed.0 in
+    let past : after_line progress text ≡ after_form progress (Some meaning.0) = short_past progress text ∙ past_later progress.stage progress text later ∙ ap (after_form progress) meaning.1 in
+    let onward : reading (after_form progress (Some meaning.0)) (line + 1) lines ≡ Ok chip = ap (λ f. reading f (line + 1) lines) (sym past) ∙ parts.1 in
+    let rest = forms_of lines (after_form progress (Some meaning.0)) (line + 1) chip (still_later progress meaning.0 later) onward in
+    let fault : later_fault progress (Some meaning.0) ≡ None = ap (later_fault progress) (sym meaning.1) ∙ none in
+    (meaning.0 ∷ rest.0, both _ _ _ _ meaning.1 rest.1, goes_on _ line _ fault ∙ rest.2)
+
+named : (found : Option ℕ) → is_none found ≡ false → (n : ℕ) × (found ≡ Some n)
+named None e = cc
+named (Some n) e = (n, refl)
+
+-- a line that begins a block without fault
+pub node_ok : (progress : Progress) (y : ℕ) → later_fault progress (Some (Node y)) ≡ None → (n : ℕ) × (node_of y ≡ Some n) × (get_or progress.blocks n false ≡ false)
+unfolding node_fault
+node_ok progress y none =
+    let tests = neither (is_misplaced progress.stage (Some (Node y))) cause.Line (node_fault progress y) none in
+    let first = neither (is_none (node_of y)) cause.Node _ tests.1 in
+    let second = neither (has_block progress (node_of y)) cause.Repeated None first.1 in
+    let node = named (node_of y) first.0 in
+    (node.0, node.1, ap (has_block progress) (sym node.1) ∙ second.0)
+
+within : (field : Field) (count : ℕ) → goes_past field count ≡ false → Fits field count
+within A count e = tt
+within B count e = tt
+within P count e = tt
+within (Ram cell) count e = grind (arith, nat_tests)
+within (Rom cell) count e = grind (arith, nat_tests)
+
+smalls : (most : ℕ) (words : List ℕ) → list_any (λ word. nat_lt most word) words ≡ false → AllByRecursion (λ word. word ≤ most) words
+smalls most [] e = tt
+smalls most (word ∷ words) e =
+    let parts = or_false (nat_lt most word) (list_any (λ w. nat_lt most w) words) e in
+    let here : word ≤ most = let h = parts.0 in grind (arith, nat_tests) in
+    (here, smalls most words parts.1)
+
+-- a field_line line without fault
+pub field_ok : (progress : Progress) (field : Field) (words : List ℕ) → later_fault progress (Some (Words field words)) ≡ None → IsFieldLine (field, words) × (repeats progress.given (writes field words) ≡ false)
+unfolding words_fault
+field_ok progress field words none =
+    let tests = neither (is_misplaced progress.stage (Some (Words field words))) cause.Line (words_fault progress field words) none in
+    let first = neither (goes_past field (length words)) cause.Place _ tests.1 in
+    let second = neither (is_too_great field words) cause.Word _ first.1 in
+    let third = neither (repeats progress.given (writes field words)) cause.Repeated None second.1 in
+    ((within field (length words) first.0, smalls (greatest field) words second.0), third.0)
+
+choice : (b : Bool) (x n : ℕ) → cond b (Some x) None ≡ Some n → (b ≡ true) × (x ≡ n)
+choice true x n e = let same : x ≡ n = cc in (refl, same)
+choice false x n e = cc
+
+sizes : (x y : Bool) → (x && y) ≡ true → (x ≡ true) × (y ≡ true)
+sizes true y e = (refl, e)
+sizes false y e = cc
+
+-- a number below 144 and its row and column
+pub yxx_of_node : (y n : ℕ) → node_of y ≡ Some n → (y ≡ yxx_of n) × (n < 144)
+yxx_of_node y n e =
+    let test = choice (nat_lt (y / 100) 8 && nat_lt (y % 100) 18) (18 * (y / 100) + y % 100) n e in
+    let small = sizes (nat_lt (y / 100) 8) (nat_lt (y % 100) 18) test.0 in
+    let row : y / 100 < 8 = let h = small.0 in grind (arith, nat_tests) in
+    let column : y % 100 < 18 = let h = small.1 in grind (arith, nat_tests) in
+    let whole : 18 * (y / 100) + y % 100 ≡ n = test.1 in
+    let high : n / 18 ≡ y / 100 = omega arith in
+    let low : n % 18 ≡ y % 100 = omega arith in
+    (omega arith, omega arith)
+
+-- what is left of an image, from within it
+record Rest (progress : Progress) (forms : List Form) (chip : List NodeState) : Type 0 where
+  field_lines : List (Field × List ℕ)
+  blocks : List Block
+  spelled : forms ≡ map field_line_form field_lines ++ (flat_map block_forms blocks ++ End ∷ [])
+  unopened : progress.stage ≡ stage.Open → field_lines ≡ []
+  each_field : AllByRecursion IsFieldLine field_lines
+  once : repeats progress.given (all_writes field_lines) ≡ false
+  each : AllByRecursion IsBlock blocks
+  apart : seen_twice progress.blocks (map (λ b. b.node) blocks) ≡ false
+  describes : chip ≡ loaded (written (node_in progress.stage) progress.chip (all_writes field_lines)) blocks
+
+cut : (progress : Progress) (line : ℕ) (chip : List NodeState) → IsReady progress → at_end progress.stage progress.chip line ≡ Ok chip → ⊥
+cut progress line chip (inl is) e = let never : at_end stage.Open progress.chip line ≡ Ok chip = subst (λ (s : Stage). at_end s progress.chip line ≡ Ok chip) is e in cc
+cut progress line chip (inr (node, is)) e = let never : at_end (stage.Block node) progress.chip line ≡ Ok chip = subst (λ (s : Stage). at_end s progress.chip line ≡ Ok chip) is e in cc
+
+-- nothing stands behind the end
+last : (forms : List Form) (progress : Progress) (line : ℕ) (chip : List NodeState) → reads (record progress { stage = stage.Ended }) line forms ≡ Ok chip → (forms ≡ []) × (chip ≡ progress.chip)
+last [] progress line chip e = let same : chip ≡ progress.chip = cc in (refl, same)
+last (f ∷ forms) progress line chip e = cc
+
+field_in_block : (progress : Progress) (field : Field) (words : List ℕ) → IsReady progress → later_fault progress (Some (Words field words)) ≡ None → (node : ℕ) × (progress.stage ≡ stage.Block node)
+field_in_block progress field words (inr block) none = block
+field_in_block progress field words (inl is) none =
+    let at = (neither (is_misplaced progress.stage (Some (Words field words))) cause.Line _ none).0 in
+    let never : true ≡ false = ap (λ s. is_misplaced s (Some (Words field words))) (sym is) ∙ at in
+    cc
+
+written-append : (node : ℕ) (chip : List NodeState) (xs ys : List (Field × ℕ)) → written node chip (xs ++ ys) ≡ written node (written node chip xs) ys
+written-append node chip [] ys = refl
+written-append node chip (x ∷ xs) ys = written-append node (with_word chip node x) xs ys
+
+rest_of : (forms : List Form) (progress : Progress) (line : ℕ) (chip : List NodeState) → IsReady progress → reads progress line forms ≡ Ok chip → Rest progress forms chip
+rest_of [] progress line chip ready e = absurd (cut progress line chip ready e)
+rest_of (End ∷ forms) progress line chip ready e =
+    let parts = passed (later_fault progress (Some End)) line (reads (after_form progress (Some End)) (line + 1) forms) chip e in
+    let after = last forms progress (line + 1) chip parts.1 in
+    record {
+      field_lines = [];
+      blocks = [];
+      spelled = ap (λ fs. End ∷ fs) after.0;
+      unopened = λ _. refl;
+      each_field = tt;
+      once = refl;
+      each = tt;
+      apart = refl;
+      describes = after.1;
+    }
+rest_of (Node y ∷ forms) progress line chip ready e =
+    let parts = passed (later_fault progress (Some (Node y))) line (reads (after_form progress (Some (Node y))) (line + 1) forms) chip e in
+    let ok = node_ok progress y parts.0 in
+    let at = yxx_of_node y ok.0 ok.1 in
+    let begun : Progress = record progress { stage = stage.Block ok.0; blocks = set progress.blocks ok.0 true; given = nothing_given } in
+    let is : after_form progress (Some (Node y)) ≡ begun = ap (with_block progress) ok.1 in
+    let rest = rest_of forms begun (line + 1) chip (inr (ok.0, refl)) (ap (λ f. reads f (line + 1) forms) (sym is) ∙ parts.1) in
+    let below = fields_below rest.field_lines rest.each_field in
+    let apart = once_apart nothing_given (numbers (all_writes rest.field_lines)) below (sym (repeats_numbers nothing_given (all_writes rest.field_lines)) ∙ rest.once) in
+    record {
+      field_lines = [];
+      blocks = record { node = ok.0; field_lines = rest.field_lines } ∷ rest.blocks;
+      spelled = both _ _ _ _ (ap (λ (n : ℕ). Node n) at.0) (rest.spelled ∙ sym (append_assoc (map field_line_form rest.field_lines) (flat_map block_forms rest.blocks) (End ∷ [])));
+      unopened = λ _. refl;
+      each_field = tt;
+      once = refl;
+      each = (record { node = at.1; field_lines = rest.each_field; apart = apart.1 }, rest.each);
+      apart = rw ok.2 rest.apart;
+      describes = rest.describes;
+    }
+rest_of (Words field words ∷ forms) progress line chip ready e =
+    let parts = passed (later_fault progress (Some (Words field words))) line (reads (after_form progress (Some (Words field words))) (line + 1) forms) chip e in
+    let block = field_in_block progress field words ready parts.0 in
+    let ok = field_ok progress field words parts.0 in
+    let filled : Progress = record progress { given = marked progress.given (writes field words); chip = written (node_in progress.stage) progress.chip (writes field words) } in
+    let is : after_form progress (Some (Words field words)) ≡ filled = all_written progress (writes field words) in
+    let rest = rest_of forms filled (line + 1) chip (inr block) (ap (λ f. reads f (line + 1) forms) (sym is) ∙ parts.1) in
+    record {
+      field_lines = (field, words) ∷ rest.field_lines;
+      blocks = rest.blocks;
+      spelled = ap (λ fs. Words field words ∷ fs) rest.spelled;
+      unopened = λ begins. absurd (let never : stage.Open ≡ stage.Block block.0 = sym begins ∙ block.1 in cc);
+      each_field = (ok.0, rest.each_field);
+      once = repeats-append progress.given (writes field words) (all_writes rest.field_lines) ∙ rw ok.1 rest.once;
+      each = rest.each;
+      apart = rest.apart;
+      describes = rest.describes ∙ ap (λ c. loaded c rest.blocks) (sym (written-append (node_in progress.stage) progress.chip (writes field words) (all_writes rest.field_lines)));
+    }
+
+none_else : (b : Bool) (c : ImageCause) → cond b None (Some c) ≡ None → b ≡ true
+none_else true c e = refl
+none_else false c e = cc
+
+header_only : (text : List ℕ) → cond (is_header text) None (Some cause.Header) ≡ None → text ≡ header
+header_only text e = (bytes_eq-Decides text header).0 (none_else (is_header text) cause.Header e)
+
+first_line_of : (text : List ℕ) (lines : List (List ℕ)) (chip : List NodeState) → reading start 1 (text ∷ lines) ≡ Ok chip → (text ≡ header) × (reading opened 2 lines ≡ Ok chip)
+unfolding reading start after_line
+first_line_of text lines chip e =
+    let parts = passed (fault_of start text) 1 (reading (after_line start text) 2 lines) chip e in
+    (header_only text (not_short start text parts.0), parts.1)
+
+nothing_read : (chip : List NodeState) → reading start 1 [] ≡ Ok chip → ⊥
+unfolding reading start
+nothing_read chip e = cc
+
+-- what is read is an image
+pub image_found : (texts : List (List ℕ)) (chip : List NodeState) → reading start 1 texts ≡ Ok chip → IsImage texts chip
+image_found [] chip e = absurd (nothing_read chip e)
+image_found (text ∷ lines) chip e =
+    let ready = opened_ready in
+    let first = first_line_of text lines chip e in
+    let later : opened.stage ≢ stage.Header = rw ready.0 (λ e. cc) in
+    let meaning = forms_of lines opened 2 chip later first.1 in
+    let rest = rest_of meaning.0 opened 2 chip (inl ready.0) meaning.2 in
+    let none : rest.field_lines ≡ [] = rest.unopened ready.0 in
+    let forms : meaning.0 ≡ flat_map block_forms rest.blocks ++ End ∷ [] = rest.spelled ∙ ap (λ fs. map field_line_form fs ++ (flat_map block_forms rest.blocks ++ End ∷ [])) none in
+    let below : AreBelow (length opened.blocks) (map (λ b. b.node) rest.blocks) = rw ready.1 (nodes_below rest.blocks rest.each) in
+    record {
+      lines = lines;
+      blocks = rest.blocks;
+      starts = ap (λ t. t ∷ lines) first.0;
+      spelled = meaning.1 ∙ ap (map (λ f. Some f)) forms;
+      each = rest.each;
+      apart = (once_apart opened.blocks (map (λ b. b.node) rest.blocks) below rest.apart).1;
+      describes = rest.describes
+          ∙ ap (λ fs. loaded (written (node_in opened.stage) opened.chip (all_writes fs)) rest.blocks) none
+          ∙ ap (λ c. loaded c rest.blocks) ready.2;
+    }

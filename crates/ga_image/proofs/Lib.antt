@@ -1,0 +1,13 @@
+pub mod Feeds
+pub mod Spaced
+pub mod Places
+pub mod Readings
+pub mod Short
+pub mod Apart
+pub mod Images
+pub mod Accepted
+pub mod Found
+pub mod Contract
+pub mod Room
+pub mod Cells
+pub mod Waits

@@ -1,0 +1,64 @@
+-- The words of a field line, one after the other.
+use Rattle.std.proofs.Common.{◌≡◌, ℕ, ◌+◌, ◌<◌, ◌≤◌, Bool, true, false, List, [], ◌∷◌, zero, suc, length, drop, get_or, set, Some, refl, ap, arith}
+use Rattle.std.specs.Prelude.{nat_lt}
+use Rattle.std.specs.List.{list_any}
+use Rattle.std.proofs.lemmas.Bool.Decides.{nat_tests}
+use Rattle.std.proofs.lemmas.List.{drop_more}
+use Rattle.ga_image.specs.declared.field.Field.{Field}
+use Rattle.ga_image.specs.declared.field.Field.TheVariants.{A, B, P, Ram, Rom}
+use Rattle.ga_image.specs.declared.fault.ImageCause.TheVariants.{Repeated}
+use Rattle.ga_image.specs.Fields.{HasCell, goes_past, greatest, next_field, number_of, writes, repeats, is_too_great}
+use Rattle.ga_image.specs.Progress.{Progress}
+use Rattle.ga_image.specs.Reading.{words_fault, with_write, with_writes}
+use Rattle.ga_image.proofs.Apart.{or_false}
+
+-- where the words fit, the first has a cell
+pub has_cell : (field : Field) (count : ℕ) → 0 < count → goes_past field count ≡ false → HasCell field
+has_cell A count some fits = tt
+has_cell B count some fits = tt
+has_cell P count some fits = tt
+has_cell (Ram cell) count some fits = grind (arith, nat_tests)
+has_cell (Rom cell) count some fits = grind (arith, nat_tests)
+
+-- and the others fit behind it
+pub next_fits : (field : Field) (count less : ℕ) → count ≡ less + 1 → goes_past field count ≡ false → goes_past (next_field field) less ≡ false
+next_fits A count less e fits = refl
+next_fits B count less e fits = refl
+next_fits P count less e fits = refl
+next_fits (Ram cell) count less e fits = grind (arith, nat_tests)
+next_fits (Rom cell) count less e fits = grind (arith, nat_tests)
+
+pub next_greatest : (field : Field) → greatest (next_field field) ≡ greatest field
+next_greatest A = refl
+next_greatest B = refl
+next_greatest P = refl
+next_greatest (Ram cell) = refl
+next_greatest (Rom cell) = refl
+
+-- no word is past its greatest
+pub each_small : (most : ℕ) (words : List ℕ) (i : ℕ) → i < length words → list_any (λ word. nat_lt most word) words ≡ false → get_or words i 0 ≤ most
+each_small most [] i within small = absurd (omega arith)
+each_small most (word ∷ words) zero within small = let first = (or_false (nat_lt most word) (list_any (λ w. nat_lt most w) words) small).0 in grind (arith, nat_tests)
+each_small most (word ∷ words) (suc i) within small = each_small most words i (omega arith) (or_false (nat_lt most word) (list_any (λ w. nat_lt most w) words) small).1
+
+-- the words from index i on are the word there and those behind it
+pub one_write : (field : Field) (words : List ℕ) (i : ℕ) → i < length words → writes field (drop i words) ≡ (field, get_or words i 0) ∷ writes (next_field field) (drop (i + 1) words)
+one_write field words i within = ap (writes field) (drop_more words i 0 within)
+
+-- a word for a field that was given
+pub repeats_here : (given : List Bool) (field : Field) (words : List ℕ) (i : ℕ) → i < length words → get_or given (number_of field) false ≡ true → repeats given (writes field (drop i words)) ≡ true
+repeats_here given field words i within is = rw (one_write field words i within, is) refl
+
+-- the only fault of a field line
+pub repeated_field : (progress : Progress) (field : Field) (words : List ℕ) → goes_past field (length words) ≡ false → is_too_great field words ≡ false → repeats progress.given (writes field words) ≡ true → words_fault progress field words ≡ Some Repeated
+unfolding words_fault
+repeated_field progress field words fits small again = rw (fits, small, again) refl
+
+-- past a word for a field that was not given
+pub repeats_later : (given : List Bool) (field : Field) (words : List ℕ) (i : ℕ) → i < length words → get_or given (number_of field) false ≡ false
+    → repeats given (writes field (drop i words)) ≡ repeats (set given (number_of field) true) (writes (next_field field) (drop (i + 1) words))
+repeats_later given field words i within free = rw (one_write field words i within, free) refl
+
+pub written_later : (progress : Progress) (field : Field) (words : List ℕ) (i : ℕ) → i < length words
+    → with_writes progress (writes field (drop i words)) ≡ with_writes (with_write progress (field, get_or words i 0)) (writes (next_field field) (drop (i + 1) words))
+written_later progress field words i within = ap (with_writes progress) (one_write field words i within)

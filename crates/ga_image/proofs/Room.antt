@@ -1,0 +1,121 @@
+-- How many lines may still come: no more than there are nodes and places left.
+use Rattle.std.proofs.Common.{◌≡◌, ◌≢◌, ℕ, zero, suc, ◌+◌, ◌*◌, ◌<◌, ◌≤◌, ◌⊎◌, inl, inr, Bool, true, false, List, [], ◌∷◌, length, get_or, set, Some, None, refl, sym, ◌∙◌, ap, subst, arith, length-set, lit≤}
+use Rattle.ga_image.specs.declared.field.Field.{Field}
+use Rattle.ga_image.specs.Progress.{Progress}
+use Rattle.ga_image.specs.Progress.{Stage}
+use Rattle.ga_image.specs.Progress as stage
+use Rattle.ga_image.specs.Forms.{Form, Node, Words, End, form}
+use Rattle.ga_image.specs.Fields.{writes, next_field, number_of}
+use Rattle.ga_image.specs.Reading.{fault_of, after_line, after_form, later_fault, with_block, start, nothing_given, is_misplaced}
+use Rattle.ga_image.proofs.Apart.{or_false, seen_twice, AreBelow}
+use Rattle.ga_image.proofs.Accepted.{numbers, repeats_numbers, field_below, all_written}
+use Rattle.ga_image.proofs.Images.{marked, line_later, past_later, short_past}
+use Rattle.ga_image.proofs.Short.{some_field}
+use Rattle.ga_image.proofs.Found.{not_short, neither, some_form, node_ok, field_ok, yxx_of_node}
+
+-- how many flags aren't set
+abbrev pub free : List Bool → ℕ
+free [] = 0
+free (true ∷ flags) = free flags
+free (false ∷ flags) = 1 + free flags
+
+free-set : (flags : List Bool) (n : ℕ) → free (set flags n true) ≤ free flags
+free-set [] n = omega arith
+free-set (true ∷ flags) zero = omega arith
+free-set (false ∷ flags) zero = omega arith
+free-set (true ∷ flags) (suc n) = free-set flags n
+free-set (false ∷ flags) (suc n) = omega (arith, free-set flags n)
+
+one_less : (flags : List Bool) (n : ℕ) → n < length flags → get_or flags n false ≡ false → free (set flags n true) < free flags
+one_less [] n below is = absurd (omega arith)
+one_less (true ∷ flags) zero below is = cc
+one_less (false ∷ flags) zero below is = omega arith
+one_less (true ∷ flags) (suc n) below is = one_less flags n (omega arith) is
+one_less (false ∷ flags) (suc n) below is = omega (arith, one_less flags n (omega arith) is)
+
+free-marked : (flags : List Bool) (ws : List (Field × ℕ)) → free (marked flags ws) ≤ free flags
+free-marked flags [] = omega arith
+free-marked flags (w ∷ ws) = omega (arith, free-marked (set flags (number_of w.0) true) ws, free-set flags (number_of w.0))
+
+pub length-marked : (flags : List Bool) (ws : List (Field × ℕ)) → length (marked flags ws) ≡ length flags
+length-marked flags [] = refl
+length-marked flags (w ∷ ws) = length-marked (set flags (number_of w.0) true) ws ∙ length-set flags (number_of w.0) true
+
+field_less : (flags : List Bool) (field : Field) (words : List ℕ) → length flags ≡ 131 → 0 < length words → AreBelow 131 (numbers (writes field words)) → seen_twice flags (numbers (writes field words)) ≡ false → free (marked flags (writes field words)) < free flags
+field_less flags field [] size some below once = absurd (omega arith)
+field_less flags field (word ∷ words) size some below once =
+    let parts = or_false (get_or flags (number_of field) false) _ once in
+    omega (arith, one_less flags (number_of field) (omega (arith, below.0)) parts.0, free-marked (set flags (number_of field) true) (writes (next_field field) words))
+
+abbrev pub stage_room : Stage → ℕ
+stage_room stage.Header = 2
+stage_room stage.Open = 1
+stage_room (stage.Block node) = 1
+stage_room stage.Ended = 0
+
+abbrev pub room : Progress → ℕ
+room progress = stage_room progress.stage + 132 * free progress.blocks + free progress.given
+
+pub record IsSized (progress : Progress) : Type 0 where
+  pub blocks : length progress.blocks ≡ 144
+  pub given : length progress.given ≡ 131
+
+-- a line behind another, without fault and of less room behind it
+abbrev pub IsLess : Progress → Progress → Type 0
+IsLess progress next = (room next < room progress) × IsSized next
+
+unended : (s : Stage) (f : Form) → s ≢ stage.Header → is_misplaced s (Some f) ≡ false → stage_room s ≡ 1
+unended stage.Header f later e = absurd (later refl)
+unended stage.Open f later e = refl
+unended (stage.Block node) f later e = refl
+unended stage.Ended f later e = cc
+
+form_less : (progress : Progress) (f : Form) → IsSized progress → progress.stage ≢ stage.Header → ((at : Field) (ws : List ℕ) → f ≡ Words at ws → 0 < length ws) → later_fault progress (Some f) ≡ None → IsLess progress (after_form progress (Some f))
+form_less progress End sized later some none =
+    let one = unended progress.stage End later (neither (is_misplaced progress.stage (Some End)) _ _ none).0 in
+    (omega arith, record { blocks = sized.blocks; given = sized.given })
+form_less progress (Node y) sized later some none =
+    let one = unended progress.stage (Node y) later (neither (is_misplaced progress.stage (Some (Node y))) _ _ none).0 in
+    let ok = node_ok progress y none in
+    let at = yxx_of_node y ok.0 ok.1 in
+    let begun : Progress = record progress { stage = stage.Block ok.0; blocks = set progress.blocks ok.0 true; given = nothing_given } in
+    let less : free (set progress.blocks ok.0 true) < free progress.blocks = one_less progress.blocks ok.0 (omega (arith, at.1, sized.blocks)) ok.2 in
+    let P : Progress → Type 0 = IsLess progress in
+    subst P (ap (with_block progress) (sym ok.1)) (omega arith, record { blocks = length-set progress.blocks ok.0 true ∙ sized.blocks; given = refl })
+form_less progress (Words field words) sized later some none =
+    let one = unended progress.stage (Words field words) later (neither (is_misplaced progress.stage (Some (Words field words))) _ _ none).0 in
+    let ok = field_ok progress field words none in
+    let less = field_less progress.given field words sized.given (some field words refl) (field_below field words ok.0.0) (sym (repeats_numbers progress.given (writes field words)) ∙ ok.1) in
+    let P : Progress → Type 0 = IsLess progress in
+    subst P (sym (all_written progress (writes field words))) (omega arith, record { blocks = sized.blocks; given = length-marked progress.given (writes field words) ∙ sized.given })
+
+known : (s : Stage) → (s ≡ stage.Header) ⊎ (s ≢ stage.Header)
+known stage.Header = inl refl
+known stage.Open = inr (λ e. cc)
+known (stage.Block node) = inr (λ e. cc)
+known stage.Ended = inr (λ e. cc)
+
+past_start : (progress : Progress) (text : List ℕ) → progress.stage ≡ stage.Header → after_line progress text ≡ record progress { stage = stage.Open }
+past_start progress text is = short_past progress text ∙ rw is refl
+
+-- each line leaves less room for others
+pub line_less : (progress : Progress) (text : List ℕ) → IsSized progress → fault_of progress text ≡ None → IsLess progress (after_line progress text)
+line_less progress text sized none =
+    let P : Progress → Type 0 = IsLess progress in
+    elim (known progress.stage) [
+      | inl is ↦
+          let two : stage_room progress.stage ≡ 2 = ap stage_room is in
+          subst P (sym (past_start progress text is)) (omega arith, record { blocks = sized.blocks; given = sized.given })
+      | inr later ↦
+          let none_later : later_fault progress (form text) ≡ None = sym (line_later progress.stage progress text later) ∙ not_short progress text none in
+          let placed = neither (is_misplaced progress.stage (form text)) _ _ none_later in
+          let meaning = some_form progress.stage (form text) later placed.0 in
+          let fault : later_fault progress (Some meaning.0) ≡ None = ap (later_fault progress) (sym meaning.1) ∙ none_later in
+          let past : after_line progress text ≡ after_form progress (Some meaning.0) = short_past progress text ∙ past_later progress.stage progress text later ∙ ap (after_form progress) meaning.1 in
+          subst P (sym past) (form_less progress meaning.0 sized later (λ at ws is. some_field text at ws (meaning.1 ∙ ap (λ f. Some f) is)) fault)
+    ]
+
+-- at the start
+pub start_room : (room start ≤ 19141) × IsSized start
+unfolding start
+start_room = (lit≤ tt, record { blocks = refl; given = refl })

@@ -1,0 +1,44 @@
+use Rattle.std.proofs.Common.{◌≡◌, ◌+◌, ◌≤◌, arith, sym, ◌∙◌, ap, inr, subst, refl}
+use Rattle.std.proofs.lemmas.Bool.{eqb-true}
+use Rattle.std.proofs.lemmas.List.{nil_from_length}
+use Rattle.ga_image.specs.Lines.{lines_of}
+use Rattle.ga_image.specs.Progress.{Progress, progress_of, stage_of}
+use Rattle.ga_image.specs.Reading.{reading, start, AreApart}
+use Rattle.ga_image.proofs.Room.{room, IsSized, line_less, start_room}
+use Rattle.ga_image.proofs.Readings.{reads_on, reads_fault, reads_end, reads_cut, still_open}
+use Rattle.ga_image.proofs.Waits.{start_apart, line_apart}
+use Rattle.ga_image.proofs.image.read.Goals as goal
+
+pub returns-in-Err : goal.returns-in-Err
+returns-in-Err c =
+    inr (sym c.loop-rest.invariant.same
+    ∙ reads_fault (progress_of c.loop-rest.parser) c.loop-rest.line c.loop-rest.rest.now _ c.first_line.result.1.now c.in-Err.cause c.first_line.ensures.splits c.in-Err.ensures)
+
+pub loop-rest-init : goal.loop-rest-init
+loop-rest-init c =
+    let Holds : Progress → Type 0 = λ progress. (reading progress 1 (lines_of c.args.text.now) ≡ reading start 1 (lines_of c.args.text.now)) × (1 + room progress ≤ 19142) × IsSized progress × AreApart progress.chip in
+    let begun = start_room in
+    let all : Holds (progress_of c.new-parser.result) = subst Holds (sym c.new-parser.ensures) (refl, omega arith, begun.1, start_apart) in
+    record { same = all.0; counts = all.1; sized = all.2; apart = all.3 }
+
+pub loop-rest-preserved : goal.loop-rest-preserved
+loop-rest-preserved c =
+    let before = progress_of c.loop-rest.parser in
+    let less = line_less before c.first_line.result.0.now c.loop-rest.invariant.sized c.in-Ok-read_line.ensures.0 in
+    let onward = reads_on before c.loop-rest.line c.loop-rest.rest.now _ c.first_line.result.1.now c.first_line.ensures.splits c.in-Ok-read_line.ensures.0 in
+    let apart = line_apart before c.first_line.result.0.now c.loop-rest.invariant.apart in
+    let Holds : Progress → Type 0 = λ progress. (reading progress (c.loop-rest.line + 1) (lines_of c.first_line.result.1.now) ≡ reading start 1 (lines_of c.args.text.now)) × (c.loop-rest.line + 1 + room progress ≤ 19142) × IsSized progress × AreApart progress.chip in
+    let all : Holds (progress_of c.read_line.new.self) = subst Holds (sym c.in-Ok-read_line.ensures.1) (sym onward ∙ c.loop-rest.invariant.same, omega (arith, less.0), less.1, apart) in
+    record { same = all.0; counts = all.1; sized = all.2; apart = all.3 }
+
+pub returns-in-Ended : goal.returns-in-Ended
+returns-in-Ended c =
+    let rest = nil_from_length c.loop-rest.rest.now (eqb-true _ _ (sym c.is_empty.ensures ∙ c.loop-rest-test.false)) in
+    sym c.loop-rest.invariant.same ∙ ap (λ t. reading (progress_of c.loop-rest.parser) c.loop-rest.line (lines_of t)) rest
+    ∙ reads_end (progress_of c.loop-rest.parser) c.loop-rest.line (ap stage_of c.in-Ended.is)
+
+pub returns-in_default-stage : goal.returns-in_default-stage
+returns-in_default-stage c =
+    let rest = nil_from_length c.loop-rest.rest.now (eqb-true _ _ (sym c.is_empty.ensures ∙ c.loop-rest-test.false)) in
+    inr (sym c.loop-rest.invariant.same ∙ ap (λ t. reading (progress_of c.loop-rest.parser) c.loop-rest.line (lines_of t)) rest
+    ∙ reads_cut (progress_of c.loop-rest.parser) c.loop-rest.line (still_open c.loop-rest.parser.stage c.in_default-stage.not-Ended))

@@ -1,0 +1,13 @@
+use Rattle.std.proofs.Common.{◌≡◌, ◌≤◌, length}
+use Rattle.ga_image.specs.Forms.{words}
+use Rattle.ga_image.proofs.Spaced.{words_after}
+use Rattle.ga_image.proofs.line.words.Given as goal
+
+abbrev pub invariant-loop-rest : goal.invariant-loop-rest
+invariant-loop-rest l = record {
+  same : words_after l.words.items l.rest ≡ words l.fn.text;
+  fits : length l.words.items ≤ 16;
+}
+
+abbrev pub decreases-loop-rest : goal.decreases-loop-rest
+decreases-loop-rest l = length l.rest

@@ -1,0 +1,30 @@
+use Rattle.std.proofs.Common.{◌≡◌, ℕ, ◌-◌, false, length, sym, ◌∙◌, ap, get_or, arith}
+use Rattle.ga_image.specs.Fields.{goes_past, is_too_great}
+use Rattle.ga_image.specs.Progress.{progress_of, stage_of}
+use Rattle.ga_image.specs.Reading.{node_in}
+use Rattle.ga_image.proofs.Places.{next_fits, next_greatest, repeats_here, repeated_field, repeats_later, written_later}
+use Rattle.ga_image.proofs.Waits.{word_apart}
+use Rattle.ga_image.proofs.parser.Parser.write_all.Goals as goal
+
+pub returns-then-self-number : goal.returns-then-self-number
+returns-then-self-number c =
+    let given = ap (λ (n : ℕ). get_or c.loop-word.self.given n false) (sym c.number-number.ensures.value) ∙ c.if-self-number.true in
+    let fits : goes_past c.args.field _ ≡ false = sym c.goes_past.ensures ∙ c.if-goes_past.false in
+    let small : is_too_great c.args.field c.args.words.now ≡ false = sym c.is_too_small.ensures ∙ c.if-is_too_small.false in
+    repeated_field (progress_of c.args.self.now) c.args.field c.args.words.now fits small
+    (sym c.loop-word.invariant.faults ∙ repeats_here c.loop-word.self.given c.loop-word.at c.args.words.now c.loop-word.word-index c.loop-word-test.true given)
+
+pub loop-word-preserved : goal.loop-word-preserved
+loop-word-preserved c =
+    let free = ap (λ (n : ℕ). get_or c.loop-word.self.given n false) (sym c.number-number.ensures.value) ∙ c.if-self-number.false in
+    let node : node_in (stage_of c.loop-word.self.stage) ≡ c.args.node.number = ap (λ s. node_in (stage_of s)) (c.loop-word.invariant.block ∙ c.requires.block) in
+    record {
+      fits = rw c.next-at.ensures (next_fits c.loop-word.at (length c.args.words.now - c.loop-word.word-index) _ (omega arith) c.loop-word.invariant.fits);
+      greatest = rw c.next-at.ensures (next_greatest c.loop-word.at ∙ c.loop-word.invariant.greatest);
+      block = c.loop-word.invariant.block;
+      apart = rw c.write.ensures (word_apart c.loop-word.self.chip c.args.node.number _ c.loop-word.invariant.apart);
+      faults = rw (c.number-number.ensures.value, c.next-at.ensures)
+          (sym (repeats_later c.loop-word.self.given c.loop-word.at c.args.words.now c.loop-word.word-index c.loop-word-test.true free) ∙ c.loop-word.invariant.faults);
+      progress = rw (c.number-number.ensures.value, c.write.ensures, c.next-at.ensures, ← node)
+          (sym (written_later (progress_of c.loop-word.self) c.loop-word.at c.args.words.now c.loop-word.word-index c.loop-word-test.true) ∙ c.loop-word.invariant.progress);
+    }

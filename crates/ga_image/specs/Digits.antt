@@ -1,0 +1,24 @@
+-- The digits of a node and of a memory cell.
+use Rattle.std.specs.Prelude.{ℕ, ◌+◌, ◌-◌, ◌*◌, ◌&&◌, nat_le, if◌then◌else◌, List, [], ◌∷◌, Option, Some, None}
+use Rattle.hex.specs.Hex.{hex_digit_value}
+use Rattle.ga_image.specs.Steps.{◌>>=◌}
+
+abbrev pub decimal_digit : ℕ → Option ℕ
+decimal_digit byte = if nat_le 48 byte && nat_le byte 57 then Some (byte - 48) else None
+
+-- the number of exactly three decimal digits
+unfoldable pub node_number : List ℕ → Option ℕ
+node_number (x ∷ y ∷ z ∷ []) = do
+  row ← decimal_digit x
+  tens ← decimal_digit y
+  ones ← decimal_digit z
+  Some (100 * row + 10 * tens + ones)
+node_number _ = None
+
+-- the number of exactly two hexadecimal digits, in either case
+unfoldable pub cell_number : List ℕ → Option ℕ
+cell_number (x ∷ y ∷ []) = do
+  high ← hex_digit_value x
+  low ← hex_digit_value y
+  Some (high * 16 + low)
+cell_number _ = None

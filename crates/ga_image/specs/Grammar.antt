@@ -1,0 +1,65 @@
+-- Images: which lines describe which chip.
+use Rattle.std.specs.Prelude.{◌≡◌, ℕ, ◌+◌, ◌<◌, ◌≤◌, nat_eq, List, [], ◌∷◌, ◌++◌, length, map, flat_map, Some}
+use Rattle.std.specs.List.{AllByRecursion, IsDistinct}
+use Rattle.ga_node.specs.State.{NodeState}
+use Rattle.ga_grid.specs.Chip.{default_chip}
+use Rattle.ga_grid.specs.Grid.{yxx_of}
+use Rattle.ga_image.specs.declared.field.Field.{Field}
+use Rattle.ga_image.specs.declared.field.Field.TheVariants.{A, B, P, Ram, Rom}
+use Rattle.ga_image.specs.Fields.{writes, greatest, number_of}
+use Rattle.ga_image.specs.Forms.{Form, Node, Words, End, form}
+use Rattle.ga_image.specs.Reading.{header, with_word}
+
+-- a block: its node, and its field lines, each with a field and the words for it and for those after it
+pub record Block : Type 0 where
+  pub node : ℕ
+  pub field_lines : List (Field × List ℕ)
+
+abbrev pub field_line_form : Field × List ℕ → Form
+field_line_form field_line = Words field_line.0 field_line.1
+
+-- a block's lines
+abbrev pub block_forms : Block → List Form
+block_forms block = Node (yxx_of block.node) ∷ map field_line_form block.field_lines
+
+-- the fields that lines give, each with its word
+abbrev pub all_writes : List (Field × List ℕ) → List (Field × ℕ)
+all_writes field_lines = flat_map (λ line. writes line.0 line.1) field_lines
+
+-- so many words from a field on stay within its memory
+abbrev pub Fits : Field → ℕ → Type 0
+Fits A count = Unit {0}
+Fits B count = Unit {0}
+Fits P count = Unit {0}
+Fits (Ram cell) count = cell + count ≤ 64
+Fits (Rom cell) count = cell + count ≤ 64
+
+-- no cell is past the last, and no word past its greatest
+abbrev pub IsFieldLine : Field × List ℕ → Type 0
+IsFieldLine field_line = Fits field_line.0 (length field_line.1) × AllByRecursion (λ word. word ≤ greatest field_line.0) field_line.1
+
+pub record IsBlock (block : Block) : Type 0 where
+  pub node : block.node < 144
+  pub field_lines : AllByRecursion IsFieldLine block.field_lines
+  -- no field is given twice
+  pub apart : IsDistinct nat_eq (map (λ w. number_of w.0) (all_writes block.field_lines))
+
+-- a chip with what a block gives, one word after the other
+abbrev pub written : ℕ → List NodeState → List (Field × ℕ) → List NodeState
+written node chip [] = chip
+written node chip (w ∷ ws) = written node (with_word chip node w) ws
+
+abbrev pub loaded : List NodeState → List Block → List NodeState
+loaded chip [] = chip
+loaded chip (block ∷ blocks) = loaded (written block.node chip (all_writes block.field_lines)) blocks
+
+-- The lines are the header, blocks and `end`; the chip has what the blocks give, and else its defaults.
+pub record IsImage (texts : List (List ℕ)) (chip : List NodeState) : Type 0 where
+  pub lines : List (List ℕ)
+  pub blocks : List Block
+  pub starts : texts ≡ header ∷ lines
+  pub spelled : map form lines ≡ map (λ f. Some f) (flat_map block_forms blocks ++ End ∷ [])
+  pub each : AllByRecursion IsBlock blocks
+  -- no node has two blocks
+  pub apart : IsDistinct nat_eq (map (λ block. block.node) blocks)
+  pub describes : chip ≡ loaded default_chip blocks

@@ -1,0 +1,9 @@
+pub mod Lines
+pub mod Fault
+pub mod Steps
+pub mod Digits
+pub mod Fields
+pub mod Forms
+pub mod Progress
+pub mod Reading
+pub mod Grammar

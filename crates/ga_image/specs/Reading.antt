@@ -1,0 +1,143 @@
+-- Reading an image line by line, with the first fault that is met.
+use Rattle.std.specs.Prelude.{◌≡◌, ℕ, ◌+◌, ◌⊎◌, nat_eq, nat_lt, Bool, true, false, if◌then◌else◌, List, [], ◌∷◌, length, codes, replicate, slice_index_or, slice_set, is_none, Option, Some, None, Result, Ok, Err}
+use Rattle.std.specs.Cmp.Lexicographic.{pointwise}
+use Rattle.std.specs.List.{AllByRecursion}
+use Rattle.ga_node.specs.State.{NodeState, with_value, IsApart}
+use Rattle.ga_grid.specs.Chip.{default_chip, node_at, with_node}
+use Rattle.ga_grid.specs.Grid.{node_of}
+use Rattle.ga_image.specs.declared.fault.ImageCause.{ImageCause}
+use Rattle.ga_image.specs.declared.fault.ImageCause.TheVariants as cause
+use Rattle.ga_image.specs.declared.fault.ImageFault.{ImageFault}
+use Rattle.ga_image.specs.declared.field.Field.{Field}
+use Rattle.ga_image.specs.Fields.{place_of, number_of, writes, goes_past, is_too_great, repeats}
+use Rattle.ga_image.specs.Forms.{Form, Node, Words, End, form}
+use Rattle.ga_image.specs.Progress.{Stage, Header, Open, Block, Ended, Progress}
+
+-- no field
+abbrev pub nothing_given : List Bool
+nothing_given = replicate 131 false
+
+-- before the first line
+unfoldable pub start : Progress
+start = record { stage = Header; blocks = replicate 144 false; given = nothing_given; chip = default_chip }
+
+abbrev pub header : List ℕ
+header = codes "ga144 1"
+
+abbrev pub is_header : List ℕ → Bool
+is_header text = pointwise nat_eq text header
+
+-- the line has no form, or is a field line before the first block, or stands behind the end
+abbrev pub is_misplaced : Stage → Option Form → Bool
+is_misplaced Open (Some (Node yxx)) = false
+is_misplaced Open (Some End) = false
+is_misplaced (Block node) (Some form) = false
+is_misplaced _ _ = true
+
+-- the node has a block already
+abbrev pub has_block : Progress → Option ℕ → Bool
+has_block progress (Some node) = slice_index_or progress.blocks node false
+has_block progress None = false
+
+-- the first of these tests that holds
+abbrev pub first_of : List (ImageCause × Bool) → Option ImageCause
+first_of [] = None
+first_of (test ∷ tests) = if test.1 then Some test.0 else first_of tests
+
+-- What may be wrong with a line, in the order in which it is answered:
+-- with a line that begins the block of a node,
+unfoldable pub node_fault : Progress → ℕ → Option ImageCause
+node_fault progress yxx = first_of (
+    (cause.Node, is_none (node_of yxx))
+    ∷ (cause.Repeated, has_block progress (node_of yxx))
+    ∷ [])
+
+-- with a field line,
+unfoldable pub words_fault : Progress → Field → List ℕ → Option ImageCause
+words_fault progress field words = first_of (
+    (cause.Place, goes_past field (length words))
+    ∷ (cause.Word, is_too_great field words)
+    ∷ (cause.Repeated, repeats progress.given (writes field words))
+    ∷ [])
+
+abbrev pub form_fault : Progress → Option Form → Option ImageCause
+form_fault progress (Some (Node yxx)) = node_fault progress yxx
+form_fault progress (Some (Words field words)) = words_fault progress field words
+form_fault progress _ = None
+
+-- with a line behind the first,
+abbrev pub later_fault : Progress → Option Form → Option ImageCause
+later_fault progress form = if is_misplaced progress.stage form then Some cause.Line else form_fault progress form
+
+-- and with any line.
+abbrev pub line_fault : Stage → Progress → List ℕ → Option ImageCause
+line_fault Header progress text = if is_header text then None else Some cause.Header
+line_fault _ progress text = later_fault progress (form text)
+
+unfoldable pub fault_of : Progress → List ℕ → Option ImageCause
+fault_of progress text = if nat_lt 200 (length text) then Some cause.Long else line_fault progress.stage progress text
+
+-- the node of the block
+abbrev pub node_in : Stage → ℕ
+node_in (Block node) = node
+node_in _ = 0
+
+-- a chip with another word in a field of a node
+unfoldable pub with_word : List NodeState → ℕ → Field × ℕ → List NodeState
+with_word chip node w = with_node chip node (with_value (node_at chip node) (place_of w.0) w.1)
+
+abbrev pub with_write : Progress → Field × ℕ → Progress
+with_write progress w = record progress {
+  given = slice_set progress.given (number_of w.0) true;
+  chip = with_word progress.chip (node_in progress.stage) w;
+}
+
+abbrev pub with_writes : Progress → List (Field × ℕ) → Progress
+with_writes progress [] = progress
+with_writes progress (w ∷ ws) = with_writes (with_write progress w) ws
+
+-- a block of the node begins
+abbrev pub with_block : Progress → Option ℕ → Progress
+with_block progress (Some node) = record progress { stage = Block node; blocks = slice_set progress.blocks node true; given = nothing_given }
+with_block progress None = progress
+
+-- after a line with no fault
+abbrev pub after_form : Progress → Option Form → Progress
+after_form progress (Some (Node yxx)) = with_block progress (node_of yxx)
+after_form progress (Some (Words field words)) = with_writes progress (writes field words)
+after_form progress (Some End) = record progress { stage = Ended }
+after_form progress None = progress
+
+abbrev pub after_stage : Stage → Progress → List ℕ → Progress
+after_stage Header progress text = record progress { stage = Open }
+after_stage _ progress text = after_form progress (form text)
+
+unfoldable pub after_line : Progress → List ℕ → Progress
+after_line progress text = after_stage progress.stage progress text
+
+-- a line's fault, or what the lines after it give
+abbrev pub refused : Option ImageCause → ℕ → Result (List NodeState) ImageFault → Result (List NodeState) ImageFault
+refused (Some cause) line others = Err (record { line = line; cause = cause })
+refused None line others = others
+
+abbrev pub at_end : Stage → List NodeState → ℕ → Result (List NodeState) ImageFault
+at_end Ended chip line = Ok chip
+at_end _ chip line = Err (record { line = line; cause = cause.Truncated })
+
+-- the chip, or the first fault with its line
+unfoldable pub reading : Progress → ℕ → List (List ℕ) → Result (List NodeState) ImageFault
+reading progress line [] = at_end progress.stage progress.chip line
+reading progress line (text ∷ lines) = refused (fault_of progress text) line (reading (after_line progress text) (line + 1) lines)
+
+-- want of memory, which is met before the first line
+abbrev pub no_memory : ImageFault
+no_memory = record { line = 0; cause = cause.Memory }
+
+-- What a call returned is what reading gives, unless memory was refused.
+abbrev pub Gives : Result (List NodeState) ImageFault → Result (List NodeState) ImageFault → Type 0
+Gives (Ok chip) read = read ≡ Ok chip
+Gives (Err fault) read = (fault ≡ no_memory) ⊎ (read ≡ Err fault)
+
+-- no node has both a wait and a stop
+abbrev pub AreApart : List NodeState → Type 0
+AreApart chip = AllByRecursion IsApart chip

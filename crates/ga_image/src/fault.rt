@@ -1,0 +1,75 @@
+//! Why a text is no image.
+
+ghost use Rattle.std.specs.Prelude.{◌≡◌};
+ghost use Rattle.ga_image.specs.Fault.{number_of, word_of};
+
+use thiserror::Error;
+
+/// What is wrong with a line, or with the text as a whole.
+#[derive(Clone, Copy, PartialEq, Eq, Debug, Error)]
+pub enum ImageCause {
+    #[error("the first line is not the header")]
+    Header,
+    #[error("the line has none of the forms, or may not stand here")]
+    Line,
+    #[error("no node has this row and column")]
+    Node,
+    #[error("a number is too great for its place")]
+    Word,
+    #[error("the node, field or cell was given before")]
+    Repeated,
+    #[error("a memory cell is past the last one")]
+    Place,
+    #[error("the text ends before its line `end`")]
+    Truncated,
+    #[error("the line has more than 200 bytes")]
+    Long,
+    #[error("out of memory")]
+    Memory,
+}
+
+impl ImageCause {
+    /// The number by which the cause is reported.
+    pub fn number(self) -> u8
+        ensures { result ≡ number_of self }
+    {
+        match self {
+            ImageCause::Header => 11,
+            ImageCause::Line => 12,
+            ImageCause::Node => 13,
+            ImageCause::Word => 14,
+            ImageCause::Repeated => 15,
+            ImageCause::Place => 16,
+            ImageCause::Truncated => 17,
+            ImageCause::Long => 18,
+            ImageCause::Memory => 19,
+        }
+    }
+
+    /// The word by which the cause is reported.
+    pub fn word(self) -> &'static str
+        ensures { result.now ≡ word_of self }
+    {
+        match self {
+            ImageCause::Header => "header",
+            ImageCause::Line => "line",
+            ImageCause::Node => "node",
+            ImageCause::Word => "word",
+            ImageCause::Repeated => "repeated",
+            ImageCause::Place => "place",
+            ImageCause::Truncated => "truncated",
+            ImageCause::Long => "long",
+            ImageCause::Memory => "memory",
+        }
+    }
+}
+
+/// The first fault of a text.
+#[derive(Clone, Copy, PartialEq, Eq, Debug, Error)]
+#[error("line {line}: {cause}")]
+pub struct ImageFault {
+    /// The number of the faulty line, counted from 1; one more than the number of lines where the text is truncated,
+    /// and 0 where memory was refused.
+    pub line: u32,
+    pub cause: ImageCause,
+}
