@@ -10,4 +10,3 @@ pub mod Found
 pub mod Contract
 pub mod Room
 pub mod Cells
-pub mod Waits

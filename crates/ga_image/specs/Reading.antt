@@ -1,8 +1,7 @@
 -- Reading an image line by line, with the first fault that is met.
 use Rattle.std.specs.Prelude.{◌≡◌, ℕ, ◌+◌, ◌⊎◌, nat_eq, nat_lt, Bool, true, false, if◌then◌else◌, List, [], ◌∷◌, length, codes, replicate, slice_index_or, slice_set, is_none, Option, Some, None, Result, Ok, Err}
 use Rattle.std.specs.Cmp.Lexicographic.{pointwise}
-use Rattle.std.specs.List.{AllByRecursion}
-use Rattle.ga_node.specs.State.{NodeState, with_value, IsApart}
+use Rattle.ga_node.specs.State.{NodeState, with_value}
 use Rattle.ga_grid.specs.Chip.{default_chip, node_at, with_node}
 use Rattle.ga_grid.specs.Grid.{node_of}
 use Rattle.ga_image.specs.declared.fault.ImageCause.{ImageCause}
@@ -137,7 +136,3 @@ no_memory = record { line = 0; cause = cause.Memory }
 abbrev pub Gives : Result (List NodeState) ImageFault → Result (List NodeState) ImageFault → Type 0
 Gives (Ok chip) read = read ≡ Ok chip
 Gives (Err fault) read = (fault ≡ no_memory) ⊎ (read ≡ Err fault)
-
--- no node has both a wait and a stop
-abbrev pub AreApart : List NodeState → Type 0
-AreApart chip = AllByRecursion IsApart chip

@@ -1,12 +1,11 @@
 //! Reading an image line by line.
 
 ghost use Rattle.std.specs.Prelude.{◌≡◌, ◌≤◌, length, Some, None, MatchResult};
-ghost use Rattle.ga_node.specs.State.{with_value, IsApart};
 ghost use Rattle.ga_grid.specs.Chip.{default_chip};
 ghost use Rattle.ga_grid.specs.Grid.{node_of};
-ghost use Rattle.ga_image.specs.Fields.{place_of, writes, greatest, HasCell};
+ghost use Rattle.ga_image.specs.Fields.{writes, greatest, HasCell};
 ghost use Rattle.ga_image.specs.Progress.{progress_of};
-ghost use Rattle.ga_image.specs.Reading.{start, words_fault, node_fault, fault_of, with_word, with_block, with_writes, after_line, AreApart};
+ghost use Rattle.ga_image.specs.Reading.{start, words_fault, node_fault, fault_of, with_word, with_block, with_writes, after_line};
 
 use super::fault::ImageCause;
 use super::field::Field;
@@ -55,7 +54,6 @@ impl Parser {
     /// The next line.
     #[tactic(auto, unfolding(crate::specs::Reading::fault_of, crate::specs::Reading::after_line, crate::specs::Reading::words_fault, crate::specs::Reading::node_fault))]
     pub fn read_line(&mut self, text: &[u8]) -> Result<(), ImageCause>
-        requires { AreApart self.old.chip }
         ensures { MatchResult result
             (λ _. (fault_of (progress_of self.old) text.now ≡ None) × (progress_of self.new ≡ after_line (progress_of self.old) text.now))
             (λ cause. fault_of (progress_of self.old) text.now ≡ Some cause) }
@@ -114,7 +112,6 @@ impl Parser {
     fn write_all(&mut self, node: NodeId, field: Field, words: &[u32]) -> Result<(), ImageCause>
         requires few { length words.now ≤ 16 }
         requires block { self.old.stage ≡ Stage.Block node }
-        requires apart { AreApart self.old.chip }
         ensures { MatchResult result
             (λ _. (words_fault (progress_of self.old) field words.now ≡ None) × (progress_of self.new ≡ with_writes (progress_of self.old) (writes field words.now)))
             (λ cause. words_fault (progress_of self.old) field words.now ≡ Some cause) }
@@ -144,7 +141,6 @@ impl Parser {
 fn write(chip: &mut Chip, node: NodeId, field: Field, word: u32)
     requires cell { HasCell field }
     requires in_range { word ≤ greatest field }
-    requires apart { AreApart chip.old }
     ensures { chip.new ≡ with_word chip.old node.number (field, word) }
 {
     chip.node_mut(node).set(field.place(), word);

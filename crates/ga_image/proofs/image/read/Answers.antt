@@ -3,10 +3,9 @@ use Rattle.std.proofs.lemmas.Bool.{eqb-true}
 use Rattle.std.proofs.lemmas.List.{nil_from_length}
 use Rattle.ga_image.specs.Lines.{lines_of}
 use Rattle.ga_image.specs.Progress.{Progress, progress_of, stage_of}
-use Rattle.ga_image.specs.Reading.{reading, start, AreApart}
+use Rattle.ga_image.specs.Reading.{reading, start}
 use Rattle.ga_image.proofs.Room.{room, IsSized, line_less, start_room}
 use Rattle.ga_image.proofs.Readings.{reads_on, reads_fault, reads_end, reads_cut, still_open}
-use Rattle.ga_image.proofs.Waits.{start_apart, line_apart}
 use Rattle.ga_image.proofs.image.read.Goals as goal
 
 pub returns-in-Err : goal.returns-in-Err
@@ -16,20 +15,19 @@ returns-in-Err c =
 
 pub loop-rest-init : goal.loop-rest-init
 loop-rest-init c =
-    let Holds : Progress → Type 0 = λ progress. (reading progress 1 (lines_of c.args.text.now) ≡ reading start 1 (lines_of c.args.text.now)) × (1 + room progress ≤ 19142) × IsSized progress × AreApart progress.chip in
+    let Holds : Progress → Type 0 = λ progress. (reading progress 1 (lines_of c.args.text.now) ≡ reading start 1 (lines_of c.args.text.now)) × (1 + room progress ≤ 19142) × IsSized progress in
     let begun = start_room in
-    let all : Holds (progress_of c.new-parser.result) = subst Holds (sym c.new-parser.ensures) (refl, omega arith, begun.1, start_apart) in
-    record { same = all.0; counts = all.1; sized = all.2; apart = all.3 }
+    let all : Holds (progress_of c.new-parser.result) = subst Holds (sym c.new-parser.ensures) (refl, omega arith, begun.1) in
+    record { same = all.0; counts = all.1; sized = all.2 }
 
 pub loop-rest-preserved : goal.loop-rest-preserved
 loop-rest-preserved c =
     let before = progress_of c.loop-rest.parser in
     let less = line_less before c.first_line.result.0.now c.loop-rest.invariant.sized c.in-Ok-read_line.ensures.0 in
     let onward = reads_on before c.loop-rest.line c.loop-rest.rest.now _ c.first_line.result.1.now c.first_line.ensures.splits c.in-Ok-read_line.ensures.0 in
-    let apart = line_apart before c.first_line.result.0.now c.loop-rest.invariant.apart in
-    let Holds : Progress → Type 0 = λ progress. (reading progress (c.loop-rest.line + 1) (lines_of c.first_line.result.1.now) ≡ reading start 1 (lines_of c.args.text.now)) × (c.loop-rest.line + 1 + room progress ≤ 19142) × IsSized progress × AreApart progress.chip in
-    let all : Holds (progress_of c.read_line.new.self) = subst Holds (sym c.in-Ok-read_line.ensures.1) (sym onward ∙ c.loop-rest.invariant.same, omega (arith, less.0), less.1, apart) in
-    record { same = all.0; counts = all.1; sized = all.2; apart = all.3 }
+    let Holds : Progress → Type 0 = λ progress. (reading progress (c.loop-rest.line + 1) (lines_of c.first_line.result.1.now) ≡ reading start 1 (lines_of c.args.text.now)) × (c.loop-rest.line + 1 + room progress ≤ 19142) × IsSized progress in
+    let all : Holds (progress_of c.read_line.new.self) = subst Holds (sym c.in-Ok-read_line.ensures.1) (sym onward ∙ c.loop-rest.invariant.same, omega (arith, less.0), less.1) in
+    record { same = all.0; counts = all.1; sized = all.2 }
 
 pub returns-in-Ended : goal.returns-in-Ended
 returns-in-Ended c =

@@ -1,7 +1,7 @@
 use Rattle.std.proofs.Common.{◌≡◌, ◌+◌, ◌≤◌, length}
 use Rattle.ga_image.specs.Lines.{lines_of}
 use Rattle.ga_image.specs.Progress.{progress_of}
-use Rattle.ga_image.specs.Reading.{start, reading, AreApart}
+use Rattle.ga_image.specs.Reading.{start, reading}
 use Rattle.ga_image.proofs.Room.{room, IsSized}
 use Rattle.ga_image.proofs.image.read.Given as goal
 
@@ -10,7 +10,6 @@ invariant-loop-rest l = record {
   same : reading (progress_of l.parser) l.line (lines_of l.rest) ≡ reading start 1 (lines_of l.fn.text);
   counts : l.line + room (progress_of l.parser) ≤ 19142;
   sized : IsSized (progress_of l.parser);
-  apart : AreApart l.parser.chip;
 }
 
 abbrev pub decreases-loop-rest : goal.decreases-loop-rest

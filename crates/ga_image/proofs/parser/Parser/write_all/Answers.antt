@@ -3,7 +3,6 @@ use Rattle.ga_image.specs.Fields.{goes_past, is_too_great}
 use Rattle.ga_image.specs.Progress.{progress_of, stage_of}
 use Rattle.ga_image.specs.Reading.{node_in}
 use Rattle.ga_image.proofs.Places.{next_fits, next_greatest, repeats_here, repeated_field, repeats_later, written_later}
-use Rattle.ga_image.proofs.Waits.{word_apart}
 use Rattle.ga_image.proofs.parser.Parser.write_all.Goals as goal
 
 pub returns-then-self-number : goal.returns-then-self-number
@@ -22,7 +21,6 @@ loop-word-preserved c =
       fits = rw c.next-at.ensures (next_fits c.loop-word.at (length c.args.words.now - c.loop-word.word-index) _ (omega arith) c.loop-word.invariant.fits);
       greatest = rw c.next-at.ensures (next_greatest c.loop-word.at ∙ c.loop-word.invariant.greatest);
       block = c.loop-word.invariant.block;
-      apart = rw c.write.ensures (word_apart c.loop-word.self.chip c.args.node.number _ c.loop-word.invariant.apart);
       faults = rw (c.number-number.ensures.value, c.next-at.ensures)
           (sym (repeats_later c.loop-word.self.given c.loop-word.at c.args.words.now c.loop-word.word-index c.loop-word-test.true free) ∙ c.loop-word.invariant.faults);
       progress = rw (c.number-number.ensures.value, c.write.ensures, c.next-at.ensures, ← node)
