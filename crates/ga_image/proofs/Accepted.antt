@@ -13,8 +13,8 @@ use Rattle.ga_image.specs.Forms.{Node, End}
 use Rattle.ga_image.specs.Fields.{writes, repeats, number_of}
 use Rattle.ga_image.specs.Reading.{reading, fault_of, later_fault, node_fault, after_line, after_form, with_writes, with_write, with_block, node_in, start, header, nothing_given}
 use Rattle.ga_image.specs.Grammar.{Block, field_line_form, block_forms, all_writes, Fits, IsFieldLine, IsBlock, written, loaded, IsImage}
-use Rattle.ga_image.proofs.Apart.{seen_twice, AreBelow, AreFree, apart_once, all_free, or_false}
-use Rattle.ga_image.proofs.Images.{reads, reading_forms, fields_read, marked}
+use Rattle.ga_image.proofs.Flags.{seen_twice, AreBelow, AreFree, apart_once, all_free, or_false}
+use Rattle.ga_image.proofs.Meanings.{reads, reading_forms, fields_read, marked}
 
 -- the places of writes, by their numbers
 abbrev pub numbers : List (Field × ℕ) → List ℕ
@@ -40,7 +40,7 @@ pub fields_below : (field_lines : List (Field × List ℕ)) → AllByRecursion I
 fields_below [] each = tt
 fields_below (field_line ∷ field_lines) each = below-append (writes field_line.0 field_line.1) (all_writes field_lines) (field_below field_line.0 field_line.1 each.0.0) (fields_below field_lines each.1)
 
--- a progress with words written, all at once
+-- what words come to that are written one after the other
 pub all_written : (progress : Progress) (ws : List (Field × ℕ)) → with_writes progress ws ≡ record progress { given = marked progress.given ws; chip = written (node_in progress.stage) progress.chip ws }
 all_written progress [] = refl
 all_written progress (w ∷ ws) = all_written (with_write progress w) ws

@@ -19,8 +19,8 @@ use Rattle.ga_image.specs.Forms.{Form, Node, Words, End, form}
 use Rattle.ga_image.specs.Fields.{writes, repeats, goes_past, is_too_great, greatest}
 use Rattle.ga_image.specs.Reading.{node_in, reading, refused, at_end, fault_of, line_fault, later_fault, form_fault, node_fault, words_fault, is_misplaced, after_line, after_form, with_block, start, header, nothing_given, is_header, has_block}
 use Rattle.ga_image.specs.Grammar.{Block, field_line_form, block_forms, all_writes, Fits, IsFieldLine, IsBlock, written, loaded, IsImage}
-use Rattle.ga_image.proofs.Apart.{seen_twice, AreBelow, once_apart, or_false}
-use Rattle.ga_image.proofs.Images.{reads, marked, repeats-append, line_later, past_later, still_later, short_past}
+use Rattle.ga_image.proofs.Flags.{seen_twice, AreBelow, once_apart, or_false}
+use Rattle.ga_image.proofs.Meanings.{reads, marked, repeats-append, line_later, past_later, still_later, short_past}
 use Rattle.ga_image.proofs.Accepted.{IsReady, numbers, repeats_numbers, fields_below, all_written, opened, opened_ready, nodes_below}
 
 -- a line that is not refused has no fault
@@ -96,7 +96,7 @@ smalls most (word ∷ words) e =
     let here : word ≤ most = let h = parts.0 in grind (arith, nat_tests) in
     (here, smalls most words parts.1)
 
--- a field_line line without fault
+-- a field line without fault
 pub field_ok : (progress : Progress) (field : Field) (words : List ℕ) → later_fault progress (Some (Words field words)) ≡ None → IsFieldLine (field, words) × (repeats progress.given (writes field words) ≡ false)
 unfolding words_fault
 field_ok progress field words none =

@@ -1,12 +1,12 @@
 pub mod Feeds
+pub mod Cells
 pub mod Spaced
-pub mod Places
-pub mod Readings
 pub mod Short
-pub mod Apart
-pub mod Images
+pub mod Flags
+pub mod Writes
+pub mod Steps
+pub mod Meanings
 pub mod Accepted
 pub mod Found
 pub mod Contract
 pub mod Room
-pub mod Cells

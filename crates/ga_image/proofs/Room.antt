@@ -7,9 +7,9 @@ use Rattle.ga_image.specs.Progress as stage
 use Rattle.ga_image.specs.Forms.{Form, Node, Words, End, form}
 use Rattle.ga_image.specs.Fields.{writes, next_field, number_of}
 use Rattle.ga_image.specs.Reading.{fault_of, after_line, after_form, later_fault, with_block, start, nothing_given, is_misplaced}
-use Rattle.ga_image.proofs.Apart.{or_false, seen_twice, AreBelow}
+use Rattle.ga_image.proofs.Flags.{or_false, seen_twice, AreBelow}
 use Rattle.ga_image.proofs.Accepted.{numbers, repeats_numbers, field_below, all_written}
-use Rattle.ga_image.proofs.Images.{marked, line_later, past_later, short_past}
+use Rattle.ga_image.proofs.Meanings.{marked, line_later, past_later, short_past}
 use Rattle.ga_image.proofs.Short.{some_field}
 use Rattle.ga_image.proofs.Found.{not_short, neither, some_form, node_ok, field_ok, yxx_of_node}
 

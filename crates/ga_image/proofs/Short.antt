@@ -168,7 +168,7 @@ no_end : (b : Bool) (at : Field) (ws : List ℕ) → cond b (Some End) None ≡ 
 no_end true at ws e = cc
 no_end false at ws e = cc
 
--- a field_line line has a word
+-- a field line has a word
 pub some_field : (text : List ℕ) (at : Field) (ws : List ℕ) → form text ≡ Some (Words at ws) → 0 < length ws
 unfolding form
 some_field text at ws =

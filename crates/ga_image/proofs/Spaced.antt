@@ -42,7 +42,7 @@ pub too_short : (seen text : List ℕ) → 0 < length text → length text < 7 �
 unfolding words_after
 too_short seen text some few = rw (short text some few) refl
 
--- nor where no space stands in progress
+-- nor where no space stands in front
 pub no_space : (seen text : List ℕ) → 7 ≤ length text → get_or text 0 0 ≢ 32 → words_after seen text ≡ None
 unfolding words_after
 no_space seen text many other = rw (long text many, ne_eqb _ _ other) refl

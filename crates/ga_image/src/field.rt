@@ -5,6 +5,9 @@ ghost use Rattle.ga_image.specs.Fields.{place_of, number_of, next_field, goes_pa
 
 use ga_node::Place;
 
+/// How many registers and cells of a node an image gives: A, B, P, and two memories of 64 words.
+pub(crate) const FIELDS: usize = 131;
+
 /// What a field line gives words to. Of a memory it names the cell of the first word.
 #[derive(Clone, Copy)]
 pub enum Field {
@@ -16,6 +19,7 @@ pub enum Field {
 }
 
 impl Field {
+    /// The place of the node that it stands for.
     pub(crate) fn place(self) -> Place
         ensures { result ≡ place_of self }
     {
@@ -28,11 +32,11 @@ impl Field {
         }
     }
 
-    /// The number of its flag.
+    /// Its number among the registers and cells of a node.
     pub(crate) fn number(self) -> usize
         requires { HasCell self }
         ensures value { result ≡ number_of self }
-        ensures in_range { result < 131 }
+        ensures in_range { result < FIELDS }
     {
         match self {
             Field::A => 0,
@@ -66,8 +70,8 @@ impl Field {
         }
     }
 
-    /// Whether one of the words is greater than its place holds.
-    pub(crate) fn is_too_small(self, words: &[u32]) -> bool
+    /// Whether one of the words is past the greatest that a place of this field holds.
+    pub(crate) fn is_exceeded_by(self, words: &[u32]) -> bool
         ensures { result ≡ is_too_great self words.now }
     {
         let greatest = self.place().greatest();

@@ -1,6 +1,7 @@
 //! Reading an image line by line.
 
-ghost use Rattle.std.specs.Prelude.{◌≡◌, ◌≤◌, length, Some, None, MatchResult};
+ghost use Rattle.std.specs.Prelude.{◌≡◌, ◌≤◌, length, OnOk};
+ghost use Rattle.std.specs.Result.{result_err};
 ghost use Rattle.ga_grid.specs.Chip.{default_chip};
 ghost use Rattle.ga_grid.specs.Grid.{node_of};
 ghost use Rattle.ga_image.specs.Fields.{writes, greatest, HasCell};
@@ -8,9 +9,12 @@ ghost use Rattle.ga_image.specs.Progress.{progress_of};
 ghost use Rattle.ga_image.specs.Reading.{start, words_fault, node_fault, fault_of, with_word, with_block, with_writes, after_line};
 
 use super::fault::ImageCause;
-use super::field::Field;
+use super::field::{FIELDS, Field};
 use super::line::Line;
-use ga_grid::{Chip, NodeId};
+use ga_grid::{Chip, NODES, NodeId};
+
+/// How many bytes a line may have.
+const LONGEST: usize = 200;
 
 /// What may come next.
 #[derive(Clone, Copy)]
@@ -19,7 +23,7 @@ pub(crate) enum Stage {
     Header,
     /// A block or the end.
     Open,
-    /// A field of this node's block, another block or the end.
+    /// A field of this node, another block or the end.
     Block(NodeId),
     /// Nothing.
     Ended,
@@ -30,9 +34,9 @@ pub(crate) enum Stage {
 pub(crate) struct Parser {
     pub stage: Stage,
     /// For each node by its number, whether it has a block.
-    pub blocks: [bool; 144],
+    pub blocks: [bool; NODES],
     /// For each field by its number, whether the last block gave it.
-    pub given: [bool; 131],
+    pub given: [bool; FIELDS],
     pub chip: Chip,
 }
 
@@ -45,20 +49,19 @@ impl Parser {
     {
         Parser {
             stage: Stage::Header,
-            blocks: [false; 144],
-            given: [false; 131],
+            blocks: [false; NODES],
+            given: [false; FIELDS],
             chip,
         }
     }
 
-    /// The next line.
+    /// Reads the next line. After a fault nothing more can be read.
     #[tactic(auto, unfolding(crate::specs::Reading::fault_of, crate::specs::Reading::after_line, crate::specs::Reading::words_fault, crate::specs::Reading::node_fault))]
     pub fn read_line(&mut self, text: &[u8]) -> Result<(), ImageCause>
-        ensures { MatchResult result
-            (λ _. (fault_of (progress_of self.old) text.now ≡ None) × (progress_of self.new ≡ after_line (progress_of self.old) text.now))
-            (λ cause. fault_of (progress_of self.old) text.now ≡ Some cause) }
+        ensures fault { result_err result ≡ fault_of (progress_of self.old) text.now }
+        ensures read { OnOk result (progress_of self.new ≡ after_line (progress_of self.old) text.now) }
     {
-        if text.len() > 200 {
+        if text.len() > LONGEST {
             return Err(ImageCause::Long);
         }
         if let Stage::Header = self.stage {
@@ -90,20 +93,18 @@ impl Parser {
 
     #[tactic(auto, unfolding(crate::specs::Reading::node_fault))]
     fn begin_block(&mut self, yxx: u32) -> Result<(), ImageCause>
-        ensures { MatchResult result
-            (λ _. (node_fault (progress_of self.old) yxx ≡ None) × (progress_of self.new ≡ with_block (progress_of self.old) (node_of yxx)))
-            (λ cause. node_fault (progress_of self.old) yxx ≡ Some cause) }
+        ensures fault { result_err result ≡ node_fault (progress_of self.old) yxx }
+        ensures begun { OnOk result (progress_of self.new ≡ with_block (progress_of self.old) (node_of yxx)) }
     {
         let Some(node) = NodeId::from_yxx(yxx) else {
             return Err(ImageCause::Node);
         };
-        let number = node.number as usize;
-        if self.blocks[number] {
+        if self.blocks[node.index()] {
             return Err(ImageCause::Repeated);
         }
         self.stage = Stage::Block(node);
-        self.blocks[number] = true;
-        self.given = [false; 131];
+        self.blocks[node.index()] = true;
+        self.given = [false; FIELDS];
         Ok(())
     }
 
@@ -112,14 +113,13 @@ impl Parser {
     fn write_all(&mut self, node: NodeId, field: Field, words: &[u32]) -> Result<(), ImageCause>
         requires few { length words.now ≤ 16 }
         requires block { self.old.stage ≡ Stage.Block node }
-        ensures { MatchResult result
-            (λ _. (words_fault (progress_of self.old) field words.now ≡ None) × (progress_of self.new ≡ with_writes (progress_of self.old) (writes field words.now)))
-            (λ cause. words_fault (progress_of self.old) field words.now ≡ Some cause) }
+        ensures fault { result_err result ≡ words_fault (progress_of self.old) field words.now }
+        ensures written { OnOk result (progress_of self.new ≡ with_writes (progress_of self.old) (writes field words.now)) }
     {
         if field.goes_past(words.len()) {
             return Err(ImageCause::Place);
         }
-        if field.is_too_small(words) {
+        if field.is_exceeded_by(words) {
             return Err(ImageCause::Word);
         }
         let mut at = field;

@@ -5,13 +5,13 @@ use Rattle.ga_image.specs.Lines.{lines_of}
 use Rattle.ga_image.specs.Progress.{Progress, progress_of, stage_of}
 use Rattle.ga_image.specs.Reading.{reading, start}
 use Rattle.ga_image.proofs.Room.{room, IsSized, line_less, start_room}
-use Rattle.ga_image.proofs.Readings.{reads_on, reads_fault, reads_end, reads_cut, still_open}
+use Rattle.ga_image.proofs.Steps.{reads_on, reads_fault, reads_end, reads_cut, still_open}
 use Rattle.ga_image.proofs.image.read.Goals as goal
 
 pub returns-in-Err : goal.returns-in-Err
 returns-in-Err c =
     inr (sym c.loop-rest.invariant.same
-    ∙ reads_fault (progress_of c.loop-rest.parser) c.loop-rest.line c.loop-rest.rest.now _ c.first_line.result.1.now c.in-Err.cause c.first_line.ensures.splits c.in-Err.ensures)
+    ∙ reads_fault (progress_of c.loop-rest.parser) c.loop-rest.line c.loop-rest.rest.now _ c.first_line.result.1.now c.in-Err.cause c.first_line.ensures.splits (sym c.in-Err.ensures.fault))
 
 pub loop-rest-init : goal.loop-rest-init
 loop-rest-init c =
@@ -23,10 +23,10 @@ loop-rest-init c =
 pub loop-rest-preserved : goal.loop-rest-preserved
 loop-rest-preserved c =
     let before = progress_of c.loop-rest.parser in
-    let less = line_less before c.first_line.result.0.now c.loop-rest.invariant.sized c.in-Ok-read_line.ensures.0 in
-    let onward = reads_on before c.loop-rest.line c.loop-rest.rest.now _ c.first_line.result.1.now c.first_line.ensures.splits c.in-Ok-read_line.ensures.0 in
+    let less = line_less before c.first_line.result.0.now c.loop-rest.invariant.sized (sym c.in-Ok-read_line.ensures.fault) in
+    let onward = reads_on before c.loop-rest.line c.loop-rest.rest.now _ c.first_line.result.1.now c.first_line.ensures.splits (sym c.in-Ok-read_line.ensures.fault) in
     let Holds : Progress → Type 0 = λ progress. (reading progress (c.loop-rest.line + 1) (lines_of c.first_line.result.1.now) ≡ reading start 1 (lines_of c.args.text.now)) × (c.loop-rest.line + 1 + room progress ≤ 19142) × IsSized progress in
-    let all : Holds (progress_of c.read_line.new.self) = subst Holds (sym c.in-Ok-read_line.ensures.1) (sym onward ∙ c.loop-rest.invariant.same, omega (arith, less.0), less.1) in
+    let all : Holds (progress_of c.read_line.new.self) = subst Holds (sym c.in-Ok-read_line.ensures.read) (sym onward ∙ c.loop-rest.invariant.same, omega (arith, less.0), less.1) in
     record { same = all.0; counts = all.1; sized = all.2 }
 
 pub returns-in-Ended : goal.returns-in-Ended

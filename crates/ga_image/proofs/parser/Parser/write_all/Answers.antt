@@ -2,16 +2,16 @@ use Rattle.std.proofs.Common.{◌≡◌, ℕ, ◌-◌, false, length, sym, ◌�
 use Rattle.ga_image.specs.Fields.{goes_past, is_too_great}
 use Rattle.ga_image.specs.Progress.{progress_of, stage_of}
 use Rattle.ga_image.specs.Reading.{node_in}
-use Rattle.ga_image.proofs.Places.{next_fits, next_greatest, repeats_here, repeated_field, repeats_later, written_later}
+use Rattle.ga_image.proofs.Writes.{next_fits, next_greatest, repeats_here, repeated_field, repeats_later, written_later}
 use Rattle.ga_image.proofs.parser.Parser.write_all.Goals as goal
 
-pub returns-then-self-number : goal.returns-then-self-number
-returns-then-self-number c =
+pub returns-then-self-number-clause-fault : goal.returns-then-self-number-clause-fault
+returns-then-self-number-clause-fault c =
     let given = ap (λ (n : ℕ). get_or c.loop-word.self.given n false) (sym c.number-number.ensures.value) ∙ c.if-self-number.true in
     let fits : goes_past c.args.field _ ≡ false = sym c.goes_past.ensures ∙ c.if-goes_past.false in
-    let small : is_too_great c.args.field c.args.words.now ≡ false = sym c.is_too_small.ensures ∙ c.if-is_too_small.false in
-    repeated_field (progress_of c.args.self.now) c.args.field c.args.words.now fits small
-    (sym c.loop-word.invariant.faults ∙ repeats_here c.loop-word.self.given c.loop-word.at c.args.words.now c.loop-word.word-index c.loop-word-test.true given)
+    let small : is_too_great c.args.field c.args.words.now ≡ false = sym c.is_exceeded_by.ensures ∙ c.if-is_exceeded_by.false in
+    sym (repeated_field (progress_of c.args.self.now) c.args.field c.args.words.now fits small
+    (sym c.loop-word.invariant.faults ∙ repeats_here c.loop-word.self.given c.loop-word.at c.args.words.now c.loop-word.word-index c.loop-word-test.true given))
 
 pub loop-word-preserved : goal.loop-word-preserved
 loop-word-preserved c =

@@ -10,7 +10,7 @@ use Rattle.ga_image.specs.declared.fault.ImageCause.TheVariants.{Repeated}
 use Rattle.ga_image.specs.Fields.{HasCell, goes_past, greatest, next_field, number_of, writes, repeats, is_too_great}
 use Rattle.ga_image.specs.Progress.{Progress}
 use Rattle.ga_image.specs.Reading.{words_fault, with_write, with_writes}
-use Rattle.ga_image.proofs.Apart.{or_false}
+use Rattle.ga_image.proofs.Flags.{or_false}
 
 -- where the words fit, the first has a cell
 pub has_cell : (field : Field) (count : ℕ) → 0 < count → goes_past field count ≡ false → HasCell field

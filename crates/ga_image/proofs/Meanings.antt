@@ -15,7 +15,7 @@ use Rattle.ga_image.specs.Forms.{Form, Node, Words, End, form}
 use Rattle.ga_image.specs.Fields.{writes, repeats, number_of, goes_past, greatest}
 use Rattle.ga_image.specs.Reading.{reading, fault_of, line_fault, later_fault, after_line, after_stage, after_form, at_end, refused, with_writes, with_write, words_fault, with_block}
 use Rattle.ga_image.proofs.Short.{short_form}
-use Rattle.ga_image.proofs.Apart.{or_false}
+use Rattle.ga_image.proofs.Flags.{or_false}
 use Rattle.std.specs.Prelude.{nat_lt}
 use Rattle.ga_image.specs.Grammar.{field_line_form, all_writes, Fits, IsFieldLine}
 
@@ -92,7 +92,7 @@ pub with_writes-append : (progress : Progress) (xs ys : List (Field × ℕ)) →
 with_writes-append progress [] ys = refl
 with_writes-append progress (x ∷ xs) ys = with_writes-append (with_write progress x) xs ys
 
--- the tests of a field_line line pass
+-- the tests of a field line pass
 pub in_memory : (field : Field) (count : ℕ) → Fits field count → goes_past field count ≡ false
 in_memory A count fits = refl
 in_memory B count fits = refl
@@ -110,7 +110,7 @@ field_passes : (progress : Progress) (node : ℕ) (field : Field) (words : List 
 unfolding words_fault
 field_passes progress node field words block is once = rw (block, in_memory field (length words) is.0, all_small (greatest field) words is.1, once) refl
 
--- the field_line lines of a block, read one after the other
+-- the field lines of a block, read one after the other
 pub fields_read : (field_lines : List (Field × List ℕ)) (progress : Progress) (node line : ℕ) (rest : List Form) → progress.stage ≡ Block node → AllByRecursion IsFieldLine field_lines → repeats progress.given (all_writes field_lines) ≡ false
     → reads progress line (map field_line_form field_lines ++ rest) ≡ reads (with_writes progress (all_writes field_lines)) (line + length field_lines) rest
 fields_read [] progress node line rest block each once = rw add-zero refl
