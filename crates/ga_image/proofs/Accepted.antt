@@ -9,10 +9,12 @@ use Rattle.ga_grid.specs.Grid.{node_of, yxx_of}
 use Rattle.ga_grid.specs.Chip.{default_chip}
 use Rattle.ga_image.specs.Progress.{Progress}
 use Rattle.ga_image.specs.Progress as stage
-use Rattle.ga_image.specs.Forms.{Node, End}
+use Rattle.ga_image.specs.Spelling.{Node, End}
 use Rattle.ga_image.specs.Fields.{writes, repeats, number_of}
-use Rattle.ga_image.specs.Reading.{reading, fault_of, later_fault, node_fault, after_line, after_form, with_writes, with_write, with_block, node_in, start, header, nothing_given}
+use Rattle.ga_image.specs.Grammar.{header}
+use Rattle.ga_image.specs.Reading.{reading, fault_of, later_fault, node_fault, after_line, after_form, with_writes, with_write, with_block, node_in, start, nothing_given}
 use Rattle.ga_image.specs.Grammar.{Block, field_line_form, block_forms, all_writes, Fits, IsFieldLine, IsBlock, written, loaded, IsImage}
+use Rattle.ga_image.proofs.Spellings.{forms_read}
 use Rattle.ga_image.proofs.Flags.{seen_twice, AreBelow, AreFree, apart_once, all_free, or_false}
 use Rattle.ga_image.proofs.Meanings.{reads, reading_forms, fields_read, marked}
 
@@ -112,7 +114,7 @@ image_read texts chip image =
     let later : opened.stage ≢ stage.Header = rw ready.0 (λ e. cc) in
     rw (image.starts)
     (header_passes image.lines
-    ∙ reading_forms (flat_map block_forms image.blocks ++ End ∷ []) image.lines opened 2 later image.spelled
+    ∙ reading_forms (flat_map block_forms image.blocks ++ End ∷ []) image.lines opened 2 later (forms_read image.lines (flat_map block_forms image.blocks ++ End ∷ []) image.spelled)
     ∙ blocks_read image.blocks opened 2 (inl ready.0) ready.1 image.each once
     ∙ ap (λ c. Ok (loaded c image.blocks)) ready.2
     ∙ ap (λ c. Ok c) (sym image.describes))

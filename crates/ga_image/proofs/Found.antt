@@ -8,17 +8,20 @@ use Rattle.ga_node.specs.State.{NodeState}
 use Rattle.ga_image.specs.declared.field.Field.{Field}
 use Rattle.ga_image.specs.declared.field.Field.TheVariants.{A, B, P, Ram, Rom}
 use Rattle.ga_grid.specs.Grid.{node_of, yxx_of}
-use Rattle.ga_image.specs.Reading.{with_word}
+use Rattle.ga_image.specs.Grammar.{with_word}
 use Rattle.ga_image.specs.Progress.{Progress}
 use Rattle.ga_image.specs.Progress.{Stage}
 use Rattle.ga_image.specs.Progress as stage
 use Rattle.ga_image.specs.declared.fault.ImageFault.{ImageFault}
 use Rattle.ga_image.specs.declared.fault.ImageCause.{ImageCause}
 use Rattle.ga_image.specs.declared.fault.ImageCause.TheVariants as cause
-use Rattle.ga_image.specs.Forms.{Form, Node, Words, End, form}
+use Rattle.ga_image.specs.Spelling.{Form, Node, Words, End}
+use Rattle.ga_image.specs.Forms.{form}
 use Rattle.ga_image.specs.Fields.{writes, repeats, goes_past, is_too_great, greatest}
-use Rattle.ga_image.specs.Reading.{node_in, reading, refused, at_end, fault_of, line_fault, later_fault, form_fault, node_fault, words_fault, is_misplaced, after_line, after_form, with_block, start, header, nothing_given, is_header, has_block}
+use Rattle.ga_image.specs.Grammar.{header}
+use Rattle.ga_image.specs.Reading.{node_in, reading, refused, at_end, fault_of, line_fault, later_fault, form_fault, node_fault, words_fault, is_misplaced, after_line, after_form, with_block, start, nothing_given, is_header, has_block}
 use Rattle.ga_image.specs.Grammar.{Block, field_line_form, block_forms, all_writes, Fits, IsFieldLine, IsBlock, written, loaded, IsImage}
+use Rattle.ga_image.proofs.Spellings.{forms_spelled}
 use Rattle.ga_image.proofs.Flags.{seen_twice, AreBelow, once_apart, or_false}
 use Rattle.ga_image.proofs.Meanings.{reads, marked, repeats-append, line_later, past_later, still_later, short_past}
 use Rattle.ga_image.proofs.Accepted.{IsReady, numbers, repeats_numbers, fields_below, all_written, opened, opened_ready, nodes_below}
@@ -246,7 +249,7 @@ image_found (text ∷ lines) chip e =
       lines = lines;
       blocks = rest.blocks;
       starts = ap (λ t. t ∷ lines) first.0;
-      spelled = meaning.1 ∙ ap (map (λ f. Some f)) forms;
+      spelled = forms_spelled lines (flat_map block_forms rest.blocks ++ End ∷ []) (meaning.1 ∙ ap (map (λ f. Some f)) forms);
       each = rest.each;
       apart = (once_apart opened.blocks (map (λ b. b.node) rest.blocks) below rest.apart).1;
       describes = rest.describes

@@ -1,6 +1,8 @@
 pub mod Feeds
 pub mod Cells
 pub mod Spaced
+pub mod Numbers
+pub mod Spellings
 pub mod Short
 pub mod Flags
 pub mod Writes

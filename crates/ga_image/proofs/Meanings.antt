@@ -11,7 +11,8 @@ use Rattle.ga_image.specs.Progress.{Progress}
 use Rattle.ga_image.specs.Progress.{Stage}
 use Rattle.ga_image.specs.Progress.{Header, Open, Block, Ended}
 use Rattle.ga_image.specs.declared.fault.ImageFault.{ImageFault}
-use Rattle.ga_image.specs.Forms.{Form, Node, Words, End, form}
+use Rattle.ga_image.specs.Spelling.{Form, Node, Words, End}
+use Rattle.ga_image.specs.Forms.{form}
 use Rattle.ga_image.specs.Fields.{writes, repeats, number_of, goes_past, greatest}
 use Rattle.ga_image.specs.Reading.{reading, fault_of, line_fault, later_fault, after_line, after_stage, after_form, at_end, refused, with_writes, with_write, words_fault, with_block}
 use Rattle.ga_image.proofs.Short.{short_form}

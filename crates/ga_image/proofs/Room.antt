@@ -4,7 +4,8 @@ use Rattle.ga_image.specs.declared.field.Field.{Field}
 use Rattle.ga_image.specs.Progress.{Progress}
 use Rattle.ga_image.specs.Progress.{Stage}
 use Rattle.ga_image.specs.Progress as stage
-use Rattle.ga_image.specs.Forms.{Form, Node, Words, End, form}
+use Rattle.ga_image.specs.Spelling.{Form, Node, Words, End}
+use Rattle.ga_image.specs.Forms.{form}
 use Rattle.ga_image.specs.Fields.{writes, next_field, number_of}
 use Rattle.ga_image.specs.Reading.{fault_of, after_line, after_form, later_fault, with_block, start, nothing_given, is_misplaced}
 use Rattle.ga_image.proofs.Flags.{or_false, seen_twice, AreBelow}

@@ -1,4 +1,4 @@
--- What a line of an image means.
+-- Reading a line: the form that it spells.
 use Rattle.std.specs.Prelude.{ℕ, ◌==◌, ◌&&◌, nat_eq, nat_le, Bool, if◌then◌else◌, List, [], ◌∷◌, length, take, drop, codes, Option, Some, None}
 use Rattle.std.specs.Cmp.Lexicographic.{pointwise}
 use Rattle.ga_word.specs.Word.{read6_of}
@@ -10,13 +10,7 @@ use Rattle.ga_image.specs.declared.line.Memory.{Memory}
 use Rattle.ga_image.specs.declared.line.Memory.TheVariants as memory
 use Rattle.ga_image.specs.Steps.{◌>>=◌}
 use Rattle.ga_image.specs.Digits.{cell_number, node_number}
-
--- A line behind the header: a block of the node with this row and column begins, words for a field and for those
--- after it, or the end.
-pub data Form : Type 0 where
-  Node : ℕ → Form
-  Words : Field → List ℕ → Form
-  End : Form
+use Rattle.ga_image.specs.Spelling.{Form, Node, Words, End}
 
 -- a line, as contracts see it
 abbrev pub form_of : Line → Form
@@ -70,7 +64,7 @@ node_form text = do
 abbrev pub begins : List ℕ → List ℕ → Bool
 begins text front = pointwise nat_eq (take (length front) text) front
 
--- what a line means, if it has one of the forms
+-- the form of a line, if it has one
 unfoldable pub form : List ℕ → Option Form
 form text =
     if begins text (codes "a ") then word_form A (drop 2 text)

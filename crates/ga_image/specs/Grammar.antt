@@ -1,14 +1,16 @@
 -- Images: which lines describe which chip.
-use Rattle.std.specs.Prelude.{◌≡◌, ℕ, ◌+◌, ◌<◌, ◌≤◌, nat_eq, List, [], ◌∷◌, ◌++◌, length, map, flat_map, Some}
+use Rattle.std.specs.Prelude.{◌≡◌, ℕ, ◌+◌, ◌<◌, ◌≤◌, nat_eq, List, [], ◌∷◌, ◌++◌, length, codes, map, flat_map}
 use Rattle.std.specs.List.{AllByRecursion, IsDistinct}
-use Rattle.ga_node.specs.State.{NodeState}
-use Rattle.ga_grid.specs.Chip.{default_chip}
+use Rattle.ga_node.specs.State.{NodeState, with_value}
+use Rattle.ga_grid.specs.Chip.{default_chip, node_at, with_node}
 use Rattle.ga_grid.specs.Grid.{yxx_of}
 use Rattle.ga_image.specs.declared.field.Field.{Field}
 use Rattle.ga_image.specs.declared.field.Field.TheVariants.{A, B, P, Ram, Rom}
-use Rattle.ga_image.specs.Fields.{writes, greatest, number_of}
-use Rattle.ga_image.specs.Forms.{Form, Node, Words, End, form}
-use Rattle.ga_image.specs.Reading.{header, with_word}
+use Rattle.ga_image.specs.Fields.{place_of, writes, greatest, number_of}
+use Rattle.ga_image.specs.Spelling.{Form, Node, Words, End, Spells}
+
+abbrev pub header : List ℕ
+header = codes "ga144 1"
 
 -- a block: its node, and its field lines, each with a field and the words for it and for those after it
 pub record Block : Type 0 where
@@ -44,6 +46,10 @@ pub record IsBlock (block : Block) : Type 0 where
   -- no field is given twice
   pub apart : IsDistinct nat_eq (map (λ w. number_of w.0) (all_writes block.field_lines))
 
+-- a chip with another word in a field of a node
+unfoldable pub with_word : List NodeState → ℕ → Field × ℕ → List NodeState
+with_word chip node w = with_node chip node (with_value (node_at chip node) (place_of w.0) w.1)
+
 -- a chip with what a block gives, one word after the other
 abbrev pub written : ℕ → List NodeState → List (Field × ℕ) → List NodeState
 written node chip [] = chip
@@ -53,12 +59,19 @@ abbrev pub loaded : List NodeState → List Block → List NodeState
 loaded chip [] = chip
 loaded chip (block ∷ blocks) = loaded (written block.node chip (all_writes block.field_lines)) blocks
 
+-- the lines spell these forms, one each
+abbrev pub Spell : List (List ℕ) → List Form → Type 0
+Spell [] [] = Unit {0}
+Spell (text ∷ texts) (form ∷ forms) = Spells text form × Spell texts forms
+Spell [] (form ∷ forms) = ⊥
+Spell (text ∷ texts) [] = ⊥
+
 -- The lines are the header, blocks and `end`; the chip has what the blocks give, and else its defaults.
 pub record IsImage (texts : List (List ℕ)) (chip : List NodeState) : Type 0 where
   pub lines : List (List ℕ)
   pub blocks : List Block
   pub starts : texts ≡ header ∷ lines
-  pub spelled : map form lines ≡ map (λ f. Some f) (flat_map block_forms blocks ++ End ∷ [])
+  pub spelled : Spell lines (flat_map block_forms blocks ++ End ∷ [])
   pub each : AllByRecursion IsBlock blocks
   -- no node has two blocks
   pub apart : IsDistinct nat_eq (map (λ block. block.node) blocks)

@@ -1,9 +1,10 @@
 pub mod Lines
 pub mod Fault
+pub mod Fields
+pub mod Spelling
+pub mod Grammar
 pub mod Steps
 pub mod Digits
-pub mod Fields
 pub mod Forms
 pub mod Progress
 pub mod Reading
-pub mod Grammar

@@ -1,15 +1,17 @@
 -- Reading an image line by line, with the first fault that is met.
-use Rattle.std.specs.Prelude.{◌≡◌, ℕ, ◌+◌, ◌⊎◌, nat_eq, nat_lt, Bool, true, false, if◌then◌else◌, List, [], ◌∷◌, length, codes, replicate, slice_index_or, slice_set, is_none, Option, Some, None, Result, Ok, Err}
+use Rattle.std.specs.Prelude.{◌≡◌, ℕ, ◌+◌, ◌⊎◌, nat_eq, nat_lt, Bool, true, false, if◌then◌else◌, List, [], ◌∷◌, length, replicate, slice_index_or, slice_set, is_none, Option, Some, None, Result, Ok, Err}
 use Rattle.std.specs.Cmp.Lexicographic.{pointwise}
-use Rattle.ga_node.specs.State.{NodeState, with_value}
-use Rattle.ga_grid.specs.Chip.{default_chip, node_at, with_node}
+use Rattle.ga_node.specs.State.{NodeState}
+use Rattle.ga_grid.specs.Chip.{default_chip}
 use Rattle.ga_grid.specs.Grid.{node_of}
 use Rattle.ga_image.specs.declared.fault.ImageCause.{ImageCause}
 use Rattle.ga_image.specs.declared.fault.ImageCause.TheVariants as cause
 use Rattle.ga_image.specs.declared.fault.ImageFault.{ImageFault}
 use Rattle.ga_image.specs.declared.field.Field.{Field}
-use Rattle.ga_image.specs.Fields.{place_of, number_of, writes, goes_past, is_too_great, repeats}
-use Rattle.ga_image.specs.Forms.{Form, Node, Words, End, form}
+use Rattle.ga_image.specs.Fields.{number_of, writes, goes_past, is_too_great, repeats}
+use Rattle.ga_image.specs.Spelling.{Form, Node, Words, End}
+use Rattle.ga_image.specs.Forms.{form}
+use Rattle.ga_image.specs.Grammar.{header, with_word}
 use Rattle.ga_image.specs.Progress.{Stage, Header, Open, Block, Ended, Progress}
 
 -- no field
@@ -19,9 +21,6 @@ nothing_given = replicate 131 false
 -- before the first line
 unfoldable pub start : Progress
 start = record { stage = Header; blocks = replicate 144 false; given = nothing_given; chip = default_chip }
-
-abbrev pub header : List ℕ
-header = codes "ga144 1"
 
 abbrev pub is_header : List ℕ → Bool
 is_header text = pointwise nat_eq text header
@@ -80,10 +79,6 @@ fault_of progress text = if nat_lt 200 (length text) then Some cause.Long else l
 abbrev pub node_in : Stage → ℕ
 node_in (Block node) = node
 node_in _ = 0
-
--- a chip with another word in a field of a node
-unfoldable pub with_word : List NodeState → ℕ → Field × ℕ → List NodeState
-with_word chip node w = with_node chip node (with_value (node_at chip node) (place_of w.0) w.1)
 
 abbrev pub with_write : Progress → Field × ℕ → Progress
 with_write progress w = record progress {

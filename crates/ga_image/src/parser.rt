@@ -6,7 +6,8 @@ ghost use Rattle.ga_grid.specs.Chip.{default_chip};
 ghost use Rattle.ga_grid.specs.Grid.{node_of};
 ghost use Rattle.ga_image.specs.Fields.{writes, greatest, HasCell};
 ghost use Rattle.ga_image.specs.Progress.{progress_of};
-ghost use Rattle.ga_image.specs.Reading.{start, words_fault, node_fault, fault_of, with_word, with_block, with_writes, after_line};
+ghost use Rattle.ga_image.specs.Grammar.{with_word};
+ghost use Rattle.ga_image.specs.Reading.{start, words_fault, node_fault, fault_of, with_block, with_writes, after_line};
 
 use super::fault::ImageCause;
 use super::field::{FIELDS, Field};
@@ -137,7 +138,7 @@ impl Parser {
 }
 
 /// Writes one word of a node.
-#[tactic(auto, unfolding(crate::specs::Reading::with_word))]
+#[tactic(auto, unfolding(crate::specs::Grammar::with_word))]
 fn write(chip: &mut Chip, node: NodeId, field: Field, word: u32)
     requires cell { HasCell field }
     requires in_range { word ≤ greatest field }
