@@ -1,0 +1,96 @@
+-- What an event does to a chip, from what it does to its nodes.
+use Rattle.std.proofs.Common.{◌≡◌, ◌≢◌, ℕ, ◌<◌, true, List, length, set, Option, Some, None, refl, sym, ◌∙◌, ap, subst}
+use Rattle.std.proofs.lemmas.List.{set-set, set-get_or, get_or-set_same, get_or-set_other, length-set}
+use Rattle.ga_node.specs.State.{NodeState, restored, IsApart}
+use Rattle.ga_node.specs.Record.{record_of}
+use Rattle.ga_node.specs.Table.{t, own, refusal, sent, taken}
+use Rattle.ga_node.specs.Saving.{IsEvent, IsChange}
+use Rattle.ga_node.specs.declared.kind.Kind.{Kind}
+use Rattle.arrayvec.specs.ArrayVec.{ArrayVec}
+use Rattle.ga_node.specs.declared.place.Place.{Place}
+use Rattle.ga_ports.specs.declared.side.Side.{Side}
+use Rattle.ga_grid.specs.declared.node_id.NodeId.{NodeId}
+use Rattle.ga_grid.specs.Chip.{nowhere, node_at, with_node, records_of, record_at}
+use Rattle.ga_grid.proofs.Chips.{record_at-records_of, records_of-with_node}
+use Rattle.ga_event.specs.declared.event.Event.TheVariants as event
+use Rattle.ga_event.specs.declared.event.Effect.TheVariants as effect
+use Rattle.ga_node.specs.declared.wait.Wait.{Wait}
+use Rattle.std.proofs.lemmas.Bool.{and_parts, eqb-true}
+use Rattle.ga_grid.specs.Grid.{neighbour_of}
+use Rattle.ga_grid.proofs.Links.{neighbour_of-other}
+use Rattle.ga_event.specs.Apply.{Did, Carried, is_number, is_open, unmatched, after_own, after_pass, unless}
+use Rattle.ga_event.specs.Undo.{restored_at, IsApplied}
+
+-- a node written back
+restored_back : (chip : List NodeState) (n : ℕ) (new : NodeState) (saved : List (Place × ℕ)) → n < length chip → restored new saved ≡ node_at chip n → restored_at (with_node chip n new) n saved ≡ chip
+restored_back chip n new saved l back =
+    ap (λ z. set (set chip n new) n (restored z saved)) (get_or-set_same chip n new nowhere l)
+    ∙ ap (λ z. set (set chip n new) n z) back
+    ∙ set-set chip n new (node_at chip n)
+    ∙ set-get_or chip n nowhere
+
+pub own_applied : (chip : List NodeState) (node : NodeId) (new : NodeState) (kind : Kind) (saved : ArrayVec (Place × ℕ)) → node.number < length chip
+    → refusal (record_of (node_at chip node.number)) ≡ None → IsApart (node_at chip node.number)
+    → IsEvent (node_at chip node.number) (own (record_of (node_at chip node.number))) new kind saved.items
+    → IsApplied chip (event.Own node) (effect.Own kind saved) (with_node chip node.number new)
+own_applied chip node new kind saved l ready apart made =
+    let n = node.number in
+    let read : record_at (records_of chip) n ≡ record_of (node_at chip n) = record_at-records_of chip n in
+    record {
+      done =
+          ap (λ z. unless (refusal z) (after_own (records_of chip) n (own z))) read
+          ∙ ap (λ z. unless z (after_own (records_of chip) n (own (record_of (node_at chip n))))) ready
+          ∙ ap (λ z. Some (after_own (records_of chip) n z)) (sym made.effect)
+          ∙ ap (λ z. Some (z, Did kind)) (sym (records_of-with_node chip n new));
+      undone = restored_back chip n new saved.items l made.undone;
+      ready = record {
+        fit = made.fit;
+        apart = subst (λ z. IsApart (restored z saved.items)) (sym (get_or-set_same chip n new nowhere l)) (subst (λ z. IsApart z) (sym made.undone) apart);
+      };
+    }
+
+pub pass_applied : (chip : List NodeState) (writer reader : NodeId) (side : Side) (new_writer new_reader : NodeState) (word : ℕ) (gave took : ArrayVec (Place × ℕ))
+    → writer.number < length chip → reader.number < length chip → writer.number ≢ reader.number
+    → is_open writer.number reader.number side (record_at (records_of chip) writer.number).wait (record_at (records_of chip) reader.number).wait ≡ true
+    → word ≡ t (record_of (node_at chip writer.number))
+    → IsChange (node_at chip writer.number) (sent (record_of (node_at chip writer.number))) new_writer gave.items → IsApart (node_at chip writer.number)
+    → IsChange (node_at chip reader.number) (taken word (record_of (node_at chip reader.number))) new_reader took.items → IsApart (node_at chip reader.number)
+    → IsApplied chip (event.Pass writer reader side) (effect.Pass word gave took) (with_node (with_node chip writer.number new_writer) reader.number new_reader)
+pass_applied chip writer reader side x y word gave took lw lr other open_ told sending apart_w taking apart_r =
+    let w = writer.number in
+    let r = reader.number in
+    let both : List NodeState = with_node (with_node chip w x) r y in
+    let read_w : record_at (records_of chip) w ≡ record_of (node_at chip w) = record_at-records_of chip w in
+    let read_r : record_at (records_of chip) r ≡ record_of (node_at chip r) = record_at-records_of chip r in
+    let first : node_at both w ≡ x = get_or-set_other (set chip w x) r w y nowhere other ∙ get_or-set_same chip w x nowhere lw in
+    let lr2 : r < length (set chip w x) = subst (λ z. r < z) (sym (length-set chip w x)) lr in
+    let second : node_at both r ≡ y = get_or-set_same (set chip w x) r y nowhere lr2 in
+    let back_r : restored_at both r took.items ≡ with_node chip w x =
+    restored_back (set chip w x) r y took.items lr2 (taking.undone ∙ sym (get_or-set_other chip w r x nowhere (λ e. other (sym e)))) in
+    record {
+      done =
+          ap (λ z. unless (unmatched z) (after_pass (records_of chip) w r (record_at (records_of chip) w) (record_at (records_of chip) r))) open_
+          ∙ ap (λ z. Some (after_pass (records_of chip) w r z (record_at (records_of chip) r))) read_w
+          ∙ ap (λ z. Some (after_pass (records_of chip) w r (record_of (node_at chip w)) z)) read_r
+          ∙ ap (λ z. Some (set (set (records_of chip) w (sent (record_of (node_at chip w)))) r (taken z (record_of (node_at chip r))), Carried z)) (sym told)
+          ∙ ap (λ z. Some (set (set (records_of chip) w z) r (taken word (record_of (node_at chip r))), Carried word)) (sym sending.effect)
+          ∙ ap (λ z. Some (set (set (records_of chip) w (record_of x)) r z, Carried word)) (sym taking.effect)
+          ∙ ap (λ z. Some (set z r (record_of y), Carried word)) (sym (records_of-with_node chip w x))
+          ∙ ap (λ z. Some (z, Carried word)) (sym (records_of-with_node (with_node chip w x) r y));
+      undone = ap (λ z. restored_at z w gave.items) back_r ∙ restored_back chip w x gave.items lw sending.undone;
+      ready = (
+        other,
+        record { fit = sending.fit; apart = subst (λ z. IsApart (restored z gave.items)) (sym first) (subst (λ z. IsApart z) (sym sending.undone) apart_w) },
+        record { fit = taking.fit; apart = subst (λ z. IsApart (restored z took.items)) (sym second) (subst (λ z. IsApart z) (sym taking.undone) apart_r) },
+      );
+    }
+
+-- the two ends of a pass are two nodes
+pub open_apart : (writer reader : ℕ) (side : Side) (posted awaited : Wait) → is_open writer reader side posted awaited ≡ true → writer ≢ reader
+open_apart writer reader side posted awaited h e =
+    let linked : is_number (neighbour_of writer side) reader ≡ true = (and_parts _ _ (and_parts _ _ h).0).0 in
+    go (neighbour_of writer side) refl linked
+  where
+    go : (found : Option ℕ) → neighbour_of writer side ≡ found → is_number found reader ≡ true → ⊥
+    go None at linked = cc
+    go (Some m) at linked = neighbour_of-other writer m side at (eqb-true m reader linked ∙ sym e)

@@ -1,0 +1,30 @@
+use Rattle.std.proofs.Common.{◌≡◌, ◌≢◌, ◌<◌, true, length, sym, ◌∙◌, subst, arith}
+use Rattle.std.proofs.lemmas.List.{get_or-set_other}
+use Rattle.ga_node.specs.State.{IsApart}
+use Rattle.ga_node.specs.Record.{record_of}
+use Rattle.ga_node.specs.Table.{t, sent, taken}
+use Rattle.ga_node.specs.Saving.{IsChange}
+use Rattle.ga_grid.specs.Chip.{nowhere, node_at, records_of, record_at}
+use Rattle.ga_event.specs.Apply.{is_open}
+use Rattle.ga_event.proofs.Applied.{pass_applied, open_apart}
+use Rattle.ga_event.proofs.forward.apply_pass.Goals as goal
+
+pub returns-clause-ok : goal.returns-clause-ok
+returns-clause-ok c =
+    let w = c.args.writer.number in
+    let r = c.args.reader.number in
+    let size : length c.args.chip.now ≡ 144 = c.node_mut.ensures.size in
+    let lw : w < length c.args.chip.now = omega arith in
+    let lr : r < length c.args.chip.now = omega arith in
+    let open_ : is_open w r c.args.side (record_at (records_of c.args.chip.now) w).wait (record_at (records_of c.args.chip.now) r).wait ≡ true = sym c.if-not-is_matched.ensures in
+    let other : w ≢ r = open_apart w r c.args.side _ _ open_ in
+    let at_w : c.node_mut.result.now ≡ node_at c.args.chip.now w = c.node_mut.ensures.value in
+    let at_r : c.node_mut-2.result.now ≡ node_at c.args.chip.now r =
+    c.node_mut-2.ensures.value ∙ get_or-set_other c.args.chip.now w r c.send_half_into-word.new.self nowhere (λ e. other (sym e)) in
+    pass_applied c.args.chip.now c.args.writer c.args.reader c.args.side c.send_half_into-word.new.self c.take_half_into.new.self c.send_half_into-word.result
+    c.send_half_into-word.new.saved c.take_half_into.new.saved lw lr other open_
+    (subst (λ z. c.send_half_into-word.result ≡ t (record_of z)) at_w c.send_half_into-word.ensures.word)
+    (subst (λ z. IsChange z (sent (record_of z)) c.send_half_into-word.new.self c.send_half_into-word.new.saved.items) at_w c.send_half_into-word.ensures.change)
+    (subst (λ z. IsApart z) at_w c.send_half_into-word.ensures.apart)
+    (subst (λ z. IsChange z (taken c.send_half_into-word.result (record_of z)) c.take_half_into.new.self c.take_half_into.new.saved.items) at_r c.take_half_into.ensures.change)
+    (subst (λ z. IsApart z) at_r c.take_half_into.ensures.apart)

@@ -1,0 +1,84 @@
+-- What an event does to a chip, and what the events of a list do one after another.
+use Rattle.std.specs.Prelude.{ℕ, ◌==◌, Bool, true, false, ◌&&◌, List, [], ◌∷◌, Option, Some, None, option_map, option_and_then, slice_set}
+use Rattle.ga_ports.specs.declared.side.Side.{Side}
+use Rattle.ga_ports.specs.Address.{has_side, is_side}
+use Rattle.ga_node.specs.Record.{NodeRecord}
+use Rattle.ga_node.specs.Table.{t, own, refusal, sent, taken}
+use Rattle.ga_node.specs.declared.kind.Kind.{Kind}
+use Rattle.ga_node.specs.declared.kind.NotReady.{NotReady}
+use Rattle.ga_node.specs.declared.kind.NotReady.TheVariants.{Unmatched}
+use Rattle.ga_node.specs.declared.wait.Wait.{Wait}
+use Rattle.ga_node.specs.declared.wait.Wait.TheVariants.{Nothing, Fetch, Read, Write}
+use Rattle.ga_grid.specs.Grid.{neighbour_of}
+use Rattle.ga_grid.specs.Chip.{record_at}
+use Rattle.ga_event.specs.declared.event.Event.{Event}
+use Rattle.ga_event.specs.declared.event.Event.TheVariants.{Own, Pass}
+
+-- what is told of an event: its kind, or the word that went over
+pub data Told : Type 0 where
+  Did : (kind : Kind) → Told
+  Carried : (word : ℕ) → Told
+
+-- the node waits to write the side
+abbrev pub writes_to : Wait → Side → Bool
+writes_to Nothing side = false
+writes_to (Fetch sides) side = false
+writes_to (Read sides) side = false
+writes_to (Write posted) side = is_side posted side
+
+-- the node waits to read a set that has the side
+abbrev pub reads_from : Wait → Side → Bool
+reads_from Nothing side = false
+reads_from (Fetch sides) side = has_side sides side
+reads_from (Read sides) side = has_side sides side
+reads_from (Write posted) side = false
+
+-- the number is that of the node, where there is one
+abbrev pub is_number : Option ℕ → ℕ → Bool
+is_number None n = false
+is_number (Some m) n = m == n
+
+-- a word can go from the writer, which waits so, to the reader
+abbrev pub is_open : ℕ → ℕ → Side → Wait → Wait → Bool
+is_open writer reader side posted awaited = is_number (neighbour_of writer side) reader && writes_to posted side && reads_from awaited side
+
+abbrev pub unmatched : Bool → Option NotReady
+unmatched true = None
+unmatched false = Some Unmatched
+
+-- Why the event cannot be: the node waits or is stopped, or the two ends of the pass don't match.
+abbrev pub refusal_of : List NodeRecord → Event → Option NotReady
+refusal_of chip (Own node) = refusal (record_at chip node.number)
+refusal_of chip (Pass writer reader side) =
+    unmatched (is_open writer.number reader.number side (record_at chip writer.number).wait (record_at chip reader.number).wait)
+
+-- the chip after an own event of a node, with what is told of it
+abbrev pub after_own : List NodeRecord → ℕ → Kind × NodeRecord → List NodeRecord × Told
+after_own chip n done = (slice_set chip n done.1, Did done.0)
+
+-- the chip after a pass between nodes that held this
+abbrev pub after_pass : List NodeRecord → ℕ → ℕ → NodeRecord → NodeRecord → List NodeRecord × Told
+after_pass chip writer reader from to = (slice_set (slice_set chip writer (sent from)) reader (taken (t from) to), Carried (t from))
+
+-- what the event does where it can be
+abbrev pub after : List NodeRecord → Event → List NodeRecord × Told
+after chip (Own node) = after_own chip node.number (own (record_at chip node.number))
+after chip (Pass writer reader side) =
+    after_pass chip writer.number reader.number (record_at chip writer.number) (record_at chip reader.number)
+
+abbrev pub unless : {A : Type 0} → Option NotReady → A → Option A
+unless None done = Some done
+unless (Some why) done = None
+
+-- the chip after an event, with what is told of it; none where the event cannot be
+abbrev pub apply : List NodeRecord → Event → Option (List NodeRecord × Told)
+apply chip event = unless (refusal_of chip event) (after chip event)
+
+-- the events in order, each on the chip that those before it left, with what is told of each; none where one cannot be
+abbrev pub run : List NodeRecord → List Event → Option (List NodeRecord × List Told)
+run chip [] = Some (chip, [])
+run chip (event ∷ events) =
+    option_and_then (λ first. option_map (λ rest. (rest.0, first.1 ∷ rest.1)) (run first.0 events)) (apply chip event)
+
+abbrev pub replay : List NodeRecord → List Event → Option (List NodeRecord)
+replay chip events = option_map (λ done. done.0) (run chip events)

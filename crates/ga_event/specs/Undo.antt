@@ -1,0 +1,54 @@
+-- An event taken back: the old values of the touched nodes are written back.
+use Rattle.std.specs.Prelude.{◌≡◌, ◌≢◌, ℕ, true, List, length, Some}
+use Rattle.ga_node.specs.State.{NodeState, restored, AreFit, IsApart}
+use Rattle.ga_node.specs.declared.place.Place.{Place}
+use Rattle.ga_grid.specs.Chip.{node_at, with_node, records_of}
+use Rattle.ga_event.specs.declared.event.Event.{Event}
+use Rattle.ga_event.specs.declared.event.Event.TheVariants as event
+use Rattle.ga_event.specs.declared.event.Effect.{Effect}
+use Rattle.ga_event.specs.declared.event.Effect.TheVariants as effect
+use Rattle.ga_event.specs.Touches.{touches}
+use Rattle.ga_event.specs.Apply.{Told, Did, Carried, apply}
+
+-- what is told of an event with this effect
+abbrev pub told_of : Effect → Told
+told_of (effect.Own kind saved) = Did kind
+told_of (effect.Pass word writer reader) = Carried word
+
+-- the chip with a node's old values written back
+abbrev pub restored_at : List NodeState → ℕ → List (Place × ℕ) → List NodeState
+restored_at chip n saved = with_node chip n (restored (node_at chip n) saved)
+
+-- the chip with the old values of the touched nodes written back
+abbrev pub unapplied : List NodeState → Event → Effect → List NodeState
+unapplied chip (event.Own node) (effect.Own kind saved) = restored_at chip node.number saved.items
+unapplied chip (event.Pass writer reader side) (effect.Pass word sent took) =
+    restored_at (restored_at chip reader.number took.items) writer.number sent.items
+unapplied chip (event.Own node) (effect.Pass word sent took) = chip
+unapplied chip (event.Pass writer reader side) (effect.Own kind saved) = chip
+
+-- the old values of a node can be written back
+pub record CanRestore (node : NodeState) (saved : List (Place × ℕ)) : Type 0 where
+  pub fit : AreFit saved
+  pub apart : IsApart (restored node saved)
+
+-- The event can be taken back: the effect is of its kind, the nodes of a pass are two, and what is written back makes nodes.
+-- It holds of each chip where the touched nodes are as the event left them.
+abbrev pub CanUnapply : List NodeState → Event → Effect → Type 0
+CanUnapply chip (event.Own node) (effect.Own kind saved) = CanRestore (node_at chip node.number) saved.items
+CanUnapply chip (event.Pass writer reader side) (effect.Pass word sent took) =
+    (writer.number ≢ reader.number) × CanRestore (node_at chip writer.number) sent.items × CanRestore (node_at chip reader.number) took.items
+CanUnapply chip (event.Own node) (effect.Pass word sent took) = ⊥
+CanUnapply chip (event.Pass writer reader side) (effect.Own kind saved) = ⊥
+
+-- The event led from one chip to the other with this effect: the records are those of the definition, which tells what the
+-- effect tells, and taking it back leads to the old chip as a whole.
+pub record IsApplied (old : List NodeState) (event : Event) (effect : Effect) (new : List NodeState) : Type 0 where
+  pub done : apply (records_of old) event ≡ Some (records_of new, told_of effect)
+  pub undone : unapplied new event effect ≡ old
+  pub ready : CanUnapply new event effect
+
+-- the nodes that the event touches are as it left them, whatever became of the others
+pub record IsLeft (event : Event) (new chip : List NodeState) : Type 0 where
+  pub size : length chip ≡ length new
+  pub same : (n : ℕ) → touches event n ≡ true → node_at chip n ≡ node_at new n

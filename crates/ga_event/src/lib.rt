@@ -1,0 +1,16 @@
+//! Events of the chip: which event a node makes next, what an event does, and how it is taken back.
+#![tactic(auto)]
+
+mod back;
+mod event;
+mod forward;
+pub mod laws;
+mod next;
+
+pub use back::{restore, unapply};
+pub use event::{Effect, Event, touches};
+pub use forward::{apply, apply_own, apply_pass};
+pub use next::next_event;
+
+#[cfg(test)]
+mod tests;

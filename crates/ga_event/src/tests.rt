@@ -1,0 +1,179 @@
+use crate::{Effect, Event, apply, next_event, touches, unapply};
+use ga_grid::{Chip, NodeId};
+use ga_node::{Kind, NotReady, Place};
+use ga_ports::Side;
+use ga_word::Word18;
+use std::process::Abort;
+use std::test::Fail;
+
+// `@p b! @p .`, then `!b . . .`, where the two literals are a port and a word.
+fn sender(port: u32, word: u32) -> [u32; 4] {
+    [0x4b12, port, word, 0x89b2]
+}
+
+// `@p b! @b .`, where the literal is a port or several.
+fn taker(ports: u32) -> [u32; 4] {
+    [0x4b02, ports, 0, 0]
+}
+
+// Puts four words from cell 0 on, and P at cell 0.
+fn load(rt: &impl Abort, chip: &mut Chip, node: NodeId, words: [u32; 4]) {
+    let node = chip.node_mut(node);
+    assert_eq!(rt; node.stop(), 0);
+    node.set(Place::P, 0);
+    node.set(Place::Ram(0), Word18::low(words[0]).get());
+    node.set(Place::Ram(1), Word18::low(words[1]).get());
+    node.set(Place::Ram(2), Word18::low(words[2]).get());
+    node.set(Place::Ram(3), Word18::low(words[3]).get());
+}
+
+fn step(chip: &mut Chip, node: NodeId) -> Result<Effect, NotReady> {
+    let event = next_event(chip, node)?;
+    apply(chip, event)
+}
+
+fn kind_of(effect: &Effect) -> Option<Kind> {
+    match effect {
+        Effect::Own(kind, _) => Some(*kind),
+        Effect::Pass { .. } => None,
+    }
+}
+
+fn word_of(effect: &Effect) -> Option<u32> {
+    match effect {
+        Effect::Own(..) => None,
+        Effect::Pass { word, .. } => Some(word.get()),
+    }
+}
+
+// Makes a step of the node for each of these kinds.
+fn run(rt: &impl Abort, chip: &mut Chip, node: NodeId, kinds: &[Kind]) -> Result<(), NotReady> {
+    for kind in kinds {
+        let effect = step(chip, node)?;
+        assert_eq!(rt; kind_of(&effect), Some(*kind));
+    }
+    Ok(())
+}
+
+fn sending() -> [Kind; 7] {
+    [
+        Kind::Fetch,
+        Kind::Run(0x08),
+        Kind::Run(0x1e),
+        Kind::Run(0x08),
+        Kind::Run(0x1c),
+        Kind::Fetch,
+        Kind::Wait,
+    ]
+}
+
+fn taking() -> [Kind; 4] {
+    [Kind::Fetch, Kind::Run(0x08), Kind::Run(0x1e), Kind::Wait]
+}
+
+// What a node holds at P, B, I, slot, wait, and the top of its data stack.
+fn shown(chip: &Chip, node: NodeId) -> [u32; 6] {
+    let node = chip.node(node);
+    [
+        node.get(Place::P),
+        node.get(Place::B),
+        node.get(Place::I),
+        node.get(Place::Slot),
+        node.get(Place::Wait),
+        node.d(0),
+    ]
+}
+
+// A word goes to a neighbour that reads it for its stack; either end may make the step, and it is taken back.
+#[test]
+fn passes_to_the_stack(rt: HostRuntime) -> Result<(), Fail> {
+    let n000 = NodeId::new(0);
+    let n001 = NodeId::new(1);
+    let mut chip = Chip::new(rt.alloc())?;
+    load(&rt, &mut chip, n000, sender(0x1d5, 0x2a));
+    load(&rt, &mut chip, n001, taker(0x1d5));
+    run(&rt, &mut chip, n000, &sending())?;
+    assert_eq!(rt; next_event(&chip, n000), Err(NotReady::Waiting));
+    let own = Event::Own(n000);
+    assert!(rt; matches!(apply(&mut chip, own), Err(NotReady::Waiting)));
+    run(&rt, &mut chip, n001, &taking())?;
+    let pass = Event::Pass {
+        writer: n000,
+        reader: n001,
+        side: Side::Right,
+    };
+    assert_eq!(rt; next_event(&chip, n000), Ok(pass));
+    assert_eq!(rt; next_event(&chip, n001), Ok(pass));
+    assert!(rt; touches(pass, n000) && touches(pass, n001) && !touches(pass, NodeId::new(2)));
+    let effect = apply(&mut chip, pass)?;
+    assert_eq!(rt; word_of(&effect), Some(0x2a));
+    assert_eq!(rt; shown(&chip, n000), [4, 0x1d5, 0x89b2, 1, 0, 0x15555]);
+    assert_eq!(rt; shown(&chip, n001), [2, 0x1d5, 0x4b02, 3, 0, 0x2a]);
+    unapply(&mut chip, pass, &effect);
+    assert_eq!(rt; shown(&chip, n000), [4, 0x1d5, 0x89b2, 0, 56, 0x2a]);
+    assert_eq!(rt; shown(&chip, n001), [2, 0x1d5, 0x4b02, 2, 40, 0x15555]);
+    Ok(())
+}
+
+// A node at load waits for an instruction at all its ports, and carries out the word that comes.
+#[test]
+fn passes_an_instruction(rt: HostRuntime) -> Result<(), Fail> {
+    let n000 = NodeId::new(0);
+    let n001 = NodeId::new(1);
+    let mut chip = Chip::new(rt.alloc())?;
+    load(&rt, &mut chip, n000, sender(0x1d5, 0x2a));
+    run(&rt, &mut chip, n000, &sending())?;
+    run(&rt, &mut chip, n001, &[Kind::Wait])?;
+    assert_eq!(rt; shown(&chip, n001), [0x1b5, 0x15d, 0, 4, 30, 0x15555]);
+    let effect = step(&mut chip, n001)?;
+    assert_eq!(rt; word_of(&effect), Some(0x2a));
+    assert_eq!(rt; shown(&chip, n001), [0x1b5, 0x15d, 0x2a, 0, 0, 0x15555]);
+    Ok(())
+}
+
+// Of two writers the reader takes the one on the first of its sides, whoever posted first; the other pass may be made too.
+#[test]
+fn reader_has_an_order(rt: HostRuntime) -> Result<(), Fail> {
+    let n000 = NodeId::new(0);
+    let n001 = NodeId::new(1);
+    let n101 = NodeId::new(19);
+    let mut chip = Chip::new(rt.alloc())?;
+    load(&rt, &mut chip, n000, sender(0x1d5, 0x2a));
+    load(&rt, &mut chip, n001, taker(0x195));
+    load(&rt, &mut chip, n101, sender(0x115, 7));
+    run(&rt, &mut chip, n001, &taking())?;
+    run(&rt, &mut chip, n101, &sending())?;
+    let below = Event::Pass {
+        writer: n101,
+        reader: n001,
+        side: Side::Down,
+    };
+    assert_eq!(rt; next_event(&chip, n001), Ok(below));
+    run(&rt, &mut chip, n000, &sending())?;
+    let beside = Event::Pass {
+        writer: n000,
+        reader: n001,
+        side: Side::Right,
+    };
+    assert_eq!(rt; next_event(&chip, n001), Ok(beside));
+    assert_eq!(rt; next_event(&chip, n101), Ok(below));
+    let effect = apply(&mut chip, below)?;
+    assert_eq!(rt; word_of(&effect), Some(7));
+    let before = shown(&chip, n001);
+    assert!(rt; matches!(apply(&mut chip, below), Err(NotReady::Unmatched)));
+    assert_eq!(rt; shown(&chip, n001), before);
+    Ok(())
+}
+
+// A write to several ports stops the node.
+#[test]
+fn stops(rt: HostRuntime) -> Result<(), Fail> {
+    let n000 = NodeId::new(0);
+    let mut chip = Chip::new(rt.alloc())?;
+    load(&rt, &mut chip, n000, sender(0x1a5, 1));
+    let kinds = sending();
+    run(&rt, &mut chip, n000, &kinds[..6])?;
+    run(&rt, &mut chip, n000, &[Kind::Stop(1)])?;
+    assert_eq!(rt; next_event(&chip, n000), Err(NotReady::Stopped));
+    Ok(())
+}
