@@ -16,7 +16,12 @@ impl Node {
     /// What a read at an address gives: a word, or the kind of the event that it has become.
     #[tactic(auto, unfolding(crate::specs::Record::record_of, crate::specs::Table::found))]
     #[inline(always)]
-    pub(super) fn read(&mut self, saved: &mut Saved, address: u32, reader: Reader) -> Result<Word18, Kind>
+    pub(super) fn read(
+        &mut self,
+        saved: &mut Saved,
+        address: u32,
+        reader: Reader,
+    ) -> Result<Word18, Kind>
         requires running { IsRunning (record_of self.old) }
         requires room { length saved.old.items < 7 }
         ensures word { IfOk result (λ word. found (classified address) reader (record_of self.old) ≡ Ok word) }

@@ -68,7 +68,11 @@ impl Node {
     {
         match self.wait {
             Wait::Nothing => {
-                if self.stop == 0 { None } else { Some(NotReady::Stopped) }
+                if self.stop == 0 {
+                    None
+                } else {
+                    Some(NotReady::Stopped)
+                }
             }
             _ => Some(NotReady::Waiting),
         }

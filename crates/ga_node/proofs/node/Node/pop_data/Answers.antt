@@ -1,4 +1,3 @@
-use Rattle.std.proofs.Common.{refl, ap, ◌∙◌}
 use Rattle.ga_node.proofs.Saving.{saves_data}
 use Rattle.ga_node.proofs.node.Node.pop_data.Goals as goal
 

@@ -1,8 +1,5 @@
-use Rattle.std.proofs.Common.{◌≡◌, ◌<◌, ◌/◌, ◌%◌, ◌^◌, ◌-◌, ◌==◌, false, refl, arith, sym, ◌∙◌, ap, bit_and}
-use Rattle.std.specs.Prelude.{bit_xor}
-use Rattle.std.proofs.Math.Nat.{mod-eq_of_lt}
-use Rattle.std.proofs.lemmas.Nat.{and_le_l, xor_lt}
-use Rattle.ga_node.proofs.Saving.{event_of, saves_then, saves_none, follows_ok, follows_err}
+use Rattle.std.proofs.Common.{◌≡◌, ◌==◌, false, refl, arith}
+use Rattle.ga_node.proofs.Saving.{event_of, saves_then}
 use Rattle.ga_node.proofs.node.Node.run_if.Goals as goal
 
 pub returns-then-word-eq0 : goal.returns-then-word-eq0

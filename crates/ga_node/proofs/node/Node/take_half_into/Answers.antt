@@ -1,6 +1,6 @@
-use Rattle.std.proofs.Common.{◌≡◌, refl, sym, ◌∙◌, ap}
+use Rattle.std.proofs.Common.{refl}
 use Rattle.ga_node.proofs.Saving.{change_of, saves_then}
-use Rattle.ga_node.specs.Table.{taken, IsReading}
+use Rattle.ga_node.specs.Table.{taken}
 use Rattle.ga_node.proofs.node.Node.take_half_into.Goals as goal
 
 pub returns-in-Fetch-clause-change : goal.returns-in-Fetch-clause-change
