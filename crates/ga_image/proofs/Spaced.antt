@@ -1,7 +1,7 @@
 -- Steps of the reading of words.
-use Rattle.std.proofs.Common.{◌≡◌, ◌≢◌, ℕ, ◌<◌, ◌≤◌, List, [], ◌∷◌, ◌++◌, length, take, drop, get_or, Option, Some, None, Bool, true, false, cond, ap, refl, arith, append_assoc, length-append, eq-eqb}
-use Rattle.std.proofs.lemmas.Bool.{ne_eqb}
-use Rattle.std.specs.Prelude.{◌==◌}
+use Rattle.std.proofs.Common.{◌≡◌, ℕ, ◌<◌, ◌≤◌, List, [], ◌∷◌, ◌++◌, length, take, drop, Option, Some, None, Bool, true, false, cond, ap, refl, arith, append_assoc, length-append}
+use Rattle.std.specs.Prelude.{nat_eq, ◌&&◌}
+use Rattle.std.specs.Cmp.Lexicographic.{pointwise}
 use Rattle.std.proofs.lemmas.Bool.Decides.{nat_tests}
 use Rattle.ga_image.specs.Steps.{◌>>=◌}
 use Rattle.ga_word.specs.Word.{read6_of}
@@ -26,9 +26,17 @@ short (a ∷ b ∷ c ∷ d ∷ e ∷ []) some few = refl
 short (a ∷ b ∷ c ∷ d ∷ e ∷ f ∷ []) some few = refl
 short (a ∷ b ∷ c ∷ d ∷ e ∷ f ∷ g ∷ text) some few = absurd (omega arith)
 
-long : (text : List ℕ) → 7 ≤ length text → spaced_words text ≡ cond (get_or text 0 0 == 32) (one_word (drop 1 (take 7 text)) (drop 7 text)) None
+and_true : (b : Bool) → (b && true) ≡ b
+and_true true = refl
+and_true false = refl
+
+-- the first seven bytes begin with a space
+abbrev pub has_space : List ℕ → Bool
+has_space text = pointwise nat_eq (take 1 (take 7 text)) (32 ∷ [])
+
+long : (text : List ℕ) → 7 ≤ length text → spaced_words text ≡ cond (has_space text) (one_word (drop 1 (take 7 text)) (drop 7 text)) None
 unfolding spaced_words one_word
-long (s ∷ a ∷ b ∷ c ∷ d ∷ e ∷ f ∷ text) many = refl
+long (s ∷ a ∷ b ∷ c ∷ d ∷ e ∷ f ∷ text) many = rw (and_true (nat_eq s 32)) refl
 long [] many = absurd (omega arith)
 long (a ∷ []) many = absurd (omega arith)
 long (a ∷ b ∷ []) many = absurd (omega arith)
@@ -43,23 +51,23 @@ unfolding words_after
 too_short seen text some few = rw (short text some few) refl
 
 -- nor where no space stands in front
-pub no_space : (seen text : List ℕ) → 7 ≤ length text → get_or text 0 0 ≢ 32 → words_after seen text ≡ None
+pub no_space : (seen text : List ℕ) → 7 ≤ length text → has_space text ≡ false → words_after seen text ≡ None
 unfolding words_after
-no_space seen text many other = rw (long text many, ne_eqb _ _ other) refl
+no_space seen text many other = rw (long text many, other) refl
 
 -- nor where six digits don't follow
-pub no_digits : (seen text : List ℕ) → 7 ≤ length text → get_or text 0 0 ≡ 32 → read6_of (drop 1 (take 7 text)) ≡ None → words_after seen text ≡ None
+pub no_digits : (seen text : List ℕ) → 7 ≤ length text → has_space text ≡ true → read6_of (drop 1 (take 7 text)) ≡ None → words_after seen text ≡ None
 unfolding words_after one_word
-no_digits seen text many space none = rw (long text many, eq-eqb _ _ space, none) refl
+no_digits seen text many space none = rw (long text many, space, none) refl
 
 regroup : (seen : List ℕ) (word : ℕ) (found : Option (List ℕ)) → (found >>= λ ws. few ((seen ++ word ∷ []) ++ ws)) ≡ ((found >>= λ ws. Some (word ∷ ws)) >>= λ ws. few (seen ++ ws))
 regroup seen word None = refl
 regroup seen word (Some ws) = rw (append_assoc seen (word ∷ []) ws) refl
 
 -- one word more
-pub next_word : (seen text : List ℕ) (word : ℕ) → 7 ≤ length text → get_or text 0 0 ≡ 32 → read6_of (drop 1 (take 7 text)) ≡ Some word → words_after (seen ++ word ∷ []) (drop 7 text) ≡ words_after seen text
+pub next_word : (seen text : List ℕ) (word : ℕ) → 7 ≤ length text → has_space text ≡ true → read6_of (drop 1 (take 7 text)) ≡ Some word → words_after (seen ++ word ∷ []) (drop 7 text) ≡ words_after seen text
 unfolding words_after one_word
-next_word seen text word many space is = rw (long text many, eq-eqb _ _ space, is) (regroup seen word (spaced_words (drop 7 text)))
+next_word seen text word many space is = rw (long text many, space, is) (regroup seen word (spaced_words (drop 7 text)))
 
 overfull : (seen ws : List ℕ) (word : ℕ) → length seen ≡ 16 → few (seen ++ word ∷ ws) ≡ None
 overfull seen ws word full = grind (arith, nat_tests, length-append seen (word ∷ ws))

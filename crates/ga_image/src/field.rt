@@ -10,7 +10,7 @@ pub(crate) const FIELDS: usize = 131;
 
 /// What a field line gives words to. Of a memory it names the cell of the first word.
 #[derive(Clone, Copy)]
-pub enum Field {
+pub(crate) enum Field {
     A,
     B,
     P,

@@ -40,9 +40,8 @@ fn read(alloc: Global, text: &[u8]) -> Result<Chip, ImageFault>
     let mut line = 1;
     while !rest.is_empty() {
         let (first, after) = first_line(rest);
-        match parser.read_line(first) {
-            Ok(()) => {}
-            Err(cause) => return Err(ImageFault { line, cause }),
+        if let Err(cause) = parser.read_line(first) {
+            return Err(ImageFault { line, cause });
         }
         rest = after;
         line += 1;

@@ -1,4 +1,4 @@
-//! What a line means.
+//! The forms of a line.
 
 ghost use Rattle.std.specs.Prelude.{◌≡◌};
 ghost use Rattle.std.specs.Option.{option_map};
@@ -26,8 +26,8 @@ pub(crate) enum Memory {
     Rom,
 }
 
-/// 1 to 16 numbers of six digits, each behind one space.
-fn words(text: &[u8]) -> Option<ArrayVec<u32, 16>>
+/// Reads 1 to 16 numbers of six digits, each behind one space.
+fn read_words(text: &[u8]) -> Option<ArrayVec<u32, 16>>
     ensures { option_map (λ found. found.items) result ≡ words text.now }
 {
     let mut words = ArrayVec::new();
@@ -36,11 +36,8 @@ fn words(text: &[u8]) -> Option<ArrayVec<u32, 16>>
         if rest.len() < 7 || words.is_full() {
             return None;
         }
-        if rest[0] != b' ' {
-            return None;
-        }
         let (first, after) = rest.split_at(7);
-        let (_, digits) = first.split_at(1);
+        let digits = first.strip_prefix(b" ")?;
         words.push(Word18::read6(digits)?);
         rest = after;
     }
@@ -65,7 +62,7 @@ fn cells_line(memory: Memory, text: &[u8]) -> Option<Line>
     }
     let (digits, rest) = text.split_at(2);
     let cell = cell_number(digits)?;
-    let words = words(rest)?;
+    let words = read_words(rest)?;
     let field = match memory {
         Memory::Ram => Field::Ram(cell),
         Memory::Rom => Field::Rom(cell),
@@ -81,7 +78,7 @@ fn node_line(text: &[u8]) -> Option<Line>
 }
 
 impl Line {
-    /// What a line means, if it has one of the forms.
+    /// Reads a line, if it has one of the forms.
     #[tactic(auto, unfolding(crate::specs::Forms::form))]
     pub(crate) fn parse(text: &[u8]) -> Option<Line>
         ensures { option_map form_of result ≡ form text.now }

@@ -23,10 +23,10 @@ loop-rest-init c =
 pub loop-rest-preserved : goal.loop-rest-preserved
 loop-rest-preserved c =
     let before = progress_of c.loop-rest.parser in
-    let less = line_less before c.first_line.result.0.now c.loop-rest.invariant.sized (sym c.in-Ok-read_line.ensures.fault) in
-    let onward = reads_on before c.loop-rest.line c.loop-rest.rest.now _ c.first_line.result.1.now c.first_line.ensures.splits (sym c.in-Ok-read_line.ensures.fault) in
+    let less = line_less before c.first_line.result.0.now c.loop-rest.invariant.sized (sym c.in_default-read_line.ensures.fault) in
+    let onward = reads_on before c.loop-rest.line c.loop-rest.rest.now _ c.first_line.result.1.now c.first_line.ensures.splits (sym c.in_default-read_line.ensures.fault) in
     let Holds : Progress → Type 0 = λ progress. (reading progress (c.loop-rest.line + 1) (lines_of c.first_line.result.1.now) ≡ reading start 1 (lines_of c.args.text.now)) × (c.loop-rest.line + 1 + room progress ≤ 19142) × IsSized progress in
-    let all : Holds (progress_of c.read_line.new.self) = subst Holds (sym c.in-Ok-read_line.ensures.read) (sym onward ∙ c.loop-rest.invariant.same, omega (arith, less.0), less.1) in
+    let all : Holds (progress_of c.read_line.new.self) = subst Holds (sym c.in_default-read_line.ensures.read) (sym onward ∙ c.loop-rest.invariant.same, omega (arith, less.0), less.1) in
     record { same = all.0; counts = all.1; sized = all.2 }
 
 pub returns-in-Ended : goal.returns-in-Ended

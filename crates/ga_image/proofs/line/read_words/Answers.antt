@@ -1,10 +1,12 @@
-use Rattle.std.proofs.Common.{List, ℕ, drop, [], arith, sym, ◌∙◌, ap}
+use Rattle.std.specs.Prelude.{nat_eq}
+use Rattle.std.specs.Cmp.Lexicographic.{pointwise}
+use Rattle.std.proofs.Common.{List, ℕ, ◌∷◌, take, drop, [], arith, sym, ◌∙◌, ap}
 use Rattle.std.proofs.lemmas.Bool.{eqb-false, eqb-true}
 use Rattle.std.proofs.lemmas.List.{nil_from_length}
 use Rattle.ga_word.specs.Word.{read6_of}
 use Rattle.ga_image.proofs.Spaced.{words_after, from_start, too_short, too_many, no_space, no_digits, next_word, no_words, all_words}
-use Rattle.ga_image.proofs.line.words.Goals as goal
-use Rattle.ga_image.proofs.line.words.Goals.{then-rest-lt7-via-then-rest-lt7, then-rest-lt7-via-else-rest-lt7+then-is_full}
+use Rattle.ga_image.proofs.line.read_words.Goals as goal
+use Rattle.ga_image.proofs.line.read_words.Goals.{then-rest-lt7-via-then-rest-lt7, then-rest-lt7-via-else-rest-lt7+then-is_full}
 
 pub loop-rest-init : goal.loop-rest-init
 loop-rest-init c = record {
@@ -20,23 +22,27 @@ returns-then-rest-lt7 c =
       | then-rest-lt7-via-else-rest-lt7+then-is_full w ↦ sym (too_many c.loop-rest.words.items c.loop-rest.rest.now w.if-rest-lt7.false (eqb-true _ _ (sym w.is_full.ensures.value ∙ w.if-is_full.true))) ∙ c.loop-rest.invariant.same
     ]
 
-pub returns-then-rest-ne32 : goal.returns-then-rest-ne32
-returns-then-rest-ne32 c = sym (no_space c.loop-rest.words.items c.loop-rest.rest.now c.if-rest-lt7.false c.if-rest-ne32.true) ∙ c.loop-rest.invariant.same
+pub returns-in_err-digits : goal.returns-in_err-digits
+returns-in_err-digits c =
+    let space = ap (λ (t : List ℕ). pointwise nat_eq (take 1 t) (32 ∷ [])) (sym c.split_at.ensures.front) ∙ c.in_err-digits.ensures.cases in
+    rw c.from_residual.ensures (sym (no_space c.loop-rest.words.items c.loop-rest.rest.now c.if-rest-lt7.false space) ∙ c.loop-rest.invariant.same)
 
 pub returns-in_err-read6 : goal.returns-in_err-read6
 returns-in_err-read6 c =
-    let digits = c.split_at-in-loop-rest.ensures.back ∙ ap (λ (t : List ℕ). drop 1 t) c.split_at.ensures.front in
-    let none = ap (read6_of) (sym digits) ∙ sym c.in_err-read6.ensures.value in
-    rw c.from_residual.ensures (sym (no_digits c.loop-rest.words.items c.loop-rest.rest.now c.if-rest-lt7.false c.if-rest-ne32.false none) ∙ c.loop-rest.invariant.same)
+    let space = ap (λ (t : List ℕ). pointwise nat_eq (take 1 t) (32 ∷ [])) (sym c.split_at.ensures.front) ∙ c.in_ok-digits.ensures.cases.0 in
+    let digits = c.in_ok-digits.ensures.cases.1 ∙ ap (λ (t : List ℕ). drop 1 t) c.split_at.ensures.front in
+    let none = ap read6_of (sym digits) ∙ sym c.in_err-read6.ensures.value in
+    rw c.from_residual-in_err-read6.ensures (sym (no_digits c.loop-rest.words.items c.loop-rest.rest.now c.if-rest-lt7.false space none) ∙ c.loop-rest.invariant.same)
 
 pub loop-rest-preserved : goal.loop-rest-preserved
 loop-rest-preserved c =
-    let digits = c.split_at-in-loop-rest.ensures.back ∙ ap (λ (t : List ℕ). drop 1 t) c.split_at.ensures.front in
-    let found = ap (read6_of) (sym digits) ∙ sym c.in_ok-read6.ensures.value in
+    let space = ap (λ (t : List ℕ). pointwise nat_eq (take 1 t) (32 ∷ [])) (sym c.split_at.ensures.front) ∙ c.in_ok-digits.ensures.cases.0 in
+    let digits = c.in_ok-digits.ensures.cases.1 ∙ ap (λ (t : List ℕ). drop 1 t) c.split_at.ensures.front in
+    let found = ap read6_of (sym digits) ∙ sym c.in_ok-read6.ensures.value in
     let full = eqb-false _ _ (sym c.is_full.ensures.value ∙ c.if-is_full.false) in
     record {
       same = rw (c.push.ensures.items, c.split_at.ensures.back)
-          (next_word c.loop-rest.words.items c.loop-rest.rest.now c.in_ok-read6.field-0 c.if-rest-lt7.false c.if-rest-ne32.false found ∙ c.loop-rest.invariant.same);
+          (next_word c.loop-rest.words.items c.loop-rest.rest.now c.in_ok-read6.field-0 c.if-rest-lt7.false space found ∙ c.loop-rest.invariant.same);
       fits = rw c.push.ensures.len (omega arith);
     }
 

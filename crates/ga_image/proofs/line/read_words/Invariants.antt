@@ -1,7 +1,7 @@
 use Rattle.std.proofs.Common.{◌≡◌, ◌≤◌, length}
 use Rattle.ga_image.specs.Forms.{words}
 use Rattle.ga_image.proofs.Spaced.{words_after}
-use Rattle.ga_image.proofs.line.words.Given as goal
+use Rattle.ga_image.proofs.line.read_words.Given as goal
 
 abbrev pub invariant-loop-rest : goal.invariant-loop-rest
 invariant-loop-rest l = record {
