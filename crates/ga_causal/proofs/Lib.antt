@@ -1,0 +1,12 @@
+pub mod Runs
+pub mod Swaps
+pub mod Counts
+pub mod Exact
+pub mod Largest
+pub mod Rollbacks
+pub mod Marking
+pub mod Chaining
+pub mod Refusals
+pub mod ChainLaws
+pub mod Oldest
+pub mod Noting

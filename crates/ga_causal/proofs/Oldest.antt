@@ -1,0 +1,175 @@
+-- The oldest event on which another depends directly, by the nodes that it sees.
+use Rattle.std.proofs.Common.{◌≡◌, ℕ, ◌+◌, ◌<◌, ◌≤◌, ◌≢◌, ◌==◌, ◌⊎◌, min, Bool, true, false, cond, List, [], ◌∷◌, length, refl, sym, ◌∙◌, ap, subst, inl, inr, ⊎_elim, arith, slice_index_or, eq-eqb}
+use Rattle.std.specs.List.{list_any}
+use Rattle.std.proofs.lemmas.Bool.{or_left, or_right, or_cases, cases_Bool, cases_lt, cases_eq, both_ways, cond-true, cond-false, eqb-true}
+use Rattle.ga_event.specs.declared.event.Event.{Event}
+use Rattle.ga_event.specs.Touches.{touches, seen_by, meets}
+use Rattle.ga_causal.specs.Dependence.{event_at, dependents, DependsOn, itself, through}
+use Rattle.ga_causal.specs.Firsts.{least, IsFirsts}
+use Rattle.ga_causal.specs.Chains.{IsOldest}
+use Rattle.ga_causal.proofs.Exact.{any-mono, rule_meets, meets_rule, flag_direct, flag_itself, why_dependent, DependsOn_from_flag, flag_from_DependsOn, Earlier}
+
+-- among some nodes
+abbrev Among : List ℕ → ℕ → Type 0
+Among ns n = list_any (λ m. m == n) ns ≡ true
+
+least_below : (first : ℕ → ℕ) (none n : ℕ) (ns : List ℕ) → Among ns n → least first none ns ≤ first n
+least_below first none n [] t = absurd (both_ways false refl t)
+least_below first none n (m ∷ ns) t = ⊎_elim
+    (λ u. let e : m ≡ n = eqb-true m n u in let h : first m ≡ first n = ap first e in omega arith)
+    (λ u. let h : least first none ns ≤ first n = least_below first none n ns u in omega arith)
+    (or_cases (m == n) (list_any (λ m. m == n) ns) t)
+
+-- a node with a place
+record Found (ns : List ℕ) (place : ℕ) (first : ℕ → ℕ) : Type 0 where
+  node : ℕ
+  among : Among ns node
+  at : first node ≡ place
+
+found_later : (m place : ℕ) (ns : List ℕ) (first : ℕ → ℕ) → Found ns place first → Found (m ∷ ns) place first
+found_later m place ns first w = record { node = w.node; among = or_right (m == w.node) (list_any (λ k. k == w.node) ns) w.among; at = w.at }
+
+least_found : (first : ℕ → ℕ) (none : ℕ) (ns : List ℕ) → least first none ns < none → Found ns (least first none ns) first
+least_found first none [] l = absurd (omega arith)
+least_found first none (m ∷ ns) l = ⊎_elim
+    (λ h. let e : first m ≡ min (first m) (least first none ns) = omega arith in record { node = m; among = or_left (m == m) (list_any (λ k. k == m) ns) (eq-eqb m m refl); at = e })
+    (λ h. let e : least first none ns ≡ min (first m) (least first none ns) = omega arith in
+    let k : least first none ns < none = omega arith in
+    found_later m _ ns first (subst (λ z. Found ns z first) e (least_found first none ns k)))
+    (cases_lt (first m) (least first none ns))
+
+-- a marked node among some
+record Marked (marks : ℕ → Bool) (ns : List ℕ) : Type 0 where
+  node : ℕ
+  among : Among ns node
+  marked : marks node ≡ true
+
+marked_of : (marks : ℕ → Bool) (ns : List ℕ) → list_any marks ns ≡ true → Marked marks ns
+marked_of marks [] t = absurd (both_ways false refl t)
+marked_of marks (n ∷ ns) t = ⊎_elim
+    (λ u. record { node = n; among = or_left (n == n) (list_any (λ k. k == n) ns) (eq-eqb n n refl); marked = u })
+    (λ u. let w = marked_of marks ns u in record { node = w.node; among = or_right (n == w.node) (list_any (λ k. k == w.node) ns) w.among; marked = w.marked })
+    (or_cases (marks n) (list_any marks ns) t)
+
+met_at : (marks : ℕ → Bool) (ns : List ℕ) (n : ℕ) → Among ns n → marks n ≡ true → list_any marks ns ≡ true
+met_at marks ns n t h = any-mono (λ k. k == n) marks (λ k q. subst (λ z. marks z ≡ true) (sym (eqb-true k n q)) h) ns t
+
+-- an event that meets an older dependent one, below the limit, sees a node with no later place
+least_cause : (es : List Event) (i limit none : ℕ) (first : ℕ → ℕ) (e : Event) (q : ℕ) → IsFirsts es i limit none first → q < limit → slice_index_or (dependents es i) q false ≡ true → meets (touches (event_at es q)) e ≡ true → least first none (seen_by e) ≤ q
+least_cause es i limit none first e q w l f m =
+    let k = marked_of (touches (event_at es q)) (seen_by e) m in
+    let a : least first none (seen_by e) ≤ first k.node = least_below first none k.node (seen_by e) k.among in
+    let b : first k.node ≤ q = w.oldest k.node q l f k.marked in
+    omega arith
+
+-- the least place, where there is one, is that of a dependent event below the limit, which the event meets
+record IsCause (es : List Event) (i limit : ℕ) (e : Event) (place : ℕ) : Type 0 where
+  below : place < limit
+  dependent : slice_index_or (dependents es i) place false ≡ true
+  direct : meets (touches (event_at es place)) e ≡ true
+
+cause_least : (es : List Event) (i limit none : ℕ) (first : ℕ → ℕ) (e : Event) → IsFirsts es i limit none first → least first none (seen_by e) < none → IsCause es i limit e (least first none (seen_by e))
+cause_least es i limit none first e w l =
+    let k = least_found first none (seen_by e) l in
+    let h : first k.node < none = subst (λ z. z < none) (sym k.at) l in
+    subst (λ z. IsCause es i limit e z) k.at
+    (record {
+      below = w.noted k.node h;
+      dependent = w.dependent k.node h;
+      direct = met_at (touches (event_at es (first k.node))) (seen_by e) k.node k.among (w.touched k.node h);
+    })
+
+-- an event after the cause depends on it exactly where a node that it sees has a place
+pub least_flag : (es : List Event) (i place none : ℕ) (first : ℕ → ℕ) → IsFirsts es i place none first → place < length es → least first none (seen_by (event_at es place)) < none → slice_index_or (dependents es i) place false ≡ true
+least_flag es i place none first w l h =
+    let k = cause_least es i place none first (event_at es place) w h in
+    flag_direct es i _ place k.dependent k.below l k.direct
+
+pub flag_least : (es : List Event) (i place none : ℕ) (first : ℕ → ℕ) → IsFirsts es i place none first → i < place → place ≤ none → slice_index_or (dependents es i) place false ≡ true → least first none (seen_by (event_at es place)) < none
+flag_least es i place none first w l m f = ⊎_elim
+    (λ e. absurd (omega arith))
+    (λ k. let h : least first none (seen_by (event_at es place)) ≤ k.place = least_cause es i place none first (event_at es place) k.place w k.before k.flagged k.direct in
+    let b : k.place < place = k.before in omega arith)
+    (why_dependent es i place f)
+
+-- the least place is that of the oldest event on which it depends directly
+pub oldest_of : (es : List Event) (i to place : ℕ) (first : ℕ → ℕ) → IsFirsts es i to to first → i < length es → place < length es → place ≤ to → place ≢ i → slice_index_or (dependents es i) place false ≡ true → IsOldest es i place (least first to (seen_by (event_at es place)))
+oldest_of es i to place first w l k m ne f = ⊎_elim (λ e. absurd (ne e)) go (why_dependent es i place f)
+  where
+    go : Earlier es (dependents es i) place → IsOldest es i place (least first to (seen_by (event_at es place)))
+    go u =
+        let before = least first to (seen_by (event_at es place)) in
+        let h : before ≤ u.place = least_cause es i to to first (event_at es place) u.place w (omega (arith, u.before)) u.flagged u.direct in
+        let b : before < place = omega (arith, u.before) in
+        let c = cause_least es i to to first (event_at es place) w (omega arith) in
+        record {
+          dependent = DependsOn_from_flag es i before (omega arith) c.dependent;
+          direct = record { before = b; within = k; by_rule = meets_rule (event_at es before) (event_at es place) c.direct };
+          oldest = λ other d s. least_cause es i to to first (event_at es place) other w (omega (arith, s.before)) (flag_from_DependsOn es i other l d) (rule_meets (event_at es other) (event_at es place) s.by_rule);
+        }
+
+-- no event depends on a later one
+pub DependsOn-order : (es : List Event) (i q : ℕ) → DependsOn es i q → i ≤ q
+DependsOn-order es i q itself = omega arith
+DependsOn-order es i q (through {middle} d s) = let h : i ≤ middle = DependsOn-order es i middle d in omega (arith, s.before)
+
+-- before any event is noted
+pub IsFirsts-first : (es : List Event) (i none : ℕ) (first : ℕ → ℕ) → i < none → i < length es → ((n : ℕ) → first n ≡ cond (touches (event_at es i) n) (min none i) none) → IsFirsts es i (i + 1) none first
+IsFirsts-first es i none first l k is = record {
+  noted = λ n h. (let e : first n ≡ i = at n h in omega arith);
+  dependent = λ n h. subst (λ z. slice_index_or (dependents es i) z false ≡ true) (sym (at n h)) (flag_itself es i k);
+  touched = λ n h. subst (λ z. touches (event_at es z) n ≡ true) (sym (at n h)) (touching n h);
+  oldest = λ n q m f t. (let e : q ≡ i = only q m f in let g : first n ≡ min none i = is n ∙ cond-true (touches (event_at es i) n) (min none i) none (subst (λ z. touches (event_at es z) n ≡ true) e t) in omega arith);
+}
+  where
+    touching : (n : ℕ) → first n < none → touches (event_at es i) n ≡ true
+    touching n h = ⊎_elim (λ t. t) (λ f. absurd (let e : first n ≡ none = is n ∙ cond-false (touches (event_at es i) n) (min none i) none f in omega arith)) (cases_Bool (touches (event_at es i) n))
+
+    at : (n : ℕ) → first n < none → first n ≡ i
+    at n h = let e : first n ≡ min none i = is n ∙ cond-true (touches (event_at es i) n) (min none i) none (touching n h) in omega arith
+
+    only : (q : ℕ) → q < i + 1 → slice_index_or (dependents es i) q false ≡ true → q ≡ i
+    only q m f = let h : i ≤ q = DependsOn-order es i q (DependsOn_from_flag es i q (omega arith) f) in omega arith
+
+-- an event that does not depend on the cause
+pub IsFirsts-other : (es : List Event) (i place none : ℕ) (first : ℕ → ℕ) → slice_index_or (dependents es i) place false ≡ false → IsFirsts es i place none first → IsFirsts es i (place + 1) none first
+IsFirsts-other es i place none first free w = record {
+  noted = λ n h. (let k : first n < place = w.noted n h in omega arith);
+  dependent = w.dependent;
+  touched = w.touched;
+  oldest = λ n q m f t. elim (cases_eq q place) [
+    | inl e ↦ absurd (both_ways (slice_index_or (dependents es i) place false) free (subst (λ z. slice_index_or (dependents es i) z false ≡ true) e f))
+    | inr ne ↦ w.oldest n q (omega arith) f t
+  ];
+}
+
+-- one that does
+pub IsFirsts-noted : (es : List Event) (i place none : ℕ) (first now : ℕ → ℕ) → place < none → slice_index_or (dependents es i) place false ≡ true → IsFirsts es i place none first → ((n : ℕ) → now n ≡ cond (touches (event_at es place) n) (min (first n) place) (first n)) → IsFirsts es i (place + 1) none now
+IsFirsts-noted es i place none first now l f w is = record {
+  noted = λ n h. elim (split n) [ inl e ↦ (let k : first n < place = w.noted n (subst (λ z. z < none) e h) in omega arith) | inr e ↦ (let g : now n ≡ place = e.1 in omega arith) ];
+  dependent = λ n h. elim (split n) [
+    | inl e ↦ subst (λ z. slice_index_or (dependents es i) z false ≡ true) (sym e) (w.dependent n (subst (λ z. z < none) e h))
+    | inr e ↦ subst (λ z. slice_index_or (dependents es i) z false ≡ true) (sym e.1) f
+  ];
+  touched = λ n h. elim (split n) [
+    | inl e ↦ subst (λ z. touches (event_at es z) n ≡ true) (sym e) (w.touched n (subst (λ z. z < none) e h))
+    | inr e ↦ subst (λ z. touches (event_at es z) n ≡ true) (sym e.1) e.0
+  ];
+  oldest = λ n q m g t. elim (cases_eq q place) [
+    | inl e ↦ (let k : now n ≡ min (first n) place = is n ∙ cond-true (touches (event_at es place) n) (min (first n) place) (first n) (subst (λ z. touches (event_at es z) n ≡ true) e t) in omega arith)
+    | inr ne ↦ (let k : first n ≤ q = w.oldest n q (omega arith) g t in let h : now n ≤ first n = lower n in omega arith)
+  ];
+}
+  where
+    lower : (n : ℕ) → now n ≤ first n
+    lower n = ⊎_elim
+        (λ t. let k : now n ≡ min (first n) place = is n ∙ cond-true (touches (event_at es place) n) (min (first n) place) (first n) t in omega arith)
+        (λ t. let k : now n ≡ first n = is n ∙ cond-false (touches (event_at es place) n) (min (first n) place) (first n) t in omega arith)
+        (cases_Bool (touches (event_at es place) n))
+
+    split : (n : ℕ) → (now n ≡ first n) ⊎ ((touches (event_at es place) n ≡ true) × (now n ≡ place))
+    split n = ⊎_elim
+        (λ t. let k : now n ≡ min (first n) place = is n ∙ cond-true (touches (event_at es place) n) (min (first n) place) (first n) t in
+        ⊎_elim (λ h. inl (omega arith)) (λ h. inr (t, omega arith)) (cases_lt (first n) place))
+        (λ t. inl (is n ∙ cond-false (touches (event_at es place) n) (min (first n) place) (first n) t))
+        (cases_Bool (touches (event_at es place) n))

@@ -1,0 +1,107 @@
+-- What a list without the events that meet the marks does.
+use Rattle.std.proofs.Common.{◌≡◌, ℕ, zero, suc, Bool, true, false, ◌||◌, List, [], ◌∷◌, Option, Some, None, refl, sym, ◌∙◌, ap, subst, ⊎_elim}
+use Rattle.std.specs.Prelude.{option_map, option_and_then, IfSome}
+use Rattle.std.proofs.lemmas.Bool.{or_parts, cases_Bool}
+use Rattle.std.proofs.lemmas.Option.{same_Some}
+use Rattle.ga_event.specs.declared.event.Event.{Event}
+use Rattle.ga_event.specs.Touches.{touches, meets}
+use Rattle.ga_event.specs.Apply.{Told, apply, run}
+use Rattle.ga_node.specs.Record.{NodeRecord}
+use Rattle.ga_causal.specs.Dependence.{dependents_after, dependents, without, rest}
+use Rattle.ga_event.specs.Agree.{Agree, Alike}
+use Rattle.ga_event.proofs.Locality.{Agree-sym, apply_alike, apply_keeps}
+
+-- the events that meet no mark
+abbrev pub kept : (ℕ → Bool) → List Event → List Event
+kept marks es = without (dependents_after marks es) es
+
+-- one event more
+pub run_more : (c : List NodeRecord) (e : Event) (es : List Event) (d last : List NodeRecord) (t : Told) (ts : List Told) → apply c e ≡ Some (d, t) → run d es ≡ Some (last, ts) → run c (e ∷ es) ≡ Some (last, t ∷ ts)
+run_more c e es d last t ts h k = rw (h, k) refl
+
+-- a run of one event more, taken apart
+pub record FirstOf (c : List NodeRecord) (e : Event) (es : List Event) (last : List NodeRecord) (ts : List Told) : Type 0 where
+  pub mid : List NodeRecord
+  pub told : Told
+  pub others : List Told
+  pub first : apply c e ≡ Some (mid, told)
+  pub then : run mid es ≡ Some (last, others)
+  pub all : ts ≡ told ∷ others
+
+first_of_run : (c : List NodeRecord) (e : Event) (es : List Event) (last : List NodeRecord) (ts : List Told) → run c (e ∷ es) ≡ Some (last, ts) → FirstOf c e es last ts
+first_of_run c e es last ts = at_first (apply c e) refl
+  where
+    at_rest : (done : List NodeRecord × Told) → apply c e ≡ Some done → (r : Option (List NodeRecord × List Told)) → run done.0 es ≡ r → option_map {U = List NodeRecord × List Told} (λ rest. (rest.0, done.1 ∷ rest.1)) r ≡ Some (last, ts) → FirstOf c e es last ts
+    at_rest done h None k g = absurd (cc)
+    at_rest done h (Some r) k g =
+        let p : (r.0, done.1 ∷ r.1) ≡ (last, ts) = same_Some _ _ g in
+        record {
+          mid = done.0;
+          told = done.1;
+          others = r.1;
+          first = h;
+          then = subst (λ z. run done.0 es ≡ Some (z, r.1)) (ap (λ z. z.0) p) k;
+          all = sym (ap (λ z. z.1) p);
+        }
+
+    at_first : (o : Option (List NodeRecord × Told)) → apply c e ≡ o → option_and_then {U = List NodeRecord × List Told} (λ first. option_map {U = List NodeRecord × List Told} (λ rest. (rest.0, first.1 ∷ rest.1)) (run first.0 es)) o ≡ Some (last, ts) → FirstOf c e es last ts
+    at_first None h g = absurd (cc)
+    at_first (Some done) h g = at_rest done h (run done.0 es) refl g
+
+-- the marks go on
+Agree-marked : (marks : ℕ → Bool) (e : Event) (c d b : List NodeRecord) (t : Told) → Agree marks c b → apply c e ≡ Some (d, t) → Agree (λ n. marks n || touches e n) d b
+Agree-marked marks e c d b t a h =
+    let k : Agree (touches e) c d = subst (λ o. IfSome o (λ done. Agree (touches e) c done.0)) h (apply_keeps c e) in
+    record {
+      size = sym k.size ∙ a.size;
+      same = λ n free. let p : (marks n ≡ false) × (touches e n ≡ false) = or_parts (marks n) (touches e n) free in sym (k.same n p.1) ∙ a.same n p.0;
+    }
+
+-- what a kept event does elsewhere
+pub record Same (marks : ℕ → Bool) (e : Event) (d b : List NodeRecord) (t : Told) : Type 0 where
+  pub mid : List NodeRecord
+  pub done : apply b e ≡ Some (mid, t)
+  pub agree : Agree marks d mid
+
+pub same_of : (marks : ℕ → Bool) (e : Event) (c d b : List NodeRecord) (t : Told) → Agree marks c b → meets marks e ≡ false → apply c e ≡ Some (d, t) → Same marks e d b t
+same_of marks e c d b t a free h = go (apply b e) refl (subst (λ o. Alike marks o (apply b e)) h (apply_alike marks c b e a free))
+  where
+    go : (o : Option (List NodeRecord × Told)) → apply b e ≡ o → Alike marks (Some (d, t)) o → Same marks e d b t
+    go None k g = absurd g
+    go (Some done) k g = record { mid = done.0; done = k ∙ ap (λ z. Some (done.0, z)) (sym g.1); agree = g.0 }
+
+-- the list without the events that meet the marks runs from b to some chip, and tells what is told of its events among all
+abbrev KeepsRun : (ℕ → Bool) → List Event → List NodeRecord → List Told → Type 0
+KeepsRun marks es b ts = (now : List NodeRecord) × (run b (kept marks es) ≡ Some (now, without (dependents_after marks es) ts))
+
+run_dropped : (marks : ℕ → Bool) (e : Event) (es : List Event) (b : List NodeRecord) (t : Told) (ts : List Told) → meets marks e ≡ true → KeepsRun (λ n. marks n || touches e n) es b ts → KeepsRun marks (e ∷ es) b (t ∷ ts)
+run_dropped marks e es b t ts m k = rw m k
+
+run_stays : (marks : ℕ → Bool) (e : Event) (es : List Event) (b mid : List NodeRecord) (t : Told) (ts : List Told) → meets marks e ≡ false → apply b e ≡ Some (mid, t) → KeepsRun marks es mid ts → KeepsRun marks (e ∷ es) b (t ∷ ts)
+run_stays marks e es b mid t ts m h k = rw m (k.0, run_more b e (kept marks es) mid k.0 t _ h k.1)
+
+-- the events that meet no mark do on a chip that agrees elsewhere what they did among all
+pub run_kept : (marks : ℕ → Bool) (es : List Event) (c b last : List NodeRecord) (ts : List Told) → Agree marks c b → run c es ≡ Some (last, ts) → KeepsRun marks es b ts
+run_kept marks [] c b last ts a h = (b, ap (λ z. Some (b, z)) (ap (λ (z : List NodeRecord × List Told). z.1) (same_Some _ _ h)))
+run_kept marks (e ∷ es) c b last ts a h =
+    let f = first_of_run c e es last ts h in
+    subst (λ z. KeepsRun marks (e ∷ es) b z) (sym f.all)
+    (⊎_elim
+    (λ m. run_dropped marks e es b f.told f.others m (run_kept (λ n. marks n || touches e n) es f.mid b last f.others (Agree-marked marks e c f.mid b f.told a f.first) f.then))
+    (λ m. let s = same_of marks e c f.mid b f.told a m f.first in
+    run_stays marks e es b s.mid f.told f.others m s.done (run_kept marks es f.mid s.mid last f.others s.agree f.then))
+    (cases_Bool (meets marks e)))
+
+-- what is left without what depends on a place runs too, and tells the same
+pub run_rest : (chip : List NodeRecord) (events : List Event) (i : ℕ) (last : List NodeRecord) (ts : List Told) → run chip events ≡ Some (last, ts) → (now : List NodeRecord) × (run chip (rest events i) ≡ Some (now, without (dependents events i) ts))
+run_rest chip [] i last ts h = (chip, ap (λ z. Some (chip, z)) (ap (λ (z : List NodeRecord × List Told). z.1) (same_Some _ _ h)))
+run_rest chip (e ∷ es) zero last ts h =
+    let f = first_of_run chip e es last ts h in
+    let k : Agree (touches e) chip f.mid = subst (λ o. IfSome o (λ done. Agree (touches e) chip done.0)) f.first (apply_keeps chip e) in
+    subst (λ z. (now : List NodeRecord) × (run chip (rest (e ∷ es) zero) ≡ Some (now, without (dependents (e ∷ es) zero) z))) (sym f.all)
+    (run_kept (touches e) es f.mid chip last f.others (Agree-sym (touches e) chip f.mid k) f.then)
+run_rest chip (e ∷ es) (suc i) last ts h =
+    let f = first_of_run chip e es last ts h in
+    let k = run_rest f.mid es i last f.others f.then in
+    subst (λ z. (now : List NodeRecord) × (run chip (rest (e ∷ es) (suc i)) ≡ Some (now, without (dependents (e ∷ es) (suc i)) z))) (sym f.all)
+    (k.0, run_more chip e (rest es i) f.mid k.0 f.told _ f.first k.1)

@@ -1,0 +1,30 @@
+-- Chains of direct dependence.
+use Rattle.std.specs.Prelude.{ℕ, ◌≡◌, ◌<◌, ◌≤◌, ◌≢◌, List, [], ◌∷◌, ◌++◌, length}
+use Rattle.ga_event.specs.declared.event.Event.{Event}
+use Rattle.ga_causal.specs.declared.chain.Link.{Link}
+use Rattle.ga_causal.specs.Dependence.{rule_between, IsDirect, DependsOn}
+
+-- the link may follow the place: its event depends directly on the one there, by the rule that it names
+abbrev pub IsNext : List Event → ℕ → Link → Type 0
+IsNext events before link = IsDirect events before link.place × (link.rule ≡ rule_between events before link.place)
+
+-- each link may follow the one before
+abbrev pub IsLinked : List Event → ℕ → List Link → Type 0
+IsLinked events before [] = Unit {0}
+IsLinked events before (link ∷ links) = IsNext events before link × IsLinked events link.place links
+
+-- a chain is not empty, and its first link has rule 0
+abbrev pub IsChain : List Event → List Link → Type 0
+IsChain events [] = ⊥
+IsChain events (first ∷ links) = (first.place < length events) × (first.rule ≡ 0) × IsLinked events first.place links
+
+-- `before` is the oldest of the events on which the one at `place` depends directly and which are the cause or depend on it
+pub record IsOldest (events : List Event) (cause place before : ℕ) : Type 0 where
+  pub dependent : DependsOn events cause before
+  pub direct : IsDirect events before place
+  pub oldest : (other : ℕ) → DependsOn events cause other → IsDirect events other place → before ≤ other
+
+-- the chain from the cause to a place, made from its end
+pub data IsChainTo (events : List Event) (cause : ℕ) : ℕ → List Link → Type 0 where
+  alone : IsChainTo events cause cause (record { place = cause; rule = 0 } ∷ [])
+  longer : {place before : ℕ} {links : List Link} → place ≢ cause → IsOldest events cause place before → IsChainTo events cause before links → IsChainTo events cause place (links ++ record { place = place; rule = rule_between events before place } ∷ [])

@@ -1,0 +1,5 @@
+pub mod Dependence
+pub mod Steps
+pub mod Equivalence
+pub mod Firsts
+pub mod Chains

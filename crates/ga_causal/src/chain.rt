@@ -1,0 +1,193 @@
+//! Chains of direct dependence.
+
+ghost use Rattle.std.specs.Prelude.{◌≡◌, ◌≢◌, ◌↔◌, ◌<◌, ◌≤◌, true, false, length, slice_get, slice_index_or, IfOk, IsTrue, MatchOption, [], ◌∷◌};
+ghost use Rattle.ga_causal.specs.Dependence.{dependents, DependsOn};
+ghost use Rattle.ga_causal.specs.Firsts.{first_at, IsFirsts};
+ghost use Rattle.ga_causal.specs.Chains.{IsChain, IsChainTo, IsNext};
+
+use crate::firsts::Firsts;
+use crate::rule::rule;
+use ga_event::Event;
+use ga_grid::Memory;
+use std::alloc::Global;
+use std::marker::Model;
+
+/// A link of a chain: the place of its event in the list, and the rule by which that depends on the event of the link before,
+/// 0 for the first link.
+#[derive(Clone, Copy, PartialEq, Eq, Debug)]
+pub struct Link {
+    pub place: u32,
+    pub rule: u8,
+}
+
+/// A list of links.
+#[derive(Debug, Drop)]
+pub struct Chain {
+    links: Vec<Link>,
+}
+
+impl Model for Chain {
+    ghost use Rattle.std.specs.Prelude.{List};
+    ghost use Rattle.ga_causal.specs.declared.chain.Link.{Link};
+
+    ghost Value = { List Link };
+
+    ghost view = { λ c. c.links.items };
+}
+
+impl Chain {
+    /// A chain of these links, the first of them first.
+    pub fn new(links: Vec<Link>) -> Self
+        ensures { result ≡ links.items }
+    {
+        Chain { links }
+    }
+
+    /// The links, the first of them first.
+    pub fn links(&self) -> &[Link]
+        ensures { result.now ≡ self.now }
+    {
+        self.links.as_slice()
+    }
+
+    /// The link at an index, 0 for the first.
+    pub fn get(&self, index: usize) -> Option<Link>
+        ensures { result ≡ slice_get self.now index }
+    {
+        self.links().get(index).copied()
+    }
+
+    /// How many links it has.
+    pub fn len(&self) -> usize
+        ensures { result ≡ length self.now }
+    {
+        self.links().len()
+    }
+
+    /// Whether it has no link.
+    pub fn is_empty(&self) -> bool
+        ensures { IsTrue result ↔ (length self.now ≡ 0) }
+    {
+        self.links().is_empty()
+    }
+}
+
+// The chain to an event that depends on the one at `from`, made from its end.
+fn chain_back(
+    alloc: Global,
+    events: &[Event],
+    firsts: &Firsts,
+    from: u32,
+    to: u32,
+) -> Result<Chain, Memory>
+    requires from { from < length events.now }
+    requires to { to < length events.now }
+    requires firsts { IsFirsts events.now from to to (first_at firsts.now) }
+    requires none { firsts.now.none ≡ to }
+    requires dependent { slice_index_or (dependents events.now from) to false ≡ true }
+    ensures { IfOk result (IsChainTo events.now from to) }
+{
+    let mut links = Vec::new(alloc);
+    let mut at = to;
+    while at != from {
+        let event = &events[at as usize];
+        let before = firsts.oldest(event);
+        links.push(Link {
+            place: at,
+            rule: rule(&events[before as usize], event),
+        })?;
+        at = before;
+    }
+    links.push(Link {
+        place: from,
+        rule: 0,
+    })?;
+    links.reverse();
+    Ok(Chain { links })
+}
+
+// The chain from one event to a later one.
+fn chain_between(
+    alloc: Global,
+    events: &[Event],
+    from: u32,
+    to: u32,
+) -> Result<Option<Chain>, Memory>
+    requires order { from < to }
+    requires within { to < length events.now }
+    ensures { IfOk result (λ chain. MatchOption chain (¬ DependsOn events.now from to) (IsChainTo events.now from to)) }
+{
+    let firsts = Firsts::of(events, from, to);
+    if firsts.oldest(&events[to as usize]) == to {
+        return Ok(None);
+    }
+    let chain = chain_back(alloc, events, &firsts, from, to)?;
+    Ok(Some(chain))
+}
+
+// The chain from an event to itself.
+fn chain_alone(alloc: Global, place: u32) -> Result<Chain, Memory>
+    ensures { IfOk result (λ chain. chain ≡ record { place = place; rule = 0 } ∷ []) }
+{
+    let mut links = Vec::new(alloc);
+    links.push(Link { place, rule: 0 })?;
+    Ok(Chain { links })
+}
+
+/// The chain from one event to another, or none where that does not depend on it. It is made from its end: before each event
+/// other than the first stands the oldest of those on which it depends directly and which are the first or depend on it.
+/// Looks at each event between the two once.
+pub fn find_chain(
+    alloc: Global,
+    events: &[Event],
+    from: u32,
+    to: u32,
+) -> Result<Option<Chain>, Memory>
+    requires from { from < length events.now }
+    requires to { to < length events.now }
+    ensures { IfOk result (λ chain. MatchOption chain (¬ DependsOn events.now from to) (IsChainTo events.now from to)) }
+{
+    if to < from {
+        return Ok(None);
+    }
+    if to == from {
+        let chain = chain_alone(alloc, from)?;
+        return Ok(Some(chain));
+    }
+    chain_between(alloc, events, from, to)
+}
+
+// Whether the link may follow the event at the place before.
+fn is_next(events: &[Event], before: u32, link: &Link) -> bool
+    requires { before < length events.now }
+    ensures { IsTrue result ↔ IsNext events.now before link.now }
+{
+    if before >= link.place || link.place as usize >= events.len() {
+        return false;
+    }
+    let by = rule(&events[before as usize], &events[link.place as usize]);
+    by != 0 && link.rule == by
+}
+
+/// Whether the links are a chain: at least one, all of them places of the list, the first with rule 0 and each other one with
+/// the rule by which its event depends directly on the one before.
+pub fn check_chain(events: &[Event], chain: &Chain) -> bool
+    ensures { IsTrue result ↔ IsChain events.now chain.now }
+{
+    let links = chain.links.as_slice();
+    if links.is_empty() {
+        return false;
+    }
+    let first = links[0];
+    if first.place as usize >= events.len() || first.rule != 0 {
+        return false;
+    }
+    let mut before = first.place;
+    for link in &links[1..] {
+        if !is_next(events, before, link) {
+            return false;
+        }
+        before = link.place;
+    }
+    true
+}

@@ -1,0 +1,91 @@
+//! Of each node the oldest event that touches it, among those that depend on one of a list.
+
+ghost use Rattle.std.specs.Prelude.{◌≡◌, ◌<◌, ◌≤◌, ◌≢◌, ◌==◌, ◌+◌, ℕ, length, min, if◌then◌else◌};
+ghost use Rattle.ga_event.specs.Touches.{touches, seen_by};
+ghost use Rattle.ga_causal.specs.Firsts.{first_at, least, IsFirsts};
+
+use ga_event::Event;
+use ga_grid::NODES;
+use std::marker::Model;
+
+/// For each node the place of the oldest event noted that touches it, or a place that stands for none.
+#[derive(Drop)]
+pub(crate) struct Firsts {
+    places: [u32; 144],
+    none: u32,
+}
+
+impl Model for Firsts {
+    ghost use Rattle.std.specs.Prelude.{◌≡◌, ℕ, List, length};
+    ghost use Rattle.ga_causal.specs.Firsts.{Oldest};
+
+    ghost Value = { Oldest };
+
+    ghost view = { λ f. record { places = f.places; none = f.none } };
+
+    ghost invariant = { λ f. length f.places ≡ 144 };
+}
+
+impl Firsts {
+    fn new(none: u32) -> Self
+        ensures places { (n : ℕ) → first_at result n ≡ none }
+        ensures none { result.none ≡ none }
+    {
+        Firsts {
+            places: [none; NODES],
+            none,
+        }
+    }
+
+    /// Notes the events below `to` that depend on the one at `from`.
+    pub(crate) fn of(events: &[Event], from: u32, to: u32) -> Self
+        requires order { from < to }
+        requires within { to < length events.now }
+        ensures firsts { IsFirsts events.now from to to (first_at result) }
+        ensures none { result.none ≡ to }
+    {
+        let mut firsts = Firsts::new(to);
+        firsts.note(&events[from as usize], from);
+        for place in from + 1..to {
+            let event = &events[place as usize];
+            if firsts.oldest(event) < to {
+                firsts.note(event, place);
+            }
+        }
+        firsts
+    }
+
+    /// The oldest place noted at the nodes that the event sees.
+    #[tactic(auto, unfolding(ga_event::specs::Touches::seen_by))]
+    pub(crate) fn oldest(&self, event: &Event) -> u32
+        ensures { result ≡ least (first_at self.now) self.now.none (seen_by event.now) }
+    {
+        match *event {
+            Event::Own(node) => self.places[node.index()].min(self.none),
+            Event::Pass { writer, reader, .. } => {
+                self.places[writer.index()].min(self.places[reader.index()].min(self.none))
+            }
+        }
+    }
+
+    fn note(&mut self, event: &Event, place: u32)
+        ensures places { (n : ℕ) → first_at self.new n ≡ (if touches event.now n then min (first_at self.old n) place else first_at self.old n) }
+        ensures none { self.new.none ≡ self.old.none }
+    {
+        match *event {
+            Event::Own(node) => self.note_at(node.index(), place),
+            Event::Pass { writer, reader, .. } => {
+                self.note_at(writer.index(), place);
+                self.note_at(reader.index(), place);
+            }
+        }
+    }
+
+    fn note_at(&mut self, node: usize, place: u32)
+        requires { node < 144 }
+        ensures places { (n : ℕ) → first_at self.new n ≡ (if node == n then min (first_at self.old n) place else first_at self.old n) }
+        ensures none { self.new.none ≡ self.old.none }
+    {
+        self.places[node] = self.places[node].min(place);
+    }
+}

@@ -1,0 +1,15 @@
+//! Which events of a list depend on which, chains of dependence, and the laws on which taking back rests.
+#![tactic(auto)]
+
+mod chain;
+mod firsts;
+pub mod laws;
+mod marks;
+mod rule;
+
+pub use chain::{Chain, Link, check_chain, find_chain};
+pub use ga_grid::Memory;
+pub use marks::{Marks, closure};
+
+#[cfg(test)]
+mod tests;
