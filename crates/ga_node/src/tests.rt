@@ -105,6 +105,24 @@ fn transfers_and_takes_back(rt: HostRuntime) {
 }
 
 #[test]
+fn waits_for_an_instruction(rt: HostRuntime) {
+    let mut node = Node::new(0x1b5);
+    let mut kinds = [Kind::Fetch; 2];
+    assert_eq!(rt; run(&mut node, &mut kinds), Some(NotReady::Waiting));
+    assert_eq!(rt; kinds[0], Kind::Wait);
+    assert_eq!(rt; node.get(Place::Wait), 30);
+    assert_eq!(rt; node.get(Place::P), 0x1b5);
+    if let Wait::Fetch(_) = node.wait() {
+        let taken = node.take_half(Word18::low(0x2a));
+        assert_eq!(rt; node.get(Place::I), 0x2a);
+        assert_eq!(rt; node.get(Place::Slot), 0);
+        node.restore(&taken);
+    }
+    assert_eq!(rt; node.get(Place::Wait), 30);
+    assert_eq!(rt; node.get(Place::Slot), 4);
+}
+
+#[test]
 fn greatest_values(rt: HostRuntime) {
     for (place, value) in [
         (Place::T, 0x3ffff),

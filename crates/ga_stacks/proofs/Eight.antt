@@ -1,5 +1,6 @@
 -- Facts on a ring of eight cells, by going through its places.
-use Rattle.std.proofs.Common.{◌≡◌, ℕ, zero, suc, ◌+◌, ◌%◌, ◌<◌, List, [], ◌∷◌, length, slice_index, slice_set, refl, arith}
+use Rattle.std.proofs.Common.{◌≡◌, ℕ, ◌+◌, ◌%◌, ◌<◌, List, [], ◌∷◌, length, slice_index, slice_set, refl, arith}
+use Rattle.ga_word.proofs.Below.{each_below}
 use Rattle.ga_stacks.specs.Ring.{Ring, listed, pushed}
 use Rattle.ga_stacks.specs.Stack.{restored}
 use Rattle.ga_stacks.specs.declared.place.StackPlace.TheVariants.{Pointer, Top, Second, Cell}
@@ -9,18 +10,6 @@ pub each_eight : (P : List ℕ → Type 0) → ((a b c d e f g h : ℕ) → P (a
     → (xs : List ℕ) → length xs ≡ 8 → P xs
 each_eight P holds (a ∷ b ∷ c ∷ d ∷ e ∷ f ∷ g ∷ h ∷ []) eight = holds a b c d e f g h
 each_eight P holds xs eight = absurd (omega arith)
-
--- what holds of 0 to 7 holds of each number below 8
-pub each_below : (P : ℕ → Type 0) → P 0 → P 1 → P 2 → P 3 → P 4 → P 5 → P 6 → P 7 → (n : ℕ) → n < 8 → P n
-each_below P a b c d e f g h zero below = a
-each_below P a b c d e f g h (suc zero) below = b
-each_below P a b c d e f g h (suc (suc zero)) below = c
-each_below P a b c d e f g h (suc (suc (suc zero))) below = d
-each_below P a b c d e f g h (suc (suc (suc (suc zero)))) below = e
-each_below P a b c d e f g h (suc (suc (suc (suc (suc zero))))) below = f
-each_below P a b c d e f g h (suc (suc (suc (suc (suc (suc zero)))))) below = g
-each_below P a b c d e f g h (suc (suc (suc (suc (suc (suc (suc zero))))))) below = h
-each_below P a b c d e f g h (suc (suc (suc (suc (suc (suc (suc (suc n)))))))) below = absurd (omega arith)
 
 -- both at once
 pub each_ring : (P : List ℕ → ℕ → Type 0)
