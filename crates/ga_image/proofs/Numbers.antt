@@ -1,8 +1,8 @@
 -- Digits and the numbers that they give, both ways.
-use Rattle.std.proofs.Common.{◌≡◌, ℕ, zero, suc, ◌+◌, ◌-◌, ◌*◌, ◌/◌, ◌%◌, ◌^◌, ◌<◌, ◌≤◌, ◌⊎◌, inl, inr, Bool, true, false, cond, ◌&&◌, List, [], ◌∷◌, Option, Some, None, refl, sym, ◌∙◌, ap, arith}
 use Rattle.std.specs.Prelude.{nat_le, nat_lt, slice_index}
 use Rattle.std.specs.Char.{to_ascii_lowercase}
 use Rattle.std.specs.Str.{str_to_ascii_lowercase}
+use Rattle.std.proofs.Common.{◌≡◌, ℕ, zero, suc, ◌+◌, ◌-◌, ◌*◌, ◌/◌, ◌%◌, ◌^◌, ◌<◌, ◌≤◌, ◌⊎◌, inl, inr, Bool, true, false, cond, ◌&&◌, List, [], ◌∷◌, Option, Some, None, refl, sym, ◌∙◌, ap, arith}
 use Rattle.std.proofs.lemmas.Bool.Decides.{nat_tests}
 use Rattle.hex.specs.Hex.{hex_digit_value, lower_digits}
 use Rattle.hex.proofs.HexLemmas.{IsDigits-lower_digits}
@@ -59,6 +59,7 @@ digit_of c v e =
 pub digit_spelled : (c v : ℕ) → hex_digit_value c ≡ Some v → (v < 16) × (to_ascii_lowercase c ≡ slice_index lower_digits v)
 digit_spelled c v e = let is = digit_of c v e in (is.0, is.1 ∙ sym (digit_text v is.0))
 
+-- a digit has its value
 pub digit_read : (c d : ℕ) → d < 16 → to_ascii_lowercase c ≡ slice_index lower_digits d → hex_digit_value c ≡ Some d
 digit_read c d small is = same_value c ∙ ap hex_digit_value is ∙ IsDigits-lower_digits d small
 
