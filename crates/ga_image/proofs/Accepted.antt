@@ -1,19 +1,18 @@
 -- What the grammar has is read.
-use Rattle.std.proofs.Common.{◌≡◌, ◌≢◌, ℕ, ◌+◌, ◌*◌, ◌/◌, ◌%◌, ◌<◌, ◌⊎◌, inl, inr, Bool, true, false, List, [], ◌∷◌, ◌++◌, length, map, flat_map, get_or, set, Some, None, Ok, refl, sym, ◌∙◌, ap, arith, append_assoc, length-set, replicate}
 use Rattle.std.specs.List.{AllByRecursion}
+use Rattle.std.proofs.Common.{◌≡◌, ◌≢◌, ℕ, ◌+◌, ◌*◌, ◌/◌, ◌%◌, ◌<◌, ◌⊎◌, inl, inr, Bool, true, false, List, [], ◌∷◌, ◌++◌, length, map, flat_map, get_or, set, Some, None, Ok, refl, sym, ◌∙◌, ap, arith, append_assoc, length-set, replicate}
 use Rattle.std.proofs.lemmas.Bool.Decides.{nat_tests}
 use Rattle.ga_node.specs.State.{NodeState}
-use Rattle.ga_image.specs.declared.field.Field.{Field}
-use Rattle.ga_image.specs.declared.field.Field.TheVariants.{A, B, P, Ram, Rom}
 use Rattle.ga_grid.specs.Grid.{node_of, yxx_of}
 use Rattle.ga_grid.specs.Chip.{default_chip}
+use Rattle.ga_image.specs.declared.field.Field.{Field}
+use Rattle.ga_image.specs.declared.field.Field.TheVariants.{A, B, P, Ram, Rom}
 use Rattle.ga_image.specs.Progress.{Progress}
 use Rattle.ga_image.specs.Progress as stage
 use Rattle.ga_image.specs.Spelling.{Node, End}
 use Rattle.ga_image.specs.Fields.{writes, repeats, number_of}
-use Rattle.ga_image.specs.Grammar.{header}
+use Rattle.ga_image.specs.Grammar.{header, Block, field_line_form, block_forms, all_writes, Fits, IsFieldLine, IsBlock, written, loaded, IsImage}
 use Rattle.ga_image.specs.Reading.{reading, fault_of, later_fault, node_fault, after_line, after_form, with_writes, with_write, with_block, node_in, start, nothing_given}
-use Rattle.ga_image.specs.Grammar.{Block, field_line_form, block_forms, all_writes, Fits, IsFieldLine, IsBlock, written, loaded, IsImage}
 use Rattle.ga_image.proofs.Spellings.{forms_read}
 use Rattle.ga_image.proofs.Flags.{seen_twice, AreBelow, AreFree, apart_once, all_free, or_false}
 use Rattle.ga_image.proofs.Meanings.{reads, reading_forms, fields_read, marked}
@@ -22,10 +21,12 @@ use Rattle.ga_image.proofs.Meanings.{reads, reading_forms, fields_read, marked}
 abbrev pub numbers : List (Field × ℕ) → List ℕ
 numbers ws = map (λ w. number_of w.0) ws
 
+-- a field is given twice where its number is
 pub repeats_numbers : (flags : List Bool) (ws : List (Field × ℕ)) → repeats flags ws ≡ seen_twice flags (numbers ws)
 repeats_numbers flags [] = refl
 repeats_numbers flags (w ∷ ws) = rw (repeats_numbers (set flags (number_of w.0) true) ws) refl
 
+-- the numbers of fields within a memory
 pub field_below : (field : Field) (words : List ℕ) → Fits field (length words) → AreBelow 131 (numbers (writes field words))
 field_below field [] fits = tt
 field_below A (word ∷ words) fits = (omega arith, field_below A words fits)
@@ -38,6 +39,7 @@ below-append : (xs ys : List (Field × ℕ)) → AreBelow 131 (numbers xs) → A
 below-append [] ys p q = q
 below-append (x ∷ xs) ys p q = (p.0, below-append xs ys p.1 q)
 
+-- and those of a whole block
 pub fields_below : (field_lines : List (Field × List ℕ)) → AllByRecursion IsFieldLine field_lines → AreBelow 131 (numbers (all_writes field_lines))
 fields_below [] each = tt
 fields_below (field_line ∷ field_lines) each = below-append (writes field_line.0 field_line.1) (all_writes field_lines) (field_below field_line.0 field_line.1 each.0.0) (fields_below field_lines each.1)
@@ -47,6 +49,7 @@ pub all_written : (progress : Progress) (ws : List (Field × ℕ)) → with_writ
 all_written progress [] = refl
 all_written progress (w ∷ ws) = all_written (with_write progress w) ws
 
+-- a node is found again by its row and column
 pub node_of_yxx : (n : ℕ) → n < 144 → node_of (yxx_of n) ≡ Some n
 node_of_yxx n small =
     let row : (100 * (n / 18) + n % 18) / 100 ≡ n / 18 = omega arith in
@@ -69,6 +72,7 @@ unfolding node_fault
 node_passes progress n (inl is) small free = rw (is, node_of_yxx n small, free) refl
 node_passes progress n (inr (node, is)) small free = rw (is, node_of_yxx n small, free) refl
 
+-- blocks without fault are read, up to the end
 pub blocks_read : (blocks : List Block) (progress : Progress) (line : ℕ) → IsReady progress → length progress.blocks ≡ 144 → AllByRecursion IsBlock blocks → seen_twice progress.blocks (map (λ b. b.node) blocks) ≡ false
     → reads progress line (flat_map block_forms blocks ++ End ∷ []) ≡ Ok (loaded progress.chip blocks)
 blocks_read [] progress line ready size each once = rw (end_passes progress ready) refl
@@ -88,6 +92,7 @@ blocks_read (block ∷ blocks) progress line ready size each once =
     let regroup = append_assoc (map field_line_form block.field_lines) (flat_map block_forms blocks) (End ∷ []) in
     rw (none, is, regroup, field_lines, after) rest
 
+-- the nodes of blocks are nodes of the grid
 pub nodes_below : (blocks : List Block) → AllByRecursion IsBlock blocks → AreBelow 144 (map (λ b. b.node) blocks)
 nodes_below [] each = tt
 nodes_below (block ∷ blocks) each = (each.0.node, nodes_below blocks each.1)
@@ -100,6 +105,7 @@ header_passes : (lines : List (List ℕ)) → reading start 1 (header ∷ lines)
 unfolding reading fault_of after_line start
 header_passes lines = refl
 
+-- what stands there
 pub opened_ready : (opened.stage ≡ stage.Open) × (length opened.blocks ≡ 144) × (opened.chip ≡ default_chip) × (opened.blocks ≡ replicate 144 false)
 unfolding start
 opened_ready = (refl, refl, refl, refl)

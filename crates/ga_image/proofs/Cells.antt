@@ -1,7 +1,7 @@
 -- The number of a cell against the byte that its two digits decode to.
 use Rattle.std.specs.Prelude.{MatchResult, ◌==◌, slice_index}
-use Rattle.std.proofs.Common.{◌≡◌, ◌≢◌, ℕ, ◌+◌, ◌*◌, ◌/◌, ◌%◌, Bool, true, false, cond, List, [], ◌∷◌, length, Option, Some, None, Result, Ok, Err, refl, arith}
 use Rattle.std.specs.Option.{option_and_then}
+use Rattle.std.proofs.Common.{◌≡◌, ◌≢◌, ℕ, ◌+◌, ◌*◌, ◌/◌, ◌%◌, Bool, true, false, cond, List, [], ◌∷◌, length, Option, Some, None, Result, Ok, Err, refl, arith}
 use Rattle.std.proofs.lemmas.Bool.{ne_eqb, eqb-false}
 use Rattle.hex.specs.declared.error.FromHexError.{FromHexError}
 use Rattle.hex.specs.declared.error.FromHexError.TheVariants.{OddLength, InvalidStringLength}
@@ -34,6 +34,7 @@ refused true half bytes other = refl
 refused false true bytes other = absurd (let clash : true ≡ false = other refl in cc)
 refused false false bytes other = refl
 
+-- two digits decode to a byte where they name a cell
 pub cell_agrees : (text : List ℕ) → Agrees (decode_sized text 1) (cell_number text)
 unfolding decode_pairs cell_number
 cell_agrees [] = refl
@@ -47,10 +48,12 @@ cell_agrees (x ∷ y ∷ z ∷ text) =
 abbrev pub Decoded : Result (List ℕ) FromHexError → Result (Unit {0}) FromHexError → List ℕ → Type 0
 Decoded decoded answer out = MatchResult decoded (λ bytes. (answer ≡ Ok tt) × (out ≡ bytes)) (λ error. answer ≡ Err error)
 
+-- no cell where decoding was refused
 pub none_decoded : (decoded : Result (List ℕ) FromHexError) (out : List ℕ) (cell : Option ℕ) (error : FromHexError) → Decoded decoded (Err error) out → Agrees decoded cell → None ≡ cell
 none_decoded (Ok bytes) out cell error is agrees = absurd (let clash : Err error ≡ Ok tt = is.0 in cc)
 none_decoded (Err other) out cell error is agrees = agrees
 
+-- and else the byte that was decoded
 pub some_decoded : (decoded : Result (List ℕ) FromHexError) (out : List ℕ) (cell : Option ℕ) (done : Unit {0}) → Decoded decoded (Ok done) out → Agrees decoded cell → Some (slice_index out 0) ≡ cell
 some_decoded (Ok bytes) out cell done is agrees = rw is.1 agrees
 some_decoded (Err other) out cell done is agrees = absurd (let clash : Ok done ≡ Err other = is in cc)

@@ -1,26 +1,23 @@
 -- What is read is in the grammar.
-use Rattle.std.proofs.Common.{◌≡◌, ◌≢◌, ℕ, ◌+◌, ◌*◌, ◌/◌, ◌%◌, ◌<◌, ◌≤◌, inl, inr, Bool, true, false, cond, ◌&&◌, List, [], ◌∷◌, ◌++◌, length, map, flat_map, get_or, set, Option, Some, None, Result, Ok, refl, sym, ◌∙◌, ap, subst, arith, append_assoc}
 use Rattle.std.specs.Prelude.{nat_lt, is_none}
 use Rattle.std.specs.List.{AllByRecursion, list_any}
+use Rattle.std.proofs.Common.{◌≡◌, ◌≢◌, ℕ, ◌+◌, ◌*◌, ◌/◌, ◌%◌, ◌<◌, ◌≤◌, inl, inr, Bool, true, false, cond, ◌&&◌, List, [], ◌∷◌, ◌++◌, length, map, flat_map, get_or, set, Option, Some, None, Result, Ok, refl, sym, ◌∙◌, ap, subst, arith, append_assoc}
 use Rattle.std.proofs.lemmas.Bool.Decides.{nat_tests}
 use Rattle.std.proofs.lemmas.Slice.Eq.{bytes_eq-Decides}
 use Rattle.ga_node.specs.State.{NodeState}
+use Rattle.ga_grid.specs.Grid.{node_of, yxx_of}
 use Rattle.ga_image.specs.declared.field.Field.{Field}
 use Rattle.ga_image.specs.declared.field.Field.TheVariants.{A, B, P, Ram, Rom}
-use Rattle.ga_grid.specs.Grid.{node_of, yxx_of}
-use Rattle.ga_image.specs.Grammar.{with_word}
-use Rattle.ga_image.specs.Progress.{Progress}
-use Rattle.ga_image.specs.Progress.{Stage}
-use Rattle.ga_image.specs.Progress as stage
 use Rattle.ga_image.specs.declared.fault.ImageFault.{ImageFault}
 use Rattle.ga_image.specs.declared.fault.ImageCause.{ImageCause}
 use Rattle.ga_image.specs.declared.fault.ImageCause.TheVariants as cause
+use Rattle.ga_image.specs.Grammar.{with_word, header, Block, field_line_form, block_forms, all_writes, Fits, IsFieldLine, IsBlock, written, loaded, IsImage}
+use Rattle.ga_image.specs.Progress.{Progress, Stage}
+use Rattle.ga_image.specs.Progress as stage
 use Rattle.ga_image.specs.Spelling.{Form, Node, Words, End}
 use Rattle.ga_image.specs.Forms.{form}
 use Rattle.ga_image.specs.Fields.{writes, repeats, goes_past, is_too_great, greatest}
-use Rattle.ga_image.specs.Grammar.{header}
 use Rattle.ga_image.specs.Reading.{node_in, reading, refused, at_end, fault_of, line_fault, later_fault, form_fault, node_fault, words_fault, is_misplaced, after_line, after_form, with_block, start, nothing_given, is_header, has_block}
-use Rattle.ga_image.specs.Grammar.{Block, field_line_form, block_forms, all_writes, Fits, IsFieldLine, IsBlock, written, loaded, IsImage}
 use Rattle.ga_image.proofs.Spellings.{forms_spelled}
 use Rattle.ga_image.proofs.Flags.{seen_twice, AreBelow, once_apart, or_false}
 use Rattle.ga_image.proofs.Meanings.{reads, marked, repeats-append, line_later, past_later, still_later, short_past}
@@ -42,10 +39,12 @@ pub neither : (b : Bool) (c : ImageCause) (others : Option ImageCause) → cond 
 neither true c others e = cc
 neither false c others e = (refl, e)
 
+-- a line without fault is not too long
 pub not_short : (progress : Progress) (text : List ℕ) → fault_of progress text ≡ None → line_fault progress.stage progress text ≡ None
 unfolding fault_of
 not_short progress text e = (neither (nat_lt 200 (length text)) cause.Long (line_fault progress.stage progress text) e).1
 
+-- a line that is not misplaced has a form
 pub some_form : (st : Stage) (found : Option Form) → st ≢ stage.Header → is_misplaced st found ≡ false → (f : Form) × (found ≡ Some f)
 some_form stage.Header found later e = absurd (later refl)
 some_form stage.Open None later e = cc

@@ -1,24 +1,21 @@
 -- Reading against the grammar.
-use Rattle.std.proofs.Common.{◌≡◌, ◌≢◌, ℕ, suc, ◌+◌, ◌≤◌, Bool, true, false, ◌||◌, List, [], ◌∷◌, ◌++◌, length, map, get_or, set, Option, Some, None, Result, refl, sym, ◌∙◌, ap, arith}
 use Rattle.std.specs.List.{AllByRecursion, list_any}
-use Rattle.std.proofs.Common.{add-zero}
+use Rattle.std.specs.Prelude.{nat_lt}
+use Rattle.std.proofs.Common.{◌≡◌, ◌≢◌, ℕ, suc, ◌+◌, ◌≤◌, Bool, true, false, ◌||◌, List, [], ◌∷◌, ◌++◌, length, map, get_or, set, Option, Some, None, Result, refl, sym, ◌∙◌, ap, arith, add-zero}
 use Rattle.std.proofs.lemmas.Bool.Decides.{nat_tests}
 use Rattle.ga_node.specs.State.{NodeState}
+use Rattle.ga_grid.specs.Grid.{node_of}
 use Rattle.ga_image.specs.declared.field.Field.{Field}
 use Rattle.ga_image.specs.declared.field.Field.TheVariants.{A, B, P, Ram, Rom}
-use Rattle.ga_grid.specs.Grid.{node_of}
-use Rattle.ga_image.specs.Progress.{Progress}
-use Rattle.ga_image.specs.Progress.{Stage}
-use Rattle.ga_image.specs.Progress.{Header, Open, Block, Ended}
 use Rattle.ga_image.specs.declared.fault.ImageFault.{ImageFault}
+use Rattle.ga_image.specs.Progress.{Progress, Stage, Header, Open, Block, Ended}
 use Rattle.ga_image.specs.Spelling.{Form, Node, Words, End}
 use Rattle.ga_image.specs.Forms.{form}
 use Rattle.ga_image.specs.Fields.{writes, repeats, number_of, goes_past, greatest}
 use Rattle.ga_image.specs.Reading.{reading, fault_of, line_fault, later_fault, after_line, after_stage, after_form, at_end, refused, with_writes, with_write, words_fault, with_block}
+use Rattle.ga_image.specs.Grammar.{field_line_form, all_writes, Fits, IsFieldLine}
 use Rattle.ga_image.proofs.Short.{short_form}
 use Rattle.ga_image.proofs.Flags.{or_false}
-use Rattle.std.specs.Prelude.{nat_lt}
-use Rattle.ga_image.specs.Grammar.{field_line_form, all_writes, Fits, IsFieldLine}
 
 or_assoc : (x y z : Bool) → (x || (y || z)) ≡ ((x || y) || z)
 or_assoc true y z = refl
@@ -29,6 +26,7 @@ abbrev pub reads : Progress → ℕ → List Form → Result (List NodeState) Im
 reads progress line [] = at_end progress.stage progress.chip line
 reads progress line (f ∷ forms) = refused (later_fault progress (Some f)) line (reads (after_form progress (Some f)) (line + 1) forms)
 
+-- words keep the stage
 pub stage_kept : (progress : Progress) (ws : List (Field × ℕ)) → (with_writes progress ws).stage ≡ progress.stage
 stage_kept progress [] = refl
 stage_kept progress (w ∷ ws) = stage_kept (with_write progress w) ws
@@ -37,17 +35,20 @@ begun : (progress : Progress) (node : Option ℕ) → progress.stage ≢ Header 
 begun progress None later = later
 begun progress (Some node) later = λ e. cc
 
+-- behind the header no line leads back to it
 pub still_later : (progress : Progress) (f : Form) → progress.stage ≢ Header → (after_form progress (Some f)).stage ≢ Header
 still_later progress (Node yxx) later = begun progress (node_of yxx) later
 still_later progress (Words field words) later = rw (stage_kept progress (writes field words)) later
 still_later progress End later = λ e. cc
 
+-- behind the header a line is read by its form
 pub line_later : (stage : Stage) (progress : Progress) (text : List ℕ) → stage ≢ Header → line_fault stage progress text ≡ later_fault progress (form text)
 line_later Header progress text later = absurd (later refl)
 line_later Open progress text later = refl
 line_later (Block node) progress text later = refl
 line_later Ended progress text later = refl
 
+-- and so is what it leads to
 pub past_later : (stage : Stage) (progress : Progress) (text : List ℕ) → stage ≢ Header → after_stage stage progress text ≡ after_form progress (form text)
 past_later Header progress text later = absurd (later refl)
 past_later Open progress text later = refl
@@ -59,10 +60,12 @@ pub short_fault : (progress : Progress) (text : List ℕ) → length text ≤ 20
 unfolding fault_of
 short_fault progress text small = let no : nat_lt 200 (length text) ≡ false = grind (arith, nat_tests) in rw no refl
 
+-- what a line leads to depends on the stage
 pub short_past : (progress : Progress) (text : List ℕ) → after_line progress text ≡ after_stage progress.stage progress text
 unfolding after_line
 short_past progress text = refl
 
+-- lines are read as their forms are
 pub reading_forms : (forms : List Form) (lines : List (List ℕ)) (progress : Progress) (line : ℕ) → progress.stage ≢ Header → map form lines ≡ map (λ f. Some f) forms → reading progress line lines ≡ reads progress line forms
 unfolding reading
 reading_forms [] [] progress line later same = refl
@@ -81,14 +84,17 @@ abbrev pub marked : List Bool → List (Field × ℕ) → List Bool
 marked given [] = given
 marked given (w ∷ ws) = marked (set given (number_of w.0) true) ws
 
+-- fields of several lines are given twice in one of them or among them
 pub repeats-append : (given : List Bool) (xs ys : List (Field × ℕ)) → repeats given (xs ++ ys) ≡ (repeats given xs || repeats (marked given xs) ys)
 repeats-append given [] ys = refl
 repeats-append given (x ∷ xs) ys = rw (repeats-append (set given (number_of x.0) true) xs ys) (or_assoc (get_or given (number_of x.0) false) _ _)
 
+-- the fields that words mark as given
 pub given_marked : (progress : Progress) (ws : List (Field × ℕ)) → (with_writes progress ws).given ≡ marked progress.given ws
 given_marked progress [] = refl
 given_marked progress (w ∷ ws) = given_marked (with_write progress w) ws
 
+-- words of several lines are written one after the other
 pub with_writes-append : (progress : Progress) (xs ys : List (Field × ℕ)) → with_writes progress (xs ++ ys) ≡ with_writes (with_writes progress xs) ys
 with_writes-append progress [] ys = refl
 with_writes-append progress (x ∷ xs) ys = with_writes-append (with_write progress x) xs ys
@@ -101,6 +107,7 @@ in_memory P count fits = refl
 in_memory (Ram cell) count fits = grind (arith, nat_tests)
 in_memory (Rom cell) count fits = grind (arith, nat_tests)
 
+-- no word is past the greatest
 pub all_small : (most : ℕ) (words : List ℕ) → AllByRecursion (λ word. word ≤ most) words → list_any (λ word. nat_lt most word) words ≡ false
 all_small most [] small = refl
 all_small most (word ∷ words) small =

@@ -1,8 +1,8 @@
 -- Digits and the numbers that they give, both ways.
-use Rattle.std.proofs.Common.{◌≡◌, ℕ, zero, suc, ◌+◌, ◌-◌, ◌*◌, ◌/◌, ◌%◌, ◌^◌, ◌<◌, ◌≤◌, ◌⊎◌, inl, inr, Bool, true, false, cond, ◌&&◌, List, [], ◌∷◌, Option, Some, None, refl, sym, ◌∙◌, ap, arith}
 use Rattle.std.specs.Prelude.{nat_le, nat_lt, slice_index}
 use Rattle.std.specs.Char.{to_ascii_lowercase}
 use Rattle.std.specs.Str.{str_to_ascii_lowercase}
+use Rattle.std.proofs.Common.{◌≡◌, ℕ, zero, suc, ◌+◌, ◌-◌, ◌*◌, ◌/◌, ◌%◌, ◌^◌, ◌<◌, ◌≤◌, ◌⊎◌, inl, inr, Bool, true, false, cond, ◌&&◌, List, [], ◌∷◌, Option, Some, None, refl, sym, ◌∙◌, ap, arith}
 use Rattle.std.proofs.lemmas.Bool.Decides.{nat_tests}
 use Rattle.hex.specs.Hex.{hex_digit_value, lower_digits}
 use Rattle.hex.proofs.HexLemmas.{IsDigits-lower_digits}
@@ -59,6 +59,7 @@ digit_of c v e =
 pub digit_spelled : (c v : ℕ) → hex_digit_value c ≡ Some v → (v < 16) × (to_ascii_lowercase c ≡ slice_index lower_digits v)
 digit_spelled c v e = let is = digit_of c v e in (is.0, is.1 ∙ sym (digit_text v is.0))
 
+-- a digit has its value
 pub digit_read : (c d : ℕ) → d < 16 → to_ascii_lowercase c ≡ slice_index lower_digits d → hex_digit_value c ≡ Some d
 digit_read c d small is = same_value c ∙ ap hex_digit_value is ∙ IsDigits-lower_digits d small
 
@@ -98,14 +99,16 @@ word_spelled a b c d e f n is =
     let third : w ≡ n / 4096 % 16 = omega arith in
     let fourth : x ≡ n / 256 % 16 = omega arith in
     let fifth : y ≡ n / 16 % 16 = omega arith in
-    let sixth : z ≡ n / 1 % 16 = omega arith in
-    (omega arith, six_equal _ _ _ _ _ _ _ _ _ _ _ _
-    (a_is ∙ ap (slice_index lower_digits) first)
-    (b_is ∙ ap (slice_index lower_digits) second)
-    (c_is ∙ ap (slice_index lower_digits) third)
-    (d_is ∙ ap (slice_index lower_digits) fourth)
-    (e_is ∙ ap (slice_index lower_digits) fifth)
-    (f_is ∙ ap (slice_index lower_digits) sixth))
+    let sixth : z ≡ n / 1 % 16 = omega arith in (
+      omega arith,
+      six_equal _ _ _ _ _ _ _ _ _ _ _ _
+          (a_is ∙ ap (slice_index lower_digits) first)
+          (b_is ∙ ap (slice_index lower_digits) second)
+          (c_is ∙ ap (slice_index lower_digits) third)
+          (d_is ∙ ap (slice_index lower_digits) fourth)
+          (e_is ∙ ap (slice_index lower_digits) fifth)
+          (f_is ∙ ap (slice_index lower_digits) sixth),
+    )
 
 -- the digits of a number give it back
 pub word_read : (text : List ℕ) (n : ℕ) → n < 2 ^ 24 → str_to_ascii_lowercase text ≡ hex6_of n → read6_of text ≡ Some n
@@ -123,8 +126,14 @@ word_read (a ∷ b ∷ c ∷ d ∷ e ∷ f ∷ []) n small is =
     let fifth : to_ascii_lowercase e ≡ hex_digit n 1 = cc in
     let sixth : to_ascii_lowercase f ≡ hex_digit n 0 = cc in
     let whole : six (n / 1048576 % 16) (n / 65536 % 16) (n / 4096 % 16) (n / 256 % 16) (n / 16 % 16) (n / 1 % 16) ≡ n = omega arith in
-    rw (digit_read a _ (omega arith) first, digit_read b _ (omega arith) second, digit_read c _ (omega arith) third,
-      digit_read d _ (omega arith) fourth, digit_read e _ (omega arith) fifth, digit_read f _ (omega arith) sixth) (ap (λ (k : ℕ). Some k) whole)
+    rw (
+      digit_read a _ (omega arith) first,
+      digit_read b _ (omega arith) second,
+      digit_read c _ (omega arith) third,
+      digit_read d _ (omega arith) fourth,
+      digit_read e _ (omega arith) fifth,
+      digit_read f _ (omega arith) sixth,
+    ) (ap (λ (k : ℕ). Some k) whole)
 word_read (a ∷ b ∷ c ∷ d ∷ e ∷ f ∷ g ∷ text) n small is = cc
 
 pair_stepped : (u v : Option ℕ) (n : ℕ) → (u >>= λ a. v >>= λ b. Some (a * 16 + b)) ≡ Some n → (a : ℕ) × (b : ℕ) × (u ≡ Some a) × (v ≡ Some b) × (a * 16 + b ≡ n)

@@ -1,8 +1,7 @@
 -- How many lines may still come: no more than there are nodes and places left.
 use Rattle.std.proofs.Common.{◌≡◌, ◌≢◌, ℕ, zero, suc, ◌+◌, ◌*◌, ◌<◌, ◌≤◌, ◌⊎◌, inl, inr, Bool, true, false, List, [], ◌∷◌, length, get_or, set, Some, None, refl, sym, ◌∙◌, ap, subst, arith, length-set, lit≤}
 use Rattle.ga_image.specs.declared.field.Field.{Field}
-use Rattle.ga_image.specs.Progress.{Progress}
-use Rattle.ga_image.specs.Progress.{Stage}
+use Rattle.ga_image.specs.Progress.{Progress, Stage}
 use Rattle.ga_image.specs.Progress as stage
 use Rattle.ga_image.specs.Spelling.{Form, Node, Words, End}
 use Rattle.ga_image.specs.Forms.{form}
@@ -38,6 +37,7 @@ free-marked : (flags : List Bool) (ws : List (Field × ℕ)) → free (marked fl
 free-marked flags [] = omega arith
 free-marked flags (w ∷ ws) = omega (arith, free-marked (set flags (number_of w.0) true) ws, free-set flags (number_of w.0))
 
+-- marking keeps the number of flags
 pub length-marked : (flags : List Bool) (ws : List (Field × ℕ)) → length (marked flags ws) ≡ length flags
 length-marked flags [] = refl
 length-marked flags (w ∷ ws) = length-marked (set flags (number_of w.0) true) ws ∙ length-set flags (number_of w.0) true
@@ -48,15 +48,18 @@ field_less flags field (word ∷ words) size some below once =
     let parts = or_false (get_or flags (number_of field) false) _ once in
     omega (arith, one_less flags (number_of field) (omega (arith, below.0)) parts.0, free-marked (set flags (number_of field) true) (writes (next_field field) words))
 
+-- the lines that a stage leaves room for, besides blocks and fields
 abbrev pub stage_room : Stage → ℕ
 stage_room stage.Header = 2
 stage_room stage.Open = 1
 stage_room (stage.Block node) = 1
 stage_room stage.Ended = 0
 
+-- the lines that may still come: each block can have as many as there are fields, and one that begins it
 abbrev pub room : Progress → ℕ
 room progress = stage_room progress.stage + 132 * free progress.blocks + free progress.given
 
+-- there is a flag for each node and each field
 pub record IsSized (progress : Progress) : Type 0 where
   pub blocks : length progress.blocks ≡ 144
   pub given : length progress.given ≡ 131

@@ -1,6 +1,6 @@
 -- A line that has a form is short, and a field line has a word.
-use Rattle.std.proofs.Common.{◌≡◌, ℕ, ◌+◌, ◌*◌, ◌<◌, ◌≤◌, List, [], ◌∷◌, length, Some, refl, sym, ◌∙◌, ap, arith, length-append}
 use Rattle.std.specs.Str.{str_to_ascii_lowercase}
+use Rattle.std.proofs.Common.{◌≡◌, ℕ, ◌+◌, ◌*◌, ◌<◌, ◌≤◌, List, [], ◌∷◌, length, Some, refl, sym, ◌∙◌, ap, arith, length-append}
 use Rattle.ga_image.specs.declared.field.Field.{Field}
 use Rattle.ga_image.specs.declared.field.Field.TheVariants.{A, B, P, Ram, Rom}
 use Rattle.ga_image.specs.Spelling.{Form, Node, Words, End, Spells, SpellsWords, HasCount, words_text, name_of, numbers_of}
@@ -42,8 +42,10 @@ short_spelled text (Node yxx) is = let same = ap length is.1 in omega arith
 short_spelled text (Words field ws) is = short_words text field ws is
 short_spelled text End is = let same = ap length is in omega arith
 
+-- a line with a form has at most 200 bytes
 pub short_form : (text : List ℕ) (f : Form) → form text ≡ Some f → length text ≤ 200
 short_form text f e = short_spelled text f (form_spelled text f e)
 
+-- a field line has a word
 pub some_field : (text : List ℕ) (field : Field) (ws : List ℕ) → form text ≡ Some (Words field ws) → 0 < length ws
 some_field text field ws e = let is : SpellsWords text field ws = form_spelled text (Words field ws) e in (counted field (length ws) is.count).0

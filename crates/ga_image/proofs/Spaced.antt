@@ -1,10 +1,10 @@
 -- Steps of the reading of words.
-use Rattle.std.proofs.Common.{◌≡◌, ℕ, ◌<◌, ◌≤◌, List, [], ◌∷◌, ◌++◌, length, take, drop, Option, Some, None, Bool, true, false, cond, ap, refl, arith, append_assoc, length-append}
 use Rattle.std.specs.Prelude.{nat_eq, ◌&&◌}
 use Rattle.std.specs.Cmp.Lexicographic.{pointwise}
+use Rattle.std.proofs.Common.{◌≡◌, ℕ, ◌<◌, ◌≤◌, List, [], ◌∷◌, ◌++◌, length, take, drop, Option, Some, None, Bool, true, false, cond, ap, refl, arith, append_assoc, length-append}
 use Rattle.std.proofs.lemmas.Bool.Decides.{nat_tests}
-use Rattle.ga_image.specs.Steps.{◌>>=◌}
 use Rattle.ga_word.specs.Word.{read6_of}
+use Rattle.ga_image.specs.Steps.{◌>>=◌}
 use Rattle.ga_image.specs.Forms.{spaced_words, words, few}
 
 -- what the words of a text behind those seen so far come to
@@ -90,14 +90,17 @@ append_nothing : (xs : List ℕ) → xs ++ [] ≡ xs
 append_nothing [] = refl
 append_nothing (x ∷ xs) = ap (λ ys. x ∷ ys) (append_nothing xs)
 
+-- no words are too few
 pub no_words : words_after [] [] ≡ None
 unfolding words_after spaced_words
 no_words = refl
 
+-- words that were seen up to the end
 pub all_words : (seen : List ℕ) → 0 < length seen → length seen ≤ 16 → words_after seen [] ≡ Some seen
 unfolding words_after spaced_words
 all_words seen some few = rw (append_nothing seen) (grind (arith, nat_tests))
 
+-- before the first word
 pub from_start : (text : List ℕ) → words_after [] text ≡ words text
 unfolding words_after words
 from_start text = refl

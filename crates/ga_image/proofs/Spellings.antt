@@ -1,10 +1,10 @@
 -- A line means what it spells, and spells what it means.
-use Rattle.std.proofs.Common.{◌≡◌, ℕ, ◌^◌, ◌<◌, ◌≤◌, Bool, true, false, cond, ◌&&◌, List, [], ◌∷◌, ◌++◌, length, map, take, drop, Option, Some, None, refl, sym, ◌∙◌, ap, subst, arith, append_assoc}
 use Rattle.std.specs.Prelude.{nat_eq, nat_le, codes, ◌==◌}
 use Rattle.std.specs.List.{AllByRecursion}
 use Rattle.std.specs.Char.{to_ascii_lowercase}
 use Rattle.std.specs.Str.{str_to_ascii_lowercase}
 use Rattle.std.specs.Cmp.Lexicographic.{pointwise}
+use Rattle.std.proofs.Common.{◌≡◌, ℕ, ◌^◌, ◌<◌, ◌≤◌, Bool, true, false, cond, ◌&&◌, List, [], ◌∷◌, ◌++◌, length, map, take, drop, Option, Some, None, refl, sym, ◌∙◌, ap, subst, arith, append_assoc}
 use Rattle.std.proofs.lemmas.Bool.Decides.{nat_tests}
 use Rattle.std.proofs.lemmas.Bool.{eqb-true}
 use Rattle.std.proofs.lemmas.List.{take-append-drop}
@@ -14,9 +14,8 @@ use Rattle.ga_image.specs.declared.field.Field.{Field}
 use Rattle.ga_image.specs.declared.field.Field.TheVariants.{A, B, P, Ram, Rom}
 use Rattle.ga_image.specs.Steps.{◌>>=◌}
 use Rattle.ga_image.specs.Digits.{cell_number, node_number}
-use Rattle.ga_image.specs.Spelling.{Form, Node, Words, End}
+use Rattle.ga_image.specs.Spelling.{Form, Node, Words, End, decimal3_of, hex2_of, words_text, name_of, numbers_of, HasCount, SpellsWords, Spells}
 use Rattle.ga_image.specs.Forms.{form, spaced_words, few, words, word_form, cells_form, node_form, begins}
-use Rattle.ga_image.specs.Spelling.{decimal3_of, hex2_of, words_text, name_of, numbers_of, HasCount, SpellsWords, Spells}
 use Rattle.ga_image.specs.Grammar.{Spell}
 use Rattle.ga_image.proofs.Numbers.{word_spelled, word_read, cell_spelled, cell_read, node_spelled, node_read}
 
@@ -25,6 +24,7 @@ first_step : {A B : Type 0} (o : Option A) (f : A → Option B) (y : B) → (o >
 first_step None f y e = cc
 first_step (Some x) f y e = (x, refl, e)
 
+-- numbers of at most six digits
 abbrev AreSix : List ℕ → Type 0
 AreSix ws = AllByRecursion (λ word. word < 2 ^ 24) ws
 
@@ -281,6 +281,7 @@ forms_spelled (text ∷ texts) (f ∷ forms) e =
     let others : map form texts ≡ map (λ f. Some f) forms = cc in
     (form_spelled text f first, forms_spelled texts forms others)
 
+-- and mean what they spell
 pub forms_read : (texts : List (List ℕ)) (forms : List Form) → Spell texts forms → map form texts ≡ map (λ f. Some f) forms
 forms_read [] [] is = refl
 forms_read [] (f ∷ forms) is = absurd is

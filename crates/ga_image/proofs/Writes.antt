@@ -1,7 +1,7 @@
 -- The words of a field line, one after the other.
-use Rattle.std.proofs.Common.{◌≡◌, ℕ, ◌+◌, ◌<◌, ◌≤◌, Bool, true, false, List, [], ◌∷◌, zero, suc, length, drop, get_or, set, Some, refl, ap, arith}
 use Rattle.std.specs.Prelude.{nat_lt}
 use Rattle.std.specs.List.{list_any}
+use Rattle.std.proofs.Common.{◌≡◌, ℕ, ◌+◌, ◌<◌, ◌≤◌, Bool, true, false, List, [], ◌∷◌, zero, suc, length, drop, get_or, set, Some, refl, ap, arith}
 use Rattle.std.proofs.lemmas.Bool.Decides.{nat_tests}
 use Rattle.std.proofs.lemmas.List.{drop_more}
 use Rattle.ga_image.specs.declared.field.Field.{Field}
@@ -28,6 +28,7 @@ next_fits P count less e fits = refl
 next_fits (Ram cell) count less e fits = grind (arith, nat_tests)
 next_fits (Rom cell) count less e fits = grind (arith, nat_tests)
 
+-- the cells of a memory hold the same words
 pub next_greatest : (field : Field) → greatest (next_field field) ≡ greatest field
 next_greatest A = refl
 next_greatest B = refl
@@ -59,6 +60,7 @@ pub repeats_later : (given : List Bool) (field : Field) (words : List ℕ) (i : 
     → repeats given (writes field (drop i words)) ≡ repeats (set given (number_of field) true) (writes (next_field field) (drop (i + 1) words))
 repeats_later given field words i within free = rw (one_write field words i within, free) refl
 
+-- one word is written, then the others
 pub written_later : (progress : Progress) (field : Field) (words : List ℕ) (i : ℕ) → i < length words
     → with_writes progress (writes field (drop i words)) ≡ with_writes (with_write progress (field, get_or words i 0)) (writes (next_field field) (drop (i + 1) words))
 written_later progress field words i within = ap (with_writes progress) (one_write field words i within)

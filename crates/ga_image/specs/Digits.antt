@@ -3,6 +3,7 @@ use Rattle.std.specs.Prelude.{ℕ, ◌+◌, ◌-◌, ◌*◌, ◌&&◌, nat_le, 
 use Rattle.hex.specs.Hex.{hex_digit_value}
 use Rattle.ga_image.specs.Steps.{◌>>=◌}
 
+-- the value of a decimal digit
 abbrev pub decimal_digit : ℕ → Option ℕ
 decimal_digit byte = if nat_le 48 byte && nat_le byte 57 then Some (byte - 48) else None
 

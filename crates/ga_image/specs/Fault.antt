@@ -3,6 +3,7 @@ use Rattle.std.specs.Prelude.{ℕ, List, codes}
 use Rattle.ga_image.specs.declared.fault.ImageCause.{ImageCause}
 use Rattle.ga_image.specs.declared.fault.ImageCause.TheVariants.{Header, Line, Node, Word, Repeated, Place, Truncated, Long, Memory}
 
+-- the number of a cause
 abbrev pub number_of : ImageCause → ℕ
 number_of Header = 11
 number_of Line = 12
@@ -14,6 +15,7 @@ number_of Truncated = 17
 number_of Long = 18
 number_of Memory = 19
 
+-- its word
 abbrev pub word_of : ImageCause → List ℕ
 word_of Header = codes "header"
 word_of Line = codes "line"

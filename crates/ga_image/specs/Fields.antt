@@ -7,6 +7,7 @@ use Rattle.ga_node.specs.Places.{greatest_of}
 use Rattle.ga_image.specs.declared.field.Field.{Field}
 use Rattle.ga_image.specs.declared.field.Field.TheVariants.{A, B, P, Ram, Rom}
 
+-- the place of a node that a field stands for
 abbrev pub place_of : Field → Place
 place_of A = place.A
 place_of B = place.B
@@ -53,6 +54,7 @@ goes_past _ count = false
 abbrev pub greatest : Field → ℕ
 greatest field = greatest_of (place_of field)
 
+-- one of the words is past the greatest
 abbrev pub is_too_great : Field → List ℕ → Bool
 is_too_great field words = list_any (λ word. nat_lt (greatest field) word) words
 

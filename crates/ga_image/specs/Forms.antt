@@ -18,6 +18,7 @@ form_of (line.Node number) = Node number
 form_of (line.Words field words) = Words field words.items
 form_of line.End = End
 
+-- a field of a memory
 abbrev pub field_in : Memory → ℕ → Field
 field_in memory.Ram cell = Ram cell
 field_in memory.Rom cell = Rom cell
@@ -37,6 +38,7 @@ spaced_words _ = None
 abbrev pub few : List ℕ → Option (List ℕ)
 few words = if nat_le 1 (length words) && nat_le (length words) 16 then Some words else None
 
+-- a row of words
 unfoldable pub words : List ℕ → Option (List ℕ)
 words text = do
   found ← spaced_words text
@@ -56,11 +58,13 @@ cells_form field (x ∷ y ∷ text) = do
   Some (Words (field cell) found)
 cells_form field _ = None
 
+-- the row and the column of a node
 unfoldable pub node_form : List ℕ → Option Form
 node_form text = do
   number ← node_number text
   Some (Node number)
 
+-- the text begins so
 abbrev pub begins : List ℕ → List ℕ → Bool
 begins text front = pointwise nat_eq (take (length front) text) front
 

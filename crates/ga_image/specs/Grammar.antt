@@ -9,6 +9,7 @@ use Rattle.ga_image.specs.declared.field.Field.TheVariants.{A, B, P, Ram, Rom}
 use Rattle.ga_image.specs.Fields.{place_of, writes, greatest, number_of}
 use Rattle.ga_image.specs.Spelling.{Form, Node, Words, End, Spells}
 
+-- the first line
 abbrev pub header : List ℕ
 header = codes "ga144 1"
 
@@ -17,6 +18,7 @@ pub record Block : Type 0 where
   pub node : ℕ
   pub field_lines : List (Field × List ℕ)
 
+-- the form of a field line
 abbrev pub field_line_form : Field × List ℕ → Form
 field_line_form field_line = Words field_line.0 field_line.1
 
@@ -40,6 +42,7 @@ Fits (Rom cell) count = cell + count ≤ 64
 abbrev pub IsFieldLine : Field × List ℕ → Type 0
 IsFieldLine field_line = Fits field_line.0 (length field_line.1) × AllByRecursion (λ word. word ≤ greatest field_line.0) field_line.1
 
+-- a block of a node of the grid
 pub record IsBlock (block : Block) : Type 0 where
   pub node : block.node < 144
   pub field_lines : AllByRecursion IsFieldLine block.field_lines
@@ -55,6 +58,7 @@ abbrev pub written : ℕ → List NodeState → List (Field × ℕ) → List Nod
 written node chip [] = chip
 written node chip (w ∷ ws) = written node (with_word chip node w) ws
 
+-- a chip with what blocks give, one block after the other
 abbrev pub loaded : List NodeState → List Block → List NodeState
 loaded chip [] = chip
 loaded chip (block ∷ blocks) = loaded (written block.node chip (all_writes block.field_lines)) blocks

@@ -12,6 +12,7 @@ pub data Stage : Type 0 where
   Block : ℕ → Stage
   Ended : Stage
 
+-- what the lines so far come to
 pub record Progress : Type 0 where
   pub stage : Stage
   -- for each node by its number, whether it has a block
@@ -20,6 +21,7 @@ pub record Progress : Type 0 where
   pub given : List Bool
   pub chip : List NodeState
 
+-- a stage, as contracts see it
 abbrev pub stage_of : Expects → Stage
 stage_of expects.Header = Header
 stage_of expects.Open = Open

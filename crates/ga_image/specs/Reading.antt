@@ -22,6 +22,7 @@ nothing_given = replicate 131 false
 unfoldable pub start : Progress
 start = record { stage = Header; blocks = replicate 144 false; given = nothing_given; chip = default_chip }
 
+-- the first line is the header
 abbrev pub is_header : List ℕ → Bool
 is_header text = pointwise nat_eq text header
 
@@ -58,6 +59,7 @@ words_fault progress field words = first_of (
     ∷ (cause.Repeated, repeats progress.given (writes field words))
     ∷ [])
 
+-- with a line that may stand there,
 abbrev pub form_fault : Progress → Option Form → Option ImageCause
 form_fault progress (Some (Node yxx)) = node_fault progress yxx
 form_fault progress (Some (Words field words)) = words_fault progress field words
@@ -72,20 +74,23 @@ abbrev pub line_fault : Stage → Progress → List ℕ → Option ImageCause
 line_fault Header progress text = if is_header text then None else Some cause.Header
 line_fault _ progress text = later_fault progress (form text)
 
+-- The first fault of a line; that it is too long comes before all others.
 unfoldable pub fault_of : Progress → List ℕ → Option ImageCause
 fault_of progress text = if nat_lt 200 (length text) then Some cause.Long else line_fault progress.stage progress text
 
--- the node of the block
+-- the node whose block it is
 abbrev pub node_in : Stage → ℕ
 node_in (Block node) = node
 node_in _ = 0
 
+-- a word of the block is written
 abbrev pub with_write : Progress → Field × ℕ → Progress
 with_write progress w = record progress {
   given = slice_set progress.given (number_of w.0) true;
   chip = with_word progress.chip (node_in progress.stage) w;
 }
 
+-- words, one after the other
 abbrev pub with_writes : Progress → List (Field × ℕ) → Progress
 with_writes progress [] = progress
 with_writes progress (w ∷ ws) = with_writes (with_write progress w) ws
@@ -95,17 +100,19 @@ abbrev pub with_block : Progress → Option ℕ → Progress
 with_block progress (Some node) = record progress { stage = Block node; blocks = slice_set progress.blocks node true; given = nothing_given }
 with_block progress None = progress
 
--- after a line with no fault
+-- after a line of a form that may stand there
 abbrev pub after_form : Progress → Option Form → Progress
 after_form progress (Some (Node yxx)) = with_block progress (node_of yxx)
 after_form progress (Some (Words field words)) = with_writes progress (writes field words)
 after_form progress (Some End) = record progress { stage = Ended }
 after_form progress None = progress
 
+-- after a line at this stage
 abbrev pub after_stage : Stage → Progress → List ℕ → Progress
 after_stage Header progress text = record progress { stage = Open }
 after_stage _ progress text = after_form progress (form text)
 
+-- after a line with no fault
 unfoldable pub after_line : Progress → List ℕ → Progress
 after_line progress text = after_stage progress.stage progress text
 
@@ -114,6 +121,7 @@ abbrev pub refused : Option ImageCause → ℕ → Result (List NodeState) Image
 refused (Some cause) line others = Err (record { line = line; cause = cause })
 refused None line others = others
 
+-- what the end of the text gives
 abbrev pub at_end : Stage → List NodeState → ℕ → Result (List NodeState) ImageFault
 at_end Ended chip line = Ok chip
 at_end _ chip line = Err (record { line = line; cause = cause.Truncated })

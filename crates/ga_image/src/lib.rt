@@ -1,5 +1,21 @@
-//! The text of a chip image, format 1: its grammar, the chip that an accepted text describes, and the first fault
-//! of any other text.
+//! Chip images: a text that gives the words with which the nodes of a chip are loaded.
+//!
+//! An image of format 1 has these lines, each ended by a line feed, which the last may lack:
+//!
+//! ```text
+//! ga144 1
+//! node YXX         a block begins: row and column of its node in three decimal digits
+//! a W              a word of six hexadecimal digits
+//! b W              at most 0001ff
+//! p W              at most 0003ff
+//! ram HH W ..      1 to 16 words from cell HH on, 00 to 3f in hexadecimal digits
+//! rom HH W ..
+//! end
+//! ```
+//!
+//! One space stands between words and none at the ends, hexadecimal digits are of either case, and a line has at most
+//! 200 bytes. The fields of a block stand in any order. A node has at most one block, and in a block each register and
+//! each cell is given at most once; what is not given keeps its value at load.
 #![tactic(auto)]
 
 mod digits;

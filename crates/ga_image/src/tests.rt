@@ -17,7 +17,13 @@ fn refusal(alloc: Global, text: &[u8]) -> Option<(u8, u32)> {
 }
 
 /// A text of pieces, the second of them so many times.
-fn repeated(alloc: Global, front: &[u8], piece: &[u8], count: u32, back: &[u8]) -> Result<Vec<u8>, AllocError> {
+fn repeated(
+    alloc: Global,
+    front: &[u8],
+    piece: &[u8],
+    count: u32,
+    back: &[u8],
+) -> Result<Vec<u8>, AllocError> {
     let mut text = front.to_vec(alloc)?;
     for _ in 0..count {
         text.extend_from_slice(piece)?;
@@ -39,9 +45,18 @@ fn first_faults(rt: HostRuntime) {
         (b"ga144 1\nga144 1\nend\n".as_slice(), Some((12, 2))),
         (b"ga144 1\nnode 00\nend\n".as_slice(), Some((12, 2))),
         (b"ga144 1\nnode 00a\nend\n".as_slice(), Some((12, 2))),
-        (b"ga144 1\nnode 000\nram 0 000000\nend\n".as_slice(), Some((12, 3))),
-        (b"ga144 1\nnode 000\nram 00\nend\n".as_slice(), Some((12, 3))),
-        (b"ga144 1\nnode 000\na 000000 000000\nend\n".as_slice(), Some((12, 3))),
+        (
+            b"ga144 1\nnode 000\nram 0 000000\nend\n".as_slice(),
+            Some((12, 3)),
+        ),
+        (
+            b"ga144 1\nnode 000\nram 00\nend\n".as_slice(),
+            Some((12, 3)),
+        ),
+        (
+            b"ga144 1\nnode 000\na 000000 000000\nend\n".as_slice(),
+            Some((12, 3)),
+        ),
         (b"ga144 1\nend\n\n".as_slice(), Some((12, 3))),
         (b"ga144 1\nend\nend".as_slice(), Some((12, 3))),
         // nodes
@@ -49,20 +64,56 @@ fn first_faults(rt: HostRuntime) {
         (b"ga144 1\nnode 800\nend\n".as_slice(), Some((13, 2))),
         (b"ga144 1\nnode 717\nend\n".as_slice(), None),
         // numbers that are too great
-        (b"ga144 1\nnode 000\nram 00 040000\nend".as_slice(), Some((14, 3))),
-        (b"ga144 1\nnode 000\na 040000\nend\n".as_slice(), Some((14, 3))),
-        (b"ga144 1\nnode 000\nb 000200\nend\n".as_slice(), Some((14, 3))),
-        (b"ga144 1\nnode 000\np 000400\nend\n".as_slice(), Some((14, 3))),
+        (
+            b"ga144 1\nnode 000\nram 00 040000\nend".as_slice(),
+            Some((14, 3)),
+        ),
+        (
+            b"ga144 1\nnode 000\na 040000\nend\n".as_slice(),
+            Some((14, 3)),
+        ),
+        (
+            b"ga144 1\nnode 000\nb 000200\nend\n".as_slice(),
+            Some((14, 3)),
+        ),
+        (
+            b"ga144 1\nnode 000\np 000400\nend\n".as_slice(),
+            Some((14, 3)),
+        ),
         // what was given before; a number that is too great comes first
-        (b"ga144 1\nnode 000\nram 00 000001 000002\nram 01 000003\nend\n".as_slice(), Some((15, 4))),
-        (b"ga144 1\nnode 000\na 000001\na 000001\nend\n".as_slice(), Some((15, 4))),
-        (b"ga144 1\nnode 000\na 000001\na 040000\nend\n".as_slice(), Some((14, 4))),
-        (b"ga144 1\nnode 000\nnode 001\nnode 000\nend\n".as_slice(), Some((15, 4))),
-        (b"ga144 1\nnode 000\nram 01 000001\nnode 001\nram 01 000001\nrom 01 000001\nend\n".as_slice(), None),
+        (
+            b"ga144 1\nnode 000\nram 00 000001 000002\nram 01 000003\nend\n".as_slice(),
+            Some((15, 4)),
+        ),
+        (
+            b"ga144 1\nnode 000\na 000001\na 000001\nend\n".as_slice(),
+            Some((15, 4)),
+        ),
+        (
+            b"ga144 1\nnode 000\na 000001\na 040000\nend\n".as_slice(),
+            Some((14, 4)),
+        ),
+        (
+            b"ga144 1\nnode 000\nnode 001\nnode 000\nend\n".as_slice(),
+            Some((15, 4)),
+        ),
+        (
+            b"ga144 1\nnode 000\nram 01 000001\nnode 001\nram 01 000001\nrom 01 000001\nend\n".as_slice(),
+            None,
+        ),
         // cells; one past the last comes before a number that is too great
-        (b"ga144 1\nnode 000\nram 3f 040000 000000\nend\n".as_slice(), Some((16, 3))),
-        (b"ga144 1\nnode 000\nrom 40 000000\nend\n".as_slice(), Some((16, 3))),
-        (b"ga144 1\nnode 000\nram FF 000000\nend\n".as_slice(), Some((16, 3))),
+        (
+            b"ga144 1\nnode 000\nram 3f 040000 000000\nend\n".as_slice(),
+            Some((16, 3)),
+        ),
+        (
+            b"ga144 1\nnode 000\nrom 40 000000\nend\n".as_slice(),
+            Some((16, 3)),
+        ),
+        (
+            b"ga144 1\nnode 000\nram FF 000000\nend\n".as_slice(),
+            Some((16, 3)),
+        ),
         // texts that end too early
         (b"".as_slice(), Some((17, 1))),
         (b"ga144 1\nnode 000\n".as_slice(), Some((17, 3))),
@@ -130,7 +181,11 @@ fn cut_off(rt: HostRuntime) {
                 wanted = answer;
             }
         }
-        assert_eq!(rt; refusal(rt.alloc(), SENDER.split_at(count).0), wanted, "at {count}");
+        assert_eq!(rt;
+            refusal(rt.alloc(), SENDER.split_at(count).0),
+            wanted,
+            "at {count}"
+        );
     }
 }
 
@@ -141,17 +196,66 @@ fn long_lines(rt: HostRuntime) -> Result<(), Fail> {
         (b"".as_slice(), b"x".as_slice(), 201, Some((18, 1))),
         (b"ga144 1\n".as_slice(), b"x".as_slice(), 200, Some((12, 2))),
         (b"ga144 1\n".as_slice(), b"x".as_slice(), 201, Some((18, 2))),
-        (b"ga144 1\nend\n".as_slice(), b"x".as_slice(), 201, Some((18, 3))),
-        (b"ga144 1\nnode 000\nram 00".as_slice(), b" 000001".as_slice(), 1, None),
-        (b"ga144 1\nnode 000\nram 30".as_slice(), b" 000001".as_slice(), 16, None),
-        (b"ga144 1\nnode 000\nram 30".as_slice(), b" 000001".as_slice(), 17, Some((12, 3))),
-        (b"ga144 1\nnode 000\nram 30".as_slice(), b" 040000".as_slice(), 30, Some((18, 3))),
+        (
+            b"ga144 1\nend\n".as_slice(),
+            b"x".as_slice(),
+            201,
+            Some((18, 3)),
+        ),
+        (
+            b"ga144 1\nnode 000\nram 00".as_slice(),
+            b" 000001".as_slice(),
+            1,
+            None,
+        ),
+        (
+            b"ga144 1\nnode 000\nram 30".as_slice(),
+            b" 000001".as_slice(),
+            16,
+            None,
+        ),
+        (
+            b"ga144 1\nnode 000\nram 30".as_slice(),
+            b" 000001".as_slice(),
+            17,
+            Some((12, 3)),
+        ),
+        (
+            b"ga144 1\nnode 000\nram 30".as_slice(),
+            b" 040000".as_slice(),
+            30,
+            Some((18, 3)),
+        ),
     ];
     for (front, piece, count, wanted) in table {
         let text = repeated(rt.alloc(), front, piece, count, b"\nend\n")?;
-        assert_eq!(rt; refusal(rt.alloc(), &text), wanted, "at {count} of {piece:?}");
+        assert_eq!(rt;
+            refusal(rt.alloc(), &text),
+            wanted,
+            "at {count} of {piece:?}"
+        );
     }
     Ok(())
+}
+
+/// Memory is taken before the text is looked at: where it is refused, nothing is said of the text.
+#[test]
+fn refused_memory(rt: HostRuntime) {
+    let refused = ImageFault {
+        line: 0,
+        cause: ImageCause::Memory,
+    };
+    let header = ImageFault {
+        line: 1,
+        cause: ImageCause::Header,
+    };
+    match parse(rt.alloc(), b"x") {
+        Ok(_) => assert!(rt; false, "accepted"),
+        Err(fault) => assert!(rt; fault == header || fault == refused, "{fault}"),
+    }
+    if let Err(fault) = parse(rt.alloc(), SENDER) {
+        assert_eq!(rt; fault, refused);
+    }
 }
 
 #[test]
@@ -186,7 +290,8 @@ fn shown(rt: HostRuntime) -> Result<(), Fail> {
 
 #[test]
 fn given_values(rt: HostRuntime) -> Result<(), Fail> {
-    let text = b"ga144 1\nnode 001\nrom 3e 0000AB 0000cd\nnode 717\nb 0001FF\nram 00 03ffff\na 03aBcD\np 0003ff\nend";
+    let text =
+        b"ga144 1\nnode 001\nrom 3e 0000AB 0000cd\nnode 717\nb 0001FF\nram 00 03ffff\na 03aBcD\np 0003ff\nend";
     let chip = parse(rt.alloc(), text)?;
     for (yxx, place, value) in [
         (1, Place::Rom(61), 0),
