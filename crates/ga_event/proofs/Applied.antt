@@ -37,6 +37,7 @@ own_applied chip node new kind saved l ready apart made =
     let n = node.number in
     let read : record_at (records_of chip) n ≡ record_of (node_at chip n) = record_at-records_of chip n in
     record {
+      of_kind = tt;
       done =
           ap (λ z. unless (refusal z) (after_own (records_of chip) n (own z))) read
           ∙ ap (λ z. unless z (after_own (records_of chip) n (own (record_of (node_at chip n))))) ready
@@ -68,6 +69,7 @@ pass_applied chip writer reader side x y word gave took lw lr other open_ told s
     let back_r : restored_at both r took.items ≡ with_node chip w x =
     restored_back (set chip w x) r y took.items lr2 (taking.undone ∙ sym (get_or-set_other chip w r x nowhere (λ e. other (sym e)))) in
     record {
+      of_kind = other;
       done =
           ap (λ z. unless (unmatched z) (after_pass (records_of chip) w r (record_at (records_of chip) w) (record_at (records_of chip) r))) open_
           ∙ ap (λ z. Some (after_pass (records_of chip) w r z (record_at (records_of chip) r))) read_w

@@ -27,6 +27,13 @@ unapplied chip (event.Pass writer reader side) (effect.Pass word sent took) =
 unapplied chip (event.Own node) (effect.Pass word sent took) = chip
 unapplied chip (event.Pass writer reader side) (effect.Own kind saved) = chip
 
+-- the effect is of the event's kind, and the nodes of a pass are two
+abbrev pub IsOfKind : Event → Effect → Type 0
+IsOfKind (event.Own node) (effect.Own kind saved) = Unit {0}
+IsOfKind (event.Pass writer reader side) (effect.Pass word sent took) = writer.number ≢ reader.number
+IsOfKind (event.Own node) (effect.Pass word sent took) = ⊥
+IsOfKind (event.Pass writer reader side) (effect.Own kind saved) = ⊥
+
 -- the old values of a node can be written back
 pub record CanRestore (node : NodeState) (saved : List (Place × ℕ)) : Type 0 where
   pub fit : AreFit saved
@@ -41,9 +48,10 @@ CanUnapply chip (event.Pass writer reader side) (effect.Pass word sent took) =
 CanUnapply chip (event.Own node) (effect.Pass word sent took) = ⊥
 CanUnapply chip (event.Pass writer reader side) (effect.Own kind saved) = ⊥
 
--- The event led from one chip to the other with this effect: the records are those of the definition, which tells what the
--- effect tells, and taking it back leads to the old chip as a whole.
+-- The event led from one chip to the other with this effect, which is of its kind: the records are those of the definition,
+-- which tells what the effect tells, and taking it back leads to the old chip as a whole.
 pub record IsApplied (old : List NodeState) (event : Event) (effect : Effect) (new : List NodeState) : Type 0 where
+  pub of_kind : IsOfKind event effect
   pub done : apply (records_of old) event ≡ Some (records_of new, told_of effect)
   pub undone : unapplied new event effect ≡ old
   pub ready : CanUnapply new event effect
