@@ -1,0 +1,5 @@
+pub mod KnownBytes
+pub mod SaidLemmas
+pub mod PartLemmas
+pub mod LineLemmas
+pub mod ImageLemmas

@@ -1,0 +1,5 @@
+pub mod Lines
+pub mod Input
+pub mod Output
+pub mod ReadLine
+pub mod Image
