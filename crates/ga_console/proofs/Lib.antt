@@ -3,3 +3,5 @@ pub mod SaidLemmas
 pub mod PartLemmas
 pub mod LineLemmas
 pub mod ImageLemmas
+pub mod JournalLemmas
+pub mod AnswerLemmas
