@@ -5,3 +5,4 @@ pub mod LineLemmas
 pub mod ImageLemmas
 pub mod JournalLemmas
 pub mod AnswerLemmas
+pub mod PushLemmas

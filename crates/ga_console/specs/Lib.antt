@@ -5,3 +5,6 @@ pub mod ReadLine
 pub mod Image
 pub mod Machine
 pub mod Journal
+pub mod Texts
+pub mod Commands
+pub mod Replies
