@@ -6,3 +6,5 @@ pub mod ImageLemmas
 pub mod JournalLemmas
 pub mod AnswerLemmas
 pub mod PushLemmas
+pub mod TextLemmas
+pub mod Heard

@@ -46,3 +46,15 @@ said_same contents before said pending other e h = record {
 pub said_or_cut : (good : Bool) (contents : Option (List ℕ)) (before said pending : List ℕ) → IsSaid contents before said pending → IsSaidOrCut good contents before said pending
 said_or_cut true contents before said pending h = h
 said_or_cut false contents before said pending h = said_cut contents before said pending h
+
+pub said_assoc : (contents : Option (List ℕ)) (before said text more pending : List ℕ) → IsSaid contents before ((said ++ text) ++ more) pending
+    → IsSaid contents before (said ++ (text ++ more)) pending
+said_assoc contents before said text more pending h = record { sent = h.sent; held = h.held; splits = sym (append_assoc said text more) ∙ h.splits }
+
+pub cut_assoc : (contents : Option (List ℕ)) (before said text more : List ℕ) → IsCut contents before ((said ++ text) ++ more)
+    → IsCut contents before (said ++ (text ++ more))
+cut_assoc contents before said text more h = record { sent = h.sent; held = h.held; front = (h.front.0, sym (append_assoc said text more) ∙ h.front.1) }
+
+-- nothing more was said
+pub said_pending : (contents : Option (List ℕ)) (before said pending : List ℕ) → IsSaid contents before said pending → IsSaid contents before (said ++ []) pending
+said_pending contents before said pending h = record { sent = h.sent; held = h.held; splits = append-nil said ∙ h.splits }

@@ -8,3 +8,5 @@ pub mod Journal
 pub mod Texts
 pub mod Commands
 pub mod Replies
+pub mod Session
+pub mod Run

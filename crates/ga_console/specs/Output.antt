@@ -1,5 +1,9 @@
 -- What was said and is written in part.
-use Rattle.std.specs.Prelude.{◌≡◌, ℕ, Bool, true, false, List, [], ◌++◌, Option, Some}
+use Rattle.std.specs.Prelude.{◌≡◌, ℕ, Bool, true, false, List, [], ◌++◌, Option, Some, codes}
+
+-- the first that is said after an accepted image
+abbrev pub ready : List ℕ
+ready = codes "ready\n"
 
 -- front is a front of text
 abbrev pub Begins : List ℕ → List ℕ → Type 0

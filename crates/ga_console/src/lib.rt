@@ -3,13 +3,17 @@
 
 mod reply;
 mod command;
+mod commands;
 mod event;
+mod fault_text;
 mod image;
 mod input;
 mod lines;
 mod machine;
 mod node_text;
 mod output;
+
+mod run;
 mod text;
 
 pub use reply::{Turn, answer};
@@ -21,4 +25,6 @@ pub use lines::{Line, LineEnd, read_line};
 pub use machine::{Machine, Made, StepFault};
 pub use node_text::put_node;
 pub use output::Output;
+pub use commands::{Ending, serve};
 pub use text::Text;
+pub use run::{Status, session};

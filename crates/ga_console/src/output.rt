@@ -1,7 +1,7 @@
 //! The output, gathered before it is written.
 ghost use Rattle.std.specs.Prelude.{◌≡◌, ◌++◌, ◌+◌, ◌≤◌, length, ℕ, List, []};
 ghost use Rattle.std.specs.Bool.{OnTrue};
-ghost use Rattle.ga_console.specs.Output.{IsSaid, IsSaidOrCut};
+ghost use Rattle.ga_console.specs.Output.{IsSaid, IsSaidOrCut, ready};
 
 use arrayvec::ArrayVec;
 use std::io::Write;
@@ -24,12 +24,13 @@ impl Model for Output {
 }
 
 impl Output {
-    pub fn new() -> Self
-        ensures { result ≡ [] }
+    /// An output that begins with `ready`.
+    pub fn ready() -> Self
+        ensures { result ≡ ready }
     {
-        Output {
-            pending: ArrayVec::new(),
-        }
+        let mut pending = ArrayVec::new();
+        let _fits = pending.try_extend_from_slice(b"ready\n");
+        Output { pending }
     }
 
     /// Says a text. What is pending is written first, where there is no room for both.
