@@ -8,3 +8,4 @@ pub mod AnswerLemmas
 pub mod PushLemmas
 pub mod TextLemmas
 pub mod Heard
+pub mod RunLemmas

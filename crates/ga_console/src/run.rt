@@ -94,13 +94,14 @@ fn after_all<W: Write>(alloc: Global, writer: &mut W, image: Vec<u8>, limit: u32
     ensures { (before : List ℕ) → W.contents writer.old ≡ Some before →
         (text : List ℕ) × (W.contents writer.new ≡ Some (before ++ text)) × AfterAll limit image.items text result }
 {
-    match open(alloc, image, limit) {
-        Ok(_) => {
+    let fault = match open(alloc, image, limit) {
+        Err(fault) => fault,
+        Ok(_machine) => {
             let _written = write_all(writer, b"ready\nno 33 input\n");
-            Status::StreamFault
+            return Status::StreamFault;
         }
-        Err(fault) => refuse(writer, fault),
-    }
+    };
+    refuse(writer, fault)
 }
 
 /// The machine that an image describes, or the image's first fault.
