@@ -10,3 +10,4 @@ pub mod Commands
 pub mod Replies
 pub mod Session
 pub mod Run
+pub mod Settings

@@ -1,7 +1,7 @@
-//! The console: an image, then commands, each answered by text.
+//! A debugger's session, from the bytes that are read to the bytes that are written: an image, then commands, each
+//! answered by the machine that replays the kept events; and the command line of the program.
 #![tactic(auto)]
 
-mod reply;
 mod command;
 mod commands;
 mod event;
@@ -12,19 +12,10 @@ mod lines;
 mod machine;
 mod node_text;
 mod output;
-
+mod reply;
 mod run;
+mod settings;
 mod text;
 
-pub use reply::{Turn, answer};
-pub use command::{Command, command_of};
-pub use event::{put_event, put_removed, refusal};
-pub use image::{ImageEnd, read_image};
-pub use input::{Fill, Input};
-pub use lines::{Line, LineEnd, read_line};
-pub use machine::{Machine, Made, StepFault};
-pub use node_text::put_node;
-pub use output::Output;
-pub use commands::{Ending, serve};
-pub use text::Text;
 pub use run::{Status, session};
+pub use settings::{LineFault, Settings, arguments};
