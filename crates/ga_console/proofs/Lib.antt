@@ -1,0 +1,11 @@
+pub mod KnownBytes
+pub mod SaidLemmas
+pub mod PartLemmas
+pub mod LineLemmas
+pub mod ImageLemmas
+pub mod JournalLemmas
+pub mod AnswerLemmas
+pub mod PushLemmas
+pub mod TextLemmas
+pub mod Heard
+pub mod RunLemmas

@@ -1,0 +1,13 @@
+pub mod Lines
+pub mod Input
+pub mod Output
+pub mod ReadLine
+pub mod Image
+pub mod Machine
+pub mod Journal
+pub mod Texts
+pub mod Commands
+pub mod Replies
+pub mod Session
+pub mod Run
+pub mod Settings

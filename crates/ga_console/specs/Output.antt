@@ -1,0 +1,27 @@
+-- What was said and is written in part.
+use Rattle.std.specs.Prelude.{◌≡◌, ℕ, Bool, true, false, List, [], ◌++◌, Option, Some, codes}
+
+-- the first that is said after an accepted image
+abbrev pub ready : List ℕ
+ready = codes "ready\n"
+
+-- front is a front of text
+abbrev pub Begins : List ℕ → List ℕ → Type 0
+Begins text front = (more : List ℕ) × (text ≡ front ++ more)
+
+-- Behind what the writer held before, it holds a front of what was said, and the rest is pending.
+pub record IsSaid (contents : Option (List ℕ)) (before said pending : List ℕ) : Type 0 where
+  pub sent : List ℕ
+  pub held : contents ≡ Some (before ++ sent)
+  pub splits : said ≡ sent ++ pending
+
+-- Behind what the writer held before, it holds a front of what was said, and nothing more is written.
+pub record IsCut (contents : Option (List ℕ)) (before said : List ℕ) : Type 0 where
+  pub sent : List ℕ
+  pub held : contents ≡ Some (before ++ sent)
+  pub front : Begins said sent
+
+-- by whether the writes succeeded
+abbrev pub IsSaidOrCut : Bool → Option (List ℕ) → List ℕ → List ℕ → List ℕ → Type 0
+IsSaidOrCut true contents before said pending = IsSaid contents before said pending
+IsSaidOrCut false contents before said pending = IsCut contents before said

@@ -1,0 +1,12 @@
+-- The ranges of the settings.
+use Rattle.std.specs.Prelude.{ℕ, ◌≤◌}
+use Rattle.ga_console.specs.declared.settings.Settings.{Settings}
+use Rattle.ga_console.specs.declared.settings.Settings.TheVariants.{Debug, Race}
+
+abbrev pub Within : ℕ → ℕ → ℕ → Type 0
+Within least greatest n = (least ≤ n) × (n ≤ greatest)
+
+-- each number is in its range
+abbrev pub AreInRange : Settings → Type 0
+AreInRange (Debug limit) = Within 1 4000000 limit
+AreInRange (Race workers calls limit) = Within 1 16 workers × Within 1 100000 calls × Within 1 4000000 limit

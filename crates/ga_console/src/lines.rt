@@ -1,0 +1,70 @@
+//! Lines of the input.
+ghost use Rattle.std.specs.Prelude.{◌≡◌, ◌+◌, ◌≤◌, ◌<◌, ◌++◌, ℕ, List, Some, length, take};
+ghost use Rattle.ga_console.specs.Input.{IsWithin};
+ghost use Rattle.ga_console.specs.Output.{IsSaid};
+ghost use Rattle.ga_console.specs.ReadLine.{ReadsLine, KeepsSaid};
+
+use arrayvec::ArrayVec;
+use std::io::{Read, Write};
+
+use super::input::{Fill, Input};
+use super::output::Output;
+
+/// A line, or the first 201 bytes of one that is too long.
+pub type Line = ArrayVec<u8, 201>;
+
+/// How a line ended.
+#[derive(Clone, Copy, PartialEq, Eq)]
+pub enum LineEnd {
+    /// By a line feed.
+    Feed,
+    /// The input ended. The line may be empty: then there is none.
+    Last,
+    /// The line goes past the bound of the input.
+    Past,
+    /// A read failed within the line.
+    ReadFailed,
+    /// What was said before could not be written.
+    WriteFailed,
+}
+
+/// Reads the next line, without its line feed. What is pending is written before each read of more.
+pub fn read_line<R: Read, W: Write>(
+    input: &mut Input,
+    reader: &mut R,
+    output: &mut Output,
+    writer: &mut W,
+    line: &mut Line,
+) -> LineEnd
+    requires { IsWithin input.old }
+    ensures reads { (left : List ℕ) → R.remaining reader.old ≡ Some left →
+        (rest : List ℕ) × (R.remaining reader.new ≡ Some rest) × ReadsLine input.old left line.new.items input.new rest result }
+    ensures said { (before said : List ℕ) → IsSaid (W.contents writer.old) before said output.old →
+        KeepsSaid result (W.contents writer.new) before said output.new }
+    ensures within { IsWithin input.new }
+    ensures goes_on { result ≡ LineEnd.Feed → input.old.taken < input.new.taken }
+{
+    line.clear();
+    'parts: loop {
+        if input.take_line(line) {
+            return LineEnd::Feed;
+        }
+        if !output.send(writer) {
+            return LineEnd::WriteFailed;
+        }
+        match input.fill(reader) {
+            Fill::More => {}
+            Fill::End => return LineEnd::Last,
+            Fill::Past => return LineEnd::Past,
+            Fill::Failed => return LineEnd::ReadFailed,
+        }
+    }
+}
+
+/// Adds bytes to a line, as far as there is room.
+pub fn keep(line: &mut Line, bytes: &[u8])
+    ensures { line.new.items ≡ take 201 (line.old.items ++ bytes.now) }
+{
+    let count = line.remaining_capacity().min(bytes.len());
+    let _fits = line.try_extend_from_slice(&bytes[..count]);
+}
