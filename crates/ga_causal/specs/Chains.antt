@@ -1,5 +1,5 @@
 -- Chains of direct dependence.
-use Rattle.std.specs.Prelude.{ℕ, ◌≡◌, ◌<◌, ◌≤◌, ◌≢◌, List, [], ◌∷◌, ◌++◌, length}
+use Rattle.std.specs.Prelude.{ℕ, ◌≡◌, ◌<◌, ◌≤◌, ◌≢◌, List, [], ◌∷◌, ◌++◌, length, Option, MatchOption}
 use Rattle.ga_event.specs.declared.event.Event.{Event}
 use Rattle.ga_causal.specs.declared.chain.Link.{Link}
 use Rattle.ga_causal.specs.Dependence.{rule_between, IsDirect, DependsOn}
@@ -28,3 +28,7 @@ pub record IsOldest (events : List Event) (cause place before : ℕ) : Type 0 wh
 pub data IsChainTo (events : List Event) (cause : ℕ) : ℕ → List Link → Type 0 where
   alone : IsChainTo events cause cause (record { place = cause; rule = 0 } ∷ [])
   longer : {place before : ℕ} {links : List Link} → place ≢ cause → IsOldest events cause place before → IsChainTo events cause before links → IsChainTo events cause place (links ++ record { place = place; rule = rule_between events before place } ∷ [])
+
+-- a chain is answered exactly where the place depends on the cause, and it is the one from there
+abbrev pub IsFound : List Event → ℕ → ℕ → Option (List Link) → Type 0
+IsFound events cause place answer = MatchOption answer (¬ DependsOn events cause place) (IsChainTo events cause place)

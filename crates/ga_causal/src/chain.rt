@@ -1,9 +1,9 @@
 //! Chains of direct dependence.
 
-ghost use Rattle.std.specs.Prelude.{◌≡◌, ◌≢◌, ◌↔◌, ◌<◌, ◌≤◌, true, false, length, slice_get, slice_index_or, IfOk, IsTrue, MatchOption, [], ◌∷◌};
-ghost use Rattle.ga_causal.specs.Dependence.{dependents, DependsOn};
+ghost use Rattle.std.specs.Prelude.{◌≡◌, ◌≢◌, ◌↔◌, ◌<◌, ◌≤◌, true, false, length, slice_get, slice_index_or, IfOk, IsTrue, [], ◌∷◌};
+ghost use Rattle.ga_causal.specs.Dependence.{dependents};
 ghost use Rattle.ga_causal.specs.Firsts.{first_at, IsFirsts};
-ghost use Rattle.ga_causal.specs.Chains.{IsChain, IsChainTo, IsNext};
+ghost use Rattle.ga_causal.specs.Chains.{IsChain, IsChainTo, IsFound, IsNext};
 
 use crate::firsts::Firsts;
 use crate::rule::rule;
@@ -115,7 +115,7 @@ fn chain_between(
 ) -> Result<Option<Chain>, Memory>
     requires order { from < to }
     requires within { to < length events.now }
-    ensures { IfOk result (λ chain. MatchOption chain (¬ DependsOn events.now from to) (IsChainTo events.now from to)) }
+    ensures { IfOk result (IsFound events.now from to) }
 {
     let firsts = Firsts::of(events, from, to);
     if firsts.oldest(&events[to as usize]) == to {
@@ -145,7 +145,7 @@ pub fn find_chain(
 ) -> Result<Option<Chain>, Memory>
     requires from { from < length events.now }
     requires to { to < length events.now }
-    ensures { IfOk result (λ chain. MatchOption chain (¬ DependsOn events.now from to) (IsChainTo events.now from to)) }
+    ensures { IfOk result (IsFound events.now from to) }
 {
     if to < from {
         return Ok(None);

@@ -69,7 +69,8 @@ impl Firsts {
     }
 
     fn note(&mut self, event: &Event, place: u32)
-        ensures places { (n : ℕ) → first_at self.new n ≡ (if touches event.now n then min (first_at self.old n) place else first_at self.old n) }
+        ensures places { (n : ℕ) → first_at self.new n
+            ≡ (if touches event.now n then min (first_at self.old n) place else first_at self.old n) }
         ensures none { self.new.none ≡ self.old.none }
     {
         match *event {
@@ -83,7 +84,8 @@ impl Firsts {
 
     fn note_at(&mut self, node: usize, place: u32)
         requires { node < 144 }
-        ensures places { (n : ℕ) → first_at self.new n ≡ (if node == n then min (first_at self.old n) place else first_at self.old n) }
+        ensures places { (n : ℕ) → first_at self.new n
+            ≡ (if node == n then min (first_at self.old n) place else first_at self.old n) }
         ensures none { self.new.none ≡ self.old.none }
     {
         self.places[node] = self.places[node].min(place);

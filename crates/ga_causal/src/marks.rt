@@ -78,7 +78,8 @@ impl Marks {
 pub fn closure(alloc: Global, events: &[Event], place: u32) -> Result<Vec<bool>, Memory>
     requires { place < length events.now }
     ensures flags { IfOk result (λ flags. flags.items ≡ dependents events.now place) }
-    ensures exact { IfOk result (λ flags. (j : ℕ) → j < length events.now → (IsTrue (slice_index_or flags.items j false) ↔ DependsOn events.now place j)) }
+    ensures exact { IfOk result (λ flags.
+        (j : ℕ) → j < length events.now → (IsTrue (slice_index_or flags.items j false) ↔ DependsOn events.now place j)) }
 {
     let start = place as usize;
     let mut flags = Vec::with_capacity(alloc, events.len())?;

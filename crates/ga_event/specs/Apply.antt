@@ -1,5 +1,5 @@
 -- What an event does to a chip, and what the events of a list do one after another.
-use Rattle.std.specs.Prelude.{ℕ, ◌==◌, Bool, true, false, ◌&&◌, List, [], ◌∷◌, Option, Some, None, option_map, option_and_then, slice_set}
+use Rattle.std.specs.Prelude.{ℕ, ◌==◌, Bool, true, false, ◌&&◌, List, [], ◌∷◌, Option, Some, None, option_map, option_and_then, slice_set, Result, MatchResult, ◌≡◌}
 use Rattle.ga_ports.specs.declared.side.Side.{Side}
 use Rattle.ga_ports.specs.Address.{has_side, is_side}
 use Rattle.ga_node.specs.Record.{NodeRecord}
@@ -59,6 +59,10 @@ after_own chip n done = (slice_set chip n done.1, Did done.0)
 -- the chip after a pass between nodes that held this
 abbrev pub after_pass : List NodeRecord → ℕ → ℕ → NodeRecord → NodeRecord → List NodeRecord × Told
 after_pass chip writer reader from to = (slice_set (slice_set chip writer (sent from)) reader (taken (t from) to), Carried (t from))
+
+-- a call is refused with this reason, or there is none
+abbrev pub IsRefusedBy : {T : Type 0} → Result T NotReady → Option NotReady → Type 0
+IsRefusedBy answer why = MatchResult answer (λ done. why ≡ None) (λ reason. why ≡ Some reason)
 
 -- what the event does where it can be
 abbrev pub after : List NodeRecord → Event → List NodeRecord × Told

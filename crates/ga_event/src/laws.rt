@@ -1,6 +1,6 @@
 //! Laws of the definitions, each the contract of a function that does nothing.
 
-ghost use Rattle.std.specs.Prelude.{◌≡◌, ◌<◌, ℕ, Bool, true, false, if◌then◌else◌, List, length, IfSome};
+ghost use Rattle.std.specs.Prelude.{◌≡◌, ℕ, Bool, false, if◌then◌else◌, List, IfSome};
 ghost use Rattle.ga_node.specs.State.{NodeState};
 ghost use Rattle.ga_node.specs.Record.{NodeRecord};
 ghost use Rattle.ga_grid.specs.Chip.{node_at};
@@ -13,19 +13,28 @@ ghost use Rattle.ga_event.specs.Agree.{Agree, Alike};
 
 /// An event changes the nodes that it touches alone.
 pub fn changes_touched_alone()
-    ensures { (chip : List NodeRecord) (event : Event) → IfSome (apply chip event) (λ done. Agree (touches event) chip done.0) }
+    ensures { (chip : List NodeRecord) (event : Event) →
+        IfSome (apply chip event) (λ done. Agree (touches event) chip done.0) }
 {}
 
 /// Whether an event can be, what is told of it and what it does depends on the nodes that it sees alone: on chips that agree
 /// there it is refused alike, or tells the same and leaves chips that agree as much as before.
 pub fn depends_on_seen_alone()
-    ensures refused { (marks : ℕ → Bool) (chip other : List NodeRecord) (event : Event) → Agree marks chip other → meets marks event ≡ false → refusal_of chip event ≡ refusal_of other event }
-    ensures alike { (marks : ℕ → Bool) (chip other : List NodeRecord) (event : Event) → Agree marks chip other → meets marks event ≡ false → Alike marks (apply chip event) (apply other event) }
+    ensures refused { (marks : ℕ → Bool) (chip other : List NodeRecord) (event : Event) →
+        Agree marks chip other → meets marks event ≡ false →
+        refusal_of chip event ≡ refusal_of other event }
+    ensures alike { (marks : ℕ → Bool) (chip other : List NodeRecord) (event : Event) →
+        Agree marks chip other → meets marks event ≡ false →
+        Alike marks (apply chip event) (apply other event) }
 {}
 
 /// An event can be taken back also where nodes that it doesn't touch have changed since: the touched nodes are what they were
 /// before it, and the others stay.
 pub fn taken_back()
-    ensures ready { (old new chip : List NodeState) (event : Event) (effect : Effect) → IsApplied old event effect new → IsLeft event new chip → CanUnapply chip event effect }
-    ensures nodes { (old new chip : List NodeState) (event : Event) (effect : Effect) → IsApplied old event effect new → IsLeft event new chip → (n : ℕ) → node_at (unapplied chip event effect) n ≡ (if touches event n then node_at old n else node_at chip n) }
+    ensures ready { (old new chip : List NodeState) (event : Event) (effect : Effect) →
+        IsApplied old event effect new → IsLeft event new chip →
+        CanUnapply chip event effect }
+    ensures nodes { (old new chip : List NodeState) (event : Event) (effect : Effect) →
+        IsApplied old event effect new → IsLeft event new chip →
+        (n : ℕ) → node_at (unapplied chip event effect) n ≡ (if touches event n then node_at old n else node_at chip n) }
 {}
