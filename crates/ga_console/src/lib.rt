@@ -19,3 +19,6 @@ mod text;
 
 pub use run::{Status, session};
 pub use settings::{LineFault, Settings, arguments};
+
+#[cfg(test)]
+mod tests;

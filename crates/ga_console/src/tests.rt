@@ -1,0 +1,3 @@
+mod runs;
+mod settings;
+mod streams;

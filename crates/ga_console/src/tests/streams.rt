@@ -1,0 +1,205 @@
+//! Streams that hand out little, fail, or go on past the bound.
+
+use std::io::{Error, ErrorKind, Read, Result, Write};
+use std::test::Fail;
+
+use crate::{Status, session};
+
+const INPUT: &[u8] = b"ga144 1\nnode 000\np 000000\nram 00 004df2 000003\nend\nstep 000\nback\nback\nstep 000";
+const OUTPUT: &[u8] = b"ready\n000 1 fetch\nremoved 1 kept 0\nno 5 empty\n000 1 fetch\n";
+
+/// Hands out up to so many bytes at a call, and fails at one call.
+#[derive(Drop)]
+struct Dripping {
+    left: &'static [u8],
+    most: usize,
+    calls: u32,
+    fails_at: u32,
+}
+
+impl Dripping {
+    fn new(text: &'static [u8], most: usize, fails_at: u32) -> Self {
+        Dripping {
+            left: text,
+            most,
+            calls: 0,
+            fails_at,
+        }
+    }
+}
+
+impl Read for Dripping {
+    fn read(&mut self, buf: &mut [u8]) -> Result<usize> {
+        self.calls = self.calls.saturating_add(1);
+        if self.calls == self.fails_at {
+            return Err(Error::from(ErrorKind::Interrupted));
+        }
+        let count = self.most.min(buf.len()).min(self.left.len());
+        let (front, rest) = self.left.split_at(count);
+        buf[..count].copy_from_slice(front);
+        self.left = rest;
+        Ok(count)
+    }
+}
+
+/// Takes up to so many bytes at a call, and fails at one call: by an error, or by taking nothing.
+#[derive(Drop)]
+struct Narrow {
+    taken: Vec<u8>,
+    most: usize,
+    calls: u32,
+    fails_at: u32,
+    empty: bool,
+}
+
+impl Write for Narrow {
+    fn write(&mut self, buf: &[u8]) -> Result<usize> {
+        self.calls = self.calls.saturating_add(1);
+        if self.calls == self.fails_at {
+            if self.empty {
+                return Ok(0);
+            }
+            return Err(Error::from(ErrorKind::Interrupted));
+        }
+        let count = self.most.min(buf.len());
+        if self.taken.extend_from_slice(&buf[..count]).is_err() {
+            return Err(Error::from(ErrorKind::OutOfMemory));
+        }
+        Ok(count)
+    }
+
+    fn flush(&mut self) -> Result<()> {
+        self.calls = self.calls.saturating_add(1);
+        if self.calls == self.fails_at {
+            return Err(Error::from(ErrorKind::Other));
+        }
+        Ok(())
+    }
+}
+
+#[test]
+fn one_byte_at_a_time(rt: HostRuntime) -> std::result::Result<(), Fail> {
+    for most in [1, 2, 7, 64] {
+        let mut reader = Dripping::new(INPUT, most, 0);
+        let mut output = Vec::new(rt.alloc());
+        let status = session(rt.alloc(), &mut reader, &mut output, 9);
+        assert_eq!(rt; status, Status::Done);
+        assert_eq!(rt; output.as_slice(), OUTPUT, "{most} bytes at a time");
+    }
+    Ok(())
+}
+
+#[test]
+fn a_read_fails(rt: HostRuntime) -> std::result::Result<(), Fail> {
+    let mut whole = Dripping::new(INPUT, 1, 0);
+    let mut output = Vec::new(rt.alloc());
+    let _status = session(rt.alloc(), &mut whole, &mut output, 9);
+    for before in 0..whole.calls {
+        let k = before + 1;
+        let mut reader = Dripping::new(INPUT, 1, k);
+        let mut output = Vec::new(rt.alloc());
+        let status = session(rt.alloc(), &mut reader, &mut output, 9);
+        assert_eq!(rt; status, Status::StreamFault, "call {k}");
+        assert_eq!(rt; reader.calls, k);
+        // What was answered to the lines read whole before, and no more.
+        let answered = if before < 51 {
+            0
+        } else if before < 60 {
+            6
+        } else if before < 65 {
+            18
+        } else if before < 70 {
+            35
+        } else {
+            46
+        };
+        assert!(rt; answered <= OUTPUT.len());
+        assert_eq!(rt; output.as_slice(), &OUTPUT[..answered], "call {k}");
+    }
+    Ok(())
+}
+
+#[test]
+fn a_write_fails(rt: HostRuntime) -> std::result::Result<(), Fail> {
+    let mut reader = Dripping::new(INPUT, 1, 0);
+    let mut whole = failing_writer(rt.alloc(), 0, false);
+    let _status = session(rt.alloc(), &mut reader, &mut whole, 9);
+    assert_eq!(rt; whole.taken.as_slice(), OUTPUT);
+    for before in 0..whole.calls {
+        let k = before + 1;
+        for empty in [false, true] {
+            let mut reader = Dripping::new(INPUT, 1, 0);
+            let mut writer = failing_writer(rt.alloc(), k, empty);
+            let status = session(rt.alloc(), &mut reader, &mut writer, 9);
+            assert_eq!(rt; status, Status::StreamFault, "call {k}");
+            assert_eq!(rt; writer.calls, k, "no call behind the failed one");
+            assert!(rt; OUTPUT.starts_with(writer.taken.as_slice()), "call {k}");
+        }
+    }
+    Ok(())
+}
+
+fn failing_writer(alloc: std::alloc::Global, fails_at: u32, empty: bool) -> Narrow {
+    Narrow {
+        taken: Vec::new(alloc),
+        most: 5,
+        calls: 0,
+        fails_at,
+        empty,
+    }
+}
+
+/// The empty image, then a line of so many bytes with its line feed.
+#[derive(Drop)]
+struct LongLine {
+    image: &'static [u8],
+    left: usize,
+    fed: bool,
+}
+
+impl Read for LongLine {
+    fn read(&mut self, buf: &mut [u8]) -> Result<usize> {
+        if buf.is_empty() {
+            return Ok(0);
+        }
+        if let Some((first, rest)) = self.image.split_first() {
+            buf[0] = *first;
+            self.image = rest;
+            return Ok(1);
+        }
+        if self.left == 0 {
+            if self.fed {
+                return Ok(0);
+            }
+            self.fed = true;
+            buf[0] = b'\n';
+            return Ok(1);
+        }
+        let count = self.left.min(buf.len());
+        for slot in &mut buf[..count] {
+            *slot = b'x';
+        }
+        self.left -= count;
+        Ok(count)
+    }
+}
+
+#[test]
+fn the_bound_of_an_input(rt: HostRuntime) -> std::result::Result<(), Fail> {
+    let runs: [(usize, Status, &[u8]); 2] = [
+        (16_777_203, Status::Done, b"ready\nno 32 long\n"),
+        (16_777_204, Status::StreamFault, b"ready\nno 33 input\n"),
+    ];
+    for (left, wanted, text) in runs {
+        let mut reader = LongLine {
+            image: b"ga144 1\nend\n",
+            left,
+            fed: false,
+        };
+        let mut output = Vec::new(rt.alloc());
+        let status = session(rt.alloc(), &mut reader, &mut output, 9);
+        assert_eq!(rt; status, wanted);
+        assert_eq!(rt; output.as_slice(), text);
+    }
+    Ok(())
+}
