@@ -1,5 +1,6 @@
 //! Streams that hand out little, fail, or go on past the bound.
 
+use arrayvec::ArrayVec;
 use std::io::{Error, ErrorKind, Read, Result, Write};
 use std::test::Fail;
 
@@ -202,4 +203,64 @@ fn the_bound_of_an_input(rt: HostRuntime) -> std::result::Result<(), Fail> {
         assert_eq!(rt; output.as_slice(), text);
     }
     Ok(())
+}
+
+/// Keeps what is written, without memory of its own.
+#[derive(Drop)]
+struct Kept {
+    text: ArrayVec<u8, 512>,
+}
+
+impl Write for Kept {
+    fn write(&mut self, buf: &[u8]) -> Result<usize> {
+        if self.text.try_extend_from_slice(buf).is_err() {
+            return Ok(0);
+        }
+        Ok(buf.len())
+    }
+
+    fn flush(&mut self) -> Result<()> {
+        Ok(())
+    }
+}
+
+const STEPS: &[u8] = b"ga144 1\nnode 000\np 000000\nram 00 010000\nend\nstep 000\nstep 000\nstep 000\nstep 000\nstep 000\nstep 000\n";
+
+static EVENTS: [&[u8]; 6] = [
+    b"000 1 fetch\n",
+    b"000 2 run 02\n",
+    b"000 3 fetch\n",
+    b"000 4 run 02\n",
+    b"000 5 fetch\n",
+    b"000 6 run 02\n",
+];
+
+/// To be run with each allocation refused in turn: then the image is refused, or one step, and nothing else changes.
+#[test]
+fn refused_memory(rt: HostRuntime) {
+    let mut reader = STEPS;
+    let mut writer = Kept {
+        text: ArrayVec::new(),
+    };
+    let status = session(rt.alloc(), &mut reader, &mut writer, 9);
+    let text = writer.text.as_slice();
+    if status == Status::ImageRefused {
+        assert_eq!(rt; text, b"no 19 memory line 0\n".as_slice());
+        return;
+    }
+    assert_eq!(rt; status, Status::Done);
+    let mut rest = text.strip_prefix(b"ready\n").unwrap_or(text);
+    let mut refused = false;
+    for event in &EVENTS {
+        if let Some(after) = rest.strip_prefix(b"no 4 memory\n") {
+            assert!(rt; !refused, "one allocation was refused");
+            refused = true;
+            rest = after;
+        }
+        match rest.strip_prefix(*event) {
+            Some(after) => rest = after,
+            None => assert!(rt; refused && rest.is_empty(), "the next event"),
+        }
+    }
+    assert!(rt; rest.is_empty());
 }
