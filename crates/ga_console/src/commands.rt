@@ -4,14 +4,13 @@ ghost use Rattle.ga_console.specs.Input.{IsWithin, input_limit};
 ghost use Rattle.ga_console.specs.Output.{IsSaid};
 ghost use Rattle.ga_console.specs.Session.{Serves, IsSaidAt, Written};
 
-use std::io::{Read, Write};
-
 use super::input::Input;
 use super::lines::{Line, LineEnd, read_line};
 use super::machine::Machine;
 use super::output::Output;
 use super::reply::{Turn, answer};
 use super::text::{Text, push_text};
+use std::io::{Read, Write};
 
 /// How the command part ended.
 #[derive(Clone, Copy, PartialEq, Eq)]

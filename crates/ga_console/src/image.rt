@@ -4,10 +4,9 @@ ghost use Rattle.ga_console.specs.Input.{IsWithin};
 ghost use Rattle.ga_console.specs.Lines.{ended};
 ghost use Rattle.ga_console.specs.Image.{ReadsImage, end_line};
 
+use super::input::{Fill, Input};
 use std::alloc::AllocError;
 use std::io::Read;
-
-use super::input::{Fill, Input};
 
 /// Where the reading of an image stopped.
 #[derive(Clone, Copy, PartialEq, Eq)]

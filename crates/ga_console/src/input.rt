@@ -4,11 +4,10 @@ ghost use Rattle.ga_console.specs.Input.{Unread, IsWithin, Fills, HasFilled, Tak
 ghost use Rattle.ga_console.specs.Lines.{HasNoFeed};
 ghost use Rattle.ga_console.specs.Image.{with_feed};
 
+use super::lines::{Line, keep};
 use std::alloc::AllocError;
 use std::io::Read;
 use std::marker::Model;
-
-use super::lines::{Line, keep};
 
 /// How many bytes are read at once, at most.
 const BLOCK: usize = 65536;

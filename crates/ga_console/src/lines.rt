@@ -4,11 +4,10 @@ ghost use Rattle.ga_console.specs.Input.{IsWithin};
 ghost use Rattle.ga_console.specs.Output.{IsSaid};
 ghost use Rattle.ga_console.specs.ReadLine.{ReadsLine, KeepsSaid};
 
-use arrayvec::ArrayVec;
-use std::io::{Read, Write};
-
 use super::input::{Fill, Input};
 use super::output::Output;
+use arrayvec::ArrayVec;
+use std::io::{Read, Write};
 
 /// A line, or the first 201 bytes of one that is too long.
 pub type Line = ArrayVec<u8, 201>;

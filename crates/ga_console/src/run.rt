@@ -4,13 +4,6 @@ ghost use Rattle.ga_console.specs.Input.{IsWithin};
 ghost use Rattle.ga_console.specs.Output.{IsSaid};
 ghost use Rattle.ga_console.specs.Run.{Runs, AfterImage, AfterAll, Refuses, Opens, IsFault, status_of as status_that};
 
-use ga_grid::NodeId;
-use ga_image::{ImageCause, ImageFault, parse};
-use ga_node::Node;
-use std::alloc::Global;
-use std::io::{Read, Write};
-use std::mem;
-
 use super::commands::{Ending, serve};
 use super::fault_text::put_fault;
 use super::image::{ImageEnd, read_image};
@@ -18,6 +11,12 @@ use super::input::Input;
 use super::machine::Machine;
 use super::output::{Output, write_all};
 use super::text::Text;
+use ga_grid::NodeId;
+use ga_image::{ImageCause, ImageFault, parse};
+use ga_node::Node;
+use std::alloc::Global;
+use std::io::{Read, Write};
+use std::mem;
 
 /// The number of the node that is served.
 const SERVED: u8 = 0;
