@@ -44,7 +44,9 @@ pub fn session<R: Read, W: Write>(
     writer: &mut W,
     limit: u32,
 ) -> Status
-    ensures { (left before : List ℕ) → R.remaining reader.old ≡ Some left → W.contents writer.old ≡ Some before →
+    // Where the streams tell their bytes: what was read, and what was written for it by the status.
+    ensures { (left before : List ℕ) →
+        R.remaining reader.old ≡ Some left → W.contents writer.old ≡ Some before →
         (read rest text : List ℕ) × (left ≡ read ++ rest) × (R.remaining reader.new ≡ Some rest)
         × (W.contents writer.new ≡ Some (before ++ text)) × Runs limit read rest text result }
 {
@@ -75,9 +77,12 @@ fn after_image<R: Read, W: Write>(
     limit: u32,
 ) -> Status
     requires { IsWithin input.old }
-    ensures { (left before : List ℕ) → R.remaining reader.old ≡ Some left → W.contents writer.old ≡ Some before →
-        (read rest text : List ℕ) × (input.old.bytes ++ left ≡ read ++ rest) × (R.remaining reader.new ≡ Some rest)
-        × (W.contents writer.new ≡ Some (before ++ text)) × AfterImage limit image.items input.old.taken read rest text result }
+    ensures { (left before : List ℕ) →
+        R.remaining reader.old ≡ Some left → W.contents writer.old ≡ Some before →
+        (read rest text : List ℕ)
+        × (input.old.bytes ++ left ≡ read ++ rest) × (R.remaining reader.new ≡ Some rest)
+        × (W.contents writer.new ≡ Some (before ++ text))
+        × AfterImage limit image.items input.old.taken read rest text result }
 {
     match open(alloc, image, limit) {
         Ok(mut machine) => {
