@@ -1,19 +1,19 @@
 -- The lines that were heard so far, and what follows where the session ends.
-use Rattle.std.proofs.Common.{◌≡◌, ◌≢◌, ℕ, ◌+◌, ◌-◌, ◌<◌, ◌≤◌, ◌⊎◌, Bool, true, false, cond, zero, suc, List, [], ◌∷◌, ◌++◌, length, length-take, take, flat_map, refl, sym, ap, ◌∙◌, subst, inl, inr, arith, append_assoc, length-append}
+use Rattle.std.proofs.Common.{◌≡◌, ◌≢◌, ℕ, ◌+◌, ◌-◌, ◌<◌, ◌≤◌, ◌⊎◌, Bool, true, false, cond, List, [], ◌∷◌, ◌++◌, length, take, refl, sym, ap, ◌∙◌, subst, inl, inr, arith, append_assoc, length-append}
 use Rattle.std.specs.Prelude.{nat_le}
 use Rattle.std.specs.List.{AllByRecursion}
-use Rattle.std.proofs.lemmas.List.{append-nil, take_all}
+use Rattle.std.proofs.lemmas.List.{append-nil}
 use Rattle.std.proofs.Math.Seq.{take-append_seam}
 use Rattle.std.proofs.lemmas.Grind.{flat_map-append}
 use Rattle.std.proofs.lemmas.Bool.Decides.{nat_tests}
 use Rattle.ga_image.specs.Lines.{lines_of}
-use Rattle.ga_console.specs.Lines.{is_feed, ended, text_of, ended_lines, HasNoFeed}
+use Rattle.ga_console.specs.Lines.{ended, text_of, ended_lines, HasNoFeed}
 use Rattle.ga_console.specs.Machine.{MachineState}
 use Rattle.ga_console.specs.Replies.{Answer, quit_line}
-use Rattle.ga_console.specs.Session.{Answers, HasNoQuit, heard_lines, Script, Serves, no_input}
+use Rattle.ga_console.specs.Session.{Answers, HasNoQuit, heard_lines, Serves, no_input}
 use Rattle.ga_console.specs.declared.commands.Ending.{Ending}
 use Rattle.ga_console.specs.declared.commands.Ending.TheVariants.{Ended, Quit, Past, ReadFailed, WriteFailed}
-use Rattle.ga_console.proofs.TextLemmas.{lines_front, ended_front, ended_none, lines_last, ended_whole, more_lines}
+use Rattle.ga_console.proofs.TextLemmas.{lines_front, ended_front, lines_last, ended_whole, more_lines}
 
 text_push : (lines : List (List ℕ)) (line tail : List ℕ) → text_of lines ++ (line ++ 10 ∷ tail) ≡ text_of (lines ++ line ∷ []) ++ tail
 text_push lines line tail =
@@ -77,9 +77,10 @@ behind_quit : (read rest : List ℕ) (heard after : List (List ℕ))
     → (ended_lines read ≡ heard ++ quit_line ∷ after) ⊎ ((rest ≡ []) × (lines_of read ≡ heard ++ quit_line ∷ []))
     → (more : List (List ℕ)) × (lines_of read ≡ heard ++ more)
 behind_quit read rest heard after (inl e) =
-    let more = more_lines read in
-    ((quit_line ∷ after) ++ more.more,
-     more.same ∙ ap (λ (ls : List (List ℕ)). ls ++ more.more) e ∙ append_assoc heard (quit_line ∷ after) more.more)
+    let more = more_lines read in (
+      (quit_line ∷ after) ++ more.more,
+      more.same ∙ ap (λ (ls : List (List ℕ)). ls ++ more.more) e ∙ append_assoc heard (quit_line ∷ after) more.more,
+    )
 behind_quit read rest heard after (inr e) = (quit_line ∷ [], e.1)
 
 -- Where a write failed at last, what was said stands in the script.
@@ -98,7 +99,6 @@ cut_short room m read rest text WriteFailed s = s
 
 module _ {first : MachineState} {whole : List ℕ} {start : ℕ} {left : List ℕ} {taken : ℕ} {text : List ℕ} {m : MachineState}
     (h : Heard first whole start left taken text m) where
-
   -- what was read, up to the end of these bytes
   pub read_to : List ℕ → List ℕ
   read_to bytes = text_of h.lines ++ bytes
@@ -126,29 +126,32 @@ module _ {first : MachineState} {whole : List ℕ} {start : ℕ} {left : List �
   -- A write failed: the lines heard were answered.
   pub heard_cut : (bytes rest : List ℕ) → taken + length bytes ≤ 16777216 → Serves (16777216 - start) first (read_to bytes) rest text WriteFailed
   unfolding read_to
-  heard_cut bytes rest within =
-    (h.lines, lines_of bytes,
-     heard_within (16777216 - start) (read_to bytes) (omega (arith, length_to bytes, h.counts)) ∙ lines_front h.lines bytes h.feeds,
-     h.no_quit, inl (answers_from first h.lines text m h.answers))
+  heard_cut bytes rest within = (
+    h.lines,
+    lines_of bytes,
+    heard_within (16777216 - start) (read_to bytes) (omega (arith, length_to bytes, h.counts)) ∙ lines_front h.lines bytes h.feeds,
+    h.no_quit,
+    inl (answers_from first h.lines text m h.answers),
+  )
 
   -- a read failed
   pub heard_failed : (part rest : List ℕ) → HasNoFeed part → taken + length part ≤ 16777216 → Serves (16777216 - start) first (read_to part) rest text ReadFailed
   unfolding read_to
   heard_failed part rest none within =
-    let same : h.lines ≡ ended_lines (read_to part) = sym (ended_whole h.lines part h.feeds none) in
-    let P : List (List ℕ) → Type 0 = λ ls. HasNoQuit ls in
-    let Q : List (List ℕ) → Type 0 = λ ls. Answers first ls text in
-    (omega (arith, length_to part, h.counts), subst P same h.no_quit, subst Q same (answers_from first h.lines text m h.answers))
+      let same : h.lines ≡ ended_lines (read_to part) = sym (ended_whole h.lines part h.feeds none) in
+      let P : List (List ℕ) → Type 0 = λ ls. HasNoQuit ls in
+      let Q : List (List ℕ) → Type 0 = λ ls. Answers first ls text in
+      (omega (arith, length_to part, h.counts), subst P same h.no_quit, subst Q same (answers_from first h.lines text m h.answers))
 
   -- the input ended behind the last line feed
   pub heard_ended : (part rest : List ℕ) → part ≡ [] → rest ≡ [] → taken + length part ≤ 16777216 → Serves (16777216 - start) first (read_to part) rest text Ended
   unfolding read_to
   heard_ended part rest none nothing within =
-    let same : h.lines ≡ lines_of (read_to part) =
+      let same : h.lines ≡ lines_of (read_to part) =
       sym (ap (λ (p : List ℕ). lines_of (text_of h.lines ++ p)) none ∙ lines_front h.lines [] h.feeds ∙ append-nil h.lines) in
-    let P : List (List ℕ) → Type 0 = λ ls. HasNoQuit ls in
-    let Q : List (List ℕ) → Type 0 = λ ls. Answers first ls text in
-    (omega (arith, length_to part, h.counts), nothing, subst P same h.no_quit, subst Q same (answers_from first h.lines text m h.answers))
+      let P : List (List ℕ) → Type 0 = λ ls. HasNoQuit ls in
+      let Q : List (List ℕ) → Type 0 = λ ls. Answers first ls text in
+      (omega (arith, length_to part, h.counts), nothing, subst P same h.no_quit, subst Q same (answers_from first h.lines text m h.answers))
 
   lines_to : (part : List ℕ) → HasNoFeed part → 0 < length part → h.lines ++ part ∷ [] ≡ lines_of (read_to part)
   unfolding read_to
@@ -158,20 +161,27 @@ module _ {first : MachineState} {whole : List ℕ} {start : ℕ} {left : List �
   pub heard_last : (part rest answer : List ℕ) (new : MachineState) → HasNoFeed part → 0 < length part → rest ≡ [] → taken + length part ≤ 16777216
       → Answer m part answer new → part ≢ quit_line → Serves (16777216 - start) first (read_to part) rest (text ++ answer) Ended
   heard_last part rest answer new none some nothing within a other =
-    let same = lines_to part none some in
-    let P : List (List ℕ) → Type 0 = λ ls. HasNoQuit ls in
-    let Q : List (List ℕ) → Type 0 = λ ls. Answers first ls (text ++ answer) in
-    (omega (arith, length_to part, h.counts), nothing,
-     subst P same (all_push (λ l. l ≢ quit_line) h.lines part h.no_quit other),
-     subst Q same (answers_from first (h.lines ++ part ∷ []) (text ++ answer) new (answers_push first h.lines text m part answer new h.answers a)))
+      let same = lines_to part none some in
+      let P : List (List ℕ) → Type 0 = λ ls. HasNoQuit ls in
+      let Q : List (List ℕ) → Type 0 = λ ls. Answers first ls (text ++ answer) in (
+        omega (arith, length_to part, h.counts),
+        nothing,
+        subst P same (all_push (λ l. l ≢ quit_line) h.lines part h.no_quit other),
+        subst Q same (answers_from first (h.lines ++ part ∷ []) (text ++ answer) new (answers_push first h.lines text m part answer new h.answers a)),
+      )
 
   -- and was quit
   pub heard_quit_last : (part rest : List ℕ) → HasNoFeed part → part ≡ quit_line → rest ≡ [] → taken + length part ≤ 16777216
       → Serves (16777216 - start) first (read_to part) rest text Quit
   heard_quit_last part rest none quit nothing within =
-    let some : 0 < length part = omega (arith, ap length quit) in
-    (omega (arith, length_to part, h.counts), h.lines, [], h.no_quit, answers_from first h.lines text m h.answers,
-     inr (nothing, sym (lines_to part none some) ∙ ap (λ (l : List ℕ). h.lines ++ l ∷ []) quit))
+      let some : 0 < length part = omega (arith, ap length quit) in (
+        omega (arith, length_to part, h.counts),
+        h.lines,
+        [],
+        h.no_quit,
+        answers_from first h.lines text m h.answers,
+        inr (nothing, sym (lines_to part none some) ∙ ap (λ (l : List ℕ). h.lines ++ l ∷ []) quit),
+      )
 
   -- a line was quit, and bytes behind it were read
   pub read_past : List ℕ → List ℕ → List ℕ
@@ -180,7 +190,7 @@ module _ {first : MachineState} {whole : List ℕ} {start : ℕ} {left : List �
   pub split_past : (part bytes rest : List ℕ) → left ≡ part ++ 10 ∷ (bytes ++ rest) → whole ≡ read_past part bytes ++ rest
   unfolding read_past
   split_past part bytes rest e = h.splits ∙ ap (λ (l : List ℕ). text_of h.lines ++ l) e ∙ text_push h.lines part (bytes ++ rest)
-    ∙ sym (append_assoc (text_of (h.lines ++ part ∷ [])) bytes rest)
+      ∙ sym (append_assoc (text_of (h.lines ++ part ∷ [])) bytes rest)
 
   length_past : (part bytes : List ℕ) → length (read_past part bytes) ≡ length (text_of h.lines) + length part + 1 + length bytes
   unfolding read_past
@@ -189,10 +199,15 @@ module _ {first : MachineState} {whole : List ℕ} {start : ℕ} {left : List �
   pub heard_quit : (part bytes rest : List ℕ) (now : ℕ) → HasNoFeed part → part ≡ quit_line → now ≡ taken + length part + 1 → now + length bytes ≤ 16777216
       → Serves (16777216 - start) first (read_past part bytes) rest text Quit
   unfolding read_past
-  heard_quit part bytes rest now none quit counts within =
-    (omega (arith, length_past part bytes, h.counts), h.lines, ended_lines bytes, h.no_quit, answers_from first h.lines text m h.answers,
-     inl (ended_front (h.lines ++ part ∷ []) bytes (all_push HasNoFeed h.lines part h.feeds none) ∙ append_assoc h.lines (part ∷ []) (ended_lines bytes)
-       ∙ ap (λ (l : List ℕ). h.lines ++ l ∷ ended_lines bytes) quit))
+  heard_quit part bytes rest now none quit counts within = (
+    omega (arith, length_past part bytes, h.counts),
+    h.lines,
+    ended_lines bytes,
+    h.no_quit,
+    answers_from first h.lines text m h.answers,
+    inl (ended_front (h.lines ++ part ∷ []) bytes (all_push HasNoFeed h.lines part h.feeds none) ∙ append_assoc h.lines (part ∷ []) (ended_lines bytes)
+        ∙ ap (λ (l : List ℕ). h.lines ++ l ∷ ended_lines bytes) quit),
+  )
 
   -- the input goes past its bound
   pub read_over : List ℕ → ℕ → List ℕ
@@ -206,11 +221,15 @@ module _ {first : MachineState} {whole : List ℕ} {start : ℕ} {left : List �
       → Serves (16777216 - start) first (read_over part b) rest (text ++ no_input) Past
   unfolding read_over read_to
   heard_past part b rest now none counts full =
-    let room : 16777216 - start ≡ length (read_to part) = omega (arith, length_to part, h.counts) in
-    let same : h.lines ≡ ended_lines (take (16777216 - start) (read_over part b)) =
+      let room : 16777216 - start ≡ length (read_to part) = omega (arith, length_to part, h.counts) in
+      let same : h.lines ≡ ended_lines (take (16777216 - start) (read_over part b)) =
       sym (ap (λ (n : ℕ). ended_lines (take n (read_to part ++ b ∷ []))) room
-        ∙ ap ended_lines (take-append_seam (read_to part) (b ∷ [])) ∙ ended_whole h.lines part h.feeds none) in
-    let P : List (List ℕ) → Type 0 = λ ls. HasNoQuit ls in
-    let Q : List (List ℕ) → Type 0 = λ ls. Answers first ls text in
-    (omega (arith, length-append (read_to part) (b ∷ []), room), subst P same h.no_quit,
-     text, subst Q same (answers_from first h.lines text m h.answers), refl)
+      ∙ ap ended_lines (take-append_seam (read_to part) (b ∷ [])) ∙ ended_whole h.lines part h.feeds none) in
+      let P : List (List ℕ) → Type 0 = λ ls. HasNoQuit ls in
+      let Q : List (List ℕ) → Type 0 = λ ls. Answers first ls text in (
+        omega (arith, length-append (read_to part) (b ∷ []), room),
+        subst P same h.no_quit,
+        text,
+        subst Q same (answers_from first h.lines text m h.answers),
+        refl,
+      )

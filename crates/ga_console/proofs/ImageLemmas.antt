@@ -1,5 +1,5 @@
 -- An image as it is read, part by part.
-use Rattle.std.proofs.Common.{◌≡◌, ◌≢◌, ℕ, ◌+◌, ◌-◌, ◌<◌, ◌≤◌, false, List, [], ◌∷◌, ◌++◌, length, take, drop, flat_map, refl, sym, ap, ◌∙◌, subst, arith, append_assoc, length-append}
+use Rattle.std.proofs.Common.{◌≡◌, ℕ, ◌-◌, false, List, [], ◌∷◌, ◌++◌, length, take, drop, refl, sym, ap, ◌∙◌, arith, append_assoc}
 use Rattle.std.specs.List.{AllByRecursion}
 use Rattle.std.proofs.lemmas.List.{append-nil, take_all, length-drop}
 use Rattle.std.proofs.lemmas.List.Elements.{All-append, All-nil}
@@ -17,7 +17,7 @@ pub record Body (text : List ℕ) (start : ℕ) : Type 0 where
   pub starts : start ≡ length (text_of lines)
 
 nothing : HasNoFeed []
-nothing = All-nil (λ b. is_feed b ≡ false) 
+nothing = All-nil (λ b. is_feed b ≡ false)
 
 pub body_none : (text : List ℕ) → text ≡ [] → Body text 0
 body_none text e = record { lines = []; part = []; before = tt; no_feed = nothing; splits = e; starts = refl }
@@ -72,13 +72,13 @@ pub body_line : (text more : List ℕ) (start : ℕ) (piece : List ℕ) (b : Bod
 body_line text more start piece b none e other =
     let line : List ℕ = b.part ++ piece in
     let whole : more ≡ text_of (b.lines ++ line ∷ []) =
-      line_splits text more start piece b e
-      ∙ ap (λ (t : List ℕ). text_of b.lines ++ t) (sym (append-nil (ended line))) ∙ sym (flat_map-append ended b.lines (line ∷ [])) in
+    line_splits text more start piece b e
+    ∙ ap (λ (t : List ℕ). text_of b.lines ++ t) (sym (append-nil (ended line))) ∙ sym (flat_map-append ended b.lines (line ∷ [])) in
     record {
       lines = b.lines ++ line ∷ [];
       part = [];
       before = push_body b.lines line b.before
-        (record { no_feed = All-append (λ y. is_feed y ≡ false) b.part piece b.no_feed none; not_end = λ q. other (ap ended q) });
+          (record { no_feed = All-append (λ y. is_feed y ≡ false) b.part piece b.no_feed none; not_end = λ q. other (ap ended q) });
       no_feed = nothing;
       splits = whole ∙ sym (append-nil (text_of (b.lines ++ line ∷ [])));
       starts = ap length whole;

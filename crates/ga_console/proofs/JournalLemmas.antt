@@ -1,5 +1,5 @@
 -- Walking the kept events back, and forward again.
-use Rattle.std.proofs.Common.{◌≡◌, ℕ, suc, zero, ◌+◌, ◌-◌, List, [], ◌∷◌, ◌++◌, length, refl, sym, ap, ◌∙◌, subst, arith, length-append}
+use Rattle.std.proofs.Common.{◌≡◌, ℕ, suc, zero, ◌-◌, List, [], ◌∷◌, ◌++◌, length, refl, sym, ap, ◌∙◌, subst, arith, length-append}
 use Rattle.ga_node.specs.State.{NodeState, restored}
 use Rattle.ga_node.specs.Record.{NodeRecord, record_of}
 use Rattle.ga_node.specs.Table.{own}
@@ -20,7 +20,7 @@ unfolding walked_back LeadForward
 lead_push [] entry before after e h on = (let P : NodeState → Type 0 = λ n. LeadsOn entry n after in subst P (sym e) on, tt)
 lead_push (x ∷ es) entry before after e h on =
     let same : walked_back es before ≡ walked_back (es ++ entry ∷ []) after =
-      ap (walked_back es) (sym e) ∙ sym (walked_back-push es entry after) in
+    ap (walked_back es) (sym e) ∙ sym (walked_back-push es entry after) in
     let P : NodeState → Type 0 = λ n. LeadsOn x (restored n x.saved.items) n in
     (subst P same h.0, lead_push es entry before after e h.1 on)
 
@@ -54,7 +54,7 @@ pub machine_push : (entries more : List Entry) (entry : Entry) (limit : ℕ) (be
     → restored after entry.saved.items ≡ before → machine_of more limit after ≡ stepped (machine_of entries limit before)
 machine_push entries more entry limit before after e back =
     let walked : walked_back more after ≡ walked_back entries before =
-      ap (λ (es : List Entry). walked_back es after) e ∙ walked_back-push entries entry after ∙ ap (walked_back entries) back in
+    ap (λ (es : List Entry). walked_back es after) e ∙ walked_back-push entries entry after ∙ ap (walked_back entries) back in
     let kept : length more ≡ suc (length entries) = omega (arith, ap length e, length-append entries (entry ∷ [])) in
     let at : NodeState → MachineState = λ n. record { load = record_of n; limit = limit; kept = length more } in
     let keeping : ℕ → MachineState = λ k. record { load = record_of (walked_back entries before); limit = limit; kept = k } in

@@ -1,5 +1,5 @@
 -- A line as it is read, part by part.
-use Rattle.std.proofs.Common.{◌≡◌, ℕ, suc, zero, ◌+◌, ◌<◌, ◌≤◌, true, false, List, [], ◌∷◌, ◌++◌, length, take, refl, sym, ap, ◌∙◌, subst, arith, length-append, length-take, append_assoc}
+use Rattle.std.proofs.Common.{◌≡◌, ℕ, suc, zero, ◌<◌, true, false, List, [], ◌∷◌, ◌++◌, length, take, refl, sym, ap, ◌∙◌, subst, arith, length-take, append_assoc}
 use Rattle.std.proofs.lemmas.List.{append-nil, take_all}
 use Rattle.std.proofs.lemmas.Bool.Decides.{nat_tests}
 use Rattle.std.specs.Prelude.{◌==◌}
@@ -44,6 +44,7 @@ pub empty_part : (line part : List ℕ) → line ≡ take 201 part → true ≡ 
 empty_part line part kept test = go part (omega (arith, none, length-take 201 part, ap length kept)) where
   none : length line ≡ 0
   none = grind (arith, nat_tests)
+
   go : (p : List ℕ) → length p ≡ 0 → p ≡ []
   go [] e = refl
   go (x ∷ xs) e = absurd (omega arith)

@@ -1,6 +1,6 @@
 -- Parts of the input.
-use Rattle.std.proofs.Common.{suc, ◌≡◌, ◌≢◌, ℕ, ◌+◌, ◌-◌, ◌<◌, ◌≤◌, min, Bool, true, false, List, [], ◌∷◌, ◌++◌, length, take, drop, get_or, sym, ap, ◌∙◌, refl, arith, length-take, length-drop, length-append, append_assoc, take-append-drop, drop-cons, Result, Ok, Err, rules}
-use Rattle.std.proofs.lemmas.List.{take_all, append-nil, drop-take, drop-drop}
+use Rattle.std.proofs.Common.{suc, ◌≡◌, ◌≢◌, ℕ, ◌+◌, ◌-◌, ◌<◌, ◌≤◌, min, true, false, List, [], ◌∷◌, ◌++◌, length, take, drop, get_or, sym, ap, ◌∙◌, refl, arith, length-take, take-append-drop, drop-cons, Result, Ok, Err, rules}
+use Rattle.std.proofs.lemmas.List.{take_all, drop-take, drop-drop}
 use Rattle.std.proofs.Math.Seq.{take-append-add, take-suc}
 use Rattle.std.proofs.lemmas.List.Elements.{All-from_get_or}
 use Rattle.std.proofs.lemmas.Bool.Decides.{nat_tests}
@@ -22,8 +22,8 @@ kept_bytes line bytes room e =
     ap (λ (t : List ℕ). line ++ t) (take_min room bytes)
     ∙ sym (take-append-add line bytes room) ∙ ap (λ (n : ℕ). take n (line ++ bytes)) whole
   where
-  take_min : (n : ℕ) (xs : List ℕ) → take (min n (length xs)) xs ≡ take n xs
-  take_min n xs = grind (arith, take_all {A = ℕ})
+    take_min : (n : ℕ) (xs : List ℕ) → take (min n (length xs)) xs ≡ take n xs
+    take_min n xs = grind (arith, take_all {A = ℕ})
 
 pub no_bytes : (bytes : List ℕ) → true ≡ length bytes == 0 → bytes ≡ []
 no_bytes [] e = refl
@@ -44,8 +44,8 @@ range_at_feed block start stop count within below feed =
     let size : stop - start ≡ suc count + more = omega (arith, length-take (stop - start) (drop start block)) in
     let next : start + suc count ≡ start + (count + 1) = omega arith in
     let behind : drop (suc count) whole ≡ slice_range block (start + (count + 1)) stop =
-      ap (λ (n : ℕ). drop (suc count) (take n (drop start block))) size ∙ drop-take (suc count) more (drop start block)
-      ∙ ap (take more) (drop-drop (suc count) start block ∙ ap (λ (n : ℕ). drop n block) next) in
+    ap (λ (n : ℕ). drop (suc count) (take n (drop start block))) size ∙ drop-take (suc count) more (drop start block)
+    ∙ ap (take more) (drop-drop (suc count) start block ∙ ap (λ (n : ℕ). drop n block) next) in
     sym (take-append-drop count whole)
     ∙ ap (λ (t : List ℕ). take count whole ++ t) (drop-cons whole count 0 below ∙ ap (λ (b : ℕ). b ∷ drop (suc count) whole) feed ∙ ap (λ (t : List ℕ). 10 ∷ t) behind)
 

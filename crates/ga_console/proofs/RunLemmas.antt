@@ -1,13 +1,13 @@
 -- From the parts of a session to the whole.
-use Rattle.std.proofs.Common.{◌≡◌, ℕ, ◌+◌, ◌-◌, ◌≤◌, ◌⊎◌, inl, inr, Bool, true, false, List, [], ◌∷◌, ◌++◌, length, Option, Some, refl, sym, ap, ◌∙◌, subst, arith, append_assoc}
+use Rattle.std.proofs.Common.{◌≡◌, ℕ, ◌-◌, inl, inr, Bool, true, false, List, [], ◌∷◌, ◌++◌, length, Option, Some, refl, sym, ap, ◌∙◌, subst, arith}
 use Rattle.std.proofs.lemmas.List.{append-nil}
 use Rattle.ga_image.specs.declared.fault.ImageFault.{ImageFault}
 use Rattle.ga_console.specs.Input.{input_limit}
-use Rattle.ga_console.specs.Image.{EndsAtEnd, HasNoEnd}
-use Rattle.ga_console.specs.Output.{IsSaid, IsSaidOrCut, IsCut, Begins, ready}
+use Rattle.ga_console.specs.Image.{HasNoEnd}
+use Rattle.ga_console.specs.Output.{IsSaid, IsSaidOrCut, ready}
 use Rattle.ga_console.specs.Machine.{MachineState}
 use Rattle.ga_console.specs.Session.{Serves, Written, no_input}
-use Rattle.ga_console.specs.Run.{Runs, Served, Faulty, Refused, Refuses, Opens, IsFault, AfterImage, AfterAll, IsPast, IsImagePart, status_of, image_fault_text}
+use Rattle.ga_console.specs.Run.{Runs, Served, Refused, Refuses, Opens, IsFault, AfterImage, AfterAll, IsPast, IsImagePart, status_of}
 use Rattle.ga_console.specs.declared.commands.Ending.{Ending}
 use Rattle.ga_console.specs.declared.commands.Ending.TheVariants.{Ended, Quit, Past, ReadFailed, WriteFailed}
 use Rattle.ga_console.proofs.Heard.{cut_short}
@@ -54,8 +54,15 @@ served_in : (limit : ℕ) (image commands rest said text : List ℕ) (machine : 
 served_in limit image commands rest said text machine ending part opens serves written =
     let P : MachineState → Type 0 = λ m. Serves (input_limit - length image) m commands rest said ending in
     record {
-      image = image; commands = commands; chip = opens.0; said = said; splits = refl; part = part; accepted = opens.1;
-      serves = subst P opens.2 serves; written = written;
+      image = image;
+      commands = commands;
+      chip = opens.0;
+      said = said;
+      splits = refl;
+      part = part;
+      accepted = opens.1;
+      serves = subst P opens.2 serves;
+      written = written;
     }
 
 -- behind an image that was read whole
@@ -64,7 +71,7 @@ pub runs_after : (limit taken : ℕ) (image commands rest text : List ℕ) (stat
 runs_after limit taken image commands rest text status e part (inl a) =
     let Q : ℕ → Type 0 = λ n. Serves (input_limit - n) a.0 commands rest a.4 a.2 in
     runs_served limit (image ++ commands) rest text a.2 status a.3
-      (served_in limit image commands rest a.4 text a.0 a.2 part a.1 (subst Q e a.5) a.6)
+    (served_in limit image commands rest a.4 text a.0 a.2 part a.1 (subst Q e a.5) a.6)
 runs_after limit taken image commands rest text status e part (inr a) =
     runs_refused limit (image ++ commands) rest text a.0 status (refused_in image commands rest a.0 part a.1) a.2
 
@@ -86,7 +93,7 @@ pub runs_all : (limit : ℕ) (image rest text : List ℕ) (b : ℕ) (status : St
 runs_all limit image rest text b status full none (inl a) =
     let room : input_limit - length image ≡ 0 = omega arith in
     runs_served limit (image ++ b ∷ []) rest text a.2 status a.3
-      (served_in limit image (b ∷ []) rest no_input text a.0 a.2 (inr (inr (full, none))) a.1 (serves_past (input_limit - length image) a.0 b rest a.2 room a.4) a.5)
+    (served_in limit image (b ∷ []) rest no_input text a.0 a.2 (inr (inr (full, none))) a.1 (serves_past (input_limit - length image) a.0 b rest a.2 room a.4) a.5)
 runs_all limit image rest text b status full none (inr a) =
     runs_refused limit (image ++ b ∷ []) rest text a.0 status (refused_in image (b ∷ []) rest a.0 (inr (inr (full, none))) a.1) a.2
 
@@ -97,6 +104,6 @@ nothing_left (x ∷ xs) ys e = cc
 -- that the input goes past its bound, said or not
 pub past_written : (good : Bool) (contents : Option (List ℕ)) (before : List ℕ) → IsSaidOrCut good contents before (ready ++ no_input) []
     → (ending : Ending) × IsPast ending × (StreamFault ≡ status_of ending)
-      × (sent : List ℕ) × (contents ≡ Some (before ++ sent)) × Written ending (ready ++ no_input) sent
+    × (sent : List ℕ) × (contents ≡ Some (before ++ sent)) × Written ending (ready ++ no_input) sent
 past_written true contents before h = (Past, inl refl, refl, h.sent, h.held, all_sent contents before (ready ++ no_input) h)
 past_written false contents before h = (WriteFailed, inr refl, refl, h.sent, h.held, h.front)

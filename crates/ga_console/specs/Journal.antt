@@ -1,5 +1,5 @@
 -- The kept events with the values that they overwrote, the oldest first.
-use Rattle.std.specs.Prelude.{◌≡◌, ℕ, ◌≤◌, List, [], ◌∷◌, length, None, ⊤}
+use Rattle.std.specs.Prelude.{◌≡◌, ℕ, List, [], ◌∷◌, length, None, ⊤}
 use Rattle.ga_node.specs.State.{NodeState, restored, AreFit, IsApart}
 use Rattle.ga_node.specs.Record.{record_of}
 use Rattle.ga_node.specs.Table.{own, refusal}

@@ -1,5 +1,5 @@
 -- What was said and is written in part.
-use Rattle.std.specs.Prelude.{◌≡◌, ℕ, Bool, true, false, List, [], ◌++◌, Option, Some, codes}
+use Rattle.std.specs.Prelude.{◌≡◌, ℕ, Bool, true, false, List, ◌++◌, Option, Some, codes}
 
 -- the first that is said after an accepted image
 abbrev pub ready : List ℕ

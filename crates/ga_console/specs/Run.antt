@@ -1,5 +1,5 @@
 -- What a whole session may write, and how it may end.
-use Rattle.std.specs.Prelude.{◌≡◌, ℕ, ◌-◌, ◌⊎◌, List, [], ◌∷◌, ◌++◌, length, codes, decimal, Err}
+use Rattle.std.specs.Prelude.{◌≡◌, ℕ, ◌-◌, ◌⊎◌, List, [], ◌++◌, length, codes, decimal, Err}
 use Rattle.ga_node.specs.State.{NodeState}
 use Rattle.ga_node.specs.Record.{record_of}
 use Rattle.ga_grid.specs.Chip.{node_at}
@@ -97,12 +97,12 @@ IsPast ending = (ending ≡ Past) ⊎ (ending ≡ WriteFailed)
 abbrev pub AfterImage : ℕ → List ℕ → ℕ → List ℕ → List ℕ → List ℕ → Status → Type 0
 AfterImage limit image taken read rest text status =
     ((machine : MachineState) × Opens image limit machine × (ending : Ending) × (status ≡ status_of ending)
-      × (said : List ℕ) × Serves (input_limit - taken) machine read rest said ending × Written ending (ready ++ said) text)
+    × (said : List ℕ) × Serves (input_limit - taken) machine read rest said ending × Written ending (ready ++ said) text)
     ⊎ ((fault : ImageFault) × IsFault image fault × Refuses fault text status)
 
 -- What may be written where the input goes past its bound within the image.
 abbrev pub AfterAll : ℕ → List ℕ → List ℕ → Status → Type 0
 AfterAll limit image text status =
     ((machine : MachineState) × Opens image limit machine × (ending : Ending) × (status ≡ status_of ending)
-      × IsPast ending × Written ending (ready ++ no_input) text)
+    × IsPast ending × Written ending (ready ++ no_input) text)
     ⊎ ((fault : ImageFault) × IsFault image fault × Refuses fault text status)

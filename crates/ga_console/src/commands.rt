@@ -4,14 +4,13 @@ ghost use Rattle.ga_console.specs.Input.{IsWithin, input_limit};
 ghost use Rattle.ga_console.specs.Output.{IsSaid};
 ghost use Rattle.ga_console.specs.Session.{Serves, IsSaidAt, Written};
 
-use std::io::{Read, Write};
-
 use super::input::Input;
 use super::lines::{Line, LineEnd, read_line};
 use super::machine::Machine;
 use super::output::Output;
 use super::reply::{Turn, answer};
 use super::text::{Text, push_text};
+use std::io::{Read, Write};
 
 /// How the command part ended.
 #[derive(Clone, Copy, PartialEq, Eq)]
@@ -35,9 +34,12 @@ pub fn serve<R: Read, W: Write>(
     machine: &mut Machine,
 ) -> Ending
     requires { IsWithin input.old }
-    ensures { (left before said : List ℕ) → R.remaining reader.old ≡ Some left → IsSaid (W.contents writer.old) before said output.old →
-        (read rest text sent : List ℕ) × (input.old.bytes ++ left ≡ read ++ rest) × (R.remaining reader.new ≡ Some rest)
-        × (W.contents writer.new ≡ Some (before ++ sent)) × Serves (input_limit - input.old.taken) machine.old read rest text result
+    ensures { (left before said : List ℕ) → R.remaining reader.old ≡ Some left →
+        IsSaid (W.contents writer.old) before said output.old →
+        (read rest text sent : List ℕ)
+        × (input.old.bytes ++ left ≡ read ++ rest) × (R.remaining reader.new ≡ Some rest)
+        × (W.contents writer.new ≡ Some (before ++ sent))
+        × Serves (input_limit - input.old.taken) machine.old read rest text result
         × Written result (said ++ text) sent }
 {
     match answer_lines(input, reader, output, writer, machine) {
@@ -61,8 +63,10 @@ fn answer_lines<R: Read, W: Write>(
     machine: &mut Machine,
 ) -> Ending
     requires { IsWithin input.old }
-    ensures { (left before said : List ℕ) → R.remaining reader.old ≡ Some left → IsSaid (W.contents writer.old) before said output.old →
-        (read rest text : List ℕ) × (input.old.bytes ++ left ≡ read ++ rest) × (R.remaining reader.new ≡ Some rest)
+    ensures { (left before said : List ℕ) → R.remaining reader.old ≡ Some left →
+        IsSaid (W.contents writer.old) before said output.old →
+        (read rest text : List ℕ)
+        × (input.old.bytes ++ left ≡ read ++ rest) × (R.remaining reader.new ≡ Some rest)
         × Serves (input_limit - input.old.taken) machine.old read rest text result
         × IsSaidAt result (W.contents writer.new) before (said ++ text) output.new }
 {

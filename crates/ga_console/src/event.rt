@@ -3,10 +3,9 @@ ghost use Rattle.std.specs.Prelude.{◌≡◌, ◌<◌, ◌+◌, ◌≤◌, ◌+
 ghost use Rattle.arrayvec.specs.ArrayVec.{array_vec_len};
 ghost use Rattle.ga_console.specs.Texts.{event_text, kind_text, removed_text, fault_text};
 
-use ga_node::{Kind, NotReady};
-
 use super::machine::{Made, StepFault};
 use super::text::{Text, push_byte, push_number, push_text, push_three};
+use ga_node::{Kind, NotReady};
 
 /// Puts the text of a step of a node, named by its row and column.
 pub fn put_event(out: &mut Text, yxx: u32, made: Made)

@@ -2,9 +2,8 @@
 ghost use Rattle.std.specs.Prelude.{◌≡◌, []};
 ghost use Rattle.ga_console.specs.Run.{image_fault_text};
 
-use ga_image::ImageFault;
-
 use super::text::{Text, push_number, push_text};
+use ga_image::ImageFault;
 
 /// Puts the text of a refused image.
 pub fn put_fault(out: &mut Text, fault: ImageFault)

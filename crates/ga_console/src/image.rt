@@ -4,10 +4,9 @@ ghost use Rattle.ga_console.specs.Input.{IsWithin};
 ghost use Rattle.ga_console.specs.Lines.{ended};
 ghost use Rattle.ga_console.specs.Image.{ReadsImage, end_line};
 
+use super::input::{Fill, Input};
 use std::alloc::AllocError;
 use std::io::Read;
-
-use super::input::{Fill, Input};
 
 /// Where the reading of an image stopped.
 #[derive(Clone, Copy, PartialEq, Eq)]
@@ -31,9 +30,11 @@ pub fn read_image<R: Read>(
     requires within { IsWithin input.old }
     requires empty { text.old.items ≡ [] }
     ensures reads { IfOk result (λ stop. (left : List ℕ) → R.remaining reader.old ≡ Some left →
-        (rest : List ℕ) × (R.remaining reader.new ≡ Some rest) × ReadsImage input.old left text.new.items input.new rest stop) }
+        (rest : List ℕ) × (R.remaining reader.new ≡ Some rest)
+        × ReadsImage input.old left text.new.items input.new rest stop) }
     ensures err { OnErr result ((left : List ℕ) → R.remaining reader.old ≡ Some left →
-        (read : List ℕ) × (rest : List ℕ) × (R.remaining reader.new ≡ Some rest) × (input.old.bytes ++ left ≡ read ++ rest)) }
+        (read : List ℕ) × (rest : List ℕ) × (R.remaining reader.new ≡ Some rest)
+        × (input.old.bytes ++ left ≡ read ++ rest)) }
     ensures within { IsWithin input.new }
 {
     let mut start = 0;

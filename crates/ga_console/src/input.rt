@@ -4,11 +4,10 @@ ghost use Rattle.ga_console.specs.Input.{Unread, IsWithin, Fills, HasFilled, Tak
 ghost use Rattle.ga_console.specs.Lines.{HasNoFeed};
 ghost use Rattle.ga_console.specs.Image.{with_feed};
 
+use super::lines::{Line, keep};
 use std::alloc::AllocError;
 use std::io::Read;
 use std::marker::Model;
-
-use super::lines::{Line, keep};
 
 /// How many bytes are read at once, at most.
 const BLOCK: usize = 65536;
@@ -65,7 +64,8 @@ impl Input {
     pub fn fill<R: Read>(&mut self, reader: &mut R) -> Fill
         requires { self.old.bytes ≡ [] }
         ensures fills { (input : List ℕ) → R.remaining reader.old ≡ Some input →
-            (rest : List ℕ) × (R.remaining reader.new ≡ Some rest) × Fills self.old.taken input self.new.bytes rest result }
+            (rest : List ℕ) × (R.remaining reader.new ≡ Some rest)
+            × Fills self.old.taken input self.new.bytes rest result }
         ensures filled { HasFilled self.new.bytes result }
         ensures taken { self.new.taken ≡ self.old.taken }
         ensures within { IsWithin self.new }
@@ -94,7 +94,8 @@ impl Input {
 
     /// Takes what was read, up to a line feed, and keeps it as far as a line goes. True where a line feed was taken.
     pub fn take_line(&mut self, line: &mut Line) -> bool
-        ensures takes { (part : List ℕ) × TakesPart self.old part self.new result × (line.new.items ≡ take 201 (line.old.items ++ part)) }
+        ensures takes { (part : List ℕ) × TakesPart self.old part self.new result
+            × (line.new.items ≡ take 201 (line.old.items ++ part)) }
         ensures within { IsWithin self.new }
     {
         let ahead = &self.block[self.start..self.end];
@@ -116,7 +117,8 @@ impl Input {
 
     /// Takes what was read, up to a line feed and with it, and adds it to a text. True where a line feed was taken.
     pub fn take_text(&mut self, text: &mut Vec<u8>) -> Result<bool, AllocError>
-        ensures takes { IfOk result (λ fed. (part : List ℕ) × TakesPart self.old part self.new fed × (text.new.items ≡ text.old.items ++ with_feed part fed)) }
+        ensures takes { IfOk result (λ fed. (part : List ℕ) × TakesPart self.old part self.new fed
+            × (text.new.items ≡ text.old.items ++ with_feed part fed)) }
         ensures err { OnErr result ((self.new ≡ self.old) × (text.new.items ≡ text.old.items)) }
         ensures within { IsWithin self.new }
     {
@@ -140,7 +142,8 @@ impl Input {
 
 /// Where the first line feed stands.
 fn feed_at(bytes: &[u8]) -> Option<usize>
-    ensures found { IfSome result (λ count. (count < length bytes.now) × HasNoFeed (take count bytes.now) × (slice_index bytes.now count ≡ 10)) }
+    ensures found { IfSome result (λ count. (count < length bytes.now)
+        × HasNoFeed (take count bytes.now) × (slice_index bytes.now count ≡ 10)) }
     ensures none { IfNone result (HasNoFeed bytes.now) }
 {
     for (count, byte) in bytes.iter().enumerate() {

@@ -4,11 +4,10 @@ ghost use Rattle.ga_console.specs.Input.{IsWithin};
 ghost use Rattle.ga_console.specs.Output.{IsSaid};
 ghost use Rattle.ga_console.specs.ReadLine.{ReadsLine, KeepsSaid};
 
-use arrayvec::ArrayVec;
-use std::io::{Read, Write};
-
 use super::input::{Fill, Input};
 use super::output::Output;
+use arrayvec::ArrayVec;
+use std::io::{Read, Write};
 
 /// A line, or the first 201 bytes of one that is too long.
 pub type Line = ArrayVec<u8, 201>;
@@ -38,7 +37,8 @@ pub fn read_line<R: Read, W: Write>(
 ) -> LineEnd
     requires { IsWithin input.old }
     ensures reads { (left : List ℕ) → R.remaining reader.old ≡ Some left →
-        (rest : List ℕ) × (R.remaining reader.new ≡ Some rest) × ReadsLine input.old left line.new.items input.new rest result }
+        (rest : List ℕ) × (R.remaining reader.new ≡ Some rest)
+        × ReadsLine input.old left line.new.items input.new rest result }
     ensures said { (before said : List ℕ) → IsSaid (W.contents writer.old) before said output.old →
         KeepsSaid result (W.contents writer.new) before said output.new }
     ensures within { IsWithin input.new }

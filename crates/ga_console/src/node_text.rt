@@ -4,9 +4,8 @@ ghost use Rattle.arrayvec.specs.ArrayVec.{array_vec_len};
 ghost use Rattle.ga_node.specs.Record.{record_of};
 ghost use Rattle.ga_console.specs.Texts.{node_text, state_text, set_text, words_text, registers_text, flags_text};
 
-use ga_node::{Node, Place, Wait};
-
 use super::text::{Text, push_number, push_text, push_three, push_word};
+use ga_node::{Node, Place, Wait};
 
 /// Puts the text of a node, named by its row and column.
 pub fn put_node(out: &mut Text, yxx: u32, node: &Node)

@@ -3,11 +3,10 @@ ghost use Rattle.std.specs.Prelude.{◌≡◌, ◌++◌, ◌+◌, ◌≤◌, len
 ghost use Rattle.std.specs.Bool.{OnTrue};
 ghost use Rattle.ga_console.specs.Output.{IsSaid, IsSaidOrCut, ready};
 
+use super::text::Text;
 use arrayvec::ArrayVec;
 use std::io::Write;
 use std::marker::Model;
-
-use super::text::Text;
 
 /// What was said and is not written yet.
 #[derive(Drop)]

@@ -4,13 +4,6 @@ ghost use Rattle.ga_console.specs.Input.{IsWithin};
 ghost use Rattle.ga_console.specs.Output.{IsSaid};
 ghost use Rattle.ga_console.specs.Run.{Runs, AfterImage, AfterAll, Refuses, Opens, IsFault, status_of as status_that};
 
-use ga_grid::NodeId;
-use ga_image::{ImageCause, ImageFault, parse};
-use ga_node::Node;
-use std::alloc::Global;
-use std::io::{Read, Write};
-use std::mem;
-
 use super::commands::{Ending, serve};
 use super::fault_text::put_fault;
 use super::image::{ImageEnd, read_image};
@@ -18,6 +11,12 @@ use super::input::Input;
 use super::machine::Machine;
 use super::output::{Output, write_all};
 use super::text::Text;
+use ga_grid::NodeId;
+use ga_image::{ImageCause, ImageFault, parse};
+use ga_node::Node;
+use std::alloc::Global;
+use std::io::{Read, Write};
+use std::mem;
 
 /// The number of the node that is served.
 const SERVED: u8 = 0;
@@ -45,7 +44,9 @@ pub fn session<R: Read, W: Write>(
     writer: &mut W,
     limit: u32,
 ) -> Status
-    ensures { (left before : List ℕ) → R.remaining reader.old ≡ Some left → W.contents writer.old ≡ Some before →
+    // Where the streams tell their bytes: what was read, and what was written for it by the status.
+    ensures { (left before : List ℕ) →
+        R.remaining reader.old ≡ Some left → W.contents writer.old ≡ Some before →
         (read rest text : List ℕ) × (left ≡ read ++ rest) × (R.remaining reader.new ≡ Some rest)
         × (W.contents writer.new ≡ Some (before ++ text)) × Runs limit read rest text result }
 {
@@ -76,9 +77,12 @@ fn after_image<R: Read, W: Write>(
     limit: u32,
 ) -> Status
     requires { IsWithin input.old }
-    ensures { (left before : List ℕ) → R.remaining reader.old ≡ Some left → W.contents writer.old ≡ Some before →
-        (read rest text : List ℕ) × (input.old.bytes ++ left ≡ read ++ rest) × (R.remaining reader.new ≡ Some rest)
-        × (W.contents writer.new ≡ Some (before ++ text)) × AfterImage limit image.items input.old.taken read rest text result }
+    ensures { (left before : List ℕ) →
+        R.remaining reader.old ≡ Some left → W.contents writer.old ≡ Some before →
+        (read rest text : List ℕ)
+        × (input.old.bytes ++ left ≡ read ++ rest) × (R.remaining reader.new ≡ Some rest)
+        × (W.contents writer.new ≡ Some (before ++ text))
+        × AfterImage limit image.items input.old.taken read rest text result }
 {
     match open(alloc, image, limit) {
         Ok(mut machine) => {

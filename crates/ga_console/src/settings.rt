@@ -11,14 +11,18 @@ use thiserror::Error;
 const DEFAULT_LIMIT: u32 = 1_000_000;
 
 const GREATEST_LIMIT: u32 = 4_000_000;
+
 const MOST_WORKERS: u32 = 16;
+
 const MOST_CALLS: u32 = 100_000;
 
 /// What the program is to do.
 #[derive(Clone, Copy, Debug, PartialEq, Eq)]
 pub enum Settings {
     /// Serve a session that keeps up to this many events, 1 to 4000000.
-    Debug { limit: u32 },
+    Debug {
+        limit: u32,
+    },
     /// Run 1 to 16 workers, of which each makes 1 to 100000 calls.
     Race {
         workers: u32,
@@ -61,14 +65,34 @@ pub fn arguments(alloc: Global, words: &[&str]) -> Result<Settings, LineFault>
 
 /// The command lines of the program, as clap has them.
 fn program<'a>(alloc: Global) -> Result<Command<'a>, AllocError> {
-    let debug = Command::new(alloc, "debug").arg(Arg::new(alloc, "limit").long("limit"))?;
+    let debug = Command::new(alloc, "debug")
+        .about("Load an image, then step a node and take its steps back, command by command")
+        .arg(limit_option(alloc))?;
     let race = Command::new(alloc, "race")
-        .arg(Arg::new(alloc, "workers").long("workers").required(true))?
-        .arg(Arg::new(alloc, "calls").long("calls").required(true))?
-        .arg(Arg::new(alloc, "limit").long("limit"))?;
+        .about("Let workers step the nodes at the same time")
+        .arg(number_option(alloc, "workers", "How many workers there are, 1 to 16").required(true))?
+        .arg(number_option(
+            alloc,
+            "calls",
+            "How many calls each worker makes, 1 to 100000",
+        )
+        .required(true))?
+        .arg(limit_option(alloc))?;
     Command::new(alloc, "ga144")
         .subcommand(debug)?
         .subcommand(race)
+}
+
+fn limit_option<'a>(alloc: Global) -> Arg<'a> {
+    number_option(
+        alloc,
+        "limit",
+        "How many events are kept at most, 1 to 4000000 [default: 1000000]",
+    )
+}
+
+fn number_option<'a>(alloc: Global, name: &'a str, help: &'a str) -> Arg<'a> {
+    Arg::new(alloc, name).long(name).help(help)
 }
 
 fn chosen(matches: &ArgMatches<'_>) -> Result<Settings, LineFault>

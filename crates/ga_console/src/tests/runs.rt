@@ -1,8 +1,7 @@
 //! Whole sessions, with the texts that they answer.
 
-use std::test::Fail;
-
 use crate::{Status, session};
+use std::test::Fail;
 
 struct Run {
     name: &'static str,

@@ -1,8 +1,7 @@
 //! Command lines.
 
-use std::test::Fail;
-
 use crate::{LineFault, Settings, arguments};
+use std::test::Fail;
 
 struct CommandLine {
     words: &'static [&'static str],
@@ -10,30 +9,95 @@ struct CommandLine {
 }
 
 static LINES: [CommandLine; 18] = [
-    CommandLine { words: &["ga144", "debug"], settings: Some(Settings::Debug { limit: 1_000_000 }) },
-    CommandLine { words: &["ga144", "debug", "--limit", "3"], settings: Some(Settings::Debug { limit: 3 }) },
-    CommandLine { words: &["ga144", "debug", "--limit=3"], settings: Some(Settings::Debug { limit: 3 }) },
-    CommandLine { words: &["ga144", "debug", "--limit", "4000000"], settings: Some(Settings::Debug { limit: 4_000_000 }) },
-    CommandLine { words: &["ga144", "debug", "--limit", "0"], settings: None },
-    CommandLine { words: &["ga144", "debug", "--limit", "4000001"], settings: None },
-    CommandLine { words: &["ga144", "debug", "--limit", "4294967297"], settings: None },
-    CommandLine { words: &["ga144", "debug", "--limit", "3", "--limit", "4"], settings: None },
-    CommandLine { words: &["ga144", "debug", "--limit"], settings: None },
-    CommandLine { words: &["ga144", "debug", "x"], settings: None },
-    CommandLine { words: &["ga144"], settings: None },
-    CommandLine { words: &["ga144", "debugger"], settings: None },
+    CommandLine {
+        words: &["ga144", "debug"],
+        settings: Some(Settings::Debug { limit: 1_000_000 }),
+    },
+    CommandLine {
+        words: &["ga144", "debug", "--limit", "3"],
+        settings: Some(Settings::Debug { limit: 3 }),
+    },
+    CommandLine {
+        words: &["ga144", "debug", "--limit=3"],
+        settings: Some(Settings::Debug { limit: 3 }),
+    },
+    CommandLine {
+        words: &["ga144", "debug", "--limit", "4000000"],
+        settings: Some(Settings::Debug { limit: 4_000_000 }),
+    },
+    CommandLine {
+        words: &["ga144", "debug", "--limit", "0"],
+        settings: None,
+    },
+    CommandLine {
+        words: &["ga144", "debug", "--limit", "4000001"],
+        settings: None,
+    },
+    CommandLine {
+        words: &["ga144", "debug", "--limit", "4294967297"],
+        settings: None,
+    },
+    CommandLine {
+        words: &["ga144", "debug", "--limit", "3", "--limit", "4"],
+        settings: None,
+    },
+    CommandLine {
+        words: &["ga144", "debug", "--limit"],
+        settings: None,
+    },
+    CommandLine {
+        words: &["ga144", "debug", "x"],
+        settings: None,
+    },
+    CommandLine {
+        words: &["ga144"],
+        settings: None,
+    },
+    CommandLine {
+        words: &["ga144", "debugger"],
+        settings: None,
+    },
     CommandLine {
         words: &["ga144", "race", "--workers", "2", "--calls", "4"],
-        settings: Some(Settings::Race { workers: 2, calls: 4, limit: 1_000_000 }),
+        settings: Some(Settings::Race {
+            workers: 2,
+            calls: 4,
+            limit: 1_000_000,
+        }),
     },
     CommandLine {
-        words: &["ga144", "race", "--calls", "100000", "--limit", "7", "--workers", "16"],
-        settings: Some(Settings::Race { workers: 16, calls: 100_000, limit: 7 }),
+        words: &[
+            "ga144",
+            "race",
+            "--calls",
+            "100000",
+            "--limit",
+            "7",
+            "--workers",
+            "16",
+        ],
+        settings: Some(Settings::Race {
+            workers: 16,
+            calls: 100_000,
+            limit: 7,
+        }),
     },
-    CommandLine { words: &["ga144", "race", "--workers", "17", "--calls", "1"], settings: None },
-    CommandLine { words: &["ga144", "race", "--workers", "0", "--calls", "1"], settings: None },
-    CommandLine { words: &["ga144", "race", "--workers", "1", "--calls", "100001"], settings: None },
-    CommandLine { words: &["ga144", "race", "--workers", "1"], settings: None },
+    CommandLine {
+        words: &["ga144", "race", "--workers", "17", "--calls", "1"],
+        settings: None,
+    },
+    CommandLine {
+        words: &["ga144", "race", "--workers", "0", "--calls", "1"],
+        settings: None,
+    },
+    CommandLine {
+        words: &["ga144", "race", "--workers", "1", "--calls", "100001"],
+        settings: None,
+    },
+    CommandLine {
+        words: &["ga144", "race", "--workers", "1"],
+        settings: None,
+    },
 ];
 
 #[test]

@@ -1,12 +1,13 @@
 //! Streams that hand out little, fail, or go on past the bound.
 
+use crate::{Status, session};
 use arrayvec::ArrayVec;
 use std::io::{Error, ErrorKind, Read, Result, Write};
 use std::test::Fail;
 
-use crate::{Status, session};
+const INPUT: &[u8] =
+    b"ga144 1\nnode 000\np 000000\nram 00 004df2 000003\nend\nstep 000\nback\nback\nstep 000";
 
-const INPUT: &[u8] = b"ga144 1\nnode 000\np 000000\nram 00 004df2 000003\nend\nstep 000\nback\nback\nstep 000";
 const OUTPUT: &[u8] = b"ready\n000 1 fetch\nremoved 1 kept 0\nno 5 empty\n000 1 fetch\n";
 
 /// Hands out up to so many bytes at a call, and fails at one call.
@@ -224,7 +225,8 @@ impl Write for Kept {
     }
 }
 
-const STEPS: &[u8] = b"ga144 1\nnode 000\np 000000\nram 00 010000\nend\nstep 000\nstep 000\nstep 000\nstep 000\nstep 000\nstep 000\n";
+const STEPS: &[u8] =
+    b"ga144 1\nnode 000\np 000000\nram 00 010000\nend\nstep 000\nstep 000\nstep 000\nstep 000\nstep 000\nstep 000\n";
 
 static EVENTS: [&[u8]; 6] = [
     b"000 1 fetch\n",

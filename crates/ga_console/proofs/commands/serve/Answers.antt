@@ -1,4 +1,4 @@
-use Rattle.std.proofs.Common.{◌≡◌, ℕ, ◌-◌, ◌++◌, List, [], Option, Some, sym, ap, ◌∙◌, refl}
+use Rattle.std.proofs.Common.{◌≡◌, ℕ, ◌-◌, ◌++◌, List, Option, sym, ap, ◌∙◌, refl}
 use Rattle.std.proofs.lemmas.List.{append-nil}
 use Rattle.ga_console.specs.Output.{IsSaid}
 use Rattle.ga_console.specs.Session.{IsSaidAt, Written}
@@ -33,13 +33,29 @@ returns-then-send g c = λ left before said known held.
     let done = c.answer_lines.ensures left before said known held in
     let told = c.if-send.ensures.said before (said ++ done.2) (said_at c.answer_lines.result _ before (said ++ done.2) _ c.in_default.not-WriteFailed done.6) in
     let whole : told.sent ≡ said ++ done.2 =
-      sym (told.splits ∙ ap (λ (t : List ℕ). told.sent ++ t) c.if-send.ensures.sent ∙ append-nil told.sent) in
-    (done.0, done.1, done.2, told.sent, done.3, done.4, told.held, done.5,
-     written_whole c.answer_lines.result (said ++ done.2) told.sent c.in_default.not-WriteFailed whole)
+    sym (told.splits ∙ ap (λ (t : List ℕ). told.sent ++ t) c.if-send.ensures.sent ∙ append-nil told.sent) in (
+      done.0,
+      done.1,
+      done.2,
+      told.sent,
+      done.3,
+      done.4,
+      told.held,
+      done.5,
+      written_whole c.answer_lines.result (said ++ done.2) told.sent c.in_default.not-WriteFailed whole,
+    )
 
 pub returns-else-send : goal.returns-else-send
 returns-else-send g c = λ left before said known held.
     let done = c.answer_lines.ensures left before said known held in
-    let told = c.if-send.ensures.said before (said ++ done.2) (said_at c.answer_lines.result _ before (said ++ done.2) _ c.in_default.not-WriteFailed done.6) in
-    (done.0, done.1, done.2, told.sent, done.3, done.4, told.held,
-     cut_short (16777216 - c.args.input.now.taken) c.args.machine.now done.0 done.1 done.2 c.answer_lines.result done.5, told.front)
+    let told = c.if-send.ensures.said before (said ++ done.2) (said_at c.answer_lines.result _ before (said ++ done.2) _ c.in_default.not-WriteFailed done.6) in (
+      done.0,
+      done.1,
+      done.2,
+      told.sent,
+      done.3,
+      done.4,
+      told.held,
+      cut_short (16777216 - c.args.input.now.taken) c.args.machine.now done.0 done.1 done.2 c.answer_lines.result done.5,
+      told.front,
+    )

@@ -1,11 +1,11 @@
-use Rattle.std.proofs.Common.{◌≡◌, ◌≢◌, ℕ, ◌+◌, ◌-◌, Bool, true, false, List, [], ◌∷◌, ◌++◌, length, take, drop, refl, sym, ap, ◌∙◌, subst, arith, length-append, append_assoc}
+use Rattle.std.proofs.Common.{◌≡◌, ℕ, ◌-◌, Bool, true, false, List, [], ◌∷◌, ◌++◌, length, take, drop, sym, ap, ◌∙◌, subst, arith, length-append, append_assoc}
 use Rattle.std.proofs.lemmas.List.{append-nil}
 use Rattle.ga_console.proofs.PartLemmas.{where_err}
 use Rattle.std.proofs.lemmas.Bool.{false≢true}
 use Rattle.ga_console.specs.Lines.{ended}
 use Rattle.ga_console.specs.Input.{TakesPart, Unread}
 use Rattle.ga_console.specs.Image.{with_feed, end_line}
-use Rattle.ga_console.proofs.ImageLemmas.{Body, body_none, body_more, body_line, line_range, ends_here, no_end, over_piece, over_all, ended_piece}
+use Rattle.ga_console.proofs.ImageLemmas.{Body, body_more, body_line, line_range, no_end, over_piece, over_all, ended_piece}
 use Rattle.ga_console.proofs.image.read_image.Goals as goal
 
 -- what was taken, at a known value of the flag
@@ -31,18 +31,21 @@ parts-preserved-then-branch g c =
     record {
       within = c.in_ok-take_text.ensures.within;
       body =
-        let text : List ℕ = c.take_text.new.text.items in
-        let range : take (length c.deref.result.now - c.parts.start) (drop c.parts.start c.deref.result.now) ≡ ended (body.part ++ fed.0) =
+          let text : List ℕ = c.take_text.new.text.items in
+          let range : take (length c.deref.result.now - c.parts.start) (drop c.parts.start c.deref.result.now) ≡ ended (body.part ++ fed.0) =
           ap (λ (t : List ℕ). take (length t - c.parts.start) (drop c.parts.start t)) c.deref.ensures.value
           ∙ line_range c.parts.text.items text c.parts.start fed.0 body fed.2 in
-        let other : ended (body.part ++ fed.0) ≡ ended end_line → ⊥ = λ e. false≢true (test.1 (range ∙ e)) in
-        let at : length text ≡ c.len-start.result = ap length (sym c.deref.ensures.value) ∙ c.deref.ensures.len ∙ sym c.len-start.ensures in
-        subst (Body text) at (body_line c.parts.text.items text c.parts.start fed.0 body fed.1.0 fed.2 other);
+          let other : ended (body.part ++ fed.0) ≡ ended end_line → ⊥ = λ e. false≢true (test.1 (range ∙ e)) in
+          let at : length text ≡ c.len-start.result = ap length (sym c.deref.ensures.value) ∙ c.deref.ensures.len ∙ sym c.len-start.ensures in
+          subst (Body text) at (body_line c.parts.text.items text c.parts.start fed.0 body fed.1.0 fed.2 other);
       counts = omega (arith, c.parts.invariant.counts, fed.1.2, ap length fed.2, length-append c.parts.text.items (ended fed.0), length-append fed.0 (10 ∷ []));
       known = λ left known.
-        let inv = c.parts.invariant.known left known in
-        (inv.0, inv.1, over_piece _ c.parts.text.items _ (ended fed.0) c.parts.input.bytes c.take_text.new.self.bytes inv.0 inv.2
-          (ended_piece c.parts.input.bytes fed.0 c.take_text.new.self.bytes fed.1.1) fed.2);
+          let inv = c.parts.invariant.known left known in (
+            inv.0,
+            inv.1,
+            over_piece _ c.parts.text.items _ (ended fed.0) c.parts.input.bytes c.take_text.new.self.bytes inv.0 inv.2
+                (ended_piece c.parts.input.bytes fed.0 c.take_text.new.self.bytes fed.1.1) fed.2,
+          );
     }
 
 pub parts-preserved : goal.parts-preserved
@@ -54,38 +57,62 @@ parts-preserved g c =
       body = body_more c.parts.text.items c.take_text.new.text.items c.parts.start fed.0 body fed.1.0 fed.2;
       counts = omega (arith, c.parts.invariant.counts, fed.1.3, c.in-More.ensures.taken, ap length fed.2, length-append c.parts.text.items fed.0);
       known = λ left known.
-        let inv = c.parts.invariant.known left known in
-        let filled = c.in-More.ensures.fills inv.0 inv.1 in
-        (filled.0, filled.1, over_all _ c.parts.text.items c.take_text.new.text.items c.parts.input.bytes inv.0 inv.2
-          (fed.2 ∙ ap (λ (t : List ℕ). c.parts.text.items ++ t) (sym fed.1.1)) ∙ ap (λ (t : List ℕ). c.take_text.new.text.items ++ t) filled.2);
+          let inv = c.parts.invariant.known left known in
+          let filled = c.in-More.ensures.fills inv.0 inv.1 in (
+            filled.0,
+            filled.1,
+            over_all _ c.parts.text.items c.take_text.new.text.items c.parts.input.bytes inv.0 inv.2
+                (fed.2 ∙ ap (λ (t : List ℕ). c.parts.text.items ++ t) (sym fed.1.1)) ∙ ap (λ (t : List ℕ). c.take_text.new.text.items ++ t) filled.2,
+          );
     }
 
 pub returns-in-End-clause-reads : goal.returns-in-End-clause-reads
 returns-in-End-clause-reads g c = λ left known.
     let fed = took c.parts.input c.parts.text.items c.take_text.new.self c.take_text.new.text.items c.in_ok-take_text.field-0 false c.if-branch.false c.in_ok-take_text.ensures.takes in
     let inv = c.parts.invariant.known left known in
-    let filled = c.in-End.ensures.fills inv.0 inv.1 in
-    (filled.0, filled.1, (over_all _ c.parts.text.items c.take_text.new.text.items c.parts.input.bytes inv.0 inv.2
-      (fed.2 ∙ ap (λ (t : List ℕ). c.parts.text.items ++ t) (sym fed.1.1)) ∙ ap (λ (t : List ℕ). c.take_text.new.text.items ++ t) filled.2.0 ∙ append-nil c.take_text.new.text.items,
-      no_end c.take_text.new.text.items c.parts.start (body_more c.parts.text.items c.take_text.new.text.items c.parts.start fed.0 c.parts.invariant.body fed.1.0 fed.2),
-      omega (arith, c.parts.invariant.counts, fed.1.3, c.in-End.ensures.taken, ap length fed.2, length-append c.parts.text.items fed.0), c.in-End.ensures.filled, filled.2.1))
+    let filled = c.in-End.ensures.fills inv.0 inv.1 in (
+      filled.0,
+      filled.1,
+      (
+        over_all _ c.parts.text.items c.take_text.new.text.items c.parts.input.bytes inv.0 inv.2
+            (fed.2 ∙ ap (λ (t : List ℕ). c.parts.text.items ++ t) (sym fed.1.1)) ∙ ap (λ (t : List ℕ). c.take_text.new.text.items ++ t) filled.2.0 ∙ append-nil c.take_text.new.text.items,
+        no_end c.take_text.new.text.items c.parts.start (body_more c.parts.text.items c.take_text.new.text.items c.parts.start fed.0 c.parts.invariant.body fed.1.0 fed.2),
+        omega (arith, c.parts.invariant.counts, fed.1.3, c.in-End.ensures.taken, ap length fed.2, length-append c.parts.text.items fed.0),
+        c.in-End.ensures.filled,
+        filled.2.1,
+      ),
+    )
 
 pub returns-in-Past-clause-reads : goal.returns-in-Past-clause-reads
 returns-in-Past-clause-reads g c = λ left known.
     let fed = took c.parts.input c.parts.text.items c.take_text.new.self c.take_text.new.text.items c.in_ok-take_text.field-0 false c.if-branch.false c.in_ok-take_text.ensures.takes in
     let inv = c.parts.invariant.known left known in
-    let filled = c.in-Past.ensures.fills inv.0 inv.1 in
-    (filled.0, filled.1, ((filled.2.1.0, over_all _ c.parts.text.items c.take_text.new.text.items c.parts.input.bytes inv.0 inv.2
-      (fed.2 ∙ ap (λ (t : List ℕ). c.parts.text.items ++ t) (sym fed.1.1)) ∙ ap (λ (t : List ℕ). c.take_text.new.text.items ++ t) filled.2.1.1),
-      no_end c.take_text.new.text.items c.parts.start (body_more c.parts.text.items c.take_text.new.text.items c.parts.start fed.0 c.parts.invariant.body fed.1.0 fed.2),
-      omega (arith, c.parts.invariant.counts, fed.1.3, c.in-Past.ensures.taken, ap length fed.2, length-append c.parts.text.items fed.0),
-      omega (arith, filled.2.0, c.in-Past.ensures.taken), c.in-Past.ensures.filled))
+    let filled = c.in-Past.ensures.fills inv.0 inv.1 in (
+      filled.0,
+      filled.1,
+      (
+        (
+          filled.2.1.0,
+          over_all _ c.parts.text.items c.take_text.new.text.items c.parts.input.bytes inv.0 inv.2
+              (fed.2 ∙ ap (λ (t : List ℕ). c.parts.text.items ++ t) (sym fed.1.1)) ∙ ap (λ (t : List ℕ). c.take_text.new.text.items ++ t) filled.2.1.1,
+        ),
+        no_end c.take_text.new.text.items c.parts.start (body_more c.parts.text.items c.take_text.new.text.items c.parts.start fed.0 c.parts.invariant.body fed.1.0 fed.2),
+        omega (arith, c.parts.invariant.counts, fed.1.3, c.in-Past.ensures.taken, ap length fed.2, length-append c.parts.text.items fed.0),
+        omega (arith, filled.2.0, c.in-Past.ensures.taken),
+        c.in-Past.ensures.filled,
+      ),
+    )
 
 pub returns-in-Failed-clause-reads : goal.returns-in-Failed-clause-reads
 returns-in-Failed-clause-reads g c = λ left known.
     let fed = took c.parts.input c.parts.text.items c.take_text.new.self c.take_text.new.text.items c.in_ok-take_text.field-0 false c.if-branch.false c.in_ok-take_text.ensures.takes in
     let inv = c.parts.invariant.known left known in
-    let filled = c.in-Failed.ensures.fills inv.0 inv.1 in
-    (filled.0, filled.1, (over_all _ c.parts.text.items c.take_text.new.text.items c.parts.input.bytes inv.0 inv.2
-      (fed.2 ∙ ap (λ (t : List ℕ). c.parts.text.items ++ t) (sym fed.1.1)) ∙ ap (λ (t : List ℕ). c.take_text.new.text.items ++ t) (sym filled.2),
-      no_end c.take_text.new.text.items c.parts.start (body_more c.parts.text.items c.take_text.new.text.items c.parts.start fed.0 c.parts.invariant.body fed.1.0 fed.2)))
+    let filled = c.in-Failed.ensures.fills inv.0 inv.1 in (
+      filled.0,
+      filled.1,
+      (
+        over_all _ c.parts.text.items c.take_text.new.text.items c.parts.input.bytes inv.0 inv.2
+            (fed.2 ∙ ap (λ (t : List ℕ). c.parts.text.items ++ t) (sym fed.1.1)) ∙ ap (λ (t : List ℕ). c.take_text.new.text.items ++ t) (sym filled.2),
+        no_end c.take_text.new.text.items c.parts.start (body_more c.parts.text.items c.take_text.new.text.items c.parts.start fed.0 c.parts.invariant.body fed.1.0 fed.2),
+      ),
+    )

@@ -9,7 +9,7 @@ invariant-parts g l = record {
   body : Body l.text.items l.start;
   counts : l.input.taken ≡ l.fn.input.taken + length l.text.items;
   known : (left : List ℕ) → g.R.Read.remaining l.fn.reader ≡ Some left →
-    (rest : List ℕ) × (g.R.Read.remaining l.reader ≡ Some rest) × (l.fn.input.bytes ++ left ≡ l.text.items ++ (l.input.bytes ++ rest));
+      (rest : List ℕ) × (g.R.Read.remaining l.reader ≡ Some rest) × (l.fn.input.bytes ++ left ≡ l.text.items ++ (l.input.bytes ++ rest));
 }
 
 -- what may still be read counts twice, what was read once

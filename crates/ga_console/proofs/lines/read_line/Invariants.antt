@@ -10,11 +10,11 @@ invariant-parts g l = record {
   within : IsWithin l.input;
   goes_on : l.fn.input.taken ≤ l.input.taken;
   part : (left : List ℕ) → g.R.Read.remaining l.fn.reader ≡ Some left →
-    (part : List ℕ) × (rest : List ℕ) × (g.R.Read.remaining l.reader ≡ Some rest)
-    × IsLine (l.fn.input.bytes ++ left) l.line.items part (l.input.bytes ++ rest)
-    × (l.input.taken ≡ l.fn.input.taken + length part);
+      (part : List ℕ) × (rest : List ℕ) × (g.R.Read.remaining l.reader ≡ Some rest)
+      × IsLine (l.fn.input.bytes ++ left) l.line.items part (l.input.bytes ++ rest)
+      × (l.input.taken ≡ l.fn.input.taken + length part);
   said : (before said : List ℕ) → IsSaid (g.W.Write.contents l.fn.writer) before said l.fn.output
-    → IsSaid (g.W.Write.contents l.writer) before said l.output;
+      → IsSaid (g.W.Write.contents l.writer) before said l.output;
 }
 
 -- how many bytes may still be read

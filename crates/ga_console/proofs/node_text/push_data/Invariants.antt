@@ -1,4 +1,4 @@
-use Rattle.std.proofs.Common.{◌≡◌, ℕ, ◌+◌, ◌*◌, ◌++◌, length}
+use Rattle.std.proofs.Common.{◌≡◌, ◌+◌, ◌*◌, ◌++◌, length}
 use Rattle.ga_node.specs.Record.{record_of}
 use Rattle.ga_console.specs.Texts.{words_text}
 use Rattle.ga_console.proofs.node_text.push_data.Given as goal

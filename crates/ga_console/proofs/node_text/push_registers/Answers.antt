@@ -1,5 +1,4 @@
-use Rattle.std.proofs.Common.{◌≡◌, ℕ, List, ◌++◌, codes, decimal, ap, ◌∙◌}
-use Rattle.std.specs.Int.{from_bool}
+use Rattle.std.proofs.Common.{ℕ, List, ◌++◌, codes}
 use Rattle.ga_word.specs.Word.{hex6_of}
 use Rattle.ga_node.specs.Record.{record_of}
 use Rattle.ga_console.proofs.PushLemmas.{piece_more, word_more}

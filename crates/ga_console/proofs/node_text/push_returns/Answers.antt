@@ -1,4 +1,4 @@
-use Rattle.std.proofs.Common.{◌≡◌, ℕ, suc, ◌+◌, ◌*◌, List, [], ◌∷◌, ◌++◌, length, ap, sym, ◌∙◌, arith, append_assoc}
+use Rattle.std.proofs.Common.{◌≡◌, ℕ, suc, ◌+◌, List, [], ◌∷◌, ◌++◌, ap, ◌∙◌, arith, append_assoc}
 use Rattle.std.specs.Prelude.{slice_index}
 use Rattle.ga_word.specs.Word.{hex6_of}
 use Rattle.ga_node.specs.Record.{record_of}
@@ -16,6 +16,6 @@ loop-place-preserved c =
     let word = word_more c.loop-place.out.items c.push_text.new.out.items c.push_word.new.out.items (32 ∷ []) c.r.result _ c.r.ensures.value c.push_text.ensures.text c.push_word.ensures.text in
     record {
       text = word ∙ ap (λ (t : List ℕ). t ++ 32 ∷ hex6_of (slice_index words place)) c.loop-place.invariant.text ∙ append_assoc old before (32 ∷ hex6_of (slice_index words place))
-        ∙ ap (λ (k : ℕ). old ++ words_text words k) next;
+          ∙ ap (λ (k : ℕ). old ++ words_text words k) next;
       len = omega (arith, c.loop-place.invariant.len, c.push_text.ensures.len, c.push_word.ensures.len);
     }

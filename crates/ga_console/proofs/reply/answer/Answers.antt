@@ -1,7 +1,7 @@
-use Rattle.std.proofs.Common.{◌≡◌, ◌≢◌, ◌<◌, ◌≤◌, ℕ, List, [], ◌∷◌, ◌++◌, take, length, get_or, refl, sym, ap, ◌∙◌, arith, length-take}
+use Rattle.std.proofs.Common.{◌≡◌, ◌<◌, ◌≤◌, ℕ, List, take, length, get_or, refl, sym, ap, ◌∙◌, arith, length-take}
 use Rattle.std.proofs.lemmas.List.{take_all}
 use Rattle.ga_console.specs.Commands.{spelling}
-use Rattle.ga_console.specs.Replies.{Answer, Obeys, AnswersLine, quit_line}
+use Rattle.ga_console.specs.Replies.{Obeys, AnswersLine, quit_line}
 use Rattle.ga_console.specs.Replies.Answer.{long, command, syntax}
 use Rattle.ga_console.specs.Machine.{MachineState}
 use Rattle.ga_console.specs.declared.reply.Turn.{Turn}
@@ -35,9 +35,10 @@ returns-then-len-gt-LINE_LIMIT c = λ part kept.
 pub returns-in-None : goal.returns-in-None
 returns-in-None c = λ part kept.
     let short : length c.args.line.now.items ≤ 200 = omega (arith, c.if-len-gt-LINE_LIMIT.false, c.len.ensures.value) in
-    let same : part ≡ c.as_slice.result.now = whole c.args.line.now.items part kept short ∙ sym c.as_slice.ensures.value in
-    (syntax (omega (arith, ap length same, ap length c.as_slice.ensures.value)) (λ d e. c.in-None.ensures.none d (sym same ∙ e)) (c.push_text-in-None.ensures.text ∙ rw c.clear.ensures refl) refl,
-     λ e. c.in-None.ensures.none Quit (sym same ∙ e))
+    let same : part ≡ c.as_slice.result.now = whole c.args.line.now.items part kept short ∙ sym c.as_slice.ensures.value in (
+      syntax (omega (arith, ap length same, ap length c.as_slice.ensures.value)) (λ d e. c.in-None.ensures.none d (sym same ∙ e)) (c.push_text-in-None.ensures.text ∙ rw c.clear.ensures refl) refl,
+      λ e. c.in-None.ensures.none Quit (sym same ∙ e),
+    )
 
 obeyed : (m : MachineState) (line answer : List ℕ) (new : MachineState) (r : Turn) (d : Command) → length line ≤ 200 → line ≡ spelling d
     → Obeys m d answer new r → AnswersLine m line answer new r
@@ -50,4 +51,4 @@ pub returns-in-Some : goal.returns-in-Some
 returns-in-Some c =
     let short : length c.args.line.now.items ≤ 200 = omega (arith, c.if-len-gt-LINE_LIMIT.false, c.len.ensures.value) in
     obeyed c.args.machine.now c.args.line.now.items c.obey.new.out.items c.obey.new.machine c.obey.result c.in-Some.command short
-      (sym c.as_slice.ensures.value ∙ c.in-Some.ensures.some) c.obey.ensures
+    (sym c.as_slice.ensures.value ∙ c.in-Some.ensures.some) c.obey.ensures

@@ -1,7 +1,5 @@
-use Rattle.std.proofs.Common.{◌≡◌, ℕ, List, ap, ◌∙◌}
-use Rattle.ga_node.specs.Record.{NodeRecord}
+use Rattle.std.proofs.Common.{ℕ, List, ap, ◌∙◌}
 use Rattle.ga_console.specs.Commands.{served}
-use Rattle.ga_console.specs.Machine.{node_of}
 use Rattle.ga_console.specs.Texts.{node_text}
 use Rattle.ga_console.specs.Replies.{Reply}
 use Rattle.ga_console.proofs.reply.show.Goals as goal

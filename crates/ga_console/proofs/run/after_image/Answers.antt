@@ -1,14 +1,19 @@
-use Rattle.std.proofs.Common.{◌≡◌, ℕ, ◌+◌, ◌-◌, List, [], ◌∷◌, ◌++◌, Some, length, inl, inr, refl, sym, ap, ◌∙◌, subst, append_assoc, arith}
-use Rattle.std.proofs.lemmas.List.{append-nil}
+use Rattle.std.proofs.Common.{inl, inr, refl}
 use Rattle.ga_console.specs.Output.{ready}
 use Rattle.ga_console.proofs.RunLemmas.{said_fresh}
 use Rattle.ga_console.proofs.run.after_image.Goals as goal
 
 pub returns-in-Ok : goal.returns-in-Ok
 returns-in-Ok g c = λ left before known held.
-    let done = c.serve.ensures left before ready known (said_fresh _ before ready c.ready-output.result held c.ready-output.ensures) in
-    (done.0, done.1, done.3, done.4, done.5, done.6,
-     inl (c.in-Ok.machine, c.in-Ok.ensures.ok, c.serve.result, c.status_of.ensures, done.2, done.7, done.8))
+    let done = c.serve.ensures left before ready known (said_fresh _ before ready c.ready-output.result held c.ready-output.ensures) in (
+      done.0,
+      done.1,
+      done.3,
+      done.4,
+      done.5,
+      done.6,
+      inl (c.in-Ok.machine, c.in-Ok.ensures.ok, c.serve.result, c.status_of.ensures, done.2, done.7, done.8),
+    )
 
 pub returns-in-Err : goal.returns-in-Err
 returns-in-Err g c = λ left before known held.

@@ -1,4 +1,4 @@
-use Rattle.std.proofs.Common.{◌≡◌, ℕ, ◌+◌, ◌-◌, List, [], ◌∷◌, ◌++◌, Some, length, inl, inr, refl, sym, ap, ◌∙◌, subst, append_assoc, arith}
+use Rattle.std.proofs.Common.{◌≡◌, ℕ, List, [], ◌∷◌, ◌++◌, Some, inl, inr, refl, sym, ap, ◌∙◌, append_assoc, arith}
 use Rattle.std.proofs.lemmas.List.{append-nil}
 use Rattle.ga_image.specs.Reading.{no_memory}
 use Rattle.ga_console.specs.Input.{Unread}
@@ -15,17 +15,29 @@ taken_none u e = ap (λ (v : Unread). v.taken) e
 pub returns-in-Err : goal.returns-in-Err
 returns-in-Err g c = λ left before known held.
     let got = c.in-Err.ensures.err left known in
-    let sent = c.refuse.ensures before held in
-    (got.0, got.1, sent.0, from_start c.new-input.result left (got.0 ++ got.1) c.new-input.ensures got.3, got.2, sent.1,
-     runs_refused c.args.limit got.0 got.1 sent.0 no_memory c.refuse.result (inl refl) sent.2)
+    let sent = c.refuse.ensures before held in (
+      got.0,
+      got.1,
+      sent.0,
+      from_start c.new-input.result left (got.0 ++ got.1) c.new-input.ensures got.3,
+      got.2,
+      sent.1,
+      runs_refused c.args.limit got.0 got.1 sent.0 no_memory c.refuse.result (inl refl) sent.2,
+    )
 
 pub returns-in-Ok-Failed : goal.returns-in-Ok-Failed
 returns-in-Ok-Failed g c = λ left before known held.
     let reads = rw c.in-Ok-Failed.field-0-is at c.in-Ok-Failed.ensures.reads in
     let got = reads left known in
-    let text : List ℕ = c.read_image.new.text.items in
-    (text, got.0, [], from_start c.new-input.result left (text ++ got.0) c.new-input.ensures got.2.0, got.1, held ∙ ap Some (sym (append-nil before)),
-     inr (inl (refl, got.2.1)))
+    let text : List ℕ = c.read_image.new.text.items in (
+      text,
+      got.0,
+      [],
+      from_start c.new-input.result left (text ++ got.0) c.new-input.ensures got.2.0,
+      got.1,
+      held ∙ ap Some (sym (append-nil before)),
+      inr (inl (refl, got.2.1)),
+    )
 
 pub returns-in-Ok-Past : goal.returns-in-Ok-Past
 returns-in-Ok-Past g c = λ left before known held.
@@ -33,10 +45,15 @@ returns-in-Ok-Past g c = λ left before known held.
     let got = reads left known in
     let text : List ℕ = c.read_image.new.text.items in
     let b = got.2.0.0 in
-    let done = c.after_all.ensures before held in
-    (text ++ b ∷ [], got.0, done.0,
-     from_start c.new-input.result left (text ++ b ∷ got.0) c.new-input.ensures got.2.0.1 ∙ sym (append_assoc text (b ∷ []) got.0), got.1, done.1,
-     runs_all c.args.limit text got.0 done.0 b c.after_all.result (omega (arith, got.2.2, got.2.3, taken_none c.new-input.result c.new-input.ensures)) got.2.1 done.2)
+    let done = c.after_all.ensures before held in (
+      text ++ b ∷ [],
+      got.0,
+      done.0,
+      from_start c.new-input.result left (text ++ b ∷ got.0) c.new-input.ensures got.2.0.1 ∙ sym (append_assoc text (b ∷ []) got.0),
+      got.1,
+      done.1,
+      runs_all c.args.limit text got.0 done.0 b c.after_all.result (omega (arith, got.2.2, got.2.3, taken_none c.new-input.result c.new-input.ensures)) got.2.1 done.2,
+    )
 
 pub returns-in-Ok-Ended : goal.returns-in-Ok-Ended
 returns-in-Ok-Ended g c = λ left before known held.
@@ -45,23 +62,31 @@ returns-in-Ok-Ended g c = λ left before known held.
     let text : List ℕ = c.read_image.new.text.items in
     let done = c.after_image.ensures got.0 before got.1 held in
     let empty : c.read_image.new.input.bytes ++ got.0 ≡ [] = ap (λ (l : List ℕ). l ++ got.0) got.2.3 ∙ got.2.4 in
-    let nil = nothing_left done.0 done.1 (sym empty ∙ done.3) in
-    (text ++ done.0, done.1, done.2,
-     from_start c.new-input.result left text c.new-input.ensures got.2.0
-       ∙ sym (append_assoc text done.0 done.1 ∙ ap (λ (l : List ℕ). text ++ l) (sym done.3 ∙ empty) ∙ append-nil text),
-     done.4, done.5,
-     runs_after c.args.limit c.read_image.new.input.taken text done.0 done.1 done.2 c.after_image.result
-       (omega (arith, got.2.2, taken_none c.new-input.result c.new-input.ensures)) (inr (inl (nil.0, nil.1, got.2.1))) done.6)
+    let nil = nothing_left done.0 done.1 (sym empty ∙ done.3) in (
+      text ++ done.0,
+      done.1,
+      done.2,
+      from_start c.new-input.result left text c.new-input.ensures got.2.0
+          ∙ sym (append_assoc text done.0 done.1 ∙ ap (λ (l : List ℕ). text ++ l) (sym done.3 ∙ empty) ∙ append-nil text),
+      done.4,
+      done.5,
+      runs_after c.args.limit c.read_image.new.input.taken text done.0 done.1 done.2 c.after_image.result
+          (omega (arith, got.2.2, taken_none c.new-input.result c.new-input.ensures)) (inr (inl (nil.0, nil.1, got.2.1))) done.6,
+    )
 
 pub returns-in-Ok-EndLine : goal.returns-in-Ok-EndLine
 returns-in-Ok-EndLine g c = λ left before known held.
     let reads = rw c.in-Ok-EndLine.field-0-is at c.in-Ok-EndLine.ensures.reads in
     let got = reads left known in
     let text : List ℕ = c.read_image.new.text.items in
-    let done = c.after_image-in-Ok-EndLine.ensures got.0 before got.1 held in
-    (text ++ done.0, done.1, done.2,
-     from_start c.new-input.result left (text ++ (c.read_image.new.input.bytes ++ got.0)) c.new-input.ensures got.2.0
-       ∙ ap (λ (l : List ℕ). text ++ l) done.3 ∙ sym (append_assoc text done.0 done.1),
-     done.4, done.5,
-     runs_after c.args.limit c.read_image.new.input.taken text done.0 done.1 done.2 c.after_image-in-Ok-EndLine.result
-       (omega (arith, got.2.2, taken_none c.new-input.result c.new-input.ensures)) (inl got.2.1) done.6)
+    let done = c.after_image-in-Ok-EndLine.ensures got.0 before got.1 held in (
+      text ++ done.0,
+      done.1,
+      done.2,
+      from_start c.new-input.result left (text ++ (c.read_image.new.input.bytes ++ got.0)) c.new-input.ensures got.2.0
+          ∙ ap (λ (l : List ℕ). text ++ l) done.3 ∙ sym (append_assoc text done.0 done.1),
+      done.4,
+      done.5,
+      runs_after c.args.limit c.read_image.new.input.taken text done.0 done.1 done.2 c.after_image-in-Ok-EndLine.result
+          (omega (arith, got.2.2, taken_none c.new-input.result c.new-input.ensures)) (inl got.2.1) done.6,
+    )

@@ -1,4 +1,4 @@
-use Rattle.std.proofs.Common.{rules, ◌≡◌, ◌+◌, ◌≤◌, ◌<◌, ◌^◌, ◌∷◌, [], ◌++◌, length, decimal, ℕ, List, ◌/◌, ◌%◌, ap, sym, ◌∙◌, refl, arith, append_assoc, length-append}
+use Rattle.std.proofs.Common.{rules, ◌≡◌, ◌+◌, ◌≤◌, ◌<◌, ◌^◌, ◌∷◌, [], length, decimal, ℕ, ◌/◌, ◌%◌, ap, ◌∙◌, refl, arith, append_assoc, length-append}
 use Rattle.std.proofs.lemmas.Fmt.{decimal_step, decimal_digit}
 use Rattle.ga_console.proofs.text.+push_decimal.Goals as goal
 use Rattle.ga_console.proofs.text.+push_decimal.Goals.{then-number-ge10, else-number-ge10}
@@ -17,10 +17,12 @@ push-requires t c =
     ] in (search rules, room)
 
 pub returns : goal.returns
-returns t c = record { text = c.push.ensures.items ∙ elim c.if-number-ge10.branch [
-      | then-number-ge10 w ↦ rw (w.out-is, w.push_decimal.ensures.text, decimal_step c.args.number w.if-number-ge10.true (omega (arith, c.ranges.number.fits))) (append_assoc c.args.out.now.items (decimal (c.args.number / 10)) ((48 + c.args.number % 10) ∷ []))
-      | else-number-ge10 w ↦
+returns t c = record {
+  text = c.push.ensures.items ∙ elim c.if-number-ge10.branch [
+    | then-number-ge10 w ↦ rw (w.out-is, w.push_decimal.ensures.text, decimal_step c.args.number w.if-number-ge10.true (omega (arith, c.ranges.number.fits))) (append_assoc c.args.out.now.items (decimal (c.args.number / 10)) ((48 + c.args.number % 10) ∷ []))
+    | else-number-ge10 w ↦
         let small : c.args.number < 10 = omega (arith, w.if-number-ge10.false) in
         let same : c.args.number % 10 ≡ c.args.number = omega arith in
         rw (w.out-is, same, decimal_digit c.args.number small) refl
-    ] }
+  ];
+}

@@ -1,4 +1,4 @@
-use Rattle.std.proofs.Common.{◌≡◌, ◌+◌, ◌≤◌, ◌<◌, ◌^◌, length, decimal, ℕ, ap, arith, length-append}
+use Rattle.std.proofs.Common.{◌≤◌, ◌<◌, ◌^◌, length, decimal, ℕ, ap, arith, length-append}
 use Rattle.std.proofs.lemmas.Fmt.{length-decimal-le}
 use Rattle.ga_console.proofs.text.push_number.Goals as goal
 

@@ -1,4 +1,4 @@
-use Rattle.std.proofs.Common.{◌≡◌, ℕ, ◌+◌, ◌-◌, ◌≤◌, ◌<◌, List, ◌∷◌, ◌++◌, length, take, drop, sym, ap, ◌∙◌, arith, length-take}
+use Rattle.std.proofs.Common.{◌≡◌, ℕ, List, take, sym, ap, ◌∙◌, arith, length-take}
 use Rattle.std.specs.Prelude.{slice_range}
 use Rattle.ga_console.specs.Input.{Unread}
 use Rattle.ga_console.proofs.PartLemmas.{range_at_feed}
@@ -17,8 +17,12 @@ returns-in-Some-clause-takes c =
     let u = c.self.inside in
     let ahead : List ℕ = slice_range u.block u.start u.«end» in
     let bytes : ahead ≡ c.args.self.now.bytes = ap bytes_of c.self.view_is in
-    let taken : u.taken ≡ c.args.self.now.taken = ap taken_of c.self.view_is in
-    (take c.in-Some.count ahead,
-     (found.1, sym bytes ∙ range_at_feed u.block u.start u.«end» c.in-Some.count (omega arith) found.0 found.2,
-      omega (arith, taken, found.0, length-take c.in-Some.count ahead)),
-     c.keep.ensures)
+    let taken : u.taken ≡ c.args.self.now.taken = ap taken_of c.self.view_is in (
+      take c.in-Some.count ahead,
+      (
+        found.1,
+        sym bytes ∙ range_at_feed u.block u.start u.«end» c.in-Some.count (omega arith) found.0 found.2,
+        omega (arith, taken, found.0, length-take c.in-Some.count ahead),
+      ),
+      c.keep.ensures,
+    )

@@ -1,7 +1,6 @@
-use Rattle.std.proofs.Common.{◌≡◌, ℕ, List, [], length, sym, ap, subst, arith, refl, ◌∙◌}
-use Rattle.ga_node.specs.Record.{record_of}
+use Rattle.std.proofs.Common.{List, length, sym, ap, subst, arith}
 use Rattle.ga_console.specs.declared.machine.Entry.{Entry}
-use Rattle.ga_console.specs.Machine.{MachineState, at_start}
+use Rattle.ga_console.specs.Machine.{MachineState}
 use Rattle.ga_console.specs.Journal.{walked_back, LeadForward, machine_of}
 use Rattle.ga_console.proofs.machine.Machine.new.Goals as goal
 

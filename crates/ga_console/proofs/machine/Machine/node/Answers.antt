@@ -1,4 +1,4 @@
-use Rattle.std.proofs.Common.{◌≡◌, sym, ap, ◌∙◌}
+use Rattle.std.proofs.Common.{sym, ap, ◌∙◌}
 use Rattle.ga_console.specs.Machine.{node_of}
 use Rattle.ga_console.proofs.JournalLemmas.{node_replays}
 use Rattle.ga_console.proofs.machine.Machine.node.Goals as goal

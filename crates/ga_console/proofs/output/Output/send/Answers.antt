@@ -1,4 +1,4 @@
-use Rattle.std.proofs.Common.{ℕ, List, [], ◌≡◌, sym, ◌∙◌}
+use Rattle.std.proofs.Common.{[], ◌≡◌, sym, ◌∙◌}
 use Rattle.ga_console.proofs.SaidLemmas.{said_same}
 use Rattle.ga_console.proofs.output.Output.send.Goals as goal
 
