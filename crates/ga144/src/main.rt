@@ -2,9 +2,8 @@
 #![tactic(auto)]
 
 use ga_console::{LineFault, Settings, Status, arguments, session};
-use std::env;
-use std::io;
 use std::process::ExitCode;
+use std::{env, io};
 
 fn main(rt: HostRuntime) -> ExitCode {
     match settings(&rt) {
@@ -27,7 +26,11 @@ fn settings(rt: &HostRuntime) -> Result<Settings, LineFault> {
     let Ok(words) = words.collect::<Vec<String>>(rt.alloc()) else {
         return Err(LineFault::Refused);
     };
-    let Ok(texts) = words.iter().map(|word| word.as_str()).collect::<Vec<&str>>(rt.alloc()) else {
+    let Ok(texts) = words
+        .iter()
+        .map(|word| word.as_str())
+        .collect::<Vec<&str>>(rt.alloc())
+    else {
         return Err(LineFault::Refused);
     };
     arguments(rt.alloc(), texts.as_slice())
