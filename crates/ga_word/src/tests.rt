@@ -10,7 +10,7 @@ fn word(number: u32) -> Result<Word18, Fail> {
 fn multiply_steps(rt: HostRuntime) -> Result<(), Fail> {
     let rows = [
         ((3, 5, 1), (4, 0)),
-        ((2, 5, 3), (4, 0x20001)),
+        ((2, 5, 3), (3, 0x20001)),
         ((0x3ffff, 0, 0), (0x3ffff, 0x20000)),
         ((0x20000, 0x3ffff, 1), (0x2ffff, 0x20000)),
     ];
