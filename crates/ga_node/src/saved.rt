@@ -57,7 +57,7 @@ impl Saved {
     pub fn clear(&mut self)
         ensures { self.new ≡ [] }
     {
-        self.words.clear();
+        self.words = ArrayVec::new();
     }
 
     /// Adds a place and its old value.
