@@ -94,44 +94,78 @@ fn stops(rt: HostRuntime) {
 }
 
 #[test]
-fn transfers_and_takes_back(rt: HostRuntime) {
+fn transfers_and_takes_back(rt: HostRuntime) -> Result<(), Fail> {
     let mut kinds = [Kind::Fetch; 8];
     let mut sender = loaded(&[0x04b12, 0x001d5, 0x0002a, 0x089b2]);
     let mut taker = loaded(&[0x04b02, 0x001d5]);
     let _reason = run(&mut sender, &mut kinds);
     let _reason = run(&mut taker, &mut kinds);
-    if let (Wait::Write(_), Wait::Read(_)) = (sender.wait(), taker.wait()) {
-        let (word, given) = sender.send_half();
-        let taken = taker.take_half(word);
-        assert_eq!(rt; word.get(), 0x2a);
-        assert_eq!(rt; taker.d(0), 0x2a);
-        assert_eq!(rt; taker.get(Place::Slot), 3);
-        assert_eq!(rt; sender.get(Place::Slot), 1);
-        sender.restore(&given);
-        taker.restore(&taken);
-    }
+    let (Wait::Write(_), Wait::Read(_)) = (sender.wait(), taker.wait()) else {
+        return Err(Fail::new("no wait"));
+    };
+    let (word, given) = sender.send_half();
+    let taken = taker.take_half(word);
+    assert_eq!(rt; word.get(), 0x2a);
+    assert_eq!(rt; taker.d(0), 0x2a);
+    assert_eq!(rt; taker.get(Place::Slot), 3);
+    assert_eq!(rt; sender.get(Place::Slot), 1);
+    sender.restore(&given);
+    taker.restore(&taken);
     assert_eq!(rt; sender.get(Place::Wait), 56);
     assert_eq!(rt; taker.get(Place::Wait), 40);
     assert_eq!(rt; sender.d(0), 0x2a);
     assert_eq!(rt; taker.d(0), 0x15555);
+    Ok(())
 }
 
 #[test]
-fn waits_for_an_instruction(rt: HostRuntime) {
+fn waits_for_an_instruction(rt: HostRuntime) -> Result<(), Fail> {
     let mut node = Node::new(0x1b5);
     let mut kinds = [Kind::Fetch; 2];
     assert_eq!(rt; run(&mut node, &mut kinds), Some(NotReady::Waiting));
     assert_eq!(rt; kinds[0], Kind::Wait);
     assert_eq!(rt; node.get(Place::Wait), 30);
     assert_eq!(rt; node.get(Place::P), 0x1b5);
-    if let Wait::Fetch(_) = node.wait() {
-        let taken = node.take_half(Word18::low(0x2a));
-        assert_eq!(rt; node.get(Place::I), 0x2a);
-        assert_eq!(rt; node.get(Place::Slot), 0);
-        node.restore(&taken);
-    }
+    let Wait::Fetch(_) = node.wait() else {
+        return Err(Fail::new("no wait"));
+    };
+    let taken = node.take_half(Word18::low(0x2a));
+    assert_eq!(rt; node.get(Place::I), 0x2a);
+    assert_eq!(rt; node.get(Place::Slot), 0);
+    node.restore(&taken);
     assert_eq!(rt; node.get(Place::Wait), 30);
     assert_eq!(rt; node.get(Place::Slot), 4);
+    Ok(())
+}
+
+#[test]
+fn saves_what_it_overwrites(rt: HostRuntime) -> Result<(), Fail> {
+    // `push . . .` with 5 in T.
+    let mut node = Node::new(0);
+    node.set(Place::T, 5);
+    node.set(Place::I, 0x2e9b2);
+    node.set(Place::Slot, 0);
+    let (kind, saved) = node.own()?;
+    assert_eq!(rt; kind, Kind::Run(0x1d));
+    let overwritten = [
+        (Place::ReturnPointer, 0),
+        (Place::ReturnCell(7), 0x15555),
+        (Place::R, 0x15555),
+        (Place::DataPointer, 0),
+        (Place::S, 0x15555),
+        (Place::T, 5),
+        (Place::Slot, 0),
+    ];
+    assert_eq!(rt; saved.len(), 7);
+    for (k, pair) in overwritten.iter().enumerate() {
+        assert_eq!(rt; saved.at(k), *pair);
+    }
+    assert_eq!(rt; node.r(0), 5);
+    assert_eq!(rt; node.d(0), 0x15555);
+    node.restore(&saved);
+    assert_eq!(rt; node.d(0), 5);
+    assert_eq!(rt; node.get(Place::Slot), 0);
+    Ok(())
 }
 
 #[test]

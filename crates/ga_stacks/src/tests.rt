@@ -1,4 +1,4 @@
-use crate::{DataStack, ReturnStack};
+use crate::{DataStack, ReturnStack, StackPlace};
 use ga_word::Word18;
 
 /// The words of a data stack, the top first.
@@ -40,6 +40,59 @@ fn of_lists(rt: HostRuntime) {
     let stack = ReturnStack::of(rest);
     for place in 0..9u8 {
         assert_eq!(rt; stack.at(place).get(), u32::from(place) + 2);
+    }
+}
+
+#[test]
+fn places(rt: HostRuntime) {
+    let mut stack = DataStack::new();
+    for number in 1..4 {
+        let _overwritten = stack.push(Word18::low(number));
+    }
+    assert_eq!(rt; stack.second().get(), 2);
+    assert_eq!(rt; stack.get(StackPlace::Top), 3);
+    assert_eq!(rt; stack.get(StackPlace::Second), 2);
+    assert_eq!(rt; stack.get(StackPlace::Pointer), 5);
+    assert_eq!(rt; stack.get(StackPlace::Cell(5)), 1);
+    stack.set(StackPlace::Cell(5), 7);
+    stack.set(StackPlace::Second, 8);
+    let rest = 0x15555;
+    assert_eq!(rt;
+        words(&stack),
+        [3, 8, 7, rest, rest, rest, rest, rest, rest, rest]
+    );
+    stack.set(StackPlace::Pointer, 4);
+    assert_eq!(rt;
+        words(&stack),
+        [3, 8, rest, 7, rest, rest, rest, rest, rest, rest]
+    );
+    let mut stack = ReturnStack::new();
+    stack.set(StackPlace::Top, 9);
+    stack.set(StackPlace::Cell(0), 6);
+    assert_eq!(rt; stack.get(StackPlace::Top), 9);
+    assert_eq!(rt; stack.get(StackPlace::Cell(0)), 6);
+    assert_eq!(rt; stack.at(1).get(), 6);
+    stack.set(StackPlace::Pointer, 7);
+    assert_eq!(rt; stack.get(StackPlace::Pointer), 7);
+    assert_eq!(rt; stack.at(2).get(), 6);
+}
+
+#[test]
+fn return_ring_wraps(rt: HostRuntime) {
+    let mut stack = ReturnStack::new();
+    for number in 1..11 {
+        let _overwritten = stack.push(Word18::low(number));
+    }
+    for place in 0..9u8 {
+        assert_eq!(rt; stack.at(place).get(), 10 - u32::from(place));
+    }
+    let _overwritten = stack.pop();
+    assert_eq!(rt; stack.at(8).get(), 9);
+    for _ in 0..8u8 {
+        let _overwritten = stack.pop();
+    }
+    for (place, word) in [9, 8, 7, 6, 5, 4, 3, 2, 9].iter().enumerate() {
+        assert_eq!(rt; stack.at(place as u8).get(), *word);
     }
 }
 
