@@ -73,7 +73,7 @@ touching_no n e es t = sum _ _ (touching-cons n e es) (ap (λ (z : Bool). cond {
     sum a b p q = omega arith
 
 -- a step stands up to the number of events that touch the node
-place_stands : (es : List Event) (n k : ℕ) → is_some (place_of es n (suc k)) ≡ nat_lt k (touching n es)
+pub place_stands : (es : List Event) (n k : ℕ) → is_some (place_of es n (suc k)) ≡ nat_lt k (touching n es)
 place_stands [] n k = sym (le-ltb k 0 (omega arith))
 place_stands (e ∷ es) n zero = ⊎_elim
     (λ t. ap is_some (place-first e es n t) ∙ sym (lt-ltb 0 (touching n (e ∷ es)) (let h = touching_yes n e es t in omega (arith, h))))
