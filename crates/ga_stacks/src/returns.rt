@@ -42,6 +42,18 @@ impl ReturnStack {
         }
     }
 
+    /// The stack that is this list of words, the top first.
+    pub fn of(words: [Word18; 9]) -> Self
+        ensures { listed result ≡ words }
+    {
+        let [top, a, b, c, d, e, f, g, h] = words;
+        ReturnStack {
+            top,
+            cells: [a, b, c, d, e, f, g, h],
+            pointer: 0,
+        }
+    }
+
     /// R, the top word.
     pub fn top(&self) -> Word18
         ensures { result ≡ slice_index (listed self.now) 0 }
