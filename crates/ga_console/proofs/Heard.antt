@@ -2,7 +2,7 @@
 use Rattle.std.proofs.Common.{◌≡◌, ◌≢◌, ℕ, ◌+◌, ◌-◌, ◌<◌, ◌≤◌, ◌⊎◌, Bool, true, false, cond, List, [], ◌∷◌, ◌++◌, length, take, refl, sym, ap, ◌∙◌, subst, inl, inr, arith, append_assoc, length-append}
 use Rattle.std.specs.Prelude.{nat_le}
 use Rattle.std.specs.List.{AllByRecursion}
-use Rattle.std.proofs.lemmas.List.{append-nil}
+use Rattle.std.proofs.lemmas.List.{append-nil, take_all}
 use Rattle.std.proofs.Math.Seq.{take-append_seam}
 use Rattle.std.proofs.lemmas.Grind.{flat_map-append}
 use Rattle.std.proofs.lemmas.Bool.Decides.{nat_tests}
@@ -10,7 +10,7 @@ use Rattle.ga_image.specs.Lines.{lines_of}
 use Rattle.ga_console.specs.Lines.{ended, text_of, ended_lines, HasNoFeed}
 use Rattle.ga_console.specs.Machine.{MachineState}
 use Rattle.ga_console.specs.Replies.{Answer, quit_line}
-use Rattle.ga_console.specs.Session.{Answers, HasNoQuit, heard_lines, Serves, no_input}
+use Rattle.ga_console.specs.Session.{Answers, HasNoQuit, heard_lines, HearsWholeLines, Serves, no_input}
 use Rattle.ga_console.specs.declared.commands.Ending.{Ending}
 use Rattle.ga_console.specs.declared.commands.Ending.TheVariants.{Ended, Quit, Past, ReadFailed, WriteFailed}
 use Rattle.ga_console.proofs.TextLemmas.{lines_front, ended_front, lines_last, ended_whole, more_lines}
@@ -83,18 +83,24 @@ behind_quit read rest heard after (inl e) =
     )
 behind_quit read rest heard after (inr e) = (quit_line ∷ [], e.1)
 
+whole_quit : (room : ℕ) (read rest : List ℕ) (heard after : List (List ℕ)) → length read ≤ room
+    → (ended_lines read ≡ heard ++ quit_line ∷ after) ⊎ ((rest ≡ []) × (lines_of read ≡ heard ++ quit_line ∷ []))
+    → HearsWholeLines room read rest heard
+whole_quit room read rest heard after short (inl e) = inr (quit_line ∷ after, ap ended_lines (take_all room read short) ∙ e)
+whole_quit room read rest heard after short (inr e) = inl e.0
+
 -- Where a write failed at last, what was said stands in the script.
 pub cut_short : (room : ℕ) (m : MachineState) (read rest text : List ℕ) (ending : Ending) → Serves room m read rest text ending → Serves room m read rest text WriteFailed
-cut_short room m read rest text Ended s = (lines_of read, [], heard_within room read s.0 ∙ sym (append-nil (lines_of read)), s.2, inl s.3)
+cut_short room m read rest text Ended s = (lines_of read, [], heard_within room read s.0 ∙ sym (append-nil (lines_of read)), s.2, inl s.3, inl s.1)
 cut_short room m read rest text Quit s =
     let behind = behind_quit read rest s.1 s.2 s.5 in
-    (s.1, behind.0, heard_within room read s.0 ∙ behind.1, s.3, inl s.4)
+    (s.1, behind.0, heard_within room read s.0 ∙ behind.1, s.3, inl s.4, whole_quit room read rest s.1 s.2 s.0 s.5)
 cut_short room m read rest text Past s =
     let long : room < length read = omega (arith, s.0) in
-    (ended_lines (take room read), [], heard_over room read long ∙ sym (append-nil (ended_lines (take room read))), s.1, inr (long, refl, s.2, s.3, s.4))
+    (ended_lines (take room read), [], heard_over room read long ∙ sym (append-nil (ended_lines (take room read))), s.1, inr (long, refl, s.2, s.3, s.4), inr ([], sym (append-nil (ended_lines (take room read)))))
 cut_short room m read rest text ReadFailed s =
     let more = more_lines read in
-    (ended_lines read, more.more, heard_within room read s.0 ∙ more.same, s.1, inl s.2)
+    (ended_lines read, more.more, heard_within room read s.0 ∙ more.same, s.1, inl s.2, inr ([], ap ended_lines (take_all room read s.0) ∙ sym (append-nil (ended_lines read))))
 cut_short room m read rest text WriteFailed s = s
 
 module _ {first : MachineState} {whole : List ℕ} {start : ℕ} {left : List ℕ} {taken : ℕ} {text : List ℕ} {m : MachineState}
@@ -132,6 +138,7 @@ module _ {first : MachineState} {whole : List ℕ} {start : ℕ} {left : List �
     heard_within (16777216 - start) (read_to bytes) (omega (arith, length_to bytes, h.counts)) ∙ lines_front h.lines bytes h.feeds,
     h.no_quit,
     inl (answers_from first h.lines text m h.answers),
+    inr (ended_lines bytes, ap ended_lines (take_all (16777216 - start) (read_to bytes) (omega (arith, within, length_to bytes, h.counts))) ∙ ended_front h.lines bytes h.feeds),
   )
 
   -- a read failed

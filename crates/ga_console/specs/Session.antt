@@ -29,6 +29,10 @@ abbrev pub Script : ℕ → MachineState → List ℕ → List (List ℕ) → Li
 Script room m read lines text = Answers m lines text
     ⊎ ((room < length read) × (lines ≡ ended_lines (take room read)) × (said : List ℕ) × Answers m lines said × (text ≡ said ++ no_input))
 
+-- A last line without a line feed is heard only where nothing is left to read.
+abbrev pub HearsWholeLines : ℕ → List ℕ → List ℕ → List (List ℕ) → Type 0
+HearsWholeLines room read rest heard = (rest ≡ []) ⊎ ((more : List (List ℕ)) × (ended_lines (take room read) ≡ heard ++ more))
+
 -- Where read was read of the commands, and rest is left of them, this text may have been said at this ending. Up to room bytes are within the bound.
 abbrev pub Serves : ℕ → MachineState → List ℕ → List ℕ → List ℕ → Ending → Type 0
 -- each line was answered
@@ -43,7 +47,7 @@ Serves room m read rest text Past = (length read ≡ room + 1) × HasNoQuit (end
 Serves room m read rest text ReadFailed = (length read ≤ room) × HasNoQuit (ended_lines read) × Answers m (ended_lines read) text
 -- some lines were answered, of which none was quit
 Serves room m read rest text WriteFailed = (heard : List (List ℕ)) × (after : List (List ℕ)) × (heard_lines room read ≡ heard ++ after) × HasNoQuit heard
-    × Script room m read heard text
+    × Script room m read heard text × HearsWholeLines room read rest heard
 
 -- what was said is written or pending, or a write failed
 abbrev pub IsSaidAt : Ending → Option (List ℕ) → List ℕ → List ℕ → List ℕ → Type 0

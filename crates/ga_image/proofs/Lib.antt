@@ -12,3 +12,4 @@ pub mod Accepted
 pub mod Found
 pub mod Contract
 pub mod Room
+pub mod Sizes
