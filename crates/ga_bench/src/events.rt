@@ -1,6 +1,5 @@
 //! The events of a node.
 
-use arrayvec::ArrayVec;
 use ga_node::{Kind, Node, Place, Saved};
 use ga_slots::{Op, encode};
 use ga_word::Word18;
@@ -63,7 +62,7 @@ fn sum_kinds(node: &mut Node, count: u32) -> u32 {
 #[inline(never)]
 fn sum_kinds_into(node: &mut Node, count: u32) -> u32 {
     let mut sum = 0u32;
-    let mut saved: Saved = ArrayVec::new();
+    let mut saved = Saved::new();
     for _ in 0..count {
         saved.clear();
         if let Ok(Kind::Run(code)) = node.own_into(&mut saved) {
@@ -79,8 +78,9 @@ fn sum_values(node: &mut Node, count: u32) -> u32 {
     let mut sum = 0u32;
     for _ in 0..count {
         if let Ok((_, saved)) = node.own() {
-            for (_, old) in saved.iter() {
-                sum = sum.wrapping_add(*old);
+            for k in 0..saved.len() {
+                let (_, old) = saved.at(k);
+                sum = sum.wrapping_add(old);
             }
         }
     }
@@ -92,7 +92,7 @@ fn sum_values(node: &mut Node, count: u32) -> u32 {
 fn sum_backs(node: &mut Node, count: u32) -> u32 {
     let mut sum = 0u32;
     for _ in 0..count {
-        let mut saved: Saved = ArrayVec::new();
+        let mut saved = Saved::new();
         if node.own_into(&mut saved).is_ok() {
             node.restore(&saved);
         }

@@ -9,13 +9,13 @@ use Rattle.ga_console.specs.Machine.{MachineState}
 -- the node with all these events taken back, the newest first
 unfoldable pub walked_back : List Entry → NodeState → NodeState
 walked_back [] node = node
-walked_back (entry ∷ newer) node = restored (walked_back newer node) entry.saved.items
+walked_back (entry ∷ newer) node = restored (walked_back newer node) entry.saved
 
 -- An entry's event leads from the node before it to the node after it.
 pub record LeadsOn (entry : Entry) (before after : NodeState) : Type 0 where
   pub runs : refusal (record_of before) ≡ None
   pub event : (entry.kind, record_of after) ≡ own (record_of before)
-  pub fit : AreFit entry.saved.items
+  pub fit : AreFit entry.saved
   pub apart : IsApart before
 
 -- from each walked-back node, the next event leads forward to the next

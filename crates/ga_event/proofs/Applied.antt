@@ -6,7 +6,6 @@ use Rattle.ga_node.specs.Record.{record_of}
 use Rattle.ga_node.specs.Table.{t, own, refusal, sent, taken}
 use Rattle.ga_node.specs.Saving.{IsEvent, IsChange}
 use Rattle.ga_node.specs.declared.kind.Kind.{Kind}
-use Rattle.arrayvec.specs.ArrayVec.{ArrayVec}
 use Rattle.ga_node.specs.declared.place.Place.{Place}
 use Rattle.ga_ports.specs.declared.side.Side.{Side}
 use Rattle.ga_grid.specs.declared.node_id.NodeId.{NodeId}
@@ -29,9 +28,9 @@ restored_back chip n new saved l back =
     ∙ set-set chip n new (node_at chip n)
     ∙ set-get_or chip n nowhere
 
-pub own_applied : (chip : List NodeState) (node : NodeId) (new : NodeState) (kind : Kind) (saved : ArrayVec (Place × ℕ)) → node.number < length chip
+pub own_applied : (chip : List NodeState) (node : NodeId) (new : NodeState) (kind : Kind) (saved : List (Place × ℕ)) → node.number < length chip
     → refusal (record_of (node_at chip node.number)) ≡ None → IsApart (node_at chip node.number)
-    → IsEvent (node_at chip node.number) (own (record_of (node_at chip node.number))) new kind saved.items
+    → IsEvent (node_at chip node.number) (own (record_of (node_at chip node.number))) new kind saved
     → IsApplied chip (event.Own node) (effect.Own kind saved) (with_node chip node.number new)
 own_applied chip node new kind saved l ready apart made =
     let n = node.number in
@@ -43,19 +42,19 @@ own_applied chip node new kind saved l ready apart made =
           ∙ ap (λ z. unless z (after_own (records_of chip) n (own (record_of (node_at chip n))))) ready
           ∙ ap (λ z. Some (after_own (records_of chip) n z)) (sym made.effect)
           ∙ ap (λ z. Some (z, Did kind)) (sym (records_of-with_node chip n new));
-      undone = restored_back chip n new saved.items l made.undone;
+      undone = restored_back chip n new saved l made.undone;
       ready = record {
         fit = made.fit;
-        apart = subst (λ z. IsApart (restored z saved.items)) (sym (get_or-set_same chip n new nowhere l)) (subst (λ z. IsApart z) (sym made.undone) apart);
+        apart = subst (λ z. IsApart (restored z saved)) (sym (get_or-set_same chip n new nowhere l)) (subst (λ z. IsApart z) (sym made.undone) apart);
       };
     }
 
-pub pass_applied : (chip : List NodeState) (writer reader : NodeId) (side : Side) (new_writer new_reader : NodeState) (word : ℕ) (gave took : ArrayVec (Place × ℕ))
+pub pass_applied : (chip : List NodeState) (writer reader : NodeId) (side : Side) (new_writer new_reader : NodeState) (word : ℕ) (gave took : List (Place × ℕ))
     → writer.number < length chip → reader.number < length chip → writer.number ≢ reader.number
     → is_open writer.number reader.number side (record_at (records_of chip) writer.number).wait (record_at (records_of chip) reader.number).wait ≡ true
     → word ≡ t (record_of (node_at chip writer.number))
-    → IsChange (node_at chip writer.number) (sent (record_of (node_at chip writer.number))) new_writer gave.items → IsApart (node_at chip writer.number)
-    → IsChange (node_at chip reader.number) (taken word (record_of (node_at chip reader.number))) new_reader took.items → IsApart (node_at chip reader.number)
+    → IsChange (node_at chip writer.number) (sent (record_of (node_at chip writer.number))) new_writer gave → IsApart (node_at chip writer.number)
+    → IsChange (node_at chip reader.number) (taken word (record_of (node_at chip reader.number))) new_reader took → IsApart (node_at chip reader.number)
     → IsApplied chip (event.Pass writer reader side) (effect.Pass word gave took) (with_node (with_node chip writer.number new_writer) reader.number new_reader)
 pass_applied chip writer reader side x y word gave took lw lr other open_ told sending apart_w taking apart_r =
     let w = writer.number in
@@ -66,8 +65,8 @@ pass_applied chip writer reader side x y word gave took lw lr other open_ told s
     let first : node_at both w ≡ x = get_or-set_other (set chip w x) r w y nowhere other ∙ get_or-set_same chip w x nowhere lw in
     let lr2 : r < length (set chip w x) = subst (λ z. r < z) (sym (length-set chip w x)) lr in
     let second : node_at both r ≡ y = get_or-set_same (set chip w x) r y nowhere lr2 in
-    let back_r : restored_at both r took.items ≡ with_node chip w x =
-    restored_back (set chip w x) r y took.items lr2 (taking.undone ∙ sym (get_or-set_other chip w r x nowhere (λ e. other (sym e)))) in
+    let back_r : restored_at both r took ≡ with_node chip w x =
+    restored_back (set chip w x) r y took lr2 (taking.undone ∙ sym (get_or-set_other chip w r x nowhere (λ e. other (sym e)))) in
     record {
       of_kind = other;
       done =
@@ -79,11 +78,11 @@ pass_applied chip writer reader side x y word gave took lw lr other open_ told s
           ∙ ap (λ z. Some (set (set (records_of chip) w (record_of x)) r z, Carried word)) (sym taking.effect)
           ∙ ap (λ z. Some (set z r (record_of y), Carried word)) (sym (records_of-with_node chip w x))
           ∙ ap (λ z. Some (z, Carried word)) (sym (records_of-with_node (with_node chip w x) r y));
-      undone = ap (λ z. restored_at z w gave.items) back_r ∙ restored_back chip w x gave.items lw sending.undone;
+      undone = ap (λ z. restored_at z w gave) back_r ∙ restored_back chip w x gave lw sending.undone;
       ready = (
         other,
-        record { fit = sending.fit; apart = subst (λ z. IsApart (restored z gave.items)) (sym first) (subst (λ z. IsApart z) (sym sending.undone) apart_w) },
-        record { fit = taking.fit; apart = subst (λ z. IsApart (restored z took.items)) (sym second) (subst (λ z. IsApart z) (sym taking.undone) apart_r) },
+        record { fit = sending.fit; apart = subst (λ z. IsApart (restored z gave)) (sym first) (subst (λ z. IsApart z) (sym sending.undone) apart_w) },
+        record { fit = taking.fit; apart = subst (λ z. IsApart (restored z took)) (sym second) (subst (λ z. IsApart z) (sym taking.undone) apart_r) },
       );
     }
 

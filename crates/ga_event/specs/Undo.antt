@@ -21,9 +21,9 @@ restored_at chip n saved = with_node chip n (restored (node_at chip n) saved)
 
 -- the chip with the old values of the touched nodes written back
 abbrev pub unapplied : List NodeState → Event → Effect → List NodeState
-unapplied chip (event.Own node) (effect.Own kind saved) = restored_at chip node.number saved.items
+unapplied chip (event.Own node) (effect.Own kind saved) = restored_at chip node.number saved
 unapplied chip (event.Pass writer reader side) (effect.Pass word sent took) =
-    restored_at (restored_at chip reader.number took.items) writer.number sent.items
+    restored_at (restored_at chip reader.number took) writer.number sent
 unapplied chip (event.Own node) (effect.Pass word sent took) = chip
 unapplied chip (event.Pass writer reader side) (effect.Own kind saved) = chip
 
@@ -42,9 +42,9 @@ pub record CanRestore (node : NodeState) (saved : List (Place × ℕ)) : Type 0 
 -- The event can be taken back: the effect is of its kind, the nodes of a pass are two, and what is written back makes nodes.
 -- It holds of each chip where the touched nodes are as the event left them.
 abbrev pub CanUnapply : List NodeState → Event → Effect → Type 0
-CanUnapply chip (event.Own node) (effect.Own kind saved) = CanRestore (node_at chip node.number) saved.items
+CanUnapply chip (event.Own node) (effect.Own kind saved) = CanRestore (node_at chip node.number) saved
 CanUnapply chip (event.Pass writer reader side) (effect.Pass word sent took) =
-    (writer.number ≢ reader.number) × CanRestore (node_at chip writer.number) sent.items × CanRestore (node_at chip reader.number) took.items
+    (writer.number ≢ reader.number) × CanRestore (node_at chip writer.number) sent × CanRestore (node_at chip reader.number) took
 CanUnapply chip (event.Own node) (effect.Pass word sent took) = ⊥
 CanUnapply chip (event.Pass writer reader side) (effect.Own kind saved) = ⊥
 

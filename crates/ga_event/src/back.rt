@@ -11,8 +11,8 @@ use ga_node::Saved;
 /// Writes the old values of one node back.
 #[inline]
 pub fn restore(chip: &mut Chip, node: NodeId, saved: &Saved)
-    requires { CanRestore (node_at chip.old node.number) saved.now.items }
-    ensures { chip.new ≡ restored_at chip.old node.number saved.now.items }
+    requires { CanRestore (node_at chip.old node.number) saved.now }
+    ensures { chip.new ≡ restored_at chip.old node.number saved.now }
 {
     chip.node_mut(node).restore(saved);
 }

@@ -44,6 +44,19 @@ impl DataStack {
         }
     }
 
+    /// The stack that is this list of words, the top first.
+    pub fn of(words: [Word18; 10]) -> Self
+        ensures { listed result ≡ words }
+    {
+        let [top, second, a, b, c, d, e, f, g, h] = words;
+        DataStack {
+            top,
+            second,
+            cells: [a, b, c, d, e, f, g, h],
+            pointer: 0,
+        }
+    }
+
     /// T, the top word.
     pub fn top(&self) -> Word18
         ensures { result ≡ slice_index (listed self.now) 0 }
@@ -61,7 +74,8 @@ impl DataStack {
     /// The word at a place of the list, 0 for the top.
     pub fn at(&self, place: u8) -> Word18
         requires { place < 10 }
-        ensures { result ≡ slice_index (listed self.now) place }
+        ensures word { result ≡ slice_index (listed self.now) place }
+        ensures size { 2 ≤ place → length (listed self.now) ≡ 10 }
     {
         match place {
             0 => self.top,

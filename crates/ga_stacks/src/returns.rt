@@ -42,6 +42,18 @@ impl ReturnStack {
         }
     }
 
+    /// The stack that is this list of words, the top first.
+    pub fn of(words: [Word18; 9]) -> Self
+        ensures { listed result ≡ words }
+    {
+        let [top, a, b, c, d, e, f, g, h] = words;
+        ReturnStack {
+            top,
+            cells: [a, b, c, d, e, f, g, h],
+            pointer: 0,
+        }
+    }
+
     /// R, the top word.
     pub fn top(&self) -> Word18
         ensures { result ≡ slice_index (listed self.now) 0 }
@@ -52,7 +64,8 @@ impl ReturnStack {
     /// The word at a place of the list, 0 for the top.
     pub fn at(&self, place: u8) -> Word18
         requires { place < 9 }
-        ensures { result ≡ slice_index (listed self.now) place }
+        ensures word { result ≡ slice_index (listed self.now) place }
+        ensures size { 1 ≤ place → length (listed self.now) ≡ 9 }
     {
         match place {
             0 => self.top,

@@ -1,7 +1,8 @@
 //! Reads and writes at an address, which may turn out to be a wait or a stop.
 
-use super::{Node, Saved};
+use super::Node;
 use crate::kind::Kind;
+use crate::saved::Saved;
 use crate::wait::{Reader, Wait};
 use ga_ports::{Target, classify};
 use ga_word::Word18;
@@ -23,12 +24,12 @@ impl Node {
         reader: Reader,
     ) -> Result<Word18, Kind>
         requires running { IsRunning (record_of self.old) }
-        requires room { length saved.old.items < 7 }
+        requires room { length saved.old < 7 }
         ensures word { IfOk result (λ word. found (classified address) reader (record_of self.old) ≡ Ok word) }
         ensures same { OnOk result (self.new ≡ self.old) }
-        ensures unsaved { OnOk result (saved.new.items ≡ saved.old.items) }
+        ensures unsaved { OnOk result (saved.new ≡ saved.old) }
         ensures event { IfErr result (λ kind. found (classified address) reader (record_of self.old) ≡ Err (kind, record_of self.new)) }
-        ensures saves { OnErr result (Saves self.old saved.old.items self.new saved.new.items 1) }
+        ensures saves { OnErr result (Saves self.old saved.old self.new saved.new 1) }
     {
         match classify(address) {
             Target::Ram(k) => Ok(self.ram[k as usize]),
@@ -57,10 +58,10 @@ impl Node {
     #[inline(always)]
     pub(super) fn write(&mut self, saved: &mut Saved, address: u32) -> Result<(), Kind>
         requires running { IsRunning (record_of self.old) }
-        requires room { length saved.old.items < 7 }
+        requires room { length saved.old < 7 }
         ensures written { OnOk result (stored (classified address) (record_of self.old) ≡ Ok (record_of self.new)) }
         ensures event { IfErr result (λ kind. stored (classified address) (record_of self.old) ≡ Err (kind, record_of self.new)) }
-        ensures saves { Saves self.old saved.old.items self.new saved.new.items 1 }
+        ensures saves { Saves self.old saved.old self.new saved.new 1 }
     {
         let word = self.top();
         match classify(address) {

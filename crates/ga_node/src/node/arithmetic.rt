@@ -1,7 +1,8 @@
 //! Opcodes that compute.
 
-use super::{Node, Saved};
+use super::Node;
 use crate::kind::Kind;
+use crate::saved::Saved;
 use ga_slots::Op;
 use ga_word::Word18;
 
@@ -12,8 +13,8 @@ impl Node {
     ghost use Rattle.ga_node.specs.Table.{ran, IsRunning};
 
     pub(super) fn run_multiply_step(&mut self, saved: &mut Saved) -> Kind
-        requires { saved.old.items ≡ [] }
-        ensures { IsEvent self.old (ran Op.MultiplyStep (record_of self.old)) self.new result saved.new.items }
+        requires { saved.old ≡ [] }
+        ensures { IsEvent self.old (ran Op.MultiplyStep (record_of self.old)) self.new result saved.new }
     {
         let top = self.top();
         let second = self.second();
@@ -26,8 +27,8 @@ impl Node {
     }
 
     pub(super) fn run_two_star(&mut self, saved: &mut Saved) -> Kind
-        requires { saved.old.items ≡ [] }
-        ensures { IsEvent self.old (ran Op.TwoStar (record_of self.old)) self.new result saved.new.items }
+        requires { saved.old ≡ [] }
+        ensures { IsEvent self.old (ran Op.TwoStar (record_of self.old)) self.new result saved.new }
     {
         let top = self.top();
         self.set_top(saved, top.shl());
@@ -36,8 +37,8 @@ impl Node {
     }
 
     pub(super) fn run_two_slash(&mut self, saved: &mut Saved) -> Kind
-        requires { saved.old.items ≡ [] }
-        ensures { IsEvent self.old (ran Op.TwoSlash (record_of self.old)) self.new result saved.new.items }
+        requires { saved.old ≡ [] }
+        ensures { IsEvent self.old (ran Op.TwoSlash (record_of self.old)) self.new result saved.new }
     {
         let top = self.top();
         self.set_top(saved, top.shr());
@@ -46,8 +47,8 @@ impl Node {
     }
 
     pub(super) fn run_invert(&mut self, saved: &mut Saved) -> Kind
-        requires { saved.old.items ≡ [] }
-        ensures { IsEvent self.old (ran Op.Invert (record_of self.old)) self.new result saved.new.items }
+        requires { saved.old ≡ [] }
+        ensures { IsEvent self.old (ran Op.Invert (record_of self.old)) self.new result saved.new }
     {
         let top = self.top();
         let word = top.get();
@@ -57,8 +58,8 @@ impl Node {
     }
 
     pub(super) fn run_plus(&mut self, saved: &mut Saved) -> Kind
-        requires { saved.old.items ≡ [] }
-        ensures { IsEvent self.old (ran Op.Plus (record_of self.old)) self.new result saved.new.items }
+        requires { saved.old ≡ [] }
+        ensures { IsEvent self.old (ran Op.Plus (record_of self.old)) self.new result saved.new }
     {
         let top = self.top();
         let second = self.second();
@@ -77,8 +78,8 @@ impl Node {
     }
 
     pub(super) fn run_and(&mut self, saved: &mut Saved) -> Kind
-        requires { saved.old.items ≡ [] }
-        ensures { IsEvent self.old (ran Op.And (record_of self.old)) self.new result saved.new.items }
+        requires { saved.old ≡ [] }
+        ensures { IsEvent self.old (ran Op.And (record_of self.old)) self.new result saved.new }
     {
         let top = self.top();
         let second = self.second();
@@ -90,8 +91,8 @@ impl Node {
     }
 
     pub(super) fn run_or(&mut self, saved: &mut Saved) -> Kind
-        requires { saved.old.items ≡ [] }
-        ensures { IsEvent self.old (ran Op.Or (record_of self.old)) self.new result saved.new.items }
+        requires { saved.old ≡ [] }
+        ensures { IsEvent self.old (ran Op.Or (record_of self.old)) self.new result saved.new }
     {
         let top = self.top();
         let second = self.second();

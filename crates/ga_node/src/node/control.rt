@@ -1,7 +1,8 @@
 //! Opcodes that change P: return, ex, jumps, call and loops.
 
-use super::{Node, Saved};
+use super::Node;
 use crate::kind::Kind;
+use crate::saved::Saved;
 use ga_slots::{Op, target};
 use ga_word::Word18;
 
@@ -12,8 +13,8 @@ impl Node {
     ghost use Rattle.ga_node.specs.Table.{ran, IsRunning};
 
     pub(super) fn run_return(&mut self, saved: &mut Saved) -> Kind
-        requires { saved.old.items ≡ [] }
-        ensures { IsEvent self.old (ran Op.Return (record_of self.old)) self.new result saved.new.items }
+        requires { saved.old ≡ [] }
+        ensures { IsEvent self.old (ran Op.Return (record_of self.old)) self.new result saved.new }
     {
         let top = self.top_return();
         let p = top.get();
@@ -24,8 +25,8 @@ impl Node {
     }
 
     pub(super) fn run_execute(&mut self, saved: &mut Saved) -> Kind
-        requires { saved.old.items ≡ [] }
-        ensures { IsEvent self.old (ran Op.Execute (record_of self.old)) self.new result saved.new.items }
+        requires { saved.old ≡ [] }
+        ensures { IsEvent self.old (ran Op.Execute (record_of self.old)) self.new result saved.new }
     {
         let old = self.p();
         let top = self.top_return();
@@ -38,8 +39,8 @@ impl Node {
 
     pub(super) fn run_jump(&mut self, saved: &mut Saved) -> Kind
         requires slot { (record_of self.old).slot < 3 }
-        requires empty { saved.old.items ≡ [] }
-        ensures { IsEvent self.old (ran Op.Jump (record_of self.old)) self.new result saved.new.items }
+        requires empty { saved.old ≡ [] }
+        ensures { IsEvent self.old (ran Op.Jump (record_of self.old)) self.new result saved.new }
     {
         let p = self.p();
         let i = self.i();
@@ -52,8 +53,8 @@ impl Node {
 
     pub(super) fn run_call(&mut self, saved: &mut Saved) -> Kind
         requires slot { (record_of self.old).slot < 3 }
-        requires empty { saved.old.items ≡ [] }
-        ensures { IsEvent self.old (ran Op.Call (record_of self.old)) self.new result saved.new.items }
+        requires empty { saved.old ≡ [] }
+        ensures { IsEvent self.old (ran Op.Call (record_of self.old)) self.new result saved.new }
     {
         let p = self.p();
         let i = self.i();
@@ -66,8 +67,8 @@ impl Node {
     }
 
     pub(super) fn run_unext(&mut self, saved: &mut Saved) -> Kind
-        requires { saved.old.items ≡ [] }
-        ensures { IsEvent self.old (ran Op.Unext (record_of self.old)) self.new result saved.new.items }
+        requires { saved.old ≡ [] }
+        ensures { IsEvent self.old (ran Op.Unext (record_of self.old)) self.new result saved.new }
     {
         let top = self.top_return();
         let count = top.get();
@@ -83,8 +84,8 @@ impl Node {
 
     pub(super) fn run_next(&mut self, saved: &mut Saved) -> Kind
         requires slot { (record_of self.old).slot < 3 }
-        requires empty { saved.old.items ≡ [] }
-        ensures { IsEvent self.old (ran Op.Next (record_of self.old)) self.new result saved.new.items }
+        requires empty { saved.old ≡ [] }
+        ensures { IsEvent self.old (ran Op.Next (record_of self.old)) self.new result saved.new }
     {
         let top = self.top_return();
         let count = top.get();
@@ -105,8 +106,8 @@ impl Node {
 
     pub(super) fn run_if(&mut self, saved: &mut Saved) -> Kind
         requires slot { (record_of self.old).slot < 3 }
-        requires empty { saved.old.items ≡ [] }
-        ensures { IsEvent self.old (ran Op.If (record_of self.old)) self.new result saved.new.items }
+        requires empty { saved.old ≡ [] }
+        ensures { IsEvent self.old (ran Op.If (record_of self.old)) self.new result saved.new }
     {
         let top = self.top();
         let word = top.get();
@@ -125,8 +126,8 @@ impl Node {
 
     pub(super) fn run_minus_if(&mut self, saved: &mut Saved) -> Kind
         requires slot { (record_of self.old).slot < 3 }
-        requires empty { saved.old.items ≡ [] }
-        ensures { IsEvent self.old (ran Op.MinusIf (record_of self.old)) self.new result saved.new.items }
+        requires empty { saved.old ≡ [] }
+        ensures { IsEvent self.old (ran Op.MinusIf (record_of self.old)) self.new result saved.new }
     {
         let top = self.top();
         let word = top.get();

@@ -1,9 +1,9 @@
 //! The events of a node's own: a fetch, an opcode, a wait or a stop.
 
-use super::{Node, Saved};
+use super::Node;
 use crate::kind::{Kind, NotReady};
+use crate::saved::Saved;
 use crate::wait::{Reader, Wait};
-use arrayvec::ArrayVec;
 use ga_ports::advance_p;
 use ga_slots::{Op, opcode};
 
@@ -21,8 +21,8 @@ impl Node {
         requires running { IsRunning (record_of self.old) }
         requires slot { (record_of self.old).slot < 4 }
         requires last { (record_of self.old).slot ≡ 3 → code_of op % 4 ≡ 0 }
-        requires empty { saved.old.items ≡ [] }
-        ensures { IsEvent self.old (ran op (record_of self.old)) self.new result saved.new.items }
+        requires empty { saved.old ≡ [] }
+        ensures { IsEvent self.old (ran op (record_of self.old)) self.new result saved.new }
     {
         match op {
             Op::Return => self.run_return(saved),
@@ -81,8 +81,8 @@ impl Node {
     /// Fetches the word at P.
     pub(super) fn fetch(&mut self, saved: &mut Saved) -> Kind
         requires running { IsRunning (record_of self.old) }
-        requires empty { saved.old.items ≡ [] }
-        ensures { IsEvent self.old (fetched (record_of self.old)) self.new result saved.new.items }
+        requires empty { saved.old ≡ [] }
+        ensures { IsEvent self.old (fetched (record_of self.old)) self.new result saved.new }
     {
         let p = self.p();
         match self.read(saved, p, Reader::Instruction) {
@@ -100,12 +100,12 @@ impl Node {
     /// caller keeps, which is empty before.
     #[tactic(auto, unfolding(crate::specs::Table::own), using(crate::proofs::Saving::apart_from_running))]
     pub fn own_into(&mut self, saved: &mut Saved) -> Result<Kind, NotReady>
-        requires { saved.old.items ≡ [] }
+        requires { saved.old ≡ [] }
         ensures ready { MatchResult result (λ _. refusal (record_of self.old) ≡ None) (λ reason. refusal (record_of self.old) ≡ Some reason) }
-        ensures event { IfOk result (λ kind. IsEvent self.old (own (record_of self.old)) self.new kind saved.new.items) }
+        ensures event { IfOk result (λ kind. IsEvent self.old (own (record_of self.old)) self.new kind saved.new) }
         ensures apart { OnOk result (IsApart self.old) }
         ensures same { OnErr result (self.new ≡ self.old) }
-        ensures unsaved { OnErr result (saved.new.items ≡ []) }
+        ensures unsaved { OnErr result (saved.new ≡ []) }
     {
         if let Some(reason) = self.not_ready() {
             return Err(reason);
@@ -125,11 +125,11 @@ impl Node {
     /// `Waiting` or `Stopped`, where the node waits or is stopped.
     pub fn own(&mut self) -> Result<(Kind, Saved), NotReady>
         ensures ready { MatchResult result (λ _. refusal (record_of self.old) ≡ None) (λ reason. refusal (record_of self.old) ≡ Some reason) }
-        ensures event { IfOk result (λ event. IsEvent self.old (own (record_of self.old)) self.new event.0 event.1.items) }
+        ensures event { IfOk result (λ event. IsEvent self.old (own (record_of self.old)) self.new event.0 event.1) }
         ensures apart { OnOk result (IsApart self.old) }
         ensures same { OnErr result (self.new ≡ self.old) }
     {
-        let mut saved = ArrayVec::new();
+        let mut saved = Saved::new();
         let kind = self.own_into(&mut saved)?;
         Ok((kind, saved))
     }

@@ -1,7 +1,8 @@
 //! Opcodes that read or write at an address.
 
-use super::{Node, Saved};
+use super::Node;
 use crate::kind::Kind;
+use crate::saved::Saved;
 use crate::wait::Reader;
 use ga_ports::{advance_a, advance_p};
 use ga_slots::Op;
@@ -14,8 +15,8 @@ impl Node {
 
     pub(super) fn run_fetch_p(&mut self, saved: &mut Saved) -> Kind
         requires running { IsRunning (record_of self.old) }
-        requires empty { saved.old.items ≡ [] }
-        ensures { IsEvent self.old (ran Op.FetchP (record_of self.old)) self.new result saved.new.items }
+        requires empty { saved.old ≡ [] }
+        ensures { IsEvent self.old (ran Op.FetchP (record_of self.old)) self.new result saved.new }
     {
         let p = self.p();
         match self.read(saved, p, Reader::Stack) {
@@ -31,8 +32,8 @@ impl Node {
 
     pub(super) fn run_fetch_plus(&mut self, saved: &mut Saved) -> Kind
         requires running { IsRunning (record_of self.old) }
-        requires empty { saved.old.items ≡ [] }
-        ensures { IsEvent self.old (ran Op.FetchPlus (record_of self.old)) self.new result saved.new.items }
+        requires empty { saved.old ≡ [] }
+        ensures { IsEvent self.old (ran Op.FetchPlus (record_of self.old)) self.new result saved.new }
     {
         let a = self.a();
         match self.read(saved, a.get(), Reader::Stack) {
@@ -48,8 +49,8 @@ impl Node {
 
     pub(super) fn run_fetch_b(&mut self, saved: &mut Saved) -> Kind
         requires running { IsRunning (record_of self.old) }
-        requires empty { saved.old.items ≡ [] }
-        ensures { IsEvent self.old (ran Op.FetchB (record_of self.old)) self.new result saved.new.items }
+        requires empty { saved.old ≡ [] }
+        ensures { IsEvent self.old (ran Op.FetchB (record_of self.old)) self.new result saved.new }
     {
         let b = self.b();
         match self.read(saved, b, Reader::Stack) {
@@ -64,8 +65,8 @@ impl Node {
 
     pub(super) fn run_fetch(&mut self, saved: &mut Saved) -> Kind
         requires running { IsRunning (record_of self.old) }
-        requires empty { saved.old.items ≡ [] }
-        ensures { IsEvent self.old (ran Op.Fetch (record_of self.old)) self.new result saved.new.items }
+        requires empty { saved.old ≡ [] }
+        ensures { IsEvent self.old (ran Op.Fetch (record_of self.old)) self.new result saved.new }
     {
         let a = self.a();
         match self.read(saved, a.get(), Reader::Stack) {
@@ -80,8 +81,8 @@ impl Node {
 
     pub(super) fn run_store_p(&mut self, saved: &mut Saved) -> Kind
         requires running { IsRunning (record_of self.old) }
-        requires empty { saved.old.items ≡ [] }
-        ensures { IsEvent self.old (ran Op.StoreP (record_of self.old)) self.new result saved.new.items }
+        requires empty { saved.old ≡ [] }
+        ensures { IsEvent self.old (ran Op.StoreP (record_of self.old)) self.new result saved.new }
     {
         let p = self.p();
         match self.write(saved, p) {
@@ -98,8 +99,8 @@ impl Node {
 
     pub(super) fn run_store_plus(&mut self, saved: &mut Saved) -> Kind
         requires running { IsRunning (record_of self.old) }
-        requires empty { saved.old.items ≡ [] }
-        ensures { IsEvent self.old (ran Op.StorePlus (record_of self.old)) self.new result saved.new.items }
+        requires empty { saved.old ≡ [] }
+        ensures { IsEvent self.old (ran Op.StorePlus (record_of self.old)) self.new result saved.new }
     {
         let a = self.a();
         match self.write(saved, a.get()) {
@@ -116,8 +117,8 @@ impl Node {
 
     pub(super) fn run_store_b(&mut self, saved: &mut Saved) -> Kind
         requires running { IsRunning (record_of self.old) }
-        requires empty { saved.old.items ≡ [] }
-        ensures { IsEvent self.old (ran Op.StoreB (record_of self.old)) self.new result saved.new.items }
+        requires empty { saved.old ≡ [] }
+        ensures { IsEvent self.old (ran Op.StoreB (record_of self.old)) self.new result saved.new }
     {
         let b = self.b();
         match self.write(saved, b) {
@@ -132,8 +133,8 @@ impl Node {
 
     pub(super) fn run_store(&mut self, saved: &mut Saved) -> Kind
         requires running { IsRunning (record_of self.old) }
-        requires empty { saved.old.items ≡ [] }
-        ensures { IsEvent self.old (ran Op.Store (record_of self.old)) self.new result saved.new.items }
+        requires empty { saved.old ≡ [] }
+        ensures { IsEvent self.old (ran Op.Store (record_of self.old)) self.new result saved.new }
     {
         let a = self.a();
         match self.write(saved, a.get()) {

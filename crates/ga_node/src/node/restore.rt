@@ -1,7 +1,8 @@
 //! Taking an event back.
 
-use super::{Node, Saved};
+use super::Node;
 use crate::place::Place;
+use crate::saved::Saved;
 use crate::wait::Wait;
 
 impl Node {
@@ -9,6 +10,7 @@ impl Node {
     ghost use Rattle.ga_node.specs.State.{with_value, restored, IsInRange, AreFit, IsApart};
 
     /// Writes one old value back, of a node whose wait and stop are kept beside it.
+    #[inline(always)]
     fn put_back(&mut self, wait: &mut Wait, stop: &mut u8, place: Place, old: u32)
         requires fit { IsInRange place old }
         requires no_wait { self.old.wait ≡ Wait.Nothing }
@@ -28,9 +30,9 @@ impl Node {
 
     /// Writes the values that an event overwrote back, the last of them first.
     pub fn restore(&mut self, saved: &Saved)
-        requires fit { AreFit saved.now.items }
-        requires apart { IsApart (restored self.old saved.now.items) }
-        ensures { self.new ≡ restored self.old saved.now.items }
+        requires fit { AreFit saved.now }
+        requires apart { IsApart (restored self.old saved.now) }
+        ensures { self.new ≡ restored self.old saved.now }
     {
         let mut wait = self.wait;
         let mut stop = self.stop;
@@ -38,7 +40,7 @@ impl Node {
         self.stop = 0;
         let count = saved.len();
         for k in 0..count {
-            let (place, old) = saved[count - 1 - k];
+            let (place, old) = saved.at(count - 1 - k);
             self.put_back(&mut wait, &mut stop, place, old);
         }
         self.wait = wait;

@@ -1,7 +1,8 @@
 //! Opcodes that move words between the stacks and registers.
 
-use super::{Node, Saved};
+use super::Node;
 use crate::kind::Kind;
+use crate::saved::Saved;
 use ga_slots::Op;
 
 impl Node {
@@ -11,8 +12,8 @@ impl Node {
     ghost use Rattle.ga_node.specs.Table.{ran, IsRunning};
 
     pub(super) fn run_drop(&mut self, saved: &mut Saved) -> Kind
-        requires { saved.old.items ≡ [] }
-        ensures { IsEvent self.old (ran Op.Drop (record_of self.old)) self.new result saved.new.items }
+        requires { saved.old ≡ [] }
+        ensures { IsEvent self.old (ran Op.Drop (record_of self.old)) self.new result saved.new }
     {
         self.pop_data(saved);
         self.go_on(saved);
@@ -20,8 +21,8 @@ impl Node {
     }
 
     pub(super) fn run_dup(&mut self, saved: &mut Saved) -> Kind
-        requires { saved.old.items ≡ [] }
-        ensures { IsEvent self.old (ran Op.Dup (record_of self.old)) self.new result saved.new.items }
+        requires { saved.old ≡ [] }
+        ensures { IsEvent self.old (ran Op.Dup (record_of self.old)) self.new result saved.new }
     {
         let top = self.top();
         self.push_data(saved, top);
@@ -30,8 +31,8 @@ impl Node {
     }
 
     pub(super) fn run_pop(&mut self, saved: &mut Saved) -> Kind
-        requires { saved.old.items ≡ [] }
-        ensures { IsEvent self.old (ran Op.Pop (record_of self.old)) self.new result saved.new.items }
+        requires { saved.old ≡ [] }
+        ensures { IsEvent self.old (ran Op.Pop (record_of self.old)) self.new result saved.new }
     {
         let top = self.top_return();
         self.push_data(saved, top);
@@ -41,8 +42,8 @@ impl Node {
     }
 
     pub(super) fn run_over(&mut self, saved: &mut Saved) -> Kind
-        requires { saved.old.items ≡ [] }
-        ensures { IsEvent self.old (ran Op.Over (record_of self.old)) self.new result saved.new.items }
+        requires { saved.old ≡ [] }
+        ensures { IsEvent self.old (ran Op.Over (record_of self.old)) self.new result saved.new }
     {
         let second = self.second();
         self.push_data(saved, second);
@@ -51,8 +52,8 @@ impl Node {
     }
 
     pub(super) fn run_a(&mut self, saved: &mut Saved) -> Kind
-        requires { saved.old.items ≡ [] }
-        ensures { IsEvent self.old (ran Op.A (record_of self.old)) self.new result saved.new.items }
+        requires { saved.old ≡ [] }
+        ensures { IsEvent self.old (ran Op.A (record_of self.old)) self.new result saved.new }
     {
         let a = self.a();
         self.push_data(saved, a);
@@ -61,16 +62,16 @@ impl Node {
     }
 
     pub(super) fn run_nop(&mut self, saved: &mut Saved) -> Kind
-        requires { saved.old.items ≡ [] }
-        ensures { IsEvent self.old (ran Op.Nop (record_of self.old)) self.new result saved.new.items }
+        requires { saved.old ≡ [] }
+        ensures { IsEvent self.old (ran Op.Nop (record_of self.old)) self.new result saved.new }
     {
         self.go_on(saved);
         Kind::Run(Op::Nop.code())
     }
 
     pub(super) fn run_push(&mut self, saved: &mut Saved) -> Kind
-        requires { saved.old.items ≡ [] }
-        ensures { IsEvent self.old (ran Op.Push (record_of self.old)) self.new result saved.new.items }
+        requires { saved.old ≡ [] }
+        ensures { IsEvent self.old (ran Op.Push (record_of self.old)) self.new result saved.new }
     {
         let top = self.top();
         self.push_return(saved, top);
@@ -80,8 +81,8 @@ impl Node {
     }
 
     pub(super) fn run_b_store(&mut self, saved: &mut Saved) -> Kind
-        requires { saved.old.items ≡ [] }
-        ensures { IsEvent self.old (ran Op.BStore (record_of self.old)) self.new result saved.new.items }
+        requires { saved.old ≡ [] }
+        ensures { IsEvent self.old (ran Op.BStore (record_of self.old)) self.new result saved.new }
     {
         let top = self.top();
         let word = top.get();
@@ -92,8 +93,8 @@ impl Node {
     }
 
     pub(super) fn run_a_store(&mut self, saved: &mut Saved) -> Kind
-        requires { saved.old.items ≡ [] }
-        ensures { IsEvent self.old (ran Op.AStore (record_of self.old)) self.new result saved.new.items }
+        requires { saved.old ≡ [] }
+        ensures { IsEvent self.old (ran Op.AStore (record_of self.old)) self.new result saved.new }
     {
         let top = self.top();
         self.set_a(saved, top);

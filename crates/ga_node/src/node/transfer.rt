@@ -1,8 +1,8 @@
 //! The two halves of a transfer between neighbours.
 
-use super::{Node, Saved};
+use super::Node;
+use crate::saved::Saved;
 use crate::wait::Wait;
-use arrayvec::ArrayVec;
 use ga_word::Word18;
 
 impl Node {
@@ -17,9 +17,9 @@ impl Node {
     #[tactic(auto, unfolding(crate::specs::Table::sent))]
     pub fn send_half_into(&mut self, saved: &mut Saved) -> Word18
         requires writing { IsWriting (record_of self.old).wait }
-        requires empty { saved.old.items ≡ [] }
+        requires empty { saved.old ≡ [] }
         ensures word { result ≡ t (record_of self.old) }
-        ensures change { IsChange self.old (sent (record_of self.old)) self.new saved.new.items }
+        ensures change { IsChange self.old (sent (record_of self.old)) self.new saved.new }
         ensures apart { IsApart self.old }
     {
         let word = self.top();
@@ -33,10 +33,10 @@ impl Node {
     pub fn send_half(&mut self) -> (Word18, Saved)
         requires { IsWriting (record_of self.old).wait }
         ensures word { result.0 ≡ t (record_of self.old) }
-        ensures change { IsChange self.old (sent (record_of self.old)) self.new result.1.items }
+        ensures change { IsChange self.old (sent (record_of self.old)) self.new result.1 }
         ensures apart { IsApart self.old }
     {
-        let mut saved = ArrayVec::new();
+        let mut saved = Saved::new();
         let word = self.send_half_into(&mut saved);
         (word, saved)
     }
@@ -45,8 +45,8 @@ impl Node {
     /// the caller keeps.
     pub fn take_half_into(&mut self, word: Word18, saved: &mut Saved)
         requires reading { IsReading (record_of self.old).wait }
-        requires empty { saved.old.items ≡ [] }
-        ensures change { IsChange self.old (taken word (record_of self.old)) self.new saved.new.items }
+        requires empty { saved.old ≡ [] }
+        ensures change { IsChange self.old (taken word (record_of self.old)) self.new saved.new }
         ensures apart { IsApart self.old }
     {
         let wait = self.wait();
@@ -69,10 +69,10 @@ impl Node {
     /// waits for. Answers the overwritten values.
     pub fn take_half(&mut self, word: Word18) -> Saved
         requires { IsReading (record_of self.old).wait }
-        ensures change { IsChange self.old (taken word (record_of self.old)) self.new result.items }
+        ensures change { IsChange self.old (taken word (record_of self.old)) self.new result }
         ensures apart { IsApart self.old }
     {
-        let mut saved = ArrayVec::new();
+        let mut saved = Saved::new();
         self.take_half_into(word, &mut saved);
         saved
     }

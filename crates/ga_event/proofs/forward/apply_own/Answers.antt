@@ -1,5 +1,4 @@
 use Rattle.std.proofs.Common.{◌≡◌, ◌<◌, ℕ, Result, Ok, Err, None, Some, List, length, subst, arith, IfOk, OnOk, MatchResult}
-use Rattle.arrayvec.specs.ArrayVec.{ArrayVec}
 use Rattle.ga_node.specs.State.{NodeState, IsApart}
 use Rattle.ga_node.specs.Record.{record_of}
 use Rattle.ga_node.specs.Table.{own, refusal}
@@ -15,11 +14,11 @@ use Rattle.ga_event.specs.Undo.{IsApplied}
 use Rattle.ga_event.proofs.Applied.{own_applied}
 use Rattle.ga_event.proofs.forward.apply_own.Goals as goal
 
-if_made : (chip : List NodeState) (node : NodeId) (at new : NodeState) (saved : ArrayVec (Place × ℕ)) (r : Result Kind NotReady) → node.number < length chip → at ≡ node_at chip node.number
+if_made : (chip : List NodeState) (node : NodeId) (at new : NodeState) (saved : List (Place × ℕ)) (r : Result Kind NotReady) → node.number < length chip → at ≡ node_at chip node.number
     → MatchResult r (λ _. refusal (record_of at) ≡ None) (λ reason. refusal (record_of at) ≡ Some reason) → OnOk r (IsApart at)
-    → IfOk r (λ kind. IsEvent at (own (record_of at)) new kind saved.items) → IfOk r (λ kind. IsApplied chip (event.Own node) (effect.Own kind saved) (with_node chip node.number new))
+    → IfOk r (λ kind. IsEvent at (own (record_of at)) new kind saved) → IfOk r (λ kind. IsApplied chip (event.Own node) (effect.Own kind saved) (with_node chip node.number new))
 if_made chip node at new saved (Ok kind) l is ready apart made =
-    own_applied chip node new kind saved l (subst (λ z. refusal (record_of z) ≡ None) is ready) (subst (λ z. IsApart z) is apart) (subst (λ z. IsEvent z (own (record_of z)) new kind saved.items) is made)
+    own_applied chip node new kind saved l (subst (λ z. refusal (record_of z) ≡ None) is ready) (subst (λ z. IsApart z) is apart) (subst (λ z. IsEvent z (own (record_of z)) new kind saved) is made)
 if_made chip node at new saved (Err why) l is ready apart made = tt
 
 pub returns-clause-ok : goal.returns-clause-ok

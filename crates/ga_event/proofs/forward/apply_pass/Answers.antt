@@ -24,7 +24,7 @@ returns-clause-ok c =
     pass_applied c.args.chip.now c.args.writer c.args.reader c.args.side c.send_half_into-word.new.self c.take_half_into.new.self c.send_half_into-word.result
     c.send_half_into-word.new.saved c.take_half_into.new.saved lw lr other open_
     (subst (λ z. c.send_half_into-word.result ≡ t (record_of z)) at_w c.send_half_into-word.ensures.word)
-    (subst (λ z. IsChange z (sent (record_of z)) c.send_half_into-word.new.self c.send_half_into-word.new.saved.items) at_w c.send_half_into-word.ensures.change)
+    (subst (λ z. IsChange z (sent (record_of z)) c.send_half_into-word.new.self c.send_half_into-word.new.saved) at_w c.send_half_into-word.ensures.change)
     (subst (λ z. IsApart z) at_w c.send_half_into-word.ensures.apart)
-    (subst (λ z. IsChange z (taken c.send_half_into-word.result (record_of z)) c.take_half_into.new.self c.take_half_into.new.saved.items) at_r c.take_half_into.ensures.change)
+    (subst (λ z. IsChange z (taken c.send_half_into-word.result (record_of z)) c.take_half_into.new.self c.take_half_into.new.saved) at_r c.take_half_into.ensures.change)
     (subst (λ z. IsApart z) at_r c.take_half_into.ensures.apart)

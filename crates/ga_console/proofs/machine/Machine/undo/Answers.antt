@@ -7,7 +7,7 @@ use Rattle.ga_console.proofs.JournalLemmas.{lead_pop, machine_pop}
 use Rattle.ga_console.proofs.machine.Machine.undo.Goals as goal
 
 popped : (all entries : List Entry) (entry : Entry) (node : NodeState) → all ≡ entries ++ entry ∷ [] → LeadForward all node
-    → LeadsOn entry (restored node entry.saved.items) node × LeadForward entries (restored node entry.saved.items)
+    → LeadsOn entry (restored node entry.saved) node × LeadForward entries (restored node entry.saved)
 popped all entries entry node e h =
     let P : List Entry → Type 0 = λ es. LeadForward es node in lead_pop entries entry node (subst P e h)
 

@@ -3,4 +3,4 @@ use Rattle.ga_node.specs.Saving.{data_values}
 use Rattle.ga_node.proofs.node.changes.save_data.Given as goal
 
 abbrev pub invariant-loop-place : goal.invariant-loop-place
-invariant-loop-place l = l.saved.items ≡ l.initial.saved.items ++ data_values (take l.place-index l.place-items)
+invariant-loop-place l = l.saved ≡ l.initial.saved ++ data_values (take l.place-index l.place-items)

@@ -1,0 +1,12 @@
+use Rattle.std.proofs.Common.{◌≡◌, ◌∙◌, ◌++◌, ◌∷◌, [], ap, subst}
+use Rattle.ga_node.specs.Packed.{AreWords}
+use Rattle.ga_node.proofs.Packing.{words_push, pushed_pair}
+use Rattle.ga_node.proofs.saved.Saved.push.Goals as goal
+
+pub invariant_of-self : goal.invariant_of-self
+invariant_of-self c = rw c.push.ensures.items (words_push c.self.inside.words.items c.pack.result c.self.invariant c.pack.ensures.within)
+
+pub returns : goal.returns
+returns c =
+    pushed_pair c.self.inside.words.items c.push.new.self.items c.pack.result c.args.place c.args.value c.push.ensures.items c.pack.ensures.value c.requires.place c.requires.in_range
+    ∙ ap (λ z. z ++ (c.args.place, c.args.value) ∷ []) c.self.view_is
