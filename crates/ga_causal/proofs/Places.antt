@@ -9,9 +9,8 @@ use Rattle.std.proofs.lemmas.List.Sums.{sum_by-cons}
 use Rattle.std.specs.Prelude.{Option, Some, None, option_map}
 use Rattle.ga_event.specs.declared.event.Event.{Event}
 use Rattle.ga_event.specs.Touches.{touches}
-use Rattle.ga_causal.specs.Dependence.{event_at}
 use Rattle.ga_causal.specs.Steps.{touching, place_of, IsStep}
-use Rattle.ga_causal.proofs.Refusals.{place-first, place-touched, place-other, some-shift, Shifted, shifted_of}
+use Rattle.ga_causal.proofs.Refusals.{place-first, place-touched, place-other, some-shift, shifted_of}
 
 -- a place that stands so many later
 abbrev pub on_by : ℕ → Option ℕ → Option ℕ
