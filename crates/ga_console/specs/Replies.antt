@@ -6,6 +6,7 @@ use Rattle.ga_console.specs.Commands.{served, spelling}
 use Rattle.ga_console.specs.declared.machine.Made.{Made}
 use Rattle.ga_console.specs.declared.machine.StepFault.{StepFault}
 use Rattle.ga_console.specs.declared.machine.StepFault.TheVariants.{Memory}
+use Rattle.ga_console.specs.declared.output.WriteFailed.{WriteFailed}
 use Rattle.ga_console.specs.declared.reply.Turn.{Turn}
 use Rattle.ga_console.specs.declared.reply.Turn.TheVariants.{Answered}
 use Rattle.ga_console.specs.declared.reply.Turn.TheVariants.{Quit as Quits}
@@ -47,12 +48,12 @@ pub data Answer (m : MachineState) (line answer : List ℕ) (new : MachineState)
 abbrev pub quit_line : List ℕ
 quit_line = spelling Quit
 
--- a line, of which the first 201 bytes are here, is answered, or ends the session
-abbrev pub AnswersLine : MachineState → List ℕ → List ℕ → MachineState → Turn → Type 0
-AnswersLine m line answer new Answered = (part : List ℕ) → line ≡ take 201 part → Answer m part answer new × (part ≢ quit_line)
-AnswersLine m line answer new Quits = (line ≡ quit_line) × (new ≡ m)
+-- a line, of which the first 201 bytes are here, is answered and isn't quit
+abbrev pub AnswersLine : MachineState → List ℕ → List ℕ → MachineState → Type 0
+AnswersLine m line answer new = (part : List ℕ) → line ≡ take 201 part → Answer m part answer new × (part ≢ quit_line)
 
--- a command is answered, or ends the session
-abbrev pub Obeys : MachineState → Command → List ℕ → MachineState → Turn → Type 0
-Obeys m asked answer new Answered = Does m asked answer new × (asked ≢ Quit)
-Obeys m asked answer new Quits = (asked ≡ Quit) × (new ≡ m)
+-- it is answered, as far as the answer can be written, or ends the session
+abbrev pub Turns : MachineState → List ℕ → MachineState → Result Turn WriteFailed → List ℕ → Type 0
+Turns m line new (Ok Answered) answer = AnswersLine m line answer new
+Turns m line new (Ok Quits) answer = (line ≡ quit_line) × (new ≡ m) × (answer ≡ [])
+Turns m line new (Err failed) answer = AnswersLine m line answer new

@@ -1,5 +1,5 @@
 -- What a whole session may write, and how it may end.
-use Rattle.std.specs.Prelude.{◌≡◌, ℕ, ◌-◌, ◌⊎◌, List, [], ◌++◌, length, codes, decimal, Err}
+use Rattle.std.specs.Prelude.{◌≡◌, ℕ, ◌-◌, ◌⊎◌, List, [], ◌++◌, length, codes, decimal, Result, Ok, Err, ⊤}
 use Rattle.ga_node.specs.State.{NodeState}
 use Rattle.ga_node.specs.Record.{record_of}
 use Rattle.ga_grid.specs.Chip.{node_at}
@@ -15,7 +15,8 @@ use Rattle.ga_console.specs.Machine.{MachineState, at_start}
 use Rattle.ga_console.specs.Commands.{served}
 use Rattle.ga_console.specs.Session.{Serves, Written, no_input}
 use Rattle.ga_console.specs.declared.commands.Ending.{Ending}
-use Rattle.ga_console.specs.declared.commands.Ending.TheVariants.{Ended, Quit, Past, ReadFailed, WriteFailed}
+use Rattle.ga_console.specs.declared.commands.Ending.TheVariants.{Ended, Quit, Past, ReadFailed}
+use Rattle.ga_console.specs.declared.output.WriteFailed.{WriteFailed}
 use Rattle.ga_console.specs.declared.run.Status.{Status}
 use Rattle.ga_console.specs.declared.run.Status.TheVariants.{Done, ImageRefused, StreamFault, NotFinished}
 
@@ -34,7 +35,7 @@ abbrev pub loaded : List NodeState → ℕ → MachineState
 loaded chip limit = at_start (record_of (node_at chip served)) limit
 
 -- the image was accepted, and the commands behind it were served to this ending
-pub record Served (limit : ℕ) (read rest text : List ℕ) (ending : Ending) : Type 0 where
+pub record Served (limit : ℕ) (read rest text : List ℕ) (ending : Result Ending WriteFailed) : Type 0 where
   pub image : List ℕ
   pub commands : List ℕ
   pub chip : List NodeState
@@ -57,19 +58,19 @@ pub record Faulty (read rest : List ℕ) (fault : ImageFault) : Type 0 where
 abbrev pub Refused : List ℕ → List ℕ → ImageFault → Type 0
 Refused read rest fault = (fault ≡ no_memory) ⊎ Faulty read rest fault
 
-abbrev pub status_of : Ending → Status
-status_of Ended = Done
-status_of Quit = Done
-status_of Past = StreamFault
-status_of ReadFailed = StreamFault
-status_of WriteFailed = StreamFault
+abbrev pub status_of : Result Ending WriteFailed → Status
+status_of (Ok Ended) = Done
+status_of (Ok Quit) = Done
+status_of (Ok Past) = StreamFault
+status_of (Ok ReadFailed) = StreamFault
+status_of (Err failed) = StreamFault
 
 -- What a session may have written, where read was read of its input and rest is left of it.
 abbrev pub Runs : ℕ → List ℕ → List ℕ → List ℕ → Status → Type 0
-Runs limit read rest text Done = (ending : Ending) × (status_of ending ≡ Done) × Served limit read rest text ending
+Runs limit read rest text Done = (ending : Result Ending WriteFailed) × (status_of ending ≡ Done) × Served limit read rest text ending
 Runs limit read rest text ImageRefused = (fault : ImageFault) × Refused read rest fault × (text ≡ image_fault_text fault)
 -- the command part failed, or a read in the image part, or a write of the refusal
-Runs limit read rest text StreamFault = ((ending : Ending) × (status_of ending ≡ StreamFault) × Served limit read rest text ending)
+Runs limit read rest text StreamFault = ((ending : Result Ending WriteFailed) × (status_of ending ≡ StreamFault) × Served limit read rest text ending)
     ⊎ ((text ≡ []) × HasNoEnd read)
     ⊎ ((fault : ImageFault) × Refused read rest fault × Begins (image_fault_text fault) text)
 Runs limit read rest text NotFinished = ⊥
@@ -90,19 +91,23 @@ abbrev pub IsFault : List ℕ → ImageFault → Type 0
 IsFault image fault = (fault ≡ no_memory) ⊎ (reading start 1 (lines_of image) ≡ Err fault)
 
 -- that the input goes past its bound was said, or that failed
-abbrev pub IsPast : Ending → Type 0
-IsPast ending = (ending ≡ Past) ⊎ (ending ≡ WriteFailed)
+abbrev pub IsPast : Result Ending WriteFailed → Type 0
+IsPast (Ok Ended) = ⊥
+IsPast (Ok Quit) = ⊥
+IsPast (Ok Past) = ⊤
+IsPast (Ok ReadFailed) = ⊥
+IsPast (Err failed) = ⊤
 
 -- What may be written after the image was read, of which so many bytes were taken.
 abbrev pub AfterImage : ℕ → List ℕ → ℕ → List ℕ → List ℕ → List ℕ → Status → Type 0
 AfterImage limit image taken read rest text status =
-    ((machine : MachineState) × Opens image limit machine × (ending : Ending) × (status ≡ status_of ending)
+    ((machine : MachineState) × Opens image limit machine × (ending : Result Ending WriteFailed) × (status ≡ status_of ending)
     × (said : List ℕ) × Serves (input_limit - taken) machine read rest said ending × Written ending (ready ++ said) text)
     ⊎ ((fault : ImageFault) × IsFault image fault × Refuses fault text status)
 
 -- What may be written where the input goes past its bound within the image.
 abbrev pub AfterAll : ℕ → List ℕ → List ℕ → Status → Type 0
 AfterAll limit image text status =
-    ((machine : MachineState) × Opens image limit machine × (ending : Ending) × (status ≡ status_of ending)
+    ((machine : MachineState) × Opens image limit machine × (ending : Result Ending WriteFailed) × (status ≡ status_of ending)
     × IsPast ending × Written ending (ready ++ no_input) text)
     ⊎ ((fault : ImageFault) × IsFault image fault × Refuses fault text status)

@@ -9,7 +9,7 @@ use super::fault_text::put_fault;
 use super::image::{ImageEnd, read_image};
 use super::input::Input;
 use super::machine::Machine;
-use super::output::{Output, write_all};
+use super::output::{Output, WriteFailed, write_all};
 use super::text::Text;
 use ga_grid::NodeId;
 use ga_image::{ImageCause, ImageFault, parse};
@@ -125,21 +125,20 @@ fn refuse<W: Write>(writer: &mut W, fault: ImageFault) -> Status
 {
     let mut text = Text::new();
     put_fault(&mut text, fault);
-    if write_all(writer, text.as_slice()) {
-        Status::ImageRefused
-    } else {
-        Status::StreamFault
+    match write_all(writer, text.as_slice()) {
+        Ok(()) => Status::ImageRefused,
+        Err(WriteFailed) => Status::StreamFault,
     }
 }
 
-fn status_of(ending: Ending) -> Status
+fn status_of(ending: Result<Ending, WriteFailed>) -> Status
     ensures { result ≡ status_that ending }
 {
     match ending {
-        Ending::Ended => Status::Done,
-        Ending::Quit => Status::Done,
-        Ending::Past => Status::StreamFault,
-        Ending::ReadFailed => Status::StreamFault,
-        Ending::WriteFailed => Status::StreamFault,
+        Ok(Ending::Ended) => Status::Done,
+        Ok(Ending::Quit) => Status::Done,
+        Ok(Ending::Past) => Status::StreamFault,
+        Ok(Ending::ReadFailed) => Status::StreamFault,
+        Err(WriteFailed) => Status::StreamFault,
     }
 }

@@ -1,4 +1,5 @@
 use crate::{Kind, Node, NotReady, Place, Wait};
+use ga_stacks::{DataStack, ReturnStack};
 use ga_word::Word18;
 use std::test::Fail;
 
@@ -46,6 +47,17 @@ fn defaults(rt: HostRuntime) {
     }
     assert_eq!(rt; node.d(9), 0x15555);
     assert_eq!(rt; node.r(8), 0x15555);
+}
+
+#[test]
+fn sets_stacks(rt: HostRuntime) {
+    let mut node = Node::new(0x195);
+    let data = [Word18::low(7); 10];
+    let returns = [Word18::low(8); 9];
+    node.set_stacks(DataStack::of(data), ReturnStack::of(returns));
+    assert_eq!(rt; node.d(9), 7);
+    assert_eq!(rt; node.r(8), 8);
+    assert_eq!(rt; node.get(Place::P), 0x195);
 }
 
 #[test]

@@ -3,7 +3,7 @@
 ghost use Rattle.std.specs.Prelude.{◌≡◌, ◌<◌, ◌≤◌, ◌+◌, ◌%◌, [], ◌∷◌, slice_index, length};
 ghost use Rattle.ga_stacks.specs.declared.place.StackPlace.TheVariants.{Pointer, Top, Second, Cell};
 ghost use Rattle.ga_stacks.specs.Ring.{fresh_ring, listed, pushed, popped_data, topped};
-ghost use Rattle.ga_stacks.specs.Stack.{word_at, with_word, restored, places_in, HasPlace, FitsPlace, AreFit, IsOnce};
+ghost use Rattle.ga_stacks.specs.Stack.{word_at, old_words, with_word, restored, HasPlace, FitsPlace, AreFit, IsOnce};
 
 use crate::place::{CELLS, Overwritten, StackPlace};
 use arrayvec::ArrayVec;
@@ -44,6 +44,19 @@ impl DataStack {
         }
     }
 
+    /// The stack that is this list of words, the top first.
+    pub fn of(words: [Word18; 10]) -> Self
+        ensures { listed result ≡ words }
+    {
+        let [top, second, a, b, c, d, e, f, g, h] = words;
+        DataStack {
+            top,
+            second,
+            cells: [a, b, c, d, e, f, g, h],
+            pointer: 0,
+        }
+    }
+
     /// T, the top word.
     pub fn top(&self) -> Word18
         ensures { result ≡ slice_index (listed self.now) 0 }
@@ -61,7 +74,8 @@ impl DataStack {
     /// The word at a place of the list, 0 for the top.
     pub fn at(&self, place: u8) -> Word18
         requires { place < 10 }
-        ensures { result ≡ slice_index (listed self.now) place }
+        ensures word { result ≡ slice_index (listed self.now) place }
+        ensures size { 2 ≤ place → length (listed self.now) ≡ 10 }
     {
         match place {
             0 => self.top,
@@ -74,7 +88,7 @@ impl DataStack {
     pub fn push(&mut self, word: Word18) -> Overwritten
         ensures pushed { listed self.new ≡ pushed word (listed self.old) }
         ensures undone { restored self.new result.items ≡ self.old }
-        ensures places { places_in result.items ≡ Pointer ∷ Cell ((self.old.pointer + 7) % 8) ∷ Second ∷ Top ∷ [] }
+        ensures overwritten { result.items ≡ old_words self.old (Pointer ∷ Cell ((self.old.pointer + 7) % 8) ∷ Second ∷ Top ∷ []) }
         ensures fit { AreFit 2 result.items }
         ensures once { IsOnce result.items }
         ensures count { length result.items ≤ 4 }
@@ -99,7 +113,7 @@ impl DataStack {
     pub fn pop(&mut self) -> Overwritten
         ensures popped { listed self.new ≡ popped_data (listed self.old) }
         ensures undone { restored self.new result.items ≡ self.old }
-        ensures places { places_in result.items ≡ Pointer ∷ Second ∷ Top ∷ [] }
+        ensures overwritten { result.items ≡ old_words self.old (Pointer ∷ Second ∷ Top ∷ []) }
         ensures fit { AreFit 2 result.items }
         ensures once { IsOnce result.items }
         ensures count { length result.items ≤ 3 }
@@ -118,7 +132,7 @@ impl DataStack {
     pub fn replace_top(&mut self, word: Word18) -> Overwritten
         ensures topped { listed self.new ≡ topped word (listed self.old) }
         ensures undone { restored self.new result.items ≡ self.old }
-        ensures places { places_in result.items ≡ Top ∷ [] }
+        ensures overwritten { result.items ≡ old_words self.old (Top ∷ []) }
         ensures fit { AreFit 2 result.items }
         ensures once { IsOnce result.items }
         ensures count { length result.items ≤ 1 }

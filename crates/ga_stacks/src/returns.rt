@@ -3,7 +3,7 @@
 ghost use Rattle.std.specs.Prelude.{◌≡◌, ◌<◌, ◌≤◌, ◌+◌, ◌%◌, [], ◌∷◌, slice_index, length};
 ghost use Rattle.ga_stacks.specs.declared.place.StackPlace.TheVariants.{Pointer, Top, Cell};
 ghost use Rattle.ga_stacks.specs.Ring.{fresh_ring, listed, pushed, popped_return, topped};
-ghost use Rattle.ga_stacks.specs.Stack.{word_at, with_word, restored, places_in, HasPlace, FitsPlace, AreFit, IsOnce};
+ghost use Rattle.ga_stacks.specs.Stack.{word_at, old_words, with_word, restored, HasPlace, FitsPlace, AreFit, IsOnce};
 
 use crate::place::{CELLS, Overwritten, StackPlace};
 use arrayvec::ArrayVec;
@@ -42,6 +42,18 @@ impl ReturnStack {
         }
     }
 
+    /// The stack that is this list of words, the top first.
+    pub fn of(words: [Word18; 9]) -> Self
+        ensures { listed result ≡ words }
+    {
+        let [top, a, b, c, d, e, f, g, h] = words;
+        ReturnStack {
+            top,
+            cells: [a, b, c, d, e, f, g, h],
+            pointer: 0,
+        }
+    }
+
     /// R, the top word.
     pub fn top(&self) -> Word18
         ensures { result ≡ slice_index (listed self.now) 0 }
@@ -52,7 +64,8 @@ impl ReturnStack {
     /// The word at a place of the list, 0 for the top.
     pub fn at(&self, place: u8) -> Word18
         requires { place < 9 }
-        ensures { result ≡ slice_index (listed self.now) place }
+        ensures word { result ≡ slice_index (listed self.now) place }
+        ensures size { 1 ≤ place → length (listed self.now) ≡ 9 }
     {
         match place {
             0 => self.top,
@@ -64,7 +77,7 @@ impl ReturnStack {
     pub fn push(&mut self, word: Word18) -> Overwritten
         ensures pushed { listed self.new ≡ pushed word (listed self.old) }
         ensures undone { restored self.new result.items ≡ self.old }
-        ensures places { places_in result.items ≡ Pointer ∷ Cell ((self.old.pointer + 7) % 8) ∷ Top ∷ [] }
+        ensures overwritten { result.items ≡ old_words self.old (Pointer ∷ Cell ((self.old.pointer + 7) % 8) ∷ Top ∷ []) }
         ensures fit { AreFit 1 result.items }
         ensures once { IsOnce result.items }
         ensures count { length result.items ≤ 3 }
@@ -87,7 +100,7 @@ impl ReturnStack {
     pub fn pop(&mut self) -> Overwritten
         ensures popped { listed self.new ≡ popped_return (listed self.old) }
         ensures undone { restored self.new result.items ≡ self.old }
-        ensures places { places_in result.items ≡ Pointer ∷ Top ∷ [] }
+        ensures overwritten { result.items ≡ old_words self.old (Pointer ∷ Top ∷ []) }
         ensures fit { AreFit 1 result.items }
         ensures once { IsOnce result.items }
         ensures count { length result.items ≤ 2 }
@@ -104,7 +117,7 @@ impl ReturnStack {
     pub fn replace_top(&mut self, word: Word18) -> Overwritten
         ensures topped { listed self.new ≡ topped word (listed self.old) }
         ensures undone { restored self.new result.items ≡ self.old }
-        ensures places { places_in result.items ≡ Top ∷ [] }
+        ensures overwritten { result.items ≡ old_words self.old (Top ∷ []) }
         ensures fit { AreFit 1 result.items }
         ensures once { IsOnce result.items }
         ensures count { length result.items ≤ 1 }

@@ -27,6 +27,23 @@ fn wraps_around(rt: HostRuntime) {
 }
 
 #[test]
+fn of_lists(rt: HostRuntime) {
+    let mut list = [Word18::low(0); 10];
+    for (place, word) in list.iter_mut().enumerate() {
+        *word = Word18::low(place as u32 + 1);
+    }
+    let mut stack = DataStack::of(list);
+    assert_eq!(rt; words(&stack), [1, 2, 3, 4, 5, 6, 7, 8, 9, 10]);
+    let _overwritten = stack.push(Word18::low(0));
+    assert_eq!(rt; words(&stack), [0, 1, 2, 3, 4, 5, 6, 7, 8, 9]);
+    let [_, rest @ ..] = list;
+    let stack = ReturnStack::of(rest);
+    for place in 0..9u8 {
+        assert_eq!(rt; stack.at(place).get(), u32::from(place) + 2);
+    }
+}
+
+#[test]
 fn returns(rt: HostRuntime) {
     let mut stack = ReturnStack::new();
     let _overwritten = stack.push(Word18::low(7));
