@@ -1,6 +1,4 @@
-use Rattle.std.proofs.Common.{◌≡◌, true, sym, ◌∙◌, ap}
-use Rattle.std.specs.Prelude.{nat_le, ◌&&◌}
-use Rattle.std.proofs.lemmas.Bool.{le-leb}
+use Rattle.std.proofs.Common.{◌∙◌, ap}
 use Rattle.ga_lab.specs.Machine.{State, stands}
 use Rattle.ga_lab.proofs.Stepping.{whole_of}
 use Rattle.ga_lab.proofs.Reasons.{stands_read}

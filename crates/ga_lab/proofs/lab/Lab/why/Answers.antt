@@ -1,4 +1,4 @@
-use Rattle.std.proofs.Common.{◌≡◌, Err, sym, ◌∙◌, ap, inl, inr}
+use Rattle.std.proofs.Common.{Err, sym, ◌∙◌, ap, inl, inr}
 use Rattle.std.specs.Prelude.{Result, Option, List}
 use Rattle.ga_causal.specs.declared.chain.Link.{Link}
 use Rattle.ga_lab.specs.declared.fault.LabFault.{LabFault}
