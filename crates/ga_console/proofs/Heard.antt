@@ -8,9 +8,10 @@ use Rattle.std.proofs.lemmas.Grind.{flat_map-append}
 use Rattle.std.proofs.lemmas.Bool.Decides.{nat_tests}
 use Rattle.ga_image.specs.Lines.{lines_of}
 use Rattle.ga_console.specs.Lines.{ended, text_of, ended_lines, HasNoFeed}
-use Rattle.ga_console.specs.Machine.{MachineState}
+use Rattle.ga_lab.specs.Machine.{State}
 use Rattle.ga_console.specs.Replies.{Answer, quit_line}
-use Rattle.ga_console.specs.Session.{Answers, HasNoQuit, heard_lines, HearsWholeLines, QuitsAfter, Serves, ServesToEnd, ServesToQuit, ServesToBound, ServesToFault, ServesCut, no_input}
+use Rattle.ga_console.specs.Session.{Answers, HasNoQuit, heard_lines, HearsWholeLines, QuitsAfter, Serves, ServesToEnd, ServesToQuit, ServesToBound, ServesToFault, ServesCut}
+use Rattle.ga_console.specs.Texts.{no_input}
 use Rattle.ga_console.specs.declared.commands.Ending.{Ending}
 use Rattle.ga_console.specs.declared.commands.Ending.TheVariants.{Ended, Quit, Past, ReadFailed}
 use Rattle.ga_console.specs.declared.output.WriteFailed.{WriteFailed}
@@ -26,26 +27,26 @@ all_push P [] line h p = (p, tt)
 all_push P (l ∷ ls) line h p = (h.0, all_push P ls line h.1 p)
 
 -- the answers so far, and the machine after them
-pub AnswersTo : MachineState → List (List ℕ) → List ℕ → MachineState → Type 0
+pub AnswersTo : State → List (List ℕ) → List ℕ → State → Type 0
 AnswersTo m [] text new = (text ≡ []) × (new ≡ m)
-AnswersTo m (line ∷ lines) text new = (answer : List ℕ) × (next : MachineState) × (more : List ℕ) × Answer m line answer next × AnswersTo next lines more new × (text ≡ answer ++ more)
+AnswersTo m (line ∷ lines) text new = (answer : List ℕ) × (next : State) × (more : List ℕ) × Answer m line answer next × AnswersTo next lines more new × (text ≡ answer ++ more)
 
-answers_from : (m : MachineState) (lines : List (List ℕ)) (text : List ℕ) (new : MachineState) → AnswersTo m lines text new → Answers m lines text
+answers_from : (m : State) (lines : List (List ℕ)) (text : List ℕ) (new : State) → AnswersTo m lines text new → Answers m lines text
 unfolding AnswersTo
 answers_from m [] text new h = h.0
 answers_from m (line ∷ lines) text new h = (h.0, h.1, h.2, h.3, answers_from h.1 lines h.2 new h.4, h.5)
 
-answers_push : (m : MachineState) (lines : List (List ℕ)) (text : List ℕ) (next : MachineState) (line answer : List ℕ) (new : MachineState)
+answers_push : (m : State) (lines : List (List ℕ)) (text : List ℕ) (next : State) (line answer : List ℕ) (new : State)
     → AnswersTo m lines text next → Answer next line answer new → AnswersTo m (lines ++ line ∷ []) (text ++ answer) new
 unfolding AnswersTo
 answers_push m [] text next line answer new h a =
-    let P : MachineState → Type 0 = λ s. Answer s line answer new in
+    let P : State → Type 0 = λ s. Answer s line answer new in
     (answer, new, [], subst P h.1 a, (refl, refl), ap (λ (t : List ℕ). t ++ answer) h.0 ∙ sym (append-nil answer))
 answers_push m (l ∷ ls) text next line answer new h a =
     (h.0, h.1, h.2 ++ answer, h.3, answers_push h.1 ls h.2 next line answer new h.4 a, ap (λ (t : List ℕ). t ++ answer) h.5 ∙ append_assoc h.0 h.2 answer)
 
 -- what was heard of the whole, and what is left of it
-pub record Heard (first : MachineState) (whole : List ℕ) (start : ℕ) (left : List ℕ) (taken : ℕ) (text : List ℕ) (m : MachineState) : Type 0 where
+pub record Heard (first : State) (whole : List ℕ) (start : ℕ) (left : List ℕ) (taken : ℕ) (text : List ℕ) (m : State) : Type 0 where
   pub lines : List (List ℕ)
   pub splits : whole ≡ text_of lines ++ left
   pub feeds : AllByRecursion HasNoFeed lines
@@ -53,7 +54,7 @@ pub record Heard (first : MachineState) (whole : List ℕ) (start : ℕ) (left :
   pub answers : AnswersTo first lines text m
   pub counts : taken ≡ start + length (text_of lines)
 
-pub heard_none : (m : MachineState) (whole : List ℕ) (start : ℕ) → Heard m whole start whole start [] m
+pub heard_none : (m : State) (whole : List ℕ) (start : ℕ) → Heard m whole start whole start [] m
 unfolding AnswersTo
 heard_none m whole start = record { lines = []; splits = refl; feeds = tt; no_quit = tt; answers = (refl, refl); counts = omega arith }
 
@@ -89,7 +90,7 @@ whole_quit room read rest heard after short (inl e) = inr (quit_line ∷ after, 
 whole_quit room read rest heard after short (inr e) = inl e.0
 
 -- Where a write failed at last, what was said stands in the script.
-pub cut_short : (room : ℕ) (m : MachineState) (read rest text : List ℕ) (ending : Result Ending WriteFailed)
+pub cut_short : (room : ℕ) (m : State) (read rest text : List ℕ) (ending : Result Ending WriteFailed)
     → Serves room m read rest text ending → ServesCut room m read rest text
 cut_short room m read rest text (Ok Ended) s = record {
   heard = lines_of read;
@@ -131,7 +132,7 @@ cut_short room m read rest text (Ok ReadFailed) s =
     }
 cut_short room m read rest text (Err failed) s = s
 
-module _ {first : MachineState} {whole : List ℕ} {start : ℕ} {left : List ℕ} {taken : ℕ} {text : List ℕ} {m : MachineState}
+module _ {first : State} {whole : List ℕ} {start : ℕ} {left : List ℕ} {taken : ℕ} {text : List ℕ} {m : State}
     (h : Heard first whole start left taken text m) where
   -- what was read, up to the end of these bytes
   pub read_to : List ℕ → List ℕ
@@ -146,7 +147,7 @@ module _ {first : MachineState} {whole : List ℕ} {start : ℕ} {left : List �
   length_to bytes = length-append (text_of h.lines) bytes
 
   -- one line more was heard
-  pub heard_push : (part more : List ℕ) (now : ℕ) (answer : List ℕ) (new : MachineState) → left ≡ part ++ 10 ∷ more → HasNoFeed part
+  pub heard_push : (part more : List ℕ) (now : ℕ) (answer : List ℕ) (new : State) → left ≡ part ++ 10 ∷ more → HasNoFeed part
       → now ≡ taken + length part + 1 → Answer m part answer new → part ≢ quit_line → Heard first whole start more now (text ++ answer) new
   heard_push part more now answer new e none counts a other = record {
     lines = h.lines ++ part ∷ [];
@@ -204,7 +205,7 @@ module _ {first : MachineState} {whole : List ℕ} {start : ℕ} {left : List �
   lines_to part none some = sym (lines_front h.lines part h.feeds ∙ ap (λ (ls : List (List ℕ)). h.lines ++ ls) (lines_last part none some))
 
   -- the last line had no line feed
-  pub heard_last : (part rest answer : List ℕ) (new : MachineState) → HasNoFeed part → 0 < length part → rest ≡ [] → taken + length part ≤ 16777216
+  pub heard_last : (part rest answer : List ℕ) (new : State) → HasNoFeed part → 0 < length part → rest ≡ [] → taken + length part ≤ 16777216
       → Answer m part answer new → part ≢ quit_line → ServesToEnd (16777216 - start) first (read_to part) rest (text ++ answer)
   heard_last part rest answer new none some nothing short a other =
       let same = lines_to part none some in

@@ -86,3 +86,22 @@ said_nothing contents before said text pending e h = record {
   held = h.held;
   splits = sym (append-nil said) ∙ ap (λ (t : List ℕ). said ++ t) (sym e) ∙ h.splits;
 }
+
+-- the same of a text that was said
+pub said_as : (contents : Option (List ℕ)) (before said text other pending : List ℕ) → text ≡ other → IsSaid contents before (said ++ text) pending
+    → IsSaid contents before (said ++ other) pending
+said_as contents before said text other pending e h =
+    let P : List ℕ → Type 0 = λ t. IsSaid contents before (said ++ t) pending in subst P e h
+
+-- a front of a text was said
+pub cut_within : (contents : Option (List ℕ)) (before said text more whole : List ℕ) → text ++ more ≡ whole → IsCut contents before (said ++ text)
+    → IsCut contents before (said ++ whole)
+cut_within contents before said text more whole e h = record {
+  sent = h.sent;
+  held = h.held;
+  front = (
+    h.front.0 ++ more,
+    ap (λ (t : List ℕ). said ++ t) (sym e) ∙ sym (append_assoc said text more) ∙ ap (λ (t : List ℕ). t ++ more) h.front.1
+        ∙ append_assoc h.sent h.front.0 more,
+  );
+}

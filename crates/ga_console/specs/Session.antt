@@ -1,10 +1,11 @@
 -- What the command part of a session says, and how it may end.
-use Rattle.std.specs.Prelude.{◌≡◌, ◌≢◌, ℕ, ◌+◌, ◌<◌, ◌≤◌, ◌⊎◌, List, [], ◌∷◌, ◌++◌, length, take, codes, nat_le, if◌then◌else◌, Option, Result, Ok, Err}
+use Rattle.std.specs.Prelude.{◌≡◌, ◌≢◌, ℕ, ◌+◌, ◌<◌, ◌≤◌, ◌⊎◌, List, [], ◌∷◌, ◌++◌, length, take, nat_le, if◌then◌else◌, Option, Result, Ok, Err}
 use Rattle.std.specs.List.{AllByRecursion}
 use Rattle.ga_image.specs.Lines.{lines_of}
 use Rattle.ga_console.specs.Lines.{ended_lines}
 use Rattle.ga_console.specs.Output.{Begins}
-use Rattle.ga_console.specs.Machine.{MachineState}
+use Rattle.ga_console.specs.Texts.{no_input}
+use Rattle.ga_lab.specs.Machine.{State}
 use Rattle.ga_console.specs.Replies.{Answer, quit_line}
 use Rattle.ga_console.specs.declared.commands.Ending.{Ending}
 use Rattle.ga_console.specs.declared.commands.Ending.TheVariants.{Ended, Quit, Past, ReadFailed}
@@ -14,19 +15,16 @@ abbrev pub HasNoQuit : List (List ℕ) → Type 0
 HasNoQuit lines = AllByRecursion (λ line. line ≢ quit_line) lines
 
 -- From this machine the lines may be answered by this text, one after the other.
-abbrev pub Answers : MachineState → List (List ℕ) → List ℕ → Type 0
+abbrev pub Answers : State → List (List ℕ) → List ℕ → Type 0
 Answers m [] text = text ≡ []
-Answers m (line ∷ lines) text = (answer : List ℕ) × (next : MachineState) × (more : List ℕ) × Answer m line answer next × Answers next lines more × (text ≡ answer ++ more)
-
-abbrev pub no_input : List ℕ
-no_input = codes "no 33 input\n"
+Answers m (line ∷ lines) text = (answer : List ℕ) × (next : State) × (more : List ℕ) × Answer m line answer next × Answers next lines more × (text ≡ answer ++ more)
 
 -- The lines within the bound of what was read. Where that ends within the bound, a last line without a line feed is one of them.
 abbrev pub heard_lines : ℕ → List ℕ → List (List ℕ)
 heard_lines room read = if nat_le (length read) room then lines_of read else ended_lines (take room read)
 
 -- All that may be said to these lines: their answers, and where the input goes past its bound behind them, that it does.
-abbrev pub Script : ℕ → MachineState → List ℕ → List (List ℕ) → List ℕ → Type 0
+abbrev pub Script : ℕ → State → List ℕ → List (List ℕ) → List ℕ → Type 0
 Script room m read lines text = Answers m lines text
     ⊎ ((room < length read) × (lines ≡ ended_lines (take room read)) × (said : List ℕ) × Answers m lines said × (text ≡ said ++ no_input))
 
@@ -37,7 +35,7 @@ HearsWholeLines room read rest heard = (rest ≡ []) ⊎ ((more : List (List ℕ
 -- In what follows, read was read of the commands and rest is left of them, text was said, and up to room bytes are within the bound.
 
 -- the input ended: each line was answered
-pub record ServesToEnd (room : ℕ) (m : MachineState) (read rest text : List ℕ) : Type 0 where
+pub record ServesToEnd (room : ℕ) (m : State) (read rest text : List ℕ) : Type 0 where
   pub within : length read ≤ room
   pub at_end : rest ≡ []
   pub no_quit : HasNoQuit (lines_of read)
@@ -49,7 +47,7 @@ QuitsAfter read rest heard after =
     (ended_lines read ≡ heard ++ quit_line ∷ after) ⊎ ((rest ≡ []) × (lines_of read ≡ heard ++ quit_line ∷ []))
 
 -- a line `quit` came: each line before the first was answered
-pub record ServesToQuit (room : ℕ) (m : MachineState) (read rest text : List ℕ) : Type 0 where
+pub record ServesToQuit (room : ℕ) (m : State) (read rest text : List ℕ) : Type 0 where
   pub within : length read ≤ room
   pub heard : List (List ℕ)
   pub after : List (List ℕ)
@@ -58,7 +56,7 @@ pub record ServesToQuit (room : ℕ) (m : MachineState) (read rest text : List �
   pub quits : QuitsAfter read rest heard after
 
 -- the input went past its bound: each line within it was answered, and then that was said
-pub record ServesToBound (room : ℕ) (m : MachineState) (read rest text : List ℕ) : Type 0 where
+pub record ServesToBound (room : ℕ) (m : State) (read rest text : List ℕ) : Type 0 where
   pub over : length read ≡ room + 1
   pub no_quit : HasNoQuit (ended_lines (take room read))
   pub said : List ℕ
@@ -66,13 +64,13 @@ pub record ServesToBound (room : ℕ) (m : MachineState) (read rest text : List 
   pub told : text ≡ said ++ no_input
 
 -- a read failed: each line that was read whole was answered
-pub record ServesToFault (room : ℕ) (m : MachineState) (read rest text : List ℕ) : Type 0 where
+pub record ServesToFault (room : ℕ) (m : State) (read rest text : List ℕ) : Type 0 where
   pub within : length read ≤ room
   pub no_quit : HasNoQuit (ended_lines read)
   pub answers : Answers m (ended_lines read) text
 
 -- a write failed: some lines were answered, of which none was quit
-pub record ServesCut (room : ℕ) (m : MachineState) (read rest text : List ℕ) : Type 0 where
+pub record ServesCut (room : ℕ) (m : State) (read rest text : List ℕ) : Type 0 where
   pub heard : List (List ℕ)
   pub after : List (List ℕ)
   pub front : heard_lines room read ≡ heard ++ after
@@ -81,7 +79,7 @@ pub record ServesCut (room : ℕ) (m : MachineState) (read rest text : List ℕ)
   pub whole : HearsWholeLines room read rest heard
 
 -- This text may have been said at this ending.
-abbrev pub Serves : ℕ → MachineState → List ℕ → List ℕ → List ℕ → Result Ending WriteFailed → Type 0
+abbrev pub Serves : ℕ → State → List ℕ → List ℕ → List ℕ → Result Ending WriteFailed → Type 0
 Serves room m read rest text (Ok Ended) = ServesToEnd room m read rest text
 Serves room m read rest text (Ok Quit) = ServesToQuit room m read rest text
 Serves room m read rest text (Ok Past) = ServesToBound room m read rest text

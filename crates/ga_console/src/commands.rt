@@ -6,9 +6,9 @@ ghost use Rattle.ga_console.specs.Session.{Serves, Written};
 
 use super::input::Input;
 use super::lines::{Line, LineEnd, read_line};
-use super::machine::Machine;
 use super::output::{Output, WriteFailed};
 use super::reply::{Turn, answer};
+use ga_lab::Lab;
 use std::io::{Read, Write};
 
 /// How the command part ended.
@@ -33,7 +33,7 @@ pub fn serve<R: Read, W: Write>(
     reader: &mut R,
     output: &mut Output,
     writer: &mut W,
-    machine: &mut Machine,
+    lab: &mut Lab,
 ) -> Result<Ending, WriteFailed>
     requires { IsWithin input.old }
     ensures { (left before said : List ℕ) → R.remaining reader.old ≡ Some left →
@@ -41,10 +41,10 @@ pub fn serve<R: Read, W: Write>(
         (read rest text sent : List ℕ)
         × (input.old.bytes ++ left ≡ read ++ rest) × (R.remaining reader.new ≡ Some rest)
         × (W.contents writer.new ≡ Some (before ++ sent))
-        × Serves (input_limit - input.old.taken) machine.old read rest text result
+        × Serves (input_limit - input.old.taken) lab.old read rest text result
         × Written result (said ++ text) sent }
 {
-    let ending = answer_lines(input, reader, output, writer, machine)?;
+    let ending = answer_lines(input, reader, output, writer, lab)?;
     output.send(writer)?;
     Ok(ending)
 }
@@ -55,20 +55,20 @@ fn answer_lines<R: Read, W: Write>(
     reader: &mut R,
     output: &mut Output,
     writer: &mut W,
-    machine: &mut Machine,
+    lab: &mut Lab,
 ) -> Result<Ending, WriteFailed>
     requires { IsWithin input.old }
     ensures { (left before said : List ℕ) → R.remaining reader.old ≡ Some left →
         IsSaid (W.contents writer.old) before said output.old →
         (read rest text : List ℕ)
         × (input.old.bytes ++ left ≡ read ++ rest) × (R.remaining reader.new ≡ Some rest)
-        × Serves (input_limit - input.old.taken) machine.old read rest text result
+        × Serves (input_limit - input.old.taken) lab.old read rest text result
         × IsSaidOrCut result (W.contents writer.new) before (said ++ text) output.new }
 {
     let mut line = Line::new();
     'lines: loop {
         match read_line(input, reader, output, writer, &mut line)? {
-            LineEnd::Feed => match answer(machine, &line, output, writer)? {
+            LineEnd::Feed => match answer(lab, &line, output, writer)? {
                 Turn::Quit => return Ok(Ending::Quit),
                 Turn::Answered => {}
             },
@@ -76,7 +76,7 @@ fn answer_lines<R: Read, W: Write>(
                 if line.is_empty() {
                     return Ok(Ending::Ended);
                 }
-                return match answer(machine, &line, output, writer)? {
+                return match answer(lab, &line, output, writer)? {
                     Turn::Quit => Ok(Ending::Quit),
                     Turn::Answered => Ok(Ending::Ended),
                 };

@@ -2,20 +2,16 @@
 ghost use Rattle.ga_console.specs.Output.{Says};
 ghost use Rattle.ga_console.specs.Replies.{Does, Turns};
 
+use super::changes::{back, rewind, step};
 use super::command::{Command, command_of};
-use super::event::{put_event, put_removed, refusal};
 use super::lines::Line;
-use super::machine::Machine;
-use super::node_text::put_node;
 use super::output::{Output, WriteFailed};
-use super::text::Text;
+use super::readings::{count, memory, node, trace, why};
+use ga_lab::Lab;
 use std::io::Write;
 
 /// The most bytes that a line has before its line feed.
 const LINE_LIMIT: usize = 200;
-
-/// The row and column of the node that is served.
-const SERVED: u32 = 0;
 
 /// What a line asks for.
 #[derive(Clone, Copy, PartialEq, Eq)]
@@ -31,12 +27,12 @@ pub enum Turn {
 /// # Errors
 /// A write failed.
 pub fn answer<W: Write>(
-    machine: &mut Machine,
+    lab: &mut Lab,
     line: &Line,
     output: &mut Output,
     writer: &mut W,
 ) -> Result<Turn, WriteFailed>
-    ensures { Says result (Turns machine.old line.now.items machine.new result)
+    ensures { Says result (Turns lab.old line.now.items lab.new result)
         (W.contents writer.old) output.old (W.contents writer.new) output.new }
 {
     if line.len() > LINE_LIMIT {
@@ -51,72 +47,37 @@ pub fn answer<W: Write>(
         Some(command) => match command {
             Command::Quit => Ok(Turn::Quit),
             _ => {
-                obey(machine, command, output, writer)?;
+                obey(lab, command, output, writer)?;
                 Ok(Turn::Answered)
             }
         },
     }
 }
 
-/// Carries a command out.
+/// Carries a command out. `quit` asks for nothing here.
 fn obey<W: Write>(
-    machine: &mut Machine,
+    lab: &mut Lab,
     command: Command,
     output: &mut Output,
     writer: &mut W,
 ) -> Result<(), WriteFailed>
-    ensures { Says result (λ text. Does machine.old command text machine.new)
+    ensures { Says result (λ text. Does lab.old command text lab.new)
         (W.contents writer.old) output.old (W.contents writer.new) output.new }
 {
     match command {
-        Command::Step => step(machine, output, writer),
-        Command::Back => back(machine, output, writer),
-        Command::Node => show(machine, output, writer),
+        Command::Step(at) => step(lab, at, output, writer),
+        Command::Back => back(lab, output, writer),
+        Command::Rewind(at, number) => rewind(lab, at, number, output, writer),
+        Command::Node(at) => node(lab, at, output, writer),
+        Command::Memory(at, address) => memory(lab, at, address, output, writer),
+        Command::Trace(at) => trace(lab, at, output, writer),
+        Command::Why {
+            from,
+            from_step,
+            to,
+            to_step,
+        } => why(lab, (from, from_step), (to, to_step), output, writer),
+        Command::Count => count(lab, output, writer),
         Command::Quit => Ok(()),
     }
-}
-
-fn step<W: Write>(
-    machine: &mut Machine,
-    output: &mut Output,
-    writer: &mut W,
-) -> Result<(), WriteFailed>
-    ensures { Says result (λ text. Does machine.old Command.Step text machine.new)
-        (W.contents writer.old) output.old (W.contents writer.new) output.new }
-{
-    match machine.step() {
-        Ok(made) => {
-            let mut text = Text::new();
-            put_event(&mut text, SERVED, made);
-            output.say(writer, text.as_slice())
-        }
-        Err(fault) => output.say(writer, refusal(fault)),
-    }
-}
-
-fn back<W: Write>(
-    machine: &mut Machine,
-    output: &mut Output,
-    writer: &mut W,
-) -> Result<(), WriteFailed>
-    ensures { Says result (λ text. Does machine.old Command.Back text machine.new)
-        (W.contents writer.old) output.old (W.contents writer.new) output.new }
-{
-    match machine.undo() {
-        Some(kept) => {
-            let mut text = Text::new();
-            put_removed(&mut text, 1, kept);
-            output.say(writer, text.as_slice())
-        }
-        None => output.say(writer, b"no 5 empty\n"),
-    }
-}
-
-fn show<W: Write>(machine: &Machine, output: &mut Output, writer: &mut W) -> Result<(), WriteFailed>
-    ensures { Says result (λ text. Does machine.now Command.Node text machine.now)
-        (W.contents writer.old) output.old (W.contents writer.new) output.new }
-{
-    let mut text = Text::new();
-    put_node(&mut text, SERVED, machine.node());
-    output.say(writer, text.as_slice())
 }

@@ -2,8 +2,9 @@ use Rattle.std.proofs.Common.{◌≡◌, ℕ, ◌-◌, ◌++◌, [], List, refl,
 use Rattle.std.specs.Prelude.{Result, Ok}
 use Rattle.std.specs.Result.{IsErr}
 use Rattle.ga_console.specs.Output.{IsSaidOrCut, IsCut}
-use Rattle.ga_console.specs.Session.{Serves, ServesCut, no_input}
-use Rattle.ga_console.specs.Machine.{MachineState}
+use Rattle.ga_console.specs.Session.{Serves, ServesCut}
+use Rattle.ga_console.specs.Texts.{no_input}
+use Rattle.ga_lab.specs.Machine.{State}
 use Rattle.ga_console.specs.declared.output.WriteFailed.{WriteFailed}
 use Rattle.ga_console.specs.declared.commands.Ending.{Ending}
 use Rattle.ga_console.specs.declared.commands.Ending.TheVariants.{Ended, Past}
@@ -13,7 +14,7 @@ use Rattle.ga_console.proofs.Heard.{heard_none, heard_push, heard_cut, heard_fai
 use Rattle.ga_console.proofs.commands.answer_lines.Goals as goal
 
 -- a write failed
-serves_cut : (room : ℕ) (m : MachineState) (read rest text : List ℕ) (result : Result Ending WriteFailed) → IsErr result
+serves_cut : (room : ℕ) (m : State) (read rest text : List ℕ) (result : Result Ending WriteFailed) → IsErr result
     → ServesCut room m read rest text → Serves room m read rest text result
 serves_cut room m read rest text result is h = at_err (λ (r : Result Ending WriteFailed). Serves room m read rest text r) result is (λ why. h)
 
@@ -21,7 +22,7 @@ pub lines-init : goal.lines-init
 lines-init g c = record {
   within = c.requires;
   heard = λ left before said known held.
-      (left, [], known, said_pending _ before said c.args.output.now held, heard_none c.args.machine.now (c.args.input.now.bytes ++ left) c.args.input.now.taken);
+      (left, [], known, said_pending _ before said c.args.output.now held, heard_none c.args.lab.now (c.args.input.now.bytes ++ left) c.args.input.now.taken);
 }
 
 pub returns-in_err-read_line : goal.returns-in_err-read_line
@@ -50,7 +51,7 @@ returns-in_err-answer-in-Feed g c = λ left before said known held.
     let heard = inv.4 in
     let turn = c.in_err-answer-in-Feed.ensures before (said ++ inv.1) told in
     let answered = turn.1 part got.2.is_line.kept in
-    let more = heard_push heard part (c.read_line.new.input.bytes ++ got.0) c.read_line.new.input.taken turn.0 c.answer.new.machine
+    let more = heard_push heard part (c.read_line.new.input.bytes ++ got.0) c.read_line.new.input.taken turn.0 c.answer.new.lab
     got.2.is_line.splits got.2.is_line.no_feed got.2.counts answered.0 answered.1 in (
       read_to more c.read_line.new.input.bytes,
       got.0,
@@ -96,7 +97,7 @@ lines-preserved g c = record {
         inv.1 ++ turn.0,
         got.1,
         said_assoc _ before said inv.1 turn.0 _ turn.2,
-        heard_push heard part (c.read_line.new.input.bytes ++ got.0) c.read_line.new.input.taken turn.0 c.answer.new.machine
+        heard_push heard part (c.read_line.new.input.bytes ++ got.0) c.read_line.new.input.taken turn.0 c.answer.new.lab
             got.2.is_line.splits got.2.is_line.no_feed got.2.counts answered.0 answered.1,
       );
 }
@@ -134,8 +135,8 @@ returns-in_err-answer-in-Last g c = λ left before said known held.
       split_at heard part got.0 (got.2.0.is_line.splits ∙ ap (λ (l : List ℕ). part ++ l) (sym got.2.1)),
       got.1,
       serves_cut _ _ _ _ _ c.from_residual-in_err-answer-in-Last.result c.from_residual-in_err-answer-in-Last.ensures.0
-          (cut_short (16777216 - c.args.input.now.taken) c.args.machine.now (read_to heard part) got.0 (inv.1 ++ turn.0) (Ok Ended)
-          (heard_last heard part got.0 turn.0 c.answer-in-Last.new.machine got.2.0.is_line.no_feed some got.2.1 (omega (arith, got.2.0.counts, got.2.0.none_left, c.in_ok-read_line.ensures.within)) answered.0 answered.1)),
+          (cut_short (16777216 - c.args.input.now.taken) c.args.lab.now (read_to heard part) got.0 (inv.1 ++ turn.0) (Ok Ended)
+          (heard_last heard part got.0 turn.0 c.answer-in-Last.new.lab got.2.0.is_line.no_feed some got.2.1 (omega (arith, got.2.0.counts, got.2.0.none_left, c.in_ok-read_line.ensures.within)) answered.0 answered.1)),
       cut_here c.from_residual-in_err-answer-in-Last.result _ before (said ++ (inv.1 ++ turn.0)) _ c.from_residual-in_err-answer-in-Last.ensures.0
           (cut_assoc _ before said inv.1 turn.0 turn.2),
     )
@@ -173,7 +174,7 @@ returns-in-Answered-2 g c = λ left before said known held.
       inv.1 ++ turn.0,
       split_at heard part got.0 (got.2.0.is_line.splits ∙ ap (λ (l : List ℕ). part ++ l) (sym got.2.1)),
       got.1,
-      heard_last heard part got.0 turn.0 c.answer-in-Last.new.machine got.2.0.is_line.no_feed some got.2.1 (omega (arith, got.2.0.counts, got.2.0.none_left, c.in_ok-read_line.ensures.within)) answered.0 answered.1,
+      heard_last heard part got.0 turn.0 c.answer-in-Last.new.lab got.2.0.is_line.no_feed some got.2.1 (omega (arith, got.2.0.counts, got.2.0.none_left, c.in_ok-read_line.ensures.within)) answered.0 answered.1,
       said_assoc _ before said inv.1 turn.0 _ turn.2,
     )
 
@@ -190,7 +191,7 @@ returns-in_err-say-in-Past g c = λ left before said known held.
       split_over heard part got.2.byte got.0 got.2.takes.is_line.splits,
       got.1,
       serves_cut _ _ _ _ _ c.from_residual-in_err-say-in-Past.result c.from_residual-in_err-say-in-Past.ensures.0
-          (cut_short (16777216 - c.args.input.now.taken) c.args.machine.now (read_over heard part got.2.byte) got.0 (inv.1 ++ no_input) (Ok Past)
+          (cut_short (16777216 - c.args.input.now.taken) c.args.lab.now (read_over heard part got.2.byte) got.0 (inv.1 ++ no_input) (Ok Past)
           (heard_past heard part got.2.byte got.0 c.read_line.new.input.taken got.2.takes.is_line.no_feed got.2.takes.counts got.2.full)),
       cut_here c.from_residual-in_err-say-in-Past.result _ before (said ++ (inv.1 ++ no_input)) _ c.from_residual-in_err-say-in-Past.ensures.0
           (cut_assoc _ before said inv.1 no_input (c.in_err-say-in-Past.ensures before (said ++ inv.1) told)),
