@@ -10,3 +10,5 @@ pub mod Refusals
 pub mod ChainLaws
 pub mod Oldest
 pub mod Noting
+pub mod ChainOf
+pub mod Places

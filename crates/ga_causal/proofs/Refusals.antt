@@ -13,15 +13,15 @@ use Rattle.ga_causal.proofs.Runs.{kept}
 use Rattle.ga_causal.proofs.Rollbacks.{kept-dropped, kept-kept}
 
 -- the place of a step by cases
-place-first : (e : Event) (es : List Event) (n : ℕ) → touches e n ≡ true → place_of (e ∷ es) n 1 ≡ Some 0
+pub place-first : (e : Event) (es : List Event) (n : ℕ) → touches e n ≡ true → place_of (e ∷ es) n 1 ≡ Some 0
 place-first e es n t = cond-true (touches e n) (Some 0) (option_map suc (place_of es n 1)) t
 
-place-touched : (e : Event) (es : List Event) (n i : ℕ) → touches e n ≡ true → place_of (e ∷ es) n (suc (suc i)) ≡ option_map suc (place_of es n (suc i))
+pub place-touched : (e : Event) (es : List Event) (n i : ℕ) → touches e n ≡ true → place_of (e ∷ es) n (suc (suc i)) ≡ option_map suc (place_of es n (suc i))
 place-touched e es n i t =
     cond-true (touches e n) (cond (suc i == 0) (Some 0) (option_map suc (place_of es n (suc i)))) (option_map suc (place_of es n (suc (suc i)))) t
     ∙ cond-false (suc i == 0) (Some 0) (option_map suc (place_of es n (suc i))) (ne_eqb (suc i) 0 (λ q. omega arith))
 
-place-other : (e : Event) (es : List Event) (n i : ℕ) → touches e n ≡ false → place_of (e ∷ es) n (suc i) ≡ option_map suc (place_of es n (suc i))
+pub place-other : (e : Event) (es : List Event) (n i : ℕ) → touches e n ≡ false → place_of (e ∷ es) n (suc i) ≡ option_map suc (place_of es n (suc i))
 place-other e es n i f = cond-false (touches e n) _ (option_map suc (place_of es n (suc i))) f
 
 -- what was found under a shift
@@ -30,11 +30,11 @@ pub record Shifted (o : Option ℕ) (q : ℕ) : Type 0 where
   pub is : o ≡ Some place
   pub shift : q ≡ suc place
 
-shifted_of : (o : Option ℕ) (q : ℕ) → option_map suc o ≡ Some q → Shifted o q
+pub shifted_of : (o : Option ℕ) (q : ℕ) → option_map suc o ≡ Some q → Shifted o q
 shifted_of None q h = absurd (cc)
 shifted_of (Some p) q h = record { place = p; is = refl; shift = sym (same_Some (suc p) q h) }
 
-some-shift : (o : Option ℕ) → is_some (option_map {U = ℕ} suc o) ≡ is_some o
+pub some-shift : (o : Option ℕ) → is_some (option_map {U = ℕ} suc o) ≡ is_some o
 some-shift None = refl
 some-shift (Some p) = refl
 

@@ -1,8 +1,8 @@
 -- Chains of direct dependence.
-use Rattle.std.specs.Prelude.{ℕ, ◌≡◌, ◌<◌, ◌≤◌, ◌≢◌, List, [], ◌∷◌, ◌++◌, length, Option, MatchOption}
+use Rattle.std.specs.Prelude.{ℕ, zero, suc, ◌≡◌, ◌<◌, ◌≤◌, ◌≢◌, ◌==◌, nat_lt, Bool, false, not, ◌&&◌, if◌then◌else◌, List, [], ◌∷◌, ◌++◌, length, Option, Some, None, MatchOption, slice_index_or}
 use Rattle.ga_event.specs.declared.event.Event.{Event}
 use Rattle.ga_causal.specs.declared.chain.Link.{Link}
-use Rattle.ga_causal.specs.Dependence.{rule_between, IsDirect, DependsOn}
+use Rattle.ga_causal.specs.Dependence.{rule_between, IsDirect, DependsOn, dependents}
 
 -- the link may follow the place: its event depends directly on the one there, by the rule that it names
 abbrev pub IsNext : List Event → ℕ → Link → Type 0
@@ -32,3 +32,31 @@ pub data IsChainTo (events : List Event) (cause : ℕ) : ℕ → List Link → T
 -- a chain is answered exactly where the place depends on the cause, and it is the one from there
 abbrev pub IsFound : List Event → ℕ → ℕ → Option (List Link) → Type 0
 IsFound events cause place answer = MatchOption answer (¬ DependsOn events cause place) (IsChainTo events cause place)
+
+-- whether the event at `place` depends directly on the one at `earlier`, which is the cause or depends on it
+abbrev pub leads_to : List Event → ℕ → ℕ → ℕ → Bool
+leads_to events cause place earlier =
+    slice_index_or (dependents events cause) earlier false && not (rule_between events earlier place == 0)
+
+-- the least number below a bound that passes a test; the bound where none does
+abbrev pub least_below : (ℕ → Bool) → ℕ → ℕ
+least_below test zero = zero
+least_below test (suc n) =
+    if nat_lt (least_below test n) n then least_below test n else if test n then n else suc n
+
+-- the oldest of the events that lead so to the one at `place`
+abbrev pub oldest_cause : List Event → ℕ → ℕ → ℕ
+oldest_cause events cause place = least_below (leads_to events cause place) place
+
+-- the links from the cause to a place that depends on it, made from their end; at most so many
+unfoldable pub links_to : ℕ → List Event → ℕ → ℕ → List Link
+links_to zero events cause place = []
+links_to (suc most) events cause place =
+    if place == cause then record { place = cause; rule = 0 } ∷ []
+    else links_to most events cause (oldest_cause events cause place)
+    ++ record { place = place; rule = rule_between events (oldest_cause events cause place) place } ∷ []
+
+-- the chain from the cause to a place, and none where that does not depend on it: the only answer that is found
+unfoldable pub chain_of : List Event → ℕ → ℕ → Option (List Link)
+chain_of events cause place =
+    if slice_index_or (dependents events cause) place false then Some (links_to (suc place) events cause place) else None

@@ -1,14 +1,14 @@
 //! The laws of dependence, each the contract of a function that does nothing. They stand over the definitions alone.
 
-ghost use Rattle.std.specs.Prelude.{◌≡◌, ◌↔◌, ◌<◌, ℕ, Bool, false, List, [], ◌∷◌, IsTrue, IsNone, Some, option_map, reverse, length, slice_index_or, IsPermutation};
+ghost use Rattle.std.specs.Prelude.{◌≡◌, ◌↔◌, ◌<◌, ◌≤◌, ℕ, Bool, false, List, [], ◌∷◌, IsTrue, IsSome, IsNone, Option, Some, option_map, reverse, length, slice_index_or, IsPermutation};
 ghost use Rattle.ga_event.specs.declared.event.Event.{Event};
 ghost use Rattle.ga_node.specs.Record.{NodeRecord};
 ghost use Rattle.ga_event.specs.Apply.{Told, replay, run};
 ghost use Rattle.ga_causal.specs.declared.chain.Link.{Link};
-ghost use Rattle.ga_causal.specs.Chains.{IsChain, IsChainTo};
+ghost use Rattle.ga_causal.specs.Chains.{IsChain, IsChainTo, IsFound, chain_of};
 ghost use Rattle.ga_causal.specs.Dependence.{dependents, rest, without, DependsOn};
 ghost use Rattle.ga_causal.specs.Equivalence.{AreApart, AreEquivalent};
-ghost use Rattle.ga_causal.specs.Steps.{numbered, place_of, rewound, rewound_all};
+ghost use Rattle.ga_causal.specs.Steps.{numbered, touching, place_of, IsStep, rewound, rewound_all};
 
 /// Two events that touch no common node can be swapped: in either order they lead to the same chip, and the same is told of
 /// each, or neither order can be.
@@ -43,6 +43,13 @@ pub fn largest_rest()
         (j : ℕ) → DependsOn events i j → IsTrue (slice_index_or dropped j false) }
 {}
 
+/// A node has as many steps as events touch it, and its k-th step is the k-th of them.
+pub fn steps()
+    ensures stands { (events : List Event) (n k : ℕ) →
+        (IsSome (place_of events n k) ↔ ((0 < k) × (k ≤ touching n events))) }
+    ensures place { (events : List Event) (n k place : ℕ) → place_of events n k ≡ Some place → IsStep events n k place }
+{}
+
 /// Rollbacks leave the same list in any order. Of two, the second is refused exactly where its step depends on the first.
 pub fn two_rollbacks()
     ensures either { (events : List Event) (n k m j : ℕ) → rewound (rewound events n k) m j ≡ rewound (rewound events m j) n k }
@@ -58,10 +65,15 @@ pub fn equivalent()
         (chip : List NodeRecord) → replay chip events ≡ replay chip others }
 {}
 
-/// There is one chain from a place to another, and it is a chain.
+/// There is one chain from a place to another, it is a chain, and `chain_of` tells whether there is one, and which.
 pub fn chains()
     ensures one { (events : List Event) (cause place : ℕ) (links others : List Link) →
         IsChainTo events cause place links → IsChainTo events cause place others → links ≡ others }
     ensures chain { (events : List Event) (cause place : ℕ) (links : List Link) → cause < length events →
         IsChainTo events cause place links → IsChain events links }
+    ensures found { (events : List Event) (cause place : ℕ) → cause < length events → place < length events →
+        IsFound events cause place (chain_of events cause place) }
+    ensures only { (events : List Event) (cause place : ℕ) (answer : Option (List Link)) →
+        cause < length events → place < length events →
+        IsFound events cause place answer → answer ≡ chain_of events cause place }
 {}

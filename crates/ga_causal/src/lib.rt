@@ -6,10 +6,12 @@ mod firsts;
 pub mod laws;
 mod marks;
 mod rule;
+mod step;
 
 pub use chain::{Chain, Link, check_chain, find_chain};
 pub use ga_grid::Memory;
 pub use marks::{Marks, closure};
+pub use step::place_of;
 
 #[cfg(test)]
 mod tests;

@@ -24,7 +24,7 @@ use Rattle.ga_image.proofs.Meanings.{reads, marked, repeats-append, line_later, 
 use Rattle.ga_image.proofs.Accepted.{IsReady, numbers, repeats_numbers, fields_below, all_written, opened, opened_ready, nodes_below}
 
 -- a line that is not refused has no fault
-passed : (fault : Option ImageCause) (line : ℕ) (others : Result (List NodeState) ImageFault) (chip : List NodeState) → refused fault line others ≡ Ok chip → (fault ≡ None) × (others ≡ Ok chip)
+pub passed : (fault : Option ImageCause) (line : ℕ) (others : Result (List NodeState) ImageFault) (chip : List NodeState) → refused fault line others ≡ Ok chip → (fault ≡ None) × (others ≡ Ok chip)
 passed None line others chip e = (refl, e)
 passed (Some c) line others chip e = cc
 
@@ -84,7 +84,7 @@ node_ok progress y none =
     let node = named (node_of y) first.0 in
     (node.0, node.1, ap (has_block progress) (sym node.1) ∙ second.0)
 
-within : (field : Field) (count : ℕ) → goes_past field count ≡ false → Fits field count
+pub within : (field : Field) (count : ℕ) → goes_past field count ≡ false → Fits field count
 within A count e = tt
 within B count e = tt
 within P count e = tt

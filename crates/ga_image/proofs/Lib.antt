@@ -12,3 +12,7 @@ pub mod Accepted
 pub mod Found
 pub mod Contract
 pub mod Room
+pub mod Sizes
+pub mod Causes
+pub mod Behind
+pub mod FirstFaults

@@ -22,6 +22,7 @@ mod digits;
 mod fault;
 mod field;
 mod image;
+pub mod laws;
 mod line;
 mod lines;
 mod parser;

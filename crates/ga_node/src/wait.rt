@@ -49,7 +49,7 @@ impl Wait {
     }
 
     /// The wait as a number.
-    pub(crate) fn code(&self) -> u32
+    pub fn code(&self) -> u32
         ensures value { result ≡ wait_code self.now }
         ensures back { wait_of result ≡ self.now }
         ensures valid { IsWaitCode result }

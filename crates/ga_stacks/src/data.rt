@@ -74,7 +74,8 @@ impl DataStack {
     /// The word at a place of the list, 0 for the top.
     pub fn at(&self, place: u8) -> Word18
         requires { place < 10 }
-        ensures { result ≡ slice_index (listed self.now) place }
+        ensures word { result ≡ slice_index (listed self.now) place }
+        ensures size { 2 ≤ place → length (listed self.now) ≡ 10 }
     {
         match place {
             0 => self.top,

@@ -64,7 +64,8 @@ impl ReturnStack {
     /// The word at a place of the list, 0 for the top.
     pub fn at(&self, place: u8) -> Word18
         requires { place < 9 }
-        ensures { result ≡ slice_index (listed self.now) place }
+        ensures word { result ≡ slice_index (listed self.now) place }
+        ensures size { 1 ≤ place → length (listed self.now) ≡ 9 }
     {
         match place {
             0 => self.top,

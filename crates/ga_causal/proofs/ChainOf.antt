@@ -1,0 +1,106 @@
+-- The chain that is computed is the one that is found.
+use Rattle.std.proofs.Common.{◌≡◌, ℕ, zero, suc, ◌<◌, ◌≤◌, ◌≢◌, ◌==◌, Bool, true, false, not, cond, List, [], ◌∷◌, length, refl, sym, ap, subst, ⊎_elim, arith}
+use Rattle.std.specs.Prelude.{nat_lt, Option, Some, None, slice_index_or}
+use Rattle.std.proofs.lemmas.Bool.{cases_Bool, cases_lt, cases_eq, both_ways, cond-true, cond-false, le-ltb, lt-ltb, eq-eqb, ne_eqb, and_from, and_parts}
+use Rattle.ga_event.specs.declared.event.Event.{Event}
+use Rattle.ga_causal.specs.declared.chain.Link.{Link}
+use Rattle.ga_causal.specs.Dependence.{rule_between, event_at, dependents, DependsOn, itself, through}
+use Rattle.ga_causal.specs.Chains.{IsOldest, IsChainTo, alone, longer, IsFound, leads_to, least_below, oldest_cause, links_to, chain_of}
+use Rattle.ga_causal.proofs.Exact.{meets_rule, why_dependent, DependsOn_from_flag, flag_from_DependsOn, Earlier}
+use Rattle.ga_causal.proofs.ChainLaws.{chain_one}
+
+-- the least number below a bound that passes a test
+record IsLeast (test : ℕ → Bool) (n least : ℕ) : Type 0 where
+  within : least ≤ n
+  passes : least < n → test least ≡ true
+  first : (m : ℕ) → m < n → test m ≡ true → least ≤ m
+
+least_more : (test : ℕ → Bool) (n least : ℕ) → IsLeast test n least → IsLeast test (suc n) (cond (nat_lt least n) least (cond (test n) n (suc n)))
+least_more test n least h = ⊎_elim
+    (λ l. subst (IsLeast test (suc n)) (sym (cond-true (nat_lt least n) least (cond (test n) n (suc n)) (lt-ltb least n l))) (record {
+      within = omega arith;
+      passes = λ m. h.passes l;
+      first = λ m b t. ⊎_elim (λ k. h.first m k t) (λ k. let e : n ≤ m = k in omega (arith, l)) (cases_lt m n);
+    }))
+    (λ l. subst (IsLeast test (suc n)) (sym (cond-false (nat_lt least n) least (cond (test n) n (suc n)) (le-ltb least n l)))
+    (at_end (test n) refl l))
+    (cases_lt least n)
+  where
+    at_end : (b : Bool) → test n ≡ b → n ≤ least → IsLeast test (suc n) (cond b n (suc n))
+    at_end true e l = record {
+      within = omega arith;
+      passes = λ m. e;
+      first = λ m b t. ⊎_elim (λ k. let q : least ≤ m = h.first m k t in omega arith) (λ k. k) (cases_lt m n);
+    }
+    at_end false e l = record {
+      within = omega arith;
+      passes = λ m. absurd (omega (arith, m));
+      first = λ m b t. ⊎_elim
+          (λ k. let q : least ≤ m = h.first m k t in absurd (omega arith))
+          (λ k. let q : m ≡ n = omega arith in absurd (both_ways (test n) e (subst (λ z. test z ≡ true) q t)))
+          (cases_lt m n);
+    }
+
+least_is : (test : ℕ → Bool) (n : ℕ) → IsLeast test n (least_below test n)
+least_is test zero = record { within = omega arith; passes = λ l. absurd (omega (arith, l)); first = λ m l t. absurd (omega (arith, l)) }
+least_is test (suc n) = least_more test n (least_below test n) (least_is test n)
+
+-- the test is that of the definition
+not_zero : (n : ℕ) → n ≢ 0 → not (n == 0) ≡ true
+not_zero n h = ap not (ne_eqb n 0 h)
+
+not_zero_of : (n : ℕ) → not (n == 0) ≡ true → n ≢ 0
+not_zero_of n h e = both_ways false refl (subst (λ z. not z ≡ true) (eq-eqb n 0 e) h)
+
+leads_from : (es : List Event) (i q p : ℕ) → slice_index_or (dependents es i) p false ≡ true → rule_between es p q ≢ 0 → leads_to es i q p ≡ true
+leads_from es i q p f r = and_from (slice_index_or (dependents es i) p false) (not (rule_between es p q == 0)) f (not_zero (rule_between es p q) r)
+
+-- the oldest cause of a dependent event that is not the first
+oldest_is : (es : List Event) (i q : ℕ) → i < length es → q < length es → q ≢ i → slice_index_or (dependents es i) q false ≡ true → IsOldest es i q (oldest_cause es i q)
+oldest_is es i q k l ne f = ⊎_elim (λ e. absurd (ne e)) (λ w. found w) (why_dependent es i q f)
+  where
+    found : Earlier es (dependents es i) q → IsOldest es i q (oldest_cause es i q)
+    found w =
+        let h : IsLeast (leads_to es i q) q (oldest_cause es i q) = least_is (leads_to es i q) q in
+        let a : oldest_cause es i q ≤ w.place = h.first w.place w.before (leads_from es i q w.place w.flagged (meets_rule (event_at es w.place) (event_at es q) w.direct)) in
+        let b : oldest_cause es i q < q = omega (arith, w.before) in
+        let t = and_parts (slice_index_or (dependents es i) (oldest_cause es i q) false) (not (rule_between es (oldest_cause es i q) q == 0)) (h.passes b) in
+        record {
+          dependent = DependsOn_from_flag es i (oldest_cause es i q) (omega arith) t.0;
+          direct = record { before = b; within = l; by_rule = not_zero_of (rule_between es (oldest_cause es i q) q) t.1 };
+          oldest = λ other d s. h.first other s.before (leads_from es i q other (flag_from_DependsOn es i other k d) s.by_rule);
+        }
+
+links_chain : (most : ℕ) (es : List Event) (i q : ℕ) → q < most → i < length es → q < length es → slice_index_or (dependents es i) q false ≡ true → IsChainTo es i q (links_to most es i q)
+unfolding links_to
+links_chain zero es i q u k l f = absurd (omega arith)
+links_chain (suc most) es i q u k l f = ⊎_elim
+    (λ e. subst (λ z. IsChainTo es i q z) (sym (cond-true (q == i) (record { place = i; rule = 0 } ∷ []) _ (eq-eqb q i e)))
+    (subst (λ z. IsChainTo es i z (record { place = i; rule = 0 } ∷ [])) (sym e) alone))
+    (λ ne. let o : IsOldest es i q (oldest_cause es i q) = oldest_is es i q k l ne f in
+    let b : oldest_cause es i q < q = o.direct.before in
+    subst (λ z. IsChainTo es i q z) (sym (cond-false (q == i) (record { place = i; rule = 0 } ∷ []) _ (ne_eqb q i ne)))
+    (longer ne o (links_chain most es i (oldest_cause es i q) (omega arith) k (omega arith) (flag_from_DependsOn es i (oldest_cause es i q) k o.dependent))))
+    (cases_eq q i)
+
+pub chain_found : (es : List Event) (i q : ℕ) → i < length es → q < length es → IsFound es i q (chain_of es i q)
+unfolding chain_of
+chain_found es i q k l = ⊎_elim
+    (λ f. subst (λ z. IsFound es i q z) (sym (cond-true (slice_index_or (dependents es i) q false) (Some (links_to (suc q) es i q)) None f)) (links_chain (suc q) es i q (omega arith) k l f))
+    (λ f. subst (λ z. IsFound es i q z) (sym (cond-false (slice_index_or (dependents es i) q false) (Some (links_to (suc q) es i q)) None f))
+    (λ d. both_ways (slice_index_or (dependents es i) q false) f (flag_from_DependsOn es i q k d)))
+    (cases_Bool (slice_index_or (dependents es i) q false))
+
+-- an answer that is found is the one
+chained : (es : List Event) (i q : ℕ) (links : List Link) → IsChainTo es i q links → DependsOn es i q
+chained es i q links alone = itself
+chained es i q links (longer ne o h) = through o.dependent o.direct
+
+found_one : (es : List Event) (i q : ℕ) (x y : Option (List Link)) → IsFound es i q x → IsFound es i q y → x ≡ y
+found_one es i q None None f g = refl
+found_one es i q None (Some ys) f g = absurd (f (chained es i q ys g))
+found_one es i q (Some xs) None f g = absurd (g (chained es i q xs f))
+found_one es i q (Some xs) (Some ys) f g = ap Some (chain_one es i q xs ys f g)
+
+pub chain_is : (es : List Event) (i q : ℕ) (answer : Option (List Link)) → i < length es → q < length es → IsFound es i q answer → answer ≡ chain_of es i q
+chain_is es i q answer k l f = found_one es i q answer (chain_of es i q) f (chain_found es i q k l)

@@ -1,0 +1,77 @@
+-- Logs of calls that the machine could have answered, and what stands under the lock and at a seat.
+use Rattle.std.specs.Prelude.{◌≡◌, ◌≢◌, ◌==◌, ◌+◌, ◌≤◌, ℕ, Bool, true, false, count_by, List, [], ◌∷◌, ◌++◌, length, if◌then◌else◌}
+use Rattle.ga_node.specs.Record.{NodeRecord}
+use Rattle.ga_lab.specs.Machine.{State, first}
+use Rattle.ga_shared.specs.declared.call.Call.{Call}
+use Rattle.ga_shared.specs.declared.call.Answer.{Answer}
+use Rattle.ga_shared.specs.declared.call.Answer.TheVariants as answer
+use Rattle.ga_shared.specs.declared.call.Entry.{Entry}
+use Rattle.ga_shared.specs.declared.call.Receipt.{Receipt}
+use Rattle.ga_shared.specs.Calls.{answer_to, state_after}
+
+-- The log is legal from one state of the machine to another: run over its calls, the machine gives its answers and ends in
+-- the other state. No answer in it is want of memory
+abbrev pub IsLegal : State → List Entry → State → Type 0
+IsLegal s [] t = s ≡ t
+IsLegal s (e ∷ es) t =
+    (e.answer ≡ answer_to s e.call) × (e.answer ≢ answer.Refused 4) × IsLegal (state_after s e.call) es t
+
+-- whether a call made an event
+abbrev pub is_made : Answer → Bool
+is_made (answer.Made made) = true
+is_made (answer.Removed removed) = false
+is_made (answer.Refused number) = false
+
+-- how many events the calls of a log made
+abbrev pub made_by : List Entry → ℕ
+made_by log = count_by (λ e. is_made e.answer) log
+
+-- What stands under the lock: a copy of the lab's load, the lab, the log of its calls, and the total of the book
+pub record Desk : Type 0 where
+  pub load : List NodeRecord
+  pub lab : State
+  pub log : List Entry
+  pub calls : ℕ
+
+-- the lab is where the log leads from its first state; the book counts the log, and the lab its events
+pub record IsHistory (d : Desk) : Type 0 where
+  pub load : d.load ≡ d.lab.load
+  pub legal : IsLegal (first d.load d.lab.limit) d.log d.lab
+  pub calls : d.calls ≡ length d.log
+  pub made : d.lab.made ≡ made_by d.log
+
+-- What a worker has: its number, its receipts, and how many calls it made
+pub record Worker : Type 0 where
+  pub number : ℕ
+  pub receipts : List Receipt
+  pub calls : ℕ
+
+-- a worker that made no call yet
+abbrev pub fresh_worker : ℕ → Worker
+fresh_worker number = record { number = number; receipts = []; calls = 0 }
+
+-- the worker after a call: one receipt and one call more
+abbrev pub with_receipt : Worker → Receipt → Worker
+with_receipt worker receipt = record worker { receipts = worker.receipts ++ receipt ∷ []; calls = worker.calls + 1 }
+
+-- what the log keeps of a worker's call
+abbrev pub entry_of : Worker → Receipt → Entry
+entry_of worker receipt = record { worker = worker.number; call = receipt.call; answer = receipt.answer }
+
+-- One locked call: the answer and the new lab are the machine's, load and limit stay, and log, book, receipts and share grew
+-- by this call
+pub record Makes (old new : Desk) (was now : Worker) (call : Call) (receipt : Receipt) : Type 0 where
+  pub receipt_is : receipt ≡ record { place = length old.log; call = call; answer = answer_to old.lab call }
+  pub lab : new.lab ≡ state_after old.lab call
+  pub limit : new.lab.limit ≡ old.lab.limit
+  pub load : new.load ≡ old.load
+  pub log : new.log ≡ old.log ++ entry_of was receipt ∷ []
+  pub book : new.calls ≡ old.calls + 1
+  pub worker : now ≡ with_receipt was receipt
+
+-- One call counted: the receipt names the call, its place is no less than the number of calls that the worker made before,
+-- and the worker has one receipt and one call more
+pub record Counts (was now : Worker) (call : Call) (receipt : Receipt) : Type 0 where
+  pub asked : receipt.call ≡ call
+  pub place : was.calls ≤ receipt.place
+  pub worker : now ≡ with_receipt was receipt

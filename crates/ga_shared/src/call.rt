@@ -1,0 +1,65 @@
+//! Calls, their answers, and what is kept of them.
+
+use ga_grid::NodeId;
+use ga_lab::Made;
+use thiserror::Error;
+
+/// A call of a worker.
+#[derive(Clone, Copy, PartialEq, Eq, Debug)]
+pub enum Call {
+    /// Make a step of a node.
+    Step(NodeId),
+    /// Take this step of a node back, counted from 1, with all that depends on it.
+    Rewind(NodeId, u32),
+}
+
+/// What a call answered.
+#[derive(Clone, Copy, PartialEq, Eq, Debug)]
+pub enum Answer {
+    /// The event that the step made.
+    Made(Made),
+    /// How many events were taken back.
+    Removed(u32),
+    /// The lab refused the call, by the number of its refusal.
+    Refused(u8),
+}
+
+/// A call in the log.
+#[derive(Clone, Copy, PartialEq, Eq, Debug)]
+pub struct Entry {
+    pub worker: u32,
+    pub call: Call,
+    pub answer: Answer,
+}
+
+/// What a worker keeps of a call that it made.
+#[derive(Clone, Copy, PartialEq, Eq, Debug)]
+pub struct Receipt {
+    /// How many entries the log had before this call's.
+    pub place: u64,
+    pub call: Call,
+    pub answer: Answer,
+}
+
+impl Receipt {
+    ghost use Rattle.std.specs.Prelude.{◌≡◌};
+
+    // What the log keeps of the call, made by this worker.
+    pub(crate) fn entry(&self, worker: u32) -> Entry
+        ensures { result ≡ record { worker = worker; call = self.now.call; answer = self.now.answer } }
+    {
+        Entry {
+            worker,
+            call: self.call,
+            answer: self.answer,
+        }
+    }
+}
+
+/// Why a call of a worker was not made.
+#[derive(Clone, Copy, PartialEq, Eq, Debug, Error)]
+pub enum SharedFault {
+    /// Out of memory (4). Nothing was logged.
+    #[error("out of memory")]
+    Memory,
+}

@@ -1,0 +1,102 @@
+//! What stands under the one lock.
+
+ghost use Rattle.std.specs.Prelude.{◌≡◌, ◌≢◌, IfOk, OnOk, OnErr};
+ghost use Rattle.ga_shared.specs.Calls.{answer_to, state_after, number_of};
+
+use crate::call::{Answer, Call, Entry, Receipt, SharedFault};
+use crate::seat::Seat;
+use ga_grid::Chip;
+use ga_lab::{Lab, LabFault};
+use std::marker::Model;
+use std::sync::ledger::{Book, Ledger};
+
+/// The lab, a copy of its load, the log of its calls, and the book that counts them.
+#[derive(Drop)]
+pub struct Locked<L: Ledger> {
+    pub(crate) lab: Lab,
+    pub(crate) load: Chip,
+    pub(crate) log: Vec<Entry>,
+    pub(crate) book: Book<L>,
+}
+
+impl<L: Ledger> Model for Locked<L> {
+    ghost use Rattle.ga_grid.specs.Chip.{records_of};
+    ghost use Rattle.ga_shared.specs.Log.{Desk, IsHistory};
+
+    ghost Value = { Desk };
+
+    ghost view = { λ l. record { load = records_of l.load; lab = l.lab; log = l.log.items; calls = l.book.total } };
+
+    ghost invariant = { λ l. IsHistory (record { load = records_of l.load; lab = l.lab; log = l.log.items; calls = l.book.total }) };
+}
+
+impl<L: Ledger> Locked<L> {
+    ghost use Rattle.std.specs.Prelude.{◌≡◌, ◌≤◌, length, IfOk, OnErr};
+    ghost use Rattle.ga_shared.specs.Log.{Makes, IsHistory};
+
+    /// Makes one call of the lab for a worker, logs it, and puts its receipt at the end of the seat's.
+    ///
+    /// # Errors
+    /// `Memory` alone; then nothing changed.
+    pub fn call(&mut self, seat: &mut Seat<L>, call: Call) -> Result<Receipt, SharedFault>
+        ensures makes { IfOk result (λ receipt. Makes self.old self.new seat.old seat.new call receipt) }
+        ensures place { seat.old.calls ≤ length self.old.log }
+        ensures memory { OnErr result ((self.new ≡ self.old) × (seat.new ≡ seat.old)) }
+        ensures history { IsHistory self.new }
+    {
+        self.book.audit(&mut seat.share);
+        let Ok(()) = seat.receipts.reserve(1) else {
+            return Err(SharedFault::Memory);
+        };
+        let Ok(()) = self.log.reserve(1) else {
+            return Err(SharedFault::Memory);
+        };
+        let place = self.log.len() as u64;
+        let receipt = Receipt {
+            place,
+            call,
+            answer: answer(&mut self.lab, call)?,
+        };
+        self.log.push_reserved(receipt.entry(seat.number));
+        self.book.add(&mut seat.share, 1);
+        seat.receipts.push_reserved(receipt);
+        Ok(receipt)
+    }
+}
+
+// Makes a call of the lab.
+fn answer(lab: &mut Lab, call: Call) -> Result<Answer, SharedFault>
+    ensures answer { IfOk result (λ answer. answer ≡ answer_to lab.old call) }
+    ensures given { IfOk result (λ answer. answer ≢ Answer.Refused 4) }
+    ensures lab { OnOk result (lab.new ≡ state_after lab.old call) }
+    ensures memory { OnErr result (lab.new ≡ lab.old) }
+{
+    match call {
+        Call::Step(node) => match lab.step(node) {
+            Ok(made) => Ok(Answer::Made(made)),
+            Err(fault) => refused(fault),
+        },
+        Call::Rewind(node, step) => match lab.rewind(node, step) {
+            Ok(removed) => Ok(Answer::Removed(removed)),
+            Err(fault) => refused(fault),
+        },
+    }
+}
+
+// A refusal is an answer, unless there was no memory.
+fn refused(fault: LabFault) -> Result<Answer, SharedFault>
+    ensures answer { IfOk result (λ answer. answer ≡ Answer.Refused (number_of fault)) }
+    ensures given { IfOk result (λ answer. answer ≢ Answer.Refused 4) }
+    ensures some { OnOk result (fault ≢ LabFault.Memory) }
+    ensures memory { OnErr result (fault ≡ LabFault.Memory) }
+{
+    match fault {
+        LabFault::Waiting => Ok(Answer::Refused(1)),
+        LabFault::Stopped => Ok(Answer::Refused(2)),
+        LabFault::Full => Ok(Answer::Refused(3)),
+        LabFault::Memory => Err(SharedFault::Memory),
+        LabFault::Empty => Ok(Answer::Refused(5)),
+        LabFault::NoStep => Ok(Answer::Refused(6)),
+        LabFault::Spent => Ok(Answer::Refused(7)),
+    }
+}
