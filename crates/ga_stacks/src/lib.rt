@@ -6,7 +6,7 @@ mod place;
 mod returns;
 
 pub use data::DataStack;
-pub use place::{Overwritten, StackPlace};
+pub use place::{FRESH_WORD, Overwritten, StackPlace};
 pub use returns::ReturnStack;
 
 #[cfg(test)]

@@ -5,6 +5,9 @@ use arrayvec::ArrayVec;
 /// How many cells a ring has.
 pub(crate) const CELLS: u8 = 8;
 
+/// What each word of a stack is before anything is pushed.
+pub const FRESH_WORD: u32 = 0x15555;
+
 /// A register, a cell or the pointer of a stack.
 #[derive(Clone, Copy, PartialEq, Eq, Debug, Default)]
 pub enum StackPlace {

@@ -5,7 +5,7 @@ ghost use Rattle.ga_stacks.specs.declared.place.StackPlace.TheVariants.{Pointer,
 ghost use Rattle.ga_stacks.specs.Ring.{fresh_ring, listed, pushed, popped_return, topped};
 ghost use Rattle.ga_stacks.specs.Stack.{word_at, old_words, with_word, restored, HasPlace, FitsPlace, AreFit, IsOnce};
 
-use crate::place::{CELLS, Overwritten, StackPlace};
+use crate::place::{CELLS, FRESH_WORD, Overwritten, StackPlace};
 use arrayvec::ArrayVec;
 use ga_word::Word18;
 use std::marker::Model;
@@ -34,7 +34,7 @@ impl ReturnStack {
     pub fn new() -> Self
         ensures { result ≡ fresh_ring 1 }
     {
-        let word = Word18::low(0x15555);
+        let word = Word18::low(FRESH_WORD);
         ReturnStack {
             top: word,
             cells: [word; 8],
