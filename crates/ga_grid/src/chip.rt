@@ -79,7 +79,7 @@ impl Chip {
         ensures { IfOk result (λ chip. chip ≡ default_chip) }
     {
         let mut nodes = Vec::with_capacity(alloc, NODES)?;
-        for number in 0..144u8 {
+        for number in 0..NODES as u8 {
             nodes.push(Node::new(load_p(NodeId::new(number))))?;
         }
         Ok(Chip { nodes })
