@@ -1,14 +1,18 @@
 //! Times the events of a node and the reading of images. What depends on the machine goes to standard error.
 //!
 //! `ga_bench busy MODE EVENTS ROUNDS` and `ga_bench mixed MODE EVENTS ROUNDS` make events; MODE is `own`, `into`, `values` or
-//! `back`. `ga_bench image NODES ROUNDS` reads an image that gives each cell of so many nodes. The best of the rounds counts.
+//! `back`. `ga_bench image NODES ROUNDS` reads an image that gives each cell of so many nodes. `ga_bench rewind EVENTS ROUNDS`
+//! makes rollbacks that remove three entries where so many events are kept, and `ga_bench rewind-all EVENTS` one that removes so
+//! many. The best of the rounds counts.
 #![tactic(auto)]
 
 mod events;
 mod images;
+mod rewinds;
 
 use events::time_events;
 use images::time_images;
+use rewinds::{time_large, time_small};
 use std::{env, io};
 
 fn number(word: Option<&String>, otherwise: u32) -> u32 {
@@ -24,6 +28,21 @@ fn main(rt: HostRuntime) -> io::Result<()> {
         Some(word) => word.as_str(),
         None => "busy",
     };
+    if what == "rewind" || what == "rewind-all" {
+        let count = number(words.get(2), 1_000_000);
+        let timed = if what == "rewind" {
+            time_small(&rt, count, number(words.get(3), 200))?
+        } else {
+            time_large(&rt, count)?
+        };
+        return match timed {
+            Some((best, removed)) => {
+                println!(rt; "removed {removed}")?;
+                eprintln!(rt; "{best} nanoseconds a rollback")
+            }
+            None => eprintln!(rt; "no memory"),
+        };
+    }
     if what == "image" {
         let nodes = number(words.get(2), 144);
         let (best, size) = time_images(&rt, nodes, number(words.get(3), 20))?;
