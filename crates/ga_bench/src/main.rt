@@ -1,18 +1,22 @@
-//! Times the events of a node, the reading of images, and the steps and undos of a lab. What depends on the machine goes to
-//! standard error.
+//! Times the events of a node, the reading of images, and the steps, undos and rollbacks of a lab. What depends on the machine
+//! goes to standard error.
 //!
 //! `ga_bench busy MODE EVENTS ROUNDS` and `ga_bench mixed MODE EVENTS ROUNDS` make events; MODE is `own`, `into`, `values` or
-//! `back`. `ga_bench image NODES ROUNDS` reads an image that gives each cell of so many nodes. The best of the rounds counts.
-//! `ga_bench lab NODES STEPS` steps the first nodes of a lab in turn, takes all steps back, and makes them again.
+//! `back`. `ga_bench image NODES ROUNDS` reads an image that gives each cell of so many nodes. `ga_bench lab NODES STEPS` steps
+//! the first nodes of a lab in turn, takes all steps back, and makes them again. `ga_bench rewind EVENTS ROUNDS` makes rollbacks
+//! that remove three entries where so many events are kept, and `ga_bench rewind-all EVENTS` one that removes so many. The best
+//! of the rounds counts.
 #![tactic(auto)]
 
 mod events;
 mod images;
 mod labs;
+mod rewinds;
 
 use events::time_events;
 use images::time_images;
 use labs::time_lab;
+use rewinds::{time_large, time_small};
 use std::{env, io};
 
 fn number(word: Option<&String>, otherwise: u32) -> u32 {
@@ -43,32 +47,54 @@ fn print_lab(rt: &HostRuntime, nodes: u32, count: u32) -> io::Result<()> {
     }
 }
 
+fn print_rewind(rt: &HostRuntime, timed: Option<(u128, u32)>) -> io::Result<()> {
+    match timed {
+        Some((best, removed)) => {
+            println!(rt; "removed {removed}")?;
+            eprintln!(rt; "{best} nanoseconds a rollback")
+        }
+        None => eprintln!(rt; "no memory"),
+    }
+}
+
+fn print_events(rt: &HostRuntime, is_mixed: bool, words: &[String]) -> io::Result<()> {
+    let mode = match words.get(2) {
+        Some(word) => word.as_str(),
+        None => "own",
+    };
+    let count = number(words.get(3), 1_000_000);
+    let (best, sum) = time_events(rt, is_mixed, mode, count, number(words.get(4), 5))?;
+    println!(rt; "sum {sum}")?;
+    let each = hundredths(best, count);
+    eprintln!(rt; "{each} hundredths of a nanosecond an event")
+}
+
 fn main(rt: HostRuntime) -> io::Result<()> {
     let words = env::args(&rt)?.collect::<Vec<String>>(rt.alloc())?;
     let what = match words.get(1) {
         Some(word) => word.as_str(),
         None => "busy",
     };
-    if what == "lab" {
-        return print_lab(
-            &rt,
-            number(words.get(2), 1),
-            number(words.get(3), 1_000_000),
-        );
+    match what {
+        "lab" => {
+            let nodes = number(words.get(2), 1);
+            print_lab(&rt, nodes, number(words.get(3), 1_000_000))
+        }
+        "rewind" => {
+            let count = number(words.get(2), 1_000_000);
+            let timed = time_small(&rt, count, number(words.get(3), 200))?;
+            print_rewind(&rt, timed)
+        }
+        "rewind-all" => {
+            let timed = time_large(&rt, number(words.get(2), 1_000_000))?;
+            print_rewind(&rt, timed)
+        }
+        "image" => {
+            let nodes = number(words.get(2), 144);
+            let (best, size) = time_images(&rt, nodes, number(words.get(3), 20))?;
+            println!(rt; "{size} bytes")?;
+            eprintln!(rt; "{best} nanoseconds")
+        }
+        _ => print_events(&rt, what == "mixed", words.as_slice()),
     }
-    if what == "image" {
-        let nodes = number(words.get(2), 144);
-        let (best, size) = time_images(&rt, nodes, number(words.get(3), 20))?;
-        println!(rt; "{size} bytes")?;
-        return eprintln!(rt; "{best} nanoseconds");
-    }
-    let mode = match words.get(2) {
-        Some(word) => word.as_str(),
-        None => "own",
-    };
-    let count = number(words.get(3), 1_000_000);
-    let (best, sum) = time_events(&rt, what == "mixed", mode, count, number(words.get(4), 5))?;
-    println!(rt; "sum {sum}")?;
-    let each = hundredths(best, count);
-    eprintln!(rt; "{each} hundredths of a nanosecond an event")
 }

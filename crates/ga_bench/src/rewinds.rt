@@ -1,0 +1,100 @@
+//! Rollbacks of a lab.
+
+use ga_grid::{Chip, NodeId};
+use ga_lab::Lab;
+use ga_node::Place;
+use ga_word::Word18;
+use std::alloc::Global;
+use std::io;
+use std::time::Instant;
+
+/// How many pairs of neighbours pass a word; the last node of the grid makes own events.
+const PAIRS: u8 = 71;
+
+/// Puts four words from cell 0 of a node on, and P there.
+fn load(chip: &mut Chip, node: NodeId, words: [u32; 4]) {
+    let at = chip.node_mut(node);
+    at.set(Place::P, 0);
+    at.set(Place::Ram(0), Word18::low(words[0]).get());
+    at.set(Place::Ram(1), Word18::low(words[1]).get());
+    at.set(Place::Ram(2), Word18::low(words[2]).get());
+    at.set(Place::Ram(3), Word18::low(words[3]).get());
+}
+
+/// Makes so many steps of a node, and counts those that were made.
+fn steps(lab: &mut Lab, node: NodeId, count: u32) -> u32 {
+    let mut made = 0u32;
+    for _ in 0..count {
+        if lab.step(node).is_ok() {
+            made = made.wrapping_add(1);
+        }
+    }
+    made
+}
+
+/// A lab in which the last node has made so many own events, and then each pair has passed its word: the first node of a pair
+/// sends a literal to the right, and the second takes it.
+fn passed(alloc: Global, own: u32) -> Option<Lab> {
+    let mut chip = Chip::new(alloc).ok()?;
+    for pair in 0..PAIRS {
+        load(&mut chip, NodeId::new(2 * pair), [0x4b12, 0x1d5, 0x2a, 0x89b2]);
+        load(&mut chip, NodeId::new(2 * pair + 1), [0x4b02, 0x1d5, 0, 0]);
+    }
+    load(&mut chip, NodeId::new(143), [0x10000, 0, 0, 0]);
+    let mut lab = Lab::new(alloc, chip, u32::MAX).ok()?;
+    let _made = steps(&mut lab, NodeId::new(143), own);
+    for pair in 0..PAIRS {
+        let _sent = steps(&mut lab, NodeId::new(2 * pair), 7);
+        let _took = steps(&mut lab, NodeId::new(2 * pair + 1), 5);
+    }
+    Some(lab)
+}
+
+/// Takes each word back with the wait to send it, which are three entries of two nodes, and counts the events that go.
+#[inline(never)]
+fn rewind_pairs(lab: &mut Lab) -> u32 {
+    let mut removed = 0u32;
+    for pair in 0..PAIRS {
+        if let Ok(count) = lab.rewind(NodeId::new(2 * pair), 7) {
+            removed = removed.wrapping_add(count);
+        }
+    }
+    removed
+}
+
+/// Passes each word again.
+#[inline(never)]
+fn pass_again(lab: &mut Lab) {
+    for pair in 0..PAIRS {
+        let _made = steps(lab, NodeId::new(2 * pair), 2);
+    }
+}
+
+/// The nanoseconds of the best of some rounds of 71 rollbacks that remove three entries each, where the last node keeps so many
+/// own events, and the number of events removed; none without memory.
+pub fn time_small(rt: &HostRuntime, own: u32, rounds: u32) -> io::Result<Option<(u128, u32)>> {
+    let mut lab = match passed(rt.alloc(), own) {
+        Some(lab) => lab,
+        None => return Ok(None),
+    };
+    let mut best = u128::MAX;
+    let mut removed = 0u32;
+    for _ in 0..rounds {
+        let start = Instant::now(rt)?;
+        removed = rewind_pairs(&mut lab);
+        best = best.min(start.elapsed(rt)?.as_nanos());
+        pass_again(&mut lab);
+    }
+    Ok(Some((best / u128::from(PAIRS), removed)))
+}
+
+/// The nanoseconds of one rollback that removes so many own events of a node, and their number; none without memory.
+pub fn time_large(rt: &HostRuntime, own: u32) -> io::Result<Option<(u128, u32)>> {
+    let mut lab = match passed(rt.alloc(), own) {
+        Some(lab) => lab,
+        None => return Ok(None),
+    };
+    let start = Instant::now(rt)?;
+    let removed = lab.rewind(NodeId::new(143), 1).unwrap_or(0);
+    Ok(Some((start.elapsed(rt)?.as_nanos(), removed)))
+}
