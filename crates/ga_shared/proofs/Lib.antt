@@ -1,2 +1,7 @@
 pub mod Machine
 pub mod Histories
+pub mod Receipts
+pub mod Seats
+pub mod Places
+pub mod NodeCopies
+pub mod Races

@@ -1,2 +1,6 @@
 pub mod Calls
 pub mod Log
+pub mod Opening
+pub mod Close
+pub mod Copies
+pub mod Race

@@ -1,0 +1,81 @@
+-- Nodes alike part by part, and chips alike node by node.
+use Rattle.std.proofs.Common.{◌≡◌, ◌<◌, ℕ, List, [], ◌∷◌, length, slice_index, Bool, true, false, refl, sym, ap, ◌∙◌, arith}
+use Rattle.std.specs.Prelude.{◌==◌}
+use Rattle.std.specs.Int.{from_bool}
+use Rattle.std.proofs.lemmas.List.{ext_get_or, length-map}
+use Rattle.ga_stacks.specs.Ring.{Ring, listed}
+use Rattle.ga_node.specs.State.{NodeState}
+use Rattle.ga_node.specs.Record.{NodeRecord, record_of}
+use Rattle.ga_grid.specs.Chip.{nowhere, node_at, records_of, record_at}
+use Rattle.ga_grid.proofs.Chips.{record_at-records_of}
+use Rattle.ga_shared.specs.Copies.{with_registers, registers_of}
+
+-- a list of ten by its elements
+pub ten : (xs : List ℕ) (a b c d e f g h i j : ℕ) → length xs ≡ 10
+    → a ≡ slice_index xs 0 → b ≡ slice_index xs 1 → c ≡ slice_index xs 2 → d ≡ slice_index xs 3 → e ≡ slice_index xs 4
+    → f ≡ slice_index xs 5 → g ≡ slice_index xs 6 → h ≡ slice_index xs 7 → i ≡ slice_index xs 8 → j ≡ slice_index xs 9
+    → a ∷ b ∷ c ∷ d ∷ e ∷ f ∷ g ∷ h ∷ i ∷ j ∷ [] ≡ xs
+ten (_ ∷ _ ∷ _ ∷ _ ∷ _ ∷ _ ∷ _ ∷ _ ∷ _ ∷ _ ∷ []) a b c d e f g h i j size pa pb pc pd pe pf pg ph pi pj =
+    λ k. pa k ∷ pb k ∷ pc k ∷ pd k ∷ pe k ∷ pf k ∷ pg k ∷ ph k ∷ pi k ∷ pj k ∷ []
+ten xs a b c d e f g h i j size pa pb pc pd pe pf pg ph pi pj = absurd (omega arith)
+
+-- a list of nine by its elements
+pub nine : (xs : List ℕ) (a b c d e f g h i : ℕ) → length xs ≡ 9
+    → a ≡ slice_index xs 0 → b ≡ slice_index xs 1 → c ≡ slice_index xs 2 → d ≡ slice_index xs 3 → e ≡ slice_index xs 4
+    → f ≡ slice_index xs 5 → g ≡ slice_index xs 6 → h ≡ slice_index xs 7 → i ≡ slice_index xs 8
+    → a ∷ b ∷ c ∷ d ∷ e ∷ f ∷ g ∷ h ∷ i ∷ [] ≡ xs
+nine (_ ∷ _ ∷ _ ∷ _ ∷ _ ∷ _ ∷ _ ∷ _ ∷ _ ∷ []) a b c d e f g h i size pa pb pc pd pe pf pg ph pi =
+    λ k. pa k ∷ pb k ∷ pc k ∷ pd k ∷ pe k ∷ pf k ∷ pg k ∷ ph k ∷ pi k ∷ []
+nine xs a b c d e f g h i size pa pb pc pd pe pf pg ph pi = absurd (omega arith)
+
+-- a carry by its number
+pub carry_back : (b : Bool) → (from_bool b == 1) ≡ b
+carry_back true = refl
+carry_back false = refl
+
+pub from_bool-same : (a b : Bool) → from_bool a ≡ from_bool b → a ≡ b
+from_bool-same true true e = refl
+from_bool-same true false e = absurd (omega (arith, e))
+from_bool-same false true e = absurd (omega (arith, e))
+from_bool-same false false e = refl
+
+-- two nodes alike in each of their parts have one record
+pub record_of-same : (x y : NodeState) → (record_of x).d ≡ (record_of y).d → (record_of x).r ≡ (record_of y).r → x.ram ≡ y.ram → x.rom ≡ y.rom → registers_of x ≡ registers_of y → x.wait ≡ y.wait → record_of x ≡ record_of y
+unfolding record_of
+record_of-same x y d r ram rom registers wait =
+    let a : x.a ≡ y.a = cc in
+    let b : x.b ≡ y.b = cc in
+    let p : x.p ≡ y.p = cc in
+    let w : x.i ≡ y.i = cc in
+    let io : x.io ≡ y.io = cc in
+    let slot : x.slot ≡ y.slot = cc in
+    let bit : from_bool x.carry ≡ from_bool y.carry = cc in
+    let stop : x.stop ≡ y.stop = cc in
+    let carry : x.carry ≡ y.carry = from_bool-same x.carry y.carry bit in
+    λ k. record { d = d k; r = r k; ram = ram k; rom = rom k; a = a k; b = b k; p = p k; i = w k; io = io k; carry = carry k; slot = slot k; wait = wait k; stop = stop k }
+
+-- and one record has one of each part
+pub record_of-parts : (x y : NodeState) → record_of x ≡ record_of y → (x.ram ≡ y.ram) × (x.rom ≡ y.rom) × (registers_of x ≡ registers_of y) × (x.wait ≡ y.wait)
+unfolding record_of
+record_of-parts x y e = (
+  ap (λ n. n.ram) e,
+  ap (λ n. n.rom) e,
+  ap (λ (n : NodeRecord). n.a ∷ n.b ∷ n.p ∷ n.i ∷ n.io ∷ n.slot ∷ from_bool n.carry ∷ n.stop ∷ []) e,
+  ap (λ n. n.wait) e,
+)
+
+-- a node that took each part over
+pub record_of-copied : (from to t1 t2 t3 : NodeState) (kept returned : Ring) → t1 ≡ record to { ram = from.ram; rom = from.rom } → t2 ≡ record t1 { data_stack = kept; return_stack = returned } → t3 ≡ with_registers from t2 → listed kept ≡ (record_of from).d → listed returned ≡ (record_of from).r → record_of t3 ≡ record_of from
+unfolding record_of
+record_of-copied from to t1 t2 t3 kept returned e1 e2 e3 d r =
+    ap record_of (e3 ∙ ap (with_registers from) (e2 ∙ ap (λ (t : NodeState). record t { data_stack = kept; return_stack = returned }) e1))
+    ∙ (λ k. record { d = d k; r = r k; ram = from.ram; rom = from.rom; a = from.a; b = from.b; p = from.p; i = from.i; io = from.io; carry = from.carry; slot = from.slot; wait = from.wait; stop = from.stop })
+
+-- chips alike node by node
+pub records_of-same : (x y : List NodeState) → length x ≡ 144 → length y ≡ 144 → ((k : ℕ) → k < 144 → record_of (node_at x k) ≡ record_of (node_at y k)) → records_of x ≡ records_of y
+records_of-same x y xs ys same =
+    ext_get_or (record_of nowhere) (records_of x) (records_of y) (length-map x record_of ∙ xs ∙ sym (length-map y record_of ∙ ys))
+        (λ k below. record_at-records_of x k ∙ same k (omega (arith, length-map x record_of)) ∙ sym (record_at-records_of y k))
+
+pub records_of-node : (x y : List NodeState) (k : ℕ) → records_of x ≡ records_of y → record_of (node_at x k) ≡ record_of (node_at y k)
+records_of-node x y k e = sym (record_at-records_of x k) ∙ ap (λ l. record_at l k) e ∙ record_at-records_of y k

@@ -1,0 +1,6 @@
+use Rattle.std.proofs.Common.{take}
+use Rattle.ga_shared.specs.Opening.{WorkerAgrees}
+use Rattle.ga_shared.proofs.closing.agrees.Given as goal
+
+abbrev pub invariant-loop-i : goal.invariant-loop-i
+invariant-loop-i g l = WorkerAgrees l.log (take l.i l.seats) l.worker

@@ -1,0 +1,49 @@
+use Rattle.std.proofs.Common.{◌≡◌, ◌<◌, ℕ, refl, sym, ◌∙◌, ap, subst, true≢false, arith}
+use Rattle.ga_grid.specs.Chip.{records_of}
+use Rattle.ga_shared.specs.Log.{Desk, Worker}
+use Rattle.ga_shared.specs.Opening.{Opening, AreSeated, WorkerAgrees}
+use Rattle.ga_shared.proofs.Seats.{AreSeated-along, WorkerAgrees-along, IsHistory-legal}
+use Rattle.ga_shared.proofs.shared.Shared.close.Goals as goal
+
+pub returns-then-not-are_seated : goal.returns-then-not-are_seated
+returns-then-not-are_seated g c = (
+  (λ seated. true≢false (sym (c.are_seated.ensures.1 (AreSeated-along c.args.self.workers c.self.inside.workers c.args.seats.items c.as_slice.result.now (ap (λ o. o.workers) (sym c.self.view_is)) (sym c.as_slice.ensures.value) seated)) ∙ c.if-not-are_seated.true)),
+  refl,
+  refl,
+)
+
+pub returns-then-not-is_same : goal.returns-then-not-is_same
+returns-then-not-is_same g c =
+    let was = c.lab.inside in
+    let desk : Desk = record { load = records_of was.load; lab = was.lab; log = was.log.items; calls = was.book.total } in (
+      AreSeated-along c.self.inside.workers c.args.self.workers c.as_slice.result.now c.args.seats.items (ap (λ o. o.workers) c.self.view_is) c.as_slice.ensures.value (c.are_seated.ensures.0 c.if-not-are_seated.false),
+      record { legal = IsHistory-legal desk c.lab.invariant; calls = sym c.lab.invariant.calls ∙ c.count_up.ensures; made = c.lab.invariant.made },
+      (λ opened. true≢false (sym (c.is_opened_on-is_same.ensures.1 (c.lab.invariant.load ∙ opened.0 ∙ ap (λ o. o.load) (sym c.self.view_is), opened.1 ∙ ap (λ o. o.limit) (sym c.self.view_is))) ∙ c.if-not-is_same.true)),
+    )
+
+pub returns-in-None : goal.returns-in-None
+returns-in-None g c =
+    let was = c.lab.inside in
+    let desk : Desk = record { load = records_of was.load; lab = was.lab; log = was.log.items; calls = was.book.total } in
+    let same = c.is_opened_on-is_same.ensures.0 c.if-not-is_same.false in (
+      AreSeated-along c.self.inside.workers c.args.self.workers c.as_slice.result.now c.args.seats.items (ap (λ o. o.workers) c.self.view_is) c.as_slice.ensures.value (c.are_seated.ensures.0 c.if-not-are_seated.false),
+      record { legal = IsHistory-legal desk c.lab.invariant; calls = sym c.lab.invariant.calls ∙ c.count_up.ensures; made = c.lab.invariant.made },
+      (sym c.lab.invariant.load ∙ same.0 ∙ ap (λ o. o.load) c.self.view_is, same.1 ∙ ap (λ o. o.limit) c.self.view_is),
+      λ w below. WorkerAgrees-along c.as_slice-2.result.now was.log.items c.as_slice-3.result.now c.args.seats.items w c.as_slice-2.ensures.value c.as_slice-3.ensures.value (c.in-None.ensures.none w (subst (λ (o : Opening). w < o.workers) (sym c.self.view_is) below)),
+    )
+
+pub returns : goal.returns
+returns g c =
+    let was = c.lab.inside in
+    let desk : Desk = record { load = records_of was.load; lab = was.lab; log = was.log.items; calls = was.book.total } in
+    let same = c.is_opened_on-is_same.ensures.0 c.if-not-is_same.false in
+    let wrong = c.in-Some.ensures.some in (
+      AreSeated-along c.self.inside.workers c.args.self.workers c.as_slice.result.now c.args.seats.items (ap (λ o. o.workers) c.self.view_is) c.as_slice.ensures.value (c.are_seated.ensures.0 c.if-not-are_seated.false),
+      record { legal = IsHistory-legal desk c.lab.invariant; calls = sym c.lab.invariant.calls ∙ c.count_up.ensures; made = c.lab.invariant.made },
+      (sym c.lab.invariant.load ∙ same.0 ∙ ap (λ o. o.load) c.self.view_is, same.1 ∙ ap (λ o. o.limit) c.self.view_is),
+      subst (λ (o : Opening). c.in-Some.worker < o.workers) c.self.view_is wrong.0,
+      (
+        (λ agrees. wrong.1.0 (WorkerAgrees-along was.log.items c.as_slice-2.result.now c.args.seats.items c.as_slice-3.result.now c.in-Some.worker (sym c.as_slice-2.ensures.value) (sym c.as_slice-3.ensures.value) agrees)),
+        λ v below. WorkerAgrees-along c.as_slice-2.result.now was.log.items c.as_slice-3.result.now c.args.seats.items v c.as_slice-2.ensures.value c.as_slice-3.ensures.value (wrong.1.1 v below),
+      ),
+    )

@@ -1,0 +1,202 @@
+//! Closing a shared chip.
+
+ghost use Rattle.std.specs.Prelude.{◌≡◌, ◌≢◌, ◌<◌, ◌↔◌, ◌==◌, ℕ, sum_by, count_by, IfSome, IfNone, IsTrue, ◌∷◌, List, vec_len};
+ghost use Rattle.ga_grid.specs.Chip.{records_of};
+ghost use Rattle.ga_shared.specs.Opening.{receipts_of, AreSeated, WorkerAgrees, IsLeastWrong};
+ghost use Rattle.ga_shared.specs.declared.call.Receipt.{Receipt};
+
+use crate::call::{Entry, Receipt};
+use crate::copies::is_same;
+use crate::locked::Locked;
+use crate::same::is_same_receipt;
+use crate::seat::Seat;
+use crate::shared::Shared;
+use ga_grid::Chip;
+use ga_lab::Lab;
+use std::sync::ledger::{Book, Ledger, Share};
+
+/// The lab and the log of its calls, once no worker shares it any more.
+#[derive(Drop)]
+pub struct Closed {
+    pub lab: Lab,
+    pub log: Vec<Entry>,
+}
+
+/// Why a shared chip was not closed, or closed with a doubt.
+#[derive(Drop)]
+pub enum CloseFault<L: Ledger> {
+    /// The seats are not those of all workers, each once (21). All are handed back.
+    Missing {
+        shared: Shared<L>,
+        seats: Vec<Seat<L>>,
+    },
+    /// Where no worker is named, the lab was not opened on the chip and the limit handed in; else the receipts of this worker,
+    /// and of none before it, are not the log's (22).
+    Disagree { worker: Option<u32>, closed: Closed },
+}
+
+impl<L: Ledger> Shared<L> {
+    ghost use Rattle.ga_shared.specs.Close.{Closes};
+
+    /// Closes the shared chip, with the seats of all workers.
+    ///
+    /// # Errors
+    /// `Missing` where the seats are not those of all workers, each once; then `Disagree`.
+    pub fn close(self, seats: Vec<Seat<L>>) -> Result<Closed, CloseFault<L>>
+        ensures { Closes self seats.items result }
+    {
+        if !are_seated(seats.as_slice(), self.workers) {
+            return Err(CloseFault::Missing {
+                shared: self,
+                seats,
+            });
+        }
+        let Shared {
+            locked,
+            load,
+            limit,
+            workers,
+        } = self;
+        let Locked {
+            lab,
+            load: copy,
+            log,
+            mut book,
+        } = locked.into_inner();
+        let is_same = is_opened_on(&lab, &copy, &load, limit);
+        let wrong = least_wrong(log.as_slice(), seats.as_slice(), workers);
+        count_up(&mut book, seats);
+        let closed = Closed { lab, log };
+        if !is_same {
+            return Err(CloseFault::Disagree {
+                worker: None,
+                closed,
+            });
+        }
+        match wrong {
+            None => Ok(closed),
+            Some(worker) => Err(CloseFault::Disagree {
+                worker: Some(worker),
+                closed,
+            }),
+        }
+    }
+}
+
+// Whether the lab, with this copy of its load, was opened on a chip and a limit.
+fn is_opened_on(lab: &Lab, copy: &Chip, load: &Chip, limit: u32) -> bool
+    ensures { IsTrue result ↔ ((records_of copy.now ≡ records_of load.now) × (lab.now.limit ≡ limit)) }
+{
+    is_same(copy, load) && lab.counts().limit == limit
+}
+
+// Whether these are the seats of all workers, each once.
+fn are_seated<L: Ledger>(seats: &[Seat<L>], workers: u32) -> bool
+    ensures { IsTrue result ↔ AreSeated workers seats.now }
+{
+    if seats.len() != workers as usize {
+        return false;
+    }
+    for number in 0..workers {
+        if count_of(seats, number) != 1 {
+            return false;
+        }
+    }
+    true
+}
+
+fn count_of<L: Ledger>(seats: &[Seat<L>], number: u32) -> usize
+    ensures { result ≡ count_by (λ s. s.number == number) seats.now }
+{
+    seats.iter().filter(|s| s.number() == number).count()
+}
+
+// The least worker whose receipts are not those of the log.
+fn least_wrong<L: Ledger>(log: &[Entry], seats: &[Seat<L>], workers: u32) -> Option<u32>
+    ensures none { IfNone result ((w : ℕ) → w < workers → WorkerAgrees log.now seats.now w) }
+    ensures some { IfSome result (λ w. (w < workers) × IsLeastWrong log.now seats.now w) }
+{
+    for worker in 0..workers {
+        if !agrees(log, seats, worker) {
+            return Some(worker);
+        }
+    }
+    None
+}
+
+// Whether the receipts of each seat of a worker are those of the log.
+fn agrees<L: Ledger>(log: &[Entry], seats: &[Seat<L>], worker: u32) -> bool
+    ensures { IsTrue result ↔ WorkerAgrees log.now seats.now worker }
+{
+    for i in 0..seats.len() {
+        let seat = &seats[i];
+        if seat.number() == worker && !receipts_match(log, worker, seat.receipts.as_slice()) {
+            return false;
+        }
+    }
+    true
+}
+
+/// Whether a worker's receipts are the log's entries of that worker, in order and with their places.
+pub fn receipts_match(log: &[Entry], worker: u32, receipts: &[Receipt]) -> bool
+    ensures { IsTrue result ↔ (receipts.now ≡ receipts_of worker 0 log.now) }
+{
+    let mut left = receipts;
+    for place in 0..log.len() {
+        let entry = log[place];
+        if entry.worker == worker {
+            let receipt = Receipt {
+                place: place as u64,
+                call: entry.call,
+                answer: entry.answer,
+            };
+            let Some(others) = after_first(left, &receipt) else {
+                return false;
+            };
+            left = others;
+        }
+    }
+    left.is_empty()
+}
+
+// The others, where this receipt is the first.
+fn after_first<'a>(receipts: &'a [Receipt], receipt: &Receipt) -> Option<&'a [Receipt]>
+    ensures some { IfSome result (λ others. receipts.now ≡ receipt.now ∷ others.now) }
+    ensures none { IfNone result ((others : List Receipt) → receipts.now ≢ receipt.now ∷ others) }
+{
+    let (first, others) = receipts.split_first()?;
+    if is_same_receipt(first, receipt) {
+        Some(others)
+    } else {
+        None
+    }
+}
+
+// The seats of all workers have the whole ledger among them, so their calls add up to the book's.
+fn count_up<L: Ledger>(book: &mut Book<L>, seats: Vec<Seat<L>>)
+    requires some { 0 < vec_len seats }
+    requires all { vec_len seats ≡ L.parts }
+    ensures { book.old.total ≡ sum_by (λ s. s.calls) seats.items }
+{
+    let mut seats = seats;
+    let mut total = none(&mut seats);
+    while let Some(seat) = seats.pop() {
+        let Seat {
+            number: _,
+            receipts: _,
+            share,
+        } = seat;
+        total.merge(share);
+    }
+    book.audit(&mut total);
+}
+
+// A share with no part, made beside that of the first seat.
+fn none<L: Ledger>(seats: &mut Vec<Seat<L>>) -> Share<L>
+    requires { 0 < vec_len seats.old }
+    ensures share { (result.parts ≡ 0) × (result.amount ≡ 0) }
+    ensures same { seats.new.items ≡ seats.old.items }
+{
+    let seat = &mut seats[0];
+    seat.share.empty()
+}

@@ -1,0 +1,226 @@
+//! Workers that race for the chip, each on a thread of its own.
+
+ghost use Rattle.std.specs.Prelude.{◌≡◌, ◌<◌, ◌≤◌, ◌^◌, ℕ, All, map, IfOk, OnOk, vec_len, slice_get, Some};
+ghost use Rattle.ga_grid.specs.Chip.{records_of};
+ghost use Rattle.ga_shared.specs.Race.{IsDone, AreDone, Raced};
+ghost use Rattle.ga_shared.specs.Log.{fresh_worker};
+
+use crate::call::{Call, SharedFault};
+use crate::closing::Closed;
+use crate::gate::Gate;
+use crate::seat::Seat;
+use crate::shared::Shared;
+use crate::workers::work;
+use ga_grid::Chip;
+use std::alloc::Global;
+use std::marker::Brand;
+use std::snapshot::Snapshot;
+use std::sync::Wait;
+use std::sync::ledger::{Blank, Ledger};
+use std::thread;
+use std::thread::{Promise, PromisedHandle, Scope, Threads};
+use thiserror::Error;
+
+/// Why a race has no answer. Each drops the lab.
+#[derive(Clone, Copy, PartialEq, Eq, Debug, Error)]
+pub enum RaceFault {
+    /// Out of memory (4).
+    #[error("out of memory")]
+    Memory,
+    /// The log doesn't agree with what was handed in, or with a worker's receipts (22).
+    #[error("the log disagrees with the workers")]
+    Disagree,
+    /// A thread was not started (23). Those that ran are joined.
+    #[error("a thread was not started")]
+    NotStarted,
+}
+
+// What a thread gives back: its seat, and how its work ended.
+type Worked<L> = (Seat<L>, Result<(), SharedFault>);
+
+// The seat is that of this worker, which made all calls of its list if its work ended well.
+#[derive(Drop)]
+struct WorksThrough {
+    worker: u32,
+    lists: Snapshot<Vec<Vec<Call>>>,
+}
+
+impl<L: Ledger> Promise<Worked<L>> for WorksThrough {
+    ghost use Rattle.std.specs.Prelude.{◌≡◌, OnOk, map};
+    ghost use Rattle.ga_shared.specs.Race.{IsDone};
+
+    ghost kept_by = { λ p r. (r.0.number ≡ p.worker) × OnOk r.1 (IsDone (map (λ l. l.items) p.lists.value.items) r.0) };
+}
+
+// What a thread of a race does.
+fn run<L: Ledger, G: Gate, R: Wait>(
+    rt: &R,
+    shared: &Shared<L>,
+    seat: Seat<L>,
+    gate: &G,
+    lists: &Vec<Vec<Call>>,
+) -> Worked<L>
+    requires fresh { seat ≡ fresh_worker seat.number }
+    requires listed { seat.number < vec_len lists.now }
+    requires short { All (λ l. vec_len l < 2 ^ 32) lists.now.items }
+    ensures number { result.0.number ≡ seat.number }
+    ensures done { OnOk result.1 (IsDone (map (λ l. l.items) lists.now.items) result.0) }
+{
+    let mut seat = seat;
+    let list = &lists[seat.number() as usize];
+    let outcome = work(rt, shared, &mut seat, gate, list.as_slice());
+    (seat, outcome)
+}
+
+// Starts a thread for each seat, joins them, and gives their seats back in order.
+fn run_all<'s, E, L: Ledger + Send + Sync + 's, G: Gate + Sync, R: Threads + Wait + Sync>(
+    rt: &'s R,
+    alloc: Global,
+    scope: &'s Scope<'s, E>,
+    shared: &'s Shared<L>,
+    seats: Vec<Seat<L>>,
+    gate: &'s G,
+    lists: &'s Vec<Vec<Call>>,
+) -> Result<Vec<Seat<L>>, RaceFault>
+    requires each { vec_len seats ≡ vec_len lists.now }
+    requires few { vec_len seats ≤ 16 }
+    requires fresh { (w : ℕ) → w < vec_len seats → slice_get seats.items w ≡ Some (fresh_worker w) }
+    requires short { All (λ l. vec_len l < 2 ^ 32) lists.now.items }
+    ensures size { IfOk result (λ back. vec_len back ≡ vec_len lists.now) }
+    ensures done { IfOk result (λ back. AreDone (map (λ l. l.items) lists.now.items) back.items) }
+{
+    let mut seats = seats;
+    let count = seats.len();
+    let Ok(mut threads) = Vec::with_capacity(alloc, count) else {
+        return Err(RaceFault::Memory);
+    };
+    let Ok(mut back) = Vec::with_capacity(alloc, count) else {
+        return Err(RaceFault::Memory);
+    };
+    while let Some(seat) = seats.pop() {
+        let promise = WorksThrough {
+            worker: seat.number(),
+            lists: Snapshot::of(lists),
+        };
+        let Ok(thread) = start(rt, scope, promise, shared, seat, gate, lists) else {
+            return Err(RaceFault::NotStarted);
+        };
+        threads.push_reserved(thread);
+    }
+    let mut is_whole = true;
+    while let Some(thread) = threads.pop() {
+        let (seat, outcome) = thread.join(rt);
+        if outcome.is_err() {
+            is_whole = false;
+        }
+        back.push_reserved(seat);
+    }
+    if is_whole {
+        Ok(back)
+    } else {
+        Err(RaceFault::Memory)
+    }
+}
+
+// Starts the thread of one seat.
+fn start<'s, E, L: Ledger + Send + Sync + 's, G: Gate + Sync, R: Threads + Wait + Sync>(
+    rt: &'s R,
+    scope: &'s Scope<'s, E>,
+    promise: WorksThrough,
+    shared: &'s Shared<L>,
+    seat: Seat<L>,
+    gate: &'s G,
+    lists: &'s Vec<Vec<Call>>,
+) -> Result<PromisedHandle<Worked<L>, WorksThrough>, RaceFault>
+    requires fresh { seat ≡ fresh_worker seat.number }
+    requires listed { seat.number < vec_len lists.now }
+    requires short { All (λ l. vec_len l < 2 ^ 32) lists.now.items }
+    requires promise { (promise.worker ≡ seat.number) × (promise.lists.value ≡ lists.now) }
+    ensures { IfOk result (λ thread. thread.promise ≡ promise) }
+{
+    let job = move || -> Worked<L>
+        requires { (seat ≡ fresh_worker seat.number) × (seat.number < vec_len lists.now)
+            × All (λ l. vec_len l < 2 ^ 32) lists.now.items }
+        ensures { (result.0.number ≡ seat.number)
+            × OnOk result.1 (IsDone (map (λ l. l.items) lists.entry.now.items) result.0) }
+    { run(rt, shared, seat, gate, lists) };
+    match scope.spawn_with(promise, job) {
+        Ok(thread) => Ok(thread),
+        Err(_) => Err(RaceFault::NotStarted),
+    }
+}
+
+// The threads of a race, in a scope of their own.
+fn in_threads<L: Ledger + Send + Sync, G: Gate + Sync, R: Threads + Wait + Sync>(
+    rt: &R,
+    alloc: Global,
+    shared: &Shared<L>,
+    seats: Vec<Seat<L>>,
+    gate: &G,
+    lists: &Vec<Vec<Call>>,
+) -> Result<Vec<Seat<L>>, RaceFault>
+    requires each { vec_len seats ≡ vec_len lists.now }
+    requires few { vec_len seats ≤ 16 }
+    requires fresh { (w : ℕ) → w < vec_len seats → slice_get seats.items w ≡ Some (fresh_worker w) }
+    requires short { All (λ l. vec_len l < 2 ^ 32) lists.now.items }
+    ensures size { IfOk result (λ back. vec_len back ≡ vec_len lists.now) }
+    ensures done { IfOk result (λ back. AreDone (map (λ l. l.items) lists.now.items) back.items) }
+{
+    thread::scope(
+        thread::scope_env(),
+        rt,
+        move |scope| -> Result<Vec<Seat<L>>, RaceFault>
+            requires { (vec_len seats ≡ vec_len lists.now) × (vec_len seats ≤ 16)
+                × ((w : ℕ) → w < vec_len seats → slice_get seats.items w ≡ Some (fresh_worker w))
+                × All (λ l. vec_len l < 2 ^ 32) lists.now.items }
+            ensures { IfOk result (λ back. (vec_len back ≡ vec_len lists.entry.now)
+                × AreDone (map (λ l. l.items) lists.entry.now.items) back.items) }
+        { run_all(rt, alloc, scope, shared, seats, gate, lists) },
+    )
+}
+
+// A race over a ledger with a part for each list.
+fn race_on<L: Ledger + Send + Sync, G: Gate + Sync, R: Threads + Wait + Sync>(
+    rt: &R,
+    alloc: Global,
+    blank: Blank,
+    chip: Chip,
+    limit: u32,
+    lists: &Vec<Vec<Call>>,
+    gate: &G,
+) -> Result<Closed, RaceFault>
+    requires ledger { (blank.name ≡ L.name) × (blank.parts ≡ L.parts) }
+    requires parts { blank.parts ≡ vec_len lists.now }
+    requires few { (1 ≤ vec_len lists.now) × (vec_len lists.now ≤ 16) }
+    requires short { All (λ l. vec_len l < 2 ^ 32) lists.now.items }
+    ensures { IfOk result (λ closed. Raced (records_of chip) limit (map (λ l. l.items) lists.now.items) closed) }
+{
+    let Ok((shared, seats)) = Shared::<L>::new(alloc, blank, chip, limit, lists.len() as u32) else {
+        return Err(RaceFault::Memory);
+    };
+    let back = in_threads(rt, alloc, &shared, seats, gate, lists)?;
+    match shared.close(back) {
+        Ok(closed) => Ok(closed),
+        Err(_) => Err(RaceFault::Disagree),
+    }
+}
+
+/// Starts a thread for each list, which makes its calls one by one, joins them, and closes the shared chip.
+///
+/// # Errors
+/// `NotStarted`, then `Memory`, then `Disagree`.
+pub fn race<G: Gate + Sync, R: Threads + Wait + Sync>(
+    rt: &R,
+    alloc: Global,
+    chip: Chip,
+    limit: u32,
+    lists: Vec<Vec<Call>>,
+    gate: &G,
+) -> Result<Closed, RaceFault>
+    requires few { (1 ≤ vec_len lists) × (vec_len lists ≤ 16) }
+    requires short { All (λ l. vec_len l < 2 ^ 32) lists.items }
+    ensures { IfOk result (λ closed. Raced (records_of chip) limit (map (λ l. l.items) lists.items) closed) }
+{
+    let blank = Blank::new(lists.len() as u64);
+    race_on::<Brand, G, R>(rt, alloc, blank, chip, limit, &lists, gate)
+}

@@ -1,0 +1,130 @@
+//! The chip under its lock, and its workers' seats.
+
+ghost use Rattle.ga_shared.specs.declared.call.Call.TheVariants.{Step, Rewind};
+
+use crate::call::{Call, Receipt, SharedFault};
+use crate::copies::copy_of;
+use crate::locked::Locked;
+use crate::seat::Seat;
+use ga_grid::{Chip, NodeId};
+use ga_lab::Lab;
+use std::alloc::Global;
+use std::marker::Model;
+use std::sync::ledger::{Blank, Ledger};
+use std::sync::{Mutex, Wait};
+
+/// A lab under a lock. Outside the lock stand a copy of the chip, the limit and the number of workers, which no call changes.
+#[derive(Drop)]
+pub struct Shared<L: Ledger> {
+    pub(crate) locked: Mutex<Locked<L>>,
+    pub(crate) load: Chip,
+    pub(crate) limit: u32,
+    pub(crate) workers: u32,
+}
+
+impl<L: Ledger> Model for Shared<L> {
+    ghost use Rattle.std.specs.Prelude.{◌≡◌, ◌≤◌};
+    ghost use Rattle.ga_grid.specs.Chip.{records_of};
+    ghost use Rattle.ga_shared.specs.Opening.{Opening};
+
+    ghost Value = { Opening };
+
+    ghost view = { λ s. record { load = records_of s.load; limit = s.limit; workers = s.workers } };
+
+    ghost invariant = { λ s. (s.workers ≡ L.parts) × (1 ≤ s.workers) × (s.workers ≤ 16) };
+}
+
+impl<L: Ledger> Shared<L> {
+    ghost use Rattle.std.specs.Prelude.{◌≡◌, ◌<◌, ◌≤◌, ℕ, IfOk, OnErr, Some, vec_len, slice_get};
+    ghost use Rattle.ga_grid.specs.Chip.{records_of};
+    ghost use Rattle.ga_shared.specs.Log.{Counts, fresh_worker};
+
+    /// A lab over a chip, and a seat for each worker, numbered from 0. The blank has a part for each.
+    ///
+    /// # Errors
+    /// `Memory` alone; the chip is then dropped.
+    pub fn new(
+        alloc: Global,
+        blank: Blank,
+        chip: Chip,
+        limit: u32,
+        workers: u32,
+    ) -> Result<(Shared<L>, Vec<Seat<L>>), SharedFault>
+        requires ledger { (blank.name ≡ L.name) × (blank.parts ≡ L.parts) }
+        requires parts { blank.parts ≡ workers }
+        requires workers { (1 ≤ workers) × (workers ≤ 16) }
+        ensures shared { IfOk result (λ made.
+            made.0 ≡ record { load = records_of chip; limit = limit; workers = workers }) }
+        ensures seats { IfOk result (λ made. (vec_len made.1 ≡ workers)
+            × ((w : ℕ) → w < workers → slice_get made.1.items w ≡ Some (fresh_worker w))) }
+    {
+        let Ok(load) = copy_of(alloc, &chip) else {
+            return Err(SharedFault::Memory);
+        };
+        let Ok(copy) = copy_of(alloc, &chip) else {
+            return Err(SharedFault::Memory);
+        };
+        let (book, mut rest) = blank.open::<L>();
+        let mut seats = Vec::new(alloc);
+        for number in 0..workers {
+            let share = rest.split_off(1, 0);
+            let seat = Seat {
+                number,
+                receipts: Vec::new(alloc),
+                share,
+            };
+            let Ok(()) = seats.push(seat) else {
+                return Err(SharedFault::Memory);
+            };
+        }
+        let Ok(lab) = Lab::new(alloc, chip, limit) else {
+            return Err(SharedFault::Memory);
+        };
+        let locked = Locked {
+            lab,
+            load: copy,
+            log: Vec::new(alloc),
+            book,
+        };
+        let shared = Shared {
+            locked: Mutex::new(locked),
+            load,
+            limit,
+            workers,
+        };
+        Ok((shared, seats))
+    }
+
+    /// Makes a step of a node, under the lock.
+    ///
+    /// # Errors
+    /// `Memory` alone; then nothing was logged. What the lab refuses is an answer.
+    pub fn step(
+        &self,
+        rt: &impl Wait,
+        seat: &mut Seat<L>,
+        node: NodeId,
+    ) -> Result<Receipt, SharedFault>
+        ensures counts { IfOk result (λ receipt. Counts seat.old seat.new (Step node) receipt) }
+        ensures memory { OnErr result (seat.new ≡ seat.old) }
+    {
+        self.locked.lock(rt).call(seat, Call::Step(node))
+    }
+
+    /// Takes a step of a node back with all that depends on it, under the lock.
+    ///
+    /// # Errors
+    /// `Memory` alone; then nothing was logged. What the lab refuses is an answer.
+    pub fn rewind(
+        &self,
+        rt: &impl Wait,
+        seat: &mut Seat<L>,
+        node: NodeId,
+        step: u32,
+    ) -> Result<Receipt, SharedFault>
+        ensures counts { IfOk result (λ receipt. Counts seat.old seat.new (Rewind node step) receipt) }
+        ensures memory { OnErr result (seat.new ≡ seat.old) }
+    {
+        self.locked.lock(rt).call(seat, Call::Rewind(node, step))
+    }
+}

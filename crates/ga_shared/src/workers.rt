@@ -1,0 +1,54 @@
+//! The calls of one worker.
+
+ghost use Rattle.std.specs.Prelude.{◌≡◌, ◌<◌, ◌^◌, ℕ, length, take, IfOk, OnOk, OnErr};
+ghost use Rattle.ga_shared.specs.Race.{Works};
+ghost use Rattle.ga_shared.specs.Log.{Counts};
+
+use crate::call::{Call, Receipt, SharedFault};
+use crate::gate::Gate;
+use crate::seat::Seat;
+use crate::shared::Shared;
+use std::sync::Wait;
+use std::sync::ledger::Ledger;
+
+/// Makes the calls one by one, with the gate told before and after each, up to the first fault.
+///
+/// # Errors
+/// `Memory` alone; the calls before it were made.
+pub fn work<L: Ledger, G: Gate, R: Wait>(
+    rt: &R,
+    shared: &Shared<L>,
+    seat: &mut Seat<L>,
+    gate: &G,
+    calls: &[Call],
+) -> Result<(), SharedFault>
+    requires { length calls.now < 2 ^ 32 }
+    ensures done { OnOk result (Works seat.old seat.new calls.now) }
+    ensures fault { OnErr result
+        ((n : ℕ) × (n < length calls.now) × Works seat.old seat.new (take n calls.now)) }
+{
+    let worker = seat.number();
+    for i in 0..calls.len() {
+        let number = i as u32 + 1;
+        gate.before(worker, number);
+        make(rt, shared, seat, calls[i])?;
+        gate.after(worker, number);
+    }
+    Ok(())
+}
+
+// Makes one call.
+fn make<L: Ledger, R: Wait>(
+    rt: &R,
+    shared: &Shared<L>,
+    seat: &mut Seat<L>,
+    call: Call,
+) -> Result<Receipt, SharedFault>
+    ensures counts { IfOk result (λ receipt. Counts seat.old seat.new call receipt) }
+    ensures memory { OnErr result (seat.new ≡ seat.old) }
+{
+    match call {
+        Call::Step(node) => shared.step(rt, seat, node),
+        Call::Rewind(node, step) => shared.rewind(rt, seat, node, step),
+    }
+}
