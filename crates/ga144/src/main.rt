@@ -1,4 +1,4 @@
-//! `ga144 debug`: a session with one node of a GA144 over standard input and output.
+//! `ga144 debug`: a session with a GA144 over standard input and output.
 #![tactic(auto)]
 
 use ga_console::{LineFault, Settings, Status, arguments, session};

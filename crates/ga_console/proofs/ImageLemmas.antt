@@ -19,9 +19,6 @@ pub record Body (text : List ℕ) (start : ℕ) : Type 0 where
 nothing : HasNoFeed []
 nothing = All-nil (λ b. is_feed b ≡ false)
 
-pub body_none : (text : List ℕ) → text ≡ [] → Body text 0
-body_none text e = record { lines = []; part = []; before = tt; no_feed = nothing; splits = e; starts = refl }
-
 pub no_end : (text : List ℕ) (start : ℕ) → Body text start → HasNoEnd text
 no_end text start b = record { lines = b.lines; part = b.part; before = b.before; no_feed = b.no_feed; splits = b.splits }
 
@@ -54,14 +51,6 @@ line_range text more start piece b e =
     ∙ ap (λ (n : ℕ). drop n more) b.starts
     ∙ ap (drop (length (text_of b.lines))) (line_splits text more start piece b e)
     ∙ drop_seam (text_of b.lines) (ended (b.part ++ piece))
-
-pub ends_here : (text more : List ℕ) (start : ℕ) (piece : List ℕ) (b : Body text start) → more ≡ text ++ ended piece
-    → ended (b.part ++ piece) ≡ ended end_line → EndsAtEnd more
-ends_here text more start piece b e same = record {
-  lines = b.lines;
-  before = b.before;
-  splits = line_splits text more start piece b e ∙ ap (λ (t : List ℕ). text_of b.lines ++ t) same;
-}
 
 push_body : (lines : List (List ℕ)) (line : List ℕ) → AllByRecursion IsBodyLine lines → IsBodyLine line → AllByRecursion IsBodyLine (lines ++ line ∷ [])
 push_body [] line h p = (p, tt)

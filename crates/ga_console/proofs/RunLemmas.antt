@@ -47,7 +47,7 @@ runs_refused limit read rest text fault NotFinished r t = absurd t
 
 refused_in : (image commands rest : List ℕ) (fault : ImageFault) → IsImagePart image commands rest → IsFault image fault → Refused (image ++ commands) rest fault
 refused_in image commands rest fault part (inl e) = inl e
-refused_in image commands rest fault part (inr e) = inr (record { image = image; commands = commands; splits = refl; part = part; first = e })
+refused_in image commands rest fault part (inr e) = inr (record { image = image; commands = commands; splits = refl; part = part; faulty = e })
 
 served_in : (limit : ℕ) (image commands rest said text : List ℕ) (machine : State) (ending : Result Ending WriteFailed) → IsImagePart image commands rest
     → Opens image limit machine → Serves (input_limit - length image) machine commands rest said ending → Written ending (ready ++ said) text

@@ -22,14 +22,6 @@ said_written old new before said bytes pending a h = record {
   splits = h.splits ∙ sym (append_assoc h.sent bytes pending);
 }
 
-pub said_more : (contents : Option (List ℕ)) (before said pending more : List ℕ) → IsSaid contents before said pending
-    → IsSaid contents before (said ++ more) (pending ++ more)
-said_more contents before said pending more h = record {
-  sent = h.sent;
-  held = h.held;
-  splits = ap (λ (t : List ℕ). t ++ more) h.splits ∙ append_assoc h.sent pending more;
-}
-
 pub cut_more : (contents : Option (List ℕ)) (before said more : List ℕ) → IsCut contents before said → IsCut contents before (said ++ more)
 cut_more contents before said more h = record {
   sent = h.sent;
@@ -55,12 +47,6 @@ cut_assoc contents before said text more h = record { sent = h.sent; held = h.he
 -- nothing more was said
 pub said_pending : (contents : Option (List ℕ)) (before said pending : List ℕ) → IsSaid contents before said pending → IsSaid contents before (said ++ []) pending
 said_pending contents before said pending h = record { sent = h.sent; held = h.held; splits = append-nil said ∙ h.splits }
-
--- whichever way the last write went
-pub either_assoc : {T : Type 0} (result : Result T WriteFailed) (contents : Option (List ℕ)) (before said text more pending : List ℕ)
-    → IsSaidOrCut result contents before ((said ++ text) ++ more) pending → IsSaidOrCut result contents before (said ++ (text ++ more)) pending
-either_assoc (Ok done) contents before said text more pending h = said_assoc contents before said text more pending h
-either_assoc (Err failed) contents before said text more pending h = cut_assoc contents before said text more h
 
 -- what holds at each error holds at a result that is one
 pub at_err : {T : Type 0} (P : Result T WriteFailed → Type 0) (result : Result T WriteFailed) → IsErr result → ((why : WriteFailed) → P (Err why)) → P result

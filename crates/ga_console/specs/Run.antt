@@ -4,7 +4,8 @@ use Rattle.ga_node.specs.State.{NodeState}
 use Rattle.ga_grid.specs.Chip.{records_of}
 use Rattle.ga_image.specs.Lines.{lines_of}
 use Rattle.ga_image.specs.Grammar.{IsImage}
-use Rattle.ga_image.specs.Reading.{start, reading, no_memory}
+use Rattle.ga_image.specs.Reading.{no_memory}
+use Rattle.ga_image.specs.FirstFault.{IsFirstFault}
 use Rattle.ga_image.specs.declared.fault.ImageFault.{ImageFault}
 use Rattle.ga_console.specs.Input.{input_limit}
 use Rattle.ga_console.specs.Output.{Begins, ready}
@@ -42,7 +43,7 @@ pub record Faulty (read rest : List ℕ) (fault : ImageFault) : Type 0 where
   pub commands : List ℕ
   pub splits : read ≡ image ++ commands
   pub part : IsImagePart image commands rest
-  pub first : reading start 1 (lines_of image) ≡ Err fault
+  pub faulty : IsFirstFault (lines_of image) fault
 
 -- or for want of memory
 abbrev pub Refused : List ℕ → List ℕ → ImageFault → Type 0
@@ -76,9 +77,9 @@ Refuses fault text NotFinished = ⊥
 abbrev pub Opens : List ℕ → ℕ → State → Type 0
 Opens image limit machine = (chip : List NodeState) × IsImage (lines_of image) chip × (machine ≡ first (records_of chip) limit)
 
--- an image is refused
+-- an image is refused with its first fault, or for want of memory
 abbrev pub IsFault : List ℕ → ImageFault → Type 0
-IsFault image fault = (fault ≡ no_memory) ⊎ (reading start 1 (lines_of image) ≡ Err fault)
+IsFault image fault = (fault ≡ no_memory) ⊎ IsFirstFault (lines_of image) fault
 
 -- What may be written after the image was read, of which so many bytes were taken.
 abbrev pub AfterImage : ℕ → List ℕ → ℕ → List ℕ → List ℕ → List ℕ → Status → Type 0

@@ -21,16 +21,16 @@ const NO_MEMORY: ImageFault = ImageFault {
     cause: ImageCause::Memory,
 };
 
-/// How a session ended.
+/// How a session or a race ended, and the exit status of the program.
 #[derive(Clone, Copy, Debug, PartialEq, Eq)]
 pub enum Status {
-    /// All commands were answered.
+    /// All was answered, to the end of the input or to `quit` (0).
     Done,
-    /// The image was refused, or there was no memory for it.
+    /// The image was refused, or memory was wanting before `ready` (1).
     ImageRefused,
-    /// A read or a write failed, or the input went past its bound.
+    /// A read or a write failed, or the commands went past the input's bound (2).
     StreamFault,
-    /// A race was not finished. No session ends so.
+    /// A race was not finished (4). No session ends so.
     NotFinished,
 }
 

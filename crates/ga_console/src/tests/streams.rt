@@ -2,6 +2,7 @@
 
 use crate::{Status, session};
 use arrayvec::ArrayVec;
+use std::cell::Cell;
 use std::io::{Error, ErrorKind, Read, Result, Write};
 use std::test::Fail;
 
@@ -9,6 +10,13 @@ const INPUT: &[u8] =
     b"ga144 1\nnode 000\np 000000\nram 00 004df2 000003\nend\nstep 000\nback\nback\nstep 000";
 
 const OUTPUT: &[u8] = b"ready\n000 1 fetch\nremoved 1 kept 0\nno 5 empty\n000 1 fetch\n";
+
+/// Answers of several lines.
+const LISTS: &[u8] =
+    b"ga144 1\nnode 000\np 000000\nram 00 004df2 000003\nend\nstep 000\nstep 000\ntrace 000\nwhy 000 1 000 2\nrewind 000 1\n";
+
+const LISTED: &[u8] =
+    b"ready\n000 1 fetch\n000 2 run 08\ntrace 000 2\n000 1 fetch\n000 2 run 08\nchain 2\n000 1 fetch\n000 2 run 08\nremoved 2 kept 0\n";
 
 /// Hands out up to so many bytes at a call, and fails at one call.
 #[derive(Drop)]
@@ -123,19 +131,23 @@ fn a_read_fails(rt: HostRuntime) -> std::result::Result<(), Fail> {
 
 #[test]
 fn a_write_fails(rt: HostRuntime) -> std::result::Result<(), Fail> {
-    let mut reader = Dripping::new(INPUT, 1, 0);
-    let mut whole = failing_writer(rt.alloc(), 0, false);
-    let _status = session(rt.alloc(), &mut reader, &mut whole, 9);
-    assert_eq!(rt; whole.taken.as_slice(), OUTPUT);
-    for before in 0..whole.calls {
-        let k = before + 1;
-        for empty in [false, true] {
-            let mut reader = Dripping::new(INPUT, 1, 0);
-            let mut writer = failing_writer(rt.alloc(), k, empty);
-            let status = session(rt.alloc(), &mut reader, &mut writer, 9);
-            assert_eq!(rt; status, Status::StreamFault, "call {k}");
-            assert_eq!(rt; writer.calls, k, "no call behind the failed one");
-            assert!(rt; OUTPUT.starts_with(writer.taken.as_slice()), "call {k}");
+    let runs: [(&'static [u8], &[u8]); 2] = [(INPUT, OUTPUT), (LISTS, LISTED)];
+    for (input, wanted) in runs {
+        let mut reader = Dripping::new(input, 1, 0);
+        let mut whole = failing_writer(rt.alloc(), 0, false);
+        let status = session(rt.alloc(), &mut reader, &mut whole, 9);
+        assert_eq!(rt; status, Status::Done);
+        assert_eq!(rt; whole.taken.as_slice(), wanted);
+        for before in 0..whole.calls {
+            let k = before + 1;
+            for empty in [false, true] {
+                let mut reader = Dripping::new(input, 1, 0);
+                let mut writer = failing_writer(rt.alloc(), k, empty);
+                let status = session(rt.alloc(), &mut reader, &mut writer, 9);
+                assert_eq!(rt; status, Status::StreamFault, "call {k}");
+                assert_eq!(rt; writer.calls, k, "no call behind the failed one");
+                assert!(rt; wanted.starts_with(writer.taken.as_slice()), "call {k}");
+            }
         }
     }
     Ok(())
@@ -149,6 +161,103 @@ fn failing_writer(alloc: std::alloc::Global, fails_at: u32, empty: bool) -> Narr
         fails_at,
         empty,
     }
+}
+
+/// A writer that holds what it takes until it is flushed.
+#[derive(Drop)]
+struct Flushed {
+    taken: usize,
+    flushed: usize,
+}
+
+impl Write for Flushed {
+    fn write(&mut self, buf: &[u8]) -> Result<usize> {
+        self.taken = self.taken.saturating_add(buf.len());
+        Ok(buf.len())
+    }
+
+    fn flush(&mut self) -> Result<()> {
+        self.flushed = self.taken;
+        Ok(())
+    }
+}
+
+#[test]
+fn all_is_handed_on(rt: HostRuntime) -> std::result::Result<(), Fail> {
+    let mut reader = INPUT;
+    let mut writer = Flushed {
+        taken: 0,
+        flushed: 0,
+    };
+    let status = session(rt.alloc(), &mut reader, &mut writer, 9);
+    assert_eq!(rt; status, Status::Done);
+    assert_eq!(rt; writer.taken, OUTPUT.len());
+    assert_eq!(rt; writer.flushed, OUTPUT.len());
+    Ok(())
+}
+
+#[test]
+fn nothing_is_read_behind_quit(rt: HostRuntime) -> std::result::Result<(), Fail> {
+    let mut reader = Dripping::new(b"ga144 1\nend\nquit\nback\n", 1, 0);
+    let mut output = Vec::new(rt.alloc());
+    let status = session(rt.alloc(), &mut reader, &mut output, 9);
+    assert_eq!(rt; status, Status::Done);
+    assert_eq!(rt; reader.left, b"back\n".as_slice());
+    Ok(())
+}
+
+/// Hands out a line at each read, and notes how much was written before it.
+#[derive(Drop)]
+struct Watching<'a> {
+    left: &'static [u8],
+    written: &'a Cell<usize>,
+    seen: ArrayVec<usize, 8>,
+}
+
+impl<'a> Read for Watching<'a> {
+    fn read(&mut self, buf: &mut [u8]) -> Result<usize> {
+        let _fits = self.seen.try_push(self.written.get());
+        let line = self.left.iter().position(|byte| *byte == b'\n');
+        let whole = line.map_or(self.left.len(), |end| end.saturating_add(1));
+        let count = whole.min(buf.len()).min(self.left.len());
+        let (front, rest) = self.left.split_at(count);
+        buf[..count].copy_from_slice(front);
+        self.left = rest;
+        Ok(count)
+    }
+}
+
+/// Counts what it takes.
+#[derive(Drop)]
+struct Counting<'a> {
+    written: &'a Cell<usize>,
+}
+
+impl<'a> Write for Counting<'a> {
+    fn write(&mut self, buf: &[u8]) -> Result<usize> {
+        self.written.set(self.written.get().saturating_add(buf.len()));
+        Ok(buf.len())
+    }
+
+    fn flush(&mut self) -> Result<()> {
+        Ok(())
+    }
+}
+
+#[test]
+fn answers_are_written_before_more_is_read(rt: HostRuntime) -> std::result::Result<(), Fail> {
+    let written = Cell::new(0);
+    let mut reader = Watching {
+        left: b"ga144 1\nend\nback\nback\n",
+        written: &written,
+        seen: ArrayVec::new(),
+    };
+    let mut writer = Counting { written: &written };
+    let status = session(rt.alloc(), &mut reader, &mut writer, 9);
+    assert_eq!(rt; status, Status::Done);
+    // Two lines of the image, then `ready`, then an answer each time.
+    assert_eq!(rt; reader.seen.as_slice(), [0, 0, 6, 17, 28].as_slice());
+    Ok(())
 }
 
 /// The empty image, then a line of so many bytes with its line feed.
@@ -236,6 +345,31 @@ static EVENTS: [&[u8]; 6] = [
     b"000 5 fetch\n",
     b"000 6 run 02\n",
 ];
+
+/// Commands that take no memory, behind a few steps.
+const SPARING: &[u8] =
+    b"ga144 1\nend\nback\nrewind 000 1\ncount\nmem 000 00\nnode 000\ntrace 000\nwhy 000 1 000 1\n";
+
+/// To be run with each allocation refused in turn: what needs no memory is answered as ever.
+#[test]
+fn readings_without_memory(rt: HostRuntime) {
+    let mut reader = SPARING;
+    let mut writer = Kept {
+        text: ArrayVec::new(),
+    };
+    let status = session(rt.alloc(), &mut reader, &mut writer, 9);
+    let text = writer.text.as_slice();
+    if status == Status::ImageRefused {
+        assert_eq!(rt; text, b"no 19 memory line 0\n".as_slice());
+        return;
+    }
+    assert_eq!(rt; status, Status::Done);
+    let front = b"ready\nno 5 empty\nno 6 nostep\nkept 0 made 0 limit 9\nmem 000 00 000000\nnode 000 run p 000195 ".as_slice();
+    assert!(rt; text.starts_with(front));
+    let answered = text.ends_with(b"\ntrace 000 0\nno 6 nostep\n");
+    let refused = text.ends_with(b"\nno 4 memory\nno 6 nostep\n");
+    assert!(rt; answered || refused);
+}
 
 /// To be run with each allocation refused in turn: then the image is refused, or one step, and nothing else changes.
 #[test]
