@@ -21,17 +21,22 @@ pub record TellsOf (history : List Past) (at : ℕ) (head : Head) : Type 0 where
   pub act : entry.act ≡ head.act
 
 -- the node's own event was made on the chip, and its entry added
-pub record IsMadeAlone (old : List Past) (chip : List NodeState) (node : NodeId) (stamp : ℕ) (kind : Kind) (new : List Past) (now : List NodeState) : Type 0 where
+pub record IsMadeAlone
+    (old : List Past) (chip : List NodeState) (node : NodeId) (stamp : ℕ) (kind : Kind) (new : List Past) (now : List NodeState)
+    : Type 0 where
   pub saved : List (Place × ℕ)
   pub applied : IsApplied chip (event.Own node) (effect.Own kind saved) now
   pub added : new ≡ old ++ past stamp (Alone kind) saved ∷ []
 
 -- the values of the last entry can be written back to node n
 abbrev pub CanGoBack : List Past → List NodeState → ℕ → Type 0
-CanGoBack history chip n = (front : List Past) (e : Past) → history ≡ front ++ e ∷ [] → CanRestore (node_at chip n) e.saved
+CanGoBack history chip n =
+    (front : List Past) (e : Past) → history ≡ front ++ e ∷ [] → CanRestore (node_at chip n) e.saved
 
 -- they were, and the entry is gone
-pub record IsGoneBack (old : List Past) (chip : List NodeState) (n : ℕ) (new : List Past) (now : List NodeState) (act : Act) : Type 0 where
+pub record IsGoneBack
+    (old : List Past) (chip : List NodeState) (n : ℕ) (new : List Past) (now : List NodeState) (act : Act)
+    : Type 0 where
   pub entry : Past
   pub last : old ≡ new ++ entry ∷ []
   pub part : entry.act ≡ act

@@ -8,15 +8,17 @@ use Rattle.ga_event.specs.Apply.{Told, Did, Carried}
 use Rattle.ga_event.specs.Undo.{IsApplied, told_of}
 use Rattle.ga_journal.specs.declared.made.Made.{Made}
 use Rattle.ga_journal.specs.declared.made.Made.TheVariants as made
-use Rattle.ga_journal.specs.Histories.{Past, Book, history, appended}
+use Rattle.ga_journal.specs.Histories.{Past, Book, history, appended, with_event}
 use Rattle.ga_journal.specs.Kept.{events_of}
 use Rattle.ga_journal.specs.Told.{made_after}
 
 -- The event was applied to the chip with some effect and appended to the kept events, and this is told of it.
-pub record IsMade (old : Book) (chip : List NodeState) (e : Event) (told : Made) (new : Book) (now : List NodeState) : Type 0 where
+pub record IsMade
+    (old : Book) (chip : List NodeState) (e : Event) (told : Made) (new : Book) (now : List NodeState)
+    : Type 0 where
   pub effect : Effect
   pub applied : IsApplied chip e effect now
-  pub book : new ≡ record old { histories = appended old.histories old.made e effect; made = old.made + 1; ready = new.ready }
+  pub book : new ≡ with_event old e effect new.ready
   pub told_is : made_after (events_of old) e (told_of effect) ≡ Some told
 
 -- what is told of an event by the lengths of the histories
@@ -28,7 +30,9 @@ made_over hs (event.Own node) (Carried word) = None
 made_over hs (event.Pass w r side) (Did kind) = None
 
 -- the same of the histories alone
-pub record IsAdded (hs : List (List Past)) (chip : List NodeState) (stamp : ℕ) (e : Event) (told : Made) (gs : List (List Past)) (now : List NodeState) : Type 0 where
+pub record IsAdded
+    (hs : List (List Past)) (chip : List NodeState) (stamp : ℕ) (e : Event) (told : Made) (gs : List (List Past)) (now : List NodeState)
+    : Type 0 where
   pub effect : Effect
   pub applied : IsApplied chip e effect now
   pub histories : gs ≡ appended hs stamp e effect

@@ -14,7 +14,9 @@ pub record Keeps (histories : List Held) (top made kept limit : ℕ) : Type 0 wh
   pub fits : limit < 2 ^ 32
 
 -- Besides, no more entries are to go than there are, and the entries of passes name each other.
-pub record IsJournal (histories : List Held) (top made kept limit : ℕ) (going : List ℕ) (waiting : List Bool) : Type 0 where
+pub record IsJournal
+    (histories : List Held) (top made kept limit : ℕ) (going : List ℕ) (waiting : List Bool)
+    : Type 0 where
   pub keeps : Keeps histories top made kept limit
   pub go_within : GoWithin (lists_of histories) going
   pub going_size : length going ≡ 144

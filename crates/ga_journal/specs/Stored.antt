@@ -35,7 +35,10 @@ past_in passes e = past e.stamp (act_in passes e.part e.pass) e.saved
 abbrev pub held_by : Vec Entry Global → Vec Pass Global → Held
 held_by entries passes = record {
   items = map (past_in passes.items) entries.items;
-  room = record { entry = nat_lt (vec_len entries) (vec_capacity entries); pass = nat_lt (vec_len passes) (vec_capacity passes) };
+  room = record {
+    entry = nat_lt (vec_len entries) (vec_capacity entries);
+    pass = nat_lt (vec_len passes) (vec_capacity passes);
+  };
 }
 
 -- how many passes an entry is of

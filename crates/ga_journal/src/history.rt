@@ -11,8 +11,8 @@ use ga_node::{Kind, NotReady, Saved};
 use std::alloc::Global;
 use std::marker::Model;
 
-/// The entries of one node, the oldest first. The passes among them stand in a list of their own, so that an own event takes
-/// no more memory than it has to.
+/// The entries of one node, the oldest first. The passes among them stand in a list of their own, so that an own event
+/// takes no more memory than it has to.
 #[derive(Drop)]
 pub(crate) struct History {
     entries: Vec<Entry>,
@@ -80,7 +80,8 @@ fn drop_pass(passes: &mut Vec<Pass>, part: Part)
 }
 
 impl History {
-    ghost use Rattle.std.specs.Prelude.{◌≡◌, ◌+◌, ◌<◌, ◌^◌, ◌++◌, ◌∷◌, [], IsTrue, IfOk, OnOk, OnErr, IfErr, IfSome, IfNone, length};
+    ghost use Rattle.std.specs.Prelude.{◌≡◌, ◌+◌, ◌<◌, ◌^◌, ◌++◌, ◌∷◌, [], length, IsTrue};
+    ghost use Rattle.std.specs.Prelude.{IfOk, OnOk, OnErr, IfErr, IfSome, IfNone};
     ghost use Rattle.ga_grid.specs.Chip.{records_of};
     ghost use Rattle.ga_event.specs.declared.event.Event.TheVariants as event;
     ghost use Rattle.ga_event.specs.Apply.{refusal_of, IsRefusedBy};
