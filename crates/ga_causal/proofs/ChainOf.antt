@@ -1,10 +1,10 @@
 -- The chain that is computed is the one that is found.
-use Rattle.std.proofs.Common.{◌≡◌, ℕ, zero, suc, ◌<◌, ◌≤◌, ◌≢◌, ◌==◌, ◌⊎◌, Bool, true, false, not, ◌&&◌, cond, List, [], ◌∷◌, ◌++◌, length, refl, sym, ◌∙◌, ap, subst, ⊎_elim, arith}
+use Rattle.std.proofs.Common.{◌≡◌, ℕ, zero, suc, ◌<◌, ◌≤◌, ◌≢◌, ◌==◌, Bool, true, false, not, cond, List, [], ◌∷◌, length, refl, sym, ap, subst, ⊎_elim, arith}
 use Rattle.std.specs.Prelude.{nat_lt, Option, Some, None, slice_index_or}
-use Rattle.std.proofs.lemmas.Bool.{cases_Bool, cases_lt, cases_eq, both_ways, cond-true, cond-false, eqb-true, ltb-true, ltb-false, le-ltb, lt-ltb, eq-eqb, ne_eqb, and_from, and_parts}
+use Rattle.std.proofs.lemmas.Bool.{cases_Bool, cases_lt, cases_eq, both_ways, cond-true, cond-false, le-ltb, lt-ltb, eq-eqb, ne_eqb, and_from, and_parts}
 use Rattle.ga_event.specs.declared.event.Event.{Event}
 use Rattle.ga_causal.specs.declared.chain.Link.{Link}
-use Rattle.ga_causal.specs.Dependence.{rule_between, event_at, dependents, IsDirect, DependsOn, itself, through}
+use Rattle.ga_causal.specs.Dependence.{rule_between, event_at, dependents, DependsOn, itself, through}
 use Rattle.ga_causal.specs.Chains.{IsOldest, IsChainTo, alone, longer, IsFound, leads_to, least_below, oldest_cause, links_to, chain_of}
 use Rattle.ga_causal.proofs.Exact.{meets_rule, why_dependent, DependsOn_from_flag, flag_from_DependsOn, Earlier}
 use Rattle.ga_causal.proofs.ChainLaws.{chain_one}

@@ -1,5 +1,5 @@
 -- The places of the steps.
-use Rattle.std.proofs.Common.{◌≡◌, ℕ, true, false, zero, suc, ◌+◌, ◌<◌, ◌≤◌, List, [], ◌∷◌, length, take, drop, refl, sym, ◌∙◌, ap, arith, get_or, subst, cond, Bool, ⊎_elim}
+use Rattle.std.proofs.Common.{◌≡◌, ℕ, true, false, zero, suc, ◌+◌, ◌<◌, ◌≤◌, List, [], ◌∷◌, ◌++◌, length, take, drop, refl, sym, ◌∙◌, ap, arith, get_or, subst, cond, Bool, ⊎_elim}
 use Rattle.std.proofs.Math.Seq.{drop-cons}
 use Rattle.std.specs.Prelude.{nat_lt, is_some, IsSome, ◌↔◌}
 use Rattle.std.proofs.lemmas.Bool.{cases_Bool, lt-ltb, le-ltb, ltb-true, cases_lt, both_ways}
@@ -9,9 +9,8 @@ use Rattle.std.proofs.lemmas.List.Sums.{sum_by-cons}
 use Rattle.std.specs.Prelude.{Option, Some, None, option_map}
 use Rattle.ga_event.specs.declared.event.Event.{Event}
 use Rattle.ga_event.specs.Touches.{touches}
-use Rattle.ga_causal.specs.Dependence.{event_at}
 use Rattle.ga_causal.specs.Steps.{touching, place_of, IsStep}
-use Rattle.ga_causal.proofs.Refusals.{place-first, place-touched, place-other, some-shift, Shifted, shifted_of}
+use Rattle.ga_causal.proofs.Refusals.{place-first, place-touched, place-other, some-shift, shifted_of}
 
 -- a place that stands so many later
 abbrev pub on_by : ℕ → Option ℕ → Option ℕ
@@ -73,7 +72,7 @@ touching_no n e es t = sum _ _ (touching-cons n e es) (ap (λ (z : Bool). cond {
     sum a b p q = omega arith
 
 -- a step stands up to the number of events that touch the node
-place_stands : (es : List Event) (n k : ℕ) → is_some (place_of es n (suc k)) ≡ nat_lt k (touching n es)
+pub place_stands : (es : List Event) (n k : ℕ) → is_some (place_of es n (suc k)) ≡ nat_lt k (touching n es)
 place_stands [] n k = sym (le-ltb k 0 (omega arith))
 place_stands (e ∷ es) n zero = ⊎_elim
     (λ t. ap is_some (place-first e es n t) ∙ sym (lt-ltb 0 (touching n (e ∷ es)) (let h = touching_yes n e es t in omega (arith, h))))
@@ -121,4 +120,31 @@ place_step (e ∷ es) n (suc (suc i)) place h = ⊎_elim
     subst (IsStep (e ∷ es) n (suc (suc i))) (sym s.shift) (step_later e es n (suc i) s.place t (place_step es n (suc i) s.place s.is)))
     (λ f. let s = shifted_of (place_of es n (suc (suc i))) place (sym (place-other e es n (suc i) f) ∙ h) in
     subst (IsStep (e ∷ es) n (suc (suc i))) (sym s.shift) (step_past e es n (suc (suc i)) s.place f (place_step es n (suc (suc i)) s.place s.is)))
+    (cases_Bool (touches e n))
+
+-- the place of a step in a list of two parts
+pub place_split : (n j : ℕ) (xs : List Event) (x : Event) (ys : List Event) → touching n xs ≡ j → touches x n ≡ true → place_of (xs ++ x ∷ ys) n (suc j) ≡ Some (length xs)
+place_split n zero [] x ys q t = place-first x ys n t
+place_split n (suc j) [] x ys q t = absurd (zero_suc j q)
+  where
+    zero_suc : (i : ℕ) → 0 ≡ suc i → ⊥
+    zero_suc i h = omega arith
+place_split n zero (e ∷ es) x ys q t = ⊎_elim
+    (λ yes. absurd (let a = touching_yes n e es yes in omega arith))
+    (λ no. place-other e (es ++ x ∷ ys) n 0 no ∙ ap (option_map suc) (place_split n zero es x ys (sym (touching_no n e es no) ∙ q) t))
+    (cases_Bool (touches e n))
+place_split n (suc j) (e ∷ es) x ys q t = ⊎_elim
+    (λ yes. place-touched e (es ++ x ∷ ys) n j yes ∙ ap (option_map suc) (place_split n j es x ys (let a = touching_yes n e es yes in omega arith) t))
+    (λ no. place-other e (es ++ x ∷ ys) n (suc j) no ∙ ap (option_map suc) (place_split n (suc j) es x ys (sym (touching_no n e es no) ∙ q) t))
+    (cases_Bool (touches e n))
+
+pub place_more : (n j : ℕ) (xs ys : List Event) → j < touching n xs → place_of (xs ++ ys) n (suc j) ≡ place_of xs n (suc j)
+place_more n j [] ys l = absurd (omega (arith, l))
+place_more n zero (e ∷ es) ys l = ⊎_elim
+    (λ yes. place-first e (es ++ ys) n yes ∙ sym (place-first e es n yes))
+    (λ no. place-other e (es ++ ys) n 0 no ∙ ap (option_map suc) (place_more n zero es ys (let a = touching_no n e es no in omega (arith, a, l))) ∙ sym (place-other e es n 0 no))
+    (cases_Bool (touches e n))
+place_more n (suc j) (e ∷ es) ys l = ⊎_elim
+    (λ yes. place-touched e (es ++ ys) n j yes ∙ ap (option_map suc) (place_more n j es ys (let a = touching_yes n e es yes in omega (arith, a, l))) ∙ sym (place-touched e es n j yes))
+    (λ no. place-other e (es ++ ys) n (suc j) no ∙ ap (option_map suc) (place_more n (suc j) es ys (let a = touching_no n e es no in omega (arith, a, l))) ∙ sym (place-other e es n (suc j) no))
     (cases_Bool (touches e n))

@@ -54,7 +54,7 @@ links_to zero events cause place = []
 links_to (suc most) events cause place =
     if place == cause then record { place = cause; rule = 0 } ∷ []
     else links_to most events cause (oldest_cause events cause place)
-        ++ record { place = place; rule = rule_between events (oldest_cause events cause place) place } ∷ []
+    ++ record { place = place; rule = rule_between events (oldest_cause events cause place) place } ∷ []
 
 -- the chain from the cause to a place, and none where that does not depend on it: the only answer that is found
 unfoldable pub chain_of : List Event → ℕ → ℕ → Option (List Link)

@@ -1,6 +1,6 @@
 //! The places of the steps in a list of events.
 
-ghost use Rattle.std.specs.Prelude.{◌≡◌, ◌<◌, ◌^◌, length};
+ghost use Rattle.std.specs.Prelude.{◌≡◌, ◌<◌, ◌^◌, length, IfSome};
 ghost use Rattle.ga_causal.specs.Steps.{place_of};
 
 use ga_event::{Event, touches};
@@ -9,7 +9,8 @@ use ga_grid::NodeId;
 /// The place of a node's step, which is the so many-th event that touches the node, counted from 1. None where there is none.
 pub fn place_of(events: &[Event], node: NodeId, step: u32) -> Option<u32>
     requires { length events.now < 2 ^ 32 }
-    ensures { result ≡ place_of events.now node.number step }
+    ensures value { result ≡ place_of events.now node.number step }
+    ensures within { IfSome result (λ place. place < length events.now) }
 {
     if step == 0 {
         return None;

@@ -1,6 +1,6 @@
 -- The lines that were heard so far, and what follows where the session ends.
 use Rattle.std.proofs.Common.{◌≡◌, ◌≢◌, ℕ, ◌+◌, ◌-◌, ◌<◌, ◌≤◌, ◌⊎◌, Bool, true, false, cond, List, [], ◌∷◌, ◌++◌, length, take, refl, sym, ap, ◌∙◌, subst, inl, inr, arith, append_assoc, length-append}
-use Rattle.std.specs.Prelude.{nat_le}
+use Rattle.std.specs.Prelude.{nat_le, Result, Ok, Err}
 use Rattle.std.specs.List.{AllByRecursion}
 use Rattle.std.proofs.lemmas.List.{append-nil, take_all}
 use Rattle.std.proofs.Math.Seq.{take-append_seam}
@@ -8,11 +8,13 @@ use Rattle.std.proofs.lemmas.Grind.{flat_map-append}
 use Rattle.std.proofs.lemmas.Bool.Decides.{nat_tests}
 use Rattle.ga_image.specs.Lines.{lines_of}
 use Rattle.ga_console.specs.Lines.{ended, text_of, ended_lines, HasNoFeed}
-use Rattle.ga_console.specs.Machine.{MachineState}
+use Rattle.ga_lab.specs.Machine.{State}
 use Rattle.ga_console.specs.Replies.{Answer, quit_line}
-use Rattle.ga_console.specs.Session.{Answers, HasNoQuit, heard_lines, HearsWholeLines, Serves, no_input}
+use Rattle.ga_console.specs.Session.{Answers, HasNoQuit, heard_lines, HearsWholeLines, QuitsAfter, Serves, ServesToEnd, ServesToQuit, ServesToBound, ServesToFault, ServesCut}
+use Rattle.ga_console.specs.Texts.{no_input}
 use Rattle.ga_console.specs.declared.commands.Ending.{Ending}
-use Rattle.ga_console.specs.declared.commands.Ending.TheVariants.{Ended, Quit, Past, ReadFailed, WriteFailed}
+use Rattle.ga_console.specs.declared.commands.Ending.TheVariants.{Ended, Quit, Past, ReadFailed}
+use Rattle.ga_console.specs.declared.output.WriteFailed.{WriteFailed}
 use Rattle.ga_console.proofs.TextLemmas.{lines_front, ended_front, lines_last, ended_whole, more_lines}
 
 text_push : (lines : List (List ℕ)) (line tail : List ℕ) → text_of lines ++ (line ++ 10 ∷ tail) ≡ text_of (lines ++ line ∷ []) ++ tail
@@ -25,26 +27,26 @@ all_push P [] line h p = (p, tt)
 all_push P (l ∷ ls) line h p = (h.0, all_push P ls line h.1 p)
 
 -- the answers so far, and the machine after them
-pub AnswersTo : MachineState → List (List ℕ) → List ℕ → MachineState → Type 0
+pub AnswersTo : State → List (List ℕ) → List ℕ → State → Type 0
 AnswersTo m [] text new = (text ≡ []) × (new ≡ m)
-AnswersTo m (line ∷ lines) text new = (answer : List ℕ) × (next : MachineState) × (more : List ℕ) × Answer m line answer next × AnswersTo next lines more new × (text ≡ answer ++ more)
+AnswersTo m (line ∷ lines) text new = (answer : List ℕ) × (next : State) × (more : List ℕ) × Answer m line answer next × AnswersTo next lines more new × (text ≡ answer ++ more)
 
-answers_from : (m : MachineState) (lines : List (List ℕ)) (text : List ℕ) (new : MachineState) → AnswersTo m lines text new → Answers m lines text
+answers_from : (m : State) (lines : List (List ℕ)) (text : List ℕ) (new : State) → AnswersTo m lines text new → Answers m lines text
 unfolding AnswersTo
 answers_from m [] text new h = h.0
 answers_from m (line ∷ lines) text new h = (h.0, h.1, h.2, h.3, answers_from h.1 lines h.2 new h.4, h.5)
 
-answers_push : (m : MachineState) (lines : List (List ℕ)) (text : List ℕ) (next : MachineState) (line answer : List ℕ) (new : MachineState)
+answers_push : (m : State) (lines : List (List ℕ)) (text : List ℕ) (next : State) (line answer : List ℕ) (new : State)
     → AnswersTo m lines text next → Answer next line answer new → AnswersTo m (lines ++ line ∷ []) (text ++ answer) new
 unfolding AnswersTo
 answers_push m [] text next line answer new h a =
-    let P : MachineState → Type 0 = λ s. Answer s line answer new in
+    let P : State → Type 0 = λ s. Answer s line answer new in
     (answer, new, [], subst P h.1 a, (refl, refl), ap (λ (t : List ℕ). t ++ answer) h.0 ∙ sym (append-nil answer))
 answers_push m (l ∷ ls) text next line answer new h a =
     (h.0, h.1, h.2 ++ answer, h.3, answers_push h.1 ls h.2 next line answer new h.4 a, ap (λ (t : List ℕ). t ++ answer) h.5 ∙ append_assoc h.0 h.2 answer)
 
 -- what was heard of the whole, and what is left of it
-pub record Heard (first : MachineState) (whole : List ℕ) (start : ℕ) (left : List ℕ) (taken : ℕ) (text : List ℕ) (m : MachineState) : Type 0 where
+pub record Heard (first : State) (whole : List ℕ) (start : ℕ) (left : List ℕ) (taken : ℕ) (text : List ℕ) (m : State) : Type 0 where
   pub lines : List (List ℕ)
   pub splits : whole ≡ text_of lines ++ left
   pub feeds : AllByRecursion HasNoFeed lines
@@ -52,7 +54,7 @@ pub record Heard (first : MachineState) (whole : List ℕ) (start : ℕ) (left :
   pub answers : AnswersTo first lines text m
   pub counts : taken ≡ start + length (text_of lines)
 
-pub heard_none : (m : MachineState) (whole : List ℕ) (start : ℕ) → Heard m whole start whole start [] m
+pub heard_none : (m : State) (whole : List ℕ) (start : ℕ) → Heard m whole start whole start [] m
 unfolding AnswersTo
 heard_none m whole start = record { lines = []; splits = refl; feeds = tt; no_quit = tt; answers = (refl, refl); counts = omega arith }
 
@@ -73,8 +75,7 @@ heard_over room read h = go (nat_le (length read) room) (le-false (length read) 
   go b e = rw e refl
 
 -- where a line `quit` was met, it stands behind the lines before it
-behind_quit : (read rest : List ℕ) (heard after : List (List ℕ))
-    → (ended_lines read ≡ heard ++ quit_line ∷ after) ⊎ ((rest ≡ []) × (lines_of read ≡ heard ++ quit_line ∷ []))
+behind_quit : (read rest : List ℕ) (heard after : List (List ℕ)) → QuitsAfter read rest heard after
     → (more : List (List ℕ)) × (lines_of read ≡ heard ++ more)
 behind_quit read rest heard after (inl e) =
     let more = more_lines read in (
@@ -84,26 +85,54 @@ behind_quit read rest heard after (inl e) =
 behind_quit read rest heard after (inr e) = (quit_line ∷ [], e.1)
 
 whole_quit : (room : ℕ) (read rest : List ℕ) (heard after : List (List ℕ)) → length read ≤ room
-    → (ended_lines read ≡ heard ++ quit_line ∷ after) ⊎ ((rest ≡ []) × (lines_of read ≡ heard ++ quit_line ∷ []))
-    → HearsWholeLines room read rest heard
+    → QuitsAfter read rest heard after → HearsWholeLines room read rest heard
 whole_quit room read rest heard after short (inl e) = inr (quit_line ∷ after, ap ended_lines (take_all room read short) ∙ e)
 whole_quit room read rest heard after short (inr e) = inl e.0
 
 -- Where a write failed at last, what was said stands in the script.
-pub cut_short : (room : ℕ) (m : MachineState) (read rest text : List ℕ) (ending : Ending) → Serves room m read rest text ending → Serves room m read rest text WriteFailed
-cut_short room m read rest text Ended s = (lines_of read, [], heard_within room read s.0 ∙ sym (append-nil (lines_of read)), s.2, inl s.3, inl s.1)
-cut_short room m read rest text Quit s =
-    let behind = behind_quit read rest s.1 s.2 s.5 in
-    (s.1, behind.0, heard_within room read s.0 ∙ behind.1, s.3, inl s.4, whole_quit room read rest s.1 s.2 s.0 s.5)
-cut_short room m read rest text Past s =
-    let long : room < length read = omega (arith, s.0) in
-    (ended_lines (take room read), [], heard_over room read long ∙ sym (append-nil (ended_lines (take room read))), s.1, inr (long, refl, s.2, s.3, s.4), inr ([], sym (append-nil (ended_lines (take room read)))))
-cut_short room m read rest text ReadFailed s =
+pub cut_short : (room : ℕ) (m : State) (read rest text : List ℕ) (ending : Result Ending WriteFailed)
+    → Serves room m read rest text ending → ServesCut room m read rest text
+cut_short room m read rest text (Ok Ended) s = record {
+  heard = lines_of read;
+  after = [];
+  front = heard_within room read s.within ∙ sym (append-nil (lines_of read));
+  no_quit = s.no_quit;
+  script = inl s.answers;
+  whole = inl s.at_end;
+}
+cut_short room m read rest text (Ok Quit) s =
+    let behind = behind_quit read rest s.heard s.after s.quits in
+    record {
+      heard = s.heard;
+      after = behind.0;
+      front = heard_within room read s.within ∙ behind.1;
+      no_quit = s.no_quit;
+      script = inl s.answers;
+      whole = whole_quit room read rest s.heard s.after s.within s.quits;
+    }
+cut_short room m read rest text (Ok Past) s =
+    let long : room < length read = omega (arith, s.over) in
+    record {
+      heard = ended_lines (take room read);
+      after = [];
+      front = heard_over room read long ∙ sym (append-nil (ended_lines (take room read)));
+      no_quit = s.no_quit;
+      script = inr (long, refl, s.said, s.answers, s.told);
+      whole = inr ([], sym (append-nil (ended_lines (take room read))));
+    }
+cut_short room m read rest text (Ok ReadFailed) s =
     let more = more_lines read in
-    (ended_lines read, more.more, heard_within room read s.0 ∙ more.same, s.1, inl s.2, inr ([], ap ended_lines (take_all room read s.0) ∙ sym (append-nil (ended_lines read))))
-cut_short room m read rest text WriteFailed s = s
+    record {
+      heard = ended_lines read;
+      after = more.more;
+      front = heard_within room read s.within ∙ more.same;
+      no_quit = s.no_quit;
+      script = inl s.answers;
+      whole = inr ([], ap ended_lines (take_all room read s.within) ∙ sym (append-nil (ended_lines read)));
+    }
+cut_short room m read rest text (Err failed) s = s
 
-module _ {first : MachineState} {whole : List ℕ} {start : ℕ} {left : List ℕ} {taken : ℕ} {text : List ℕ} {m : MachineState}
+module _ {first : State} {whole : List ℕ} {start : ℕ} {left : List ℕ} {taken : ℕ} {text : List ℕ} {m : State}
     (h : Heard first whole start left taken text m) where
   -- what was read, up to the end of these bytes
   pub read_to : List ℕ → List ℕ
@@ -118,7 +147,7 @@ module _ {first : MachineState} {whole : List ℕ} {start : ℕ} {left : List �
   length_to bytes = length-append (text_of h.lines) bytes
 
   -- one line more was heard
-  pub heard_push : (part more : List ℕ) (now : ℕ) (answer : List ℕ) (new : MachineState) → left ≡ part ++ 10 ∷ more → HasNoFeed part
+  pub heard_push : (part more : List ℕ) (now : ℕ) (answer : List ℕ) (new : State) → left ≡ part ++ 10 ∷ more → HasNoFeed part
       → now ≡ taken + length part + 1 → Answer m part answer new → part ≢ quit_line → Heard first whole start more now (text ++ answer) new
   heard_push part more now answer new e none counts a other = record {
     lines = h.lines ++ part ∷ [];
@@ -130,65 +159,78 @@ module _ {first : MachineState} {whole : List ℕ} {start : ℕ} {left : List �
   }
 
   -- A write failed: the lines heard were answered.
-  pub heard_cut : (bytes rest : List ℕ) → taken + length bytes ≤ 16777216 → Serves (16777216 - start) first (read_to bytes) rest text WriteFailed
+  pub heard_cut : (bytes rest : List ℕ) → taken + length bytes ≤ 16777216 → ServesCut (16777216 - start) first (read_to bytes) rest text
   unfolding read_to
-  heard_cut bytes rest within = (
-    h.lines,
-    lines_of bytes,
-    heard_within (16777216 - start) (read_to bytes) (omega (arith, length_to bytes, h.counts)) ∙ lines_front h.lines bytes h.feeds,
-    h.no_quit,
-    inl (answers_from first h.lines text m h.answers),
-    inr (ended_lines bytes, ap ended_lines (take_all (16777216 - start) (read_to bytes) (omega (arith, within, length_to bytes, h.counts))) ∙ ended_front h.lines bytes h.feeds),
-  )
+  heard_cut bytes rest within =
+      let short : length (read_to bytes) ≤ 16777216 - start = omega (arith, within, length_to bytes, h.counts) in
+      record {
+        heard = h.lines;
+        after = lines_of bytes;
+        front = heard_within (16777216 - start) (read_to bytes) short ∙ lines_front h.lines bytes h.feeds;
+        no_quit = h.no_quit;
+        script = inl (answers_from first h.lines text m h.answers);
+        whole = inr (ended_lines bytes, ap ended_lines (take_all (16777216 - start) (read_to bytes) short) ∙ ended_front h.lines bytes h.feeds);
+      }
 
   -- a read failed
-  pub heard_failed : (part rest : List ℕ) → HasNoFeed part → taken + length part ≤ 16777216 → Serves (16777216 - start) first (read_to part) rest text ReadFailed
+  pub heard_failed : (part rest : List ℕ) → HasNoFeed part → taken + length part ≤ 16777216 → ServesToFault (16777216 - start) first (read_to part) rest text
   unfolding read_to
-  heard_failed part rest none within =
+  heard_failed part rest none short =
       let same : h.lines ≡ ended_lines (read_to part) = sym (ended_whole h.lines part h.feeds none) in
       let P : List (List ℕ) → Type 0 = λ ls. HasNoQuit ls in
       let Q : List (List ℕ) → Type 0 = λ ls. Answers first ls text in
-      (omega (arith, length_to part, h.counts), subst P same h.no_quit, subst Q same (answers_from first h.lines text m h.answers))
+      record {
+        within = omega (arith, short, length_to part, h.counts);
+        no_quit = subst P same h.no_quit;
+        answers = subst Q same (answers_from first h.lines text m h.answers);
+      }
 
   -- the input ended behind the last line feed
-  pub heard_ended : (part rest : List ℕ) → part ≡ [] → rest ≡ [] → taken + length part ≤ 16777216 → Serves (16777216 - start) first (read_to part) rest text Ended
+  pub heard_ended : (part rest : List ℕ) → part ≡ [] → rest ≡ [] → taken + length part ≤ 16777216 → ServesToEnd (16777216 - start) first (read_to part) rest text
   unfolding read_to
-  heard_ended part rest none nothing within =
+  heard_ended part rest none nothing short =
       let same : h.lines ≡ lines_of (read_to part) =
       sym (ap (λ (p : List ℕ). lines_of (text_of h.lines ++ p)) none ∙ lines_front h.lines [] h.feeds ∙ append-nil h.lines) in
       let P : List (List ℕ) → Type 0 = λ ls. HasNoQuit ls in
       let Q : List (List ℕ) → Type 0 = λ ls. Answers first ls text in
-      (omega (arith, length_to part, h.counts), nothing, subst P same h.no_quit, subst Q same (answers_from first h.lines text m h.answers))
+      record {
+        within = omega (arith, short, length_to part, h.counts);
+        at_end = nothing;
+        no_quit = subst P same h.no_quit;
+        answers = subst Q same (answers_from first h.lines text m h.answers);
+      }
 
   lines_to : (part : List ℕ) → HasNoFeed part → 0 < length part → h.lines ++ part ∷ [] ≡ lines_of (read_to part)
   unfolding read_to
   lines_to part none some = sym (lines_front h.lines part h.feeds ∙ ap (λ (ls : List (List ℕ)). h.lines ++ ls) (lines_last part none some))
 
   -- the last line had no line feed
-  pub heard_last : (part rest answer : List ℕ) (new : MachineState) → HasNoFeed part → 0 < length part → rest ≡ [] → taken + length part ≤ 16777216
-      → Answer m part answer new → part ≢ quit_line → Serves (16777216 - start) first (read_to part) rest (text ++ answer) Ended
-  heard_last part rest answer new none some nothing within a other =
+  pub heard_last : (part rest answer : List ℕ) (new : State) → HasNoFeed part → 0 < length part → rest ≡ [] → taken + length part ≤ 16777216
+      → Answer m part answer new → part ≢ quit_line → ServesToEnd (16777216 - start) first (read_to part) rest (text ++ answer)
+  heard_last part rest answer new none some nothing short a other =
       let same = lines_to part none some in
       let P : List (List ℕ) → Type 0 = λ ls. HasNoQuit ls in
-      let Q : List (List ℕ) → Type 0 = λ ls. Answers first ls (text ++ answer) in (
-        omega (arith, length_to part, h.counts),
-        nothing,
-        subst P same (all_push (λ l. l ≢ quit_line) h.lines part h.no_quit other),
-        subst Q same (answers_from first (h.lines ++ part ∷ []) (text ++ answer) new (answers_push first h.lines text m part answer new h.answers a)),
-      )
+      let Q : List (List ℕ) → Type 0 = λ ls. Answers first ls (text ++ answer) in
+      record {
+        within = omega (arith, short, length_to part, h.counts);
+        at_end = nothing;
+        no_quit = subst P same (all_push (λ l. l ≢ quit_line) h.lines part h.no_quit other);
+        answers = subst Q same (answers_from first (h.lines ++ part ∷ []) (text ++ answer) new (answers_push first h.lines text m part answer new h.answers a));
+      }
 
   -- and was quit
   pub heard_quit_last : (part rest : List ℕ) → HasNoFeed part → part ≡ quit_line → rest ≡ [] → taken + length part ≤ 16777216
-      → Serves (16777216 - start) first (read_to part) rest text Quit
-  heard_quit_last part rest none quit nothing within =
-      let some : 0 < length part = omega (arith, ap length quit) in (
-        omega (arith, length_to part, h.counts),
-        h.lines,
-        [],
-        h.no_quit,
-        answers_from first h.lines text m h.answers,
-        inr (nothing, sym (lines_to part none some) ∙ ap (λ (l : List ℕ). h.lines ++ l ∷ []) quit),
-      )
+      → ServesToQuit (16777216 - start) first (read_to part) rest text
+  heard_quit_last part rest none quit nothing short =
+      let some : 0 < length part = omega (arith, ap length quit) in
+      record {
+        within = omega (arith, short, length_to part, h.counts);
+        heard = h.lines;
+        after = [];
+        no_quit = h.no_quit;
+        answers = answers_from first h.lines text m h.answers;
+        quits = inr (nothing, sym (lines_to part none some) ∙ ap (λ (l : List ℕ). h.lines ++ l ∷ []) quit);
+      }
 
   -- a line was quit, and bytes behind it were read
   pub read_past : List ℕ → List ℕ → List ℕ
@@ -204,17 +246,17 @@ module _ {first : MachineState} {whole : List ℕ} {start : ℕ} {left : List �
   length_past part bytes = omega (arith, ap length (text_push h.lines part bytes), length-append (text_of h.lines) (part ++ 10 ∷ bytes), length-append part (10 ∷ bytes))
 
   pub heard_quit : (part bytes rest : List ℕ) (now : ℕ) → HasNoFeed part → part ≡ quit_line → now ≡ taken + length part + 1 → now + length bytes ≤ 16777216
-      → Serves (16777216 - start) first (read_past part bytes) rest text Quit
+      → ServesToQuit (16777216 - start) first (read_past part bytes) rest text
   unfolding read_past
-  heard_quit part bytes rest now none quit counts within = (
-    omega (arith, length_past part bytes, h.counts),
-    h.lines,
-    ended_lines bytes,
-    h.no_quit,
-    answers_from first h.lines text m h.answers,
-    inl (ended_front (h.lines ++ part ∷ []) bytes (all_push HasNoFeed h.lines part h.feeds none) ∙ append_assoc h.lines (part ∷ []) (ended_lines bytes)
-        ∙ ap (λ (l : List ℕ). h.lines ++ l ∷ ended_lines bytes) quit),
-  )
+  heard_quit part bytes rest now none quit counts short = record {
+    within = omega (arith, short, counts, length_past part bytes, h.counts);
+    heard = h.lines;
+    after = ended_lines bytes;
+    no_quit = h.no_quit;
+    answers = answers_from first h.lines text m h.answers;
+    quits = inl (ended_front (h.lines ++ part ∷ []) bytes (all_push HasNoFeed h.lines part h.feeds none) ∙ append_assoc h.lines (part ∷ []) (ended_lines bytes)
+        ∙ ap (λ (l : List ℕ). h.lines ++ l ∷ ended_lines bytes) quit);
+  }
 
   -- the input goes past its bound
   pub read_over : List ℕ → ℕ → List ℕ
@@ -225,7 +267,7 @@ module _ {first : MachineState} {whole : List ℕ} {start : ℕ} {left : List �
   split_over part b rest e = split_at part (b ∷ rest) e ∙ sym (append_assoc (read_to part) (b ∷ []) rest)
 
   pub heard_past : (part : List ℕ) (b : ℕ) (rest : List ℕ) (now : ℕ) → HasNoFeed part → now ≡ taken + length part → now ≡ 16777216
-      → Serves (16777216 - start) first (read_over part b) rest (text ++ no_input) Past
+      → ServesToBound (16777216 - start) first (read_over part b) rest (text ++ no_input)
   unfolding read_over read_to
   heard_past part b rest now none counts full =
       let room : 16777216 - start ≡ length (read_to part) = omega (arith, length_to part, h.counts) in
@@ -233,10 +275,11 @@ module _ {first : MachineState} {whole : List ℕ} {start : ℕ} {left : List �
       sym (ap (λ (n : ℕ). ended_lines (take n (read_to part ++ b ∷ []))) room
       ∙ ap ended_lines (take-append_seam (read_to part) (b ∷ [])) ∙ ended_whole h.lines part h.feeds none) in
       let P : List (List ℕ) → Type 0 = λ ls. HasNoQuit ls in
-      let Q : List (List ℕ) → Type 0 = λ ls. Answers first ls text in (
-        omega (arith, length-append (read_to part) (b ∷ []), room),
-        subst P same h.no_quit,
-        text,
-        subst Q same (answers_from first h.lines text m h.answers),
-        refl,
-      )
+      let Q : List (List ℕ) → Type 0 = λ ls. Answers first ls text in
+      record {
+        over = omega (arith, length-append (read_to part) (b ∷ []), room);
+        no_quit = subst P same h.no_quit;
+        said = text;
+        answers = subst Q same (answers_from first h.lines text m h.answers);
+        told = refl;
+      }

@@ -3,9 +3,12 @@ pub mod SaidLemmas
 pub mod PartLemmas
 pub mod LineLemmas
 pub mod ImageLemmas
-pub mod JournalLemmas
-pub mod AnswerLemmas
-pub mod PushLemmas
+pub mod Pieces
 pub mod TextLemmas
+pub mod Taking
+pub mod Cuts
+pub mod Spelled
+pub mod ReplyLemmas
+pub mod ListedLemmas
 pub mod Heard
 pub mod RunLemmas

@@ -1,16 +1,17 @@
 -- From the parts of a session to the whole.
-use Rattle.std.proofs.Common.{◌≡◌, ℕ, ◌-◌, inl, inr, Bool, true, false, List, [], ◌∷◌, ◌++◌, length, Option, Some, refl, sym, ap, ◌∙◌, subst, arith}
+use Rattle.std.proofs.Common.{◌≡◌, ℕ, ◌-◌, ◌<◌, inl, inr, List, [], ◌∷◌, ◌++◌, length, Option, Some, refl, sym, ap, ◌∙◌, subst, arith, Result, Ok, Err}
 use Rattle.std.proofs.lemmas.List.{append-nil}
+use Rattle.ga_image.proofs.Sizes.{short_image}
 use Rattle.ga_image.specs.declared.fault.ImageFault.{ImageFault}
 use Rattle.ga_console.specs.Input.{input_limit}
 use Rattle.ga_console.specs.Image.{HasNoEnd}
-use Rattle.ga_console.specs.Output.{IsSaid, IsSaidOrCut, ready}
-use Rattle.ga_console.specs.Machine.{MachineState}
-use Rattle.ga_console.specs.Session.{Serves, Written, no_input}
-use Rattle.ga_console.specs.Run.{Runs, Served, Refused, Refuses, Opens, IsFault, AfterImage, AfterAll, IsPast, IsImagePart, status_of}
+use Rattle.ga_console.specs.Output.{IsSaid, ready}
+use Rattle.ga_lab.specs.Machine.{State}
+use Rattle.ga_console.specs.Session.{Serves, Written}
+use Rattle.ga_console.specs.Run.{Runs, Served, Refused, Refuses, Opens, IsFault, AfterImage, IsImagePart, status_of}
 use Rattle.ga_console.specs.declared.commands.Ending.{Ending}
-use Rattle.ga_console.specs.declared.commands.Ending.TheVariants.{Ended, Quit, Past, ReadFailed, WriteFailed}
-use Rattle.ga_console.proofs.Heard.{cut_short}
+use Rattle.ga_console.specs.declared.commands.Ending.TheVariants.{Ended, Quit, Past, ReadFailed}
+use Rattle.ga_console.specs.declared.output.WriteFailed.{WriteFailed}
 use Rattle.ga_console.specs.declared.run.Status.{Status}
 use Rattle.ga_console.specs.declared.run.Status.TheVariants.{Done, ImageRefused, StreamFault, NotFinished}
 
@@ -22,20 +23,20 @@ said_fresh contents before text pending e p = record { sent = []; held = e ∙ a
 pub all_sent : (contents : Option (List ℕ)) (before text : List ℕ) (h : IsSaid contents before text []) → h.sent ≡ text
 all_sent contents before text h = sym (h.splits ∙ append-nil h.sent)
 
-pub runs_served : (limit : ℕ) (read rest text : List ℕ) (ending : Ending) (status : Status) → status ≡ status_of ending
+pub runs_served : (limit : ℕ) (read rest text : List ℕ) (ending : Result Ending WriteFailed) (status : Status) → status ≡ status_of ending
     → Served limit read rest text ending → Runs limit read rest text status
 runs_served limit read rest text ending Done e s = (ending, sym e, s)
-runs_served limit read rest text Ended ImageRefused e s = cc
-runs_served limit read rest text Quit ImageRefused e s = cc
-runs_served limit read rest text Past ImageRefused e s = cc
-runs_served limit read rest text ReadFailed ImageRefused e s = cc
-runs_served limit read rest text WriteFailed ImageRefused e s = cc
+runs_served limit read rest text (Ok Ended) ImageRefused e s = cc
+runs_served limit read rest text (Ok Quit) ImageRefused e s = cc
+runs_served limit read rest text (Ok Past) ImageRefused e s = cc
+runs_served limit read rest text (Ok ReadFailed) ImageRefused e s = cc
+runs_served limit read rest text (Err failed) ImageRefused e s = cc
 runs_served limit read rest text ending StreamFault e s = inl (ending, sym e, s)
-runs_served limit read rest text Ended NotFinished e s = cc
-runs_served limit read rest text Quit NotFinished e s = cc
-runs_served limit read rest text Past NotFinished e s = cc
-runs_served limit read rest text ReadFailed NotFinished e s = cc
-runs_served limit read rest text WriteFailed NotFinished e s = cc
+runs_served limit read rest text (Ok Ended) NotFinished e s = cc
+runs_served limit read rest text (Ok Quit) NotFinished e s = cc
+runs_served limit read rest text (Ok Past) NotFinished e s = cc
+runs_served limit read rest text (Ok ReadFailed) NotFinished e s = cc
+runs_served limit read rest text (Err failed) NotFinished e s = cc
 
 pub runs_refused : (limit : ℕ) (read rest text : List ℕ) (fault : ImageFault) (status : Status) → Refused read rest fault → Refuses fault text status
     → Runs limit read rest text status
@@ -48,11 +49,11 @@ refused_in : (image commands rest : List ℕ) (fault : ImageFault) → IsImagePa
 refused_in image commands rest fault part (inl e) = inl e
 refused_in image commands rest fault part (inr e) = inr (record { image = image; commands = commands; splits = refl; part = part; first = e })
 
-served_in : (limit : ℕ) (image commands rest said text : List ℕ) (machine : MachineState) (ending : Ending) → IsImagePart image commands rest
+served_in : (limit : ℕ) (image commands rest said text : List ℕ) (machine : State) (ending : Result Ending WriteFailed) → IsImagePart image commands rest
     → Opens image limit machine → Serves (input_limit - length image) machine commands rest said ending → Written ending (ready ++ said) text
     → Served limit (image ++ commands) rest text ending
 served_in limit image commands rest said text machine ending part opens serves written =
-    let P : MachineState → Type 0 = λ m. Serves (input_limit - length image) m commands rest said ending in
+    let P : State → Type 0 = λ m. Serves (input_limit - length image) m commands rest said ending in
     record {
       image = image;
       commands = commands;
@@ -75,35 +76,14 @@ runs_after limit taken image commands rest text status e part (inl a) =
 runs_after limit taken image commands rest text status e part (inr a) =
     runs_refused limit (image ++ commands) rest text a.0 status (refused_in image commands rest a.0 part a.1) a.2
 
--- with no room left for a command
-no_room : (m : MachineState) (b : ℕ) (rest : List ℕ) → Serves 0 m (b ∷ []) rest no_input Past
-no_room m b rest = (omega arith, tt, [], refl, refl)
-
-no_room_by : (m : MachineState) (b : ℕ) (rest : List ℕ) (ending : Ending) → IsPast ending → Serves 0 m (b ∷ []) rest no_input ending
-no_room_by m b rest ending (inl e) = let P : Ending → Type 0 = λ x. Serves 0 m (b ∷ []) rest no_input x in subst P (sym e) (no_room m b rest)
-no_room_by m b rest ending (inr e) =
-    let P : Ending → Type 0 = λ x. Serves 0 m (b ∷ []) rest no_input x in subst P (sym e) (cut_short 0 m (b ∷ []) rest no_input Past (no_room m b rest))
-
-serves_past : (room : ℕ) (m : MachineState) (b : ℕ) (rest : List ℕ) (ending : Ending) → room ≡ 0 → IsPast ending → Serves room m (b ∷ []) rest no_input ending
-serves_past room m b rest ending e p =
-    let Q : ℕ → Type 0 = λ n. Serves n m (b ∷ []) rest no_input ending in subst Q (sym e) (no_room_by m b rest ending p)
-
-pub runs_all : (limit : ℕ) (image rest text : List ℕ) (b : ℕ) (status : Status) → length image ≡ input_limit → HasNoEnd image
-    → AfterAll limit image text status → Runs limit (image ++ b ∷ []) rest text status
-runs_all limit image rest text b status full none (inl a) =
-    let room : input_limit - length image ≡ 0 = omega arith in
-    runs_served limit (image ++ b ∷ []) rest text a.2 status a.3
-    (served_in limit image (b ∷ []) rest no_input text a.0 a.2 (inr (inr (full, none))) a.1 (serves_past (input_limit - length image) a.0 b rest a.2 room a.4) a.5)
-runs_all limit image rest text b status full none (inr a) =
-    runs_refused limit (image ++ b ∷ []) rest text a.0 status (refused_in image (b ∷ []) rest a.0 (inr (inr (full, none))) a.1) a.2
+-- No image that is accepted reaches the bound of the input.
+pub runs_full : (limit taken : ℕ) (image read commands rest text : List ℕ) (status : Status) → length image ≡ input_limit → HasNoEnd image
+    → AfterImage limit image taken read rest text status → Runs limit (image ++ commands) rest text status
+runs_full limit taken image read commands rest text status full none (inl a) =
+    absurd (let short : length image < 16777216 = short_image image a.1.0 a.1.1 in omega arith)
+runs_full limit taken image read commands rest text status full none (inr a) =
+    runs_refused limit (image ++ commands) rest text a.0 status (refused_in image commands rest a.0 (inr (inr (full, none))) a.1) a.2
 
 pub nothing_left : (xs ys : List ℕ) → [] ≡ xs ++ ys → (xs ≡ []) × (ys ≡ [])
 nothing_left [] ys e = (refl, sym e)
 nothing_left (x ∷ xs) ys e = cc
-
--- that the input goes past its bound, said or not
-pub past_written : (good : Bool) (contents : Option (List ℕ)) (before : List ℕ) → IsSaidOrCut good contents before (ready ++ no_input) []
-    → (ending : Ending) × IsPast ending × (StreamFault ≡ status_of ending)
-    × (sent : List ℕ) × (contents ≡ Some (before ++ sent)) × Written ending (ready ++ no_input) sent
-past_written true contents before h = (Past, inl refl, refl, h.sent, h.held, all_sent contents before (ready ++ no_input) h)
-past_written false contents before h = (WriteFailed, inr refl, refl, h.sent, h.held, h.front)

@@ -1,8 +1,10 @@
 -- What was said stays said, whatever of it is written.
-use Rattle.std.proofs.Common.{◌≡◌, ℕ, Bool, true, false, List, [], ◌++◌, Option, Some, sym, ap, ◌∙◌, append_assoc}
+use Rattle.std.proofs.Common.{◌≡◌, ℕ, List, [], ◌++◌, Option, Some, Result, Ok, Err, sym, ap, ◌∙◌, subst, append_assoc, rules}
+use Rattle.std.specs.Result.{IsErr}
 use Rattle.std.proofs.lemmas.List.{append-nil}
 use Rattle.std.specs.Io.KnownBytes.{Appends, Keeps}
 use Rattle.ga_console.specs.Output.{IsSaid, IsCut, IsSaidOrCut}
+use Rattle.ga_console.specs.declared.output.WriteFailed.{WriteFailed}
 use Rattle.ga_console.proofs.KnownBytes.{appends_known, keeps_known}
 
 pub said_cut : (contents : Option (List ℕ)) (before said pending : List ℕ) → IsSaid contents before said pending → IsCut contents before said
@@ -42,11 +44,6 @@ said_same contents before said pending other e h = record {
   splits = h.splits ∙ ap (λ (t : List ℕ). h.sent ++ t) e;
 }
 
--- whichever way the last step went
-pub said_or_cut : (good : Bool) (contents : Option (List ℕ)) (before said pending : List ℕ) → IsSaid contents before said pending → IsSaidOrCut good contents before said pending
-said_or_cut true contents before said pending h = h
-said_or_cut false contents before said pending h = said_cut contents before said pending h
-
 pub said_assoc : (contents : Option (List ℕ)) (before said text more pending : List ℕ) → IsSaid contents before ((said ++ text) ++ more) pending
     → IsSaid contents before (said ++ (text ++ more)) pending
 said_assoc contents before said text more pending h = record { sent = h.sent; held = h.held; splits = sym (append_assoc said text more) ∙ h.splits }
@@ -58,3 +55,53 @@ cut_assoc contents before said text more h = record { sent = h.sent; held = h.he
 -- nothing more was said
 pub said_pending : (contents : Option (List ℕ)) (before said pending : List ℕ) → IsSaid contents before said pending → IsSaid contents before (said ++ []) pending
 said_pending contents before said pending h = record { sent = h.sent; held = h.held; splits = append-nil said ∙ h.splits }
+
+-- whichever way the last write went
+pub either_assoc : {T : Type 0} (result : Result T WriteFailed) (contents : Option (List ℕ)) (before said text more pending : List ℕ)
+    → IsSaidOrCut result contents before ((said ++ text) ++ more) pending → IsSaidOrCut result contents before (said ++ (text ++ more)) pending
+either_assoc (Ok done) contents before said text more pending h = said_assoc contents before said text more pending h
+either_assoc (Err failed) contents before said text more pending h = cut_assoc contents before said text more h
+
+-- what holds at each error holds at a result that is one
+pub at_err : {T : Type 0} (P : Result T WriteFailed → Type 0) (result : Result T WriteFailed) → IsErr result → ((why : WriteFailed) → P (Err why)) → P result
+at_err P (Ok done) is h = absurd (search rules)
+at_err P (Err why) is h = h why
+
+pub cut_here : {T : Type 0} (result : Result T WriteFailed) (contents : Option (List ℕ)) (before said pending : List ℕ) → IsErr result
+    → IsCut contents before said → IsSaidOrCut result contents before said pending
+cut_here (Ok done) contents before said pending is h = absurd (search rules)
+cut_here (Err why) contents before said pending is h = h
+
+-- a text that is equal
+pub either_same : {T : Type 0} (result : Result T WriteFailed) (contents : Option (List ℕ)) (before said text other pending : List ℕ) → text ≡ other
+    → IsSaidOrCut result contents before (said ++ text) pending → IsSaidOrCut result contents before (said ++ other) pending
+either_same result contents before said text other pending e h =
+    let P : List ℕ → Type 0 = λ t. IsSaidOrCut result contents before (said ++ t) pending in subst P e h
+
+-- where the text is empty
+pub said_nothing : (contents : Option (List ℕ)) (before said text pending : List ℕ) → text ≡ [] → IsSaid contents before (said ++ text) pending
+    → IsSaid contents before said pending
+said_nothing contents before said text pending e h = record {
+  sent = h.sent;
+  held = h.held;
+  splits = sym (append-nil said) ∙ ap (λ (t : List ℕ). said ++ t) (sym e) ∙ h.splits;
+}
+
+-- the same of a text that was said
+pub said_as : (contents : Option (List ℕ)) (before said text other pending : List ℕ) → text ≡ other → IsSaid contents before (said ++ text) pending
+    → IsSaid contents before (said ++ other) pending
+said_as contents before said text other pending e h =
+    let P : List ℕ → Type 0 = λ t. IsSaid contents before (said ++ t) pending in subst P e h
+
+-- a front of a text was said
+pub cut_within : (contents : Option (List ℕ)) (before said text more whole : List ℕ) → text ++ more ≡ whole → IsCut contents before (said ++ text)
+    → IsCut contents before (said ++ whole)
+cut_within contents before said text more whole e h = record {
+  sent = h.sent;
+  held = h.held;
+  front = (
+    h.front.0 ++ more,
+    ap (λ (t : List ℕ). said ++ t) (sym e) ∙ sym (append_assoc said text more) ∙ ap (λ (t : List ℕ). t ++ more) h.front.1
+        ∙ append_assoc h.sent h.front.0 more,
+  );
+}

@@ -1,15 +1,34 @@
--- The commands, and which line spells which.
-use Rattle.std.specs.Prelude.{ℕ, List, ◌++◌, codes}
-use Rattle.ga_console.specs.Texts.{three_digits}
+-- The commands, and which line spells which: words with one space between two of them.
+use Rattle.std.specs.Prelude.{◌≡◌, ℕ, ◌^◌, ◌<◌, List, [], ◌∷◌, ◌++◌, codes, decimal}
+use Rattle.std.specs.Str.{str_to_ascii_lowercase}
+use Rattle.ga_image.specs.Spelling.{hex2_of}
+use Rattle.ga_console.specs.Texts.{name_of}
 use Rattle.ga_console.specs.declared.command.Command.{Command}
-use Rattle.ga_console.specs.declared.command.Command.TheVariants.{Step, Back, Node, Quit}
+use Rattle.ga_console.specs.declared.command.Command.TheVariants.{Step, Back, Rewind, Node, Memory, Trace, Why, Count, Quit}
 
--- The node that is served, named by its row and column.
-abbrev pub served : ℕ
-served = 0
+-- the numbers of steps that can be named
+abbrev pub IsNumber : ℕ → Type 0
+IsNumber k = k < 2 ^ 32
 
-abbrev pub spelling : Command → List ℕ
-spelling Step = codes "step " ++ three_digits served
-spelling Back = codes "back"
-spelling Node = codes "node " ++ three_digits served
-spelling Quit = codes "quit"
+-- an address has two hexadecimal digits, of either case
+pub record SpellsAddress (address : ℕ) (word : List ℕ) : Type 0 where
+  pub in_range : address < 256
+  pub digits : str_to_ascii_lowercase word ≡ hex2_of address
+
+-- words with one space between two of them
+abbrev pub spaced : List (List ℕ) → List ℕ
+spaced [] = []
+spaced (word ∷ []) = word
+spaced (word ∷ more) = word ++ 32 ∷ spaced more
+
+-- the line spells the command; numbers are decimal, without leading zeros
+abbrev pub Spells : Command → List ℕ → Type 0
+Spells (Step node) line = line ≡ spaced (codes "step" ∷ name_of node ∷ [])
+Spells Back line = line ≡ codes "back"
+Spells (Rewind node k) line = IsNumber k × (line ≡ spaced (codes "rewind" ∷ name_of node ∷ decimal k ∷ []))
+Spells (Node node) line = line ≡ spaced (codes "node" ∷ name_of node ∷ [])
+Spells (Memory node address) line = (word : List ℕ) × SpellsAddress address word × (line ≡ spaced (codes "mem" ∷ name_of node ∷ word ∷ []))
+Spells (Trace node) line = line ≡ spaced (codes "trace" ∷ name_of node ∷ [])
+Spells (Why from k to j) line = IsNumber k × IsNumber j × (line ≡ spaced (codes "why" ∷ name_of from ∷ decimal k ∷ name_of to ∷ decimal j ∷ []))
+Spells Count line = line ≡ codes "count"
+Spells Quit line = line ≡ codes "quit"

@@ -33,9 +33,20 @@ abbrev pub with_feed : List ℕ → Bool → List ℕ
 with_feed part true = ended part
 with_feed part false = part
 
+-- so much was taken: the text, with left before it and more behind it
+pub record TakesText (old : Unread) (left text : List ℕ) (new : Unread) (more : List ℕ) : Type 0 where
+  pub splits : old.bytes ++ left ≡ text ++ more
+  pub counts : new.taken ≡ old.taken + length text
+
+-- the byte past the bound was read
+pub record TakesPast (old : Unread) (left text : List ℕ) (new : Unread) (rest : List ℕ) : Type 0 where
+  pub byte : ℕ
+  pub takes : TakesText old left text new (byte ∷ rest)
+  pub full : new.taken ≡ input_limit
+
 -- What a call that reads the image may do: left is what the reader has left before it, rest what it has left afterwards.
 abbrev pub ReadsImage : Unread → List ℕ → List ℕ → Unread → List ℕ → ImageEnd → Type 0
-ReadsImage old left text new rest EndLine = (old.bytes ++ left ≡ text ++ (new.bytes ++ rest)) × EndsAtEnd text × (new.taken ≡ old.taken + length text)
-ReadsImage old left text new rest Ended = (old.bytes ++ left ≡ text) × HasNoEnd text × (new.taken ≡ old.taken + length text) × (new.bytes ≡ []) × (rest ≡ [])
-ReadsImage old left text new rest Past = ((b : ℕ) × (old.bytes ++ left ≡ text ++ b ∷ rest)) × HasNoEnd text × (new.taken ≡ old.taken + length text) × (new.taken ≡ input_limit) × (new.bytes ≡ [])
-ReadsImage old left text new rest Failed = (old.bytes ++ left ≡ text ++ rest) × HasNoEnd text
+ReadsImage old left text new rest EndLine = EndsAtEnd text × TakesText old left text new (new.bytes ++ rest)
+ReadsImage old left text new rest Ended = HasNoEnd text × TakesText old left text new [] × (new.bytes ≡ []) × (rest ≡ [])
+ReadsImage old left text new rest Past = HasNoEnd text × TakesPast old left text new rest × (new.bytes ≡ [])
+ReadsImage old left text new rest Failed = HasNoEnd text × (old.bytes ++ left ≡ text ++ rest)

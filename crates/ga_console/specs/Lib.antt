@@ -3,9 +3,8 @@ pub mod Input
 pub mod Output
 pub mod ReadLine
 pub mod Image
-pub mod Machine
-pub mod Journal
 pub mod Texts
+pub mod Parsing
 pub mod Commands
 pub mod Replies
 pub mod Session

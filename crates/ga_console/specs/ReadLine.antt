@@ -1,10 +1,10 @@
 -- What the reading of one line does.
-use Rattle.std.specs.Prelude.{◌≡◌, ℕ, ◌+◌, List, [], ◌∷◌, ◌++◌, length, take, Option}
+use Rattle.std.specs.Prelude.{◌≡◌, ℕ, ◌+◌, List, [], ◌∷◌, ◌++◌, length, take, Result, Ok, Err}
 use Rattle.ga_console.specs.Lines.{HasNoFeed}
 use Rattle.ga_console.specs.Input.{Unread, input_limit}
-use Rattle.ga_console.specs.Output.{IsSaid, IsCut}
+use Rattle.ga_console.specs.declared.output.WriteFailed.{WriteFailed}
 use Rattle.ga_console.specs.declared.lines.LineEnd.{LineEnd}
-use Rattle.ga_console.specs.declared.lines.LineEnd.TheVariants.{Feed, Last, Past, ReadFailed, WriteFailed}
+use Rattle.ga_console.specs.declared.lines.LineEnd.TheVariants.{Feed, Last, Past, ReadFailed}
 
 -- the part stands at the front of the whole, more is left, and the first 201 bytes of the part are in line
 pub record IsLine (whole line part more : List ℕ) : Type 0 where
@@ -12,18 +12,29 @@ pub record IsLine (whole line part more : List ℕ) : Type 0 where
   pub no_feed : HasNoFeed part
   pub kept : line ≡ take 201 part
 
--- Input is what the reader has left before the call, rest what it has left afterwards.
-abbrev pub ReadsLine : Unread → List ℕ → List ℕ → Unread → List ℕ → LineEnd → Type 0
-ReadsLine old input line new rest Feed = (part : List ℕ) × IsLine (old.bytes ++ input) line part (10 ∷ (new.bytes ++ rest)) × (new.taken ≡ old.taken + length part + 1)
-ReadsLine old input line new rest Last = (part : List ℕ) × IsLine (old.bytes ++ input) line part [] × (new.taken ≡ old.taken + length part) × (new.bytes ≡ []) × (rest ≡ [])
-ReadsLine old input line new rest Past = (part : List ℕ) × (b : ℕ) × IsLine (old.bytes ++ input) line part (b ∷ rest) × (new.taken ≡ old.taken + length part) × (new.bytes ≡ []) × (new.taken ≡ input_limit)
-ReadsLine old input line new rest ReadFailed = (part : List ℕ) × IsLine (old.bytes ++ input) line part rest × (new.taken ≡ old.taken + length part) × (new.bytes ≡ [])
-ReadsLine old input line new rest WriteFailed = (part : List ℕ) × IsLine (old.bytes ++ input) line part rest × (new.taken ≡ old.taken + length part) × (new.bytes ≡ [])
+-- a line was taken, with the line feed behind it
+pub record TakesLine (old : Unread) (input line : List ℕ) (new : Unread) (rest : List ℕ) : Type 0 where
+  pub part : List ℕ
+  pub is_line : IsLine (old.bytes ++ input) line part (10 ∷ (new.bytes ++ rest))
+  pub counts : new.taken ≡ old.taken + length part + 1
 
--- what was said before is written before more is read
-abbrev pub KeepsSaid : LineEnd → Option (List ℕ) → List ℕ → List ℕ → List ℕ → Type 0
-KeepsSaid Feed contents before said pending = IsSaid contents before said pending
-KeepsSaid Last contents before said pending = IsSaid contents before said pending
-KeepsSaid Past contents before said pending = IsSaid contents before said pending
-KeepsSaid ReadFailed contents before said pending = IsSaid contents before said pending
-KeepsSaid WriteFailed contents before said pending = IsCut contents before said
+-- all was taken that was read, and there is no line feed in it
+pub record TakesAll (old : Unread) (input line : List ℕ) (new : Unread) (more : List ℕ) : Type 0 where
+  pub part : List ℕ
+  pub is_line : IsLine (old.bytes ++ input) line part more
+  pub counts : new.taken ≡ old.taken + length part
+  pub none_left : new.bytes ≡ []
+
+-- the byte past the bound was read
+pub record TakesOne (old : Unread) (input line : List ℕ) (new : Unread) (rest : List ℕ) : Type 0 where
+  pub byte : ℕ
+  pub takes : TakesAll old input line new (byte ∷ rest)
+  pub full : new.taken ≡ input_limit
+
+-- Input is what the reader has left before the call, rest what it has left afterwards.
+abbrev pub ReadsLine : Unread → List ℕ → List ℕ → Unread → List ℕ → Result LineEnd WriteFailed → Type 0
+ReadsLine old input line new rest (Ok Feed) = TakesLine old input line new rest
+ReadsLine old input line new rest (Ok Last) = TakesAll old input line new [] × (rest ≡ [])
+ReadsLine old input line new rest (Ok Past) = TakesOne old input line new rest
+ReadsLine old input line new rest (Ok ReadFailed) = TakesAll old input line new rest
+ReadsLine old input line new rest (Err failed) = TakesAll old input line new rest

@@ -1,58 +1,104 @@
 -- What the machine replies to a line.
-use Rattle.std.specs.Prelude.{◌≡◌, ◌≢◌, ℕ, ◌-◌, ◌<◌, ◌≤◌, ◌⊎◌, ◌==◌, IsOk, List, [], length, take, codes, if◌then◌else◌, Result, Ok, Err}
-use Rattle.ga_console.specs.Machine.{MachineState, node_of, step_answer, stepped, undone}
-use Rattle.ga_console.specs.Texts.{event_text, removed_text, fault_text, node_text}
-use Rattle.ga_console.specs.Commands.{served, spelling}
-use Rattle.ga_console.specs.declared.machine.Made.{Made}
-use Rattle.ga_console.specs.declared.machine.StepFault.{StepFault}
-use Rattle.ga_console.specs.declared.machine.StepFault.TheVariants.{Memory}
+use Rattle.std.specs.Prelude.{◌≡◌, ◌≢◌, ℕ, ◌<◌, ◌≤◌, ◌⊎◌, IsOk, List, [], ◌++◌, length, take, flat_map, codes, Option, Some, None, Result, Ok, Err}
+use Rattle.ga_grid.specs.Chip.{record_at}
+use Rattle.ga_grid.specs.declared.node_id.NodeId.{NodeId}
+use Rattle.ga_causal.specs.declared.chain.Link.{Link}
+use Rattle.ga_journal.specs.Told.{made_in}
+use Rattle.ga_journal.specs.declared.made.Made.{Made}
+use Rattle.ga_lab.specs.Machine.{State, chip_of, step_answer, stepped, undo_answer, undone, rewind_answer, rewound, word_at, history_of, told_of_kept, why_answer}
+use Rattle.ga_lab.specs.declared.fault.LabFault.{LabFault}
+use Rattle.ga_lab.specs.declared.fault.LabFault.TheVariants as fault
+use Rattle.ga_console.specs.Texts.{made_text, removed_text, refusal_text, node_text, memory_text, counts_text, trace_text, chain_text, independent, no_syntax, no_long}
+use Rattle.ga_console.specs.Commands.{Spells}
+use Rattle.ga_console.specs.declared.output.WriteFailed.{WriteFailed}
 use Rattle.ga_console.specs.declared.reply.Turn.{Turn}
 use Rattle.ga_console.specs.declared.reply.Turn.TheVariants.{Answered}
 use Rattle.ga_console.specs.declared.reply.Turn.TheVariants.{Quit as Quits}
 use Rattle.ga_console.specs.declared.command.Command.{Command}
-use Rattle.ga_console.specs.declared.command.Command.TheVariants.{Step, Back, Node, Quit}
+use Rattle.ga_console.specs.declared.command.Command.TheVariants.{Step, Back, Rewind, Node, Memory, Trace, Why, Count, Quit}
 
 -- an answer, and the machine after it
 abbrev pub Reply : Type 0
-Reply = List ℕ × MachineState
+Reply = List ℕ × State
 
-abbrev pub step_reply : MachineState → Result Made StepFault → Reply
-step_reply m (Ok made) = (event_text served made, stepped m)
-step_reply m (Err fault) = (fault_text fault, m)
+abbrev pub step_reply : State → NodeId → Result Made LabFault → Reply
+step_reply s node (Ok made) = (made_text made, stepped s node)
+step_reply s node (Err why) = (refusal_text why, s)
+
+abbrev pub back_reply : State → Result (Unit {0}) LabFault → Reply
+back_reply s (Ok done) = (removed_text 1 (length (undone s).kept), undone s)
+back_reply s (Err why) = (refusal_text why, s)
+
+-- before is the machine before the rollback, after the one after it
+abbrev pub rewind_reply : State → State → Result ℕ LabFault → Reply
+rewind_reply before after (Ok removed) = (removed_text removed (length after.kept), after)
+rewind_reply before after (Err why) = (refusal_text why, before)
+
+-- the steps of a node: how many, and a line for each
+abbrev pub steps_text : NodeId → List Made → List ℕ
+steps_text node steps = trace_text node (length steps) ++ flat_map made_text steps
+
+-- what is told of the event at a place
+abbrev pub told_text : Option Made → List ℕ
+told_text None = []
+told_text (Some made) = made_text made
+
+-- what is told of the event of a link
+abbrev pub link_text : State → Link → List ℕ
+link_text s link = told_text (made_in (told_of_kept s) link.place)
+
+-- the events of a chain: how many, and a line for each
+abbrev pub links_text : State → List Link → List ℕ
+links_text s links = chain_text (length links) ++ flat_map (link_text s) links
+
+abbrev pub why_text : State → Result (Option (List Link)) LabFault → List ℕ
+why_text s (Ok None) = independent
+why_text s (Ok (Some links)) = links_text s links
+why_text s (Err why) = refusal_text why
 
 -- what the machine replies to a command
-abbrev pub reply : MachineState → Command → Reply
-reply m Step = step_reply m (step_answer m)
-reply m Back = if m.kept == 0 then (codes "no 5 empty\n", m) else (removed_text 1 (m.kept - 1), undone m)
-reply m Node = (node_text served (node_of m), m)
-reply m Quit = ([], m)
+abbrev pub reply : State → Command → Reply
+reply s (Step node) = step_reply s node (step_answer s node)
+reply s Back = back_reply s (undo_answer s)
+reply s (Rewind node k) = rewind_reply s (rewound s node.number k) (rewind_answer s node.number k)
+reply s (Node node) = (node_text node (record_at (chip_of s) node.number), s)
+reply s (Memory node address) = (memory_text node address (word_at (record_at (chip_of s) node.number) address), s)
+reply s (Trace node) = (steps_text node (history_of s node.number), s)
+reply s (Why from k to j) = (why_text s (why_answer s from.number k to.number j), s)
+reply s Count = (counts_text (length s.kept) s.made s.limit, s)
+reply s Quit = ([], s)
 
--- the command needs memory
-abbrev pub Grows : MachineState → Command → Type 0
-Grows m Step = IsOk (step_answer m)
-Grows m Back = ⊥
-Grows m Node = ⊥
-Grows m Quit = ⊥
+-- The command needs memory: a step that would be made, a trace, or why where both steps stand.
+abbrev pub Grows : State → Command → Type 0
+Grows s (Step node) = IsOk (step_answer s node)
+Grows s Back = ⊥
+Grows s (Rewind node k) = ⊥
+Grows s (Node node) = ⊥
+Grows s (Memory node address) = ⊥
+Grows s (Trace node) = Unit {0}
+Grows s (Why from k to j) = IsOk (why_answer s from.number k to.number j)
+Grows s Count = ⊥
+Grows s Quit = ⊥
 
 -- The reply to a command. Where memory is wanting, a command that needs it is refused and changes nothing.
-abbrev pub Does : MachineState → Command → List ℕ → MachineState → Type 0
-Does m asked answer new = ((answer, new) ≡ reply m asked) ⊎ (Grows m asked × (answer ≡ fault_text Memory) × (new ≡ m))
+abbrev pub Does : State → Command → List ℕ → State → Type 0
+Does s asked answer new = ((answer, new) ≡ reply s asked) ⊎ (Grows s asked × (answer ≡ refusal_text fault.Memory) × (new ≡ s))
 
 -- The answer to a line: it is too long, or spells a command, or spells none.
-pub data Answer (m : MachineState) (line answer : List ℕ) (new : MachineState) : Type 0 where
-  long : 200 < length line → answer ≡ codes "no 32 long\n" → new ≡ m → Answer m line answer new
-  command : (c : Command) → length line ≤ 200 → line ≡ spelling c → Does m c answer new → Answer m line answer new
-  syntax : length line ≤ 200 → ((c : Command) → line ≢ spelling c) → answer ≡ codes "no 31 syntax\n" → new ≡ m → Answer m line answer new
+pub data Answer (s : State) (line answer : List ℕ) (new : State) : Type 0 where
+  long : 200 < length line → answer ≡ no_long → new ≡ s → Answer s line answer new
+  command : (c : Command) → length line ≤ 200 → Spells c line → Does s c answer new → Answer s line answer new
+  syntax : length line ≤ 200 → ((c : Command) → ¬ Spells c line) → answer ≡ no_syntax → new ≡ s → Answer s line answer new
 
 abbrev pub quit_line : List ℕ
-quit_line = spelling Quit
+quit_line = codes "quit"
 
--- a line, of which the first 201 bytes are here, is answered, or ends the session
-abbrev pub AnswersLine : MachineState → List ℕ → List ℕ → MachineState → Turn → Type 0
-AnswersLine m line answer new Answered = (part : List ℕ) → line ≡ take 201 part → Answer m part answer new × (part ≢ quit_line)
-AnswersLine m line answer new Quits = (line ≡ quit_line) × (new ≡ m)
+-- a line, of which the first 201 bytes are here, is answered and isn't quit
+abbrev pub AnswersLine : State → List ℕ → List ℕ → State → Type 0
+AnswersLine s line answer new = (part : List ℕ) → line ≡ take 201 part → Answer s part answer new × (part ≢ quit_line)
 
--- a command is answered, or ends the session
-abbrev pub Obeys : MachineState → Command → List ℕ → MachineState → Turn → Type 0
-Obeys m asked answer new Answered = Does m asked answer new × (asked ≢ Quit)
-Obeys m asked answer new Quits = (asked ≡ Quit) × (new ≡ m)
+-- it is answered, as far as the answer can be written, or ends the session
+abbrev pub Turns : State → List ℕ → State → Result Turn WriteFailed → List ℕ → Type 0
+Turns s line new (Ok Answered) answer = AnswersLine s line answer new
+Turns s line new (Ok Quits) answer = (line ≡ quit_line) × (new ≡ s) × (answer ≡ [])
+Turns s line new (Err failed) answer = AnswersLine s line answer new

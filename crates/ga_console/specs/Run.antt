@@ -1,27 +1,22 @@
 -- What a whole session may write, and how it may end.
-use Rattle.std.specs.Prelude.{◌≡◌, ℕ, ◌-◌, ◌⊎◌, List, [], ◌++◌, length, codes, decimal, Err}
+use Rattle.std.specs.Prelude.{◌≡◌, ℕ, ◌-◌, ◌⊎◌, List, [], ◌++◌, length, Result, Ok, Err}
 use Rattle.ga_node.specs.State.{NodeState}
-use Rattle.ga_node.specs.Record.{record_of}
-use Rattle.ga_grid.specs.Chip.{node_at}
+use Rattle.ga_grid.specs.Chip.{records_of}
 use Rattle.ga_image.specs.Lines.{lines_of}
 use Rattle.ga_image.specs.Grammar.{IsImage}
 use Rattle.ga_image.specs.Reading.{start, reading, no_memory}
-use Rattle.ga_image.specs.Fault.{number_of, word_of}
 use Rattle.ga_image.specs.declared.fault.ImageFault.{ImageFault}
 use Rattle.ga_console.specs.Input.{input_limit}
 use Rattle.ga_console.specs.Output.{Begins, ready}
 use Rattle.ga_console.specs.Image.{EndsAtEnd, HasNoEnd}
-use Rattle.ga_console.specs.Machine.{MachineState, at_start}
-use Rattle.ga_console.specs.Commands.{served}
-use Rattle.ga_console.specs.Session.{Serves, Written, no_input}
+use Rattle.ga_lab.specs.Machine.{State, first}
+use Rattle.ga_console.specs.Texts.{image_fault_text}
+use Rattle.ga_console.specs.Session.{Serves, Written}
 use Rattle.ga_console.specs.declared.commands.Ending.{Ending}
-use Rattle.ga_console.specs.declared.commands.Ending.TheVariants.{Ended, Quit, Past, ReadFailed, WriteFailed}
+use Rattle.ga_console.specs.declared.commands.Ending.TheVariants.{Ended, Quit, Past, ReadFailed}
+use Rattle.ga_console.specs.declared.output.WriteFailed.{WriteFailed}
 use Rattle.ga_console.specs.declared.run.Status.{Status}
 use Rattle.ga_console.specs.declared.run.Status.TheVariants.{Done, ImageRefused, StreamFault, NotFinished}
-
--- how an image is refused
-abbrev pub image_fault_text : ImageFault → List ℕ
-image_fault_text fault = codes "no " ++ decimal (number_of fault.cause) ++ codes " " ++ word_of fault.cause ++ codes " line " ++ decimal fault.line ++ codes "\n"
 
 -- The image is what was read up to the first line `end`, or all of an input in which none was read, or all that is within the bound.
 abbrev pub IsImagePart : List ℕ → List ℕ → List ℕ → Type 0
@@ -29,12 +24,8 @@ IsImagePart image commands rest = EndsAtEnd image
     ⊎ ((commands ≡ []) × (rest ≡ []) × HasNoEnd image)
     ⊎ ((length image ≡ input_limit) × HasNoEnd image)
 
--- the machine that a chip begins with
-abbrev pub loaded : List NodeState → ℕ → MachineState
-loaded chip limit = at_start (record_of (node_at chip served)) limit
-
 -- the image was accepted, and the commands behind it were served to this ending
-pub record Served (limit : ℕ) (read rest text : List ℕ) (ending : Ending) : Type 0 where
+pub record Served (limit : ℕ) (read rest text : List ℕ) (ending : Result Ending WriteFailed) : Type 0 where
   pub image : List ℕ
   pub commands : List ℕ
   pub chip : List NodeState
@@ -42,7 +33,7 @@ pub record Served (limit : ℕ) (read rest text : List ℕ) (ending : Ending) : 
   pub splits : read ≡ image ++ commands
   pub part : IsImagePart image commands rest
   pub accepted : IsImage (lines_of image) chip
-  pub serves : Serves (input_limit - length image) (loaded chip limit) commands rest said ending
+  pub serves : Serves (input_limit - length image) (first (records_of chip) limit) commands rest said ending
   pub written : Written ending (ready ++ said) text
 
 -- the image was refused with its first fault
@@ -57,19 +48,19 @@ pub record Faulty (read rest : List ℕ) (fault : ImageFault) : Type 0 where
 abbrev pub Refused : List ℕ → List ℕ → ImageFault → Type 0
 Refused read rest fault = (fault ≡ no_memory) ⊎ Faulty read rest fault
 
-abbrev pub status_of : Ending → Status
-status_of Ended = Done
-status_of Quit = Done
-status_of Past = StreamFault
-status_of ReadFailed = StreamFault
-status_of WriteFailed = StreamFault
+abbrev pub status_of : Result Ending WriteFailed → Status
+status_of (Ok Ended) = Done
+status_of (Ok Quit) = Done
+status_of (Ok Past) = StreamFault
+status_of (Ok ReadFailed) = StreamFault
+status_of (Err failed) = StreamFault
 
 -- What a session may have written, where read was read of its input and rest is left of it.
 abbrev pub Runs : ℕ → List ℕ → List ℕ → List ℕ → Status → Type 0
-Runs limit read rest text Done = (ending : Ending) × (status_of ending ≡ Done) × Served limit read rest text ending
+Runs limit read rest text Done = (ending : Result Ending WriteFailed) × (status_of ending ≡ Done) × Served limit read rest text ending
 Runs limit read rest text ImageRefused = (fault : ImageFault) × Refused read rest fault × (text ≡ image_fault_text fault)
 -- the command part failed, or a read in the image part, or a write of the refusal
-Runs limit read rest text StreamFault = ((ending : Ending) × (status_of ending ≡ StreamFault) × Served limit read rest text ending)
+Runs limit read rest text StreamFault = ((ending : Result Ending WriteFailed) × (status_of ending ≡ StreamFault) × Served limit read rest text ending)
     ⊎ ((text ≡ []) × HasNoEnd read)
     ⊎ ((fault : ImageFault) × Refused read rest fault × Begins (image_fault_text fault) text)
 Runs limit read rest text NotFinished = ⊥
@@ -81,28 +72,17 @@ Refuses fault text ImageRefused = text ≡ image_fault_text fault
 Refuses fault text StreamFault = Begins (image_fault_text fault) text
 Refuses fault text NotFinished = ⊥
 
--- an image was accepted, and the machine has its node
-abbrev pub Opens : List ℕ → ℕ → MachineState → Type 0
-Opens image limit machine = (chip : List NodeState) × IsImage (lines_of image) chip × (machine ≡ loaded chip limit)
+-- an image was accepted, and the machine has its chip as its load
+abbrev pub Opens : List ℕ → ℕ → State → Type 0
+Opens image limit machine = (chip : List NodeState) × IsImage (lines_of image) chip × (machine ≡ first (records_of chip) limit)
 
 -- an image is refused
 abbrev pub IsFault : List ℕ → ImageFault → Type 0
 IsFault image fault = (fault ≡ no_memory) ⊎ (reading start 1 (lines_of image) ≡ Err fault)
 
--- that the input goes past its bound was said, or that failed
-abbrev pub IsPast : Ending → Type 0
-IsPast ending = (ending ≡ Past) ⊎ (ending ≡ WriteFailed)
-
 -- What may be written after the image was read, of which so many bytes were taken.
 abbrev pub AfterImage : ℕ → List ℕ → ℕ → List ℕ → List ℕ → List ℕ → Status → Type 0
 AfterImage limit image taken read rest text status =
-    ((machine : MachineState) × Opens image limit machine × (ending : Ending) × (status ≡ status_of ending)
+    ((machine : State) × Opens image limit machine × (ending : Result Ending WriteFailed) × (status ≡ status_of ending)
     × (said : List ℕ) × Serves (input_limit - taken) machine read rest said ending × Written ending (ready ++ said) text)
-    ⊎ ((fault : ImageFault) × IsFault image fault × Refuses fault text status)
-
--- What may be written where the input goes past its bound within the image.
-abbrev pub AfterAll : ℕ → List ℕ → List ℕ → Status → Type 0
-AfterAll limit image text status =
-    ((machine : MachineState) × Opens image limit machine × (ending : Ending) × (status ≡ status_of ending)
-    × IsPast ending × Written ending (ready ++ no_input) text)
     ⊎ ((fault : ImageFault) × IsFault image fault × Refuses fault text status)

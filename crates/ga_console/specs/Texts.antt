@@ -1,7 +1,8 @@
--- The texts of answers.
-use Rattle.std.specs.Prelude.{ℕ, zero, suc, ◌+◌, ◌/◌, ◌%◌, ◌==◌, if◌then◌else◌, List, [], ◌∷◌, ◌++◌, codes, decimal, slice_index}
+-- The texts of answers. Each ends with a line feed.
+use Rattle.std.specs.Prelude.{ℕ, ◌==◌, if◌then◌else◌, List, [], ◌∷◌, ◌++◌, codes, decimal, map, slice_index}
+use Rattle.std.specs.List.{range_with_len}
 use Rattle.std.specs.Int.{from_bool}
-use Rattle.ga_word.specs.Word.{hex6_of, hex_digit}
+use Rattle.ga_word.specs.Word.{hex6_of}
 use Rattle.ga_ports.specs.Address.{only, has_side}
 use Rattle.ga_ports.specs.declared.side.Side.{Side}
 use Rattle.ga_ports.specs.declared.side.Side.TheVariants.{Right, Down, Left, Up}
@@ -10,58 +11,68 @@ use Rattle.ga_node.specs.declared.wait.Wait.{Wait}
 use Rattle.ga_node.specs.declared.wait.Wait.TheVariants as wait
 use Rattle.ga_node.specs.declared.kind.Kind.{Kind}
 use Rattle.ga_node.specs.declared.kind.Kind.TheVariants as kind
-use Rattle.ga_node.specs.declared.kind.NotReady.{NotReady}
-use Rattle.ga_node.specs.declared.kind.NotReady.TheVariants.{Waiting, Stopped, Unmatched}
-use Rattle.ga_console.specs.declared.machine.Made.{Made}
-use Rattle.ga_console.specs.declared.machine.StepFault.{StepFault}
-use Rattle.ga_console.specs.declared.machine.StepFault.TheVariants.{NotReady as IsNotReady, Full, Memory}
+use Rattle.ga_grid.specs.Grid.{yxx_of}
+use Rattle.ga_grid.specs.declared.node_id.NodeId.{NodeId}
+use Rattle.ga_image.specs.Fault.{number_of, word_of}
+use Rattle.ga_image.specs.Spelling.{decimal3_of, hex2_of, words_text}
+use Rattle.ga_image.specs.declared.fault.ImageFault.{ImageFault}
+use Rattle.ga_journal.specs.declared.made.Made.{Made}
+use Rattle.ga_journal.specs.declared.made.Made.TheVariants.{Own, Pass}
+use Rattle.ga_lab.specs.declared.fault.LabFault.{LabFault}
+use Rattle.ga_lab.specs.declared.fault.LabFault.TheVariants.{Waiting, Stopped, Full, Memory, Empty, NoStep, Spent}
 
--- ---- numbers
-
--- a number below 1000
-abbrev pub three_digits : ℕ → List ℕ
-three_digits n = (48 + n / 100) ∷ (48 + n / 10 % 10) ∷ (48 + n % 10) ∷ []
-
--- a number below 256, in hexadecimal digits
-abbrev pub two_digits : ℕ → List ℕ
-two_digits n = hex_digit n 1 ∷ hex_digit n 0 ∷ []
+-- a node's name: three decimal digits, of its row and its column
+abbrev pub name_of : NodeId → List ℕ
+name_of node = decimal3_of (yxx_of node.number)
 
 -- ---- events
 
 abbrev pub kind_text : Kind → List ℕ
 kind_text kind.Fetch = codes " fetch"
-kind_text (kind.Run code) = codes " run " ++ two_digits code
+kind_text (kind.Run code) = codes " run " ++ hex2_of code
 kind_text kind.Wait = codes " wait"
 kind_text (kind.Stop number) = codes " stop " ++ decimal number
 
--- a step of a node, named by its row and column
-abbrev pub event_text : ℕ → Made → List ℕ
-event_text yxx made = three_digits yxx ++ codes " " ++ decimal made.step ++ kind_text made.kind ++ codes "\n"
+-- a step of a node
+abbrev pub step_text : NodeId → ℕ → List ℕ
+step_text node step = name_of node ++ codes " " ++ decimal step
 
+-- a node's own event, or a word that went from its writer to its reader
+abbrev pub made_text : Made → List ℕ
+made_text (Own node step kind) = step_text node step ++ kind_text kind ++ codes "\n"
+made_text (Pass writer writer_step reader reader_step word) =
+    codes "pass " ++ step_text writer writer_step ++ codes " " ++ step_text reader reader_step ++ codes " " ++ hex6_of word ++ codes "\n"
+
+-- ---- the list of kept events
+
+-- how many events were removed, and how many are kept
 abbrev pub removed_text : ℕ → ℕ → List ℕ
 removed_text removed kept = codes "removed " ++ decimal removed ++ codes " kept " ++ decimal kept ++ codes "\n"
 
--- ---- refusals
+abbrev pub counts_text : ℕ → ℕ → ℕ → List ℕ
+counts_text kept made limit = codes "kept " ++ decimal kept ++ codes " made " ++ decimal made ++ codes " limit " ++ decimal limit ++ codes "\n"
 
-abbrev pub not_ready_text : NotReady → List ℕ
-not_ready_text Waiting = codes "no 1 waiting\n"
-not_ready_text Stopped = codes "no 2 stopped\n"
-not_ready_text Unmatched = codes "no 8 unmatched\n"
+-- what stands before the texts of a node's steps
+abbrev pub trace_text : NodeId → ℕ → List ℕ
+trace_text node count = codes "trace " ++ name_of node ++ codes " " ++ decimal count ++ codes "\n"
 
-abbrev pub fault_text : StepFault → List ℕ
-fault_text (IsNotReady reason) = not_ready_text reason
-fault_text Full = codes "no 3 full\n"
-fault_text Memory = codes "no 4 memory\n"
+-- what stands before the texts of a chain's events
+abbrev pub chain_text : ℕ → List ℕ
+chain_text count = codes "chain " ++ decimal count ++ codes "\n"
+
+-- no chain leads from the one step to the other
+abbrev pub independent : List ℕ
+independent = codes "independent\n"
 
 -- ---- a node
 
 -- the side's letter, where the set has it
-abbrev pub side_text : ℕ → Side → ℕ → ℕ
-side_text sides side letter = if has_side sides side then letter else 45
+abbrev pub side_text : ℕ → Side → List ℕ → List ℕ
+side_text sides side letter = if has_side sides side then letter else codes "-"
 
 -- right, down, left, up
 abbrev pub set_text : ℕ → List ℕ
-set_text sides = side_text sides Right 114 ∷ side_text sides Down 100 ∷ side_text sides Left 108 ∷ side_text sides Up 117 ∷ []
+set_text sides = side_text sides Right (codes "r") ++ side_text sides Down (codes "d") ++ side_text sides Left (codes "l") ++ side_text sides Up (codes "u")
 
 abbrev pub state_text : Wait → ℕ → List ℕ
 state_text (wait.Fetch sides) stop = codes "fetch " ++ set_text sides
@@ -69,17 +80,55 @@ state_text (wait.Read sides) stop = codes "read " ++ set_text sides
 state_text (wait.Write side) stop = codes "write " ++ set_text (only side)
 state_text wait.Nothing stop = if stop == 0 then codes "run" else codes "stop " ++ decimal stop
 
--- the first so many words, each behind a space
-abbrev pub words_text : List ℕ → ℕ → List ℕ
-words_text words zero = []
-words_text words (suc count) = words_text words count ++ 32 ∷ hex6_of (slice_index words count)
+-- a register: its name and its value
+abbrev pub register_text : List ℕ → ℕ → List ℕ
+register_text name value = codes " " ++ name ++ (codes " " ++ hex6_of value)
 
 abbrev pub registers_text : NodeRecord → List ℕ
-registers_text node = codes " p " ++ hex6_of node.p ++ codes " a " ++ hex6_of node.a ++ codes " b " ++ hex6_of node.b ++ codes " i " ++ hex6_of node.i
+registers_text node = register_text (codes "p") node.p ++ register_text (codes "a") node.a ++ register_text (codes "b") node.b ++ register_text (codes "i") node.i
 
 abbrev pub flags_text : NodeRecord → List ℕ
 flags_text node = codes " slot " ++ decimal node.slot ++ codes " carry " ++ decimal (from_bool node.carry) ++ codes " io " ++ hex6_of node.io
 
-abbrev pub node_text : ℕ → NodeRecord → List ℕ
-node_text yxx node = codes "node " ++ three_digits yxx ++ codes " " ++ state_text node.wait node.stop ++ registers_text node ++ flags_text node
-    ++ codes " d" ++ words_text node.d 10 ++ codes " r" ++ words_text node.r 9 ++ codes "\n"
+-- the first so many words of a stack
+abbrev pub first_words : ℕ → List ℕ → List ℕ
+first_words count words = map (λ place. slice_index words place) (range_with_len 0 count)
+
+-- the ten words of data and the nine of returns, the top first
+abbrev pub stacks_text : NodeRecord → List ℕ
+stacks_text node = codes " d" ++ words_text (first_words 10 node.d) ++ codes " r" ++ words_text (first_words 9 node.r)
+
+abbrev pub node_text : NodeId → NodeRecord → List ℕ
+node_text node at =
+    codes "node " ++ name_of node ++ codes " " ++ state_text at.wait at.stop ++ registers_text at ++ flags_text at ++ stacks_text at ++ codes "\n"
+
+-- the word at an address of a node's memory
+abbrev pub memory_text : NodeId → ℕ → ℕ → List ℕ
+memory_text node address word = codes "mem " ++ name_of node ++ codes " " ++ hex2_of address ++ codes " " ++ hex6_of word ++ codes "\n"
+
+-- ---- refusals
+
+abbrev pub refusal_text : LabFault → List ℕ
+refusal_text Waiting = codes "no 1 waiting\n"
+refusal_text Stopped = codes "no 2 stopped\n"
+refusal_text Full = codes "no 3 full\n"
+refusal_text Memory = codes "no 4 memory\n"
+refusal_text Empty = codes "no 5 empty\n"
+refusal_text NoStep = codes "no 6 nostep\n"
+refusal_text Spent = codes "no 7 spent\n"
+
+-- the line spells no command
+abbrev pub no_syntax : List ℕ
+no_syntax = codes "no 31 syntax\n"
+
+-- the line has more than 200 bytes
+abbrev pub no_long : List ℕ
+no_long = codes "no 32 long\n"
+
+-- the input goes past its bound
+abbrev pub no_input : List ℕ
+no_input = codes "no 33 input\n"
+
+-- how an image is refused
+abbrev pub image_fault_text : ImageFault → List ℕ
+image_fault_text fault = codes "no " ++ decimal (number_of fault.cause) ++ codes " " ++ word_of fault.cause ++ codes " line " ++ decimal fault.line ++ codes "\n"

@@ -1,37 +1,199 @@
 //! Commands, as lines spell them.
-ghost use Rattle.std.specs.Prelude.{◌≡◌, ◌≢◌, IfSome, IfNone};
-ghost use Rattle.ga_console.specs.Commands.{spelling};
+
+ghost use Rattle.std.specs.Prelude.{◌≡◌, ◌<◌, IfSome, IfNone, option_map};
+ghost use Rattle.ga_image.specs.Digits.{decimal_digit, node_number};
+ghost use Rattle.ga_console.specs.Commands.{Spells};
+ghost use Rattle.ga_console.specs.Parsing.{cut, node_in, number_in, byte_in, with_digit, step_in, rewind_in, memory_in, why_in, alone, with_arguments};
 ghost use Rattle.ga_console.specs.declared.command.Command.{Command};
 
-/// A command to the one node that is served.
+use ga_grid::NodeId;
+
+/// A command of a session. Steps are numbered from 1, but any number may be asked for.
 #[derive(Clone, Copy, PartialEq, Eq, Debug)]
 pub enum Command {
-    /// `step 000`: makes the node's next event.
-    Step,
+    /// `step NNN`: makes the node's next event.
+    Step(NodeId),
     /// `back`: takes the newest event back.
     Back,
-    /// `node 000`: shows the node.
-    Node,
+    /// `rewind NNN K`: takes a step of the node back, and all that depends on it.
+    Rewind(NodeId, u32),
+    /// `node NNN`: shows the node.
+    Node(NodeId),
+    /// `mem NNN HH`: shows the word at an address of the node's memory.
+    Memory(NodeId, u8),
+    /// `trace NNN`: shows the steps of the node.
+    Trace(NodeId),
+    /// `why NNN K MMM J`: shows the chain of causes from one step to another.
+    Why {
+        from: NodeId,
+        from_step: u32,
+        to: NodeId,
+        to_step: u32,
+    },
+    /// `count`: shows how many events are kept and were made, and the limit.
+    Count,
     /// `quit`: ends the session.
     Quit,
 }
 
 /// The command that a line spells, or none.
 pub fn command_of(line: &[u8]) -> Option<Command>
-    ensures some { IfSome result (λ command. line.now ≡ spelling command) }
-    ensures none { IfNone result ((command : Command) → line.now ≢ spelling command) }
+    ensures some { IfSome result (λ command. Spells command line.now) }
+    ensures only { IfSome result (λ command. (other : Command) → Spells other line.now → other ≡ command) }
+    ensures none { IfNone result ((command : Command) → ¬ Spells command line.now) }
 {
-    if line == b"step 000".as_slice() {
-        return Some(Command::Step);
+    match cut(line) {
+        Some((name, arguments)) => with_arguments(name, arguments),
+        None => alone(line),
     }
-    if line == b"back".as_slice() {
-        return Some(Command::Back);
+}
+
+/// The command that is spelled by one word.
+#[tactic(auto, unfolding(crate::specs::Parsing::alone))]
+fn alone(name: &[u8]) -> Option<Command>
+    ensures { result ≡ alone name.now }
+{
+    match name {
+        b"back" => Some(Command::Back),
+        b"count" => Some(Command::Count),
+        b"quit" => Some(Command::Quit),
+        _ => None,
     }
-    if line == b"node 000".as_slice() {
-        return Some(Command::Node);
+}
+
+/// The command that is spelled by a word and what follows the space behind it.
+#[tactic(auto, unfolding(crate::specs::Parsing::with_arguments))]
+fn with_arguments(name: &[u8], arguments: &[u8]) -> Option<Command>
+    ensures { result ≡ with_arguments name.now arguments.now }
+{
+    match name {
+        b"step" => Some(Command::Step(node_of(arguments)?)),
+        b"rewind" => rewind_of(arguments),
+        b"node" => Some(Command::Node(node_of(arguments)?)),
+        b"mem" => memory_of(arguments),
+        b"trace" => Some(Command::Trace(node_of(arguments)?)),
+        b"why" => why_of(arguments),
+        _ => None,
     }
-    if line == b"quit".as_slice() {
-        return Some(Command::Quit);
+}
+
+#[tactic(auto, unfolding(crate::specs::Parsing::rewind_in))]
+fn rewind_of(arguments: &[u8]) -> Option<Command>
+    ensures { result ≡ rewind_in arguments.now }
+{
+    let (node, step) = step_of(arguments)?;
+    Some(Command::Rewind(node, step))
+}
+
+#[tactic(auto, unfolding(crate::specs::Parsing::memory_in))]
+fn memory_of(arguments: &[u8]) -> Option<Command>
+    ensures { result ≡ memory_in arguments.now }
+{
+    let (node, address) = cut(arguments)?;
+    Some(Command::Memory(node_of(node)?, byte_of(address)?))
+}
+
+#[tactic(auto, unfolding(crate::specs::Parsing::why_in))]
+fn why_of(arguments: &[u8]) -> Option<Command>
+    ensures { result ≡ why_in arguments.now }
+{
+    let (from, rest) = cut(arguments)?;
+    let (from_step, rest) = cut(rest)?;
+    let from = node_of(from)?;
+    let from_step = number_of(from_step)?;
+    let (to, to_step) = step_of(rest)?;
+    Some(Command::Why {
+        from,
+        from_step,
+        to,
+        to_step,
+    })
+}
+
+/// A node and the number of a step.
+#[tactic(auto, unfolding(crate::specs::Parsing::step_in))]
+fn step_of(text: &[u8]) -> Option<(NodeId, u32)>
+    ensures { result ≡ step_in text.now }
+{
+    let (node, step) = cut(text)?;
+    Some((node_of(node)?, number_of(step)?))
+}
+
+/// The text before the first space, and the text behind it.
+fn cut(text: &[u8]) -> Option<(&[u8], &[u8])>
+    ensures { option_map (λ parts. (parts.0.now, parts.1.now)) result ≡ cut text.now }
+{
+    for (i, byte) in text.iter().enumerate() {
+        if *byte == b' ' {
+            return Some((text.split_at(i).0, text.split_at(i + 1).1));
+        }
     }
     None
+}
+
+/// The node that is named by three decimal digits: its row, and two of its column.
+#[tactic(auto, unfolding(crate::specs::Parsing::node_in))]
+fn node_of(word: &[u8]) -> Option<NodeId>
+    ensures { result ≡ node_in word.now }
+{
+    NodeId::from_yxx(node_number(word)?)
+}
+
+#[tactic(auto, unfolding(ga_image::specs::Digits::node_number))]
+fn node_number(word: &[u8]) -> Option<u32>
+    ensures { result ≡ node_number word.now }
+{
+    match word {
+        [row, tens, ones] => {
+            let row = digit_of(*row)?;
+            let tens = digit_of(*tens)?;
+            let ones = digit_of(*ones)?;
+            Some(100 * row + 10 * tens + ones)
+        }
+        _ => None,
+    }
+}
+
+/// A decimal number below 2^32 without leading zeros.
+fn number_of(word: &[u8]) -> Option<u32>
+    ensures { result ≡ number_in word.now }
+{
+    let (first, rest) = word.split_first()?;
+    let mut number = digit_of(*first)?;
+    'digits: for byte in rest {
+        number = with_digit(number, *byte)?;
+    }
+    Some(number)
+}
+
+/// A number with one digit more, where it had no leading zero and fits.
+fn with_digit(number: u32, byte: u8) -> Option<u32>
+    ensures { result ≡ with_digit number byte }
+{
+    if number == 0 {
+        return None;
+    }
+    let digit = digit_of(byte)?;
+    number.checked_mul(10)?.checked_add(digit)
+}
+
+fn digit_of(byte: u8) -> Option<u32>
+    ensures value { result ≡ decimal_digit byte }
+    ensures in_range { IfSome result (λ digit. digit < 10) }
+{
+    match byte {
+        b'0'..=b'9' => Some(u32::from(byte - b'0')),
+        _ => None,
+    }
+}
+
+/// A number of two hexadecimal digits in either case.
+fn byte_of(word: &[u8]) -> Option<u8>
+    ensures { result ≡ byte_in word.now }
+{
+    let mut byte = [0];
+    let Ok(()) = hex::decode_to_slice(word, &mut byte) else {
+        return None;
+    };
+    Some(byte[0])
 }

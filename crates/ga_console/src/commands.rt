@@ -1,15 +1,14 @@
 //! The command part of a session.
 ghost use Rattle.std.specs.Prelude.{◌≡◌, ◌-◌, ◌++◌, ℕ, List, Some};
 ghost use Rattle.ga_console.specs.Input.{IsWithin, input_limit};
-ghost use Rattle.ga_console.specs.Output.{IsSaid};
-ghost use Rattle.ga_console.specs.Session.{Serves, IsSaidAt, Written};
+ghost use Rattle.ga_console.specs.Output.{IsSaid, IsSaidOrCut};
+ghost use Rattle.ga_console.specs.Session.{Serves, Written};
 
 use super::input::Input;
 use super::lines::{Line, LineEnd, read_line};
-use super::machine::Machine;
-use super::output::Output;
+use super::output::{Output, WriteFailed};
 use super::reply::{Turn, answer};
-use super::text::{Text, push_text};
+use ga_lab::Lab;
 use std::io::{Read, Write};
 
 /// How the command part ended.
@@ -21,37 +20,33 @@ pub enum Ending {
     Quit,
     /// The input went past its bound.
     Past,
+    /// A read failed.
     ReadFailed,
-    WriteFailed,
 }
 
 /// Answers the command lines one by one, until the input ends, and writes the answers.
+///
+/// # Errors
+/// A write failed.
 pub fn serve<R: Read, W: Write>(
     input: &mut Input,
     reader: &mut R,
     output: &mut Output,
     writer: &mut W,
-    machine: &mut Machine,
-) -> Ending
+    lab: &mut Lab,
+) -> Result<Ending, WriteFailed>
     requires { IsWithin input.old }
     ensures { (left before said : List ℕ) → R.remaining reader.old ≡ Some left →
         IsSaid (W.contents writer.old) before said output.old →
         (read rest text sent : List ℕ)
         × (input.old.bytes ++ left ≡ read ++ rest) × (R.remaining reader.new ≡ Some rest)
         × (W.contents writer.new ≡ Some (before ++ sent))
-        × Serves (input_limit - input.old.taken) machine.old read rest text result
+        × Serves (input_limit - input.old.taken) lab.old read rest text result
         × Written result (said ++ text) sent }
 {
-    match answer_lines(input, reader, output, writer, machine) {
-        Ending::WriteFailed => Ending::WriteFailed,
-        ending => {
-            if output.send(writer) {
-                ending
-            } else {
-                Ending::WriteFailed
-            }
-        }
-    }
+    let ending = answer_lines(input, reader, output, writer, lab)?;
+    output.send(writer)?;
+    Ok(ending)
 }
 
 /// Answers the command lines one by one, until the input ends. Some of the answers may be pending then.
@@ -60,52 +55,37 @@ fn answer_lines<R: Read, W: Write>(
     reader: &mut R,
     output: &mut Output,
     writer: &mut W,
-    machine: &mut Machine,
-) -> Ending
+    lab: &mut Lab,
+) -> Result<Ending, WriteFailed>
     requires { IsWithin input.old }
     ensures { (left before said : List ℕ) → R.remaining reader.old ≡ Some left →
         IsSaid (W.contents writer.old) before said output.old →
         (read rest text : List ℕ)
         × (input.old.bytes ++ left ≡ read ++ rest) × (R.remaining reader.new ≡ Some rest)
-        × Serves (input_limit - input.old.taken) machine.old read rest text result
-        × IsSaidAt result (W.contents writer.new) before (said ++ text) output.new }
+        × Serves (input_limit - input.old.taken) lab.old read rest text result
+        × IsSaidOrCut result (W.contents writer.new) before (said ++ text) output.new }
 {
     let mut line = Line::new();
-    let mut text = Text::new();
     'lines: loop {
-        match read_line(input, reader, output, writer, &mut line) {
-            LineEnd::Feed => match answer(machine, &line, &mut text) {
-                Turn::Quit => return Ending::Quit,
-                Turn::Answered => {
-                    if !output.say(writer, &text) {
-                        return Ending::WriteFailed;
-                    }
-                }
+        match read_line(input, reader, output, writer, &mut line)? {
+            LineEnd::Feed => match answer(lab, &line, output, writer)? {
+                Turn::Quit => return Ok(Ending::Quit),
+                Turn::Answered => {}
             },
             LineEnd::Last => {
                 if line.is_empty() {
-                    return Ending::Ended;
+                    return Ok(Ending::Ended);
                 }
-                match answer(machine, &line, &mut text) {
-                    Turn::Quit => return Ending::Quit,
-                    Turn::Answered => {
-                        if !output.say(writer, &text) {
-                            return Ending::WriteFailed;
-                        }
-                        return Ending::Ended;
-                    }
-                }
+                return match answer(lab, &line, output, writer)? {
+                    Turn::Quit => Ok(Ending::Quit),
+                    Turn::Answered => Ok(Ending::Ended),
+                };
             }
             LineEnd::Past => {
-                text.clear();
-                push_text(&mut text, b"no 33 input\n");
-                if !output.say(writer, &text) {
-                    return Ending::WriteFailed;
-                }
-                return Ending::Past;
+                output.say(writer, b"no 33 input\n")?;
+                return Ok(Ending::Past);
             }
-            LineEnd::ReadFailed => return Ending::ReadFailed,
-            LineEnd::WriteFailed => return Ending::WriteFailed,
+            LineEnd::ReadFailed => return Ok(Ending::ReadFailed),
         }
     }
 }

@@ -1,20 +1,20 @@
 //! The text of a refused image.
-ghost use Rattle.std.specs.Prelude.{◌≡◌, []};
-ghost use Rattle.ga_console.specs.Run.{image_fault_text};
+ghost use Rattle.std.specs.Prelude.{◌≡◌};
+ghost use Rattle.ga_console.specs.Texts.{image_fault_text};
 
 use super::text::{Text, push_number, push_text};
 use ga_image::ImageFault;
 
 /// Puts the text of a refused image.
 pub fn put_fault(out: &mut Text, fault: ImageFault)
-    requires { out.old.items ≡ [] }
     ensures { out.new.items ≡ image_fault_text fault }
 {
+    out.clear();
     push_text(out, b"no ");
-    push_number(out, u32::from(fault.cause.number()));
+    push_number(out, u64::from(fault.cause.number()));
     push_text(out, b" ");
     push_text(out, fault.cause.word().as_bytes());
     push_text(out, b" line ");
-    push_number(out, fault.line);
+    push_number(out, u64::from(fault.line));
     push_text(out, b"\n");
 }

@@ -2,6 +2,7 @@
 //! answered by the machine that replays the kept events; and the command line of the program.
 #![tactic(auto)]
 
+mod changes;
 mod command;
 mod commands;
 mod event;
@@ -9,9 +10,9 @@ mod fault_text;
 mod image;
 mod input;
 mod lines;
-mod machine;
 mod node_text;
 mod output;
+mod readings;
 mod reply;
 mod run;
 mod settings;

@@ -1,11 +1,11 @@
 //! Lines of the input.
-ghost use Rattle.std.specs.Prelude.{◌≡◌, ◌+◌, ◌≤◌, ◌<◌, ◌++◌, ℕ, List, Some, length, take};
+ghost use Rattle.std.specs.Prelude.{◌≡◌, ◌+◌, ◌≤◌, ◌<◌, ◌++◌, ℕ, List, Some, length, take, Ok};
 ghost use Rattle.ga_console.specs.Input.{IsWithin};
-ghost use Rattle.ga_console.specs.Output.{IsSaid};
-ghost use Rattle.ga_console.specs.ReadLine.{ReadsLine, KeepsSaid};
+ghost use Rattle.ga_console.specs.Output.{IsSaid, IsSaidOrCut};
+ghost use Rattle.ga_console.specs.ReadLine.{ReadsLine};
 
 use super::input::{Fill, Input};
-use super::output::Output;
+use super::output::{Output, WriteFailed};
 use arrayvec::ArrayVec;
 use std::io::{Read, Write};
 
@@ -23,40 +23,39 @@ pub enum LineEnd {
     Past,
     /// A read failed within the line.
     ReadFailed,
-    /// What was said before could not be written.
-    WriteFailed,
 }
 
 /// Reads the next line, without its line feed. What is pending is written before each read of more.
+///
+/// # Errors
+/// What was said before could not be written.
 pub fn read_line<R: Read, W: Write>(
     input: &mut Input,
     reader: &mut R,
     output: &mut Output,
     writer: &mut W,
     line: &mut Line,
-) -> LineEnd
+) -> Result<LineEnd, WriteFailed>
     requires { IsWithin input.old }
     ensures reads { (left : List ℕ) → R.remaining reader.old ≡ Some left →
         (rest : List ℕ) × (R.remaining reader.new ≡ Some rest)
         × ReadsLine input.old left line.new.items input.new rest result }
     ensures said { (before said : List ℕ) → IsSaid (W.contents writer.old) before said output.old →
-        KeepsSaid result (W.contents writer.new) before said output.new }
+        IsSaidOrCut result (W.contents writer.new) before said output.new }
     ensures within { IsWithin input.new }
-    ensures goes_on { result ≡ LineEnd.Feed → input.old.taken < input.new.taken }
+    ensures goes_on { result ≡ Ok LineEnd.Feed → input.old.taken < input.new.taken }
 {
     line.clear();
     'parts: loop {
         if input.take_line(line) {
-            return LineEnd::Feed;
+            return Ok(LineEnd::Feed);
         }
-        if !output.send(writer) {
-            return LineEnd::WriteFailed;
-        }
+        output.send(writer)?;
         match input.fill(reader) {
             Fill::More => {}
-            Fill::End => return LineEnd::Last,
-            Fill::Past => return LineEnd::Past,
-            Fill::Failed => return LineEnd::ReadFailed,
+            Fill::End => return Ok(LineEnd::Last),
+            Fill::Past => return Ok(LineEnd::Past),
+            Fill::Failed => return Ok(LineEnd::ReadFailed),
         }
     }
 }

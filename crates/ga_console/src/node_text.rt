@@ -1,36 +1,82 @@
-//! The text of a node.
-ghost use Rattle.std.specs.Prelude.{◌≡◌, ◌<◌, ◌+◌, ◌≤◌, ◌++◌, length, []};
+//! The texts of a node and of its memory.
+ghost use Rattle.std.specs.Prelude.{◌≡◌, ◌<◌, ◌+◌, ◌≤◌, ◌^◌, ◌++◌, length, codes};
 ghost use Rattle.arrayvec.specs.ArrayVec.{array_vec_len};
+ghost use Rattle.ga_word.specs.Word.{hex6_of};
 ghost use Rattle.ga_node.specs.Record.{record_of};
-ghost use Rattle.ga_console.specs.Texts.{node_text, state_text, set_text, words_text, registers_text, flags_text};
+ghost use Rattle.ga_image.specs.Spelling.{words_text};
+ghost use Rattle.ga_console.specs.Texts.{node_text, memory_text, state_text, set_text, register_text, registers_text, flags_text, first_words, stacks_text};
 
-use super::text::{Text, push_number, push_text, push_three, push_word};
+use super::text::{
+    LINE_ROOM, NUMBER_ROOM, Text, WORD_ROOM, push_byte, push_digit, push_node, push_number,
+    push_text, push_word,
+};
+use ga_grid::NodeId;
 use ga_node::{Node, Place, Wait};
+use ga_word::Word18;
 
-/// Puts the text of a node, named by its row and column.
-pub fn put_node(out: &mut Text, yxx: u32, node: &Node)
-    requires small { yxx < 1000 }
-    requires empty { out.old.items ≡ [] }
-    ensures { out.new.items ≡ node_text yxx (record_of node.now) }
+/// How many words the data stack has.
+const DATA_WORDS: u8 = 10;
+
+/// How many words the return stack has.
+const RETURN_WORDS: u8 = 9;
+
+/// The bytes of a set of sides.
+const SET_ROOM: usize = b"rdlu".len();
+
+/// The most bytes of whether a node runs, waits or is stopped.
+const STATE_ROOM: usize = b"stop ".len() + NUMBER_ROOM;
+
+/// The bytes of a register: a space, its name, a space and a word.
+const REGISTER_ROOM: usize = b" p ".len() + WORD_ROOM;
+
+/// The bytes of P, A, B and I.
+const REGISTERS_ROOM: usize = 4 * REGISTER_ROOM;
+
+/// The bytes of the slot, the carry and `io`.
+const FLAGS_ROOM: usize = b" slot 4 carry 1 io ".len() + WORD_ROOM;
+
+/// The bytes of the words of each stack, each behind a space.
+const DATA_ROOM: usize = 10 * (1 + WORD_ROOM);
+
+const RETURNS_ROOM: usize = 9 * (1 + WORD_ROOM);
+
+/// The bytes of both stacks, each behind its name.
+const STACKS_ROOM: usize = b" d".len() + DATA_ROOM + b" r".len() + RETURNS_ROOM;
+
+/// Puts the text of a node.
+pub fn put_node(out: &mut Text, node: NodeId, at: &Node)
+    ensures { out.new.items ≡ node_text node (record_of at.now) }
 {
+    out.clear();
     push_text(out, b"node ");
-    push_three(out, yxx);
+    push_node(out, node);
     push_text(out, b" ");
-    push_state(out, node);
-    push_registers(out, node);
-    push_flags(out, node);
-    push_text(out, b" d");
-    push_data(out, node);
-    push_text(out, b" r");
-    push_returns(out, node);
+    push_state(out, at);
+    push_registers(out, at);
+    push_flags(out, at);
+    push_stacks(out, at);
+    push_text(out, b"\n");
+}
+
+/// Puts the word at an address of a node's memory.
+pub fn put_memory(out: &mut Text, node: NodeId, address: u8, word: Word18)
+    ensures { out.new.items ≡ memory_text node address word }
+{
+    out.clear();
+    push_text(out, b"mem ");
+    push_node(out, node);
+    push_text(out, b" ");
+    push_byte(out, address);
+    push_text(out, b" ");
+    push_word(out, word);
     push_text(out, b"\n");
 }
 
 /// Adds whether the node runs, what it waits for, or how it is stopped.
 fn push_state(out: &mut Text, node: &Node)
-    requires { array_vec_len out.old + 20 ≤ 256 }
+    requires { array_vec_len out.old + STATE_ROOM ≤ LINE_ROOM }
     ensures text { out.new.items ≡ out.old.items ++ state_text (record_of node.now).wait (record_of node.now).stop }
-    ensures len { array_vec_len out.new ≤ array_vec_len out.old + 20 }
+    ensures len { array_vec_len out.new ≤ array_vec_len out.old + STATE_ROOM }
 {
     match node.wait() {
         Wait::Nothing => push_stop(out, node.stop()),
@@ -50,23 +96,23 @@ fn push_state(out: &mut Text, node: &Node)
 }
 
 fn push_stop(out: &mut Text, stop: u8)
-    requires { array_vec_len out.old + 20 ≤ 256 }
+    requires { array_vec_len out.old + STATE_ROOM ≤ LINE_ROOM }
     ensures text { out.new.items ≡ out.old.items ++ state_text Wait.Nothing stop }
-    ensures len { array_vec_len out.new ≤ array_vec_len out.old + 20 }
+    ensures len { array_vec_len out.new ≤ array_vec_len out.old + STATE_ROOM }
 {
     if stop == 0 {
         push_text(out, b"run");
     } else {
         push_text(out, b"stop ");
-        push_number(out, u32::from(stop));
+        push_number(out, u64::from(stop));
     }
 }
 
 /// Adds a set of sides, given by its number.
 fn push_set(out: &mut Text, sides: u8)
-    requires { array_vec_len out.old + 4 ≤ 256 }
+    requires { array_vec_len out.old + SET_ROOM ≤ LINE_ROOM }
     ensures text { out.new.items ≡ out.old.items ++ set_text sides }
-    ensures len { array_vec_len out.new ≡ array_vec_len out.old + 4 }
+    ensures len { array_vec_len out.new ≡ array_vec_len out.old + SET_ROOM }
 {
     let letters = [
         if sides / 8 % 2 == 1 { b'r' } else { b'-' },
@@ -78,55 +124,84 @@ fn push_set(out: &mut Text, sides: u8)
 }
 
 /// Adds P, A, B and I.
+#[tactic(auto, unfolding(ga_node::specs::Record::record_of))]
 fn push_registers(out: &mut Text, node: &Node)
-    requires { array_vec_len out.old + 36 ≤ 256 }
+    requires { array_vec_len out.old + REGISTERS_ROOM ≤ LINE_ROOM }
     ensures text { out.new.items ≡ out.old.items ++ registers_text (record_of node.now) }
-    ensures len { array_vec_len out.new ≡ array_vec_len out.old + 36 }
+    ensures len { array_vec_len out.new ≡ array_vec_len out.old + REGISTERS_ROOM }
 {
-    push_text(out, b" p ");
-    push_word(out, node.get(Place::P));
-    push_text(out, b" a ");
-    push_word(out, node.get(Place::A));
-    push_text(out, b" b ");
-    push_word(out, node.get(Place::B));
-    push_text(out, b" i ");
-    push_word(out, node.get(Place::I));
+    push_register(out, b"p", node.get(Place::P));
+    push_register(out, b"a", node.get(Place::A));
+    push_register(out, b"b", node.get(Place::B));
+    push_register(out, b"i", node.get(Place::I));
+}
+
+/// Adds a register: its name, and its value as a word.
+fn push_register(out: &mut Text, name: &[u8; 1], value: u32)
+    requires small { value < 2 ^ 18 }
+    requires room { array_vec_len out.old + REGISTER_ROOM ≤ LINE_ROOM }
+    ensures text { out.new.items ≡ out.old.items ++ register_text name.now value }
+    ensures len { array_vec_len out.new ≡ array_vec_len out.old + REGISTER_ROOM }
+{
+    push_text(out, b" ");
+    push_text(out, name);
+    push_value(out, value);
 }
 
 /// Adds the slot, the carry and `io`.
+#[tactic(auto, unfolding(ga_node::specs::Record::record_of))]
 fn push_flags(out: &mut Text, node: &Node)
-    requires { array_vec_len out.old + 50 ≤ 256 }
+    requires { array_vec_len out.old + FLAGS_ROOM ≤ LINE_ROOM }
     ensures text { out.new.items ≡ out.old.items ++ flags_text (record_of node.now) }
-    ensures len { array_vec_len out.new ≤ array_vec_len out.old + 43 }
+    ensures len { array_vec_len out.new ≡ array_vec_len out.old + FLAGS_ROOM }
 {
     push_text(out, b" slot ");
-    push_number(out, node.get(Place::Slot));
+    push_digit(out, node.get(Place::Slot) as u8);
     push_text(out, b" carry ");
-    push_number(out, node.get(Place::Carry));
+    push_digit(out, node.get(Place::Carry) as u8);
     push_text(out, b" io ");
-    push_word(out, node.get(Place::Io));
+    push_word(out, Word18::low(node.get(Place::Io)));
 }
 
-/// Adds the data stack, the top first.
+/// Adds both stacks, the top of each first.
+fn push_stacks(out: &mut Text, node: &Node)
+    requires { array_vec_len out.old + STACKS_ROOM ≤ LINE_ROOM }
+    ensures text { out.new.items ≡ out.old.items ++ stacks_text (record_of node.now) }
+    ensures len { array_vec_len out.new ≡ array_vec_len out.old + STACKS_ROOM }
+{
+    push_text(out, b" d");
+    push_data(out, node);
+    push_text(out, b" r");
+    push_returns(out, node);
+}
+
 fn push_data(out: &mut Text, node: &Node)
-    requires { array_vec_len out.old + 70 ≤ 256 }
-    ensures text { out.new.items ≡ out.old.items ++ words_text (record_of node.now).d 10 }
-    ensures len { array_vec_len out.new ≡ array_vec_len out.old + 70 }
+    requires { array_vec_len out.old + DATA_ROOM ≤ LINE_ROOM }
+    ensures text { out.new.items ≡ out.old.items ++ words_text (first_words DATA_WORDS (record_of node.now).d) }
+    ensures len { array_vec_len out.new ≡ array_vec_len out.old + DATA_ROOM }
 {
-    for place in 0..10u8 {
-        push_text(out, b" ");
-        push_word(out, node.d(place));
+    'words: for place in 0..DATA_WORDS {
+        push_value(out, node.d(place));
     }
 }
 
-/// Adds the return stack, the top first.
 fn push_returns(out: &mut Text, node: &Node)
-    requires { array_vec_len out.old + 63 ≤ 256 }
-    ensures text { out.new.items ≡ out.old.items ++ words_text (record_of node.now).r 9 }
-    ensures len { array_vec_len out.new ≡ array_vec_len out.old + 63 }
+    requires { array_vec_len out.old + RETURNS_ROOM ≤ LINE_ROOM }
+    ensures text { out.new.items ≡ out.old.items ++ words_text (first_words RETURN_WORDS (record_of node.now).r) }
+    ensures len { array_vec_len out.new ≡ array_vec_len out.old + RETURNS_ROOM }
 {
-    for place in 0..9u8 {
-        push_text(out, b" ");
-        push_word(out, node.r(place));
+    'words: for place in 0..RETURN_WORDS {
+        push_value(out, node.r(place));
     }
+}
+
+/// Adds a space, and a value of at most 18 bits as a word.
+fn push_value(out: &mut Text, value: u32)
+    requires small { value < 2 ^ 18 }
+    requires room { array_vec_len out.old + 1 + WORD_ROOM ≤ LINE_ROOM }
+    ensures text { out.new.items ≡ out.old.items ++ (codes " " ++ hex6_of value) }
+    ensures len { array_vec_len out.new ≡ array_vec_len out.old + 1 + WORD_ROOM }
+{
+    push_text(out, b" ");
+    push_word(out, Word18::low(value));
 }

@@ -1,12 +1,16 @@
 //! The output, gathered before it is written.
-ghost use Rattle.std.specs.Prelude.{◌≡◌, ◌++◌, ◌+◌, ◌≤◌, length, ℕ, List, []};
-ghost use Rattle.std.specs.Bool.{OnTrue};
+ghost use Rattle.std.specs.Prelude.{◌≡◌, ◌++◌, ◌+◌, ◌≤◌, length, ℕ, List, [], OnOk};
 ghost use Rattle.ga_console.specs.Output.{IsSaid, IsSaidOrCut, ready};
 
-use super::text::Text;
 use arrayvec::ArrayVec;
 use std::io::Write;
 use std::marker::Model;
+use thiserror::Error;
+
+/// A write failed, or took none of the bytes that it was offered.
+#[derive(Clone, Copy, PartialEq, Eq, Debug, Error)]
+#[error("a write failed")]
+pub struct WriteFailed;
 
 /// What was said and is not written yet.
 #[derive(Drop)]
@@ -33,59 +37,68 @@ impl Output {
     }
 
     /// Says a text. What is pending is written first, where there is no room for both.
-    pub fn say<W: Write>(&mut self, writer: &mut W, text: &Text) -> bool
+    ///
+    /// # Errors
+    /// A write failed.
+    pub fn say<W: Write>(&mut self, writer: &mut W, text: &[u8]) -> Result<(), WriteFailed>
+        requires { length text.now ≤ 65536 }
         ensures { (before said : List ℕ) → IsSaid (W.contents writer.old) before said self.old →
-            IsSaidOrCut result (W.contents writer.new) before (said ++ text.now.items) self.new }
+            IsSaidOrCut result (W.contents writer.new) before (said ++ text.now) self.new }
     {
-        if !self.make_room(writer, text.len()) {
-            return false;
-        }
-        let _fits = self.pending.try_extend_from_slice(text.as_slice());
-        true
+        self.make_room(writer, text.len())?;
+        let _fits = self.pending.try_extend_from_slice(text);
+        Ok(())
     }
 
     /// Writes what is pending, where there is no room for so many bytes more.
-    fn make_room<W: Write>(&mut self, writer: &mut W, count: usize) -> bool
+    fn make_room<W: Write>(&mut self, writer: &mut W, count: usize) -> Result<(), WriteFailed>
         requires { count ≤ 65536 }
         ensures said { (before said : List ℕ) → IsSaid (W.contents writer.old) before said self.old →
             IsSaidOrCut result (W.contents writer.new) before said self.new }
-        ensures room { OnTrue result (length self.new + count ≤ 65536) }
+        ensures room { OnOk result (length self.new + count ≤ 65536) }
     {
         if self.pending.remaining_capacity() >= count {
-            return true;
+            return Ok(());
         }
         self.send(writer)
     }
 
     /// Writes all that is pending, and hands it on.
-    pub fn send<W: Write>(&mut self, writer: &mut W) -> bool
+    ///
+    /// # Errors
+    /// A write failed.
+    pub fn send<W: Write>(&mut self, writer: &mut W) -> Result<(), WriteFailed>
         ensures said { (before said : List ℕ) → IsSaid (W.contents writer.old) before said self.old →
             IsSaidOrCut result (W.contents writer.new) before said self.new }
-        ensures sent { OnTrue result (self.new ≡ []) }
+        ensures sent { OnOk result (self.new ≡ []) }
     {
         if self.pending.is_empty() {
-            return true;
+            return Ok(());
         }
-        if !write_all(writer, self.pending.as_slice()) {
-            return false;
-        }
+        write_all(writer, self.pending.as_slice())?;
         self.pending.clear();
-        true
+        Ok(())
     }
 }
 
 /// Writes the whole text and hands it on. A write that takes nothing has failed, and after a failed one nothing is written.
-pub fn write_all<W: Write>(writer: &mut W, text: &[u8]) -> bool
+///
+/// # Errors
+/// A write failed.
+pub fn write_all<W: Write>(writer: &mut W, text: &[u8]) -> Result<(), WriteFailed>
     ensures { (before said : List ℕ) → IsSaid (W.contents writer.old) before said text.now →
         IsSaidOrCut result (W.contents writer.new) before said [] }
 {
     let mut rest = text;
     'bytes: while !rest.is_empty() {
         match writer.write(rest) {
-            Ok(0) => return false,
+            Ok(0) => return Err(WriteFailed),
             Ok(count) => rest = rest.split_at(count).1,
-            Err(_) => return false,
+            Err(_) => return Err(WriteFailed),
         }
     }
-    writer.flush().is_ok()
+    match writer.flush() {
+        Ok(()) => Ok(()),
+        Err(_) => Err(WriteFailed),
+    }
 }

@@ -1,83 +1,83 @@
 //! The answer to a line.
-ghost use Rattle.std.specs.Prelude.{◌≡◌, []};
-ghost use Rattle.ga_console.specs.Replies.{Does, Obeys, reply, AnswersLine};
+ghost use Rattle.ga_console.specs.Output.{Says};
+ghost use Rattle.ga_console.specs.Replies.{Does, Turns};
 
+use super::changes::{back, rewind, step};
 use super::command::{Command, command_of};
-use super::event::{put_event, put_removed, refusal};
 use super::lines::Line;
-use super::machine::Machine;
-use super::node_text::put_node;
-use super::text::{Text, push_text};
+use super::output::{Output, WriteFailed};
+use super::readings::{count, memory, node, trace, why};
+use ga_lab::Lab;
+use std::io::Write;
 
 /// The most bytes that a line has before its line feed.
 const LINE_LIMIT: usize = 200;
 
-/// The row and column of the node that is served.
-const SERVED: u32 = 0;
-
 /// What a line asks for.
 #[derive(Clone, Copy, PartialEq, Eq)]
 pub enum Turn {
-    /// Its answer is in the text.
+    /// An answer, which was said.
     Answered,
-    /// It ends the session.
+    /// The end of the session.
     Quit,
 }
 
-/// The answer to a line, of which at least the first 201 bytes are here.
-pub fn answer(machine: &mut Machine, line: &Line, out: &mut Text) -> Turn
-    ensures { AnswersLine machine.old line.now.items out.new.items machine.new result }
+/// Answers a line, of which at least the first 201 bytes are here.
+///
+/// # Errors
+/// A write failed.
+pub fn answer<W: Write>(
+    lab: &mut Lab,
+    line: &Line,
+    output: &mut Output,
+    writer: &mut W,
+) -> Result<Turn, WriteFailed>
+    ensures { Says result (Turns lab.old line.now.items lab.new result)
+        (W.contents writer.old) output.old (W.contents writer.new) output.new }
 {
-    out.clear();
     if line.len() > LINE_LIMIT {
-        push_text(out, b"no 32 long\n");
-        return Turn::Answered;
+        output.say(writer, b"no 32 long\n")?;
+        return Ok(Turn::Answered);
     }
     match command_of(line.as_slice()) {
         None => {
-            push_text(out, b"no 31 syntax\n");
-            Turn::Answered
+            output.say(writer, b"no 31 syntax\n")?;
+            Ok(Turn::Answered)
         }
-        Some(command) => obey(machine, command, out),
+        Some(command) => match command {
+            Command::Quit => Ok(Turn::Quit),
+            _ => {
+                obey(lab, command, output, writer)?;
+                Ok(Turn::Answered)
+            }
+        },
     }
 }
 
-fn obey(machine: &mut Machine, command: Command, out: &mut Text) -> Turn
-    requires { out.old.items ≡ [] }
-    ensures { Obeys machine.old command out.new.items machine.new result }
+/// Carries a command out. `quit` asks for nothing here.
+fn obey<W: Write>(
+    lab: &mut Lab,
+    command: Command,
+    output: &mut Output,
+    writer: &mut W,
+) -> Result<(), WriteFailed>
+    ensures { Says result (λ text. Does lab.old command text lab.new)
+        (W.contents writer.old) output.old (W.contents writer.new) output.new }
 {
     match command {
-        Command::Step => step(machine, out),
-        Command::Back => back(machine, out),
-        Command::Node => show(machine, out),
-        Command::Quit => return Turn::Quit,
+        Command::Step(at) => step(lab, at, output, writer),
+        Command::Back => back(lab, output, writer),
+        Command::Rewind(at, number) => rewind(lab, at, number, output, writer),
+        Command::Node(at) => node(lab, at, output, writer),
+        Command::Memory(at, address) => memory(lab, at, address, output, writer),
+        Command::Trace(at) => trace(lab, at, output, writer),
+        Command::Why {
+            from,
+            from_step,
+            to,
+            to_step,
+        } => why(lab, (from, from_step), (to, to_step), output, writer),
+        Command::Count => count(lab, output, writer),
+        Command::Quit => Ok(()),
     }
-    Turn::Answered
-}
-
-fn step(machine: &mut Machine, out: &mut Text)
-    requires { out.old.items ≡ [] }
-    ensures { Does machine.old Command.Step out.new.items machine.new }
-{
-    match machine.step() {
-        Ok(made) => put_event(out, SERVED, made),
-        Err(fault) => push_text(out, refusal(fault)),
-    }
-}
-
-fn back(machine: &mut Machine, out: &mut Text)
-    requires { out.old.items ≡ [] }
-    ensures { (out.new.items, machine.new) ≡ reply machine.old Command.Back }
-{
-    match machine.undo() {
-        Some(kept) => put_removed(out, 1, kept),
-        None => push_text(out, b"no 5 empty\n"),
-    }
-}
-
-fn show(machine: &Machine, out: &mut Text)
-    requires { out.old.items ≡ [] }
-    ensures { (out.new.items, machine.now) ≡ reply machine.now Command.Node }
-{
-    put_node(out, SERVED, machine.node());
 }

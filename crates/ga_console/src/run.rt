@@ -2,24 +2,24 @@
 ghost use Rattle.std.specs.Prelude.{◌≡◌, ◌++◌, ℕ, List, Some, IfOk, IfErr};
 ghost use Rattle.ga_console.specs.Input.{IsWithin};
 ghost use Rattle.ga_console.specs.Output.{IsSaid};
-ghost use Rattle.ga_console.specs.Run.{Runs, AfterImage, AfterAll, Refuses, Opens, IsFault, status_of as status_that};
+ghost use Rattle.ga_console.specs.Run.{Runs, AfterImage, Refuses, Opens, IsFault, status_of as status_that};
 
 use super::commands::{Ending, serve};
 use super::fault_text::put_fault;
 use super::image::{ImageEnd, read_image};
 use super::input::Input;
-use super::machine::Machine;
-use super::output::{Output, write_all};
+use super::output::{Output, WriteFailed, write_all};
 use super::text::Text;
-use ga_grid::NodeId;
 use ga_image::{ImageCause, ImageFault, parse};
-use ga_node::Node;
+use ga_lab::Lab;
 use std::alloc::Global;
 use std::io::{Read, Write};
-use std::mem;
 
-/// The number of the node that is served.
-const SERVED: u8 = 0;
+/// The fault of an image for which memory was wanting.
+const NO_MEMORY: ImageFault = ImageFault {
+    line: 0,
+    cause: ImageCause::Memory,
+};
 
 /// How a session ended.
 #[derive(Clone, Copy, Debug, PartialEq, Eq)]
@@ -53,15 +53,10 @@ pub fn session<R: Read, W: Write>(
     let mut input = Input::new();
     let mut image = Vec::new(alloc);
     match read_image(&mut input, reader, &mut image) {
-        Err(_) => {
-            let fault = ImageFault {
-                line: 0,
-                cause: ImageCause::Memory,
-            };
-            refuse(writer, fault)
-        }
+        Err(_) => refuse(writer, NO_MEMORY),
         Ok(ImageEnd::Failed) => Status::StreamFault,
-        Ok(ImageEnd::Past) => after_all(alloc, writer, image, limit),
+        // No image that is accepted is so long.
+        Ok(ImageEnd::Past) => after_image(alloc, &mut input, reader, writer, image, limit),
         Ok(ImageEnd::Ended) => after_image(alloc, &mut input, reader, writer, image, limit),
         Ok(ImageEnd::EndLine) => after_image(alloc, &mut input, reader, writer, image, limit),
     }
@@ -85,37 +80,24 @@ fn after_image<R: Read, W: Write>(
         × AfterImage limit image.items input.old.taken read rest text result }
 {
     match open(alloc, image, limit) {
-        Ok(mut machine) => {
+        Ok(mut lab) => {
             let mut output = Output::ready();
-            status_of(serve(input, reader, &mut output, writer, &mut machine))
+            status_of(serve(input, reader, &mut output, writer, &mut lab))
         }
         Err(fault) => refuse(writer, fault),
     }
 }
 
-/// Says that the input goes past its bound, where that is reached before the image's line `end`.
-fn after_all<W: Write>(alloc: Global, writer: &mut W, image: Vec<u8>, limit: u32) -> Status
-    ensures { (before : List ℕ) → W.contents writer.old ≡ Some before →
-        (text : List ℕ) × (W.contents writer.new ≡ Some (before ++ text)) × AfterAll limit image.items text result }
-{
-    let fault = match open(alloc, image, limit) {
-        Err(fault) => fault,
-        Ok(_machine) => {
-            let _written = write_all(writer, b"ready\nno 33 input\n");
-            return Status::StreamFault;
-        }
-    };
-    refuse(writer, fault)
-}
-
-/// The machine that an image describes, or the image's first fault.
-fn open(alloc: Global, image: Vec<u8>, limit: u32) -> Result<Machine, ImageFault>
-    ensures ok { IfOk result (λ machine. Opens image.items limit machine) }
+/// A lab that has the image's chip as its load, or the image's first fault.
+fn open(alloc: Global, image: Vec<u8>, limit: u32) -> Result<Lab, ImageFault>
+    ensures ok { IfOk result (λ lab. Opens image.items limit lab) }
     ensures err { IfErr result (λ fault. IsFault image.items fault) }
 {
-    let mut chip = parse(alloc, image.as_slice())?;
-    let node = mem::replace(chip.node_mut(NodeId::new(SERVED)), Node::new(0));
-    Ok(Machine::new(alloc, node, limit))
+    let chip = parse(alloc, image.as_slice())?;
+    match Lab::new(alloc, chip, limit) {
+        Ok(lab) => Ok(lab),
+        Err(_) => Err(NO_MEMORY),
+    }
 }
 
 /// Writes the text of a refused image.
@@ -125,21 +107,20 @@ fn refuse<W: Write>(writer: &mut W, fault: ImageFault) -> Status
 {
     let mut text = Text::new();
     put_fault(&mut text, fault);
-    if write_all(writer, text.as_slice()) {
-        Status::ImageRefused
-    } else {
-        Status::StreamFault
+    match write_all(writer, text.as_slice()) {
+        Ok(()) => Status::ImageRefused,
+        Err(WriteFailed) => Status::StreamFault,
     }
 }
 
-fn status_of(ending: Ending) -> Status
+fn status_of(ending: Result<Ending, WriteFailed>) -> Status
     ensures { result ≡ status_that ending }
 {
     match ending {
-        Ending::Ended => Status::Done,
-        Ending::Quit => Status::Done,
-        Ending::Past => Status::StreamFault,
-        Ending::ReadFailed => Status::StreamFault,
-        Ending::WriteFailed => Status::StreamFault,
+        Ok(Ending::Ended) => Status::Done,
+        Ok(Ending::Quit) => Status::Done,
+        Ok(Ending::Past) => Status::StreamFault,
+        Ok(Ending::ReadFailed) => Status::StreamFault,
+        Err(WriteFailed) => Status::StreamFault,
     }
 }

@@ -1,3 +1,5 @@
+mod commands;
 mod runs;
 mod settings;
 mod streams;
+mod texts;

@@ -4,7 +4,8 @@ use Rattle.std.proofs.lemmas.List.{set-set, set-get_or, get_or-set_same, get_or-
 use Rattle.ga_node.specs.State.{NodeState, restored, IsApart}
 use Rattle.ga_node.specs.Record.{record_of}
 use Rattle.ga_node.specs.Table.{t, own, refusal, sent, taken}
-use Rattle.ga_node.specs.Saving.{IsEvent, IsChange}
+use Rattle.ga_node.specs.Saving.{Overwrites}
+use Rattle.ga_node.specs.Changes.{Change}
 use Rattle.ga_node.specs.declared.kind.Kind.{Kind}
 use Rattle.ga_node.specs.declared.place.Place.{Place}
 use Rattle.ga_ports.specs.declared.side.Side.{Side}
@@ -30,9 +31,9 @@ restored_back chip n new saved l back =
 
 pub own_applied : (chip : List NodeState) (node : NodeId) (new : NodeState) (kind : Kind) (saved : List (Place × ℕ)) → node.number < length chip
     → refusal (record_of (node_at chip node.number)) ≡ None → IsApart (node_at chip node.number)
-    → IsEvent (node_at chip node.number) (own (record_of (node_at chip node.number))) new kind saved
+    → (kind, record_of new) ≡ own (record_of (node_at chip node.number)) → {changes : List Change} → Overwrites changes (node_at chip node.number) new saved
     → IsApplied chip (event.Own node) (effect.Own kind saved) (with_node chip node.number new)
-own_applied chip node new kind saved l ready apart made =
+own_applied chip node new kind saved l ready apart made saves =
     let n = node.number in
     let read : record_at (records_of chip) n ≡ record_of (node_at chip n) = record_at-records_of chip n in
     record {
@@ -40,12 +41,12 @@ own_applied chip node new kind saved l ready apart made =
       done =
           ap (λ z. unless (refusal z) (after_own (records_of chip) n (own z))) read
           ∙ ap (λ z. unless z (after_own (records_of chip) n (own (record_of (node_at chip n))))) ready
-          ∙ ap (λ z. Some (after_own (records_of chip) n z)) (sym made.effect)
+          ∙ ap (λ z. Some (after_own (records_of chip) n z)) (sym made)
           ∙ ap (λ z. Some (z, Did kind)) (sym (records_of-with_node chip n new));
-      undone = restored_back chip n new saved l made.undone;
+      undone = restored_back chip n new saved l saves.undone;
       ready = record {
-        fit = made.fit;
-        apart = subst (λ z. IsApart (restored z saved)) (sym (get_or-set_same chip n new nowhere l)) (subst (λ z. IsApart z) (sym made.undone) apart);
+        fit = saves.fit;
+        apart = subst (λ z. IsApart (restored z saved)) (sym (get_or-set_same chip n new nowhere l)) (subst (λ z. IsApart z) (sym saves.undone) apart);
       };
     }
 
@@ -53,10 +54,10 @@ pub pass_applied : (chip : List NodeState) (writer reader : NodeId) (side : Side
     → writer.number < length chip → reader.number < length chip → writer.number ≢ reader.number
     → is_open writer.number reader.number side (record_at (records_of chip) writer.number).wait (record_at (records_of chip) reader.number).wait ≡ true
     → word ≡ t (record_of (node_at chip writer.number))
-    → IsChange (node_at chip writer.number) (sent (record_of (node_at chip writer.number))) new_writer gave → IsApart (node_at chip writer.number)
-    → IsChange (node_at chip reader.number) (taken word (record_of (node_at chip reader.number))) new_reader took → IsApart (node_at chip reader.number)
+    → record_of new_writer ≡ sent (record_of (node_at chip writer.number)) → {gives : List Change} → Overwrites gives (node_at chip writer.number) new_writer gave → IsApart (node_at chip writer.number)
+    → record_of new_reader ≡ taken word (record_of (node_at chip reader.number)) → {takes : List Change} → Overwrites takes (node_at chip reader.number) new_reader took → IsApart (node_at chip reader.number)
     → IsApplied chip (event.Pass writer reader side) (effect.Pass word gave took) (with_node (with_node chip writer.number new_writer) reader.number new_reader)
-pass_applied chip writer reader side x y word gave took lw lr other open_ told sending apart_w taking apart_r =
+pass_applied chip writer reader side x y word gave took lw lr other open_ told sending given apart_w taking taken_ apart_r =
     let w = writer.number in
     let r = reader.number in
     let both : List NodeState = with_node (with_node chip w x) r y in
@@ -66,7 +67,7 @@ pass_applied chip writer reader side x y word gave took lw lr other open_ told s
     let lr2 : r < length (set chip w x) = subst (λ z. r < z) (sym (length-set chip w x)) lr in
     let second : node_at both r ≡ y = get_or-set_same (set chip w x) r y nowhere lr2 in
     let back_r : restored_at both r took ≡ with_node chip w x =
-    restored_back (set chip w x) r y took lr2 (taking.undone ∙ sym (get_or-set_other chip w r x nowhere (λ e. other (sym e)))) in
+    restored_back (set chip w x) r y took lr2 (taken_.undone ∙ sym (get_or-set_other chip w r x nowhere (λ e. other (sym e)))) in
     record {
       of_kind = other;
       done =
@@ -74,15 +75,15 @@ pass_applied chip writer reader side x y word gave took lw lr other open_ told s
           ∙ ap (λ z. Some (after_pass (records_of chip) w r z (record_at (records_of chip) r))) read_w
           ∙ ap (λ z. Some (after_pass (records_of chip) w r (record_of (node_at chip w)) z)) read_r
           ∙ ap (λ z. Some (set (set (records_of chip) w (sent (record_of (node_at chip w)))) r (taken z (record_of (node_at chip r))), Carried z)) (sym told)
-          ∙ ap (λ z. Some (set (set (records_of chip) w z) r (taken word (record_of (node_at chip r))), Carried word)) (sym sending.effect)
-          ∙ ap (λ z. Some (set (set (records_of chip) w (record_of x)) r z, Carried word)) (sym taking.effect)
+          ∙ ap (λ z. Some (set (set (records_of chip) w z) r (taken word (record_of (node_at chip r))), Carried word)) (sym sending)
+          ∙ ap (λ z. Some (set (set (records_of chip) w (record_of x)) r z, Carried word)) (sym taking)
           ∙ ap (λ z. Some (set z r (record_of y), Carried word)) (sym (records_of-with_node chip w x))
           ∙ ap (λ z. Some (z, Carried word)) (sym (records_of-with_node (with_node chip w x) r y));
-      undone = ap (λ z. restored_at z w gave) back_r ∙ restored_back chip w x gave lw sending.undone;
+      undone = ap (λ z. restored_at z w gave) back_r ∙ restored_back chip w x gave lw given.undone;
       ready = (
         other,
-        record { fit = sending.fit; apart = subst (λ z. IsApart (restored z gave)) (sym first) (subst (λ z. IsApart z) (sym sending.undone) apart_w) },
-        record { fit = taking.fit; apart = subst (λ z. IsApart (restored z took)) (sym second) (subst (λ z. IsApart z) (sym taking.undone) apart_r) },
+        record { fit = given.fit; apart = subst (λ z. IsApart (restored z gave)) (sym first) (subst (λ z. IsApart z) (sym given.undone) apart_w) },
+        record { fit = taken_.fit; apart = subst (λ z. IsApart (restored z took)) (sym second) (subst (λ z. IsApart z) (sym taken_.undone) apart_r) },
       );
     }
 

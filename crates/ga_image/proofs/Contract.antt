@@ -8,6 +8,11 @@ use Rattle.ga_image.specs.Grammar.{IsImage}
 use Rattle.ga_image.proofs.Accepted.{image_read}
 use Rattle.ga_image.proofs.Found.{image_found}
 
+-- a call that meets no want of memory
+pub gives_by : (result read : Result (List NodeState) ImageFault) → result ≡ read → Gives result read
+gives_by (Ok chip) read same = sym same
+gives_by (Err fault) read same = inr (sym same)
+
 -- what is accepted is an image
 pub found_by : (result : Result (List NodeState) ImageFault) (texts : List (List ℕ)) → Gives result (reading start 1 texts) → IfOk result (λ chip. IsImage texts chip)
 found_by (Ok chip) texts gives = image_found texts chip gives

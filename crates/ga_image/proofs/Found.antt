@@ -84,7 +84,7 @@ node_ok progress y none =
     let node = named (node_of y) first.0 in
     (node.0, node.1, ap (has_block progress) (sym node.1) ∙ second.0)
 
-within : (field : Field) (count : ℕ) → goes_past field count ≡ false → Fits field count
+pub within : (field : Field) (count : ℕ) → goes_past field count ≡ false → Fits field count
 within A count e = tt
 within B count e = tt
 within P count e = tt

@@ -13,3 +13,6 @@ pub mod Found
 pub mod Contract
 pub mod Room
 pub mod Sizes
+pub mod Causes
+pub mod Behind
+pub mod FirstFaults

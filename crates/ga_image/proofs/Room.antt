@@ -99,7 +99,7 @@ known stage.Open = inr (λ e. cc)
 known (stage.Block node) = inr (λ e. cc)
 known stage.Ended = inr (λ e. cc)
 
-past_start : (progress : Progress) (text : List ℕ) → progress.stage ≡ stage.Header → after_line progress text ≡ record progress { stage = stage.Open }
+pub past_start : (progress : Progress) (text : List ℕ) → progress.stage ≡ stage.Header → after_line progress text ≡ record progress { stage = stage.Open }
 past_start progress text is = short_past progress text ∙ rw is refl
 
 -- each line leaves less room for others

@@ -8,3 +8,4 @@ pub mod Digits
 pub mod Forms
 pub mod Progress
 pub mod Reading
+pub mod FirstFault

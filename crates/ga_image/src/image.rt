@@ -1,10 +1,12 @@
 //! A text as an image.
 
-ghost use Rattle.std.specs.Prelude.{◌≡◌, List, IfOk};
+ghost use Rattle.std.specs.Prelude.{◌≡◌, ◌⊎◌, List, IfOk, IfErr};
 ghost use Rattle.ga_node.specs.State.{NodeState};
+ghost use Rattle.ga_grid.specs.Chip.{default_chip};
+ghost use Rattle.ga_image.specs.FirstFault.{IsFirstFault};
 ghost use Rattle.ga_image.specs.Grammar.{IsImage};
 ghost use Rattle.ga_image.specs.Lines.{lines_of};
-ghost use Rattle.ga_image.specs.Reading.{start, reading, Gives};
+ghost use Rattle.ga_image.specs.Reading.{start, reading, no_memory, Gives};
 
 use super::fault::{ImageCause, ImageFault};
 use super::lines::first_line;
@@ -20,21 +22,26 @@ pub fn parse(alloc: Global, text: &[u8]) -> Result<Chip, ImageFault>
     // Each image is accepted with its chip, unless memory is refused.
     ensures only { (chip : List NodeState) → IsImage (lines_of text.now) chip → Gives result (Ok chip) }
 
-    // Which fault is answered.
+    // What is refused is refused with the first fault of its lines, unless memory is refused.
+    ensures refused { IfErr result (λ fault. (fault ≡ no_memory) ⊎ IsFirstFault (lines_of text.now) fault) }
+
+    // The same by reading line after line.
     ensures exact { Gives result (reading start 1 (lines_of text.now)) }
 {
-    read(alloc, text)
-}
-
-fn read(alloc: Global, text: &[u8]) -> Result<Chip, ImageFault>
-    ensures { Gives result (reading start 1 (lines_of text.now)) }
-{
-    let Ok(chip) = Chip::new(alloc) else {
-        return Err(ImageFault {
+    match Chip::new(alloc) {
+        Ok(chip) => read(chip, text),
+        Err(_) => Err(ImageFault {
             line: 0,
             cause: ImageCause::Memory,
-        });
-    };
+        }),
+    }
+}
+
+/// Reads a text into a chip at load.
+fn read(chip: Chip, text: &[u8]) -> Result<Chip, ImageFault>
+    requires { chip ≡ default_chip }
+    ensures { result ≡ reading start 1 (lines_of text.now) }
+{
     let mut parser = Parser::new(chip);
     let mut rest = text;
     let mut line = 1;

@@ -1,11 +1,23 @@
 //! Laws of the definitions, each the contract of a function that does nothing.
 
-ghost use Rattle.std.specs.Prelude.{ℕ, ◌<◌, List, length};
+ghost use Rattle.std.specs.Prelude.{ℕ, ◌≡◌, ◌<◌, ◌↔◌, List, length, Ok, Err};
 ghost use Rattle.ga_node.specs.State.{NodeState};
+ghost use Rattle.ga_image.specs.declared.fault.ImageFault.{ImageFault};
+ghost use Rattle.ga_image.specs.FirstFault.{IsFirstFault};
 ghost use Rattle.ga_image.specs.Grammar.{IsImage};
 ghost use Rattle.ga_image.specs.Lines.{lines_of};
+ghost use Rattle.ga_image.specs.Reading.{start, reading};
 
 /// An image is shorter than 2 ^ 24 bytes: a block has at most one line for each field, and a line at most 200 bytes.
 pub fn images_are_short()
     ensures { (text : List ℕ) (chip : List NodeState) → IsImage (lines_of text) chip → length text < 16777216 }
+{}
+
+/// Reading line after line accepts the images alone, each with its chip, and answers the first fault of any other text: so a
+/// text is an image of one chip or has one first fault, and never both.
+pub fn reading_tells()
+    ensures images { (texts : List (List ℕ)) (chip : List NodeState) →
+        IsImage texts chip ↔ (reading start 1 texts ≡ Ok chip) }
+    ensures faults { (texts : List (List ℕ)) (fault : ImageFault) →
+        IsFirstFault texts fault ↔ (reading start 1 texts ≡ Err fault) }
 {}

@@ -238,23 +238,18 @@ fn long_lines(rt: HostRuntime) -> Result<(), Fail> {
     Ok(())
 }
 
-/// Memory is taken before the text is looked at: where it is refused, nothing is said of the text.
+/// With enough memory a text without any line is told as one that ends too early.
 #[test]
-fn refused_memory(rt: HostRuntime) {
-    let refused = ImageFault {
-        line: 0,
-        cause: ImageCause::Memory,
-    };
-    let header = ImageFault {
-        line: 1,
-        cause: ImageCause::Header,
-    };
-    match parse(rt.alloc(), b"x") {
+fn empty_text(rt: HostRuntime) {
+    match parse(rt.alloc(), b"") {
         Ok(_) => assert!(rt; false, "accepted"),
-        Err(fault) => assert!(rt; fault == header || fault == refused, "{fault}"),
-    }
-    if let Err(fault) = parse(rt.alloc(), SENDER) {
-        assert_eq!(rt; fault, refused);
+        Err(fault) => assert_eq!(rt;
+            fault,
+            ImageFault {
+                line: 1,
+                cause: ImageCause::Truncated,
+            }
+        ),
     }
 }
 

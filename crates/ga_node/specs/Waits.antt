@@ -1,8 +1,6 @@
 -- What a node waits for, by number: 0 for nothing; else 16 for a fetch, 32 for a read and 48 for a write, and the sides.
 use Rattle.std.specs.Prelude.{ℕ, ◌+◌, ◌-◌, ◌<◌, ◌≡◌, ◌⊎◌, ◌==◌, nat_lt, if◌then◌else◌}
-use Rattle.ga_ports.specs.Address.{only}
-use Rattle.ga_ports.specs.declared.side.Side.{Side}
-use Rattle.ga_ports.specs.declared.side.Side.TheVariants.{Right, Down, Left, Up}
+use Rattle.ga_ports.specs.Address.{only, side_of}
 use Rattle.ga_node.specs.declared.wait.Wait.{Wait}
 use Rattle.ga_node.specs.declared.wait.Wait.TheVariants.{Nothing, Fetch, Read, Write}
 
@@ -12,10 +10,6 @@ wait_code Nothing = 0
 wait_code (Fetch sides) = 16 + sides
 wait_code (Read sides) = 32 + sides
 wait_code (Write side) = 48 + only side
-
--- the side of a number
-abbrev pub side_of : ℕ → Side
-side_of sides = if sides == 8 then Right else if sides == 4 then Down else if sides == 2 then Left else Up
 
 -- the wait of a number
 abbrev pub wait_of : ℕ → Wait

@@ -45,9 +45,8 @@ pub fn classify(address: u32) -> Target
 
 /// P after a word was read or written there: its low seven bits count up, unless it names a port.
 pub fn advance_p(p: u32) -> u32
-    requires { p < 2 ^ 10 }
     ensures value { result ≡ advanced p }
-    ensures in_range { result < 2 ^ 10 }
+    ensures in_range { p < 2 ^ 10 → result < 2 ^ 10 }
 {
     if p / 256 % 2 == 1 {
         p

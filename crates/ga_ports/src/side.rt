@@ -1,7 +1,7 @@
 //! Sides, and the sets of sides that an address names.
 
 ghost use Rattle.std.specs.Prelude.{◌≡◌, ◌<◌, ◌≤◌, IfSome, IsSome, ◌↔◌, IsTrue};
-ghost use Rattle.ga_ports.specs.Address.{only, has_side, matched, IsSingle};
+ghost use Rattle.ga_ports.specs.Address.{only, has_side, side_of, matched, IsSingle};
 
 use std::marker::Model;
 
@@ -91,6 +91,7 @@ impl PortSet {
     /// The side, where the set has no other.
     pub fn single(self) -> Option<Side>
         ensures found { IfSome result (λ side. self ≡ only side) }
+        ensures side { IfSome result (λ side. side ≡ side_of self) }
         ensures none { IsSome result ↔ IsSingle self }
     {
         match self.sides {

@@ -42,9 +42,9 @@ abbrev pub AreFit : ℕ → List (StackPlace × ℕ) → Type 0
 AreFit registers [] = Unit {0}
 AreFit registers (saved ∷ rest) = HasPlace registers saved.0 × FitsPlace saved.0 saved.1 × AreFit registers rest
 
--- the places that a change tells
-abbrev pub places_in : List (StackPlace × ℕ) → List StackPlace
-places_in saved = map (λ v. v.0) saved
+-- what stands at some places, as a change of them tells it
+abbrev pub old_words : Ring → List StackPlace → List (StackPlace × ℕ)
+old_words ring places = map (λ place. (place, word_at ring place)) places
 
 -- no place twice
 abbrev pub IsOnce : List (StackPlace × ℕ) → Type 0

@@ -3,7 +3,7 @@
 ghost use Rattle.std.specs.Prelude.{◌≡◌, ◌<◌, ◌≤◌, ◌+◌, ◌%◌, [], ◌∷◌, slice_index, length};
 ghost use Rattle.ga_stacks.specs.declared.place.StackPlace.TheVariants.{Pointer, Top, Cell};
 ghost use Rattle.ga_stacks.specs.Ring.{fresh_ring, listed, pushed, popped_return, topped};
-ghost use Rattle.ga_stacks.specs.Stack.{word_at, with_word, restored, places_in, HasPlace, FitsPlace, AreFit, IsOnce};
+ghost use Rattle.ga_stacks.specs.Stack.{word_at, old_words, with_word, restored, HasPlace, FitsPlace, AreFit, IsOnce};
 
 use crate::place::{CELLS, Overwritten, StackPlace};
 use arrayvec::ArrayVec;
@@ -77,7 +77,7 @@ impl ReturnStack {
     pub fn push(&mut self, word: Word18) -> Overwritten
         ensures pushed { listed self.new ≡ pushed word (listed self.old) }
         ensures undone { restored self.new result.items ≡ self.old }
-        ensures places { places_in result.items ≡ Pointer ∷ Cell ((self.old.pointer + 7) % 8) ∷ Top ∷ [] }
+        ensures overwritten { result.items ≡ old_words self.old (Pointer ∷ Cell ((self.old.pointer + 7) % 8) ∷ Top ∷ []) }
         ensures fit { AreFit 1 result.items }
         ensures once { IsOnce result.items }
         ensures count { length result.items ≤ 3 }
@@ -100,7 +100,7 @@ impl ReturnStack {
     pub fn pop(&mut self) -> Overwritten
         ensures popped { listed self.new ≡ popped_return (listed self.old) }
         ensures undone { restored self.new result.items ≡ self.old }
-        ensures places { places_in result.items ≡ Pointer ∷ Top ∷ [] }
+        ensures overwritten { result.items ≡ old_words self.old (Pointer ∷ Top ∷ []) }
         ensures fit { AreFit 1 result.items }
         ensures once { IsOnce result.items }
         ensures count { length result.items ≤ 2 }
@@ -117,7 +117,7 @@ impl ReturnStack {
     pub fn replace_top(&mut self, word: Word18) -> Overwritten
         ensures topped { listed self.new ≡ topped word (listed self.old) }
         ensures undone { restored self.new result.items ≡ self.old }
-        ensures places { places_in result.items ≡ Top ∷ [] }
+        ensures overwritten { result.items ≡ old_words self.old (Top ∷ []) }
         ensures fit { AreFit 1 result.items }
         ensures once { IsOnce result.items }
         ensures count { length result.items ≤ 1 }

@@ -8,11 +8,36 @@ use ga_ports::{Target, classify};
 use ga_word::Word18;
 
 impl Node {
-    ghost use Rattle.std.specs.Prelude.{◌≡◌, ◌+◌, ◌<◌, ◌≤◌, ◌^◌, ◌%◌, length, slice_index, slice_set, List, min, [], Ok, Err, IfOk, IfErr, OnOk, OnErr, Some, None, IfNone, MatchResult};
+    ghost use Rattle.std.specs.Prelude.{◌≡◌, ◌≤◌, [], Ok, IfOk, IfErr, OnOk, length};
     ghost use Rattle.ga_ports.specs.Address.{classified};
     ghost use Rattle.ga_node.specs.Record.{record_of};
-    ghost use Rattle.ga_node.specs.Saving.{Saves};
-    ghost use Rattle.ga_node.specs.Table.{found, stored, IsRunning};
+    ghost use Rattle.ga_node.specs.Saving.{IsMade, IsDone, IsEnded};
+    ghost use Rattle.ga_node.specs.Table.{found, stored, posts, halts, IsRunning};
+
+    /// The node waits, in place of the event's whole effect.
+    #[inline(always)]
+    fn wait_for(&mut self, saved: &mut Saved, wait: Wait) -> Kind
+        requires running { IsRunning (record_of self.old) }
+        requires empty { saved.old ≡ [] }
+        ensures kind { result ≡ (posts wait).0 }
+        ensures made { IsMade (posts wait).1 self.old self.new saved.new }
+    {
+        self.post(saved, wait);
+        Kind::Wait
+    }
+
+    /// The node stops, in place of the event's whole effect.
+    #[inline(always)]
+    fn stop_with(&mut self, saved: &mut Saved, code: u8) -> Kind
+        requires running { IsRunning (record_of self.old) }
+        requires in_range { code ≤ 3 }
+        requires empty { saved.old ≡ [] }
+        ensures kind { result ≡ (halts code).0 }
+        ensures made { IsMade (halts code).1 self.old self.new saved.new }
+    {
+        self.halt(saved, code);
+        Kind::Stop(code)
+    }
 
     /// What a read at an address gives: a word, or the kind of the event that it has become.
     #[tactic(auto, unfolding(crate::specs::Record::record_of, crate::specs::Table::found))]
@@ -24,32 +49,24 @@ impl Node {
         reader: Reader,
     ) -> Result<Word18, Kind>
         requires running { IsRunning (record_of self.old) }
-        requires room { length saved.old < 7 }
+        requires empty { saved.old ≡ [] }
         ensures word { IfOk result (λ word. found (classified address) reader (record_of self.old) ≡ Ok word) }
         ensures same { OnOk result (self.new ≡ self.old) }
-        ensures unsaved { OnOk result (saved.new ≡ saved.old) }
-        ensures event { IfErr result (λ kind. found (classified address) reader (record_of self.old) ≡ Err (kind, record_of self.new)) }
-        ensures saves { OnErr result (Saves self.old saved.old self.new saved.new 1) }
+        ensures unsaved { OnOk result (saved.new ≡ []) }
+        ensures ended { IfErr result (λ kind. IsEnded (found (classified address) reader (record_of self.old)) kind self.old self.new saved.new) }
     {
         match classify(address) {
             Target::Ram(k) => Ok(self.ram[k as usize]),
             Target::Rom(k) => Ok(self.rom[k as usize]),
-            Target::Io => {
-                self.halt(saved, 3);
-                Err(Kind::Stop(3))
-            }
+            Target::Io => Err(self.stop_with(saved, 3)),
             Target::Ports(sides) => {
                 let wait = match reader {
                     Reader::Instruction => Wait::Fetch(sides),
                     Reader::Stack => Wait::Read(sides),
                 };
-                self.post(saved, wait);
-                Err(Kind::Wait)
+                Err(self.wait_for(saved, wait))
             }
-            Target::Bad => {
-                self.halt(saved, 2);
-                Err(Kind::Stop(2))
-            }
+            Target::Bad => Err(self.stop_with(saved, 2)),
         }
     }
 
@@ -58,10 +75,10 @@ impl Node {
     #[inline(always)]
     pub(super) fn write(&mut self, saved: &mut Saved, address: u32) -> Result<(), Kind>
         requires running { IsRunning (record_of self.old) }
-        requires room { length saved.old < 7 }
-        ensures written { OnOk result (stored (classified address) (record_of self.old) ≡ Ok (record_of self.new)) }
-        ensures event { IfErr result (λ kind. stored (classified address) (record_of self.old) ≡ Err (kind, record_of self.new)) }
-        ensures saves { Saves self.old saved.old self.new saved.new 1 }
+        requires empty { saved.old ≡ [] }
+        ensures done { OnOk result (IsDone (stored (classified address) (record_of self.old)) self.old self.new saved.new) }
+        ensures few { length saved.new ≤ 1 }
+        ensures ended { IfErr result (λ kind. IsEnded (stored (classified address) (record_of self.old)) kind self.old self.new saved.new) }
     {
         let word = self.top();
         match classify(address) {
@@ -75,19 +92,10 @@ impl Node {
                 Ok(())
             }
             Target::Ports(sides) => match sides.single() {
-                Some(side) => {
-                    self.post(saved, Wait::Write(side));
-                    Err(Kind::Wait)
-                }
-                None => {
-                    self.halt(saved, 1);
-                    Err(Kind::Stop(1))
-                }
+                Some(side) => Err(self.wait_for(saved, Wait::Write(side))),
+                None => Err(self.stop_with(saved, 1)),
             },
-            Target::Bad => {
-                self.halt(saved, 2);
-                Err(Kind::Stop(2))
-            }
+            Target::Bad => Err(self.stop_with(saved, 2)),
         }
     }
 }

@@ -1,20 +1,20 @@
 //! Opcodes that compute.
 
 use super::Node;
-use crate::kind::Kind;
 use crate::saved::Saved;
 use ga_slots::Op;
 use ga_word::Word18;
 
 impl Node {
-    ghost use Rattle.std.specs.Prelude.{◌≡◌, ◌+◌, ◌<◌, ◌≤◌, ◌^◌, ◌%◌, length, slice_index, slice_set, List, min, [], Ok, Err, IfOk, IfErr, OnOk, OnErr, Some, None, IfNone, MatchResult};
+    ghost use Rattle.std.specs.Prelude.{◌≡◌, []};
     ghost use Rattle.ga_node.specs.Record.{record_of};
-    ghost use Rattle.ga_node.specs.Saving.{IsEvent};
-    ghost use Rattle.ga_node.specs.Table.{ran, IsRunning};
+    ghost use Rattle.ga_node.specs.Saving.{IsDone};
+    ghost use Rattle.ga_node.specs.Table.{effect};
 
-    pub(super) fn run_multiply_step(&mut self, saved: &mut Saved) -> Kind
+    /// `+*`, multiply step: S is added to T where A is odd, and T and A are shifted right as one.
+    pub(super) fn run_multiply_step(&mut self, saved: &mut Saved)
         requires { saved.old ≡ [] }
-        ensures { IsEvent self.old (ran Op.MultiplyStep (record_of self.old)) self.new result saved.new }
+        ensures { IsDone (effect Op.MultiplyStep (record_of self.old)) self.old self.new saved.new }
     {
         let top = self.top();
         let second = self.second();
@@ -23,43 +23,43 @@ impl Node {
         self.set_a(saved, low);
         self.set_top(saved, high);
         self.go_on(saved);
-        Kind::Run(Op::MultiplyStep.code())
     }
 
-    pub(super) fn run_two_star(&mut self, saved: &mut Saved) -> Kind
+    /// `2*`: T is shifted left by one bit.
+    pub(super) fn run_two_star(&mut self, saved: &mut Saved)
         requires { saved.old ≡ [] }
-        ensures { IsEvent self.old (ran Op.TwoStar (record_of self.old)) self.new result saved.new }
+        ensures { IsDone (effect Op.TwoStar (record_of self.old)) self.old self.new saved.new }
     {
         let top = self.top();
         self.set_top(saved, top.shl());
         self.go_on(saved);
-        Kind::Run(Op::TwoStar.code())
     }
 
-    pub(super) fn run_two_slash(&mut self, saved: &mut Saved) -> Kind
+    /// `2/`: T is shifted right by one bit, and bit 17 stays.
+    pub(super) fn run_two_slash(&mut self, saved: &mut Saved)
         requires { saved.old ≡ [] }
-        ensures { IsEvent self.old (ran Op.TwoSlash (record_of self.old)) self.new result saved.new }
+        ensures { IsDone (effect Op.TwoSlash (record_of self.old)) self.old self.new saved.new }
     {
         let top = self.top();
         self.set_top(saved, top.shr());
         self.go_on(saved);
-        Kind::Run(Op::TwoSlash.code())
     }
 
-    pub(super) fn run_invert(&mut self, saved: &mut Saved) -> Kind
+    /// `invert`: each bit of T is turned.
+    pub(super) fn run_invert(&mut self, saved: &mut Saved)
         requires { saved.old ≡ [] }
-        ensures { IsEvent self.old (ran Op.Invert (record_of self.old)) self.new result saved.new }
+        ensures { IsDone (effect Op.Invert (record_of self.old)) self.old self.new saved.new }
     {
         let top = self.top();
         let word = top.get();
         self.set_top(saved, Word18::low(0x3ffff - word));
         self.go_on(saved);
-        Kind::Run(Op::Invert.code())
     }
 
-    pub(super) fn run_plus(&mut self, saved: &mut Saved) -> Kind
+    /// `+`: T := T + S after a pop, with the carry where bit 9 of P is set.
+    pub(super) fn run_plus(&mut self, saved: &mut Saved)
         requires { saved.old ≡ [] }
-        ensures { IsEvent self.old (ran Op.Plus (record_of self.old)) self.new result saved.new }
+        ensures { IsDone (effect Op.Plus (record_of self.old)) self.old self.new saved.new }
     {
         let top = self.top();
         let second = self.second();
@@ -70,16 +70,16 @@ impl Node {
             self.set_carry(saved, carry);
             self.pop_to(saved, sum);
             self.go_on(saved);
-            return Kind::Run(Op::Plus.code());
+        } else {
+            self.pop_to(saved, top.add(second));
+            self.go_on(saved);
         }
-        self.pop_to(saved, top.add(second));
-        self.go_on(saved);
-        Kind::Run(Op::Plus.code())
     }
 
-    pub(super) fn run_and(&mut self, saved: &mut Saved) -> Kind
+    /// `and`: T := T and S, bit by bit, after a pop.
+    pub(super) fn run_and(&mut self, saved: &mut Saved)
         requires { saved.old ≡ [] }
-        ensures { IsEvent self.old (ran Op.And (record_of self.old)) self.new result saved.new }
+        ensures { IsDone (effect Op.And (record_of self.old)) self.old self.new saved.new }
     {
         let top = self.top();
         let second = self.second();
@@ -87,12 +87,12 @@ impl Node {
         let y = second.get();
         self.pop_to(saved, Word18::low(x & y));
         self.go_on(saved);
-        Kind::Run(Op::And.code())
     }
 
-    pub(super) fn run_or(&mut self, saved: &mut Saved) -> Kind
+    /// `or`: T := T exclusive-or S after a pop.
+    pub(super) fn run_or(&mut self, saved: &mut Saved)
         requires { saved.old ≡ [] }
-        ensures { IsEvent self.old (ran Op.Or (record_of self.old)) self.new result saved.new }
+        ensures { IsDone (effect Op.Or (record_of self.old)) self.old self.new saved.new }
     {
         let top = self.top();
         let second = self.second();
@@ -100,6 +100,5 @@ impl Node {
         let y = second.get();
         self.pop_to(saved, Word18::low(x ^ y));
         self.go_on(saved);
-        Kind::Run(Op::Or.code())
     }
 }

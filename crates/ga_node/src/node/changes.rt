@@ -36,232 +36,270 @@ fn save_return(saved: &mut Saved, overwritten: &Overwritten)
 }
 
 impl Node {
-    ghost use Rattle.std.specs.Prelude.{◌≡◌, ◌+◌, ◌<◌, ◌≤◌, ◌^◌, ◌%◌, length, slice_index, slice_set, List, min, [], Ok, Err, IfOk, IfErr, OnOk, OnErr, Some, None, IfNone, MatchResult};
+    ghost use Rattle.std.specs.Prelude.{◌≡◌, ◌+◌, ◌<◌, ◌≤◌, ◌^◌, [], ◌∷◌, length};
     ghost use Rattle.ga_node.specs.State.{IsApart};
     ghost use Rattle.ga_node.specs.Record.{record_of};
+    ghost use Rattle.ga_node.specs.Changes.{changed, PushData, PopData, SetTop, PopTo, PushReturn, PopReturn, SetTopReturn, SetP, SetA, SetB, SetI, SetIo, SetCarry, SetRam, GoOn, Skip, StartAgain, SetWait, SetStop};
     ghost use Rattle.ga_node.specs.Saving.{Saves};
-    ghost use Rattle.ga_node.specs.Table.{push_d, pop_d, set_t, push_r, pop_r, set_r, set_p, after_pop, goes_on, skips, again, IsRunning};
+    ghost use Rattle.ga_node.specs.Table.{IsRunning};
 
+    /// P gets an address.
     #[tactic(auto, unfolding(crate::specs::Record::record_of))]
     #[inline(always)]
     pub(super) fn set_p(&mut self, saved: &mut Saved, p: u32)
         requires in_range { p < 2 ^ 10 }
         requires room { length saved.old < 7 }
-        ensures changed { record_of self.new ≡ set_p p (record_of self.old) }
-        ensures saves { Saves self.old saved.old self.new saved.new 1 }
+        ensures change { record_of self.new ≡ changed (SetP p) (record_of self.old) }
+        ensures saves { Saves (SetP p ∷ []) self.old saved.old self.new saved.new }
+        ensures count { length saved.new ≡ length saved.old + 1 }
     {
         saved.push(Place::P, self.p);
         self.p = p;
     }
 
+    /// A gets a word.
     #[tactic(auto, unfolding(crate::specs::Record::record_of))]
     #[inline(always)]
     pub(super) fn set_a(&mut self, saved: &mut Saved, a: Word18)
         requires room { length saved.old < 7 }
-        ensures changed { record_of self.new ≡ record (record_of self.old) { a = a } }
-        ensures saves { Saves self.old saved.old self.new saved.new 1 }
+        ensures change { record_of self.new ≡ changed (SetA a) (record_of self.old) }
+        ensures saves { Saves (SetA a ∷ []) self.old saved.old self.new saved.new }
+        ensures count { length saved.new ≡ length saved.old + 1 }
     {
         saved.push(Place::A, self.a.get());
         self.a = a;
     }
 
+    /// B gets an address.
     #[tactic(auto, unfolding(crate::specs::Record::record_of))]
     #[inline(always)]
     pub(super) fn set_b(&mut self, saved: &mut Saved, b: u32)
         requires in_range { b < 2 ^ 9 }
         requires room { length saved.old < 7 }
-        ensures changed { record_of self.new ≡ record (record_of self.old) { b = b } }
-        ensures saves { Saves self.old saved.old self.new saved.new 1 }
+        ensures change { record_of self.new ≡ changed (SetB b) (record_of self.old) }
+        ensures saves { Saves (SetB b ∷ []) self.old saved.old self.new saved.new }
+        ensures count { length saved.new ≡ length saved.old + 1 }
     {
         saved.push(Place::B, self.b);
         self.b = b;
     }
 
+    /// The instruction word is another.
     #[tactic(auto, unfolding(crate::specs::Record::record_of))]
     #[inline(always)]
     pub(super) fn set_i(&mut self, saved: &mut Saved, i: Word18)
         requires room { length saved.old < 7 }
-        ensures changed { record_of self.new ≡ record (record_of self.old) { i = i } }
-        ensures saves { Saves self.old saved.old self.new saved.new 1 }
+        ensures change { record_of self.new ≡ changed (SetI i) (record_of self.old) }
+        ensures saves { Saves (SetI i ∷ []) self.old saved.old self.new saved.new }
+        ensures count { length saved.new ≡ length saved.old + 1 }
     {
         saved.push(Place::I, self.i.get());
         self.i = i;
     }
 
+    /// The carry is written.
     #[tactic(auto, unfolding(crate::specs::Record::record_of))]
     #[inline(always)]
     pub(super) fn set_carry(&mut self, saved: &mut Saved, carry: bool)
         requires room { length saved.old < 7 }
-        ensures changed { record_of self.new ≡ record (record_of self.old) { carry = carry } }
-        ensures saves { Saves self.old saved.old self.new saved.new 1 }
+        ensures change { record_of self.new ≡ changed (SetCarry carry) (record_of self.old) }
+        ensures saves { Saves (SetCarry carry ∷ []) self.old saved.old self.new saved.new }
+        ensures count { length saved.new ≡ length saved.old + 1 }
     {
         saved.push(Place::Carry, self.carry as u32);
         self.carry = carry;
     }
 
+    /// The next slot comes, or a fetch after the last.
     #[tactic(auto, unfolding(crate::specs::Record::record_of))]
     #[inline(always)]
     pub(super) fn go_on(&mut self, saved: &mut Saved)
         requires room { length saved.old < 7 }
-        ensures changed { record_of self.new ≡ goes_on (record_of self.old) }
-        ensures saves { Saves self.old saved.old self.new saved.new 1 }
+        ensures change { record_of self.new ≡ changed GoOn (record_of self.old) }
+        ensures saves { Saves (GoOn ∷ []) self.old saved.old self.new saved.new }
+        ensures count { length saved.new ≡ length saved.old + 1 }
     {
         saved.push(Place::Slot, self.slot as u32);
         self.slot = (self.slot + 1).min(4);
     }
 
+    /// The rest of the word is passed over.
     #[tactic(auto, unfolding(crate::specs::Record::record_of))]
     #[inline(always)]
     pub(super) fn skip(&mut self, saved: &mut Saved)
         requires room { length saved.old < 7 }
-        ensures changed { record_of self.new ≡ skips (record_of self.old) }
-        ensures saves { Saves self.old saved.old self.new saved.new 1 }
+        ensures change { record_of self.new ≡ changed Skip (record_of self.old) }
+        ensures saves { Saves (Skip ∷ []) self.old saved.old self.new saved.new }
+        ensures count { length saved.new ≡ length saved.old + 1 }
     {
         saved.push(Place::Slot, self.slot as u32);
         self.slot = 4;
     }
 
+    /// The first slot comes.
     #[tactic(auto, unfolding(crate::specs::Record::record_of))]
     #[inline(always)]
     pub(super) fn start_again(&mut self, saved: &mut Saved)
         requires room { length saved.old < 7 }
-        ensures changed { record_of self.new ≡ again (record_of self.old) }
-        ensures saves { Saves self.old saved.old self.new saved.new 1 }
+        ensures change { record_of self.new ≡ changed StartAgain (record_of self.old) }
+        ensures saves { Saves (StartAgain ∷ []) self.old saved.old self.new saved.new }
+        ensures count { length saved.new ≡ length saved.old + 1 }
     {
         saved.push(Place::Slot, self.slot as u32);
         self.slot = 0;
     }
 
+    /// A word is pushed on the data stack.
     #[tactic(auto, unfolding(crate::specs::Record::record_of))]
     #[inline(always)]
     pub(super) fn push_data(&mut self, saved: &mut Saved, word: Word18)
         requires room { length saved.old + 4 ≤ 7 }
-        ensures changed { record_of self.new ≡ push_d word (record_of self.old) }
-        ensures saves { Saves self.old saved.old self.new saved.new 4 }
+        ensures change { record_of self.new ≡ changed (PushData word) (record_of self.old) }
+        ensures saves { Saves (PushData word ∷ []) self.old saved.old self.new saved.new }
+        ensures count { length saved.new ≡ length saved.old + 4 }
     {
         save_data(saved, &self.data.push(word));
     }
 
+    /// The data stack is popped.
     #[tactic(auto, unfolding(crate::specs::Record::record_of))]
     #[inline(always)]
     pub(super) fn pop_data(&mut self, saved: &mut Saved)
         requires room { length saved.old + 3 ≤ 7 }
-        ensures changed { record_of self.new ≡ pop_d (record_of self.old) }
-        ensures saves { Saves self.old saved.old self.new saved.new 3 }
+        ensures change { record_of self.new ≡ changed PopData (record_of self.old) }
+        ensures saves { Saves (PopData ∷ []) self.old saved.old self.new saved.new }
+        ensures count { length saved.new ≡ length saved.old + 3 }
     {
         save_data(saved, &self.data.pop());
     }
 
+    /// T gets a word.
     #[tactic(auto, unfolding(crate::specs::Record::record_of))]
     #[inline(always)]
     pub(super) fn set_top(&mut self, saved: &mut Saved, word: Word18)
         requires room { length saved.old < 7 }
-        ensures changed { record_of self.new ≡ set_t word (record_of self.old) }
-        ensures saves { Saves self.old saved.old self.new saved.new 1 }
+        ensures change { record_of self.new ≡ changed (SetTop word) (record_of self.old) }
+        ensures saves { Saves (SetTop word ∷ []) self.old saved.old self.new saved.new }
+        ensures count { length saved.new ≡ length saved.old + 1 }
     {
         save_data(saved, &self.data.replace_top(word));
     }
 
-    /// T := the word, after a pop. T's old value is saved once.
+    /// The data stack is popped, and then T gets a word. T's old value is saved once.
     #[tactic(auto, unfolding(crate::specs::Record::record_of))]
     #[inline(always)]
     pub(super) fn pop_to(&mut self, saved: &mut Saved, word: Word18)
         requires room { length saved.old + 3 ≤ 7 }
-        ensures changed { record_of self.new ≡ after_pop word (record_of self.old) }
-        ensures saves { Saves self.old saved.old self.new saved.new 3 }
+        ensures change { record_of self.new ≡ changed (PopTo word) (record_of self.old) }
+        ensures saves { Saves (PopTo word ∷ []) self.old saved.old self.new saved.new }
+        ensures count { length saved.new ≡ length saved.old + 3 }
     {
         let popped = self.data.pop();
         let _top = self.data.replace_top(word);
         save_data(saved, &popped);
     }
 
+    /// A word is pushed on the return stack.
     #[tactic(auto, unfolding(crate::specs::Record::record_of))]
     #[inline(always)]
     pub(super) fn push_return(&mut self, saved: &mut Saved, word: Word18)
         requires room { length saved.old + 3 ≤ 7 }
-        ensures changed { record_of self.new ≡ push_r word (record_of self.old) }
-        ensures saves { Saves self.old saved.old self.new saved.new 3 }
+        ensures change { record_of self.new ≡ changed (PushReturn word) (record_of self.old) }
+        ensures saves { Saves (PushReturn word ∷ []) self.old saved.old self.new saved.new }
+        ensures count { length saved.new ≡ length saved.old + 3 }
     {
         save_return(saved, &self.returns.push(word));
     }
 
+    /// The return stack is popped.
     #[tactic(auto, unfolding(crate::specs::Record::record_of))]
     #[inline(always)]
     pub(super) fn pop_return(&mut self, saved: &mut Saved)
         requires room { length saved.old + 2 ≤ 7 }
-        ensures changed { record_of self.new ≡ pop_r (record_of self.old) }
-        ensures saves { Saves self.old saved.old self.new saved.new 2 }
+        ensures change { record_of self.new ≡ changed PopReturn (record_of self.old) }
+        ensures saves { Saves (PopReturn ∷ []) self.old saved.old self.new saved.new }
+        ensures count { length saved.new ≡ length saved.old + 2 }
     {
         save_return(saved, &self.returns.pop());
     }
 
+    /// R gets a word.
     #[tactic(auto, unfolding(crate::specs::Record::record_of))]
     #[inline(always)]
     pub(super) fn set_top_return(&mut self, saved: &mut Saved, word: Word18)
         requires room { length saved.old < 7 }
-        ensures changed { record_of self.new ≡ set_r word (record_of self.old) }
-        ensures saves { Saves self.old saved.old self.new saved.new 1 }
+        ensures change { record_of self.new ≡ changed (SetTopReturn word) (record_of self.old) }
+        ensures saves { Saves (SetTopReturn word ∷ []) self.old saved.old self.new saved.new }
+        ensures count { length saved.new ≡ length saved.old + 1 }
     {
         save_return(saved, &self.returns.replace_top(word));
     }
 
+    /// A wait begins.
     #[tactic(auto, unfolding(crate::specs::Record::record_of))]
     #[inline(always)]
     pub(super) fn post(&mut self, saved: &mut Saved, wait: Wait)
         requires running { IsRunning (record_of self.old) }
         requires room { length saved.old < 7 }
-        ensures changed { record_of self.new ≡ record (record_of self.old) { wait = wait } }
-        ensures saves { Saves self.old saved.old self.new saved.new 1 }
+        ensures change { record_of self.new ≡ changed (SetWait wait) (record_of self.old) }
+        ensures saves { Saves (SetWait wait ∷ []) self.old saved.old self.new saved.new }
+        ensures count { length saved.new ≡ length saved.old + 1 }
     {
         saved.push(Place::Wait, 0);
         self.wait = wait;
     }
 
+    /// The node stops.
     #[tactic(auto, unfolding(crate::specs::Record::record_of))]
     #[inline(always)]
     pub(super) fn halt(&mut self, saved: &mut Saved, code: u8)
         requires running { IsRunning (record_of self.old) }
         requires in_range { code ≤ 3 }
         requires room { length saved.old < 7 }
-        ensures changed { record_of self.new ≡ record (record_of self.old) { stop = code } }
-        ensures saves { Saves self.old saved.old self.new saved.new 1 }
+        ensures change { record_of self.new ≡ changed (SetStop code) (record_of self.old) }
+        ensures saves { Saves (SetStop code ∷ []) self.old saved.old self.new saved.new }
+        ensures count { length saved.new ≡ length saved.old + 1 }
     {
         saved.push(Place::Stop, 0);
         self.stop = code;
     }
 
-    // Ends a wait.
+    /// The wait ends.
     #[tactic(auto, unfolding(crate::specs::Record::record_of))]
     #[inline(always)]
     pub(super) fn end_wait(&mut self, saved: &mut Saved)
         requires room { length saved.old < 7 }
-        ensures changed { record_of self.new ≡ record (record_of self.old) { wait = Wait.Nothing } }
-        ensures saves { Saves self.old saved.old self.new saved.new 1 }
+        ensures change { record_of self.new ≡ changed (SetWait Wait.Nothing) (record_of self.old) }
+        ensures saves { Saves (SetWait Wait.Nothing ∷ []) self.old saved.old self.new saved.new }
+        ensures count { length saved.new ≡ length saved.old + 1 }
         ensures apart { IsApart self.old }
     {
         saved.push(Place::Wait, self.wait.code());
         self.wait = Wait::Nothing;
     }
 
-    // The write of one word in RAM.
+    /// A cell of RAM gets a word.
     #[tactic(auto, unfolding(crate::specs::Record::record_of))]
     #[inline(always)]
     pub(super) fn set_ram(&mut self, saved: &mut Saved, k: u8, word: Word18)
         requires cell { k < 64 }
         requires room { length saved.old < 7 }
-        ensures changed { record_of self.new ≡ record (record_of self.old) { ram = slice_set (record_of self.old).ram k word } }
-        ensures saves { Saves self.old saved.old self.new saved.new 1 }
+        ensures change { record_of self.new ≡ changed (SetRam k word) (record_of self.old) }
+        ensures saves { Saves (SetRam k word ∷ []) self.old saved.old self.new saved.new }
+        ensures count { length saved.new ≡ length saved.old + 1 }
     {
         saved.push(Place::Ram(k), self.ram[k as usize].get());
         self.ram[k as usize] = word;
     }
 
+    /// `io` gets a word.
     #[tactic(auto, unfolding(crate::specs::Record::record_of))]
     #[inline(always)]
     pub(super) fn set_io(&mut self, saved: &mut Saved, word: Word18)
         requires room { length saved.old < 7 }
-        ensures changed { record_of self.new ≡ record (record_of self.old) { io = word } }
-        ensures saves { Saves self.old saved.old self.new saved.new 1 }
+        ensures change { record_of self.new ≡ changed (SetIo word) (record_of self.old) }
+        ensures saves { Saves (SetIo word ∷ []) self.old saved.old self.new saved.new }
+        ensures count { length saved.new ≡ length saved.old + 1 }
     {
         saved.push(Place::Io, self.io.get());
         self.io = word;

@@ -1,32 +1,63 @@
-//! Opcodes that change P: return, ex, jumps, call and loops.
+//! Opcodes that change P: return, `ex`, jumps, call and loops.
 
 use super::Node;
-use crate::kind::Kind;
 use crate::saved::Saved;
 use ga_slots::{Op, target};
 use ga_word::Word18;
 
 impl Node {
-    ghost use Rattle.std.specs.Prelude.{◌≡◌, ◌+◌, ◌<◌, ◌≤◌, ◌^◌, ◌%◌, length, slice_index, slice_set, List, min, [], Ok, Err, IfOk, IfErr, OnOk, OnErr, Some, None, IfNone, MatchResult};
+    ghost use Rattle.std.specs.Prelude.{◌≡◌, ◌+◌, ◌<◌, ◌≤◌, [], length};
     ghost use Rattle.ga_node.specs.Record.{record_of};
-    ghost use Rattle.ga_node.specs.Saving.{IsEvent};
-    ghost use Rattle.ga_node.specs.Table.{ran, IsRunning};
+    ghost use Rattle.ga_node.specs.Changes.{after};
+    ghost use Rattle.ga_node.specs.Saving.{IsDone, Saves, IsMade};
+    ghost use Rattle.ga_node.specs.Table.{effect, jumps, jumps_where};
 
-    pub(super) fn run_return(&mut self, saved: &mut Saved) -> Kind
+    /// P := the address that the slot names, and the rest of the word is passed over.
+    #[inline(always)]
+    fn jump(&mut self, saved: &mut Saved)
+        requires slot { (record_of self.old).slot < 3 }
+        requires room { length saved.old + 2 ≤ 7 }
+        ensures change { record_of self.new ≡ after (jumps (record_of self.old)) (record_of self.old) }
+        ensures saves { Saves (jumps (record_of self.old)) self.old saved.old self.new saved.new }
+    {
+        let p = self.p();
+        let i = self.i();
+        let slot = self.slot();
+        let to = target(p, i, slot);
+        self.set_p(saved, to);
+        self.skip(saved);
+    }
+
+    /// A jump where a condition holds; else the rest of the word is passed over.
+    #[inline(always)]
+    fn jump_where(&mut self, saved: &mut Saved, is_so: bool)
+        requires slot { (record_of self.old).slot < 3 }
+        requires empty { saved.old ≡ [] }
+        ensures { IsMade (jumps_where is_so (record_of self.old)) self.old self.new saved.new }
+    {
+        if is_so {
+            self.jump(saved);
+        } else {
+            self.skip(saved);
+        }
+    }
+
+    /// `;`, return: P := the low ten bits of R, and R is popped.
+    pub(super) fn run_return(&mut self, saved: &mut Saved)
         requires { saved.old ≡ [] }
-        ensures { IsEvent self.old (ran Op.Return (record_of self.old)) self.new result saved.new }
+        ensures { IsDone (effect Op.Return (record_of self.old)) self.old self.new saved.new }
     {
         let top = self.top_return();
         let p = top.get();
         self.set_p(saved, p % 1024);
         self.pop_return(saved);
         self.skip(saved);
-        Kind::Run(Op::Return.code())
     }
 
-    pub(super) fn run_execute(&mut self, saved: &mut Saved) -> Kind
+    /// `ex`, execute: P := the low ten bits of R, and R := the old P.
+    pub(super) fn run_execute(&mut self, saved: &mut Saved)
         requires { saved.old ≡ [] }
-        ensures { IsEvent self.old (ran Op.Execute (record_of self.old)) self.new result saved.new }
+        ensures { IsDone (effect Op.Execute (record_of self.old)) self.old self.new saved.new }
     {
         let old = self.p();
         let top = self.top_return();
@@ -34,113 +65,80 @@ impl Node {
         self.set_p(saved, p % 1024);
         self.set_top_return(saved, Word18::low(old));
         self.skip(saved);
-        Kind::Run(Op::Execute.code())
     }
 
-    pub(super) fn run_jump(&mut self, saved: &mut Saved) -> Kind
+    /// `jump`: P := the address that the slot names.
+    pub(super) fn run_jump(&mut self, saved: &mut Saved)
         requires slot { (record_of self.old).slot < 3 }
         requires empty { saved.old ≡ [] }
-        ensures { IsEvent self.old (ran Op.Jump (record_of self.old)) self.new result saved.new }
+        ensures { IsDone (effect Op.Jump (record_of self.old)) self.old self.new saved.new }
     {
-        let p = self.p();
-        let i = self.i();
-        let slot = self.slot();
-        let to = target(p, i, slot);
-        self.set_p(saved, to);
-        self.skip(saved);
-        Kind::Run(Op::Jump.code())
+        self.jump(saved);
     }
 
-    pub(super) fn run_call(&mut self, saved: &mut Saved) -> Kind
+    /// `call`: P is pushed on the return stack, and then a jump.
+    pub(super) fn run_call(&mut self, saved: &mut Saved)
         requires slot { (record_of self.old).slot < 3 }
         requires empty { saved.old ≡ [] }
-        ensures { IsEvent self.old (ran Op.Call (record_of self.old)) self.new result saved.new }
+        ensures { IsDone (effect Op.Call (record_of self.old)) self.old self.new saved.new }
     {
         let p = self.p();
-        let i = self.i();
-        let slot = self.slot();
-        let to = target(p, i, slot);
         self.push_return(saved, Word18::low(p));
-        self.set_p(saved, to);
-        self.skip(saved);
-        Kind::Run(Op::Call.code())
+        self.jump(saved);
     }
 
-    pub(super) fn run_unext(&mut self, saved: &mut Saved) -> Kind
+    /// `unext`: while R is not 0, R counts down and the word starts again; at 0, R is popped.
+    pub(super) fn run_unext(&mut self, saved: &mut Saved)
         requires { saved.old ≡ [] }
-        ensures { IsEvent self.old (ran Op.Unext (record_of self.old)) self.new result saved.new }
+        ensures { IsDone (effect Op.Unext (record_of self.old)) self.old self.new saved.new }
     {
         let top = self.top_return();
         let count = top.get();
         if count == 0 {
             self.pop_return(saved);
             self.go_on(saved);
-            return Kind::Run(Op::Unext.code());
+        } else {
+            self.set_top_return(saved, Word18::low(count - 1));
+            self.start_again(saved);
         }
-        self.set_top_return(saved, Word18::low(count - 1));
-        self.start_again(saved);
-        Kind::Run(Op::Unext.code())
     }
 
-    pub(super) fn run_next(&mut self, saved: &mut Saved) -> Kind
+    /// `next`: while R is not 0, R counts down and a jump follows; at 0, R is popped.
+    pub(super) fn run_next(&mut self, saved: &mut Saved)
         requires slot { (record_of self.old).slot < 3 }
         requires empty { saved.old ≡ [] }
-        ensures { IsEvent self.old (ran Op.Next (record_of self.old)) self.new result saved.new }
+        ensures { IsDone (effect Op.Next (record_of self.old)) self.old self.new saved.new }
     {
         let top = self.top_return();
         let count = top.get();
         if count == 0 {
             self.pop_return(saved);
             self.skip(saved);
-            return Kind::Run(Op::Next.code());
+        } else {
+            self.set_top_return(saved, Word18::low(count - 1));
+            self.jump(saved);
         }
-        let p = self.p();
-        let i = self.i();
-        let slot = self.slot();
-        let to = target(p, i, slot);
-        self.set_top_return(saved, Word18::low(count - 1));
-        self.set_p(saved, to);
-        self.skip(saved);
-        Kind::Run(Op::Next.code())
     }
 
-    pub(super) fn run_if(&mut self, saved: &mut Saved) -> Kind
+    /// `if`: a jump where T is 0. T stays.
+    pub(super) fn run_if(&mut self, saved: &mut Saved)
         requires slot { (record_of self.old).slot < 3 }
         requires empty { saved.old ≡ [] }
-        ensures { IsEvent self.old (ran Op.If (record_of self.old)) self.new result saved.new }
+        ensures { IsDone (effect Op.If (record_of self.old)) self.old self.new saved.new }
     {
         let top = self.top();
         let word = top.get();
-        if word == 0 {
-            let p = self.p();
-            let i = self.i();
-            let slot = self.slot();
-            let to = target(p, i, slot);
-            self.set_p(saved, to);
-            self.skip(saved);
-            return Kind::Run(Op::If.code());
-        }
-        self.skip(saved);
-        Kind::Run(Op::If.code())
+        self.jump_where(saved, word == 0);
     }
 
-    pub(super) fn run_minus_if(&mut self, saved: &mut Saved) -> Kind
+    /// `-if`: a jump where bit 17 of T is 0. T stays.
+    pub(super) fn run_minus_if(&mut self, saved: &mut Saved)
         requires slot { (record_of self.old).slot < 3 }
         requires empty { saved.old ≡ [] }
-        ensures { IsEvent self.old (ran Op.MinusIf (record_of self.old)) self.new result saved.new }
+        ensures { IsDone (effect Op.MinusIf (record_of self.old)) self.old self.new saved.new }
     {
         let top = self.top();
         let word = top.get();
-        if word / 131072 == 0 {
-            let p = self.p();
-            let i = self.i();
-            let slot = self.slot();
-            let to = target(p, i, slot);
-            self.set_p(saved, to);
-            self.skip(saved);
-            return Kind::Run(Op::MinusIf.code());
-        }
-        self.skip(saved);
-        Kind::Run(Op::MinusIf.code())
+        self.jump_where(saved, word / 131072 == 0);
     }
 }

@@ -1,5 +1,8 @@
 //! The events of a node's own: a fetch, an opcode, a wait or a stop.
 
+ghost use Rattle.std.specs.Prelude.{◌≡◌};
+ghost use Rattle.ga_node.specs.Table.{kind_of};
+
 use super::Node;
 use crate::kind::{Kind, NotReady};
 use crate::saved::Saved;
@@ -7,22 +10,34 @@ use crate::wait::{Reader, Wait};
 use ga_ports::advance_p;
 use ga_slots::{Op, opcode};
 
+/// The kind of an event, which an access may have made another.
+#[inline(always)]
+fn named(kind: Kind, done: Result<(), Kind>) -> Kind
+    ensures { result ≡ kind_of kind done }
+{
+    match done {
+        Ok(()) => kind,
+        Err(other) => other,
+    }
+}
+
 impl Node {
-    ghost use Rattle.std.specs.Prelude.{◌≡◌, ◌+◌, ◌<◌, ◌≤◌, ◌^◌, ◌%◌, length, slice_index, slice_set, List, min, [], Ok, Err, IfOk, IfErr, OnOk, OnErr, Some, None, IfNone, MatchResult};
+    ghost use Rattle.std.specs.Prelude.{◌≡◌, ◌<◌, ◌%◌, [], IfOk, IfErr, IfNone, OnOk, OnErr, None, Some, MatchResult};
     ghost use Rattle.ga_slots.specs.Codes.{code_of};
     ghost use Rattle.ga_node.specs.State.{IsApart};
     ghost use Rattle.ga_node.specs.Record.{record_of};
-    ghost use Rattle.ga_node.specs.Saving.{IsEvent};
-    ghost use Rattle.ga_node.specs.Table.{own, ran, fetched, refusal, IsRunning};
+    ghost use Rattle.ga_node.specs.Saving.{Overwrites, IsDone, IsEnded};
+    ghost use Rattle.ga_node.specs.Table.{own, own_event, effect, fetched, refusal, IsRunning};
 
-    /// Carries out an opcode.
+    /// Carries out an opcode, or answers the kind of the event that its access has become.
     #[inline(always)]
-    pub(super) fn run(&mut self, saved: &mut Saved, op: Op) -> Kind
+    pub(super) fn execute(&mut self, saved: &mut Saved, op: Op) -> Result<(), Kind>
         requires running { IsRunning (record_of self.old) }
         requires slot { (record_of self.old).slot < 4 }
         requires last { (record_of self.old).slot ≡ 3 → code_of op % 4 ≡ 0 }
         requires empty { saved.old ≡ [] }
-        ensures { IsEvent self.old (ran op (record_of self.old)) self.new result saved.new }
+        ensures done { OnOk result (IsDone (effect op (record_of self.old)) self.old self.new saved.new) }
+        ensures ended { IfErr result (λ kind. IsEnded (effect op (record_of self.old)) kind self.old self.new saved.new) }
     {
         match op {
             Op::Return => self.run_return(saved),
@@ -33,14 +48,14 @@ impl Node {
             Op::Next => self.run_next(saved),
             Op::If => self.run_if(saved),
             Op::MinusIf => self.run_minus_if(saved),
-            Op::FetchP => self.run_fetch_p(saved),
-            Op::FetchPlus => self.run_fetch_plus(saved),
-            Op::FetchB => self.run_fetch_b(saved),
-            Op::Fetch => self.run_fetch(saved),
-            Op::StoreP => self.run_store_p(saved),
-            Op::StorePlus => self.run_store_plus(saved),
-            Op::StoreB => self.run_store_b(saved),
-            Op::Store => self.run_store(saved),
+            Op::FetchP => self.run_fetch_p(saved)?,
+            Op::FetchPlus => self.run_fetch_plus(saved)?,
+            Op::FetchB => self.run_fetch_b(saved)?,
+            Op::Fetch => self.run_fetch(saved)?,
+            Op::StoreP => self.run_store_p(saved)?,
+            Op::StorePlus => self.run_store_plus(saved)?,
+            Op::StoreB => self.run_store_b(saved)?,
+            Op::Store => self.run_store(saved)?,
             Op::MultiplyStep => self.run_multiply_step(saved),
             Op::TwoStar => self.run_two_star(saved),
             Op::TwoSlash => self.run_two_slash(saved),
@@ -58,6 +73,7 @@ impl Node {
             Op::BStore => self.run_b_store(saved),
             Op::AStore => self.run_a_store(saved),
         }
+        Ok(())
     }
 
     /// Why the node has no event of its own.
@@ -78,31 +94,29 @@ impl Node {
         }
     }
 
-    /// Fetches the word at P.
-    pub(super) fn fetch(&mut self, saved: &mut Saved) -> Kind
+    /// Fetches the word at P, or answers the kind of the event that this has become.
+    pub(super) fn fetch(&mut self, saved: &mut Saved) -> Result<(), Kind>
         requires running { IsRunning (record_of self.old) }
         requires empty { saved.old ≡ [] }
-        ensures { IsEvent self.old (fetched (record_of self.old)) self.new result saved.new }
+        ensures done { OnOk result (IsDone (fetched (record_of self.old)) self.old self.new saved.new) }
+        ensures ended { IfErr result (λ kind. IsEnded (fetched (record_of self.old)) kind self.old self.new saved.new) }
     {
         let p = self.p();
-        match self.read(saved, p, Reader::Instruction) {
-            Err(kind) => kind,
-            Ok(word) => {
-                self.set_i(saved, word);
-                self.set_p(saved, advance_p(p));
-                self.start_again(saved);
-                Kind::Fetch
-            }
-        }
+        let word = self.read(saved, p, Reader::Instruction)?;
+        self.set_i(saved, word);
+        self.set_p(saved, advance_p(p));
+        self.start_again(saved);
+        Ok(())
     }
 
     /// Makes the node's next event, as [`Node::own`] does, and puts the values that it overwrote into a list that the
     /// caller keeps, which is empty before.
-    #[tactic(auto, unfolding(crate::specs::Table::own), using(crate::proofs::Saving::apart_from_running))]
+    #[tactic(auto, using(crate::proofs::Saving::apart_from_running))]
     pub fn own_into(&mut self, saved: &mut Saved) -> Result<Kind, NotReady>
         requires { saved.old ≡ [] }
         ensures ready { MatchResult result (λ _. refusal (record_of self.old) ≡ None) (λ reason. refusal (record_of self.old) ≡ Some reason) }
-        ensures event { IfOk result (λ kind. IsEvent self.old (own (record_of self.old)) self.new kind saved.new) }
+        ensures event { IfOk result (λ kind. (kind, record_of self.new) ≡ own (record_of self.old)) }
+        ensures saves { OnOk result (Overwrites (own_event (record_of self.old)).1 self.old self.new saved.new) }
         ensures apart { OnOk result (IsApart self.old) }
         ensures same { OnErr result (self.new ≡ self.old) }
         ensures unsaved { OnErr result (saved.new ≡ []) }
@@ -112,10 +126,12 @@ impl Node {
         }
         let slot = self.slot();
         if slot == 4 {
-            return Ok(self.fetch(saved));
+            let done = self.fetch(saved);
+            return Ok(named(Kind::Fetch, done));
         }
         let op = opcode(self.i(), slot);
-        Ok(self.run(saved, op))
+        let done = self.execute(saved, op);
+        Ok(named(Kind::Run(op.code()), done))
     }
 
     /// Makes the node's next event: a fetch where one is due, else the opcode in the slot. An access to a port becomes a
@@ -125,7 +141,8 @@ impl Node {
     /// `Waiting` or `Stopped`, where the node waits or is stopped.
     pub fn own(&mut self) -> Result<(Kind, Saved), NotReady>
         ensures ready { MatchResult result (λ _. refusal (record_of self.old) ≡ None) (λ reason. refusal (record_of self.old) ≡ Some reason) }
-        ensures event { IfOk result (λ event. IsEvent self.old (own (record_of self.old)) self.new event.0 event.1) }
+        ensures event { IfOk result (λ event. (event.0, record_of self.new) ≡ own (record_of self.old)) }
+        ensures saves { IfOk result (λ event. Overwrites (own_event (record_of self.old)).1 self.old self.new event.1) }
         ensures apart { OnOk result (IsApart self.old) }
         ensures same { OnErr result (self.new ≡ self.old) }
     {

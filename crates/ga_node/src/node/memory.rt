@@ -1,4 +1,4 @@
-//! Opcodes that read or write at an address.
+//! Opcodes that read or write at an address. An access that turns out to be a wait or a stop is answered as an `Err`.
 
 use super::Node;
 use crate::kind::Kind;
@@ -8,142 +8,124 @@ use ga_ports::{advance_a, advance_p};
 use ga_slots::Op;
 
 impl Node {
-    ghost use Rattle.std.specs.Prelude.{◌≡◌, ◌+◌, ◌<◌, ◌≤◌, ◌^◌, ◌%◌, length, slice_index, slice_set, List, min, [], Ok, Err, IfOk, IfErr, OnOk, OnErr, Some, None, IfNone, MatchResult};
+    ghost use Rattle.std.specs.Prelude.{◌≡◌, [], IfErr, OnOk};
     ghost use Rattle.ga_node.specs.Record.{record_of};
-    ghost use Rattle.ga_node.specs.Saving.{IsEvent};
-    ghost use Rattle.ga_node.specs.Table.{ran, IsRunning};
+    ghost use Rattle.ga_node.specs.Saving.{IsDone, IsEnded};
+    ghost use Rattle.ga_node.specs.Table.{effect, IsRunning};
 
-    pub(super) fn run_fetch_p(&mut self, saved: &mut Saved) -> Kind
+    /// `@p`, fetch p: the word at P is pushed, and P advances.
+    pub(super) fn run_fetch_p(&mut self, saved: &mut Saved) -> Result<(), Kind>
         requires running { IsRunning (record_of self.old) }
         requires empty { saved.old ≡ [] }
-        ensures { IsEvent self.old (ran Op.FetchP (record_of self.old)) self.new result saved.new }
+        ensures done { OnOk result (IsDone (effect Op.FetchP (record_of self.old)) self.old self.new saved.new) }
+        ensures ended { IfErr result (λ kind. IsEnded (effect Op.FetchP (record_of self.old)) kind self.old self.new saved.new) }
     {
         let p = self.p();
-        match self.read(saved, p, Reader::Stack) {
-            Err(kind) => kind,
-            Ok(word) => {
-                self.push_data(saved, word);
-                self.set_p(saved, advance_p(p));
-                self.go_on(saved);
-                Kind::Run(Op::FetchP.code())
-            }
-        }
+        let word = self.read(saved, p, Reader::Stack)?;
+        self.push_data(saved, word);
+        self.set_p(saved, advance_p(p));
+        self.go_on(saved);
+        Ok(())
     }
 
-    pub(super) fn run_fetch_plus(&mut self, saved: &mut Saved) -> Kind
+    /// `@+`, fetch plus: the word at A is pushed, and A advances.
+    pub(super) fn run_fetch_plus(&mut self, saved: &mut Saved) -> Result<(), Kind>
         requires running { IsRunning (record_of self.old) }
         requires empty { saved.old ≡ [] }
-        ensures { IsEvent self.old (ran Op.FetchPlus (record_of self.old)) self.new result saved.new }
+        ensures done { OnOk result (IsDone (effect Op.FetchPlus (record_of self.old)) self.old self.new saved.new) }
+        ensures ended { IfErr result (λ kind. IsEnded (effect Op.FetchPlus (record_of self.old)) kind self.old self.new saved.new) }
     {
         let a = self.a();
-        match self.read(saved, a.get(), Reader::Stack) {
-            Err(kind) => kind,
-            Ok(word) => {
-                self.push_data(saved, word);
-                self.set_a(saved, advance_a(a));
-                self.go_on(saved);
-                Kind::Run(Op::FetchPlus.code())
-            }
-        }
+        let word = self.read(saved, a.get(), Reader::Stack)?;
+        self.push_data(saved, word);
+        self.set_a(saved, advance_a(a));
+        self.go_on(saved);
+        Ok(())
     }
 
-    pub(super) fn run_fetch_b(&mut self, saved: &mut Saved) -> Kind
+    /// `@b`, fetch b: the word at B is pushed.
+    pub(super) fn run_fetch_b(&mut self, saved: &mut Saved) -> Result<(), Kind>
         requires running { IsRunning (record_of self.old) }
         requires empty { saved.old ≡ [] }
-        ensures { IsEvent self.old (ran Op.FetchB (record_of self.old)) self.new result saved.new }
+        ensures done { OnOk result (IsDone (effect Op.FetchB (record_of self.old)) self.old self.new saved.new) }
+        ensures ended { IfErr result (λ kind. IsEnded (effect Op.FetchB (record_of self.old)) kind self.old self.new saved.new) }
     {
         let b = self.b();
-        match self.read(saved, b, Reader::Stack) {
-            Err(kind) => kind,
-            Ok(word) => {
-                self.push_data(saved, word);
-                self.go_on(saved);
-                Kind::Run(Op::FetchB.code())
-            }
-        }
+        let word = self.read(saved, b, Reader::Stack)?;
+        self.push_data(saved, word);
+        self.go_on(saved);
+        Ok(())
     }
 
-    pub(super) fn run_fetch(&mut self, saved: &mut Saved) -> Kind
+    /// `@`, fetch: the word at A is pushed.
+    pub(super) fn run_fetch(&mut self, saved: &mut Saved) -> Result<(), Kind>
         requires running { IsRunning (record_of self.old) }
         requires empty { saved.old ≡ [] }
-        ensures { IsEvent self.old (ran Op.Fetch (record_of self.old)) self.new result saved.new }
+        ensures done { OnOk result (IsDone (effect Op.Fetch (record_of self.old)) self.old self.new saved.new) }
+        ensures ended { IfErr result (λ kind. IsEnded (effect Op.Fetch (record_of self.old)) kind self.old self.new saved.new) }
     {
         let a = self.a();
-        match self.read(saved, a.get(), Reader::Stack) {
-            Err(kind) => kind,
-            Ok(word) => {
-                self.push_data(saved, word);
-                self.go_on(saved);
-                Kind::Run(Op::Fetch.code())
-            }
-        }
+        let word = self.read(saved, a.get(), Reader::Stack)?;
+        self.push_data(saved, word);
+        self.go_on(saved);
+        Ok(())
     }
 
-    pub(super) fn run_store_p(&mut self, saved: &mut Saved) -> Kind
+    /// `!p`, store p: T goes to the address in P and is popped, and P advances.
+    pub(super) fn run_store_p(&mut self, saved: &mut Saved) -> Result<(), Kind>
         requires running { IsRunning (record_of self.old) }
         requires empty { saved.old ≡ [] }
-        ensures { IsEvent self.old (ran Op.StoreP (record_of self.old)) self.new result saved.new }
+        ensures done { OnOk result (IsDone (effect Op.StoreP (record_of self.old)) self.old self.new saved.new) }
+        ensures ended { IfErr result (λ kind. IsEnded (effect Op.StoreP (record_of self.old)) kind self.old self.new saved.new) }
     {
         let p = self.p();
-        match self.write(saved, p) {
-            Err(kind) => kind,
-            Ok(()) => {
-                self.pop_data(saved);
-                let next = self.p();
-                self.set_p(saved, advance_p(next));
-                self.go_on(saved);
-                Kind::Run(Op::StoreP.code())
-            }
-        }
+        self.write(saved, p)?;
+        self.pop_data(saved);
+        self.set_p(saved, advance_p(p));
+        self.go_on(saved);
+        Ok(())
     }
 
-    pub(super) fn run_store_plus(&mut self, saved: &mut Saved) -> Kind
+    /// `!+`, store plus: T goes to the address in A and is popped, and A advances.
+    pub(super) fn run_store_plus(&mut self, saved: &mut Saved) -> Result<(), Kind>
         requires running { IsRunning (record_of self.old) }
         requires empty { saved.old ≡ [] }
-        ensures { IsEvent self.old (ran Op.StorePlus (record_of self.old)) self.new result saved.new }
+        ensures done { OnOk result (IsDone (effect Op.StorePlus (record_of self.old)) self.old self.new saved.new) }
+        ensures ended { IfErr result (λ kind. IsEnded (effect Op.StorePlus (record_of self.old)) kind self.old self.new saved.new) }
     {
         let a = self.a();
-        match self.write(saved, a.get()) {
-            Err(kind) => kind,
-            Ok(()) => {
-                self.pop_data(saved);
-                let next = self.a();
-                self.set_a(saved, advance_a(next));
-                self.go_on(saved);
-                Kind::Run(Op::StorePlus.code())
-            }
-        }
+        self.write(saved, a.get())?;
+        self.pop_data(saved);
+        self.set_a(saved, advance_a(a));
+        self.go_on(saved);
+        Ok(())
     }
 
-    pub(super) fn run_store_b(&mut self, saved: &mut Saved) -> Kind
+    /// `!b`, store b: T goes to the address in B and is popped.
+    pub(super) fn run_store_b(&mut self, saved: &mut Saved) -> Result<(), Kind>
         requires running { IsRunning (record_of self.old) }
         requires empty { saved.old ≡ [] }
-        ensures { IsEvent self.old (ran Op.StoreB (record_of self.old)) self.new result saved.new }
+        ensures done { OnOk result (IsDone (effect Op.StoreB (record_of self.old)) self.old self.new saved.new) }
+        ensures ended { IfErr result (λ kind. IsEnded (effect Op.StoreB (record_of self.old)) kind self.old self.new saved.new) }
     {
         let b = self.b();
-        match self.write(saved, b) {
-            Err(kind) => kind,
-            Ok(()) => {
-                self.pop_data(saved);
-                self.go_on(saved);
-                Kind::Run(Op::StoreB.code())
-            }
-        }
+        self.write(saved, b)?;
+        self.pop_data(saved);
+        self.go_on(saved);
+        Ok(())
     }
 
-    pub(super) fn run_store(&mut self, saved: &mut Saved) -> Kind
+    /// `!`, store: T goes to the address in A and is popped.
+    pub(super) fn run_store(&mut self, saved: &mut Saved) -> Result<(), Kind>
         requires running { IsRunning (record_of self.old) }
         requires empty { saved.old ≡ [] }
-        ensures { IsEvent self.old (ran Op.Store (record_of self.old)) self.new result saved.new }
+        ensures done { OnOk result (IsDone (effect Op.Store (record_of self.old)) self.old self.new saved.new) }
+        ensures ended { IfErr result (λ kind. IsEnded (effect Op.Store (record_of self.old)) kind self.old self.new saved.new) }
     {
         let a = self.a();
-        match self.write(saved, a.get()) {
-            Err(kind) => kind,
-            Ok(()) => {
-                self.pop_data(saved);
-                self.go_on(saved);
-                Kind::Run(Op::Store.code())
-            }
-        }
+        self.write(saved, a.get())?;
+        self.pop_data(saved);
+        self.go_on(saved);
+        Ok(())
     }
 }

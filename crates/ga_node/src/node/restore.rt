@@ -6,7 +6,7 @@ use crate::saved::Saved;
 use crate::wait::Wait;
 
 impl Node {
-    ghost use Rattle.std.specs.Prelude.{◌≡◌, ◌+◌, ◌<◌, ◌≤◌, ◌^◌, ◌%◌, length, slice_index, slice_set, List, min, [], Ok, Err, IfOk, IfErr, OnOk, OnErr, Some, None, IfNone, MatchResult};
+    ghost use Rattle.std.specs.Prelude.{◌≡◌, ◌≤◌};
     ghost use Rattle.ga_node.specs.State.{with_value, restored, IsInRange, AreFit, IsApart};
 
     /// Writes one old value back, of a node whose wait and stop are kept beside it.

@@ -6,20 +6,20 @@ use crate::wait::Wait;
 use ga_word::Word18;
 
 impl Node {
-    ghost use Rattle.std.specs.Prelude.{◌≡◌, ◌+◌, ◌<◌, ◌≤◌, ◌^◌, ◌%◌, length, slice_index, slice_set, List, min, [], Ok, Err, IfOk, IfErr, OnOk, OnErr, Some, None, IfNone, MatchResult};
+    ghost use Rattle.std.specs.Prelude.{◌≡◌, []};
     ghost use Rattle.ga_node.specs.State.{IsApart};
     ghost use Rattle.ga_node.specs.Record.{record_of};
-    ghost use Rattle.ga_node.specs.Saving.{IsChange};
-    ghost use Rattle.ga_node.specs.Table.{t, sent, taken, IsWriting, IsReading};
+    ghost use Rattle.ga_node.specs.Saving.{Overwrites};
+    ghost use Rattle.ga_node.specs.Table.{t, sent, sending, taken, taking, IsWriting, IsReading};
 
     /// Completes the writer's side, as [`Node::send_half`] does, with the overwritten values put into an empty list that
     /// the caller keeps.
-    #[tactic(auto, unfolding(crate::specs::Table::sent))]
     pub fn send_half_into(&mut self, saved: &mut Saved) -> Word18
         requires writing { IsWriting (record_of self.old).wait }
         requires empty { saved.old ≡ [] }
         ensures word { result ≡ t (record_of self.old) }
-        ensures change { IsChange self.old (sent (record_of self.old)) self.new saved.new }
+        ensures sent { record_of self.new ≡ sent (record_of self.old) }
+        ensures saves { Overwrites sending self.old self.new saved.new }
         ensures apart { IsApart self.old }
     {
         let word = self.top();
@@ -33,7 +33,8 @@ impl Node {
     pub fn send_half(&mut self) -> (Word18, Saved)
         requires { IsWriting (record_of self.old).wait }
         ensures word { result.0 ≡ t (record_of self.old) }
-        ensures change { IsChange self.old (sent (record_of self.old)) self.new result.1 }
+        ensures sent { record_of self.new ≡ sent (record_of self.old) }
+        ensures saves { Overwrites sending self.old self.new result.1 }
         ensures apart { IsApart self.old }
     {
         let mut saved = Saved::new();
@@ -46,7 +47,8 @@ impl Node {
     pub fn take_half_into(&mut self, word: Word18, saved: &mut Saved)
         requires reading { IsReading (record_of self.old).wait }
         requires empty { saved.old ≡ [] }
-        ensures change { IsChange self.old (taken word (record_of self.old)) self.new saved.new }
+        ensures taken { record_of self.new ≡ taken word (record_of self.old) }
+        ensures saves { Overwrites (taking (record_of self.old).wait word) self.old self.new saved.new }
         ensures apart { IsApart self.old }
     {
         let wait = self.wait();
@@ -69,7 +71,8 @@ impl Node {
     /// waits for. Answers the overwritten values.
     pub fn take_half(&mut self, word: Word18) -> Saved
         requires { IsReading (record_of self.old).wait }
-        ensures change { IsChange self.old (taken word (record_of self.old)) self.new result }
+        ensures taken { record_of self.new ≡ taken word (record_of self.old) }
+        ensures saves { Overwrites (taking (record_of self.old).wait word) self.old self.new result }
         ensures apart { IsApart self.old }
     {
         let mut saved = Saved::new();

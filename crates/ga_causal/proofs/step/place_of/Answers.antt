@@ -1,12 +1,11 @@
-use Rattle.std.proofs.Common.{◌≡◌, true, false, sym, ◌∙◌, ap, ◌+◌, ◌-◌, suc, drop, arith}
-use Rattle.ga_event.specs.Touches.{touches}
+use Rattle.std.proofs.Common.{◌≡◌, sym, ◌∙◌, ap, ◌+◌, ◌-◌, suc, drop, arith}
 use Rattle.ga_causal.specs.Steps.{place_of}
 use Rattle.ga_causal.proofs.Places.{place-zero, on_by, on_by-zero, on_found, on_touched, on_other, on_end}
 use Rattle.ga_causal.proofs.step.place_of.Goals.{then-touches+else-left-eq0, else-touches}
 use Rattle.ga_causal.proofs.step.place_of.Goals as goal
 
-pub returns-then-step-eq0 : goal.returns-then-step-eq0
-returns-then-step-eq0 c = sym (ap (place_of c.args.events.now c.args.node.number) c.if-step-eq0.true ∙ place-zero c.args.events.now c.args.node.number)
+pub returns-then-step-eq0-clause-value : goal.returns-then-step-eq0-clause-value
+returns-then-step-eq0-clause-value c = sym (ap (place_of c.args.events.now c.args.node.number) c.if-step-eq0.true ∙ place-zero c.args.events.now c.args.node.number)
 
 pub events-init : goal.events-init
 events-init c =
@@ -16,8 +15,8 @@ events-init c =
 pub events-preserved : goal.events-preserved
 events-preserved c = elim c.if-touches.branch [
   | then-touches+else-left-eq0 w ↦
-    let h : c.events.left ≡ suc c.if-touches.left = (let a = w.if-left-eq0.false in let b = w.left-is in omega (arith, a, b)) in
-    c.events.invariant
+      let h : c.events.left ≡ suc c.if-touches.left = (let a = w.if-left-eq0.false in let b = w.left-is in omega (arith, a, b)) in
+      c.events.invariant
       ∙ ap (λ k. on_by c.events.place (place_of (drop c.events.place c.args.events.now) c.args.node.number (suc k))) h
       ∙ on_touched c.args.events.now c.args.node.number c.events.place c.if-touches.left c.index-events-place.result c.events-test.true c.index-events-place.is (sym c.touches.ensures ∙ w.if-touches.true)
   | else-touches w ↦ c.events.invariant
@@ -25,9 +24,9 @@ events-preserved c = elim c.if-touches.branch [
       ∙ ap (λ k. on_by (c.events.place + 1) (place_of (drop (c.events.place + 1) c.args.events.now) c.args.node.number (suc k))) (sym w.left-is)
 ]
 
-pub returns-then-left-eq0 : goal.returns-then-left-eq0
-returns-then-left-eq0 c = sym (c.events.invariant
+pub returns-then-left-eq0-clause-value : goal.returns-then-left-eq0-clause-value
+returns-then-left-eq0-clause-value c = sym (c.events.invariant
     ∙ on_found c.args.events.now c.args.node.number c.events.place c.events.left c.index-events-place.result c.events-test.true c.index-events-place.is (sym c.touches.ensures ∙ c.if-touches.true) c.if-left-eq0.true)
 
-pub returns : goal.returns
-returns c = sym (c.events.invariant ∙ on_end c.args.events.now c.args.node.number c.events.place (suc c.events.left) c.events-test.false)
+pub returns-clause-value : goal.returns-clause-value
+returns-clause-value c = sym (c.events.invariant ∙ on_end c.args.events.now c.args.node.number c.events.place (suc c.events.left) c.events-test.false)

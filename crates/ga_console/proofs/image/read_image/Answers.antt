@@ -74,10 +74,12 @@ returns-in-End-clause-reads g c = λ left known.
       filled.0,
       filled.1,
       (
-        over_all _ c.parts.text.items c.take_text.new.text.items c.parts.input.bytes inv.0 inv.2
-            (fed.2 ∙ ap (λ (t : List ℕ). c.parts.text.items ++ t) (sym fed.1.1)) ∙ ap (λ (t : List ℕ). c.take_text.new.text.items ++ t) filled.2.0 ∙ append-nil c.take_text.new.text.items,
         no_end c.take_text.new.text.items c.parts.start (body_more c.parts.text.items c.take_text.new.text.items c.parts.start fed.0 c.parts.invariant.body fed.1.0 fed.2),
-        omega (arith, c.parts.invariant.counts, fed.1.3, c.in-End.ensures.taken, ap length fed.2, length-append c.parts.text.items fed.0),
+        record {
+          splits = over_all _ c.parts.text.items c.take_text.new.text.items c.parts.input.bytes inv.0 inv.2
+              (fed.2 ∙ ap (λ (t : List ℕ). c.parts.text.items ++ t) (sym fed.1.1)) ∙ ap (λ (t : List ℕ). c.take_text.new.text.items ++ t) filled.2.0;
+          counts = omega (arith, c.parts.invariant.counts, fed.1.3, c.in-End.ensures.taken, ap length fed.2, length-append c.parts.text.items fed.0);
+        },
         c.in-End.ensures.filled,
         filled.2.1,
       ),
@@ -91,14 +93,16 @@ returns-in-Past-clause-reads g c = λ left known.
       filled.0,
       filled.1,
       (
-        (
-          filled.2.1.0,
-          over_all _ c.parts.text.items c.take_text.new.text.items c.parts.input.bytes inv.0 inv.2
-              (fed.2 ∙ ap (λ (t : List ℕ). c.parts.text.items ++ t) (sym fed.1.1)) ∙ ap (λ (t : List ℕ). c.take_text.new.text.items ++ t) filled.2.1.1,
-        ),
         no_end c.take_text.new.text.items c.parts.start (body_more c.parts.text.items c.take_text.new.text.items c.parts.start fed.0 c.parts.invariant.body fed.1.0 fed.2),
-        omega (arith, c.parts.invariant.counts, fed.1.3, c.in-Past.ensures.taken, ap length fed.2, length-append c.parts.text.items fed.0),
-        omega (arith, filled.2.0, c.in-Past.ensures.taken),
+        record {
+          byte = filled.2.1.0;
+          takes = record {
+            splits = over_all _ c.parts.text.items c.take_text.new.text.items c.parts.input.bytes inv.0 inv.2
+                (fed.2 ∙ ap (λ (t : List ℕ). c.parts.text.items ++ t) (sym fed.1.1)) ∙ ap (λ (t : List ℕ). c.take_text.new.text.items ++ t) filled.2.1.1;
+            counts = omega (arith, c.parts.invariant.counts, fed.1.3, c.in-Past.ensures.taken, ap length fed.2, length-append c.parts.text.items fed.0);
+          };
+          full = omega (arith, filled.2.0, c.in-Past.ensures.taken);
+        },
         c.in-Past.ensures.filled,
       ),
     )
@@ -111,8 +115,8 @@ returns-in-Failed-clause-reads g c = λ left known.
       filled.0,
       filled.1,
       (
+        no_end c.take_text.new.text.items c.parts.start (body_more c.parts.text.items c.take_text.new.text.items c.parts.start fed.0 c.parts.invariant.body fed.1.0 fed.2),
         over_all _ c.parts.text.items c.take_text.new.text.items c.parts.input.bytes inv.0 inv.2
             (fed.2 ∙ ap (λ (t : List ℕ). c.parts.text.items ++ t) (sym fed.1.1)) ∙ ap (λ (t : List ℕ). c.take_text.new.text.items ++ t) (sym filled.2),
-        no_end c.take_text.new.text.items c.parts.start (body_more c.parts.text.items c.take_text.new.text.items c.parts.start fed.0 c.parts.invariant.body fed.1.0 fed.2),
       ),
     )

@@ -1,5 +1,5 @@
 use Rattle.std.proofs.Common.{ℕ, List, [], ◌++◌, ◌≡◌, take, drop, sym, ap, ◌∙◌, take-append-drop}
-use Rattle.ga_console.proofs.SaidLemmas.{said_cut, said_kept, said_written, said_same, said_or_cut}
+use Rattle.ga_console.proofs.SaidLemmas.{said_cut, said_kept, said_written, said_same}
 use Rattle.ga_console.proofs.PartLemmas.{no_bytes}
 use Rattle.ga_console.proofs.output.write_all.Goals as goal
 
@@ -20,8 +20,7 @@ pub returns-in-Err : goal.returns-in-Err
 returns-in-Err g c = λ before said h.
     said_cut _ before said c.bytes.rest.now (said_kept _ _ before said c.bytes.rest.now c.in-Err.ensures.bytes (c.bytes.invariant before said h))
 
-pub returns : goal.returns
-returns g c = λ before said h.
+pub returns-in-Err-flush : goal.returns-in-Err-flush
+returns-in-Err-flush g c = λ before said h.
     let none = no_bytes c.bytes.rest.now c.bytes-test.ensures in
-    said_or_cut c.is_ok.result _ before said []
-    (said_kept _ _ before said [] c.flush.ensures.bytes (said_same _ before said c.bytes.rest.now [] none (c.bytes.invariant before said h)))
+    said_cut _ before said [] (said_kept _ _ before said [] c.in-Err-flush.ensures.bytes (said_same _ before said c.bytes.rest.now [] none (c.bytes.invariant before said h)))

@@ -1,14 +1,16 @@
-use Rattle.std.proofs.Common.{◌≡◌, ◌<◌, ◌≤◌, ℕ, List, take, length, get_or, refl, sym, ap, ◌∙◌, arith, length-take}
+use Rattle.std.proofs.Common.{◌≡◌, ◌≢◌, ◌<◌, ◌≤◌, ◌++◌, ℕ, List, [], take, length, refl, sym, ap, ◌∙◌, subst, arith, rules, length-take, Result, Ok, Err}
+use Rattle.std.specs.Result.{IsErr}
 use Rattle.std.proofs.lemmas.List.{take_all}
-use Rattle.ga_console.specs.Commands.{spelling}
-use Rattle.ga_console.specs.Replies.{Obeys, AnswersLine, quit_line}
+use Rattle.ga_lab.specs.Machine.{State}
+use Rattle.ga_console.specs.Texts.{no_long, no_syntax}
+use Rattle.ga_console.specs.Commands.{Spells}
+use Rattle.ga_console.specs.Replies.{Does, Turns, AnswersLine}
 use Rattle.ga_console.specs.Replies.Answer.{long, command, syntax}
-use Rattle.ga_console.specs.Machine.{MachineState}
+use Rattle.ga_console.specs.declared.output.WriteFailed.{WriteFailed}
 use Rattle.ga_console.specs.declared.reply.Turn.{Turn}
-use Rattle.ga_console.specs.declared.reply.Turn.TheVariants.{Answered}
-use Rattle.ga_console.specs.declared.reply.Turn.TheVariants.{Quit as Quits}
 use Rattle.ga_console.specs.declared.command.Command.{Command}
-use Rattle.ga_console.specs.declared.command.Command.TheVariants.{Step, Back, Node, Quit}
+use Rattle.ga_console.specs.declared.command.Command.TheVariants.{Quit}
+use Rattle.ga_console.proofs.SaidLemmas.{cut_here, said_pending}
 use Rattle.ga_console.proofs.reply.answer.Goals as goal
 
 too_long : (line part : List ℕ) → line ≡ take 201 part → 200 < length line → 200 < length part
@@ -17,38 +19,80 @@ too_long line part e h = omega (arith, ap length e, length-take 201 part)
 whole : (line part : List ℕ) → line ≡ take 201 part → length line ≤ 200 → part ≡ line
 whole line part e h = sym (e ∙ take_all 201 part (omega (arith, ap length e, length-take 201 part)))
 
-first : List ℕ → ℕ
-first xs = get_or xs 0 0
+-- a failed write changes nothing of what the answer is
+turns_err : (s : State) (line answer : List ℕ) (new : State) (result : Result Turn WriteFailed) → IsErr result
+    → AnswersLine s line answer new → Turns s line new result answer
+turns_err s line answer new (Ok turn) is h = absurd (search rules)
+turns_err s line answer new (Err why) is h = h
 
-only_quit : (c : Command) → spelling c ≡ quit_line → c ≡ Quit
-unfolding first
-only_quit Step e = absurd (let bad : 115 ≡ 113 = ap first e in omega arith)
-only_quit Back e = absurd (let bad : 98 ≡ 113 = ap first e in omega arith)
-only_quit Node e = absurd (let bad : 110 ≡ 113 = ap first e in omega arith)
-only_quit Quit e = refl
+answers_long : (s : State) (line : List ℕ) → 200 < length line → AnswersLine s line no_long s
+answers_long s line past = λ part kept.
+    let long_part : 200 < length part = too_long line part kept past in
+    (long long_part refl refl, λ e. absurd (omega (arith, ap length e)))
 
-pub returns-then-len-gt-LINE_LIMIT : goal.returns-then-len-gt-LINE_LIMIT
-returns-then-len-gt-LINE_LIMIT c = λ part kept.
-    let past : 200 < length part = too_long c.args.line.now.items part kept (omega (arith, c.if-len-gt-LINE_LIMIT.true, c.len.ensures.value)) in
-    (long past (c.push_text.ensures.text ∙ rw c.clear.ensures refl) refl, λ e. absurd (omega (arith, ap length e)))
+answers_none : (s : State) (line given : List ℕ) → given ≡ line → length line ≤ 200 → ((d : Command) → ¬ Spells d given) → AnswersLine s line no_syntax s
+answers_none s line given e short none = λ part kept.
+    let same : part ≡ given = whole line part kept short ∙ sym e in
+    (syntax (omega (arith, ap length same, ap length e)) (λ d spelled. none d (subst (Spells d) same spelled)) refl refl, λ q. none Quit (sym same ∙ q))
 
-pub returns-in-None : goal.returns-in-None
-returns-in-None c = λ part kept.
-    let short : length c.args.line.now.items ≤ 200 = omega (arith, c.if-len-gt-LINE_LIMIT.false, c.len.ensures.value) in
-    let same : part ≡ c.as_slice.result.now = whole c.args.line.now.items part kept short ∙ sym c.as_slice.ensures.value in (
-      syntax (omega (arith, ap length same, ap length c.as_slice.ensures.value)) (λ d e. c.in-None.ensures.none d (sym same ∙ e)) (c.push_text-in-None.ensures.text ∙ rw c.clear.ensures refl) refl,
-      λ e. c.in-None.ensures.none Quit (sym same ∙ e),
+answers_done : (s : State) (line given answer : List ℕ) (new : State) (d : Command) → given ≡ line → length line ≤ 200 → Spells d given
+    → ((other : Command) → Spells other given → other ≡ d) → d ≢ Quit → Does s d answer new → AnswersLine s line answer new
+answers_done s line given answer new d e short spelled only not_quit does = λ part kept.
+    let same : part ≡ given = whole line part kept short ∙ sym e in
+    (command d (omega (arith, ap length same, ap length e)) (subst (Spells d) (sym same) spelled) does, λ q. not_quit (sym (only Quit (sym same ∙ q))))
+
+pub returns-in_err-say : goal.returns-in_err-say
+returns-in_err-say g c = λ before said h.
+    let past : 200 < length c.args.line.now.items = omega (arith, c.if-len-gt-LINE_LIMIT.true, c.len.ensures.value) in (
+      no_long,
+      turns_err _ _ _ _ c.from_residual.result c.from_residual.ensures.0 (answers_long c.args.lab.now c.args.line.now.items past),
+      cut_here c.from_residual.result _ before (said ++ no_long) _ c.from_residual.ensures.0 (c.in_err-say.ensures before said h),
     )
 
-obeyed : (m : MachineState) (line answer : List ℕ) (new : MachineState) (r : Turn) (d : Command) → length line ≤ 200 → line ≡ spelling d
-    → Obeys m d answer new r → AnswersLine m line answer new r
-obeyed m line answer new Answered d short e o = λ part kept.
-    let same = whole line part kept short in
-    (command d (omega (arith, ap length same)) (same ∙ e) o.0, λ q. o.1 (only_quit d (sym (same ∙ e) ∙ q)))
-obeyed m line answer new Quits d short e o = (e ∙ ap spelling o.0, o.1)
+pub returns-then-len-gt-LINE_LIMIT : goal.returns-then-len-gt-LINE_LIMIT
+returns-then-len-gt-LINE_LIMIT g c = λ before said h.
+    let past : 200 < length c.args.line.now.items = omega (arith, c.if-len-gt-LINE_LIMIT.true, c.len.ensures.value) in
+    (no_long, answers_long c.args.lab.now c.args.line.now.items past, c.in_ok-say.ensures before said h)
 
-pub returns-in-Some : goal.returns-in-Some
-returns-in-Some c =
+pub returns-in_err-say-in-None : goal.returns-in_err-say-in-None
+returns-in_err-say-in-None g c = λ before said h.
+    let short : length c.args.line.now.items ≤ 200 = omega (arith, c.if-len-gt-LINE_LIMIT.false, c.len.ensures.value) in (
+      no_syntax,
+      turns_err _ _ _ _ c.from_residual-in_err-say-in-None.result c.from_residual-in_err-say-in-None.ensures.0
+          (answers_none c.args.lab.now c.args.line.now.items c.as_slice.result.now c.as_slice.ensures.value short c.in-None.ensures.none),
+      cut_here c.from_residual-in_err-say-in-None.result _ before (said ++ no_syntax) _ c.from_residual-in_err-say-in-None.ensures.0 (c.in_err-say-in-None.ensures before said h),
+    )
+
+pub returns-in_ok-say-in-None : goal.returns-in_ok-say-in-None
+returns-in_ok-say-in-None g c = λ before said h.
+    let short : length c.args.line.now.items ≤ 200 = omega (arith, c.if-len-gt-LINE_LIMIT.false, c.len.ensures.value) in (
+      no_syntax,
+      answers_none c.args.lab.now c.args.line.now.items c.as_slice.result.now c.as_slice.ensures.value short c.in-None.ensures.none,
+      c.in_ok-say-in-None.ensures before said h,
+    )
+
+pub returns-in_err-obey-in_default : goal.returns-in_err-obey-in_default
+returns-in_err-obey-in_default g c = λ before said h.
     let short : length c.args.line.now.items ≤ 200 = omega (arith, c.if-len-gt-LINE_LIMIT.false, c.len.ensures.value) in
-    obeyed c.args.machine.now c.args.line.now.items c.obey.new.out.items c.obey.new.machine c.obey.result c.in-Some.command short
-    (sym c.as_slice.ensures.value ∙ c.in-Some.ensures.some) c.obey.ensures
+    let done = c.in_err-obey-in_default.ensures before said h in (
+      done.0,
+      turns_err _ _ _ _ c.from_residual-in_err-obey-in_default.result c.from_residual-in_err-obey-in_default.ensures.0
+          (answers_done c.args.lab.now c.args.line.now.items c.as_slice.result.now done.0 c.obey.new.lab c.in-Some.command c.as_slice.ensures.value short
+          c.in-Some.ensures.some c.in-Some.ensures.only c.in_default.not-Quit done.1),
+      cut_here c.from_residual-in_err-obey-in_default.result _ before (said ++ done.0) _ c.from_residual-in_err-obey-in_default.ensures.0 done.2,
+    )
+
+pub returns-in_ok-obey-in_default : goal.returns-in_ok-obey-in_default
+returns-in_ok-obey-in_default g c = λ before said h.
+    let short : length c.args.line.now.items ≤ 200 = omega (arith, c.if-len-gt-LINE_LIMIT.false, c.len.ensures.value) in
+    let done = c.in_ok-obey-in_default.ensures before said h in (
+      done.0,
+      answers_done c.args.lab.now c.args.line.now.items c.as_slice.result.now done.0 c.obey.new.lab c.in-Some.command c.as_slice.ensures.value short
+          c.in-Some.ensures.some c.in-Some.ensures.only c.in_default.not-Quit done.1,
+      done.2,
+    )
+
+pub returns-in-Quit : goal.returns-in-Quit
+returns-in-Quit g c = λ before said h.
+    let spelled = rw c.in-Quit.is at c.in-Some.ensures.some in
+    ([], (sym c.as_slice.ensures.value ∙ spelled, refl, refl), said_pending _ before said _ h)

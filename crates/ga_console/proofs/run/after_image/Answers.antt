@@ -12,7 +12,7 @@ returns-in-Ok g c = λ left before known held.
       done.4,
       done.5,
       done.6,
-      inl (c.in-Ok.machine, c.in-Ok.ensures.ok, c.serve.result, c.status_of.ensures, done.2, done.7, done.8),
+      inl (c.in-Ok.lab, c.in-Ok.ensures.ok, c.serve.result, c.status_of.ensures, done.2, done.7, done.8),
     )
 
 pub returns-in-Err : goal.returns-in-Err

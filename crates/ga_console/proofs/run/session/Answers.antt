@@ -2,7 +2,7 @@ use Rattle.std.proofs.Common.{◌≡◌, ℕ, List, [], ◌∷◌, ◌++◌, Som
 use Rattle.std.proofs.lemmas.List.{append-nil}
 use Rattle.ga_image.specs.Reading.{no_memory}
 use Rattle.ga_console.specs.Input.{Unread}
-use Rattle.ga_console.proofs.RunLemmas.{runs_refused, runs_all, runs_after, nothing_left}
+use Rattle.ga_console.proofs.RunLemmas.{runs_refused, runs_full, runs_after, nothing_left}
 use Rattle.ga_console.proofs.run.session.Goals as goal
 
 -- at the start nothing is read
@@ -33,10 +33,10 @@ returns-in-Ok-Failed g c = λ left before known held.
       text,
       got.0,
       [],
-      from_start c.new-input.result left (text ++ got.0) c.new-input.ensures got.2.0,
+      from_start c.new-input.result left (text ++ got.0) c.new-input.ensures got.2.1,
       got.1,
       held ∙ ap Some (sym (append-nil before)),
-      inr (inl (refl, got.2.1)),
+      inr (inl (refl, got.2.0)),
     )
 
 pub returns-in-Ok-Past : goal.returns-in-Ok-Past
@@ -44,15 +44,17 @@ returns-in-Ok-Past g c = λ left before known held.
     let reads = rw c.in-Ok-Past.field-0-is at c.in-Ok-Past.ensures.reads in
     let got = reads left known in
     let text : List ℕ = c.read_image.new.text.items in
-    let b = got.2.0.0 in
-    let done = c.after_all.ensures before held in (
-      text ++ b ∷ [],
-      got.0,
-      done.0,
-      from_start c.new-input.result left (text ++ b ∷ got.0) c.new-input.ensures got.2.0.1 ∙ sym (append_assoc text (b ∷ []) got.0),
-      got.1,
+    let b = got.2.1.byte in
+    let done = c.after_image.ensures got.0 before got.1 held in (
+      text ++ b ∷ done.0,
       done.1,
-      runs_all c.args.limit text got.0 done.0 b c.after_all.result (omega (arith, got.2.2, got.2.3, taken_none c.new-input.result c.new-input.ensures)) got.2.1 done.2,
+      done.2,
+      from_start c.new-input.result left (text ++ b ∷ got.0) c.new-input.ensures got.2.1.takes.splits
+          ∙ ap (λ (l : List ℕ). text ++ b ∷ l) (ap (λ (l : List ℕ). l ++ got.0) (sym got.2.2) ∙ done.3) ∙ sym (append_assoc text (b ∷ done.0) done.1),
+      done.4,
+      done.5,
+      runs_full c.args.limit c.read_image.new.input.taken text done.0 (b ∷ done.0) done.1 done.2 c.after_image.result
+          (omega (arith, got.2.1.takes.counts, got.2.1.full, taken_none c.new-input.result c.new-input.ensures)) got.2.0 done.6,
     )
 
 pub returns-in-Ok-Ended : goal.returns-in-Ok-Ended
@@ -60,18 +62,18 @@ returns-in-Ok-Ended g c = λ left before known held.
     let reads = rw c.in-Ok-Ended.field-0-is at c.in-Ok-Ended.ensures.reads in
     let got = reads left known in
     let text : List ℕ = c.read_image.new.text.items in
-    let done = c.after_image.ensures got.0 before got.1 held in
-    let empty : c.read_image.new.input.bytes ++ got.0 ≡ [] = ap (λ (l : List ℕ). l ++ got.0) got.2.3 ∙ got.2.4 in
+    let done = c.after_image-in-Ok-Ended.ensures got.0 before got.1 held in
+    let empty : c.read_image.new.input.bytes ++ got.0 ≡ [] = ap (λ (l : List ℕ). l ++ got.0) got.2.2 ∙ got.2.3 in
     let nil = nothing_left done.0 done.1 (sym empty ∙ done.3) in (
       text ++ done.0,
       done.1,
       done.2,
-      from_start c.new-input.result left text c.new-input.ensures got.2.0
+      from_start c.new-input.result left text c.new-input.ensures (got.2.1.splits ∙ append-nil text)
           ∙ sym (append_assoc text done.0 done.1 ∙ ap (λ (l : List ℕ). text ++ l) (sym done.3 ∙ empty) ∙ append-nil text),
       done.4,
       done.5,
-      runs_after c.args.limit c.read_image.new.input.taken text done.0 done.1 done.2 c.after_image.result
-          (omega (arith, got.2.2, taken_none c.new-input.result c.new-input.ensures)) (inr (inl (nil.0, nil.1, got.2.1))) done.6,
+      runs_after c.args.limit c.read_image.new.input.taken text done.0 done.1 done.2 c.after_image-in-Ok-Ended.result
+          (omega (arith, got.2.1.counts, taken_none c.new-input.result c.new-input.ensures)) (inr (inl (nil.0, nil.1, got.2.0))) done.6,
     )
 
 pub returns-in-Ok-EndLine : goal.returns-in-Ok-EndLine
@@ -83,10 +85,10 @@ returns-in-Ok-EndLine g c = λ left before known held.
       text ++ done.0,
       done.1,
       done.2,
-      from_start c.new-input.result left (text ++ (c.read_image.new.input.bytes ++ got.0)) c.new-input.ensures got.2.0
+      from_start c.new-input.result left (text ++ (c.read_image.new.input.bytes ++ got.0)) c.new-input.ensures got.2.1.splits
           ∙ ap (λ (l : List ℕ). text ++ l) done.3 ∙ sym (append_assoc text done.0 done.1),
       done.4,
       done.5,
       runs_after c.args.limit c.read_image.new.input.taken text done.0 done.1 done.2 c.after_image-in-Ok-EndLine.result
-          (omega (arith, got.2.2, taken_none c.new-input.result c.new-input.ensures)) (inl got.2.1) done.6,
+          (omega (arith, got.2.1.counts, taken_none c.new-input.result c.new-input.ensures)) (inl got.2.0) done.6,
     )

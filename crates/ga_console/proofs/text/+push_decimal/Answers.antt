@@ -3,7 +3,7 @@ use Rattle.std.proofs.lemmas.Fmt.{decimal_step, decimal_digit}
 use Rattle.ga_console.proofs.text.+push_decimal.Goals as goal
 use Rattle.ga_console.proofs.text.+push_decimal.Goals.{then-number-ge10, else-number-ge10}
 
-one_more : (n : ℕ) → 10 ≤ n → n < 2 ^ 32 → length (decimal n) ≡ length (decimal (n / 10)) + 1
+one_more : (n : ℕ) → 10 ≤ n → n < 2 ^ 64 → length (decimal n) ≡ length (decimal (n / 10)) + 1
 one_more n big fits = ap length (decimal_step n big (omega arith)) ∙ length-append (decimal (n / 10)) ((48 + n % 10) ∷ [])
 
 pub push_decimal-requires : goal.push_decimal-requires

@@ -2,8 +2,8 @@ use Rattle.std.proofs.Common.{◌≤◌, ◌<◌, ◌^◌, length, decimal, ℕ,
 use Rattle.std.proofs.lemmas.Fmt.{length-decimal-le}
 use Rattle.ga_console.proofs.text.push_number.Goals as goal
 
-short : (n : ℕ) → n < 2 ^ 32 → length (decimal n) ≤ 10
-short n fits = length-decimal-le 10 n (omega arith) (omega arith) (omega arith)
+short : (n : ℕ) → n < 2 ^ 64 → length (decimal n) ≤ 20
+short n fits = length-decimal-le 20 n (omega arith) (omega arith) (omega arith)
 
 pub push_decimal-requires : goal.push_decimal-requires
 push_decimal-requires c = omega (arith, c.requires, short c.args.number c.ranges.number.fits)

@@ -2,8 +2,8 @@ use Rattle.std.proofs.Common.{◌≡◌, ◌≢◌, ◌<◌, true, length, sym, 
 use Rattle.std.proofs.lemmas.List.{get_or-set_other}
 use Rattle.ga_node.specs.State.{IsApart}
 use Rattle.ga_node.specs.Record.{record_of}
-use Rattle.ga_node.specs.Table.{t, sent, taken}
-use Rattle.ga_node.specs.Saving.{IsChange}
+use Rattle.ga_node.specs.Table.{t, sent, sending, taken, taking}
+use Rattle.ga_node.specs.Saving.{Overwrites}
 use Rattle.ga_grid.specs.Chip.{nowhere, node_at, records_of, record_at}
 use Rattle.ga_event.specs.Apply.{is_open}
 use Rattle.ga_event.proofs.Applied.{pass_applied, open_apart}
@@ -24,7 +24,9 @@ returns-clause-ok c =
     pass_applied c.args.chip.now c.args.writer c.args.reader c.args.side c.send_half_into-word.new.self c.take_half_into.new.self c.send_half_into-word.result
     c.send_half_into-word.new.saved c.take_half_into.new.saved lw lr other open_
     (subst (λ z. c.send_half_into-word.result ≡ t (record_of z)) at_w c.send_half_into-word.ensures.word)
-    (subst (λ z. IsChange z (sent (record_of z)) c.send_half_into-word.new.self c.send_half_into-word.new.saved) at_w c.send_half_into-word.ensures.change)
+    (subst (λ z. record_of c.send_half_into-word.new.self ≡ sent (record_of z)) at_w c.send_half_into-word.ensures.sent)
+    (subst (λ z. Overwrites sending z c.send_half_into-word.new.self c.send_half_into-word.new.saved) at_w c.send_half_into-word.ensures.saves)
     (subst (λ z. IsApart z) at_w c.send_half_into-word.ensures.apart)
-    (subst (λ z. IsChange z (taken c.send_half_into-word.result (record_of z)) c.take_half_into.new.self c.take_half_into.new.saved) at_r c.take_half_into.ensures.change)
+    (subst (λ z. record_of c.take_half_into.new.self ≡ taken c.send_half_into-word.result (record_of z)) at_r c.take_half_into.ensures.taken)
+    (subst (λ z. Overwrites (taking (record_of z).wait c.send_half_into-word.result) z c.take_half_into.new.self c.take_half_into.new.saved) at_r c.take_half_into.ensures.saves)
     (subst (λ z. IsApart z) at_r c.take_half_into.ensures.apart)

@@ -10,7 +10,7 @@ use Rattle.ga_image.proofs.image.read.Goals as goal
 
 pub returns-in-Err : goal.returns-in-Err
 returns-in-Err c =
-    inr (sym c.loop-rest.invariant.same
+    sym (sym c.loop-rest.invariant.same
     ∙ reads_fault (progress_of c.loop-rest.parser) c.loop-rest.line c.loop-rest.rest.now _ c.first_line.result.1.now c.in-Err.cause c.first_line.ensures.splits (sym c.in-Err.ensures.fault))
 
 pub loop-rest-init : goal.loop-rest-init
@@ -23,20 +23,20 @@ loop-rest-init c =
 pub loop-rest-preserved : goal.loop-rest-preserved
 loop-rest-preserved c =
     let before = progress_of c.loop-rest.parser in
-    let less = line_less before c.first_line.result.0.now c.loop-rest.invariant.sized (sym c.in_default-read_line.ensures.fault) in
-    let onward = reads_on before c.loop-rest.line c.loop-rest.rest.now _ c.first_line.result.1.now c.first_line.ensures.splits (sym c.in_default-read_line.ensures.fault) in
+    let less = line_less before c.first_line.result.0.now c.loop-rest.invariant.sized (sym c.in_default.ensures.fault) in
+    let onward = reads_on before c.loop-rest.line c.loop-rest.rest.now _ c.first_line.result.1.now c.first_line.ensures.splits (sym c.in_default.ensures.fault) in
     let Holds : Progress → Type 0 = λ progress. (reading progress (c.loop-rest.line + 1) (lines_of c.first_line.result.1.now) ≡ reading start 1 (lines_of c.args.text.now)) × (c.loop-rest.line + 1 + room progress ≤ 19142) × IsSized progress in
-    let all : Holds (progress_of c.read_line.new.self) = subst Holds (sym c.in_default-read_line.ensures.read) (sym onward ∙ c.loop-rest.invariant.same, omega (arith, less.0), less.1) in
+    let all : Holds (progress_of c.read_line.new.self) = subst Holds (sym c.in_default.ensures.read) (sym onward ∙ c.loop-rest.invariant.same, omega (arith, less.0), less.1) in
     record { same = all.0; counts = all.1; sized = all.2 }
 
 pub returns-in-Ended : goal.returns-in-Ended
 returns-in-Ended c =
     let rest = nil_from_length c.loop-rest.rest.now (eqb-true _ _ (sym c.is_empty.ensures ∙ c.loop-rest-test.false)) in
-    sym c.loop-rest.invariant.same ∙ ap (λ t. reading (progress_of c.loop-rest.parser) c.loop-rest.line (lines_of t)) rest
-    ∙ reads_end (progress_of c.loop-rest.parser) c.loop-rest.line (ap stage_of c.in-Ended.is)
+    sym (sym c.loop-rest.invariant.same ∙ ap (λ t. reading (progress_of c.loop-rest.parser) c.loop-rest.line (lines_of t)) rest
+    ∙ reads_end (progress_of c.loop-rest.parser) c.loop-rest.line (ap stage_of c.in-Ended.is))
 
 pub returns-in_default-stage : goal.returns-in_default-stage
 returns-in_default-stage c =
     let rest = nil_from_length c.loop-rest.rest.now (eqb-true _ _ (sym c.is_empty.ensures ∙ c.loop-rest-test.false)) in
-    inr (sym c.loop-rest.invariant.same ∙ ap (λ t. reading (progress_of c.loop-rest.parser) c.loop-rest.line (lines_of t)) rest
+    sym (sym c.loop-rest.invariant.same ∙ ap (λ t. reading (progress_of c.loop-rest.parser) c.loop-rest.line (lines_of t)) rest
     ∙ reads_cut (progress_of c.loop-rest.parser) c.loop-rest.line (still_open c.loop-rest.parser.stage c.in_default-stage.not-Ended))

@@ -1,5 +1,10 @@
+use Rattle.std.proofs.Common.{refl, ap, [], ◌∷◌, ◌+◌, ◌%◌}
+use Rattle.ga_stacks.specs.Ring.{Ring}
+use Rattle.ga_stacks.specs.declared.place.StackPlace.TheVariants.{Pointer, Top, Cell}
+use Rattle.ga_node.specs.State.{NodeState}
 use Rattle.ga_node.proofs.Saving.{saves_return}
 use Rattle.ga_node.proofs.node.Node.push_return.Goals as goal
 
 pub returns-clause-saves : goal.returns-clause-saves
-returns-clause-saves c = saves_return _ _ _ _ _ _ c.save_return.ensures (rw c.push.ensures.undone c.self.view_is) c.push.ensures.fit c.push.ensures.count
+returns-clause-saves c =
+    saves_return _ _ _ _ _ (λ (ring : Ring). Pointer ∷ Cell ((ring.pointer + 7) % 8) ∷ Top ∷ []) _ _ c.save_return.ensures (ap (λ (n : NodeState). n.return_stack) c.self.view_is) c.push.ensures.overwritten refl (rw c.push.ensures.undone c.self.view_is) c.push.ensures.fit

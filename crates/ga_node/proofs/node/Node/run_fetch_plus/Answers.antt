@@ -1,14 +1,22 @@
-use Rattle.std.proofs.Common.{refl}
-use Rattle.ga_node.proofs.Saving.{event_of, saves_then, saves_none, follows_ok, follows_err}
+use Rattle.std.proofs.Common.{refl, rules}
+use Rattle.ga_node.specs.Record.{record_of}
+use Rattle.ga_node.specs.Table.{effect}
+use Rattle.ga_node.specs.Saving.{IsEnded}
+use Rattle.ga_slots.specs.declared.op.Op.TheVariants.{FetchPlus}
+use Rattle.ga_node.specs.State.{restored}
+use Rattle.ga_node.proofs.Saving.{made, saves_then, saves_from}
+use Rattle.ga_node.proofs.Outcomes.{ended_followed, done_followed}
 use Rattle.ga_node.proofs.node.Node.run_fetch_plus.Goals as goal
 
-pub returns-in-Err : goal.returns-in-Err
-returns-in-Err c =
-    let event = rw (c.get.ensures.value, c.a-a.ensures) at c.in-Err.ensures.event in
-    event_of c.requires.empty c.in-Err.ensures.saves (rw (event, follows_err) refl)
+pub returns-in_err-word-clause-ended : goal.returns-in_err-word-clause-ended
+returns-in_err-word-clause-ended c =
+    let ended : IsEnded (effect FetchPlus (record_of c.args.self.now)) c.in_err-word.field-0.0 c.args.self.now c.read.new.self c.read.new.saved =
+    ended_followed _ _ _ _ _ _ (rw (c.get.ensures.value, c.a-a.ensures) at c.in_err-word.ensures.ended) in
+    search (rules, ended)
 
-pub returns-in-Ok : goal.returns-in-Ok
-returns-in-Ok c =
-    let given = rw (c.get.ensures.value, c.a-a.ensures) at c.in-Ok.ensures.word in
-    event_of c.requires.empty (saves_then (saves_then (saves_then (saves_none _ _ _ _ 0 c.in-Ok.ensures.same c.in-Ok.ensures.unsaved) c.push_data.ensures.saves) c.set_a.ensures.saves) c.go_on.ensures.saves)
-    (rw (given, follows_ok, c.go_on.ensures.changed, c.set_a.ensures.changed, c.push_data.ensures.changed, c.in-Ok.ensures.same, c.advance_a.ensures, c.a-a.ensures, c.code.ensures.value) refl)
+pub returns-clause-done : goal.returns-clause-done
+unfolding restored
+returns-clause-done c =
+    done_followed _ _ _ _ _ _ (rw (c.get.ensures.value, c.a-a.ensures) at c.in_ok-word.ensures.word)
+    (made c.in_ok-word.ensures.unsaved (saves_then (saves_then (saves_from c.in_ok-word.ensures.same c.push_data.ensures.saves) c.set_a.ensures.saves (λ n m. refl)) c.go_on.ensures.saves (λ n m. refl)) refl (search rules)
+    (rw (c.go_on.ensures.change, c.set_a.ensures.change, c.push_data.ensures.change, c.in_ok-word.ensures.same, c.advance_a.ensures, c.a-a.ensures) refl))

@@ -1,8 +1,10 @@
-use Rattle.std.proofs.Common.{refl}
-use Rattle.ga_node.proofs.Saving.{event_of, saves_then}
+use Rattle.std.proofs.Common.{refl, rules}
+use Rattle.ga_node.specs.State.{restored}
+use Rattle.ga_node.proofs.Saving.{made, saves_then}
 use Rattle.ga_node.proofs.node.Node.run_over.Goals as goal
 
 pub returns : goal.returns
+unfolding restored
 returns c =
-    event_of c.requires (saves_then c.push_data.ensures.saves c.go_on.ensures.saves)
-    (rw (c.go_on.ensures.changed, c.push_data.ensures.changed, c.second-second.ensures, c.code.ensures.value) refl)
+    made c.requires (saves_then c.push_data.ensures.saves c.go_on.ensures.saves (λ n m. refl)) refl (search rules)
+    (rw (c.go_on.ensures.change, c.push_data.ensures.change, c.second-second.ensures) refl)

@@ -1,8 +1,10 @@
-use Rattle.std.proofs.Common.{refl}
-use Rattle.ga_node.proofs.Saving.{event_of, saves_then}
+use Rattle.std.proofs.Common.{refl, rules}
+use Rattle.ga_node.specs.State.{restored}
+use Rattle.ga_node.proofs.Saving.{made, saves_then}
 use Rattle.ga_node.proofs.node.Node.run_return.Goals as goal
 
 pub returns : goal.returns
+unfolding restored
 returns c =
-    event_of c.requires (saves_then (saves_then c.set_p.ensures.saves c.pop_return.ensures.saves) c.skip.ensures.saves)
-    (rw (c.skip.ensures.changed, c.pop_return.ensures.changed, c.set_p.ensures.changed, c.get-p.ensures.value, c.top_return-top.ensures, c.code.ensures.value) refl)
+    made c.requires (saves_then (saves_then c.set_p.ensures.saves c.pop_return.ensures.saves (λ n m. refl)) c.skip.ensures.saves (λ n m. refl)) refl (search rules)
+    (rw (c.skip.ensures.change, c.pop_return.ensures.change, c.set_p.ensures.change, c.get-p.ensures.value, c.top_return-top.ensures) refl)

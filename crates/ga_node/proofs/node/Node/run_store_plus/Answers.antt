@@ -1,14 +1,23 @@
-use Rattle.std.proofs.Common.{refl}
-use Rattle.ga_node.proofs.Saving.{event_of, saves_then, follows_ok, follows_err}
+use Rattle.std.proofs.Common.{refl, rules}
+use Rattle.ga_node.specs.Record.{record_of}
+use Rattle.ga_node.specs.Table.{effect}
+use Rattle.ga_node.specs.Saving.{IsEnded}
+use Rattle.ga_slots.specs.declared.op.Op.TheVariants.{StorePlus}
+use Rattle.ga_node.specs.State.{restored}
+use Rattle.ga_node.proofs.Saving.{saves_as, saves_then}
+use Rattle.ga_node.proofs.Outcomes.{ended_followed, done_stored}
 use Rattle.ga_node.proofs.node.Node.run_store_plus.Goals as goal
 
-pub returns-in-Err : goal.returns-in-Err
-returns-in-Err c =
-    let event = rw (c.get.ensures.value, c.a-a.ensures) at c.in-Err.ensures.event in
-    event_of c.requires.empty c.in-Err.ensures.saves (rw (event, follows_err) refl)
+pub returns-in_err-write-clause-ended : goal.returns-in_err-write-clause-ended
+returns-in_err-write-clause-ended c =
+    let ended : IsEnded (effect StorePlus (record_of c.args.self.now)) c.in_err-write.field-0.0 c.args.self.now c.write.new.self c.write.new.saved =
+    ended_followed _ _ _ _ _ _ (rw (c.get.ensures.value, c.a-a.ensures) at c.in_err-write.ensures.ended) in
+    search (rules, ended)
 
-pub returns-in-Ok : goal.returns-in-Ok
-returns-in-Ok c =
-    let given = rw (c.get.ensures.value, c.a-a.ensures) at c.in-Ok.ensures.written in
-    event_of c.requires.empty (saves_then (saves_then (saves_then c.write.ensures.saves c.pop_data.ensures.saves) c.set_a.ensures.saves) c.go_on.ensures.saves)
-    (rw (given, follows_ok, c.go_on.ensures.changed, c.set_a.ensures.changed, c.pop_data.ensures.changed, c.advance_a.ensures, c.a-next.ensures, c.pop_data.ensures.changed, c.code.ensures.value) refl)
+pub returns-clause-done : goal.returns-clause-done
+unfolding restored
+returns-clause-done c =
+    done_stored _ _ _ _ _ _ _ _ (rw (c.get.ensures.value, c.a-a.ensures) at c.in_ok-write.ensures.done)
+    (saves_as refl (saves_then (saves_then c.pop_data.ensures.saves c.set_a.ensures.saves (λ n m. refl)) c.go_on.ensures.saves (λ n m. refl)))
+    (rw (c.go_on.ensures.change, c.set_a.ensures.change, c.pop_data.ensures.change, c.advance_a.ensures, c.a-a.ensures) refl)
+    (λ k w n m. refl) (λ w n m. refl) (λ n m. refl) (λ k w. search rules) (λ w. search rules) (search rules)

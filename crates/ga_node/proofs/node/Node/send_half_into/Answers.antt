@@ -1,10 +1,13 @@
-use Rattle.std.proofs.Common.{refl}
-use Rattle.ga_node.proofs.Saving.{change_of, saves_then}
+use Rattle.std.proofs.Common.{refl, rules}
+use Rattle.ga_node.specs.State.{restored}
 use Rattle.ga_node.specs.Table.{sent}
+use Rattle.ga_node.proofs.Saving.{overwrites, saves_then}
 use Rattle.ga_node.proofs.node.Node.send_half_into.Goals as goal
 
-pub returns-clause-change : goal.returns-clause-change
+pub returns-clause-sent : goal.returns-clause-sent
 unfolding sent
-returns-clause-change c =
-    change_of c.requires.empty (saves_then (saves_then c.end_wait.ensures.saves c.pop_data.ensures.saves) c.go_on.ensures.saves)
-    (rw (c.go_on.ensures.changed, c.pop_data.ensures.changed, c.end_wait.ensures.changed) refl)
+returns-clause-sent c = rw (c.go_on.ensures.change, c.pop_data.ensures.change, c.end_wait.ensures.change) refl
+
+pub returns-clause-saves : goal.returns-clause-saves
+unfolding restored
+returns-clause-saves c = overwrites c.requires.empty (saves_then (saves_then c.end_wait.ensures.saves c.pop_data.ensures.saves (λ n m. refl)) c.go_on.ensures.saves (λ n m. refl)) refl (search rules)

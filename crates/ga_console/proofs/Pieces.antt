@@ -1,0 +1,27 @@
+-- Texts put together piece by piece.
+use Rattle.std.proofs.Common.{◌≡◌, ℕ, ◌+◌, List, [], ◌∷◌, ◌++◌, ap, ◌∙◌, arith, append_assoc}
+use Rattle.std.specs.Prelude.{slice_index}
+use Rattle.std.proofs.lemmas.Grind.{flat_map-append}
+use Rattle.std.proofs.lemmas.List.FromFn.{map-range_with_len_more}
+use Rattle.ga_word.specs.Word.{hex6_of}
+use Rattle.ga_image.specs.Spelling.{words_text}
+use Rattle.ga_console.specs.Texts.{first_words}
+
+-- one piece more
+pub piece_more : (old said new text piece : List ℕ) → said ≡ old ++ text → new ≡ said ++ piece → new ≡ old ++ (text ++ piece)
+piece_more old said new text piece e f = f ∙ ap (λ (t : List ℕ). t ++ piece) e ∙ append_assoc old text piece
+
+pub four_pieces : (old a b c d w x y z : List ℕ) → a ≡ old ++ w → b ≡ a ++ x → c ≡ b ++ y → d ≡ c ++ z → d ≡ old ++ (((w ++ x) ++ y) ++ z)
+four_pieces old a b c d w x y z p q r s = piece_more old c d ((w ++ x) ++ y) z (piece_more old b c (w ++ x) y (piece_more old a b w x p q) r) s
+
+pub six_pieces : (old a b c d e f u v w x y z : List ℕ) → a ≡ old ++ u → b ≡ a ++ v → c ≡ b ++ w → d ≡ c ++ x → e ≡ d ++ y → f ≡ e ++ z
+    → f ≡ old ++ (((((u ++ v) ++ w) ++ x) ++ y) ++ z)
+six_pieces old a b c d e f u v w x y z p q r s t k =
+    piece_more old e f ((((u ++ v) ++ w) ++ x) ++ y) z
+    (piece_more old d e (((u ++ v) ++ w) ++ x) y (four_pieces old a b c d u v w x p q r s) t) k
+
+-- one word more of a stack
+pub words_more : (count : ℕ) (words : List ℕ) → words_text (first_words (count + 1) words) ≡ words_text (first_words count words) ++ 32 ∷ hex6_of (slice_index words count)
+words_more count words =
+    ap words_text (map-range_with_len_more (λ place. slice_index words place) 0 count count (omega arith))
+    ∙ flat_map-append (λ word. 32 ∷ hex6_of word) (first_words count words) (slice_index words count ∷ [])

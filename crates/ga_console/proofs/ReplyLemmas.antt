@@ -1,0 +1,99 @@
+-- What a call of the lab means for the command.
+use Rattle.std.proofs.Common.{◌≡◌, ℕ, ◌-◌, ◌⊎◌, List, [], ◌∷◌, ◌++◌, length, take, Option, Some, None, Result, Ok, Err, inl, inr, refl, sym, ap, ◌∙◌, rules}
+use Rattle.std.specs.Prelude.{IsOk}
+use Rattle.ga_grid.specs.declared.node_id.NodeId.{NodeId}
+use Rattle.ga_event.specs.declared.event.Event.{Event}
+use Rattle.ga_causal.specs.Steps.{place_of, rest_from}
+use Rattle.ga_causal.specs.declared.chain.Link.{Link}
+use Rattle.ga_journal.specs.declared.made.Made.{Made}
+use Rattle.ga_lab.specs.Machine.{State, step_answer, stepped, undone, rewind_answer, rewound, rest_answer, undo_answer, dropped_answer, history_of, why_answer}
+use Rattle.ga_lab.specs.declared.fault.LabFault.{LabFault}
+use Rattle.ga_lab.specs.declared.fault.LabFault.TheVariants as fault
+use Rattle.ga_console.specs.Texts.{made_text, removed_text, refusal_text}
+use Rattle.ga_console.specs.Replies.{Reply, Does, step_reply, back_reply, rewind_reply, steps_text, links_text, why_text}
+use Rattle.ga_console.specs.declared.command.Command.TheVariants.{Step, Back, Rewind, Trace, Why}
+
+-- an answer with a machine
+pub replies : (text other : List ℕ) (new next : State) → text ≡ other → new ≡ next
+    → let answer : Reply = (text, new) in let wanted : Reply = (other, next) in answer ≡ wanted
+replies text other new next e f =
+    let with_text : List ℕ → Reply = λ t. (t, new) in
+    let with_state : State → Reply = λ s. (other, s) in ap with_text e ∙ ap with_state f
+
+err_same : {T : Type 0} (a b : LabFault) → let first : Result T LabFault = Err a in let second : Result T LabFault = Err b in first ≡ second → a ≡ b
+err_same a b e = cc
+
+-- the answer that is right, or want of memory where that is none
+abbrev pub IsAnswer : {T : Type 0} → Result T LabFault → Result T LabFault → Type 0
+IsAnswer right answer = (answer ≡ right) ⊎ ((answer ≡ Err fault.Memory) × IsOk right)
+
+-- ---- step
+
+pub step_made : (s : State) (node : NodeId) (made : Made) (text : List ℕ) (new : State)
+    → IsAnswer (step_answer s node) (Ok made)
+    → new ≡ stepped s node → text ≡ made_text made → Does s (Step node) text new
+step_made s node made text new (inl e) f t =
+    inl (replies text (made_text made) new (stepped s node) t f ∙ ap (λ (r : Result Made LabFault). step_reply s node r) e)
+step_made s node made text new (inr e) f t = absurd (let bad = e.0 in cc)
+
+pub step_refused : (s : State) (node : NodeId) (why : LabFault) (text : List ℕ) (new : State)
+    → IsAnswer (step_answer s node) (Err why)
+    → new ≡ s → text ≡ refusal_text why → Does s (Step node) text new
+step_refused s node why text new (inl e) f t =
+    inl (replies text (refusal_text why) new s t f ∙ ap (λ (r : Result Made LabFault). step_reply s node r) e)
+step_refused s node why text new (inr e) f t = inr (e.1, t ∙ ap refusal_text (err_same why fault.Memory e.0), f)
+
+-- ---- back
+
+pub back_done : (s : State) (text : List ℕ) (new : State) (kept : ℕ) → let done : Result (Unit {0}) LabFault = Ok tt in done ≡ undo_answer s
+    → new ≡ undone s → kept ≡ length new.kept → text ≡ removed_text 1 kept → Does s Back text new
+back_done s text new kept e f counts t =
+    inl (replies text (removed_text 1 (length (undone s).kept)) new (undone s)
+    (t ∙ ap (removed_text 1) (counts ∙ ap (λ (n : State). length n.kept) f)) f ∙ ap (back_reply s) e)
+
+pub back_refused : (s : State) (why : LabFault) (text : List ℕ) (new : State) → let refused : Result (Unit {0}) LabFault = Err why in refused ≡ undo_answer s
+    → new ≡ undone s → text ≡ refusal_text why → Does s Back text new
+back_refused s why text new e f t =
+    inl (replies text (refusal_text why) new s t (f ∙ go s.kept refl e) ∙ ap (back_reply s) e) where
+      go : (events : List Event) → s.kept ≡ events → let refused : Result (Unit {0}) LabFault = Err why in refused ≡ dropped_answer events → undone s ≡ s
+      go [] is refused =
+          let last : List Event → State = λ es. record s { kept = take (length es - 1) es } in
+          let whole : List Event → State = λ es. record s { kept = es } in
+          let none : last [] ≡ whole [] = refl in
+          ap last is ∙ none ∙ ap whole (sym is)
+      go (event ∷ events) is refused = absurd (let bad = refused in cc)
+
+-- ---- rewind
+
+pub rewind_done : (s : State) (node : NodeId) (k : ℕ) (removed kept : ℕ) (text : List ℕ) (new : State) → Ok removed ≡ rewind_answer s node.number k
+    → new ≡ rewound s node.number k → kept ≡ length new.kept → text ≡ removed_text removed kept → Does s (Rewind node k) text new
+rewind_done s node k removed kept text new e f counts t =
+    let after : State = rewound s node.number k in
+    inl (replies text (removed_text removed (length after.kept)) new after (t ∙ ap (removed_text removed) (counts ∙ ap (λ (n : State). length n.kept) f)) f
+    ∙ ap (rewind_reply s after) e)
+
+pub rewind_refused : (s : State) (node : NodeId) (k : ℕ) (why : LabFault) (text : List ℕ) (new : State) → Err why ≡ rewind_answer s node.number k
+    → new ≡ rewound s node.number k → text ≡ refusal_text why → Does s (Rewind node k) text new
+rewind_refused s node k why text new e f t = inl (replies text (refusal_text why) new s t (f ∙ go (place_of s.kept node.number k) refl e)
+    ∙ ap (λ (r : Result ℕ LabFault). rewind_reply s (rewound s node.number k) r) e) where
+      go : (place : Option ℕ) → place_of s.kept node.number k ≡ place → Err why ≡ rest_answer s.kept place → rewound s node.number k ≡ s
+      go None is refused = ap (λ (p : Option ℕ). record s { kept = rest_from s.kept p }) is
+      go (Some place) is refused = absurd (let bad = refused in cc)
+
+-- ---- trace
+
+pub trace_done : (s : State) (node : NodeId) (steps : List Made) (text : List ℕ) → steps ≡ history_of s node.number → text ≡ steps_text node steps
+    → Does s (Trace node) text s
+trace_done s node steps text e t = inl (replies text (steps_text node (history_of s node.number)) s s (t ∙ ap (steps_text node) e) refl)
+
+pub trace_refused : (s : State) (node : NodeId) (why : LabFault) (text : List ℕ) → why ≡ fault.Memory → text ≡ refusal_text why → Does s (Trace node) text s
+trace_refused s node why text e t = inr (tt, t ∙ ap refusal_text e, refl)
+
+-- ---- why
+
+pub why_done : (s : State) (from to : NodeId) (k j : ℕ) (answer : Result (Option (List Link)) LabFault) (text : List ℕ)
+    → IsAnswer (why_answer s from.number k to.number j) answer
+    → text ≡ why_text s answer → Does s (Why from k to j) text s
+why_done s from to k j answer text (inl e) t =
+    inl (replies text (why_text s (why_answer s from.number k to.number j)) s s (t ∙ ap (why_text s) e) refl)
+why_done s from to k j answer text (inr e) t = inr (e.1, t ∙ ap (why_text s) e.0, refl)

@@ -1,0 +1,9 @@
+use Rattle.std.proofs.Common.{ℕ, List, ◌++◌, length, take}
+use Rattle.std.specs.Prelude.{flat_map}
+use Rattle.ga_console.specs.Output.{IsSaid}
+use Rattle.ga_console.specs.Texts.{made_text, trace_text}
+use Rattle.ga_console.proofs.readings.say_steps.Given as goal
+
+abbrev pub invariant-steps : goal.invariant-steps
+invariant-steps g l = (before said : List ℕ) → IsSaid (g.W.Write.contents l.fn.writer) before said l.fn.output
+    → IsSaid (g.W.Write.contents l.writer) before (said ++ (trace_text l.fn.node (length l.steps) ++ flat_map made_text (take l.made-index l.steps))) l.output

@@ -1,0 +1,67 @@
+//! The commands that change the machine.
+ghost use Rattle.ga_console.specs.Output.{Says};
+ghost use Rattle.ga_console.specs.Replies.{Does};
+ghost use Rattle.ga_console.specs.declared.command.Command.TheVariants.{Step, Back, Rewind};
+
+use super::event::{put_made, put_removed, refusal};
+use super::output::{Output, WriteFailed};
+use super::text::Text;
+use ga_grid::NodeId;
+use ga_lab::Lab;
+use std::io::Write;
+
+/// `step NNN`: makes the node's next event.
+pub fn step<W: Write>(
+    lab: &mut Lab,
+    node: NodeId,
+    output: &mut Output,
+    writer: &mut W,
+) -> Result<(), WriteFailed>
+    ensures { Says result (λ text. Does lab.old (Step node) text lab.new)
+        (W.contents writer.old) output.old (W.contents writer.new) output.new }
+{
+    match lab.step(node) {
+        Ok(made) => {
+            let mut text = Text::new();
+            put_made(&mut text, made);
+            output.say(writer, text.as_slice())
+        }
+        Err(fault) => output.say(writer, refusal(fault)),
+    }
+}
+
+/// `back`: takes the newest event back.
+pub fn back<W: Write>(lab: &mut Lab, output: &mut Output, writer: &mut W) -> Result<(), WriteFailed>
+    ensures { Says result (λ text. Does lab.old Back text lab.new)
+        (W.contents writer.old) output.old (W.contents writer.new) output.new }
+{
+    match lab.undo() {
+        Ok(()) => {
+            let mut text = Text::new();
+            put_removed(&mut text, 1, lab.counts().kept);
+            output.say(writer, text.as_slice())
+        }
+        Err(fault) => output.say(writer, refusal(fault)),
+    }
+}
+
+/// `rewind NNN K`: takes a step of the node back, with all that depends on it.
+pub fn rewind<W: Write>(
+    lab: &mut Lab,
+    node: NodeId,
+    step: u32,
+    output: &mut Output,
+    writer: &mut W,
+) -> Result<(), WriteFailed>
+    ensures { Says result (λ text. Does lab.old (Rewind node step) text lab.new)
+        (W.contents writer.old) output.old (W.contents writer.new) output.new }
+{
+    match lab.rewind(node, step) {
+        Ok(removed) => {
+            let mut text = Text::new();
+            put_removed(&mut text, removed, lab.counts().kept);
+            output.say(writer, text.as_slice())
+        }
+        Err(fault) => output.say(writer, refusal(fault)),
+    }
+}

@@ -1,0 +1,228 @@
+//! The texts of answers.
+
+use crate::event::{put_chain, put_counts, put_made, put_removed, put_trace, refusal};
+use crate::fault_text::put_fault;
+use crate::node_text::{put_memory, put_node};
+use crate::text::{Text, put_text};
+use ga_grid::NodeId;
+use ga_image::{ImageCause, ImageFault, parse};
+use ga_lab::{Counts, LabFault, Made};
+use ga_node::Kind;
+use ga_word::Word18;
+use std::test::Fail;
+
+/// The node with this name.
+fn node(yxx: u32) -> Result<NodeId, Fail> {
+    Ok(NodeId::from_yxx(yxx).ok_or("no node has this name")?)
+}
+
+fn word(number: u32) -> Result<Word18, Fail> {
+    Ok(Word18::new(number).ok_or("no word")?)
+}
+
+#[test]
+fn events(rt: HostRuntime) -> Result<(), Fail> {
+    let own = |node, step, kind| Made::Own { node, step, kind };
+    let rows = [
+        (own(node(0)?, 1, Kind::Fetch), b"000 1 fetch\n".as_slice()),
+        (own(node(0)?, 2, Kind::Run(8)), b"000 2 run 08\n"),
+        (own(node(1)?, 3, Kind::Run(0x1e)), b"001 3 run 1e\n"),
+        (own(node(0)?, 7, Kind::Wait), b"000 7 wait\n"),
+        (own(node(0)?, 7, Kind::Stop(1)), b"000 7 stop 1\n"),
+        (
+            own(node(717)?, 4_000_000, Kind::Stop(3)),
+            b"717 4000000 stop 3\n",
+        ),
+        (
+            Made::Pass {
+                writer: node(0)?,
+                writer_step: 8,
+                reader: node(1)?,
+                reader_step: 5,
+                word: word(0x2a)?,
+            },
+            b"pass 000 8 001 5 00002a\n",
+        ),
+        (
+            Made::Pass {
+                writer: node(101)?,
+                writer_step: 8,
+                reader: node(1)?,
+                reader_step: 5,
+                word: word(7)?,
+            },
+            b"pass 101 8 001 5 000007\n",
+        ),
+    ];
+    let mut out = Text::new();
+    for (made, text) in rows {
+        put_made(&mut out, made);
+        assert_eq!(rt; out.as_slice(), text);
+    }
+    Ok(())
+}
+
+#[test]
+fn lists(rt: HostRuntime) -> Result<(), Fail> {
+    let mut out = Text::new();
+    put_removed(&mut out, 1, 11);
+    assert_eq!(rt; out.as_slice(), b"removed 1 kept 11\n".as_slice());
+    put_removed(&mut out, 2, 17);
+    assert_eq!(rt; out.as_slice(), b"removed 2 kept 17\n".as_slice());
+    put_trace(&mut out, node(1)?, 5);
+    assert_eq!(rt; out.as_slice(), b"trace 001 5\n".as_slice());
+    put_trace(&mut out, node(2)?, 0);
+    assert_eq!(rt; out.as_slice(), b"trace 002 0\n".as_slice());
+    put_chain(&mut out, 3);
+    assert_eq!(rt; out.as_slice(), b"chain 3\n".as_slice());
+    put_counts(
+        &mut out,
+        Counts {
+            kept: 7,
+            made: 7,
+            limit: 1_000_000,
+        },
+    );
+    assert_eq!(rt; out.as_slice(), b"kept 7 made 7 limit 1000000\n".as_slice());
+    put_counts(
+        &mut out,
+        Counts {
+            kept: 0,
+            made: u64::MAX,
+            limit: 4_000_000,
+        },
+    );
+    assert_eq!(rt;
+        out.as_slice(),
+        b"kept 0 made 18446744073709551615 limit 4000000\n".as_slice()
+    );
+    put_memory(&mut out, node(0)?, 0x41, word(0x1d5)?);
+    assert_eq!(rt; out.as_slice(), b"mem 000 41 0001d5\n".as_slice());
+    put_memory(&mut out, node(717)?, 0xff, word(0x3ffff)?);
+    assert_eq!(rt; out.as_slice(), b"mem 717 ff 03ffff\n".as_slice());
+    Ok(())
+}
+
+#[test]
+fn refusals(rt: HostRuntime) -> Result<(), Fail> {
+    let rows = [
+        (LabFault::Waiting, b"no 1 waiting\n".as_slice()),
+        (LabFault::Stopped, b"no 2 stopped\n"),
+        (LabFault::Full, b"no 3 full\n"),
+        (LabFault::Memory, b"no 4 memory\n"),
+        (LabFault::Empty, b"no 5 empty\n"),
+        (LabFault::NoStep, b"no 6 nostep\n"),
+        (LabFault::Spent, b"no 7 spent\n"),
+    ];
+    let mut out = Text::new();
+    for (fault, text) in rows {
+        put_text(&mut out, refusal(fault));
+        assert_eq!(rt; out.as_slice(), text);
+    }
+    let fault = ImageFault {
+        line: 3,
+        cause: ImageCause::Word,
+    };
+    put_fault(&mut out, fault);
+    assert_eq!(rt; out.as_slice(), b"no 14 word line 3\n".as_slice());
+    let fault = ImageFault {
+        line: 1,
+        cause: ImageCause::Truncated,
+    };
+    put_fault(&mut out, fault);
+    assert_eq!(rt; out.as_slice(), b"no 17 truncated line 1\n".as_slice());
+    Ok(())
+}
+
+/// A node after some events of its own.
+struct Shown {
+    image: &'static [u8],
+    yxx: u32,
+    events: u32,
+    /// Its text before the data stack.
+    start: &'static [u8],
+    /// The words on top of the data stack. All others are 015555.
+    data: &'static [u8],
+    others: u32,
+}
+
+static SHOWN: [Shown; 6] = [
+    Shown {
+        image: b"ga144 1\nnode 000\np 000000\nram 00 004df2 000003\nend\n",
+        yxx: 0,
+        events: 5,
+        start: b"node 000 run p 000002 a 000000 b 00015d i 004df2 slot 4 carry 0 io 015555 d",
+        data: b" 000006",
+        others: 9,
+    },
+    Shown {
+        image: b"ga144 1\nnode 000\np 000000\nram 00 004df2 000003\nend\n",
+        yxx: 0,
+        events: 3,
+        start: b"node 000 run p 000002 a 000000 b 00015d i 004df2 slot 2 carry 0 io 015555 d",
+        data: b" 000003 000003",
+        others: 8,
+    },
+    Shown {
+        image: b"ga144 1\nnode 000\np 000000\nram 00 004b12 0001d5 00002a 0089b2\nend\n",
+        yxx: 0,
+        events: 7,
+        start: b"node 000 write r--- p 000004 a 000000 b 0001d5 i 0089b2 slot 0 carry 0 io 015555 d",
+        data: b" 00002a",
+        others: 9,
+    },
+    Shown {
+        image: b"ga144 1\nnode 001\np 000000\nram 00 004b02 0001d5\nend\n",
+        yxx: 1,
+        events: 4,
+        start: b"node 001 read r--- p 000002 a 000000 b 0001d5 i 004b02 slot 2 carry 0 io 015555 d",
+        data: b"",
+        others: 10,
+    },
+    Shown {
+        image: b"ga144 1\nend\n",
+        yxx: 1,
+        events: 1,
+        start: b"node 001 fetch rdl- p 0001b5 a 000000 b 00015d i 000000 slot 4 carry 0 io 015555 d",
+        data: b"",
+        others: 10,
+    },
+    Shown {
+        image: b"ga144 1\nnode 000\np 000000\nram 00 004b12 0001a5 000001 0089b2\nend\n",
+        yxx: 0,
+        events: 7,
+        start: b"node 000 stop 1 p 000004 a 000000 b 0001a5 i 0089b2 slot 0 carry 0 io 015555 d",
+        data: b" 000001",
+        others: 9,
+    },
+];
+
+#[test]
+fn nodes(rt: HostRuntime) -> Result<(), Fail> {
+    let mut out = Text::new();
+    for row in &SHOWN {
+        let name = node(row.yxx)?;
+        let mut chip = parse(rt.alloc(), row.image)?;
+        for _ in 0..row.events {
+            chip.node_mut(name).own()?;
+        }
+        put_node(&mut out, name, chip.node(name));
+        let text = out.as_slice();
+        let text = text.strip_prefix(row.start).ok_or("another start")?;
+        let text = text.strip_prefix(row.data).ok_or("another top")?;
+        let text = fresh(text, row.others)?;
+        let text = text.strip_prefix(b" r").ok_or("no return stack")?;
+        let text = fresh(text, 9)?;
+        assert_eq!(rt; text, b"\n".as_slice());
+    }
+    Ok(())
+}
+
+/// What follows so many words that were never pushed.
+fn fresh(text: &[u8], count: u32) -> Result<&[u8], Fail> {
+    let mut rest = text;
+    for _ in 0..count {
+        rest = rest.strip_prefix(b" 015555").ok_or("another word")?;
+    }
+    Ok(rest)
+}

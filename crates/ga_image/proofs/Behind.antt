@@ -1,0 +1,310 @@
+-- The state behind one line more.
+use Rattle.std.specs.Bool.{Decides}
+use Rattle.std.specs.Prelude.{nat_lt, nat_eq, ◌==◌, ◌-◌}
+use Rattle.std.specs.List.{AllByRecursion}
+use Rattle.std.proofs.Common.{◌≡◌, ◌≢◌, ℕ, ◌+◌, ◌<◌, ◌≤◌, ◌⊎◌, inl, inr, Bool, true, false, cond, ◌||◌, List, [], ◌∷◌, ◌++◌, length, get_or, set, Option, Some, None, refl, sym, ◌∙◌, ap, subst, arith, length-set, replicate}
+use Rattle.std.proofs.lemmas.Bool.{ne_eqb, eqb-true}
+use Rattle.std.proofs.lemmas.Bool.Decides.{nat_tests, Decides-or, Decides-like, Decides-at, eqb_tells}
+use Rattle.std.proofs.lemmas.List.{get_or-set_same, get_or-set_other}
+use Rattle.std.proofs.lemmas.Slice.Eq.{bytes_eq-Decides}
+use Rattle.ga_grid.specs.Grid.{node_of, yxx_of}
+use Rattle.ga_image.specs.declared.fault.ImageCause.TheVariants as cause
+use Rattle.ga_image.specs.declared.field.Field.{Field}
+use Rattle.ga_image.specs.declared.field.Field.TheVariants.{A, B, P, Ram, Rom}
+use Rattle.ga_image.specs.Fields.{HasCell, writes, number_of, goes_past, repeats}
+use Rattle.ga_image.specs.Spelling.{Form, Node, Words, End, Spells}
+use Rattle.ga_image.specs.Forms.{form}
+use Rattle.ga_image.specs.Grammar.{header}
+use Rattle.ga_image.specs.Progress.{Progress, Stage}
+use Rattle.ga_image.specs.Progress as stage
+use Rattle.ga_image.specs.Reading.{fault_of, line_fault, later_fault, is_misplaced, is_header, after_line, after_form, with_writes, with_block, nothing_given, start}
+use Rattle.ga_image.specs.FirstFault.{OneOf, IsEnd, BeginsBlockOf, BeginsBlock, GivesField, WasGiven}
+use Rattle.ga_image.proofs.Spellings.{form_spelled}
+use Rattle.ga_image.proofs.Flags.{none_flagged}
+use Rattle.ga_image.proofs.Meanings.{marked, in_memory, line_later, past_later, short_past}
+use Rattle.ga_image.proofs.Found.{not_short, neither, some_form, node_ok, field_ok, yxx_of_node}
+use Rattle.ga_image.proofs.Accepted.{all_written}
+use Rattle.ga_image.proofs.Room.{IsSized, length-marked, past_start}
+use Rattle.ga_image.proofs.Causes.{IsAfter, StandsAt, one_form, node_no_words, node_no_end, end_no_words, header_formless, each_has_cell, in_block}
+
+-- ---- one line more
+
+pub one_front : (Holds : List ℕ → Type 0) (xs : List (List ℕ)) (y : List ℕ) → OneOf Holds xs → OneOf Holds (xs ++ y ∷ [])
+one_front Holds [] y none = absurd none
+one_front Holds (x ∷ xs) y (inl here) = inl here
+one_front Holds (x ∷ xs) y (inr there) = inr (one_front Holds xs y there)
+
+pub one_last : (Holds : List ℕ → Type 0) (xs : List (List ℕ)) (y : List ℕ) → Holds y → OneOf Holds (xs ++ y ∷ [])
+one_last Holds [] y here = inl here
+one_last Holds (x ∷ xs) y here = inr (one_last Holds xs y here)
+
+pub one_split : (Holds : List ℕ → Type 0) (xs : List (List ℕ)) (y : List ℕ) → OneOf Holds (xs ++ y ∷ []) → OneOf Holds xs ⊎ Holds y
+one_split Holds [] y (inl here) = inr here
+one_split Holds [] y (inr none) = absurd none
+one_split Holds (x ∷ xs) y (inl here) = inl (inl here)
+one_split Holds (x ∷ xs) y (inr there) = elim (one_split Holds xs y there) [ inl front ↦ inl (inr front) | inr last ↦ inr last ]
+
+none_more : (Holds : List ℕ → Type 0) (xs : List (List ℕ)) (y : List ℕ) → ¬ OneOf Holds xs → ¬ Holds y → ¬ OneOf Holds (xs ++ y ∷ [])
+none_more Holds xs y none other = λ some. elim (one_split Holds xs y some) [ inl front ↦ none front | inr last ↦ other last ]
+
+given_last : (before : List (List ℕ)) (line : List ℕ) (field : Field) → GivesField field line → WasGiven (before ++ line ∷ []) field
+given_last [] line field gives = inr (gives, λ none. none)
+given_last (first ∷ before) line field gives = inl (given_last before line field gives)
+
+given_front : (before : List (List ℕ)) (line : List ℕ) (field : Field) → ¬ BeginsBlock line → WasGiven before field → WasGiven (before ++ line ∷ []) field
+given_front [] line field other none = absurd none
+given_front (first ∷ before) line field other (inl later) = inl (given_front before line field other later)
+given_front (first ∷ before) line field other (inr here) = inr (here.0, none_more BeginsBlock before line here.1 other)
+
+given_split : (before : List (List ℕ)) (line : List ℕ) (field : Field) → WasGiven (before ++ line ∷ []) field → (¬ BeginsBlock line × WasGiven before field) ⊎ GivesField field line
+given_split [] line field (inl none) = absurd none
+given_split [] line field (inr here) = inr here.0
+given_split (first ∷ before) line field (inl later) = elim (given_split before line field later) [ inl front ↦ inl (front.0, inl front.1) | inr last ↦ inr last ]
+given_split (first ∷ before) line field (inr here) =
+    inl (λ begins. here.1 (one_last BeginsBlock before line begins), inr (here.0, λ some. here.1 (one_front BeginsBlock before line some)))
+
+some_more : (before : List (List ℕ)) (line : List ℕ) → (before ++ line ∷ []) ≢ []
+some_more [] line = λ e. cc
+some_more (first ∷ before) line = λ e. cc
+
+-- ---- fields by their numbers
+
+field_at : ℕ → Field
+field_at n = cond (n == 0) A (cond (n == 1) B (cond (n == 2) P (cond (nat_lt n 67) (Ram (n - 3)) (Rom (n - 67)))))
+
+named : (field : Field) → HasCell field → field_at (number_of field) ≡ field
+unfolding field_at
+named A cell = refl
+named B cell = refl
+named P cell = refl
+named (Ram c) cell =
+    let zero : (3 + c == 0) ≡ false = ne_eqb (3 + c) 0 (omega arith) in
+    let one : (3 + c == 1) ≡ false = ne_eqb (3 + c) 1 (omega arith) in
+    let two : (3 + c == 2) ≡ false = ne_eqb (3 + c) 2 (omega arith) in
+    let less : nat_lt (3 + c) 67 ≡ true = grind (arith, nat_tests) in
+    let same : 3 + c - 3 ≡ c = omega arith in
+    rw (zero, one, two, less, same) refl
+named (Rom c) cell =
+    let zero : (67 + c == 0) ≡ false = ne_eqb (67 + c) 0 (omega arith) in
+    let one : (67 + c == 1) ≡ false = ne_eqb (67 + c) 1 (omega arith) in
+    let two : (67 + c == 2) ≡ false = ne_eqb (67 + c) 2 (omega arith) in
+    let less : nat_lt (67 + c) 67 ≡ false = grind (arith, nat_tests) in
+    let same : 67 + c - 67 ≡ c = omega arith in
+    rw (zero, one, two, less, same) refl
+
+same_field : (f g : Field) → HasCell f → HasCell g → number_of f ≡ number_of g → f ≡ g
+same_field f g first second same = sym (named f first) ∙ ap field_at same ∙ named g second
+
+number_below : (field : Field) → HasCell field → number_of field < 131
+number_below A cell = omega arith
+number_below B cell = omega arith
+number_below P cell = omega arith
+number_below (Ram c) cell = omega arith
+number_below (Rom c) cell = omega arith
+
+-- one of the words is for the field of this number
+abbrev any_numbered : ℕ → List (Field × ℕ) → Bool
+any_numbered n [] = false
+any_numbered n (w ∷ ws) = nat_eq (number_of w.0) n || any_numbered n ws
+
+either : (x y z : Bool) → (x ≡ true → z ≡ true) → (x ≡ false → z ≡ y) → z ≡ (y || x)
+either true true z p q = p refl
+either true false z p q = p refl
+either false true z p q = q refl
+either false false z p q = q refl
+
+or_assoc : (x y z : Bool) → ((x || y) || z) ≡ (x || (y || z))
+or_assoc true y z = refl
+or_assoc false y z = refl
+
+-- what is marked is what was marked, and these
+marked_or : (given : List Bool) (n : ℕ) (ws : List (Field × ℕ)) → length given ≡ 131 → AllByRecursion (λ w. HasCell w.0) ws → get_or (marked given ws) n false ≡ (get_or given n false || any_numbered n ws)
+marked_or given n [] size cells = either false (get_or given n false) (get_or given n false) (λ e. cc) (λ e. refl)
+marked_or given n (w ∷ ws) size cells =
+    let rest = marked_or (set given (number_of w.0) true) n ws (length-set given (number_of w.0) true ∙ size) cells.1 in
+    let below : number_of w.0 < length given = let less = number_below w.0 cells.0 in omega (arith, size) in
+    let here : get_or (set given (number_of w.0) true) n false ≡ (get_or given n false || nat_eq (number_of w.0) n) =
+    either (nat_eq (number_of w.0) n) (get_or given n false) (get_or (set given (number_of w.0) true) n false)
+    (λ is. subst (λ (k : ℕ). get_or (set given (number_of w.0) true) k false ≡ true) (eqb-true (number_of w.0) n is) (get_or-set_same given (number_of w.0) true false below))
+    (λ isn't. elim (eqb_tells (number_of w.0) n) [
+      | inl same ↦ let never : true ≡ false = sym same.0 ∙ isn't in cc
+      | inr other ↦ get_or-set_other given (number_of w.0) n true false (λ e. other.1 (sym e))
+    ]) in
+    rest ∙ ap (λ b. b || any_numbered n ws) here ∙ or_assoc (get_or given n false) (nat_eq (number_of w.0) n) (any_numbered n ws)
+
+is_numbered : (f g : Field) → HasCell f → HasCell g → Decides (nat_eq (number_of f) (number_of g)) (f ≡ g)
+is_numbered f g first second = (
+  λ e. same_field f g first second (eqb-true (number_of f) (number_of g) e),
+  λ e. elim (eqb_tells (number_of f) (number_of g)) [ inl same ↦ same.0 | inr other ↦ absurd (other.1 (ap number_of e)) ],
+)
+
+numbered : (field : Field) (ws : List (Field × ℕ)) → HasCell field → AllByRecursion (λ w. HasCell w.0) ws → Decides (any_numbered (number_of field) ws) (OneOf (λ w. w.0 ≡ field) ws)
+numbered field [] cell cells = (λ e. cc, λ none. absurd none)
+numbered field (w ∷ ws) cell cells = Decides-or _ _ (is_numbered w.0 field cells.0 cell) (numbered field ws cell cells.1)
+
+-- ---- the state behind a line without fault
+
+not_ended : (st : Stage) (f : Form) (before : List (List ℕ)) → st ≢ stage.Header → StandsAt st before → is_misplaced st (Some f) ≡ false → ¬ OneOf IsEnd before
+not_ended stage.Header f before behind stands placed = absurd (behind refl)
+not_ended stage.Open f before behind stands placed = stands.1
+not_ended (stage.Block node) f before behind stands placed = stands.1
+not_ended stage.Ended f before behind stands placed = cc
+
+-- blocks stay what they are behind a line that begins none
+blocks_kept : (progress : Progress) (before : List (List ℕ)) (line : List ℕ) → IsAfter progress before → ((yxx : ℕ) → ¬ BeginsBlockOf yxx line)
+    → (yxx n : ℕ) → node_of yxx ≡ Some n → Decides (get_or progress.blocks n false) (OneOf (BeginsBlockOf yxx) (before ++ line ∷ []))
+blocks_kept progress before line after other yxx n is =
+    Decides-like (get_or progress.blocks n false) (one_front (BeginsBlockOf yxx) before line)
+    (λ some. elim (one_split (BeginsBlockOf yxx) before line some) [ inl front ↦ front | inr last ↦ absurd (other yxx last) ]) (after.blocks yxx n is)
+
+after_end : (progress : Progress) (before : List (List ℕ)) (line : List ℕ) → IsAfter progress before → Spells line End → IsAfter (record progress { stage = stage.Ended }) (before ++ line ∷ [])
+after_end progress before line after end = record {
+  stands = (some_more before line, one_last IsEnd before line end);
+  sized = record { blocks = after.sized.blocks; given = after.sized.given };
+  blocks = blocks_kept progress before line after (λ yxx begins. node_no_end line yxx begins end);
+  given = λ node e. absurd (let never : stage.Ended ≡ stage.Block node = e in let clash : true ≡ false = cc in cc);
+}
+
+after_header : (progress : Progress) (before : List (List ℕ)) (line : List ℕ) → IsAfter progress before → progress.stage ≡ stage.Header → line ≡ header → IsAfter (record progress { stage = stage.Open }) (before ++ line ∷ [])
+after_header progress before line after is first =
+    let formless = header_formless line first in
+    let none : before ≡ [] = let Q : Stage → Type 0 = λ st. StandsAt st before in subst Q is after.stands in
+    let no_line : (Holds : List ℕ → Type 0) → ¬ OneOf Holds before = λ Holds some. let Q : List (List ℕ) → Type 0 = OneOf Holds in absurd (subst Q none some) in
+    record {
+      stands = (
+        some_more before line,
+        none_more IsEnd before line (λ some. no_line IsEnd some) (formless End),
+        none_more BeginsBlock before line (λ some. no_line BeginsBlock some) (λ begins. formless (Node begins.0) begins.1),
+      );
+      sized = record { blocks = after.sized.blocks; given = after.sized.given };
+      blocks = blocks_kept progress before line after (λ yxx begins. formless (Node yxx) begins);
+      given = λ node e. absurd (let never : stage.Open ≡ stage.Block node = e in let clash : true ≡ false = cc in cc);
+    }
+
+in_node : (y n m k : ℕ) → node_of y ≡ Some n → node_of m ≡ Some k → n ≡ k → y ≡ m
+in_node y n m k first second same =
+    (yxx_of_node y n first).0 ∙ ap yxx_of same ∙ sym (yxx_of_node m k second).0
+
+after_node : (progress : Progress) (before : List (List ℕ)) (line : List ℕ) (y n : ℕ) → IsAfter progress before → Spells line (Node y) → progress.stage ≢ stage.Header
+    → is_misplaced progress.stage (Some (Node y)) ≡ false → node_of y ≡ Some n
+    → IsAfter (record progress { stage = stage.Block n; blocks = set progress.blocks n true; given = nothing_given }) (before ++ line ∷ [])
+after_node progress before line y n after spelled behind placed is =
+    let within : n < length progress.blocks = let small = (yxx_of_node y n is).1 in omega (arith, after.sized.blocks) in
+    record {
+      stands = (
+        some_more before line,
+        none_more IsEnd before line (not_ended progress.stage (Node y) before behind after.stands placed) (node_no_end line y spelled),
+        one_last BeginsBlock before line (y, spelled),
+      );
+      sized = record { blocks = length-set progress.blocks n true ∙ after.sized.blocks; given = refl };
+      blocks = λ m k names. elim (eqb_tells n k) [
+        | inl same ↦
+            let number : y ≡ m = in_node y n m k is names same.1 in (
+              λ e. let Q : ℕ → Type 0 = λ v. Spells line (Node v) in one_last (BeginsBlockOf m) before line (subst Q number spelled),
+              λ some. subst (λ (v : ℕ). get_or (set progress.blocks n true) v false ≡ true) same.1 (get_or-set_same progress.blocks n true false within),
+            )
+        | inr other ↦
+            Decides-at _ _ (get_or-set_other progress.blocks n k true false (λ e. other.1 (sym e)))
+            (Decides-like (get_or progress.blocks k false) (one_front (BeginsBlockOf m) before line)
+            (λ some. elim (one_split (BeginsBlockOf m) before line some) [
+              | inl front ↦ front
+              | inr last ↦
+                  let forms : Node y ≡ Node m = one_form line _ _ spelled last in
+                  let number : y ≡ m = cc in
+                  let numbers : Some n ≡ Some k = sym is ∙ ap node_of number ∙ names in
+                  let same : n ≡ k = cc in absurd (other.1 same)
+            ])
+            (after.blocks m k names))
+      ];
+      given = λ node e field cell. Decides-at _ _ (none_flagged 131 (number_of field)) (
+        λ never. cc,
+        λ was. elim (given_split before line field was) [
+          | inl front ↦ absurd (front.0 (y, spelled))
+          | inr last ↦ absurd (node_no_words line y last.0 last.1 spelled last.2)
+        ],
+      );
+    }
+
+after_words : (progress : Progress) (before : List (List ℕ)) (line : List ℕ) (node : ℕ) (field : Field) (words : List ℕ) → IsAfter progress before → Spells line (Words field words)
+    → progress.stage ≡ stage.Block node → goes_past field (length words) ≡ false → IsAfter (with_writes progress (writes field words)) (before ++ line ∷ [])
+after_words progress before line node field words after spelled is inside =
+    let ws = writes field words in
+    let cells = each_has_cell field words inside in
+    let Q : Stage → Type 0 = λ st. StandsAt st before in
+    let stood = subst Q is after.stands in
+    let R : Stage → Type 0 = λ st. StandsAt st (before ++ line ∷ []) in
+    let no_node : ¬ BeginsBlock line = λ begins. node_no_words line begins.0 field words begins.1 spelled in
+    let stands = subst R (sym is) (some_more before line, none_more IsEnd before line stood.1 (λ end. end_no_words line field words end spelled), one_front BeginsBlock before line stood.2) in
+    subst (λ (p : Progress). IsAfter p (before ++ line ∷ [])) (sym (all_written progress ws)) (record {
+      stands = stands;
+      sized = record { blocks = after.sized.blocks; given = length-marked progress.given ws ∙ after.sized.given };
+      blocks = blocks_kept progress before line after (λ yxx begins. no_node (yxx, begins));
+      given = λ other e g cell.
+          Decides-at _ _ (marked_or progress.given (number_of g) ws after.sized.given cells)
+          (Decides-like _
+          (λ either. elim either [ inl front ↦ given_front before line g no_node front | inr last ↦ given_last before line g (field, words, spelled, last) ])
+          (λ was. elim (given_split before line g was) [
+            | inl front ↦ inl front.1
+            | inr last ↦
+                let forms : Words last.0 last.1 ≡ Words field words = one_form line _ _ last.2 spelled in
+                let fields : last.0 ≡ field = cc in
+                let word_lists : last.1 ≡ words = cc in
+                let U : List ℕ → Type 0 = λ vs. OneOf (λ w. w.0 ≡ g) (writes field vs) in
+                let V : Field → Type 0 = λ f. OneOf (λ w. w.0 ≡ g) (writes f last.1) in
+                inr (subst U word_lists (subst V fields last.3))
+          ])
+          (Decides-or _ _ (after.given node is g cell) (numbered g ws cell cells)));
+    })
+
+after_form_of : (progress : Progress) (before : List (List ℕ)) (line : List ℕ) (f : Form) → IsAfter progress before → Spells line f → progress.stage ≢ stage.Header
+    → later_fault progress (Some f) ≡ None → IsAfter (after_form progress (Some f)) (before ++ line ∷ [])
+after_form_of progress before line End after spelled behind none = after_end progress before line after spelled
+after_form_of progress before line (Node y) after spelled behind none =
+    let ok = node_ok progress y none in
+    let placed = (neither (is_misplaced progress.stage (Some (Node y))) _ _ none).0 in
+    let Q : Option ℕ → Type 0 = λ o. IsAfter (with_block progress o) (before ++ line ∷ []) in
+    subst Q (sym ok.1) (after_node progress before line y ok.0 after spelled behind placed ok.1)
+after_form_of progress before line (Words field words) after spelled behind none =
+    let placed = (neither (is_misplaced progress.stage (Some (Words field words))) _ _ none).0 in
+    let block = in_block progress.stage field words placed in
+    after_words progress before line block.0 field words after spelled block.1 (in_memory field (length words) (field_ok progress field words none).0.0)
+
+known : (st : Stage) → (st ≡ stage.Header) ⊎ (st ≢ stage.Header)
+known stage.Header = inl refl
+known stage.Open = inr (λ e. cc)
+known (stage.Block node) = inr (λ e. cc)
+known stage.Ended = inr (λ e. cc)
+
+header_line : (st : Stage) (progress : Progress) (line : List ℕ) → st ≡ stage.Header → line_fault st progress line ≡ None → line ≡ header
+header_line stage.Header progress line is none = (bytes_eq-Decides line header).0 (accepted (is_header line) none) where
+  accepted : (b : Bool) → cond b None (Some cause.Header) ≡ None → b ≡ true
+  accepted true e = refl
+  accepted false e = cc
+header_line stage.Open progress line is none = cc
+header_line (stage.Block node) progress line is none = cc
+header_line stage.Ended progress line is none = cc
+
+-- a line without fault leads to the state behind it
+pub after_one : (progress : Progress) (before : List (List ℕ)) (line : List ℕ) → IsAfter progress before → fault_of progress line ≡ None → IsAfter (after_line progress line) (before ++ line ∷ [])
+after_one progress before line after none =
+    let Q : Progress → Type 0 = λ p. IsAfter p (before ++ line ∷ []) in
+    elim (known progress.stage) [
+      | inl is ↦ subst Q (sym (past_start progress line is)) (after_header progress before line after is (header_line progress.stage progress line is (not_short progress line none)))
+      | inr later ↦
+          let none_later : later_fault progress (form line) ≡ None = sym (line_later progress.stage progress line later) ∙ not_short progress line none in
+          let placed = neither (is_misplaced progress.stage (form line)) _ _ none_later in
+          let meaning = some_form progress.stage (form line) later placed.0 in
+          let fault : later_fault progress (Some meaning.0) ≡ None = ap (later_fault progress) (sym meaning.1) ∙ none_later in
+          let past : after_line progress line ≡ after_form progress (Some meaning.0) = short_past progress line ∙ past_later progress.stage progress line later ∙ ap (after_form progress) meaning.1 in
+          subst Q (sym past) (after_form_of progress before line meaning.0 after (form_spelled line meaning.0 meaning.1) later fault)
+    ]
+
+-- before the first line
+pub after_none : IsAfter start []
+unfolding start
+after_none = record {
+  stands = refl;
+  sized = record { blocks = refl; given = refl };
+  blocks = λ yxx n is. Decides-at _ _ (none_flagged 144 n) (λ never. cc, λ none. absurd none);
+  given = λ node e. absurd (let never : stage.Header ≡ stage.Block node = e in let clash : true ≡ false = cc in cc);
+}

@@ -1,0 +1,155 @@
+-- What reading refuses is the first fault of a text, and the other way.
+use Rattle.std.specs.Prelude.{IfErr}
+use Rattle.std.proofs.Common.{◌≡◌, ◌≢◌, ℕ, ◌+◌, ◌⊎◌, inl, inr, Bool, true, false, List, [], ◌∷◌, ◌++◌, length, Option, Some, None, Result, Ok, Err, refl, sym, ◌∙◌, ap, subst, arith, append_assoc, length-append}
+use Rattle.std.proofs.lemmas.List.{append-nil}
+use Rattle.ga_node.specs.State.{NodeState}
+use Rattle.ga_image.specs.declared.fault.ImageCause.{ImageCause}
+use Rattle.ga_image.specs.declared.fault.ImageCause.TheVariants as cause
+use Rattle.ga_image.specs.declared.fault.ImageFault.{ImageFault}
+use Rattle.ga_image.specs.Progress.{Progress, Stage}
+use Rattle.ga_image.specs.Progress as stage
+use Rattle.ga_image.specs.Reading.{reading, refused, at_end, fault_of, after_line, start, no_memory, Gives}
+use Rattle.ga_image.specs.FirstFault.{OneOf, IsEnd, HasCause, causes, IsFirstCause, HasNone, AreFaultless, IsAtLine, IsAtEnd, IsFirstFault}
+use Rattle.ga_image.proofs.Found.{passed}
+use Rattle.ga_image.proofs.Causes.{Tells, IsAfter, StandsAt, fault_tells}
+use Rattle.ga_image.proofs.Behind.{after_one, after_none}
+
+-- ---- the first cause of a line
+
+none_first : (before : List (List ℕ)) (line : List ℕ) (left : List ImageCause) (first : ImageCause) → HasNone before line left → ¬ IsFirstCause before line left first
+none_first before line [] first none = λ is. is
+none_first before line (c ∷ left) first none = λ is. elim is [ inl here ↦ none.0 here.1 | inr there ↦ none_first before line left first none.1 there.1 ]
+
+one_first : (before : List (List ℕ)) (line : List ℕ) (left : List ImageCause) (first second : ImageCause) → IsFirstCause before line left first → IsFirstCause before line left second → first ≡ second
+one_first before line [] first second p q = absurd p
+one_first before line (c ∷ left) first second (inl p) (inl q) = p.0 ∙ sym q.0
+one_first before line (c ∷ left) first second (inl p) (inr q) = absurd (q.0 p.1)
+one_first before line (c ∷ left) first second (inr p) (inl q) = absurd (p.0 q.1)
+one_first before line (c ∷ left) first second (inr p) (inr q) = one_first before line left first second p.1 q.1
+
+no_fault : (before : List (List ℕ)) (line : List ℕ) (found : Option ImageCause) → Tells before line causes found → HasNone before line causes → found ≡ None
+no_fault before line None tells none = refl
+no_fault before line (Some c) tells none = absurd (none_first before line causes c none tells)
+
+the_fault : (before : List (List ℕ)) (line : List ℕ) (found : Option ImageCause) (first : ImageCause) → Tells before line causes found → IsFirstCause before line causes first → found ≡ Some first
+the_fault before line None first tells is = absurd (none_first before line causes first tells is)
+the_fault before line (Some c) first tells is = ap (λ x. Some x) (one_first before line causes c first tells is)
+
+-- ---- what reading refuses
+
+one_more : (before lines : List (List ℕ)) (line : List ℕ) → AreFaultless before lines → HasNone (before ++ lines) line causes → AreFaultless before (lines ++ line ∷ [])
+one_more before [] line each none = (subst (λ (b : List (List ℕ)). HasNone b line causes) (append-nil before) none, tt)
+one_more before (first ∷ lines) line each none =
+    (each.0, one_more (before ++ first ∷ []) lines line each.1 (subst (λ (b : List (List ℕ)). HasNone b line causes) (sym (append_assoc before (first ∷ []) lines)) none))
+
+not_at_end : (st : Stage) (chip : List NodeState) (line : ℕ) (before : List (List ℕ)) (fault : ImageFault) → StandsAt st before → at_end st chip line ≡ Err fault
+    → (¬ OneOf IsEnd before) × (record { line = line; cause = cause.Truncated } ≡ fault)
+not_at_end stage.Header chip line before fault stands e =
+    let same : record { line = line; cause = cause.Truncated } ≡ fault = cc in
+    let Q : List (List ℕ) → Type 0 = OneOf IsEnd in (λ some. let none : OneOf IsEnd [] = subst Q stands some in none, same)
+not_at_end stage.Open chip line before fault stands e = let same : record { line = line; cause = cause.Truncated } ≡ fault = cc in (stands.1, same)
+not_at_end (stage.Block node) chip line before fault stands e = let same : record { line = line; cause = cause.Truncated } ≡ fault = cc in (stands.1, same)
+not_at_end stage.Ended chip line before fault stands e = cc
+
+longer : (before : List (List ℕ)) (line : List ℕ) → length (before ++ line ∷ []) ≡ length before + 1
+longer before line = length-append before (line ∷ [])
+
+-- a refusal is of this line or of a later one
+either_refused : (found : Option ImageCause) (number : ℕ) (others : Result (List NodeState) ImageFault) (fault : ImageFault) → refused found number others ≡ Err fault
+    → ((c : ImageCause) × (found ≡ Some c) × (record { line = number; cause = c } ≡ fault)) ⊎ ((found ≡ None) × (others ≡ Err fault))
+either_refused None number others fault e = inr (refl, e)
+either_refused (Some c) number others fault e = let same : record { line = number; cause = c } ≡ fault = cc in inl (c, refl, same)
+
+-- a fault that reading finds behind these lines is the first of the whole text
+found_behind : (lines : List (List ℕ)) (progress : Progress) (before : List (List ℕ)) (fault : ImageFault) → IsAfter progress before → AreFaultless [] before
+    → reading progress (length before + 1) lines ≡ Err fault → IsFirstFault (before ++ lines) fault
+unfolding reading
+found_behind [] progress before fault after each e =
+    let end = not_at_end progress.stage progress.chip (length before + 1) before fault after.stands e in
+    subst (λ (texts : List (List ℕ)). IsFirstFault texts fault) (sym (append-nil before)) (inr (record {
+      faultless = each;
+      unended = end.0;
+      cause = ap (λ f. f.cause) (sym end.1);
+      number = ap (λ f. f.line) (sym end.1);
+    }))
+found_behind (line ∷ lines) progress before fault after each e =
+    let tells = fault_tells progress before line after in
+    let T : Option ImageCause → Type 0 = Tells before line causes in
+    elim (either_refused (fault_of progress line) (length before + 1) (reading (after_line progress line) (length before + 1 + 1) lines) fault e) [
+      | inl (c, is, same) ↦
+          inl (record {
+            before = before;
+            line = line;
+            after = lines;
+            parts = refl;
+            faultless = each;
+            cause = let Q : ImageFault → Type 0 = λ f. IsFirstCause before line causes f.cause in subst Q same (subst T is tells);
+            number = ap (λ f. f.line) (sym same);
+          })
+      | inr (none, others) ↦
+          let more = one_more [] before line each (subst T none tells) in
+          let onward = ap (λ (n : ℕ). reading (after_line progress line) (n + 1) lines) (longer before line) ∙ others in
+          let rest = found_behind lines (after_line progress line) (before ++ line ∷ []) fault (after_one progress before line after none) more onward in
+          subst (λ (texts : List (List ℕ)). IsFirstFault texts fault) (append_assoc before (line ∷ []) lines) rest
+    ]
+
+-- what reading refuses is the first fault
+pub refused_first : (texts : List (List ℕ)) (fault : ImageFault) → reading start 1 texts ≡ Err fault → IsFirstFault texts fault
+refused_first texts fault e = found_behind texts start [] fault after_none tt e
+
+-- ---- the first fault is what reading refuses
+
+-- faultless lines are read
+read_on : (lines : List (List ℕ)) (rest : List (List ℕ)) (progress : Progress) (before : List (List ℕ)) → IsAfter progress before → AreFaultless before lines
+    → (next : Progress) × IsAfter next (before ++ lines) × (reading progress (length before + 1) (lines ++ rest) ≡ reading next (length (before ++ lines) + 1) rest)
+unfolding reading
+read_on [] rest progress before after each =
+    (progress, subst (IsAfter progress) (sym (append-nil before)) after, ap (λ (b : List (List ℕ)). reading progress (length b + 1) rest) (sym (append-nil before)))
+read_on (line ∷ lines) rest progress before after each =
+    let none = no_fault before line (fault_of progress line) (fault_tells progress before line after) each.0 in
+    let more = read_on lines rest (after_line progress line) (before ++ line ∷ []) (after_one progress before line after none) each.1 in
+    let same = append_assoc before (line ∷ []) lines in
+    let here : reading progress (length before + 1) (line ∷ (lines ++ rest)) ≡ reading (after_line progress line) (length before + 1 + 1) (lines ++ rest) = rw none refl in (
+      more.0,
+      subst (IsAfter more.0) same more.1,
+      here ∙ ap (λ (n : ℕ). reading (after_line progress line) (n + 1) (lines ++ rest)) (sym (longer before line)) ∙ more.2
+          ∙ ap (λ (b : List (List ℕ)). reading more.0 (length b + 1) rest) same,
+    )
+
+read_fault : (progress : Progress) (number : ℕ) (line : List ℕ) (rest : List (List ℕ)) (fault : ImageFault) → fault_of progress line ≡ Some fault.cause → fault.line ≡ number → reading progress number (line ∷ rest) ≡ Err fault
+unfolding reading
+read_fault progress number line rest fault is same = rw (is, ← same) refl
+
+read_end : (progress : Progress) (texts : List (List ℕ)) (fault : ImageFault) → IsAfter progress texts → ¬ OneOf IsEnd texts → fault.cause ≡ cause.Truncated → fault.line ≡ length texts + 1 → reading progress (length texts + 1) [] ≡ Err fault
+unfolding reading
+read_end progress texts fault after unended truncated number = at_stage progress.stage after.stands ∙ ap (λ f. Err f) same where
+  same : record { line = length texts + 1; cause = cause.Truncated } ≡ fault
+  same = rw (← number, ← truncated) refl
+
+  at_stage : (st : Stage) → StandsAt st texts → at_end st progress.chip (length texts + 1) ≡ Err (record { line = length texts + 1; cause = cause.Truncated })
+  at_stage stage.Header stands = refl
+  at_stage stage.Open stands = refl
+  at_stage (stage.Block node) stands = refl
+  at_stage stage.Ended stands = absurd (unended stands.1)
+
+first_refused_at : (texts : List (List ℕ)) (fault : ImageFault) → IsAtLine texts fault → reading start 1 texts ≡ Err fault
+first_refused_at texts fault at =
+    let on = read_on at.before (at.line ∷ at.after) start [] after_none at.faultless in
+    let here = read_fault on.0 (length at.before + 1) at.line at.after fault (the_fault at.before at.line _ fault.cause (fault_tells on.0 at.before at.line on.1) at.cause) at.number in
+    ap (reading start 1) at.parts ∙ on.2 ∙ here
+
+first_refused_end : (texts : List (List ℕ)) (fault : ImageFault) → IsAtEnd texts fault → reading start 1 texts ≡ Err fault
+first_refused_end texts fault end =
+    let on = read_on texts [] start [] after_none end.faultless in
+    ap (reading start 1) (sym (append-nil texts)) ∙ on.2 ∙ read_end on.0 texts fault on.1 end.unended end.cause end.number
+
+-- the first fault is what reading refuses
+pub first_refused : (texts : List (List ℕ)) (fault : ImageFault) → IsFirstFault texts fault → reading start 1 texts ≡ Err fault
+first_refused texts fault (inl at) = first_refused_at texts fault at
+first_refused texts fault (inr end) = first_refused_end texts fault end
+
+-- what a call refused is the first fault, unless memory was refused
+pub refused_by : (result : Result (List NodeState) ImageFault) (texts : List (List ℕ)) → Gives result (reading start 1 texts) → IfErr result (λ fault. (fault ≡ no_memory) ⊎ IsFirstFault texts fault)
+refused_by (Ok chip) texts gives = tt
+refused_by (Err fault) texts (inl memory) = inl memory
+refused_by (Err fault) texts (inr fails) = inr (refused_first texts fault fails)

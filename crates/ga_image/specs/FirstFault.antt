@@ -1,0 +1,138 @@
+-- The first fault of a text that is no image, told by its lines: what is wrong with a line is said of that line and of the
+-- lines before it.
+use Rattle.std.specs.Prelude.{◌≡◌, ◌≢◌, ℕ, ◌+◌, ◌<◌, ◌⊎◌, List, [], ◌∷◌, ◌++◌, length, None}
+use Rattle.std.specs.List.{AllByRecursion}
+use Rattle.ga_grid.specs.Grid.{node_of}
+use Rattle.ga_image.specs.declared.fault.ImageCause.{ImageCause}
+use Rattle.ga_image.specs.declared.fault.ImageCause.TheVariants as cause
+use Rattle.ga_image.specs.declared.fault.ImageFault.{ImageFault}
+use Rattle.ga_image.specs.declared.field.Field.{Field}
+use Rattle.ga_image.specs.Fields.{writes, greatest}
+use Rattle.ga_image.specs.Spelling.{Form, Node, Words, End, Spells}
+use Rattle.ga_image.specs.Grammar.{header, Fits}
+
+-- P holds of one of these
+abbrev pub OneOf : {X : Type 0} → (X → Type 0) → List X → Type 0
+OneOf P [] = ⊥
+OneOf P (x ∷ xs) = P x ⊎ OneOf P xs
+
+-- ---- what a line is
+
+abbrev pub IsEnd : List ℕ → Type 0
+IsEnd line = Spells line End
+
+-- it begins the block of the node with this row and column
+abbrev pub BeginsBlockOf : ℕ → List ℕ → Type 0
+BeginsBlockOf yxx line = Spells line (Node yxx)
+
+-- it begins a block
+abbrev pub BeginsBlock : List ℕ → Type 0
+BeginsBlock line = (yxx : ℕ) × BeginsBlockOf yxx line
+
+-- it is a field line
+abbrev pub GivesWords : List ℕ → Type 0
+GivesWords line = (field : Field) × (words : List ℕ) × Spells line (Words field words)
+
+-- it gives a word for this field
+abbrev pub GivesField : Field → List ℕ → Type 0
+GivesField field line = (first : Field) × (words : List ℕ) × Spells line (Words first words) × OneOf (λ w. w.0 ≡ field) (writes first words)
+
+-- One of these lines gives the field, and behind it no block begins.
+abbrev pub WasGiven : List (List ℕ) → Field → Type 0
+WasGiven [] field = ⊥
+WasGiven (line ∷ lines) field = WasGiven lines field ⊎ (GivesField field line × ¬ OneOf BeginsBlock lines)
+
+-- ---- what may be wrong with a line, behind the lines before it
+
+-- it has more than 200 bytes
+abbrev pub IsLong : List ℕ → Type 0
+IsLong line = 200 < length line
+
+-- it is the first line, and not the header
+abbrev pub IsOtherHeader : List (List ℕ) → List ℕ → Type 0
+IsOtherHeader before line = (before ≡ []) × (line ≢ header)
+
+-- it has none of the forms
+abbrev pub HasNoForm : List ℕ → Type 0
+HasNoForm line = (form : Form) → ¬ Spells line form
+
+-- it is a field line before the first block
+abbrev pub IsBeforeBlocks : List (List ℕ) → List ℕ → Type 0
+IsBeforeBlocks before line = GivesWords line × ¬ OneOf BeginsBlock before
+
+-- behind the header it has no form, or may not stand there
+abbrev pub IsNoLine : List (List ℕ) → List ℕ → Type 0
+IsNoLine before line = (before ≢ []) × (HasNoForm line ⊎ IsBeforeBlocks before line ⊎ OneOf IsEnd before)
+
+-- it begins the block of no node of the grid
+abbrev pub NamesNoNode : List ℕ → Type 0
+NamesNoNode line = (yxx : ℕ) × BeginsBlockOf yxx line × (node_of yxx ≡ None)
+
+-- it gives a cell past the last of its memory
+abbrev pub GivesNoCell : List ℕ → Type 0
+GivesNoCell line = (field : Field) × (words : List ℕ) × Spells line (Words field words) × ¬ Fits field (length words)
+
+-- it gives a word past the greatest of its field
+abbrev pub GivesGreatWord : List ℕ → Type 0
+GivesGreatWord line = (field : Field) × (words : List ℕ) × Spells line (Words field words) × OneOf (λ word. greatest field < word) words
+
+-- it begins a block of a node that has one
+abbrev pub RepeatsNode : List (List ℕ) → List ℕ → Type 0
+RepeatsNode before line = (yxx : ℕ) × BeginsBlockOf yxx line × OneOf (BeginsBlockOf yxx) before
+
+-- it gives a field that this block gave before
+abbrev pub RepeatsField : List (List ℕ) → List ℕ → Type 0
+RepeatsField before line = (field : Field) × GivesField field line × WasGiven before field
+
+-- ---- the first fault
+
+-- a line has this cause of refusal, behind the lines before it
+abbrev pub HasCause : List (List ℕ) → List ℕ → ImageCause → Type 0
+HasCause before line cause.Long = IsLong line
+HasCause before line cause.Header = IsOtherHeader before line
+HasCause before line cause.Line = IsNoLine before line
+HasCause before line cause.Node = NamesNoNode line
+HasCause before line cause.Place = GivesNoCell line
+HasCause before line cause.Word = GivesGreatWord line
+HasCause before line cause.Repeated = RepeatsNode before line ⊎ RepeatsField before line
+HasCause before line cause.Truncated = ⊥
+HasCause before line cause.Memory = ⊥
+
+-- the causes of one line, in the order in which they are answered
+abbrev pub causes : List ImageCause
+causes = cause.Long ∷ cause.Header ∷ cause.Line ∷ cause.Node ∷ cause.Place ∷ cause.Word ∷ cause.Repeated ∷ []
+
+-- the first of these causes that a line has
+abbrev pub IsFirstCause : List (List ℕ) → List ℕ → List ImageCause → ImageCause → Type 0
+IsFirstCause before line [] first = ⊥
+IsFirstCause before line (cause ∷ others) first = ((first ≡ cause) × HasCause before line cause) ⊎ (¬ HasCause before line cause × IsFirstCause before line others first)
+
+-- a line has none of these causes
+abbrev pub HasNone : List (List ℕ) → List ℕ → List ImageCause → Type 0
+HasNone before line others = AllByRecursion (λ cause. ¬ HasCause before line cause) others
+
+-- none of these lines has a cause, each behind those before it
+abbrev pub AreFaultless : List (List ℕ) → List (List ℕ) → Type 0
+AreFaultless before [] = Unit {0}
+AreFaultless before (line ∷ lines) = HasNone before line causes × AreFaultless (before ++ line ∷ []) lines
+
+-- The fault is the first cause of a line before which no line has a cause.
+pub record IsAtLine (texts : List (List ℕ)) (fault : ImageFault) : Type 0 where
+  pub before : List (List ℕ)
+  pub line : List ℕ
+  pub after : List (List ℕ)
+  pub parts : texts ≡ before ++ line ∷ after
+  pub faultless : AreFaultless [] before
+  pub cause : IsFirstCause before line causes fault.cause
+  pub number : fault.line ≡ length before + 1
+
+-- No line has a cause, and none is `end`.
+pub record IsAtEnd (texts : List (List ℕ)) (fault : ImageFault) : Type 0 where
+  pub faultless : AreFaultless [] texts
+  pub unended : ¬ OneOf IsEnd texts
+  pub cause : fault.cause ≡ cause.Truncated
+  pub number : fault.line ≡ length texts + 1
+
+-- the first fault of a text, by its lines
+abbrev pub IsFirstFault : List (List ℕ) → ImageFault → Type 0
+IsFirstFault texts fault = IsAtLine texts fault ⊎ IsAtEnd texts fault

@@ -1,0 +1,182 @@
+-- How a history is stored.
+use Rattle.std.proofs.Common.{◌≡◌, ℕ, zero, suc, ◌+◌, ◌-◌, ◌<◌, ◌≤◌, List, [], ◌∷◌, ◌++◌, length, map, get_or, set, take, refl, sym, ◌∙◌, ap, subst, arith, length-append, add-zero}
+use Rattle.std.specs.Prelude.{Some, slice_get}
+use Rattle.std.proofs.Math.ListN.{get_or-append}
+use Rattle.std.proofs.Math.Seq.{get_or-append_seam}
+use Rattle.std.proofs.lemmas.List.{map-append, take_all, take_more}
+use Rattle.ga_node.specs.declared.kind.Kind.{Kind}
+use Rattle.ga_journal.specs.declared.entry.Role.{Role}
+use Rattle.ga_journal.specs.declared.entry.Part.{Part}
+use Rattle.ga_journal.specs.declared.entry.Part.TheVariants.{Own, Passed}
+use Rattle.ga_journal.specs.declared.entry.Pass.{Pass}
+use Rattle.ga_journal.specs.declared.entry.Entry.{Entry}
+use Rattle.ga_journal.specs.Histories.{Past, past, bound_from, bound_of}
+use Rattle.ga_journal.specs.Stored.{act_with, no_pass, act_in, past_in, passes_in, Names, IsBelow, IsDropped, AreNumbered}
+
+pub numbered_le : (n m : ℕ) (es : List Entry) → AreNumbered n es m → n ≤ m
+numbered_le n m [] h = omega (arith, h)
+numbered_le n m (e ∷ es) h = let k = numbered_le (n + passes_in e.part) m es h.1 in omega (arith, k)
+
+-- there are no more passes than entries
+one_pass : (part : Part) → passes_in part ≤ 1
+one_pass (Own kind) = omega arith
+one_pass (Passed role) = omega arith
+
+pub numbered_long : (n m : ℕ) (es : List Entry) → AreNumbered n es m → m ≤ n + length es
+numbered_long n m [] h = omega (arith, h)
+numbered_long n m (e ∷ es) h = let k = numbered_long (n + passes_in e.part) m es h.1 in let j = one_pass e.part in omega (arith, k, j)
+
+-- an entry more
+pub numbered_push : (n m : ℕ) (es : List Entry) (e : Entry) → AreNumbered n es m → Names e.part e.pass m → AreNumbered n (es ++ e ∷ []) (m + passes_in e.part)
+numbered_push n m [] e h k = (subst (λ z. Names e.part e.pass z) (sym h) k, ap (λ z. z + passes_in e.part) h)
+numbered_push n m (x ∷ xs) e h k = (h.0, numbered_push (n + passes_in x.part) m xs e h.1 k)
+
+-- an entry less
+pub record IsNumberedLast (n : ℕ) (es : List Entry) (e : Entry) (k : ℕ) : Type 0 where
+  pub before : ℕ
+  pub numbered : AreNumbered n es before
+  pub names : Names e.part e.pass before
+  pub sum : k ≡ before + passes_in e.part
+
+pub numbered_pop : (n k : ℕ) (es : List Entry) (e : Entry) → AreNumbered n (es ++ e ∷ []) k → IsNumberedLast n es e k
+numbered_pop n k [] e h = record { before = n; numbered = refl; names = h.0; sum = sym h.1 }
+numbered_pop n k (x ∷ xs) e h =
+    let r = numbered_pop (n + passes_in x.part) k xs e h.1 in
+    record { before = r.before; numbered = (h.0, r.numbered); names = r.names; sum = r.sum }
+
+-- what an entry names is there
+below_by : (part : Part) (place n m : ℕ) → Names part place n → n + passes_in part ≤ m → IsBelow part place m
+below_by (Own kind) place n m h l = tt
+below_by (Passed role) place n m h l = omega (arith, h, l)
+
+pub numbered_below : (n m i : ℕ) (es : List Entry) (e : Entry) → AreNumbered n es m → i < length es → e ≡ get_or es i e → IsBelow e.part e.pass m
+numbered_below n m i [] e h l at = absurd (omega (arith, l))
+numbered_below n m zero (x ∷ xs) e h l at =
+    subst (λ (z : Entry). IsBelow z.part z.pass m) (sym at) (below_by x.part x.pass n m h.0 (numbered_le (n + passes_in x.part) m xs h.1))
+numbered_below n m (suc i) (x ∷ xs) e h l at = numbered_below (n + passes_in x.part) m i xs e h.1 (omega (arith, l)) at
+
+-- a pass more leaves what the entries before tell
+act_more : (ps : List Pass) (p : Pass) (part : Part) (place : ℕ) → IsBelow part place (length ps) → act_in (ps ++ p ∷ []) part place ≡ act_in ps part place
+act_more ps p (Own kind) place l = refl
+act_more ps p (Passed role) place l = ap (λ z. act_with role z) (get_or-append ps (p ∷ []) no_pass place l)
+
+below_more : (part : Part) (place n m : ℕ) → IsBelow part place n → n ≤ m → IsBelow part place m
+below_more (Own kind) place n m h l = tt
+below_more (Passed role) place n m h l = omega (arith, h, l)
+
+pub pasts_more : (ps : List Pass) (p : Pass) (n m : ℕ) (es : List Entry) → AreNumbered n es m → m ≤ length ps → map (past_in (ps ++ p ∷ [])) es ≡ map (past_in ps) es
+pasts_more ps p n m [] h l = refl
+pasts_more ps p n m (e ∷ es) h l =
+    let b : IsBelow e.part e.pass (length ps) = below_more e.part e.pass m (length ps) (below_by e.part e.pass n m h.0 (numbered_le (n + passes_in e.part) m es h.1)) l in
+    ap (λ z. past e.stamp z e.saved ∷ map (past_in (ps ++ p ∷ [])) es) (act_more ps p e.part e.pass b)
+    ∙ ap (λ z. past_in ps e ∷ z) (pasts_more ps p (n + passes_in e.part) m es h.1 l)
+
+-- the new one tells the new pass
+pub act_last : (ps : List Pass) (p : Pass) (role : Role) → act_in (ps ++ p ∷ []) (Passed role) (length ps) ≡ act_with role p
+act_last ps p role = ap (λ z. act_with role z) (get_or-append_seam ps p [] no_pass)
+
+-- an own event more
+pub pasts_own : (ps : List Pass) (es : List Entry) (e : Entry) → map (past_in ps) (es ++ e ∷ []) ≡ map (past_in ps) es ++ past_in ps e ∷ []
+pasts_own ps es e = map-append (past_in ps) es (e ∷ [])
+
+-- an end of a pass more
+pub pasts_passed : (ps : List Pass) (p : Pass) (role : Role) (es : List Entry) (e : Entry) → AreNumbered 0 es (length ps) → e.part ≡ Passed role → e.pass ≡ length ps
+    → map (past_in (ps ++ p ∷ [])) (es ++ e ∷ []) ≡ map (past_in ps) es ++ past e.stamp (act_with role p) e.saved ∷ []
+pasts_passed ps p role es e h part place =
+    map-append (past_in (ps ++ p ∷ [])) es (e ∷ [])
+    ∙ ap (λ z. z ++ past_in (ps ++ p ∷ []) e ∷ []) (pasts_more ps p 0 (length ps) es h (omega arith))
+    ∙ ap (λ z. map (past_in ps) es ++ past e.stamp z e.saved ∷ [])
+    (ap (λ z. act_in (ps ++ p ∷ []) z e.pass) part ∙ ap (λ z. act_in (ps ++ p ∷ []) (Passed role) z) place ∙ act_last ps p role)
+
+-- the entry at a place
+pub pasts_at : (ps : List Pass) (es : List Entry) (i : ℕ) (e : Entry) → i < length es → e ≡ get_or es i e → slice_get (map (past_in ps) es) i ≡ Some (past_in ps e)
+pasts_at ps [] i e l at = absurd (omega (arith, l))
+pasts_at ps (x ∷ xs) zero e l at = ap (λ z. Some (past_in ps z)) (sym at)
+pasts_at ps (x ∷ xs) (suc i) e l at = pasts_at ps xs i e (omega (arith, l)) at
+
+-- the last stamp
+pub last_bound : (low : ℕ) (ps : List Pass) (es : List Entry) (e : Entry) (i : ℕ) → i + 1 ≡ length es → e ≡ get_or es i e → bound_from low (map (past_in ps) es) ≡ e.stamp + 1
+last_bound low ps [] e i q h = absurd (omega arith)
+last_bound low ps (a ∷ []) e zero q h = ap (λ (z : Entry). z.stamp + 1) (sym h)
+last_bound low ps (a ∷ []) e (suc i) q h = absurd (omega arith)
+last_bound low ps (a ∷ b ∷ bs) e zero q h = absurd (omega arith)
+last_bound low ps (a ∷ b ∷ bs) e (suc i) q h = last_bound (a.stamp + 1) ps (b ∷ bs) e i (omega arith) h
+
+pub none_bound : (ps : List Pass) (es : List Entry) → length es ≡ 0 → bound_of (map (past_in ps) es) ≡ 0
+none_bound ps [] h = refl
+none_bound ps (x ∷ xs) h = absurd (omega (arith, h))
+
+-- the last of a list
+pub end_of_list : (es : List Entry) (e : Entry) (i : ℕ) → i + 1 ≡ length es → e ≡ get_or es i e → es ≡ take i es ++ e ∷ []
+end_of_list es e i long at =
+    sym (take_all (i + 1) es (omega (arith, long))) ∙ take_more es i e (omega (arith, long)) ∙ ap (λ z. take i es ++ z ∷ []) (sym at)
+
+-- an entry less, and the last pass where it is of one
+drop_counts : (part : Part) (ps qs : List Pass) (before : ℕ) → length ps ≡ before + passes_in part → IsDropped part ps qs → before ≡ length qs
+drop_counts (Own kind) ps qs before sum d = let k : length qs ≡ length ps = ap length d in omega (arith, k, sum)
+drop_counts (Passed role) ps qs before sum d = let k : length ps ≡ length qs + 1 = ap length d.1 ∙ length-append qs (d.0 ∷ []) in omega (arith, k, sum)
+
+drop_same : (part : Part) (ps qs : List Pass) (es : List Entry) → AreNumbered 0 es (length qs) → IsDropped part ps qs → map (past_in ps) es ≡ map (past_in qs) es
+drop_same (Own kind) ps qs es h d = ap (λ z. map (past_in z) es) (sym d)
+drop_same (Passed role) ps qs es h d = ap (λ z. map (past_in z) es) d.1 ∙ pasts_more qs d.0 0 (length qs) es h (omega arith)
+
+pub dropped_numbered : (es : List Entry) (e : Entry) (ps qs : List Pass) → AreNumbered 0 (es ++ e ∷ []) (length ps) → IsDropped e.part ps qs → AreNumbered 0 es (length qs)
+dropped_numbered es e ps qs h d =
+    let r : IsNumberedLast 0 es e (length ps) = numbered_pop 0 (length ps) es e h in
+    subst (λ z. AreNumbered 0 es z) (drop_counts e.part ps qs r.before r.sum d) r.numbered
+
+pub dropped_pasts : (es : List Entry) (e : Entry) (ps qs : List Pass) → AreNumbered 0 (es ++ e ∷ []) (length ps) → IsDropped e.part ps qs
+    → map (past_in ps) (es ++ e ∷ []) ≡ map (past_in qs) es ++ past_in ps e ∷ []
+dropped_pasts es e ps qs h d =
+    map-append (past_in ps) es (e ∷ []) ∙ ap (λ z. z ++ past_in ps e ∷ []) (drop_same e.part ps qs es (dropped_numbered es e ps qs h d) d)
+
+pub last_counts : (es : List Entry) (e : Entry) (ps : List Pass) → AreNumbered 0 (es ++ e ∷ []) (length ps) → passes_in e.part ≤ length ps
+last_counts es e ps h = let r : IsNumberedLast 0 es e (length ps) = numbered_pop 0 (length ps) es e h in omega (arith, r.sum)
+
+last_below : (part : Part) (place before n : ℕ) → Names part place before → n ≡ before + passes_in part → IsBelow part place n
+last_below (Own kind) place before n h q = tt
+last_below (Passed role) place before n h q = omega (arith, h, q)
+
+pub last_is_below : (es : List Entry) (e : Entry) (ps : List Pass) → AreNumbered 0 (es ++ e ∷ []) (length ps) → IsBelow e.part e.pass (length ps)
+last_is_below es e ps h =
+    let r : IsNumberedLast 0 es e (length ps) = numbered_pop 0 (length ps) es e h in
+    last_below e.part e.pass r.before (length ps) r.names r.sum
+
+-- the last entry read and written
+pub read_last : (es all : List Entry) (first e : Entry) (k : ℕ) → all ≡ es ++ first ∷ [] → k + 1 ≡ length all → e ≡ get_or all k e → e ≡ first
+read_last es all first e k is long at =
+    let q : k ≡ length es = (let j : length all ≡ length es + 1 = ap length is ∙ length-append es (first ∷ []) in omega (arith, j, long)) in
+    at ∙ ap (λ z. get_or z k e) is ∙ ap (λ z. get_or (es ++ first ∷ []) z e) q ∙ get_or-append_seam es first [] e
+
+set_end : (es : List Entry) (first e : Entry) → set (es ++ first ∷ []) (length es) e ≡ es ++ e ∷ []
+set_end [] first e = refl
+set_end (x ∷ xs) first e = ap (λ z. x ∷ z) (set_end xs first e)
+
+pub set_last : (es all : List Entry) (first e : Entry) (k : ℕ) → all ≡ es ++ first ∷ [] → k + 1 ≡ length all → set all k e ≡ es ++ e ∷ []
+set_last es all first e k is long =
+    let q : k ≡ length es = (let j : length all ≡ length es + 1 = ap length is ∙ length-append es (first ∷ []) in omega (arith, j, long)) in
+    ap (λ z. set z k e) is ∙ ap (λ z. set (es ++ first ∷ []) z e) q ∙ set_end es first e
+
+-- an own event more is numbered
+pub own_numbered : (es : List Entry) (ps : List Pass) (e : Entry) (kind : Kind) → AreNumbered 0 es (length ps) → e.part ≡ Own kind → AreNumbered 0 (es ++ e ∷ []) (length ps)
+own_numbered es ps e kind h part =
+    subst (λ z. AreNumbered 0 (es ++ e ∷ []) z) (ap (λ (p : Part). length ps + passes_in p) part ∙ add-zero (length ps))
+    (numbered_push 0 (length ps) es e h (subst (λ (p : Part). Names p e.pass (length ps)) (sym part) tt))
+
+-- and a pass more
+pub pass_numbered : (es : List Entry) (ps : List Pass) (p : Pass) (e : Entry) (role : Role) → AreNumbered 0 es (length ps) → e.part ≡ Passed role → e.pass ≡ length ps → AreNumbered 0 (es ++ e ∷ []) (length (ps ++ p ∷ []))
+pass_numbered es ps p e role h part place =
+    subst (λ z. AreNumbered 0 (es ++ e ∷ []) z) (ap (λ (q : Part). length ps + passes_in q) part ∙ sym (length-append ps (p ∷ [])))
+    (numbered_push 0 (length ps) es e h (subst (λ (q : Part). Names q e.pass (length ps)) (sym part) place))
+
+some_entries : (ps : List Pass) (es : List Entry) → 0 < bound_of (map (past_in ps) es) → 0 < length es
+some_entries ps [] h = h
+some_entries ps (x ∷ xs) h = omega arith
+
+-- the last entry, read before it is taken out
+pub popped_end : (ps : List Pass) (es new : List Entry) (e : Entry) (i n : ℕ) → 0 < bound_of (map (past_in ps) es) → i ≡ length es - 1 → n ≡ length es → e ≡ get_or es i e → new ≡ take (n - 1) es → es ≡ new ++ e ∷ []
+popped_end ps es new e i n some last long at less =
+    let l : 0 < length es = some_entries ps es some in
+    end_of_list es e i (omega (arith, l, last)) at
+    ∙ ap (λ z. take z es ++ e ∷ []) (let q : i ≡ n - 1 = omega (arith, last, long) in q)
+    ∙ ap (λ z. z ++ e ∷ []) (sym less)

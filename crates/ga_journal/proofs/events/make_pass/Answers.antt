@@ -1,0 +1,17 @@
+use Rattle.std.proofs.Common.{◌≡◌, ◌+◌, ◌∙◌, ap, sym, Some}
+use Rattle.std.specs.Prelude.{Option}
+use Rattle.ga_event.specs.declared.event.Effect.TheVariants as effect
+use Rattle.ga_journal.specs.declared.made.Made.{Made}
+use Rattle.ga_journal.specs.declared.made.Made.TheVariants as made
+use Rattle.ga_journal.specs.Histories.{lists_of, history}
+use Rattle.std.specs.Prelude.{length}
+use Rattle.ga_journal.proofs.events.make_pass.Goals as goal
+
+pub returns-in-Ok-clause-ok : goal.returns-in-Ok-clause-ok
+returns-in-Ok-clause-ok c = record {
+  effect = effect.Pass c.in-Ok.word c.apply_pass.new.sent c.apply_pass.new.taken;
+  applied = c.in-Ok.ensures.ok;
+  histories = c.push_pass.ensures.after;
+  told_is = ap (λ n. let o : Option Made = Some (made.Pass c.args.ends.0 (n + 1) c.args.ends.1 (length (history (lists_of c.args.histories.now.items) c.args.ends.1.number) + 1) c.in-Ok.word) in o) (sym c.count-writer_step.ensures)
+      ∙ ap (λ n. let o : Option Made = Some (made.Pass c.args.ends.0 (c.count-writer_step.result + 1) c.args.ends.1 (n + 1) c.in-Ok.word) in o) (sym c.count-reader_step.ensures);
+}

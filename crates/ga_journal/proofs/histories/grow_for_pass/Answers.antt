@@ -1,0 +1,25 @@
+use Rattle.std.proofs.Common.{◌≡◌, ◌∙◌, ap, Result, Ok, Err, OnOk, true}
+use Rattle.ga_journal.specs.Histories.{Room, has_pass_room, room_of}
+use Rattle.ga_journal.proofs.Rooms.{on_ok, lists_same, room_grown, pass_rooms}
+use Rattle.ga_journal.proofs.histories.grow_for_pass.Goals as goal
+
+both_ok : {T E : Type 0} (A B : Type 0) (r : Result T E) → OnOk r A → OnOk r B → OnOk r (A × B)
+both_ok A B (Ok x) h k = (h, k)
+both_ok A B (Err e) h k = h
+
+pub returns-clause-same : goal.returns-clause-same
+returns-clause-same c = lists_same c.args.histories.now.items c.index.result c.index_mut-history.result.now c.grow_for_pass.new.self (rw c.requires c.index.ensures.in_range) c.index_mut-history.ensures.value c.grow_for_pass.ensures.same
+
+pub returns-clause-room : goal.returns-clause-room
+returns-clause-room c =
+    let grown = room_grown c.args.histories.now.items c.index.result c.args.node.number c.grow_for_pass.new.self (rw c.requires c.index.ensures.in_range) c.index.ensures.value in
+    on_ok c.grow_for_pass.result (λ h. (ap (λ (r : Room). r.entry) grown ∙ h.0, ap (λ (r : Room). r.pass) grown ∙ h.1))
+    (both_ok _ _ c.grow_for_pass.result c.grow_for_pass.ensures.room c.grow_for_pass.ensures.pass)
+
+pub returns-clause-others : goal.returns-clause-others
+returns-clause-others c =
+    let grown = room_grown c.args.histories.now.items c.index.result c.args.node.number c.grow_for_pass.new.self (rw c.requires c.index.ensures.in_range) c.index.ensures.value in
+    on_ok c.grow_for_pass.result
+    (λ h. pass_rooms c.args.histories.now.items c.index.result c.args.node.number c.grow_for_pass.new.self (rw c.requires c.index.ensures.in_range) c.index.ensures.value
+    (ap (λ (r : Room). r.entry) grown ∙ h.0, ap (λ (r : Room). r.pass) grown ∙ h.1))
+    (both_ok _ _ c.grow_for_pass.result c.grow_for_pass.ensures.room c.grow_for_pass.ensures.pass)

@@ -1,0 +1,270 @@
+//! The history of one node.
+
+ghost use Rattle.std.specs.Prelude.{◌≡◌, ◌≤◌, length};
+ghost use Rattle.ga_journal.specs.Stored.{act_in, passes_in, IsBelow, IsDropped};
+
+use crate::entry::{Act, Entry, Head, Part, Pass, Role, Taken};
+use crate::fault::JournalFault;
+use ga_event::{apply_own, restore};
+use ga_grid::{Chip, NodeId};
+use ga_node::{Kind, NotReady, Saved};
+use std::alloc::Global;
+use std::marker::Model;
+
+/// The entries of one node, the oldest first. The passes among them stand in a list of their own, so that an own event takes
+/// no more memory than it has to.
+#[derive(Drop)]
+pub(crate) struct History {
+    entries: Vec<Entry>,
+    passes: Vec<Pass>,
+}
+
+impl Model for History {
+    ghost use Rattle.std.specs.Prelude.{length};
+    ghost use Rattle.ga_journal.specs.Histories.{Held};
+
+    ghost Value = { Held };
+
+    ghost use Rattle.ga_journal.specs.Stored.{held_by, AreNumbered};
+
+    ghost view = { λ h. held_by h.entries h.passes };
+
+    ghost invariant = { λ h. AreNumbered 0 h.entries.items (length h.passes.items) };
+}
+
+/// A node's part in an event, with the pass at a place of the list.
+#[inline(always)]
+fn act_of(passes: &Vec<Pass>, part: Part, place: u32) -> Act
+    requires { IsBelow part place (length passes.now.items) }
+    ensures { result ≡ act_in passes.now.items part place }
+{
+    match part {
+        Part::Own(kind) => Act::Alone(kind),
+        Part::Passed(role) => {
+            let Pass {
+                partner,
+                side,
+                at,
+                word,
+            } = passes[place as usize];
+            match role {
+                Role::Writer => Act::Sent {
+                    to: partner,
+                    side,
+                    at,
+                    word,
+                },
+                Role::Reader => Act::Took {
+                    from: partner,
+                    side,
+                    at,
+                    word,
+                },
+            }
+        }
+    }
+}
+
+/// Takes the last pass out, where the part is an end of one.
+#[inline(always)]
+fn drop_pass(passes: &mut Vec<Pass>, part: Part)
+    requires { passes_in part ≤ length passes.old.items }
+    ensures { IsDropped part passes.old.items passes.new.items }
+{
+    match part {
+        Part::Own(_) => {}
+        Part::Passed(_) => {
+            let _ = passes.pop();
+        }
+    }
+}
+
+impl History {
+    ghost use Rattle.std.specs.Prelude.{◌≡◌, ◌+◌, ◌<◌, ◌^◌, ◌++◌, ◌∷◌, [], IsTrue, IfOk, OnOk, OnErr, IfErr, IfSome, IfNone, length};
+    ghost use Rattle.ga_grid.specs.Chip.{records_of};
+    ghost use Rattle.ga_event.specs.declared.event.Event.TheVariants as event;
+    ghost use Rattle.ga_event.specs.Apply.{refusal_of, IsRefusedBy};
+    ghost use Rattle.ga_journal.specs.Histories.{past, past_of, bound_of};
+    ghost use Rattle.ga_journal.specs.Stored.{act_with};
+    ghost use Rattle.ga_journal.specs.Ends.{TellsOf, IsMadeAlone, CanGoBack, IsGoneBack};
+
+    /// A history without an entry.
+    #[inline(always)]
+    pub fn new(alloc: Global) -> Self
+        ensures { result.items ≡ [] }
+    {
+        History {
+            entries: Vec::new(alloc),
+            passes: Vec::new(alloc),
+        }
+    }
+
+    /// How many entries there are.
+    #[inline(always)]
+    pub fn len(&self) -> usize
+        ensures { result ≡ length self.now.items }
+    {
+        self.entries.as_slice().len()
+    }
+
+    /// The last entry's stamp, and the node that it hints at.
+    #[inline(always)]
+    pub fn last(&self) -> Option<(u64, NodeId)>
+        ensures some { IfSome result (λ last. last.0 + 1 ≡ bound_of self.now.items) }
+        ensures none { IfNone result (bound_of self.now.items ≡ 0) }
+    {
+        match self.entries.last() {
+            None => None,
+            Some(entry) => Some((entry.stamp, entry.before)),
+        }
+    }
+
+    /// What the entry at a position tells.
+    #[inline(always)]
+    pub fn head(&self, at: usize) -> Head
+        requires { at < length self.now.items }
+        ensures { TellsOf self.now.items at result }
+    {
+        let entry = &self.entries[at];
+        Head {
+            stamp: entry.stamp,
+            act: act_of(&self.passes, entry.part, entry.pass),
+            before: entry.before,
+        }
+    }
+
+    /// Makes the growth for an own event.
+    pub fn grow(&mut self) -> Result<(), JournalFault>
+        ensures same { self.new.items ≡ self.old.items }
+        ensures room { OnOk result (IsTrue self.new.room.entry) }
+        ensures err { IfErr result (λ fault. fault ≡ JournalFault.Memory) }
+    {
+        match self.entries.reserve(1) {
+            Ok(()) => Ok(()),
+            Err(_) => Err(JournalFault::Memory),
+        }
+    }
+
+    /// Makes the growths for an end of a pass.
+    pub fn grow_for_pass(&mut self) -> Result<(), JournalFault>
+        ensures same { self.new.items ≡ self.old.items }
+        ensures room { OnOk result (IsTrue self.new.room.entry) }
+        ensures pass { OnOk result (IsTrue self.new.room.pass) }
+        ensures err { IfErr result (λ fault. fault ≡ JournalFault.Memory) }
+    {
+        if self.entries.reserve(1).is_err() || self.passes.reserve(1).is_err() {
+            return Err(JournalFault::Memory);
+        }
+        Ok(())
+    }
+
+    /// Adds an own event.
+    #[inline(always)]
+    pub fn push_own(&mut self, stamp: u64, kind: Kind, saved: Saved, before: NodeId)
+        requires { IsTrue self.old.room.entry }
+        ensures { self.new.items ≡ self.old.items ++ past stamp (Act.Alone kind) saved ∷ [] }
+    {
+        self.entries.push_reserved(Entry {
+            stamp,
+            pass: 0,
+            part: Part::Own(kind),
+            before,
+            saved,
+        });
+    }
+
+    /// Adds an end of a pass.
+    pub fn push_pass(&mut self, stamp: u64, role: Role, pass: Pass, saved: Saved, before: NodeId)
+        requires room { IsTrue self.old.room.entry }
+        requires pass_room { IsTrue self.old.room.pass }
+        requires fits { length self.old.items < 2 ^ 32 }
+        ensures { self.new.items ≡ self.old.items ++ past stamp (act_with role pass) saved ∷ [] }
+    {
+        let place = self.passes.as_slice().len() as u32;
+        self.passes.push_reserved(pass);
+        self.entries.push_reserved(Entry {
+            stamp,
+            pass: place,
+            part: Part::Passed(role),
+            before,
+            saved,
+        });
+    }
+
+    /// Makes an own event of the node on the chip, whose overwritten values go straight into its entry.
+    #[inline(always)]
+    pub fn make_own(
+        &mut self,
+        chip: &mut Chip,
+        node: NodeId,
+        stamp: u64,
+        before: NodeId,
+    ) -> Result<Kind, NotReady>
+        requires { IsTrue self.old.room.entry }
+        ensures ok { IfOk result (λ kind.
+            IsMadeAlone self.old.items chip.old node stamp kind self.new.items chip.new) }
+        ensures refused { IsRefusedBy result (refusal_of (records_of chip.old) (event.Own node)) }
+        ensures chip { OnErr result (chip.new ≡ chip.old) }
+        ensures same { OnErr result (self.new.items ≡ self.old.items) }
+    {
+        self.entries.push_reserved(Entry {
+            stamp,
+            pass: 0,
+            part: Part::Own(Kind::Fetch),
+            before,
+            saved: Saved::new(),
+        });
+        let last = self.entries.as_slice().len() - 1;
+        let entry = &mut self.entries[last];
+        match apply_own(chip, node, &mut entry.saved) {
+            Ok(kind) => {
+                entry.part = Part::Own(kind);
+                Ok(kind)
+            }
+            Err(why) => {
+                let _ = self.entries.pop();
+                Err(why)
+            }
+        }
+    }
+
+    /// Takes the last entry out.
+    #[inline(always)]
+    pub fn pop(&mut self) -> Taken
+        requires { 0 < bound_of self.old.items }
+        ensures { self.old.items ≡ self.new.items ++ past_of result ∷ [] }
+    {
+        match self.entries.pop() {
+            None => unreachable!(),
+            Some(entry) => {
+                let Entry {
+                    stamp,
+                    pass,
+                    part,
+                    saved,
+                    ..
+                } = entry;
+                let act = act_of(&self.passes, part, pass);
+                drop_pass(&mut self.passes, part);
+                Taken { stamp, act, saved }
+            }
+        }
+    }
+
+    /// Writes the values of the last entry back to its node, and takes the entry out.
+    #[inline(always)]
+    pub fn go_back(&mut self, chip: &mut Chip, node: NodeId) -> Act
+        requires some { 0 < bound_of self.old.items }
+        requires can { CanGoBack self.old.items chip.old node.number }
+        ensures { IsGoneBack self.old.items chip.old node.number self.new.items chip.new result }
+    {
+        let last = self.entries.as_slice().len() - 1;
+        let entry = &self.entries[last];
+        restore(chip, node, &entry.saved);
+        let part = entry.part;
+        let act = act_of(&self.passes, part, entry.pass);
+        drop_pass(&mut self.passes, part);
+        let _ = self.entries.pop();
+        act
+    }
+}
