@@ -7,11 +7,11 @@ use Rattle.ga_event.specs.Next.{next}
 use Rattle.ga_journal.specs.declared.made.Made.{Made}
 use Rattle.ga_lab.specs.declared.fault.LabFault.{LabFault}
 use Rattle.ga_grid.specs.declared.node_id.NodeId.{NodeId}
-use Rattle.ga_lab.specs.Machine.{State, first, chip_of, step_answer, stepped, with_event, answer_to as lab_answer_to, rewind_answer, rewound, stands}
+use Rattle.ga_lab.specs.Machine.{State, chip_of, step_answer, stepped, with_event, unless_refused, answer_to as lab_answer_to, rewind_answer, rewound}
 use Rattle.ga_shared.specs.declared.call.Call.{Call}
 use Rattle.ga_shared.specs.declared.call.Call.TheVariants.{Step, Rewind}
 use Rattle.ga_shared.specs.declared.call.Answer.{Answer}
-use Rattle.ga_shared.specs.Calls.{answer_to, answer_of_step, answer_of_rewind, state_after, unless_refused}
+use Rattle.ga_shared.specs.Calls.{answer_to, answer_of_step, answer_of_rewind, state_after}
 use Rattle.ga_shared.specs.Log.{is_made}
 
 -- how many events an answer tells of: one where the call made one
@@ -19,7 +19,7 @@ abbrev pub added_by : Answer → ℕ
 added_by a = cond (is_made a) 1 0
 
 -- what a field of the machine is after a call, where the call leaves it
-unless : {X : Type 0} {Y : Type 0} (f : State → Y) (r : Result X LabFault) (old new : State) → f new ≡ f old → f (unless_refused r old new) ≡ f old
+unless : {X : Type 0} {Y : Type 0} (f : State → Y) (r : Result X LabFault) (old new : State) → f new ≡ f old → f (unless_refused old r new) ≡ f old
 unless f (Ok x) old new same = same
 unless f (Err fault) old new same = refl
 
@@ -31,30 +31,26 @@ with_event-limit : (s : State) (r : Result Event NotReady) → (with_event s r).
 with_event-limit s (Ok e) = refl
 with_event-limit s (Err why) = refl
 
-if_same : {Y : Type 0} (f : State → Y) (b : Bool) (s t : State) → f t ≡ f s → f (if b then t else s) ≡ f s
-if_same f true s t same = same
-if_same f false s t same = refl
-
 -- no call changes the load and the limit
 pub state_after-load : (s : State) (call : Call) → (state_after s call).load ≡ s.load
-state_after-load s (Step node) = unless (λ t. t.load) (step_answer s node) s (stepped s node) (with_event-load s (next (chip_of s) node))
-state_after-load s (Rewind node step) = unless (λ t. t.load) (rewind_answer s node.number step) s (rewound s node.number step) (if_same (λ t. t.load) (stands s node.number step) s _ refl)
+state_after-load s (Step node) = unless (λ t. t.load) (step_answer s node) s (with_event s (next (chip_of s) node)) (with_event-load s (next (chip_of s) node))
+state_after-load s (Rewind node step) = refl
 
 pub state_after-limit : (s : State) (call : Call) → (state_after s call).limit ≡ s.limit
-state_after-limit s (Step node) = unless (λ t. t.limit) (step_answer s node) s (stepped s node) (with_event-limit s (next (chip_of s) node))
-state_after-limit s (Rewind node step) = unless (λ t. t.limit) (rewind_answer s node.number step) s (rewound s node.number step) (if_same (λ t. t.limit) (stands s node.number step) s _ refl)
+state_after-limit s (Step node) = unless (λ t. t.limit) (step_answer s node) s (with_event s (next (chip_of s) node)) (with_event-limit s (next (chip_of s) node))
+state_after-limit s (Rewind node step) = refl
 
 -- a step that made an event counts it, and a refused one doesn't
-made_by_step : (s : State) (r : Result Event NotReady) (a : Result Made LabFault) → a ≡ lab_answer_to s r → (unless_refused a s (with_event s r)).made ≡ s.made + added_by (answer_of_step a)
+made_by_step : (s : State) (r : Result Event NotReady) (a : Result Made LabFault) → a ≡ lab_answer_to s r → (unless_refused s a (with_event s r)).made ≡ s.made + added_by (answer_of_step a)
 made_by_step s (Ok e) (Ok made) is = refl
 made_by_step s (Err why) (Ok made) is = cc
 made_by_step s r (Err fault) is = omega arith
 
-made_by_rewind : (s t : State) (r : Result ℕ LabFault) → t.made ≡ s.made → (unless_refused r s t).made ≡ s.made + added_by (answer_of_rewind r)
-made_by_rewind s t (Ok removed) same = omega (arith, same)
-made_by_rewind s t (Err fault) same = omega arith
+added_by-rewind : (r : Result ℕ LabFault) → added_by (answer_of_rewind r) ≡ 0
+added_by-rewind (Ok removed) = refl
+added_by-rewind (Err fault) = refl
 
 -- the lab counts the events that are answered
 pub state_after-made : (s : State) (call : Call) → (state_after s call).made ≡ s.made + added_by (answer_to s call)
 state_after-made s (Step node) = made_by_step s (next (chip_of s) node) (step_answer s node) refl
-state_after-made s (Rewind node step) = made_by_rewind s (rewound s node.number step) (rewind_answer s node.number step) (if_same (λ t. t.made) (stands s node.number step) s _ refl)
+state_after-made s (Rewind node step) = omega (arith, added_by-rewind (rewind_answer s node.number step))

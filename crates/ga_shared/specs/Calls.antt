@@ -27,11 +27,6 @@ abbrev pub answer_of_rewind : Result ℕ LabFault → Answer
 answer_of_rewind (Ok removed) = answer.Removed removed
 answer_of_rewind (Err fault) = answer.Refused (number_of fault)
 
--- a call that is refused leaves the machine
-abbrev pub unless_refused : {X : Type 0} → Result X LabFault → State → State → State
-unless_refused (Ok x) old new = new
-unless_refused (Err fault) old new = old
-
 -- what the machine answers to a call
 abbrev pub answer_to : State → Call → Answer
 answer_to s (Step node) = answer_of_step (step_answer s node)
@@ -39,5 +34,5 @@ answer_to s (Rewind node step) = answer_of_rewind (rewind_answer s node.number s
 
 -- the machine after a call
 abbrev pub state_after : State → Call → State
-state_after s (Step node) = unless_refused (step_answer s node) s (stepped s node)
-state_after s (Rewind node step) = unless_refused (rewind_answer s node.number step) s (rewound s node.number step)
+state_after s (Step node) = stepped s node
+state_after s (Rewind node step) = rewound s node.number step
