@@ -2,6 +2,7 @@
 
 use crate::{Status, session};
 use std::alloc::{AllocError, Global};
+use std::process::Abort;
 use std::test::Fail;
 
 /// A session with an accepted image. Texts are lines with `|` between two of them.
@@ -30,14 +31,7 @@ const TAKES: &str = "001 1 fetch|001 2 run 08|001 3 run 1e|001 4 wait";
 
 const PASSED: &str = "pass 000 8 001 5 00002a";
 
-static RUNS: [Run; 36] = [
-    Run {
-        name: "nothing to take back",
-        limit: LIMIT,
-        image: "",
-        commands: &[(1, "back")],
-        output: &["no 5 empty"],
-    },
+static STEPS: [Run; 6] = [
     Run {
         name: "a write wait",
         limit: LIMIT,
@@ -52,6 +46,116 @@ static RUNS: [Run; 36] = [
         commands: &[(8, "step 000"), (1, "count")],
         output: &[SENDS, "no 1 waiting", "kept 7 made 7 limit 1000000"],
     },
+    Run {
+        name: "a word is fetched from a port",
+        limit: LIMIT,
+        image: SENDER,
+        commands: &[(7, "step 000"), (2, "step 001"), (1, "node 001")],
+        output: &[
+            SENDS,
+            "001 1 wait|pass 000 8 001 2 00002a",
+            "node 001 run p 0001b5 a 000000 b 00015d i 00002a slot 0 carry 0 io 015555 d 015555*10 r 015555*9",
+        ],
+    },
+    Run {
+        name: "a fetch wait",
+        limit: LIMIT,
+        image: SENDER,
+        commands: &[(1, "step 001"), (1, "node 001")],
+        output: &[
+            "001 1 wait",
+            "node 001 fetch rdl- p 0001b5 a 000000 b 00015d i 000000 slot 4 carry 0 io 015555 d 015555*10 r 015555*9",
+        ],
+    },
+    Run {
+        name: "a write to several ports",
+        limit: LIMIT,
+        image: "node 000|p 000000|ram 00 004b12 0001a5 000001 0089b2",
+        commands: &[(8, "step 000"), (1, "back"), (1, "step 000")],
+        output: &[
+            "000 1 fetch|000 2 run 08|000 3 run 1e|000 4 run 08|000 5 run 1c|000 6 fetch|000 7 stop 1",
+            "no 2 stopped|removed 1 kept 6|000 7 stop 1",
+        ],
+    },
+    Run {
+        name: "a read of io",
+        limit: LIMIT,
+        image: "node 000|p 000000|ram 00 004b12 0001d5 00002a 0089b2|node 001|p 000000|ram 00 0009b2",
+        commands: &[(7, "step 000"), (2, "step 001")],
+        output: &[SENDS, "001 1 fetch|001 2 stop 3"],
+    },
+];
+
+static LIMITS: [Run; 6] = [
+    Run {
+        name: "nothing to take back",
+        limit: LIMIT,
+        image: "",
+        commands: &[(1, "back")],
+        output: &["no 5 empty"],
+    },
+    Run {
+        name: "the limit",
+        limit: 3,
+        image: SENDER,
+        commands: &[(4, "step 000"), (1, "back"), (1, "step 000")],
+        output: &["000 1 fetch|000 2 run 08|000 3 run 1e|no 3 full|removed 1 kept 2|000 3 run 1e"],
+    },
+    Run {
+        name: "waiting comes before the limit",
+        limit: 7,
+        image: SENDER,
+        commands: &[(8, "step 000"), (1, "step 001")],
+        output: &[SENDS, "no 1 waiting|no 3 full"],
+    },
+    Run {
+        name: "stopped comes before the limit",
+        limit: 2,
+        image: "node 000|p 000000|ram 00 0009b2",
+        commands: &[(3, "step 000"), (1, "step 001")],
+        output: &["000 1 fetch|000 2 stop 3|no 2 stopped|no 3 full"],
+    },
+    Run {
+        name: "five steps, two taken back",
+        limit: LIMIT,
+        image: "node 000|p 000000|ram 00 004df2 000003",
+        commands: &[
+            (5, "step 000"),
+            (1, "node 000"),
+            (2, "back"),
+            (1, "node 000"),
+        ],
+        output: &[
+            "000 1 fetch|000 2 run 08|000 3 run 18|000 4 run 14|000 5 run 1c",
+            "node 000 run p 000002 a 000000 b 00015d i 004df2 slot 4 carry 0 io 015555 d 000006 015555*9 r 015555*9",
+            "removed 1 kept 4|removed 1 kept 3",
+            "node 000 run p 000002 a 000000 b 00015d i 004df2 slot 2 carry 0 io 015555 d 000003 000003 015555*8 r 015555*9",
+        ],
+    },
+    Run {
+        name: "a loop, taken back to the load",
+        limit: LIMIT,
+        image: "node 000|p 000000|ram 00 004812 000002 000001 024172",
+        commands: &[
+            (16, "step 000"),
+            (1, "node 000"),
+            (13, "back"),
+            (4, "back"),
+            (1, "node 000"),
+        ],
+        output: &[
+            "000 1 fetch|000 2 run 08|000 3 run 1d|000 4 run 08|000 5 run 1c|000 6 fetch|000 7 run 18|000 8 run 14|000 9 run 04",
+            "000 10 run 18|000 11 run 14|000 12 run 04|000 13 run 18|000 14 run 14|000 15 run 04|000 16 run 1c",
+            "node 000 run p 000004 a 000000 b 00015d i 024172 slot 4 carry 0 io 015555 d 000008 015555*9 r 015555*9",
+            "removed 1 kept 15|removed 1 kept 14|removed 1 kept 13|removed 1 kept 12|removed 1 kept 11|removed 1 kept 10",
+            "removed 1 kept 9|removed 1 kept 8|removed 1 kept 7|removed 1 kept 6|removed 1 kept 5|removed 1 kept 4|removed 1 kept 3",
+            "removed 1 kept 2|removed 1 kept 1|removed 1 kept 0|no 5 empty",
+            "node 000 run p 000000 a 000000 b 00015d i 000000 slot 4 carry 0 io 015555 d 015555*10 r 015555*9",
+        ],
+    },
+];
+
+static TRANSFERS: [Run; 5] = [
     Run {
         name: "a word goes over, by a step of the reader",
         limit: LIMIT,
@@ -91,6 +195,50 @@ static RUNS: [Run; 36] = [
             "node 001 read r--- p 000002 a 000000 b 0001d5 i 004b02 slot 2 carry 0 io 015555 d 015555*10 r 015555*9",
         ],
     },
+    Run {
+        name: "two writers for one reader",
+        limit: LIMIT,
+        image: "node 000|p 000000|ram 00 004b12 0001d5 00002a 0089b2|node 001|p 000000|ram 00 004b02 000195|node 101|p 000000|ram 00 004b12 000115 000007 0089b2",
+        commands: &[
+            (4, "step 001"),
+            (7, "step 101"),
+            (1, "step 001"),
+            (7, "step 000"),
+            (1, "rewind 101 7"),
+            (1, "step 000"),
+        ],
+        output: &[
+            TAKES,
+            "101 1 fetch|101 2 run 08|101 3 run 1e|101 4 run 08|101 5 run 1c|101 6 fetch|101 7 wait",
+            "pass 101 8 001 5 000007",
+            SENDS,
+            "removed 2 kept 17",
+            PASSED,
+        ],
+    },
+    Run {
+        name: "two words go over one after another",
+        limit: LIMIT,
+        image: SENDER_AND_TAKER,
+        commands: &[
+            (7, "step 000"),
+            (5, "step 001"),
+            (1, "step 000"),
+            (1, "why 001 4 000 9"),
+            (1, "why 000 6 000 9"),
+        ],
+        output: &[
+            SENDS,
+            TAKES,
+            PASSED,
+            "000 9 run 1c",
+            "chain 3|001 4 wait|pass 000 8 001 5 00002a|000 9 run 1c",
+            "chain 2|000 6 fetch|000 9 run 1c",
+        ],
+    },
+];
+
+static ROLLBACKS: [Run; 6] = [
     Run {
         name: "a rollback of the writer's wait keeps the reader's steps",
         limit: LIMIT,
@@ -138,79 +286,6 @@ static RUNS: [Run; 36] = [
         ],
     },
     Run {
-        name: "a word is fetched from a port",
-        limit: LIMIT,
-        image: SENDER,
-        commands: &[(7, "step 000"), (2, "step 001"), (1, "node 001")],
-        output: &[
-            SENDS,
-            "001 1 wait|pass 000 8 001 2 00002a",
-            "node 001 run p 0001b5 a 000000 b 00015d i 00002a slot 0 carry 0 io 015555 d 015555*10 r 015555*9",
-        ],
-    },
-    Run {
-        name: "a fetch wait",
-        limit: LIMIT,
-        image: SENDER,
-        commands: &[(1, "step 001"), (1, "node 001")],
-        output: &[
-            "001 1 wait",
-            "node 001 fetch rdl- p 0001b5 a 000000 b 00015d i 000000 slot 4 carry 0 io 015555 d 015555*10 r 015555*9",
-        ],
-    },
-    Run {
-        name: "two writers for one reader",
-        limit: LIMIT,
-        image: "node 000|p 000000|ram 00 004b12 0001d5 00002a 0089b2|node 001|p 000000|ram 00 004b02 000195|node 101|p 000000|ram 00 004b12 000115 000007 0089b2",
-        commands: &[
-            (4, "step 001"),
-            (7, "step 101"),
-            (1, "step 001"),
-            (7, "step 000"),
-            (1, "rewind 101 7"),
-            (1, "step 000"),
-        ],
-        output: &[
-            TAKES,
-            "101 1 fetch|101 2 run 08|101 3 run 1e|101 4 run 08|101 5 run 1c|101 6 fetch|101 7 wait",
-            "pass 101 8 001 5 000007",
-            SENDS,
-            "removed 2 kept 17",
-            PASSED,
-        ],
-    },
-    Run {
-        name: "a write to several ports",
-        limit: LIMIT,
-        image: "node 000|p 000000|ram 00 004b12 0001a5 000001 0089b2",
-        commands: &[(8, "step 000"), (1, "back"), (1, "step 000")],
-        output: &[
-            "000 1 fetch|000 2 run 08|000 3 run 1e|000 4 run 08|000 5 run 1c|000 6 fetch|000 7 stop 1",
-            "no 2 stopped|removed 1 kept 6|000 7 stop 1",
-        ],
-    },
-    Run {
-        name: "the limit",
-        limit: 3,
-        image: SENDER,
-        commands: &[(4, "step 000"), (1, "back"), (1, "step 000")],
-        output: &["000 1 fetch|000 2 run 08|000 3 run 1e|no 3 full|removed 1 kept 2|000 3 run 1e"],
-    },
-    Run {
-        name: "waiting comes before the limit",
-        limit: 7,
-        image: SENDER,
-        commands: &[(8, "step 000"), (1, "step 001")],
-        output: &[SENDS, "no 1 waiting|no 3 full"],
-    },
-    Run {
-        name: "stopped comes before the limit",
-        limit: 2,
-        image: "node 000|p 000000|ram 00 0009b2",
-        commands: &[(3, "step 000"), (1, "step 001")],
-        output: &["000 1 fetch|000 2 stop 3|no 2 stopped|no 3 full"],
-    },
-    Run {
         name: "steps that don't stand",
         limit: LIMIT,
         image: SENDER_AND_TAKER,
@@ -228,76 +303,6 @@ static RUNS: [Run; 36] = [
             TAKES,
             PASSED,
             "no 6 nostep|no 6 nostep|no 6 nostep|no 6 nostep|kept 12 made 12 limit 1000000",
-        ],
-    },
-    Run {
-        name: "a read of io",
-        limit: LIMIT,
-        image: "node 000|p 000000|ram 00 004b12 0001d5 00002a 0089b2|node 001|p 000000|ram 00 0009b2",
-        commands: &[(7, "step 000"), (2, "step 001")],
-        output: &[SENDS, "001 1 fetch|001 2 stop 3"],
-    },
-    Run {
-        name: "five steps, two taken back",
-        limit: LIMIT,
-        image: "node 000|p 000000|ram 00 004df2 000003",
-        commands: &[
-            (5, "step 000"),
-            (1, "node 000"),
-            (2, "back"),
-            (1, "node 000"),
-        ],
-        output: &[
-            "000 1 fetch|000 2 run 08|000 3 run 18|000 4 run 14|000 5 run 1c",
-            "node 000 run p 000002 a 000000 b 00015d i 004df2 slot 4 carry 0 io 015555 d 000006 015555*9 r 015555*9",
-            "removed 1 kept 4|removed 1 kept 3",
-            "node 000 run p 000002 a 000000 b 00015d i 004df2 slot 2 carry 0 io 015555 d 000003 000003 015555*8 r 015555*9",
-        ],
-    },
-    Run {
-        name: "chains of causes",
-        limit: LIMIT,
-        image: SENDER_AND_TAKER,
-        commands: &[
-            (7, "step 000"),
-            (6, "step 001"),
-            (1, "why 000 7 001 6"),
-            (1, "why 000 1 001 5"),
-            (1, "why 001 1 000 7"),
-            (1, "why 001 1 001 1"),
-            (1, "why 000 9 001 1"),
-        ],
-        output: &[
-            SENDS,
-            TAKES,
-            PASSED,
-            "001 6 run 1c",
-            "chain 3|000 7 wait|pass 000 8 001 5 00002a|001 6 run 1c",
-            "chain 2|000 1 fetch|pass 000 8 001 5 00002a",
-            "independent",
-            "chain 1|001 1 fetch",
-            "no 6 nostep",
-        ],
-    },
-    Run {
-        name: "why between the ends of a transfer, and backwards",
-        limit: LIMIT,
-        image: SENDER_AND_TAKER,
-        commands: &[
-            (7, "step 000"),
-            (5, "step 001"),
-            (1, "why 000 8 001 5"),
-            (1, "why 001 5 000 8"),
-            (1, "why 000 7 000 1"),
-            (1, "why 000 0 000 1"),
-            (1, "why 000 1 001 6"),
-        ],
-        output: &[
-            SENDS,
-            TAKES,
-            PASSED,
-            "chain 1|pass 000 8 001 5 00002a|chain 1|pass 000 8 001 5 00002a",
-            "independent|no 6 nostep|no 6 nostep",
         ],
     },
     Run {
@@ -342,6 +347,55 @@ static RUNS: [Run; 36] = [
             "trace 000 7",
             SENDS,
             "trace 001 0",
+        ],
+    },
+];
+
+static CAUSES: [Run; 6] = [
+    Run {
+        name: "chains of causes",
+        limit: LIMIT,
+        image: SENDER_AND_TAKER,
+        commands: &[
+            (7, "step 000"),
+            (6, "step 001"),
+            (1, "why 000 7 001 6"),
+            (1, "why 000 1 001 5"),
+            (1, "why 001 1 000 7"),
+            (1, "why 001 1 001 1"),
+            (1, "why 000 9 001 1"),
+        ],
+        output: &[
+            SENDS,
+            TAKES,
+            PASSED,
+            "001 6 run 1c",
+            "chain 3|000 7 wait|pass 000 8 001 5 00002a|001 6 run 1c",
+            "chain 2|000 1 fetch|pass 000 8 001 5 00002a",
+            "independent",
+            "chain 1|001 1 fetch",
+            "no 6 nostep",
+        ],
+    },
+    Run {
+        name: "why between the ends of a transfer, and backwards",
+        limit: LIMIT,
+        image: SENDER_AND_TAKER,
+        commands: &[
+            (7, "step 000"),
+            (5, "step 001"),
+            (1, "why 000 8 001 5"),
+            (1, "why 001 5 000 8"),
+            (1, "why 000 7 000 1"),
+            (1, "why 000 0 000 1"),
+            (1, "why 000 1 001 6"),
+        ],
+        output: &[
+            SENDS,
+            TAKES,
+            PASSED,
+            "chain 1|pass 000 8 001 5 00002a|chain 1|pass 000 8 001 5 00002a",
+            "independent|no 6 nostep|no 6 nostep",
         ],
     },
     Run {
@@ -407,26 +461,29 @@ static RUNS: [Run; 36] = [
         ],
     },
     Run {
-        name: "a loop, taken back to the load",
+        name: "steps are numbered on behind a rollback",
         limit: LIMIT,
-        image: "node 000|p 000000|ram 00 004812 000002 000001 024172",
+        image: SENDER_AND_TAKER,
         commands: &[
-            (16, "step 000"),
-            (1, "node 000"),
-            (13, "back"),
-            (4, "back"),
-            (1, "node 000"),
+            (7, "step 000"),
+            (5, "step 001"),
+            (1, "rewind 000 7"),
+            (2, "step 000"),
+            (1, "trace 001"),
         ],
         output: &[
-            "000 1 fetch|000 2 run 08|000 3 run 1d|000 4 run 08|000 5 run 1c|000 6 fetch|000 7 run 18|000 8 run 14|000 9 run 04",
-            "000 10 run 18|000 11 run 14|000 12 run 04|000 13 run 18|000 14 run 14|000 15 run 04|000 16 run 1c",
-            "node 000 run p 000004 a 000000 b 00015d i 024172 slot 4 carry 0 io 015555 d 000008 015555*9 r 015555*9",
-            "removed 1 kept 15|removed 1 kept 14|removed 1 kept 13|removed 1 kept 12|removed 1 kept 11|removed 1 kept 10",
-            "removed 1 kept 9|removed 1 kept 8|removed 1 kept 7|removed 1 kept 6|removed 1 kept 5|removed 1 kept 4|removed 1 kept 3",
-            "removed 1 kept 2|removed 1 kept 1|removed 1 kept 0|no 5 empty",
-            "node 000 run p 000000 a 000000 b 00015d i 000000 slot 4 carry 0 io 015555 d 015555*10 r 015555*9",
+            SENDS,
+            TAKES,
+            PASSED,
+            "removed 2 kept 10|000 7 wait|pass 000 8 001 5 00002a",
+            "trace 001 5",
+            TAKES,
+            PASSED,
         ],
     },
+];
+
+static READINGS: [Run; 2] = [
     Run {
         name: "words of memory",
         limit: LIMIT,
@@ -455,6 +512,9 @@ static RUNS: [Run; 36] = [
         ],
         output: &["017 1 wait|700 1 wait|717 1 wait|kept 3 made 3 limit 1000000"],
     },
+];
+
+static SPELLINGS: [Run; 5] = [
     Run {
         name: "lines that are no command",
         limit: LIMIT,
@@ -538,47 +598,6 @@ static RUNS: [Run; 36] = [
         commands: &[(1, "back"), (1, "quit"), (1, "back")],
         output: &["no 5 empty"],
     },
-    Run {
-        name: "two words go over one after another",
-        limit: LIMIT,
-        image: SENDER_AND_TAKER,
-        commands: &[
-            (7, "step 000"),
-            (5, "step 001"),
-            (1, "step 000"),
-            (1, "why 001 4 000 9"),
-            (1, "why 000 6 000 9"),
-        ],
-        output: &[
-            SENDS,
-            TAKES,
-            PASSED,
-            "000 9 run 1c",
-            "chain 3|001 4 wait|pass 000 8 001 5 00002a|000 9 run 1c",
-            "chain 2|000 6 fetch|000 9 run 1c",
-        ],
-    },
-    Run {
-        name: "steps are numbered on behind a rollback",
-        limit: LIMIT,
-        image: SENDER_AND_TAKER,
-        commands: &[
-            (7, "step 000"),
-            (5, "step 001"),
-            (1, "rewind 000 7"),
-            (2, "step 000"),
-            (1, "trace 001"),
-        ],
-        output: &[
-            SENDS,
-            TAKES,
-            PASSED,
-            "removed 2 kept 10|000 7 wait|pass 000 8 001 5 00002a",
-            "trace 001 5",
-            TAKES,
-            PASSED,
-        ],
-    },
 ];
 
 /// Adds a text of lines with `|` between two of them, and a line feed behind the last. `015555*9` stands for that word so
@@ -642,18 +661,59 @@ fn output_of(alloc: Global, run: &Run) -> Result<Vec<u8>, AllocError> {
     Ok(output)
 }
 
-#[test]
-fn runs(rt: HostRuntime) -> Result<(), Fail> {
-    for run in &RUNS {
-        let input = input_of(rt.alloc(), run)?;
-        let wanted = output_of(rt.alloc(), run)?;
+fn check(rt: &impl Abort, alloc: Global, runs: &[Run]) -> Result<(), AllocError> {
+    for run in runs {
+        let input = input_of(alloc, run)?;
+        let wanted = output_of(alloc, run)?;
         let mut reader = input.as_slice();
-        let mut output = Vec::new(rt.alloc());
-        let status = session(rt.alloc(), &mut reader, &mut output, run.limit);
+        let mut output = Vec::new(alloc);
+        let status = session(alloc, &mut reader, &mut output, run.limit);
         let name = run.name;
         assert_eq!(rt; output.as_slice(), wanted.as_slice(), "{name}");
         assert_eq!(rt; status, Status::Done, "{name}");
     }
+    Ok(())
+}
+
+#[test]
+fn steps(rt: HostRuntime) -> Result<(), Fail> {
+    check(&rt, rt.alloc(), &STEPS)?;
+    Ok(())
+}
+
+#[test]
+fn undo_and_limit(rt: HostRuntime) -> Result<(), Fail> {
+    check(&rt, rt.alloc(), &LIMITS)?;
+    Ok(())
+}
+
+#[test]
+fn transfers(rt: HostRuntime) -> Result<(), Fail> {
+    check(&rt, rt.alloc(), &TRANSFERS)?;
+    Ok(())
+}
+
+#[test]
+fn rollbacks(rt: HostRuntime) -> Result<(), Fail> {
+    check(&rt, rt.alloc(), &ROLLBACKS)?;
+    Ok(())
+}
+
+#[test]
+fn causes(rt: HostRuntime) -> Result<(), Fail> {
+    check(&rt, rt.alloc(), &CAUSES)?;
+    Ok(())
+}
+
+#[test]
+fn readings(rt: HostRuntime) -> Result<(), Fail> {
+    check(&rt, rt.alloc(), &READINGS)?;
+    Ok(())
+}
+
+#[test]
+fn spellings(rt: HostRuntime) -> Result<(), Fail> {
+    check(&rt, rt.alloc(), &SPELLINGS)?;
     Ok(())
 }
 

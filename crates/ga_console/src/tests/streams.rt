@@ -235,7 +235,8 @@ struct Counting<'a> {
 
 impl<'a> Write for Counting<'a> {
     fn write(&mut self, buf: &[u8]) -> Result<usize> {
-        self.written.set(self.written.get().saturating_add(buf.len()));
+        self.written
+            .set(self.written.get().saturating_add(buf.len()));
         Ok(buf.len())
     }
 
@@ -364,7 +365,8 @@ fn readings_without_memory(rt: HostRuntime) {
         return;
     }
     assert_eq!(rt; status, Status::Done);
-    let front = b"ready\nno 5 empty\nno 6 nostep\nkept 0 made 0 limit 9\nmem 000 00 000000\nnode 000 run p 000195 ".as_slice();
+    let front =
+        b"ready\nno 5 empty\nno 6 nostep\nkept 0 made 0 limit 9\nmem 000 00 000000\nnode 000 run p 000195 ".as_slice();
     assert!(rt; text.starts_with(front));
     let answered = text.ends_with(b"\ntrace 000 0\nno 6 nostep\n");
     let refused = text.ends_with(b"\nno 4 memory\nno 6 nostep\n");
