@@ -1,5 +1,6 @@
 -- Images: which lines describe which chip.
-use Rattle.std.specs.Prelude.{◌≡◌, ℕ, ◌+◌, ◌<◌, ◌≤◌, nat_eq, true, false, List, [], ◌∷◌, ◌++◌, length, codes, map, flat_map}
+use Rattle.std.specs.Prelude.{◌≡◌, ℕ, ◌+◌, ◌<◌, ◌≤◌, nat_eq, Bool, false, if◌then◌else◌, List, [], ◌∷◌, ◌++◌, length, codes, map, flat_map}
+use Rattle.std.specs.Cmp.Lexicographic.{pointwise}
 use Rattle.std.specs.List.{AllByRecursion, IsDistinct}
 use Rattle.ga_node.specs.State.{NodeState, with_value}
 use Rattle.ga_grid.specs.Chip.{default_chip, node_at, with_node}
@@ -10,7 +11,7 @@ use Rattle.ga_image.specs.declared.field.Format.{Format}
 use Rattle.ga_image.specs.declared.field.Format.TheVariants.{One, Two}
 use Rattle.ga_node.specs.declared.wait.Wait.TheVariants.{Nothing}
 use Rattle.ga_node.specs.Waits.{wait_of}
-use Rattle.ga_image.specs.Fields.{has_field, place_of, writes, greatest, number_of}
+use Rattle.ga_image.specs.Fields.{place_of, writes, greatest, number_of}
 use Rattle.ga_image.specs.Held.{runs, held_after, is_unsteady}
 use Rattle.ga_image.specs.Spelling.{Form, Node, Words, End, SpellsIn}
 
@@ -18,6 +19,14 @@ use Rattle.ga_image.specs.Spelling.{Form, Node, Words, End, SpellsIn}
 abbrev pub header : Format → List ℕ
 header One = codes "ga144 1"
 header Two = codes "ga144 2"
+
+-- a line is the header of this format
+abbrev pub names : List ℕ → Format → Bool
+names text format = pointwise nat_eq text (header format)
+
+-- the format of a header
+abbrev pub format_of : List ℕ → Format
+format_of text = if names text One then One else Two
 
 -- a block: its node, and its field lines, each with a field and the words for it and for those after it
 pub record Block : Type 0 where
@@ -44,17 +53,14 @@ Fits (Ram cell) count = cell + count ≤ 64
 Fits (Rom cell) count = cell + count ≤ 64
 Fits _ count = Unit {0}
 
--- the format has the field, no cell is past the last, and no word past its greatest
-abbrev pub IsFieldLine : Format → Field × List ℕ → Type 0
-IsFieldLine format field_line =
-    (has_field format field_line.0 ≡ true)
-    × Fits field_line.0 (length field_line.1)
-    × AllByRecursion (λ word. word ≤ greatest field_line.0) field_line.1
+-- no cell is past the last, and no word past its greatest
+abbrev pub IsFieldLine : Field × List ℕ → Type 0
+IsFieldLine field_line = Fits field_line.0 (length field_line.1) × AllByRecursion (λ word. word ≤ greatest field_line.0) field_line.1
 
 -- a block of a node of the grid
-pub record IsBlock (format : Format) (block : Block) : Type 0 where
+pub record IsBlock (block : Block) : Type 0 where
   pub node : block.node < 144
-  pub field_lines : AllByRecursion (IsFieldLine format) block.field_lines
+  pub field_lines : AllByRecursion IsFieldLine block.field_lines
   -- no field is given twice
   pub apart : IsDistinct nat_eq (map (λ w. number_of w.0) (all_writes block.field_lines))
   -- its wait, stop and slot can stand together
@@ -94,7 +100,7 @@ pub record IsImage (texts : List (List ℕ)) (chip : List NodeState) : Type 0 wh
   pub blocks : List Block
   pub starts : texts ≡ header format ∷ lines
   pub spelled : Spell format lines (flat_map block_forms blocks ++ End ∷ [])
-  pub each : AllByRecursion (IsBlock format) blocks
+  pub each : AllByRecursion IsBlock blocks
   -- no node has two blocks
   pub apart : IsDistinct nat_eq (map (λ block. block.node) blocks)
   pub describes : chip ≡ loaded default_chip blocks

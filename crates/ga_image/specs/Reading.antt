@@ -1,6 +1,5 @@
 -- Reading an image line by line, with the first fault that is met.
-use Rattle.std.specs.Prelude.{◌≡◌, ℕ, ◌+◌, ◌⊎◌, nat_eq, nat_lt, Bool, true, false, ◌||◌, if◌then◌else◌, List, [], ◌∷◌, length, replicate, slice_index_or, slice_set, is_none, Option, Some, None, Result, Ok, Err}
-use Rattle.std.specs.Cmp.Lexicographic.{pointwise}
+use Rattle.std.specs.Prelude.{◌≡◌, ℕ, ◌+◌, ◌⊎◌, nat_lt, Bool, true, false, ◌||◌, if◌then◌else◌, List, [], ◌∷◌, length, replicate, slice_index_or, slice_set, is_none, Option, Some, None, Result, Ok, Err}
 use Rattle.ga_node.specs.State.{NodeState}
 use Rattle.ga_grid.specs.Chip.{default_chip}
 use Rattle.ga_grid.specs.Grid.{node_of}
@@ -16,7 +15,7 @@ use Rattle.ga_image.specs.Fields.{field_count, has_field, number_of, writes, goe
 use Rattle.ga_image.specs.Spelling.{Form, Node, Words, End}
 use Rattle.ga_image.specs.Forms.{form}
 use Rattle.ga_image.specs.Lines.{longest}
-use Rattle.ga_image.specs.Grammar.{header, with_word}
+use Rattle.ga_image.specs.Grammar.{names, format_of, with_word}
 use Rattle.ga_image.specs.Progress.{Stage, Header, Open, Block, Ended, Progress}
 
 -- no field
@@ -34,17 +33,9 @@ start = record {
   chip = default_chip;
 }
 
--- the line is the header of this format
-abbrev pub names : List ℕ → Format → Bool
-names text format = pointwise nat_eq text (header format)
-
 -- the first line is a header
 abbrev pub is_header : List ℕ → Bool
 is_header text = names text One || names text Two
-
--- the format of a header
-abbrev pub format_of : List ℕ → Format
-format_of text = if names text One then One else Two
 
 -- the form of a line, if the format has it
 abbrev pub kept_in : Format → Option Form → Option Form
