@@ -2,20 +2,19 @@
 use Rattle.std.specs.Bool.{Decides}
 use Rattle.std.specs.Prelude.{nat_lt, nat_eq, ◌==◌, ◌-◌}
 use Rattle.std.specs.List.{AllByRecursion}
-use Rattle.std.proofs.Common.{◌≡◌, ◌≢◌, ℕ, ◌+◌, ◌<◌, ◌≤◌, ◌⊎◌, inl, inr, Bool, true, false, cond, ◌||◌, List, [], ◌∷◌, ◌++◌, length, get_or, set, Option, Some, None, refl, sym, ◌∙◌, ap, subst, arith, length-set, replicate}
-use Rattle.std.proofs.lemmas.Bool.{ne_eqb, eqb-true}
+use Rattle.std.proofs.Common.{◌≡◌, ◌≢◌, ℕ, ◌+◌, ◌<◌, ◌⊎◌, inl, inr, Bool, true, false, cond, ◌||◌, List, [], ◌∷◌, ◌++◌, length, get_or, set, Option, Some, None, refl, sym, ◌∙◌, ap, subst, arith, length-set}
+use Rattle.std.proofs.lemmas.Bool.{eqb-true}
 use Rattle.std.proofs.lemmas.Bool.Decides.{nat_tests, Decides-or, Decides-like, Decides-at, eqb_tells}
 use Rattle.std.proofs.lemmas.List.{append-nil, get_or-set_same, get_or-set_other}
 use Rattle.ga_grid.specs.Grid.{node_of, yxx_of}
 use Rattle.ga_image.specs.declared.fault.ImageCause.TheVariants as cause
 use Rattle.ga_image.specs.declared.field.Field.{Field}
 use Rattle.ga_image.specs.declared.field.Field.TheVariants.{A, B, P, I, Io, Carry, Slot, Wait, Stop, Data, Return, Ram, Rom}
-use Rattle.ga_image.specs.declared.field.Format.{Format}
 use Rattle.ga_image.specs.declared.held.Held.{Held}
-use Rattle.ga_image.specs.Fields.{HasCell, writes, number_of, goes_past, repeats}
+use Rattle.ga_image.specs.Fields.{HasCell, writes, number_of, goes_past}
 use Rattle.ga_image.specs.Spelling.{Form, Node, Words, End, Spells}
 use Rattle.ga_image.specs.Held.{runs, held_after}
-use Rattle.ga_image.specs.Grammar.{header, format_of, all_writes, field_line_form}
+use Rattle.ga_image.specs.Grammar.{header, format_of, all_writes}
 use Rattle.ga_image.specs.Progress.{Progress, Stage}
 use Rattle.ga_image.specs.Progress as stage
 use Rattle.ga_image.specs.Reading.{fault_of, line_fault, later_fault, form_in, is_misplaced, is_header, after_line, after_form, with_writes, with_block, nothing_given, start}
@@ -25,7 +24,7 @@ use Rattle.ga_image.proofs.Flags.{none_flagged}
 use Rattle.ga_image.proofs.Meanings.{marked, in_memory, line_later, past_later, short_past}
 use Rattle.ga_image.proofs.Found.{not_short, neither, some_form, node_ok, field_ok, yxx_of_node, held-append, header_named}
 use Rattle.ga_image.proofs.Accepted.{all_written}
-use Rattle.ga_image.proofs.Room.{IsSized, length-marked, past_start}
+use Rattle.ga_image.proofs.Room.{length-marked, past_start}
 use Rattle.ga_image.proofs.Causes.{IsAfter, StandsAt, later, one_form, node_no_words, node_no_end, end_no_words, header_formless, each_has_cell, in_block}
 
 -- ---- one line more
@@ -307,9 +306,11 @@ after_words progress before line node field words after spelled is inside =
       sized = record { blocks = after.sized.blocks; given = length-marked progress.given ws ∙ after.sized.given };
       format = λ some. format_kept progress before line after (rw is (λ e. cc));
       held = λ n at.
-          let was = after.held n at in
-          (was.0 ++ (field, words) ∷ [], lines_more before line was.0 field words was.1 spelled,
-          ap (λ h. held_after h ws) was.2 ∙ held_more runs was.0 field words);
+          let was = after.held n at in (
+            was.0 ++ (field, words) ∷ [],
+            lines_more before line was.0 field words was.1 spelled,
+            ap (λ h. held_after h ws) was.2 ∙ held_more runs was.0 field words,
+          );
       blocks = blocks_kept progress before line after (λ yxx begins. no_node (yxx, begins));
       given = λ other e g cell.
           Decides-at _ _ (marked_or progress.given (number_of g) ws after.sized.given cells)

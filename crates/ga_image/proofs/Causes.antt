@@ -1,10 +1,9 @@
 -- What a test finds wrong with a line is the first of its causes.
 use Rattle.std.specs.Bool.{Decides}
 use Rattle.std.specs.Prelude.{nat_lt, nat_eq, is_none}
-use Rattle.std.specs.Cmp.Lexicographic.{pointwise}
 use Rattle.std.specs.List.{AllByRecursion, IsDistinct, list_any}
-use Rattle.std.proofs.Common.{◌≡◌, ◌≢◌, ℕ, zero, suc, ◌+◌, ◌<◌, ◌≤◌, ◌⊎◌, inl, inr, Bool, true, false, cond, ◌||◌, List, [], ◌∷◌, ◌++◌, length, map, get_or, set, Option, Some, None, refl, sym, ◌∙◌, ap, subst, arith}
-use Rattle.std.proofs.lemmas.Bool.Decides.{nat_tests, not_from_Decides, Decides-or, Decides-ltb}
+use Rattle.std.proofs.Common.{◌≡◌, ◌≢◌, ℕ, ◌+◌, ◌<◌, ◌⊎◌, inl, inr, Bool, true, false, cond, ◌||◌, List, [], ◌∷◌, length, get_or, Option, Some, None, refl, sym, ◌∙◌, ap, subst, arith}
+use Rattle.std.proofs.lemmas.Bool.Decides.{not_from_Decides, Decides-or, Decides-ltb}
 use Rattle.std.proofs.lemmas.Bool.{ne_eqb}
 use Rattle.std.proofs.lemmas.Slice.Eq.{bytes_eq-Decides}
 use Rattle.ga_grid.specs.Grid.{node_of}
@@ -16,18 +15,18 @@ use Rattle.ga_image.specs.declared.field.Format.{Format}
 use Rattle.ga_image.specs.declared.field.Format.TheVariants.{One, Two}
 use Rattle.ga_image.specs.declared.held.Held.{Held}
 use Rattle.ga_image.specs.Fields.{HasCell, writes, next_field, number_of, greatest, goes_past, is_too_great, repeats}
-use Rattle.ga_image.specs.Spelling.{Form, Node, Words, End, Spells, SpellsIn, HasCount}
+use Rattle.ga_image.specs.Spelling.{Form, Node, Words, End, Spells, HasCount}
 use Rattle.ga_image.specs.Forms.{form, state_form, wide_form}
 use Rattle.ga_image.specs.Held.{runs, held_after, is_unsteady}
 use Rattle.ga_image.specs.Lines.{longest}
-use Rattle.ga_image.specs.Grammar.{header, names, Fits, field_line_form, all_writes}
+use Rattle.ga_image.specs.Grammar.{header, names, Fits, all_writes}
 use Rattle.ga_image.specs.Progress.{Progress, Stage}
 use Rattle.ga_image.specs.Progress as stage
-use Rattle.ga_image.specs.Reading.{fault_of, line_fault, later_fault, form_fault, node_fault, words_fault, is_misplaced, ends_unsteady, form_in, kept_in, is_header, has_block}
-use Rattle.ga_image.specs.FirstFault.{SpellFields, GivesLines, format_in, EndsUnsteady, OneOf, IsEnd, BeginsBlockOf, BeginsBlock, GivesField, WasGiven, HasNoForm, IsNoLine, NamesNoNode, GivesNoCell, GivesGreatWord, RepeatsNode, RepeatsField, HasCause, causes, IsFirstCause, HasNone}
+use Rattle.ga_image.specs.Reading.{fault_of, line_fault, later_fault, form_fault, node_fault, words_fault, is_misplaced, ends_unsteady, form_in, is_header, has_block}
+use Rattle.ga_image.specs.FirstFault.{SpellFields, GivesLines, format_in, EndsUnsteady, OneOf, IsEnd, BeginsBlockOf, BeginsBlock, WasGiven, HasNoForm, IsNoLine, NamesNoNode, GivesNoCell, GivesGreatWord, RepeatsNode, RepeatsField, HasCause, causes, IsFirstCause, HasNone}
 use Rattle.ga_image.proofs.Short.{count_spelled}
-use Rattle.ga_image.proofs.Spellings.{form_spelled, form_read, kept_spelled, kept_read}
-use Rattle.ga_image.proofs.Flags.{seen_twice, AreFree, AreBelow, apart_once, once_apart, or_false}
+use Rattle.ga_image.proofs.Spellings.{form_read, kept_spelled, kept_read}
+use Rattle.ga_image.proofs.Flags.{AreFree, AreBelow, apart_once, once_apart, or_false}
 use Rattle.ga_image.proofs.Meanings.{in_memory}
 use Rattle.ga_image.proofs.Found.{some_form, within, header_named}
 use Rattle.ga_image.proofs.Accepted.{numbers, repeats_numbers, field_below}
@@ -133,29 +132,35 @@ misplaced stage.Header format found before line same is behind stands = absurd (
 misplaced stage.Open format None before line same is behind stands =
     (λ e. (stands.0, inl (subst (λ (g : Format). HasNoForm g line) same (no_form format line is))), λ no. refl)
 misplaced stage.Open format (Some (Node y)) before line same is behind stands =
-    let spelled = kept_spelled format line (Node y) is in
-    (λ e. cc, λ no. elim no.1 [
-      | inl formless ↦ absurd (subst (λ (g : Format). HasNoForm g line) (sym same) formless (Node y) spelled)
-      | inr (inl field) ↦ absurd (node_no_words line y field.0.0 field.0.1 spelled.0 field.0.2)
-      | inr (inr end) ↦ absurd (stands.1 end)
-    ])
+    let spelled = kept_spelled format line (Node y) is in (
+      λ e. cc,
+      λ no. elim no.1 [
+        | inl formless ↦ absurd (subst (λ (g : Format). HasNoForm g line) (sym same) formless (Node y) spelled)
+        | inr (inl field) ↦ absurd (node_no_words line y field.0.0 field.0.1 spelled.0 field.0.2)
+        | inr (inr end) ↦ absurd (stands.1 end)
+      ],
+    )
 misplaced stage.Open format (Some (Words field words)) before line same is behind stands =
     (λ e. (stands.0, inr (inl ((field, words, (kept_spelled format line (Words field words) is).0), stands.2))), λ no. refl)
 misplaced stage.Open format (Some End) before line same is behind stands =
-    let spelled = kept_spelled format line End is in
-    (λ e. cc, λ no. elim no.1 [
-      | inl formless ↦ absurd (subst (λ (g : Format). HasNoForm g line) (sym same) formless End spelled)
-      | inr (inl field) ↦ absurd (end_no_words line field.0.0 field.0.1 spelled.0 field.0.2)
-      | inr (inr end) ↦ absurd (stands.1 end)
-    ])
+    let spelled = kept_spelled format line End is in (
+      λ e. cc,
+      λ no. elim no.1 [
+        | inl formless ↦ absurd (subst (λ (g : Format). HasNoForm g line) (sym same) formless End spelled)
+        | inr (inl field) ↦ absurd (end_no_words line field.0.0 field.0.1 spelled.0 field.0.2)
+        | inr (inr end) ↦ absurd (stands.1 end)
+      ],
+    )
 misplaced (stage.Block node) format None before line same is behind stands =
     (λ e. (stands.0, inl (subst (λ (g : Format). HasNoForm g line) same (no_form format line is))), λ no. refl)
-misplaced (stage.Block node) format (Some f) before line same is behind stands =
-    (λ e. cc, λ no. elim no.1 [
-      | inl formless ↦ absurd (subst (λ (g : Format). HasNoForm g line) (sym same) formless f (kept_spelled format line f is))
-      | inr (inl field) ↦ absurd (field.1 stands.2)
-      | inr (inr end) ↦ absurd (stands.1 end)
-    ])
+misplaced (stage.Block node) format (Some f) before line same is behind stands = (
+  λ e. cc,
+  λ no. elim no.1 [
+    | inl formless ↦ absurd (subst (λ (g : Format). HasNoForm g line) (sym same) formless f (kept_spelled format line f is))
+    | inr (inl field) ↦ absurd (field.1 stands.2)
+    | inr (inr end) ↦ absurd (stands.1 end)
+  ],
+)
 misplaced stage.Ended format found before line same is behind stands = (λ e. (stands.0, inr (inr stands.1)), λ no. refl)
 
 -- ---- a line that ends a block
@@ -202,11 +207,12 @@ lines_same (line ∷ before) fs gs (inr first) (inr second) = fields_same before
 block_unsteady : (progress : Progress) (before : List (List ℕ)) (line : List ℕ) (node : ℕ) → IsAfter progress before → progress.stage ≡ stage.Block node → BeginsBlock line ⊎ IsEnd line
     → Decides (is_unsteady progress.held) (EndsUnsteady before line)
 block_unsteady progress before line node after is ends =
-    let held = after.held node is in
-    (λ e. (ends, (held.0, held.1, ap is_unsteady (sym held.2) ∙ e)),
-    λ unsteady.
-      let same : unsteady.1.0 ≡ held.0 = lines_same before unsteady.1.0 held.0 unsteady.1.1 held.1 in
-      ap is_unsteady held.2 ∙ ap (λ fs. is_unsteady (held_after runs (all_writes fs))) (sym same) ∙ unsteady.1.2)
+    let held = after.held node is in (
+      λ e. (ends, (held.0, held.1, ap is_unsteady (sym held.2) ∙ e)),
+      λ unsteady.
+          let same : unsteady.1.0 ≡ held.0 = lines_same before unsteady.1.0 held.0 unsteady.1.1 held.1 in
+          ap is_unsteady held.2 ∙ ap (λ fs. is_unsteady (held_after runs (all_writes fs))) (sym same) ∙ unsteady.1.2,
+    )
 
 -- before the first block
 open_steady : (before : List (List ℕ)) (line : List ℕ) → ¬ OneOf BeginsBlock before → Decides false (EndsUnsteady before line)
@@ -482,18 +488,19 @@ form_tells : (progress : Progress) (before : List (List ℕ)) (line : List ℕ) 
     → is_misplaced progress.stage (Some f) ≡ false → Tells before line after_line (cond (ends_unsteady progress.stage progress.held (Some f)) (Some cause.State) (form_fault progress (Some f)))
 form_tells progress before line (Node y) after spelled placed =
     tested before line cause.State after_state (ends_unsteady progress.stage progress.held (Some (Node y))) _
-        (node_unsteady progress.stage progress before line y after refl after.stands placed spelled) (λ steady. node_tells progress before line y after spelled)
+    (node_unsteady progress.stage progress before line y after refl after.stands placed spelled) (λ steady. node_tells progress before line y after spelled)
 form_tells progress before line (Words field words) after spelled placed =
-    tested before line cause.State after_state (ends_unsteady progress.stage progress.held (Some (Words field words))) _
-        (λ e. absurd (let never : true ≡ false = sym e ∙ words_steady progress.stage progress.held field words in cc),
-        λ unsteady. absurd (elim unsteady.0 [
-          | inl begins ↦ node_no_words line begins.0 field words begins.1 spelled
-          | inr end ↦ end_no_words line field words end spelled
-        ]))
-        (λ steady. words_tell progress before line field words after spelled placed)
+    tested before line cause.State after_state (ends_unsteady progress.stage progress.held (Some (Words field words))) _ (
+      λ e. absurd (let never : true ≡ false = sym e ∙ words_steady progress.stage progress.held field words in cc),
+      λ unsteady. absurd (elim unsteady.0 [
+        | inl begins ↦ node_no_words line begins.0 field words begins.1 spelled
+        | inr end ↦ end_no_words line field words end spelled
+      ]),
+    )
+    (λ steady. words_tell progress before line field words after spelled placed)
 form_tells progress before line End after spelled placed =
     tested before line cause.State after_state (ends_unsteady progress.stage progress.held (Some End)) _
-        (end_unsteady progress.stage progress before line after refl after.stands placed spelled) (λ steady. end_tells before line spelled)
+    (end_unsteady progress.stage progress before line after refl after.stands placed spelled) (λ steady. end_tells before line spelled)
 
 later_tells : (progress : Progress) (before : List (List ℕ)) (line : List ℕ) → IsAfter progress before → progress.stage ≢ stage.Header
     → Tells before line after_long (later_fault progress (form_in progress.format line))
@@ -514,13 +521,26 @@ header_tells before line false is first = inl (refl, (first, λ format. no_heade
 header_tells before line true is first =
     let formless = header_formless line _ (header_named line is) in (
       λ other. other.1 _ (header_named line is),
-      (λ no. no.0 first,
-      (λ unsteady. let Q : List (List ℕ) → Type 0 = λ b. GivesLines b unsteady.1.0 in let none : GivesLines [] unsteady.1.0 = subst Q first unsteady.1.1 in none,
-      (λ names. formless (Node names.0) names.1,
-      (λ gives. formless (Words gives.0 gives.1) gives.2,
-      (λ gives. formless (Words gives.0 gives.1) gives.2,
-      (λ repeats. elim repeats [ | inl begins ↦ formless (Node begins.0) begins.1 | inr gives ↦ formless (Words gives.1.0 gives.1.1) gives.1.2 ],
-      tt)))))))
+      (
+        λ no. no.0 first,
+        (
+          λ unsteady. let Q : List (List ℕ) → Type 0 = λ b. GivesLines b unsteady.1.0 in let none : GivesLines [] unsteady.1.0 = subst Q first unsteady.1.1 in none,
+          (
+            λ names. formless (Node names.0) names.1,
+            (
+              λ gives. formless (Words gives.0 gives.1) gives.2,
+              (
+                λ gives. formless (Words gives.0 gives.1) gives.2,
+                (
+                  λ repeats. elim repeats [ inl begins ↦ formless (Node begins.0) begins.1 | inr gives ↦ formless (Words gives.1.0 gives.1.1) gives.1.2 ],
+                  tt,
+                ),
+              ),
+            ),
+          ),
+        ),
+      ),
+    )
 
 line_tells : (st : Stage) (progress : Progress) (before : List (List ℕ)) (line : List ℕ) → progress.stage ≡ st → IsAfter progress before
     → Tells before line after_long (line_fault st progress line)

@@ -21,7 +21,7 @@ use Rattle.ga_image.specs.Progress as stage
 use Rattle.ga_image.specs.Spelling.{Form, Node, Words, End}
 use Rattle.ga_image.specs.Held.{runs, with_held, held_after, is_unsteady}
 use Rattle.ga_image.specs.Fields.{writes, repeats, goes_past, is_too_great, greatest}
-use Rattle.ga_image.specs.Reading.{node_in, reading, refused, at_end, fault_of, line_fault, later_fault, form_fault, node_fault, words_fault, is_misplaced, ends_unsteady, form_in, after_line, after_form, with_block, start, nothing_given, is_header, has_block}
+use Rattle.ga_image.specs.Reading.{node_in, reading, refused, at_end, fault_of, line_fault, later_fault, node_fault, words_fault, is_misplaced, ends_unsteady, form_in, after_line, after_form, with_block, start, nothing_given, is_header, has_block}
 use Rattle.ga_image.proofs.Spellings.{forms_spelled}
 use Rattle.ga_image.proofs.Flags.{seen_twice, AreBelow, once_apart, or_false}
 use Rattle.ga_image.proofs.Meanings.{reads, marked, repeats-append, line_later, past_later, still_later, short_past, same_format}

@@ -1,5 +1,5 @@
 -- A line means what it spells, and spells what it means.
-use Rattle.std.specs.Prelude.{nat_eq, nat_le, nat_lt, codes, ◌==◌, ◌||◌, ◌-◌}
+use Rattle.std.specs.Prelude.{nat_eq, nat_le, nat_lt, codes, ◌==◌, ◌-◌}
 use Rattle.std.specs.List.{AllByRecursion}
 use Rattle.std.specs.Char.{to_ascii_lowercase}
 use Rattle.std.specs.Str.{str_to_ascii_lowercase}
@@ -17,11 +17,11 @@ use Rattle.ga_node.specs.Waits.{IsWaitCode}
 use Rattle.ga_image.specs.declared.field.Format.{Format}
 use Rattle.ga_image.specs.Fields.{has_field}
 use Rattle.ga_image.specs.Digits.{cell_number, node_number, set_number}
-use Rattle.ga_image.specs.Spelling.{Form, Node, Words, End, decimal3_of, hex2_of, words_text, letter, set_text, wait_text, name_of, numbers_of, code_text, HasCount, SpellsWords, IsCode, SpellsCode, SpellsField, Spells, HoldsCode, AreCodes, IsFormOf, SpellsIn}
+use Rattle.ga_image.specs.Spelling.{Form, Node, Words, End, decimal3_of, hex2_of, words_text, set_text, wait_text, name_of, numbers_of, code_text, HasCount, SpellsWords, IsCode, SpellsCode, SpellsField, Spells, HoldsCode, AreCodes, IsFormOf, SpellsIn}
 use Rattle.ga_image.specs.Forms.{form, spaced_words, few, words, word_form, cells_form, stack_form, digit_form, set_form, side_form, wait_form, is_single, node_form, wide_form, state_form, begins}
 use Rattle.ga_image.specs.Reading.{form_in, kept_in}
 use Rattle.ga_image.specs.Grammar.{Spell}
-use Rattle.ga_image.proofs.Numbers.{word_spelled, word_read, cell_spelled, cell_read, node_spelled, node_read, set_spelled, set_read, chosen, between}
+use Rattle.ga_image.proofs.Numbers.{word_spelled, word_read, cell_spelled, cell_read, node_spelled, node_read, set_spelled, set_read, between}
 
 -- the first step gave something
 first_step : {A B : Type 0} (o : Option A) (f : A → Option B) (y : B) → (o >>= f) ≡ Some y → (x : A) × (o ≡ Some x) × (f x ≡ Some y)
@@ -221,12 +221,12 @@ set_parts kind text f e =
     let (sides, letters, made) = first_step (set_number text) _ f e in
     let (small, is) = set_spelled text sides letters in
     branch (sides == 0) None (Some (Words Wait ((kind + sides) ∷ []))) (Some f)
-        (λ none never. absurd (let clash : true ≡ false = cc in cc))
-        (λ found. let same : Words Wait ((kind + sides) ∷ []) ≡ f = cc in (sides, same, some_sides sides kind f made, small, is))
-        made where
-  some_sides : (sides kind : ℕ) (f : Form) → cond (sides == 0) None (Some (Words Wait ((kind + sides) ∷ []))) ≡ Some f → 0 < sides
-  some_sides zero kind f made = cc
-  some_sides (suc sides) kind f made = omega arith
+    (λ none never. absurd (let clash : true ≡ false = cc in cc))
+    (λ found. let same : Words Wait ((kind + sides) ∷ []) ≡ f = cc in (sides, same, some_sides sides kind f made, small, is))
+    made where
+      some_sides : (sides kind : ℕ) (f : Form) → cond (sides == 0) None (Some (Words Wait ((kind + sides) ∷ []))) ≡ Some f → 0 < sides
+      some_sides zero kind f made = cc
+      some_sides (suc sides) kind f made = omega arith
 
 single_side : (sides : ℕ) → is_single sides ≡ true → IsWaitCode (48 + sides)
 single_side sides e = grind (arith, nat_tests)
@@ -264,14 +264,14 @@ wait_parts : (text : List ℕ) (f : Form) → wait_form text ≡ Some f → Wait
 unfolding wait_form
 wait_parts text f =
     branch _ _ _ _ (λ b e.
-      let (sides, same, some, small, is) = set_parts 16 (drop 6 text) f e in
-      (16 + sides, same, (inr (inl (omega arith, omega arith)), λ none. absurd (omega arith)), begun text (codes "fetch ") b ∙ ap (λ xs. codes "fetch " ++ xs) is ∙ sym (fetch_text sides small)))
+    let (sides, same, some, small, is) = set_parts 16 (drop 6 text) f e in
+    (16 + sides, same, (inr (inl (omega arith, omega arith)), λ none. absurd (omega arith)), begun text (codes "fetch ") b ∙ ap (λ xs. codes "fetch " ++ xs) is ∙ sym (fetch_text sides small)))
     (branch _ _ _ _ (λ b e.
-      let (sides, same, some, small, is) = set_parts 32 (drop 5 text) f e in
-      (32 + sides, same, (inr (inr (inl (omega arith, omega arith))), λ none. absurd (omega arith)), begun text (codes "read ") b ∙ ap (λ xs. codes "read " ++ xs) is ∙ sym (read_text sides small)))
+    let (sides, same, some, small, is) = set_parts 32 (drop 5 text) f e in
+    (32 + sides, same, (inr (inr (inl (omega arith, omega arith))), λ none. absurd (omega arith)), begun text (codes "read ") b ∙ ap (λ xs. codes "read " ++ xs) is ∙ sym (read_text sides small)))
     (branch _ _ _ _ (λ b e.
-      let (sides, same, valid, small, is) = side_parts (drop 6 text) f e in
-      (48 + sides, same, (valid, λ none. absurd (omega arith)), begun text (codes "write ") b ∙ ap (λ xs. codes "write " ++ xs) is ∙ sym (write_text sides)))
+    let (sides, same, valid, small, is) = side_parts (drop 6 text) f e in
+    (48 + sides, same, (valid, λ none. absurd (omega arith)), begun text (codes "write ") b ∙ ap (λ xs. codes "write " ++ xs) is ∙ sym (write_text sides)))
     (λ never. absurd (let clash : true ≡ false = cc in cc))))
 
 node_line_spelled : (text : List ℕ) (f : Form) → text ≡ codes "node " ++ drop 5 text → node_form (drop 5 text) ≡ Some f → Spells text f
@@ -301,13 +301,13 @@ state_spelled : (text : List ℕ) (f : Form) → state_form text ≡ Some f → 
 unfolding state_form
 state_spelled text f =
     branch _ _ _ _ (λ b e. let (code, same, least, most, is) = digit_spelled Carry 0 1 (drop 6 text) f e in
-      code_spelled text Carry code f same most (begun text (codes "carry ") b ∙ ap (λ xs. codes "carry " ++ xs) is) (λ words is. is))
+    code_spelled text Carry code f same most (begun text (codes "carry ") b ∙ ap (λ xs. codes "carry " ++ xs) is) (λ words is. is))
     (branch _ _ _ _ (λ b e. let (code, same, least, most, is) = digit_spelled Slot 0 4 (drop 5 text) f e in
-      code_spelled text Slot code f same most (begun text (codes "slot ") b ∙ ap (λ xs. codes "slot " ++ xs) is) (λ words is. is))
+    code_spelled text Slot code f same most (begun text (codes "slot ") b ∙ ap (λ xs. codes "slot " ++ xs) is) (λ words is. is))
     (branch _ _ _ _ (λ b e. let (code, same, valid, is) = wait_parts (drop 5 text) f e in
-      code_spelled text Wait code f same valid (begun text (codes "wait ") b ∙ ap (λ xs. codes "wait " ++ xs) is) (λ words is. is))
+    code_spelled text Wait code f same valid (begun text (codes "wait ") b ∙ ap (λ xs. codes "wait " ++ xs) is) (λ words is. is))
     (branch _ _ _ _ (λ b e. let (code, same, least, most, is) = digit_spelled Stop 1 3 (drop 5 text) f e in
-      code_spelled text Stop code f same (least, most) (begun text (codes "stop ") b ∙ ap (λ xs. codes "stop " ++ xs) is) (λ words is. is))
+    code_spelled text Stop code f same (least, most) (begun text (codes "stop ") b ∙ ap (λ xs. codes "stop " ++ xs) is) (λ words is. is))
     (wide_spelled text f))))
 
 -- a line spells what it means

@@ -1,5 +1,5 @@
 -- Where a parser stands.
-use Rattle.std.proofs.Common.{◌≡◌, ◌≢◌, refl}
+use Rattle.std.proofs.Common.{◌≢◌, refl}
 use Rattle.ga_image.specs.declared.parser.Stage.{Stage as Expects}
 use Rattle.ga_image.specs.declared.parser.Stage.TheVariants as expects
 use Rattle.ga_image.specs.Progress.{stage_of, IsBehindHeader}

@@ -46,6 +46,12 @@ impl Held {
     {
         let is_fetch_due = self.slot == 4;
         let waits_to_fetch = self.wait < 32;
-        self.wait != 0 && (self.stop != 0 || (if waits_to_fetch { !is_fetch_due } else { is_fetch_due }))
+        self.wait != 0
+            && (self.stop != 0
+                || (if waits_to_fetch {
+                    !is_fetch_due
+                } else {
+                    is_fetch_due
+                }))
     }
 }

@@ -4,7 +4,20 @@ ghost use Rattle.std.specs.Prelude.{◌≡◌, ◌≤◌, [], ◌∷◌};
 ghost use Rattle.ga_image.specs.Spelling.{Words};
 ghost use Rattle.std.specs.Option.{option_map};
 ghost use Rattle.ga_image.specs.Forms.{
-    form_of, field_in, words, word_form, cells_form, stack_form, digit_form, set_form, side_form, wait_form, node_form, wide_form, state_form, form
+  form_of,
+  field_in,
+  words,
+  word_form,
+  cells_form,
+  stack_form,
+  digit_form,
+  set_form,
+  side_form,
+  wait_form,
+  node_form,
+  wide_form,
+  state_form,
+  form,
 };
 
 use super::digits::{cell_number, node_number, set_number};

@@ -9,7 +9,19 @@ ghost use Rattle.ga_image.specs.Progress.{progress_of, stage_of, IsBehindHeader,
 ghost use Rattle.ga_image.specs.Spelling.{Node, Words, End, HoldsCode, AreCodes};
 ghost use Rattle.ga_image.specs.Grammar.{with_word};
 ghost use Rattle.ga_image.specs.Reading.{
-    start, words_fault, node_fault, ends_unsteady, kept_in, later_fault, line_fault, fault_of, with_block, with_writes, after_form, after_stage, after_line
+  start,
+  words_fault,
+  node_fault,
+  ends_unsteady,
+  kept_in,
+  later_fault,
+  line_fault,
+  fault_of,
+  with_block,
+  with_writes,
+  after_form,
+  after_stage,
+  after_line,
 };
 
 use super::fault::ImageCause;
@@ -160,9 +172,7 @@ impl Parser {
         requires codes { AreCodes field words.now }
         requires open { IsBehindHeader (stage_of self.old.stage) }
         ensures fault { result_err result ≡ later_fault (progress_of self.old) (kept_in self.old.format (Some (Words field words.now))) }
-        ensures read {
-            OnOk result (progress_of self.new ≡ after_form (progress_of self.old) (kept_in self.old.format (Some (Words field words.now))))
-        }
+        ensures read { OnOk result (progress_of self.new ≡ after_form (progress_of self.old) (kept_in self.old.format (Some (Words field words.now)))) }
     {
         if !self.format.has(field) {
             return Err(ImageCause::Line);

@@ -130,36 +130,102 @@ fn first_faults(rt: HostRuntime) {
 fn first_faults_of_the_second_format(rt: HostRuntime) {
     let table = [
         // a block that can't stand, told at the line that ends it
-        (b"ga144 2\nnode 000\nstop 1\nwait write r---\nend\n".as_slice(), Some((20, 5))),
-        (b"ga144 2\nnode 000\nwait write r---\nend\n".as_slice(), Some((20, 4))),
-        (b"ga144 2\nnode 000\nstop 1\nwait write r---\n".as_slice(), Some((17, 5))),
-        (b"ga144 2\nnode 000\nstop 1\nwait write r---\nnode 999\n".as_slice(), Some((20, 5))),
-        (b"ga144 2\nnode 000\nstop 1\nwait write r---\nnode 99\n".as_slice(), Some((12, 5))),
-        (b"ga144 2\nnode 000\nwait fetch r---\nslot 3\nend".as_slice(), Some((20, 5))),
+        (
+            b"ga144 2\nnode 000\nstop 1\nwait write r---\nend\n".as_slice(),
+            Some((20, 5)),
+        ),
+        (
+            b"ga144 2\nnode 000\nwait write r---\nend\n".as_slice(),
+            Some((20, 4)),
+        ),
+        (
+            b"ga144 2\nnode 000\nstop 1\nwait write r---\n".as_slice(),
+            Some((17, 5)),
+        ),
+        (
+            b"ga144 2\nnode 000\nstop 1\nwait write r---\nnode 999\n".as_slice(),
+            Some((20, 5)),
+        ),
+        (
+            b"ga144 2\nnode 000\nstop 1\nwait write r---\nnode 99\n".as_slice(),
+            Some((12, 5)),
+        ),
+        (
+            b"ga144 2\nnode 000\nwait fetch r---\nslot 3\nend".as_slice(),
+            Some((20, 5)),
+        ),
         (b"ga144 2\nnode 000\nwait fetch rdlu\nend".as_slice(), None),
-        (b"ga144 2\nnode 000\nslot 0\nwait read --l-\nend".as_slice(), None),
-        (b"ga144 2\nnode 000\nslot 3\nwait write ---u\nnode 001\nstop 3\nend".as_slice(), None),
+        (
+            b"ga144 2\nnode 000\nslot 0\nwait read --l-\nend".as_slice(),
+            None,
+        ),
+        (
+            b"ga144 2\nnode 000\nslot 3\nwait write ---u\nnode 001\nstop 3\nend".as_slice(),
+            None,
+        ),
         // forms
-        (b"ga144 2\nnode 000\nwait write rd--\nend\n".as_slice(), Some((12, 3))),
-        (b"ga144 2\nnode 000\nwait read ----\nend\n".as_slice(), Some((12, 3))),
-        (b"ga144 2\nnode 000\nwait read R---\nend\n".as_slice(), Some((12, 3))),
-        (b"ga144 2\nnode 000\nwait read dr--\nend\n".as_slice(), Some((12, 3))),
-        (b"ga144 2\nnode 000\nslot 5\nend\n".as_slice(), Some((12, 3))),
-        (b"ga144 2\nnode 000\ncarry 2\nend\n".as_slice(), Some((12, 3))),
-        (b"ga144 2\nnode 000\nstop 0\nend\n".as_slice(), Some((12, 3))),
-        (b"ga144 2\nnode 000\nstop 4\nend\n".as_slice(), Some((12, 3))),
-        (b"ga144 2\nnode 000\nd 000001\nend\n".as_slice(), Some((12, 3))),
+        (
+            b"ga144 2\nnode 000\nwait write rd--\nend\n".as_slice(),
+            Some((12, 3)),
+        ),
+        (
+            b"ga144 2\nnode 000\nwait read ----\nend\n".as_slice(),
+            Some((12, 3)),
+        ),
+        (
+            b"ga144 2\nnode 000\nwait read R---\nend\n".as_slice(),
+            Some((12, 3)),
+        ),
+        (
+            b"ga144 2\nnode 000\nwait read dr--\nend\n".as_slice(),
+            Some((12, 3)),
+        ),
+        (
+            b"ga144 2\nnode 000\nslot 5\nend\n".as_slice(),
+            Some((12, 3)),
+        ),
+        (
+            b"ga144 2\nnode 000\ncarry 2\nend\n".as_slice(),
+            Some((12, 3)),
+        ),
+        (
+            b"ga144 2\nnode 000\nstop 0\nend\n".as_slice(),
+            Some((12, 3)),
+        ),
+        (
+            b"ga144 2\nnode 000\nstop 4\nend\n".as_slice(),
+            Some((12, 3)),
+        ),
+        (
+            b"ga144 2\nnode 000\nd 000001\nend\n".as_slice(),
+            Some((12, 3)),
+        ),
         // great words, and what was given before
-        (b"ga144 2\nnode 000\ni 040000\nend\n".as_slice(), Some((14, 3))),
-        (b"ga144 2\nnode 000\nio 03ffff\nio 000000\nend\n".as_slice(), Some((15, 4))),
-        (b"ga144 2\nnode 000\nslot 1\nwait read r---\nwait fetch r---\nend\n".as_slice(), Some((15, 5))),
+        (
+            b"ga144 2\nnode 000\ni 040000\nend\n".as_slice(),
+            Some((14, 3)),
+        ),
+        (
+            b"ga144 2\nnode 000\nio 03ffff\nio 000000\nend\n".as_slice(),
+            Some((15, 4)),
+        ),
+        (
+            b"ga144 2\nnode 000\nslot 1\nwait read r---\nwait fetch r---\nend\n".as_slice(),
+            Some((15, 5)),
+        ),
         (
             b"ga144 2\nnode 000\nr 000001 000002 000003 000004 000005 000006 000007 000008 040000\nend\n".as_slice(),
             Some((14, 3)),
         ),
         // the first format has none of these lines
-        (b"ga144 1\nnode 000\nslot 0\nend\n".as_slice(), Some((12, 3))),
-        (b"ga144 1\nnode 000\nio 000000\nend\n".as_slice(), Some((12, 3))),
+        (
+            b"ga144 1\nnode 000\nslot 0\nend\n".as_slice(),
+            Some((12, 3)),
+        ),
+        (
+            b"ga144 1\nnode 000\nio 000000\nend\n".as_slice(),
+            Some((12, 3)),
+        ),
     ];
     for (text, wanted) in table {
         assert_eq!(rt; refusal(rt.alloc(), text), wanted, "at {text:?}");
@@ -370,11 +436,25 @@ fn given_states(rt: HostRuntime) -> Result<(), Fail> {
         assert_eq!(rt; first.get(place), value, "at {place:?}");
     }
     let second = chip.node(NodeId::from_yxx(1).ok_or("no node")?);
-    for (place, value) in [(Place::Carry, 1), (Place::Io, 7), (Place::Wait, 0), (Place::Stop, 2), (Place::Slot, 4)] {
+    for (place, value) in [
+        (Place::Carry, 1),
+        (Place::Io, 7),
+        (Place::Wait, 0),
+        (Place::Stop, 2),
+        (Place::Slot, 4),
+    ] {
         assert_eq!(rt; second.get(place), value, "at {place:?}");
     }
     let stacks = [
-        (0x2a, 1), (1, 2), (2, 3), (3, 4), (4, 5), (5, 6), (6, 7), (7, 8), (8, 0x3ffff),
+        (0x2a, 1),
+        (1, 2),
+        (2, 3),
+        (3, 4),
+        (4, 5),
+        (5, 6),
+        (6, 7),
+        (7, 8),
+        (8, 0x3ffff),
     ];
     for (k, (data, returns)) in stacks.iter().enumerate() {
         assert_eq!(rt; first.d(k as u8), *data, "at {k}");

@@ -1,4 +1,4 @@
-use Rattle.std.proofs.Common.{◌≡◌, List, ℕ, Some, sym, ◌∙◌, ap, subst, arith}
+use Rattle.std.proofs.Common.{◌≡◌, Some, sym, ◌∙◌, ap, subst, arith}
 use Rattle.ga_image.specs.Forms.{form, form_of}
 use Rattle.ga_image.specs.Spelling.{Words, AreCodes}
 use Rattle.ga_image.proofs.Spellings.{form_spelled, codes_spelled}
