@@ -2,30 +2,30 @@
 use Rattle.std.specs.Bool.{Decides}
 use Rattle.std.specs.Prelude.{nat_lt, nat_eq, ◌==◌, ◌-◌}
 use Rattle.std.specs.List.{AllByRecursion}
-use Rattle.std.proofs.Common.{◌≡◌, ◌≢◌, ℕ, ◌+◌, ◌<◌, ◌≤◌, ◌⊎◌, inl, inr, Bool, true, false, cond, ◌||◌, List, [], ◌∷◌, ◌++◌, length, get_or, set, Option, Some, None, refl, sym, ◌∙◌, ap, subst, arith, length-set, replicate}
-use Rattle.std.proofs.lemmas.Bool.{ne_eqb, eqb-true}
+use Rattle.std.proofs.Common.{◌≡◌, ◌≢◌, ℕ, ◌+◌, ◌<◌, ◌⊎◌, inl, inr, Bool, true, false, cond, ◌||◌, List, [], ◌∷◌, ◌++◌, length, get_or, set, Option, Some, None, refl, sym, ◌∙◌, ap, subst, arith, length-set}
+use Rattle.std.proofs.lemmas.Bool.{eqb-true}
 use Rattle.std.proofs.lemmas.Bool.Decides.{nat_tests, Decides-or, Decides-like, Decides-at, eqb_tells}
-use Rattle.std.proofs.lemmas.List.{get_or-set_same, get_or-set_other}
-use Rattle.std.proofs.lemmas.Slice.Eq.{bytes_eq-Decides}
+use Rattle.std.proofs.lemmas.List.{append-nil, get_or-set_same, get_or-set_other}
 use Rattle.ga_grid.specs.Grid.{node_of, yxx_of}
 use Rattle.ga_image.specs.declared.fault.ImageCause.TheVariants as cause
 use Rattle.ga_image.specs.declared.field.Field.{Field}
-use Rattle.ga_image.specs.declared.field.Field.TheVariants.{A, B, P, Ram, Rom}
-use Rattle.ga_image.specs.Fields.{HasCell, writes, number_of, goes_past, repeats}
+use Rattle.ga_image.specs.declared.field.Field.TheVariants.{A, B, P, I, Io, Carry, Slot, Wait, Stop, Data, Return, Ram, Rom}
+use Rattle.ga_image.specs.declared.held.Held.{Held}
+use Rattle.ga_image.specs.Fields.{HasCell, writes, number_of, goes_past}
 use Rattle.ga_image.specs.Spelling.{Form, Node, Words, End, Spells}
-use Rattle.ga_image.specs.Forms.{form}
-use Rattle.ga_image.specs.Grammar.{header}
+use Rattle.ga_image.specs.Held.{runs, held_after}
+use Rattle.ga_image.specs.Grammar.{header, format_of, all_writes}
 use Rattle.ga_image.specs.Progress.{Progress, Stage}
 use Rattle.ga_image.specs.Progress as stage
-use Rattle.ga_image.specs.Reading.{fault_of, line_fault, later_fault, is_misplaced, is_header, after_line, after_form, with_writes, with_block, nothing_given, start}
-use Rattle.ga_image.specs.FirstFault.{OneOf, IsEnd, BeginsBlockOf, BeginsBlock, GivesField, WasGiven}
-use Rattle.ga_image.proofs.Spellings.{form_spelled}
+use Rattle.ga_image.specs.Reading.{fault_of, line_fault, later_fault, form_in, is_misplaced, is_header, after_line, after_form, with_writes, with_block, nothing_given, start}
+use Rattle.ga_image.specs.FirstFault.{SpellFields, GivesLines, format_in, OneOf, IsEnd, BeginsBlockOf, BeginsBlock, GivesField, WasGiven}
+use Rattle.ga_image.proofs.Spellings.{kept_spelled}
 use Rattle.ga_image.proofs.Flags.{none_flagged}
 use Rattle.ga_image.proofs.Meanings.{marked, in_memory, line_later, past_later, short_past}
-use Rattle.ga_image.proofs.Found.{not_short, neither, some_form, node_ok, field_ok, yxx_of_node}
+use Rattle.ga_image.proofs.Found.{not_short, neither, some_form, node_ok, field_ok, yxx_of_node, held-append, header_named}
 use Rattle.ga_image.proofs.Accepted.{all_written}
-use Rattle.ga_image.proofs.Room.{IsSized, length-marked, past_start}
-use Rattle.ga_image.proofs.Causes.{IsAfter, StandsAt, one_form, node_no_words, node_no_end, end_no_words, header_formless, each_has_cell, in_block}
+use Rattle.ga_image.proofs.Room.{length-marked, past_start}
+use Rattle.ga_image.proofs.Causes.{IsAfter, StandsAt, later, one_form, node_no_words, node_no_end, end_no_words, header_formless, each_has_cell, in_block}
 
 -- ---- one line more
 
@@ -69,36 +69,65 @@ some_more (first ∷ before) line = λ e. cc
 
 -- ---- fields by their numbers
 
+register_at : ℕ → Field
+register_at n =
+    cond (n == 0) A (cond (n == 1) B (cond (n == 2) P (cond (n == 3) I (cond (n == 4) Io (cond (n == 5) Carry (cond (n == 6) Slot (cond (n == 7) Wait Stop)))))))
+
 field_at : ℕ → Field
-field_at n = cond (n == 0) A (cond (n == 1) B (cond (n == 2) P (cond (nat_lt n 67) (Ram (n - 3)) (Rom (n - 67)))))
+field_at n = cond (nat_lt n 9) (register_at n) (cond (nat_lt n 19) (Data (n - 9)) (cond (nat_lt n 28) (Return (n - 19)) (cond (nat_lt n 92) (Ram (n - 28)) (Rom (n - 92)))))
 
 named : (field : Field) → HasCell field → field_at (number_of field) ≡ field
-unfolding field_at
+unfolding field_at register_at
 named A cell = refl
 named B cell = refl
 named P cell = refl
+named I cell = refl
+named Io cell = refl
+named Carry cell = refl
+named Slot cell = refl
+named Wait cell = refl
+named Stop cell = refl
+named (Data c) cell =
+    let t9 : nat_lt (9 + c) 9 ≡ false = grind (arith, nat_tests) in
+    let t19 : nat_lt (9 + c) 19 ≡ true = grind (arith, nat_tests) in
+    let same : 9 + c - 9 ≡ c = omega arith in
+    rw (t9, t19, same) refl
+named (Return c) cell =
+    let t9 : nat_lt (19 + c) 9 ≡ false = grind (arith, nat_tests) in
+    let t19 : nat_lt (19 + c) 19 ≡ false = grind (arith, nat_tests) in
+    let t28 : nat_lt (19 + c) 28 ≡ true = grind (arith, nat_tests) in
+    let same : 19 + c - 19 ≡ c = omega arith in
+    rw (t9, t19, t28, same) refl
 named (Ram c) cell =
-    let zero : (3 + c == 0) ≡ false = ne_eqb (3 + c) 0 (omega arith) in
-    let one : (3 + c == 1) ≡ false = ne_eqb (3 + c) 1 (omega arith) in
-    let two : (3 + c == 2) ≡ false = ne_eqb (3 + c) 2 (omega arith) in
-    let less : nat_lt (3 + c) 67 ≡ true = grind (arith, nat_tests) in
-    let same : 3 + c - 3 ≡ c = omega arith in
-    rw (zero, one, two, less, same) refl
+    let t9 : nat_lt (28 + c) 9 ≡ false = grind (arith, nat_tests) in
+    let t19 : nat_lt (28 + c) 19 ≡ false = grind (arith, nat_tests) in
+    let t28 : nat_lt (28 + c) 28 ≡ false = grind (arith, nat_tests) in
+    let t92 : nat_lt (28 + c) 92 ≡ true = grind (arith, nat_tests) in
+    let same : 28 + c - 28 ≡ c = omega arith in
+    rw (t9, t19, t28, t92, same) refl
 named (Rom c) cell =
-    let zero : (67 + c == 0) ≡ false = ne_eqb (67 + c) 0 (omega arith) in
-    let one : (67 + c == 1) ≡ false = ne_eqb (67 + c) 1 (omega arith) in
-    let two : (67 + c == 2) ≡ false = ne_eqb (67 + c) 2 (omega arith) in
-    let less : nat_lt (67 + c) 67 ≡ false = grind (arith, nat_tests) in
-    let same : 67 + c - 67 ≡ c = omega arith in
-    rw (zero, one, two, less, same) refl
+    let t9 : nat_lt (92 + c) 9 ≡ false = grind (arith, nat_tests) in
+    let t19 : nat_lt (92 + c) 19 ≡ false = grind (arith, nat_tests) in
+    let t28 : nat_lt (92 + c) 28 ≡ false = grind (arith, nat_tests) in
+    let t92 : nat_lt (92 + c) 92 ≡ false = grind (arith, nat_tests) in
+    let same : 92 + c - 92 ≡ c = omega arith in
+    rw (t9, t19, t28, t92, same) refl
 
 same_field : (f g : Field) → HasCell f → HasCell g → number_of f ≡ number_of g → f ≡ g
 same_field f g first second same = sym (named f first) ∙ ap field_at same ∙ named g second
 
-number_below : (field : Field) → HasCell field → number_of field < 131
+number_below : (field : Field) → HasCell field → number_of field < 156
 number_below A cell = omega arith
 number_below B cell = omega arith
 number_below P cell = omega arith
+number_below I cell = omega arith
+number_below Io cell = omega arith
+number_below Carry cell = omega arith
+number_below Slot cell = omega arith
+number_below Wait cell = omega arith
+number_below Stop cell = omega arith
+number_below (Data k) cell = omega arith
+number_below (Return k) cell = omega arith
 number_below (Ram c) cell = omega arith
 number_below (Rom c) cell = omega arith
 
@@ -118,7 +147,7 @@ or_assoc true y z = refl
 or_assoc false y z = refl
 
 -- what is marked is what was marked, and these
-marked_or : (given : List Bool) (n : ℕ) (ws : List (Field × ℕ)) → length given ≡ 131 → AllByRecursion (λ w. HasCell w.0) ws → get_or (marked given ws) n false ≡ (get_or given n false || any_numbered n ws)
+marked_or : (given : List Bool) (n : ℕ) (ws : List (Field × ℕ)) → length given ≡ 156 → AllByRecursion (λ w. HasCell w.0) ws → get_or (marked given ws) n false ≡ (get_or given n false || any_numbered n ws)
 marked_or given n [] size cells = either false (get_or given n false) (get_or given n false) (λ e. cc) (λ e. refl)
 marked_or given n (w ∷ ws) size cells =
     let rest = marked_or (set given (number_of w.0) true) n ws (length-set given (number_of w.0) true ∙ size) cells.1 in
@@ -157,17 +186,50 @@ blocks_kept progress before line after other yxx n is =
     Decides-like (get_or progress.blocks n false) (one_front (BeginsBlockOf yxx) before line)
     (λ some. elim (one_split (BeginsBlockOf yxx) before line some) [ inl front ↦ front | inr last ↦ absurd (other yxx last) ]) (after.blocks yxx n is)
 
-after_end : (progress : Progress) (before : List (List ℕ)) (line : List ℕ) → IsAfter progress before → Spells line End → IsAfter (record progress { stage = stage.Ended }) (before ++ line ∷ [])
-after_end progress before line after end = record {
+-- the format is that of the first line
+format_more : (before : List (List ℕ)) (line : List ℕ) → before ≢ [] → format_in before ≡ format_in (before ++ line ∷ [])
+format_more [] line some = absurd (some refl)
+format_more (first ∷ before) line some = refl
+
+format_kept : (progress : Progress) (before : List (List ℕ)) (line : List ℕ) → IsAfter progress before → progress.stage ≢ stage.Header → progress.format ≡ format_in (before ++ line ∷ [])
+format_kept progress before line after behind =
+    let some = later progress.stage before behind after.stands in after.format some ∙ format_more before line some
+
+fields_more : (lines : List (List ℕ)) (line : List ℕ) (field_lines : List (Field × List ℕ)) (field : Field) (words : List ℕ) → SpellFields lines field_lines → Spells line (Words field words) → SpellFields (lines ++ line ∷ []) (field_lines ++ (field, words) ∷ [])
+fields_more [] line [] field words each last = (last, tt)
+fields_more [] line (f ∷ fs) field words each last = absurd each
+fields_more (first ∷ lines) line [] field words each last = absurd each
+fields_more (first ∷ lines) line (f ∷ fs) field words each last = (each.0, fields_more lines line fs field words each.1 last)
+
+lines_more : (before : List (List ℕ)) (line : List ℕ) (field_lines : List (Field × List ℕ)) (field : Field) (words : List ℕ) → GivesLines before field_lines → Spells line (Words field words) → GivesLines (before ++ line ∷ []) (field_lines ++ (field, words) ∷ [])
+lines_more [] line field_lines field words none last = absurd none
+lines_more (first ∷ before) line field_lines field words (inl later) last = inl (lines_more before line field_lines field words later last)
+lines_more (first ∷ before) line field_lines field words (inr here) last = inr (here.0, fields_more before line field_lines field words here.1 last)
+
+lines_begun : (before : List (List ℕ)) (line : List ℕ) → BeginsBlock line → GivesLines (before ++ line ∷ []) []
+lines_begun [] line begins = inr (begins, tt)
+lines_begun (first ∷ before) line begins = inl (lines_begun before line begins)
+
+held_more : (held : Held) (field_lines : List (Field × List ℕ)) (field : Field) (words : List ℕ) → held_after (held_after held (all_writes field_lines)) (writes field words) ≡ held_after held (all_writes (field_lines ++ (field, words) ∷ []))
+held_more held [] field words = ap (held_after held) (sym (append-nil (writes field words)))
+held_more held (f ∷ fs) field words =
+    ap (λ h. held_after h (writes field words)) (held-append held (writes f.0 f.1) (all_writes fs))
+    ∙ held_more (held_after held (writes f.0 f.1)) fs field words
+    ∙ sym (held-append held (writes f.0 f.1) (all_writes (fs ++ (field, words) ∷ [])))
+
+after_end : (progress : Progress) (before : List (List ℕ)) (line : List ℕ) → IsAfter progress before → progress.stage ≢ stage.Header → Spells line End → IsAfter (record progress { stage = stage.Ended }) (before ++ line ∷ [])
+after_end progress before line after behind end = record {
   stands = (some_more before line, one_last IsEnd before line end);
   sized = record { blocks = after.sized.blocks; given = after.sized.given };
   blocks = blocks_kept progress before line after (λ yxx begins. node_no_end line yxx begins end);
   given = λ node e. absurd (let never : stage.Ended ≡ stage.Block node = e in let clash : true ≡ false = cc in cc);
+  format = λ some. format_kept progress before line after behind;
+  held = λ node e. absurd (let never : stage.Ended ≡ stage.Block node = e in let clash : true ≡ false = cc in cc);
 }
 
-after_header : (progress : Progress) (before : List (List ℕ)) (line : List ℕ) → IsAfter progress before → progress.stage ≡ stage.Header → line ≡ header → IsAfter (record progress { stage = stage.Open }) (before ++ line ∷ [])
+after_header : (progress : Progress) (before : List (List ℕ)) (line : List ℕ) → IsAfter progress before → progress.stage ≡ stage.Header → line ≡ header (format_of line) → IsAfter (record progress { format = format_of line; stage = stage.Open }) (before ++ line ∷ [])
 after_header progress before line after is first =
-    let formless = header_formless line first in
+    let formless = header_formless line (format_of line) first in
     let none : before ≡ [] = let Q : Stage → Type 0 = λ st. StandsAt st before in subst Q is after.stands in
     let no_line : (Holds : List ℕ → Type 0) → ¬ OneOf Holds before = λ Holds some. let Q : List (List ℕ) → Type 0 = OneOf Holds in absurd (subst Q none some) in
     record {
@@ -179,6 +241,8 @@ after_header progress before line after is first =
       sized = record { blocks = after.sized.blocks; given = after.sized.given };
       blocks = blocks_kept progress before line after (λ yxx begins. formless (Node yxx) begins);
       given = λ node e. absurd (let never : stage.Open ≡ stage.Block node = e in let clash : true ≡ false = cc in cc);
+      format = λ some. ap (λ (b : List (List ℕ)). format_in (b ++ line ∷ [])) (sym none);
+      held = λ node e. absurd (let never : stage.Open ≡ stage.Block node = e in let clash : true ≡ false = cc in cc);
     }
 
 in_node : (y n m k : ℕ) → node_of y ≡ Some n → node_of m ≡ Some k → n ≡ k → y ≡ m
@@ -187,7 +251,7 @@ in_node y n m k first second same =
 
 after_node : (progress : Progress) (before : List (List ℕ)) (line : List ℕ) (y n : ℕ) → IsAfter progress before → Spells line (Node y) → progress.stage ≢ stage.Header
     → is_misplaced progress.stage (Some (Node y)) ≡ false → node_of y ≡ Some n
-    → IsAfter (record progress { stage = stage.Block n; blocks = set progress.blocks n true; given = nothing_given }) (before ++ line ∷ [])
+    → IsAfter (record progress { stage = stage.Block n; blocks = set progress.blocks n true; given = nothing_given; held = runs }) (before ++ line ∷ [])
 after_node progress before line y n after spelled behind placed is =
     let within : n < length progress.blocks = let small = (yxx_of_node y n is).1 in omega (arith, after.sized.blocks) in
     record {
@@ -197,6 +261,8 @@ after_node progress before line y n after spelled behind placed is =
         one_last BeginsBlock before line (y, spelled),
       );
       sized = record { blocks = length-set progress.blocks n true ∙ after.sized.blocks; given = refl };
+      format = λ some. format_kept progress before line after behind;
+      held = λ node e. ([], lines_begun before line (y, spelled), refl);
       blocks = λ m k names. elim (eqb_tells n k) [
         | inl same ↦
             let number : y ≡ m = in_node y n m k is names same.1 in (
@@ -216,7 +282,7 @@ after_node progress before line y n after spelled behind placed is =
             ])
             (after.blocks m k names))
       ];
-      given = λ node e field cell. Decides-at _ _ (none_flagged 131 (number_of field)) (
+      given = λ node e field cell. Decides-at _ _ (none_flagged 156 (number_of field)) (
         λ never. cc,
         λ was. elim (given_split before line field was) [
           | inl front ↦ absurd (front.0 (y, spelled))
@@ -238,6 +304,13 @@ after_words progress before line node field words after spelled is inside =
     subst (λ (p : Progress). IsAfter p (before ++ line ∷ [])) (sym (all_written progress ws)) (record {
       stands = stands;
       sized = record { blocks = after.sized.blocks; given = length-marked progress.given ws ∙ after.sized.given };
+      format = λ some. format_kept progress before line after (rw is (λ e. cc));
+      held = λ n at.
+          let was = after.held n at in (
+            was.0 ++ (field, words) ∷ [],
+            lines_more before line was.0 field words was.1 spelled,
+            ap (λ h. held_after h ws) was.2 ∙ held_more runs was.0 field words,
+          );
       blocks = blocks_kept progress before line after (λ yxx begins. no_node (yxx, begins));
       given = λ other e g cell.
           Decides-at _ _ (marked_or progress.given (number_of g) ws after.sized.given cells)
@@ -258,7 +331,7 @@ after_words progress before line node field words after spelled is inside =
 
 after_form_of : (progress : Progress) (before : List (List ℕ)) (line : List ℕ) (f : Form) → IsAfter progress before → Spells line f → progress.stage ≢ stage.Header
     → later_fault progress (Some f) ≡ None → IsAfter (after_form progress (Some f)) (before ++ line ∷ [])
-after_form_of progress before line End after spelled behind none = after_end progress before line after spelled
+after_form_of progress before line End after spelled behind none = after_end progress before line after behind spelled
 after_form_of progress before line (Node y) after spelled behind none =
     let ok = node_ok progress y none in
     let placed = (neither (is_misplaced progress.stage (Some (Node y))) _ _ none).0 in
@@ -275,8 +348,8 @@ known stage.Open = inr (λ e. cc)
 known (stage.Block node) = inr (λ e. cc)
 known stage.Ended = inr (λ e. cc)
 
-header_line : (st : Stage) (progress : Progress) (line : List ℕ) → st ≡ stage.Header → line_fault st progress line ≡ None → line ≡ header
-header_line stage.Header progress line is none = (bytes_eq-Decides line header).0 (accepted (is_header line) none) where
+header_line : (st : Stage) (progress : Progress) (line : List ℕ) → st ≡ stage.Header → line_fault st progress line ≡ None → line ≡ header (format_of line)
+header_line stage.Header progress line is none = header_named line (accepted (is_header line) none) where
   accepted : (b : Bool) → cond b None (Some cause.Header) ≡ None → b ≡ true
   accepted true e = refl
   accepted false e = cc
@@ -291,12 +364,12 @@ after_one progress before line after none =
     elim (known progress.stage) [
       | inl is ↦ subst Q (sym (past_start progress line is)) (after_header progress before line after is (header_line progress.stage progress line is (not_short progress line none)))
       | inr later ↦
-          let none_later : later_fault progress (form line) ≡ None = sym (line_later progress.stage progress line later) ∙ not_short progress line none in
-          let placed = neither (is_misplaced progress.stage (form line)) _ _ none_later in
-          let meaning = some_form progress.stage (form line) later placed.0 in
+          let none_later : later_fault progress (form_in progress.format line) ≡ None = sym (line_later progress.stage progress line later) ∙ not_short progress line none in
+          let placed = neither (is_misplaced progress.stage (form_in progress.format line)) _ _ none_later in
+          let meaning = some_form progress.stage (form_in progress.format line) later placed.0 in
           let fault : later_fault progress (Some meaning.0) ≡ None = ap (later_fault progress) (sym meaning.1) ∙ none_later in
           let past : after_line progress line ≡ after_form progress (Some meaning.0) = short_past progress line ∙ past_later progress.stage progress line later ∙ ap (after_form progress) meaning.1 in
-          subst Q (sym past) (after_form_of progress before line meaning.0 after (form_spelled line meaning.0 meaning.1) later fault)
+          subst Q (sym past) (after_form_of progress before line meaning.0 after (kept_spelled progress.format line meaning.0 meaning.1).0 later fault)
     ]
 
 -- before the first line
@@ -307,4 +380,6 @@ after_none = record {
   sized = record { blocks = refl; given = refl };
   blocks = λ yxx n is. Decides-at _ _ (none_flagged 144 n) (λ never. cc, λ none. absurd none);
   given = λ node e. absurd (let never : stage.Header ≡ stage.Block node = e in let clash : true ≡ false = cc in cc);
+  format = λ some. absurd (some refl);
+  held = λ node e. absurd (let never : stage.Header ≡ stage.Block node = e in let clash : true ≡ false = cc in cc);
 }

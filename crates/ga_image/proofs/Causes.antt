@@ -1,29 +1,34 @@
 -- What a test finds wrong with a line is the first of its causes.
 use Rattle.std.specs.Bool.{Decides}
 use Rattle.std.specs.Prelude.{nat_lt, nat_eq, is_none}
-use Rattle.std.specs.Cmp.Lexicographic.{pointwise}
 use Rattle.std.specs.List.{AllByRecursion, IsDistinct, list_any}
-use Rattle.std.proofs.Common.{◌≡◌, ◌≢◌, ℕ, zero, suc, ◌+◌, ◌<◌, ◌≤◌, ◌⊎◌, inl, inr, Bool, true, false, cond, ◌||◌, List, [], ◌∷◌, ◌++◌, length, map, get_or, set, Option, Some, None, refl, sym, ◌∙◌, ap, subst, arith}
-use Rattle.std.proofs.lemmas.Bool.Decides.{nat_tests, not_from_Decides, Decides-or, Decides-ltb}
+use Rattle.std.proofs.Common.{◌≡◌, ◌≢◌, ℕ, ◌+◌, ◌<◌, ◌⊎◌, inl, inr, Bool, true, false, cond, ◌||◌, List, [], ◌∷◌, length, get_or, Option, Some, None, refl, sym, ◌∙◌, ap, subst, arith}
+use Rattle.std.proofs.lemmas.Bool.Decides.{not_from_Decides, Decides-or, Decides-ltb}
 use Rattle.std.proofs.lemmas.Bool.{ne_eqb}
 use Rattle.std.proofs.lemmas.Slice.Eq.{bytes_eq-Decides}
 use Rattle.ga_grid.specs.Grid.{node_of}
 use Rattle.ga_image.specs.declared.fault.ImageCause.{ImageCause}
 use Rattle.ga_image.specs.declared.fault.ImageCause.TheVariants as cause
 use Rattle.ga_image.specs.declared.field.Field.{Field}
-use Rattle.ga_image.specs.declared.field.Field.TheVariants.{A, B, P, Ram, Rom}
+use Rattle.ga_image.specs.declared.field.Field.TheVariants.{A, B, P, I, Io, Carry, Slot, Wait, Stop, Data, Return, Ram, Rom}
+use Rattle.ga_image.specs.declared.field.Format.{Format}
+use Rattle.ga_image.specs.declared.field.Format.TheVariants.{One, Two}
+use Rattle.ga_image.specs.declared.held.Held.{Held}
 use Rattle.ga_image.specs.Fields.{HasCell, writes, next_field, number_of, greatest, goes_past, is_too_great, repeats}
-use Rattle.ga_image.specs.Spelling.{Form, Node, Words, End, Spells, SpellsWords, HasCount}
-use Rattle.ga_image.specs.Forms.{form}
-use Rattle.ga_image.specs.Grammar.{header, Fits}
+use Rattle.ga_image.specs.Spelling.{Form, Node, Words, End, Spells, HasCount}
+use Rattle.ga_image.specs.Forms.{form, state_form, wide_form}
+use Rattle.ga_image.specs.Held.{runs, held_after, is_unsteady}
+use Rattle.ga_image.specs.Lines.{longest}
+use Rattle.ga_image.specs.Grammar.{header, names, Fits, all_writes}
 use Rattle.ga_image.specs.Progress.{Progress, Stage}
 use Rattle.ga_image.specs.Progress as stage
-use Rattle.ga_image.specs.Reading.{fault_of, line_fault, later_fault, form_fault, node_fault, words_fault, is_misplaced, is_header, has_block}
-use Rattle.ga_image.specs.FirstFault.{OneOf, IsEnd, BeginsBlockOf, BeginsBlock, GivesField, WasGiven, HasNoForm, IsNoLine, NamesNoNode, GivesNoCell, GivesGreatWord, RepeatsNode, RepeatsField, HasCause, causes, IsFirstCause, HasNone}
-use Rattle.ga_image.proofs.Spellings.{form_spelled, form_read}
-use Rattle.ga_image.proofs.Flags.{seen_twice, AreFree, AreBelow, apart_once, once_apart, or_false}
+use Rattle.ga_image.specs.Reading.{fault_of, line_fault, later_fault, form_fault, node_fault, words_fault, is_misplaced, ends_unsteady, form_in, is_header, has_block}
+use Rattle.ga_image.specs.FirstFault.{SpellFields, GivesLines, format_in, EndsUnsteady, OneOf, IsEnd, BeginsBlockOf, BeginsBlock, WasGiven, HasNoForm, IsNoLine, NamesNoNode, GivesNoCell, GivesGreatWord, RepeatsNode, RepeatsField, HasCause, causes, IsFirstCause, HasNone}
+use Rattle.ga_image.proofs.Short.{count_spelled}
+use Rattle.ga_image.proofs.Spellings.{form_read, kept_spelled, kept_read}
+use Rattle.ga_image.proofs.Flags.{AreFree, AreBelow, apart_once, once_apart, or_false}
 use Rattle.ga_image.proofs.Meanings.{in_memory}
-use Rattle.ga_image.proofs.Found.{some_form, within}
+use Rattle.ga_image.proofs.Found.{some_form, within, header_named}
 use Rattle.ga_image.proofs.Accepted.{numbers, repeats_numbers, field_below}
 use Rattle.ga_image.proofs.Writes.{has_cell, next_fits}
 use Rattle.ga_image.proofs.Room.{IsSized}
@@ -45,8 +50,11 @@ after_place = cause.Word ∷ after_word
 abbrev after_node : List ImageCause
 after_node = cause.Place ∷ after_place
 
+abbrev after_state : List ImageCause
+after_state = cause.Node ∷ after_node
+
 abbrev after_line : List ImageCause
-after_line = cause.Node ∷ after_node
+after_line = cause.State ∷ after_state
 
 abbrev after_header : List ImageCause
 after_header = cause.Line ∷ after_line
@@ -81,16 +89,17 @@ end_no_words line field words end = λ is. let same : End ≡ Words field words 
 pub node_no_end : (line : List ℕ) (y : ℕ) → Spells line (Node y) → ¬ Spells line End
 node_no_end line y node = λ is. let same : Node y ≡ End = one_form line _ _ node is in let never : true ≡ false = cc in cc
 
-no_form : (line : List ℕ) → form line ≡ None → HasNoForm line
-no_form line none = λ f is. absurd (let clash : Some f ≡ None = sym (form_read line f is) ∙ none in cc)
+no_form : (format : Format) (line : List ℕ) → form_in format line ≡ None → HasNoForm format line
+no_form format line none = λ f is. absurd (let clash : Some f ≡ None = sym (kept_read format line f is) ∙ none in let never : true ≡ false = cc in cc)
 
-header_form : form header ≡ None
-unfolding form
-header_form = refl
+header_form : (format : Format) → form (header format) ≡ None
+unfolding form state_form wide_form
+header_form One = refl
+header_form Two = refl
 
--- the header has none of the forms
-pub header_formless : (line : List ℕ) → line ≡ header → HasNoForm line
-header_formless line is = no_form line (ap form is ∙ header_form)
+-- a header has none of the forms
+pub header_formless : (line : List ℕ) (format : Format) → line ≡ header format → (f : Form) → ¬ Spells line f
+header_formless line format is = λ f spelled. absurd (let clash : Some f ≡ None = sym (form_read line f spelled) ∙ ap form is ∙ header_form format in let never : true ≡ false = cc in cc)
 
 -- ---- the state behind lines
 
@@ -105,50 +114,123 @@ StandsAt stage.Ended before = (before ≢ []) × OneOf IsEnd before
 pub record IsAfter (progress : Progress) (before : List (List ℕ)) : Type 0 where
   pub stands : StandsAt progress.stage before
   pub sized : IsSized progress
+  pub format : before ≢ [] → progress.format ≡ format_in before
+  pub held : (node : ℕ) → progress.stage ≡ stage.Block node → (field_lines : List (Field × List ℕ)) × GivesLines before field_lines × (progress.held ≡ held_after runs (all_writes field_lines))
   pub blocks : (yxx n : ℕ) → node_of yxx ≡ Some n → Decides (get_or progress.blocks n false) (OneOf (BeginsBlockOf yxx) before)
   pub given : (node : ℕ) → progress.stage ≡ stage.Block node → (field : Field) → HasCell field → Decides (get_or progress.given (number_of field) false) (WasGiven before field)
 
 -- ---- a line behind the header that may not stand there
 
-later : (st : Stage) (before : List (List ℕ)) → st ≢ stage.Header → StandsAt st before → before ≢ []
+pub later : (st : Stage) (before : List (List ℕ)) → st ≢ stage.Header → StandsAt st before → before ≢ []
 later stage.Header before behind stands = absurd (behind refl)
 later stage.Open before behind stands = stands.0
 later (stage.Block node) before behind stands = stands.0
 later stage.Ended before behind stands = stands.0
 
-misplaced : (st : Stage) (found : Option Form) (before : List (List ℕ)) (line : List ℕ) → form line ≡ found → st ≢ stage.Header → StandsAt st before → Decides (is_misplaced st found) (IsNoLine before line)
-misplaced stage.Header found before line is behind stands = absurd (behind refl)
-misplaced stage.Open None before line is behind stands = (λ e. (stands.0, inl (no_form line is)), λ no. refl)
-misplaced stage.Open (Some (Node y)) before line is behind stands =
-    let spelled = form_spelled line (Node y) is in (
+misplaced : (st : Stage) (format : Format) (found : Option Form) (before : List (List ℕ)) (line : List ℕ) → format ≡ format_in before → form_in format line ≡ found → st ≢ stage.Header → StandsAt st before → Decides (is_misplaced st found) (IsNoLine before line)
+misplaced stage.Header format found before line same is behind stands = absurd (behind refl)
+misplaced stage.Open format None before line same is behind stands =
+    (λ e. (stands.0, inl (subst (λ (g : Format). HasNoForm g line) same (no_form format line is))), λ no. refl)
+misplaced stage.Open format (Some (Node y)) before line same is behind stands =
+    let spelled = kept_spelled format line (Node y) is in (
       λ e. cc,
       λ no. elim no.1 [
-        | inl formless ↦ absurd (formless (Node y) spelled)
-        | inr (inl field) ↦ absurd (node_no_words line y field.0.0 field.0.1 spelled field.0.2)
+        | inl formless ↦ absurd (subst (λ (g : Format). HasNoForm g line) (sym same) formless (Node y) spelled)
+        | inr (inl field) ↦ absurd (node_no_words line y field.0.0 field.0.1 spelled.0 field.0.2)
         | inr (inr end) ↦ absurd (stands.1 end)
       ],
     )
-misplaced stage.Open (Some (Words field words)) before line is behind stands =
-    (λ e. (stands.0, inr (inl ((field, words, form_spelled line (Words field words) is), stands.2))), λ no. refl)
-misplaced stage.Open (Some End) before line is behind stands =
-    let spelled = form_spelled line End is in (
+misplaced stage.Open format (Some (Words field words)) before line same is behind stands =
+    (λ e. (stands.0, inr (inl ((field, words, (kept_spelled format line (Words field words) is).0), stands.2))), λ no. refl)
+misplaced stage.Open format (Some End) before line same is behind stands =
+    let spelled = kept_spelled format line End is in (
       λ e. cc,
       λ no. elim no.1 [
-        | inl formless ↦ absurd (formless End spelled)
-        | inr (inl field) ↦ absurd (end_no_words line field.0.0 field.0.1 spelled field.0.2)
+        | inl formless ↦ absurd (subst (λ (g : Format). HasNoForm g line) (sym same) formless End spelled)
+        | inr (inl field) ↦ absurd (end_no_words line field.0.0 field.0.1 spelled.0 field.0.2)
         | inr (inr end) ↦ absurd (stands.1 end)
       ],
     )
-misplaced (stage.Block node) None before line is behind stands = (λ e. (stands.0, inl (no_form line is)), λ no. refl)
-misplaced (stage.Block node) (Some f) before line is behind stands = (
+misplaced (stage.Block node) format None before line same is behind stands =
+    (λ e. (stands.0, inl (subst (λ (g : Format). HasNoForm g line) same (no_form format line is))), λ no. refl)
+misplaced (stage.Block node) format (Some f) before line same is behind stands = (
   λ e. cc,
   λ no. elim no.1 [
-    | inl formless ↦ absurd (formless f (form_spelled line f is))
+    | inl formless ↦ absurd (subst (λ (g : Format). HasNoForm g line) (sym same) formless f (kept_spelled format line f is))
     | inr (inl field) ↦ absurd (field.1 stands.2)
     | inr (inr end) ↦ absurd (stands.1 end)
   ],
 )
-misplaced stage.Ended found before line is behind stands = (λ e. (stands.0, inr (inr stands.1)), λ no. refl)
+misplaced stage.Ended format found before line same is behind stands = (λ e. (stands.0, inr (inr stands.1)), λ no. refl)
+
+-- ---- a line that ends a block
+
+-- where lines give field lines of a block, one of them begins it
+lines_begin : (before : List (List ℕ)) (field_lines : List (Field × List ℕ)) → GivesLines before field_lines → OneOf BeginsBlock before
+lines_begin [] field_lines none = absurd none
+lines_begin (line ∷ before) field_lines (inl later) = inr (lines_begin before field_lines later)
+lines_begin (line ∷ before) field_lines (inr here) = inl here.0
+
+-- field lines begin no block
+fields_begin_none : (lines : List (List ℕ)) (fs gs : List (Field × List ℕ)) → SpellFields lines fs → ¬ GivesLines lines gs
+fields_begin_none [] fs gs spelled = λ none. none
+fields_begin_none (line ∷ lines) [] gs spelled = absurd spelled
+fields_begin_none (line ∷ lines) (f ∷ fs) gs spelled = λ gives. elim gives [
+  | inl later ↦ fields_begin_none lines fs gs spelled.1 later
+  | inr here ↦ node_no_words line here.0.0 f.0 f.1 here.0.1 spelled.0
+]
+
+joined : (f g : Field) (ws vs : List ℕ) (fs gs : List (Field × List ℕ)) → f ≡ g → ws ≡ vs → fs ≡ gs → (f, ws) ∷ fs ≡ (g, vs) ∷ gs
+joined f g ws vs fs gs p q r = rw (p, q, r) refl
+
+-- lines spell one list of field lines
+fields_same : (lines : List (List ℕ)) (fs gs : List (Field × List ℕ)) → SpellFields lines fs → SpellFields lines gs → fs ≡ gs
+fields_same [] [] [] first second = refl
+fields_same [] [] (g ∷ gs) first second = absurd second
+fields_same [] (f ∷ fs) gs first second = absurd first
+fields_same (line ∷ lines) [] gs first second = absurd first
+fields_same (line ∷ lines) (f ∷ fs) [] first second = absurd second
+fields_same (line ∷ lines) (f ∷ fs) (g ∷ gs) first second =
+    let rest = fields_same lines fs gs first.1 second.1 in
+    let here : Words f.0 f.1 ≡ Words g.0 g.1 = one_form line _ _ first.0 second.0 in
+    let fields : f.0 ≡ g.0 = cc in
+    let word_lists : f.1 ≡ g.1 = cc in
+    joined f.0 g.0 f.1 g.1 fs gs fields word_lists rest
+
+lines_same : (before : List (List ℕ)) (fs gs : List (Field × List ℕ)) → GivesLines before fs → GivesLines before gs → fs ≡ gs
+lines_same [] fs gs first second = absurd first
+lines_same (line ∷ before) fs gs (inl first) (inl second) = lines_same before fs gs first second
+lines_same (line ∷ before) fs gs (inl first) (inr second) = absurd (fields_begin_none before gs fs second.1 first)
+lines_same (line ∷ before) fs gs (inr first) (inl second) = absurd (fields_begin_none before fs gs first.1 second)
+lines_same (line ∷ before) fs gs (inr first) (inr second) = fields_same before fs gs first.1 second.1
+
+block_unsteady : (progress : Progress) (before : List (List ℕ)) (line : List ℕ) (node : ℕ) → IsAfter progress before → progress.stage ≡ stage.Block node → BeginsBlock line ⊎ IsEnd line
+    → Decides (is_unsteady progress.held) (EndsUnsteady before line)
+block_unsteady progress before line node after is ends =
+    let held = after.held node is in (
+      λ e. (ends, (held.0, held.1, ap is_unsteady (sym held.2) ∙ e)),
+      λ unsteady.
+          let same : unsteady.1.0 ≡ held.0 = lines_same before unsteady.1.0 held.0 unsteady.1.1 held.1 in
+          ap is_unsteady held.2 ∙ ap (λ fs. is_unsteady (held_after runs (all_writes fs))) (sym same) ∙ unsteady.1.2,
+    )
+
+-- before the first block
+open_steady : (before : List (List ℕ)) (line : List ℕ) → ¬ OneOf BeginsBlock before → Decides false (EndsUnsteady before line)
+open_steady before line none = (λ e. cc, λ unsteady. absurd (none (lines_begin before unsteady.1.0 unsteady.1.1)))
+
+end_unsteady : (st : Stage) (progress : Progress) (before : List (List ℕ)) (line : List ℕ) → IsAfter progress before → progress.stage ≡ st → StandsAt st before → is_misplaced st (Some End) ≡ false → IsEnd line
+    → Decides (ends_unsteady st progress.held (Some End)) (EndsUnsteady before line)
+end_unsteady stage.Header progress before line after is stands placed end = cc
+end_unsteady stage.Open progress before line after is stands placed end = open_steady before line stands.2
+end_unsteady (stage.Block node) progress before line after is stands placed end = block_unsteady progress before line node after is (inr end)
+end_unsteady stage.Ended progress before line after is stands placed end = cc
+
+node_unsteady : (st : Stage) (progress : Progress) (before : List (List ℕ)) (line : List ℕ) (y : ℕ) → IsAfter progress before → progress.stage ≡ st → StandsAt st before → is_misplaced st (Some (Node y)) ≡ false → Spells line (Node y)
+    → Decides (ends_unsteady st progress.held (Some (Node y))) (EndsUnsteady before line)
+node_unsteady stage.Header progress before line y after is stands placed begins = cc
+node_unsteady stage.Open progress before line y after is stands placed begins = open_steady before line stands.2
+node_unsteady (stage.Block node) progress before line y after is stands placed begins = block_unsteady progress before line node after is (inl (y, begins))
+node_unsteady stage.Ended progress before line y after is stands placed begins = cc
 
 -- ---- a line that begins a block
 
@@ -183,7 +265,7 @@ repeated_node progress before line y n after spelled is =
     )
 
 node_tells : (progress : Progress) (before : List (List ℕ)) (line : List ℕ) (y : ℕ) → IsAfter progress before → Spells line (Node y)
-    → Tells before line after_line (node_fault progress y)
+    → Tells before line after_state (node_fault progress y)
 unfolding node_fault
 node_tells progress before line y after spelled =
     tested before line cause.Node after_node (is_none (node_of y)) _ (no_node before line y spelled) (λ some.
@@ -243,20 +325,36 @@ none_below n [] above = tt
 none_below n (m ∷ ns) above = (ne_eqb n m (λ e. let less : n < m = above.0 in absurd (omega arith)), none_below n ns above.1)
 
 -- the cells of a line follow one another
-ram_rising : (low cell : ℕ) (words : List ℕ) → low < 3 + cell → AreAbove low (numbers (writes (Ram cell) words)) × IsDistinct nat_eq (numbers (writes (Ram cell) words))
+ram_rising : (low cell : ℕ) (words : List ℕ) → low < 28 + cell → AreAbove low (numbers (writes (Ram cell) words)) × IsDistinct nat_eq (numbers (writes (Ram cell) words))
 unfolding IsDistinct
 ram_rising low cell [] less = (tt, tt)
 ram_rising low cell (word ∷ words) less =
     let rest = ram_rising low (cell + 1) words (omega arith) in
-    let others = ram_rising (3 + cell) (cell + 1) words (omega arith) in
+    let others = ram_rising (28 + cell) (cell + 1) words (omega arith) in
     ((less, rest.0), (none_below _ _ others.0, others.1))
 
-rom_rising : (low cell : ℕ) (words : List ℕ) → low < 67 + cell → AreAbove low (numbers (writes (Rom cell) words)) × IsDistinct nat_eq (numbers (writes (Rom cell) words))
+rom_rising : (low cell : ℕ) (words : List ℕ) → low < 92 + cell → AreAbove low (numbers (writes (Rom cell) words)) × IsDistinct nat_eq (numbers (writes (Rom cell) words))
 unfolding IsDistinct
 rom_rising low cell [] less = (tt, tt)
 rom_rising low cell (word ∷ words) less =
     let rest = rom_rising low (cell + 1) words (omega arith) in
-    let others = rom_rising (67 + cell) (cell + 1) words (omega arith) in
+    let others = rom_rising (92 + cell) (cell + 1) words (omega arith) in
+    ((less, rest.0), (none_below _ _ others.0, others.1))
+
+data_rising : (low cell : ℕ) (words : List ℕ) → low < 9 + cell → AreAbove low (numbers (writes (Data cell) words)) × IsDistinct nat_eq (numbers (writes (Data cell) words))
+unfolding IsDistinct
+data_rising low cell [] less = (tt, tt)
+data_rising low cell (word ∷ words) less =
+    let rest = data_rising low (cell + 1) words (omega arith) in
+    let others = data_rising (9 + cell) (cell + 1) words (omega arith) in
+    ((less, rest.0), (none_below _ _ others.0, others.1))
+
+return_rising : (low cell : ℕ) (words : List ℕ) → low < 19 + cell → AreAbove low (numbers (writes (Return cell) words)) × IsDistinct nat_eq (numbers (writes (Return cell) words))
+unfolding IsDistinct
+return_rising low cell [] less = (tt, tt)
+return_rising low cell (word ∷ words) less =
+    let rest = return_rising low (cell + 1) words (omega arith) in
+    let others = return_rising (19 + cell) (cell + 1) words (omega arith) in
     ((less, rest.0), (none_below _ _ others.0, others.1))
 
 single : (field : Field) (words : List ℕ) → length words ≡ 1 → IsDistinct nat_eq (numbers (writes field words))
@@ -270,6 +368,14 @@ pub once_each : (field : Field) (words : List ℕ) → HasCount field (length wo
 once_each A words count = single A words count
 once_each B words count = single B words count
 once_each P words count = single P words count
+once_each I words count = single I words count
+once_each Io words count = single Io words count
+once_each Carry words count = single Carry words count
+once_each Slot words count = single Slot words count
+once_each Wait words count = single Wait words count
+once_each Stop words count = single Stop words count
+once_each (Data k) words count = (data_rising 0 k words (omega arith)).1
+once_each (Return k) words count = (return_rising 0 k words (omega arith)).1
 once_each (Ram cell) words count = (ram_rising 0 cell words (omega arith)).1
 once_each (Rom cell) words count = (rom_rising 0 cell words (omega arith)).1
 
@@ -293,7 +399,7 @@ split_bool false true p q = sym (p refl)
 split_bool false false p q = refl
 
 -- a line repeats a field where one of its fields is marked
-pub repeats_marked : (given : List Bool) (field : Field) (words : List ℕ) → length given ≡ 131 → Fits field (length words) → HasCount field (length words)
+pub repeats_marked : (given : List Bool) (field : Field) (words : List ℕ) → length given ≡ 156 → Fits field (length words) → HasCount field (length words)
     → repeats given (writes field words) ≡ any_marked given (writes field words)
 repeats_marked given field words size fit count =
     let below : AreBelow (length given) (numbers (writes field words)) = rw size (field_below field words fit) in
@@ -318,13 +424,10 @@ field_found before [] field none given = absurd none
 field_found before (w ∷ ws) field (inl here) given = inl (subst (WasGiven before) (sym here) given)
 field_found before (w ∷ ws) field (inr there) given = inr (field_found before ws field there given)
 
-pub counted : (line : List ℕ) (field : Field) (words : List ℕ) → Spells line (Words field words) → HasCount field (length words)
-counted line field words is = let spelled : SpellsWords line field words = is in spelled.count
-
 repeated_field : (progress : Progress) (before : List (List ℕ)) (line : List ℕ) (node : ℕ) (field : Field) (words : List ℕ) → IsAfter progress before → progress.stage ≡ stage.Block node
     → Spells line (Words field words) → goes_past field (length words) ≡ false → Decides (repeats progress.given (writes field words)) (RepeatsNode before line ⊎ RepeatsField before line)
 repeated_field progress before line node field words after block spelled inside =
-    let same = repeats_marked progress.given field words after.sized.given (within field (length words) inside) (counted line field words spelled) in
+    let same = repeats_marked progress.given field words after.sized.given (within field (length words) inside) (count_spelled line field words spelled) in
     let decides = any_given progress before node (writes field words) after block (each_has_cell field words inside) in (
       λ e. let found = found_field before (writes field words) (decides.0 (sym same ∙ e)) in inr (found.0, (field, words, spelled, found.1), found.2),
       λ repeats. elim repeats [
@@ -346,7 +449,7 @@ in_block (stage.Block node) field words e = (node, refl)
 in_block stage.Ended field words e = cc
 
 words_tell : (progress : Progress) (before : List (List ℕ)) (line : List ℕ) (field : Field) (words : List ℕ) → IsAfter progress before → Spells line (Words field words)
-    → is_misplaced progress.stage (Some (Words field words)) ≡ false → Tells before line after_line (words_fault progress field words)
+    → is_misplaced progress.stage (Some (Words field words)) ≡ false → Tells before line after_state (words_fault progress field words)
 unfolding words_fault
 words_tell progress before line field words after spelled placed =
     let block = in_block progress.stage field words placed in
@@ -357,7 +460,7 @@ words_tell progress before line field words after spelled placed =
 
 -- ---- any line
 
-end_tells : (before : List (List ℕ)) (line : List ℕ) → Spells line End → Tells before line after_line None
+end_tells : (before : List (List ℕ)) (line : List ℕ) → Spells line End → Tells before line after_state None
 end_tells before line end = (
   λ names. node_no_end line names.0 names.1 end,
   (
@@ -375,38 +478,63 @@ end_tells before line end = (
   ),
 )
 
+words_steady : (st : Stage) (held : Held) (field : Field) (words : List ℕ) → ends_unsteady st held (Some (Words field words)) ≡ false
+words_steady stage.Header held field words = refl
+words_steady stage.Open held field words = refl
+words_steady (stage.Block node) held field words = refl
+words_steady stage.Ended held field words = refl
+
 form_tells : (progress : Progress) (before : List (List ℕ)) (line : List ℕ) (f : Form) → IsAfter progress before → Spells line f
-    → is_misplaced progress.stage (Some f) ≡ false → Tells before line after_line (form_fault progress (Some f))
-form_tells progress before line (Node y) after spelled placed = node_tells progress before line y after spelled
-form_tells progress before line (Words field words) after spelled placed = words_tell progress before line field words after spelled placed
-form_tells progress before line End after spelled placed = end_tells before line spelled
+    → is_misplaced progress.stage (Some f) ≡ false → Tells before line after_line (cond (ends_unsteady progress.stage progress.held (Some f)) (Some cause.State) (form_fault progress (Some f)))
+form_tells progress before line (Node y) after spelled placed =
+    tested before line cause.State after_state (ends_unsteady progress.stage progress.held (Some (Node y))) _
+    (node_unsteady progress.stage progress before line y after refl after.stands placed spelled) (λ steady. node_tells progress before line y after spelled)
+form_tells progress before line (Words field words) after spelled placed =
+    tested before line cause.State after_state (ends_unsteady progress.stage progress.held (Some (Words field words))) _ (
+      λ e. absurd (let never : true ≡ false = sym e ∙ words_steady progress.stage progress.held field words in cc),
+      λ unsteady. absurd (elim unsteady.0 [
+        | inl begins ↦ node_no_words line begins.0 field words begins.1 spelled
+        | inr end ↦ end_no_words line field words end spelled
+      ]),
+    )
+    (λ steady. words_tell progress before line field words after spelled placed)
+form_tells progress before line End after spelled placed =
+    tested before line cause.State after_state (ends_unsteady progress.stage progress.held (Some End)) _
+    (end_unsteady progress.stage progress before line after refl after.stands placed spelled) (λ steady. end_tells before line spelled)
 
 later_tells : (progress : Progress) (before : List (List ℕ)) (line : List ℕ) → IsAfter progress before → progress.stage ≢ stage.Header
-    → Tells before line after_long (later_fault progress (form line))
+    → Tells before line after_long (later_fault progress (form_in progress.format line))
 later_tells progress before line after behind =
-    passed_over before line cause.Header after_header _ (λ other. later progress.stage before behind after.stands other.0)
-    (tested before line cause.Line after_line (is_misplaced progress.stage (form line)) _ (misplaced progress.stage (form line) before line refl behind after.stands) (λ placed.
-    let f = some_form progress.stage (form line) behind placed in
-    let P : Option Form → Type 0 = λ o. Tells before line after_line (form_fault progress o) in
-    subst P (sym f.1) (form_tells progress before line f.0 after (form_spelled line f.0 f.1) (ap (is_misplaced progress.stage) (sym f.1) ∙ placed))))
+    let some = later progress.stage before behind after.stands in
+    passed_over before line cause.Header after_header _ (λ other. some other.0)
+    (tested before line cause.Line after_line (is_misplaced progress.stage (form_in progress.format line)) _ (misplaced progress.stage progress.format (form_in progress.format line) before line (after.format some) refl behind after.stands) (λ placed.
+    let f = some_form progress.stage (form_in progress.format line) behind placed in
+    let Q : Option Form → Type 0 = λ o. Tells before line after_line (cond (ends_unsteady progress.stage progress.held o) (Some cause.State) (form_fault progress o)) in
+    subst Q (sym f.1) (form_tells progress before line f.0 after (kept_spelled progress.format line f.0 f.1).0 (ap (is_misplaced progress.stage) (sym f.1) ∙ placed))))
 
-header_tells : (before : List (List ℕ)) (line : List ℕ) (b : Bool) → Decides b (line ≡ header) → before ≡ []
-    → Tells before line after_long (cond b None (Some cause.Header))
-header_tells before line false decides first = inl (refl, (first, not_from_Decides false decides refl))
-header_tells before line true decides first =
-    let formless = header_formless line (decides.0 refl) in (
-      λ other. other.1 (decides.0 refl),
+no_header : (line : List ℕ) (format : Format) → is_header line ≡ false → line ≢ header format
+no_header line One other is = let parts = or_false (names line One) (names line Two) other in not_from_Decides (names line One) (bytes_eq-Decides line (header One)) parts.0 is
+no_header line Two other is = let parts = or_false (names line One) (names line Two) other in not_from_Decides (names line Two) (bytes_eq-Decides line (header Two)) parts.1 is
+
+header_tells : (before : List (List ℕ)) (line : List ℕ) (b : Bool) → is_header line ≡ b → before ≡ [] → Tells before line after_long (cond b None (Some cause.Header))
+header_tells before line false is first = inl (refl, (first, λ format. no_header line format is))
+header_tells before line true is first =
+    let formless = header_formless line _ (header_named line is) in (
+      λ other. other.1 _ (header_named line is),
       (
         λ no. no.0 first,
         (
-          λ names. formless (Node names.0) names.1,
+          λ unsteady. let Q : List (List ℕ) → Type 0 = λ b. GivesLines b unsteady.1.0 in let none : GivesLines [] unsteady.1.0 = subst Q first unsteady.1.1 in none,
           (
-            λ gives. formless (Words gives.0 gives.1) gives.2,
+            λ names. formless (Node names.0) names.1,
             (
               λ gives. formless (Words gives.0 gives.1) gives.2,
               (
-                λ repeats. elim repeats [ inl begins ↦ formless (Node begins.0) begins.1 | inr gives ↦ formless (Words gives.1.0 gives.1.1) gives.1.2 ],
-                tt,
+                λ gives. formless (Words gives.0 gives.1) gives.2,
+                (
+                  λ repeats. elim repeats [ inl begins ↦ formless (Node begins.0) begins.1 | inr gives ↦ formless (Words gives.1.0 gives.1.1) gives.1.2 ],
+                  tt,
+                ),
               ),
             ),
           ),
@@ -418,7 +546,7 @@ line_tells : (st : Stage) (progress : Progress) (before : List (List ℕ)) (line
     → Tells before line after_long (line_fault st progress line)
 line_tells stage.Header progress before line is after =
     let first : StandsAt stage.Header before = subst (λ st. StandsAt st before) is after.stands in
-    header_tells before line (is_header line) (bytes_eq-Decides line header) first
+    header_tells before line (is_header line) refl first
 line_tells stage.Open progress before line is after = later_tells progress before line after (rw is (λ e. cc))
 line_tells (stage.Block node) progress before line is after = later_tells progress before line after (rw is (λ e. cc))
 line_tells stage.Ended progress before line is after = later_tells progress before line after (rw is (λ e. cc))
@@ -427,5 +555,5 @@ line_tells stage.Ended progress before line is after = later_tells progress befo
 pub fault_tells : (progress : Progress) (before : List (List ℕ)) (line : List ℕ) → IsAfter progress before → Tells before line causes (fault_of progress line)
 unfolding fault_of
 fault_tells progress before line after =
-    tested before line cause.Long after_long (nat_lt 200 (length line)) (line_fault progress.stage progress line) (Decides-ltb 200 (length line))
+    tested before line cause.Long after_long (nat_lt longest (length line)) (line_fault progress.stage progress line) (Decides-ltb longest (length line))
     (λ short. line_tells progress.stage progress before line refl after)

@@ -1,6 +1,6 @@
 -- What reading refuses is the first fault of a text, and the other way.
 use Rattle.std.specs.Prelude.{IfErr}
-use Rattle.std.proofs.Common.{◌≡◌, ◌≢◌, ℕ, ◌+◌, ◌⊎◌, inl, inr, Bool, true, false, List, [], ◌∷◌, ◌++◌, length, Option, Some, None, Result, Ok, Err, refl, sym, ◌∙◌, ap, subst, arith, append_assoc, length-append}
+use Rattle.std.proofs.Common.{◌≡◌, ℕ, ◌+◌, ◌⊎◌, inl, inr, List, [], ◌∷◌, ◌++◌, length, Option, Some, None, Result, Ok, Err, refl, sym, ◌∙◌, ap, subst, append_assoc, length-append}
 use Rattle.std.proofs.lemmas.List.{append-nil}
 use Rattle.ga_node.specs.State.{NodeState}
 use Rattle.ga_image.specs.declared.fault.ImageCause.{ImageCause}
@@ -9,8 +9,7 @@ use Rattle.ga_image.specs.declared.fault.ImageFault.{ImageFault}
 use Rattle.ga_image.specs.Progress.{Progress, Stage}
 use Rattle.ga_image.specs.Progress as stage
 use Rattle.ga_image.specs.Reading.{reading, refused, at_end, fault_of, after_line, start, no_memory, Gives}
-use Rattle.ga_image.specs.FirstFault.{OneOf, IsEnd, HasCause, causes, IsFirstCause, HasNone, AreFaultless, IsAtLine, IsAtEnd, IsFirstFault}
-use Rattle.ga_image.proofs.Found.{passed}
+use Rattle.ga_image.specs.FirstFault.{OneOf, IsEnd, causes, IsFirstCause, HasNone, AreFaultless, IsAtLine, IsAtEnd, IsFirstFault}
 use Rattle.ga_image.proofs.Causes.{Tells, IsAfter, StandsAt, fault_tells}
 use Rattle.ga_image.proofs.Behind.{after_one, after_none}
 

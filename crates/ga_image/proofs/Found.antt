@@ -1,27 +1,31 @@
 -- What is read is in the grammar.
 use Rattle.std.specs.Prelude.{nat_lt, is_none}
 use Rattle.std.specs.List.{AllByRecursion, list_any}
-use Rattle.std.proofs.Common.{◌≡◌, ◌≢◌, ℕ, ◌+◌, ◌*◌, ◌/◌, ◌%◌, ◌<◌, ◌≤◌, inl, inr, Bool, true, false, cond, ◌&&◌, List, [], ◌∷◌, ◌++◌, length, map, flat_map, get_or, set, Option, Some, None, Result, Ok, refl, sym, ◌∙◌, ap, subst, arith, append_assoc}
+use Rattle.std.proofs.Common.{◌≡◌, ◌≢◌, ℕ, ◌+◌, ◌*◌, ◌/◌, ◌%◌, ◌<◌, ◌≤◌, inl, inr, Bool, true, false, cond, ◌&&◌, ◌||◌, ◌⊎◌, List, [], ◌∷◌, ◌++◌, length, map, flat_map, get_or, set, Option, Some, None, Result, Ok, refl, sym, ◌∙◌, ap, subst, arith, append_assoc}
 use Rattle.std.proofs.lemmas.Bool.Decides.{nat_tests}
 use Rattle.std.proofs.lemmas.Slice.Eq.{bytes_eq-Decides}
 use Rattle.ga_node.specs.State.{NodeState}
 use Rattle.ga_grid.specs.Grid.{node_of, yxx_of}
 use Rattle.ga_image.specs.declared.field.Field.{Field}
-use Rattle.ga_image.specs.declared.field.Field.TheVariants.{A, B, P, Ram, Rom}
+use Rattle.ga_image.specs.declared.field.Field.TheVariants.{A, B, P, I, Io, Carry, Slot, Wait, Stop, Data, Return, Ram, Rom}
+use Rattle.ga_image.specs.declared.field.Format.{Format}
+use Rattle.ga_image.specs.declared.field.Format.TheVariants.{One, Two}
+use Rattle.ga_image.specs.declared.held.Held.{Held}
 use Rattle.ga_image.specs.declared.fault.ImageFault.{ImageFault}
 use Rattle.ga_image.specs.declared.fault.ImageCause.{ImageCause}
 use Rattle.ga_image.specs.declared.fault.ImageCause.TheVariants as cause
-use Rattle.ga_image.specs.Grammar.{with_word, header, Block, field_line_form, block_forms, all_writes, Fits, IsFieldLine, IsBlock, written, loaded, IsImage}
+use Rattle.ga_image.specs.Lines.{longest}
+use Rattle.ga_image.specs.Grammar.{with_word, header, names, format_of, Block, field_line_form, block_forms, all_writes, Fits, IsFieldLine, IsBlock, written, loaded, IsImage}
 use Rattle.ga_image.specs.Progress.{Progress, Stage}
 use Rattle.ga_image.specs.Progress as stage
 use Rattle.ga_image.specs.Spelling.{Form, Node, Words, End}
-use Rattle.ga_image.specs.Forms.{form}
+use Rattle.ga_image.specs.Held.{runs, with_held, held_after, is_unsteady}
 use Rattle.ga_image.specs.Fields.{writes, repeats, goes_past, is_too_great, greatest}
-use Rattle.ga_image.specs.Reading.{node_in, reading, refused, at_end, fault_of, line_fault, later_fault, form_fault, node_fault, words_fault, is_misplaced, after_line, after_form, with_block, start, nothing_given, is_header, has_block}
+use Rattle.ga_image.specs.Reading.{node_in, reading, refused, at_end, fault_of, line_fault, later_fault, node_fault, words_fault, is_misplaced, ends_unsteady, form_in, after_line, after_form, with_block, start, nothing_given, is_header, has_block}
 use Rattle.ga_image.proofs.Spellings.{forms_spelled}
 use Rattle.ga_image.proofs.Flags.{seen_twice, AreBelow, once_apart, or_false}
-use Rattle.ga_image.proofs.Meanings.{reads, marked, repeats-append, line_later, past_later, still_later, short_past}
-use Rattle.ga_image.proofs.Accepted.{IsReady, numbers, repeats_numbers, fields_below, all_written, opened, opened_ready, nodes_below}
+use Rattle.ga_image.proofs.Meanings.{reads, marked, repeats-append, line_later, past_later, still_later, short_past, same_format}
+use Rattle.ga_image.proofs.Accepted.{numbers, repeats_numbers, fields_below, all_written, opened, opened_ready, nodes_below}
 
 -- a line that is not refused has no fault
 pub passed : (fault : Option ImageCause) (line : ℕ) (others : Result (List NodeState) ImageFault) (chip : List NodeState) → refused fault line others ≡ Ok chip → (fault ≡ None) × (others ≡ Ok chip)
@@ -42,7 +46,7 @@ neither false c others e = (refl, e)
 -- a line without fault is not too long
 pub not_short : (progress : Progress) (text : List ℕ) → fault_of progress text ≡ None → line_fault progress.stage progress text ≡ None
 unfolding fault_of
-not_short progress text e = (neither (nat_lt 200 (length text)) cause.Long (line_fault progress.stage progress text) e).1
+not_short progress text e = (neither (nat_lt longest (length text)) cause.Long (line_fault progress.stage progress text) e).1
 
 -- a line that is not misplaced has a form
 pub some_form : (st : Stage) (found : Option Form) → st ≢ stage.Header → is_misplaced st found ≡ false → (f : Form) × (found ≡ Some f)
@@ -55,20 +59,20 @@ some_form (stage.Block node) (Some f) later e = (f, refl)
 some_form stage.Ended (Some f) later e = (f, refl)
 
 -- lines that are read have meanings
-pub forms_of : (lines : List (List ℕ)) (progress : Progress) (line : ℕ) (chip : List NodeState) → progress.stage ≢ stage.Header → reading progress line lines ≡ Ok chip
-    → (forms : List Form) × (map form lines ≡ map (λ f. Some f) forms) × (reads progress line forms ≡ Ok chip)
+pub forms_of : (lines : List (List ℕ)) (progress : Progress) (format : Format) (line : ℕ) (chip : List NodeState) → progress.stage ≢ stage.Header → progress.format ≡ format → reading progress line lines ≡ Ok chip
+    → (forms : List Form) × (map (form_in format) lines ≡ map (λ f. Some f) forms) × (reads progress line forms ≡ Ok chip)
 unfolding reading
-forms_of [] progress line chip later e = ([], refl, e)
-forms_of (text ∷ lines) progress line chip later e =
+forms_of [] progress format line chip later is e = ([], refl, e)
+forms_of (text ∷ lines) progress format line chip later is e =
     let parts = passed (fault_of progress text) line (reading (after_line progress text) (line + 1) lines) chip e in
-    let none : later_fault progress (form text) ≡ None = sym (line_later progress.stage progress text later) ∙ not_short progress text parts.0 in
-    let placed = neither (is_misplaced progress.stage (form text)) cause.Line (form_fault progress (form text)) none in
-    let meaning = some_form progress.stage (form text) later placed.0 in
+    let none : later_fault progress (form_in progress.format text) ≡ None = sym (line_later progress.stage progress text later) ∙ not_short progress text parts.0 in
+    let placed = neither (is_misplaced progress.stage (form_in progress.format text)) cause.Line _ none in
+    let meaning = some_form progress.stage (form_in progress.format text) later placed.0 in
     let past : after_line progress text ≡ after_form progress (Some meaning.0) = short_past progress text ∙ past_later progress.stage progress text later ∙ ap (after_form progress) meaning.1 in
     let onward : reading (after_form progress (Some meaning.0)) (line + 1) lines ≡ Ok chip = ap (λ f. reading f (line + 1) lines) (sym past) ∙ parts.1 in
-    let rest = forms_of lines (after_form progress (Some meaning.0)) (line + 1) chip (still_later progress meaning.0 later) onward in
+    let rest = forms_of lines (after_form progress (Some meaning.0)) format (line + 1) chip (still_later progress meaning.0 later) (same_format progress meaning.0 ∙ is) onward in
     let fault : later_fault progress (Some meaning.0) ≡ None = ap (later_fault progress) (sym meaning.1) ∙ none in
-    (meaning.0 ∷ rest.0, both _ _ _ _ meaning.1 rest.1, goes_on _ line _ fault ∙ rest.2)
+    (meaning.0 ∷ rest.0, both _ _ _ _ (ap (λ g. form_in g text) (sym is) ∙ meaning.1) rest.1, goes_on _ line _ fault ∙ rest.2)
 
 named : (found : Option ℕ) → is_none found ≡ false → (n : ℕ) × (found ≡ Some n)
 named None e = cc
@@ -78,8 +82,9 @@ named (Some n) e = (n, refl)
 pub node_ok : (progress : Progress) (y : ℕ) → later_fault progress (Some (Node y)) ≡ None → (n : ℕ) × (node_of y ≡ Some n) × (get_or progress.blocks n false ≡ false)
 unfolding node_fault
 node_ok progress y none =
-    let tests = neither (is_misplaced progress.stage (Some (Node y))) cause.Line (node_fault progress y) none in
-    let first = neither (is_none (node_of y)) cause.Node _ tests.1 in
+    let tests = neither (is_misplaced progress.stage (Some (Node y))) cause.Line _ none in
+    let steady = neither (ends_unsteady progress.stage progress.held (Some (Node y))) cause.State (node_fault progress y) tests.1 in
+    let first = neither (is_none (node_of y)) cause.Node _ steady.1 in
     let second = neither (has_block progress (node_of y)) cause.Repeated None first.1 in
     let node = named (node_of y) first.0 in
     (node.0, node.1, ap (has_block progress) (sym node.1) ∙ second.0)
@@ -88,6 +93,14 @@ pub within : (field : Field) (count : ℕ) → goes_past field count ≡ false �
 within A count e = tt
 within B count e = tt
 within P count e = tt
+within I count e = tt
+within Io count e = tt
+within Carry count e = tt
+within Slot count e = tt
+within Wait count e = tt
+within Stop count e = tt
+within (Data k) count e = grind (arith, nat_tests)
+within (Return k) count e = grind (arith, nat_tests)
 within (Ram cell) count e = grind (arith, nat_tests)
 within (Rom cell) count e = grind (arith, nat_tests)
 
@@ -102,8 +115,9 @@ smalls most (word ∷ words) e =
 pub field_ok : (progress : Progress) (field : Field) (words : List ℕ) → later_fault progress (Some (Words field words)) ≡ None → IsFieldLine (field, words) × (repeats progress.given (writes field words) ≡ false)
 unfolding words_fault
 field_ok progress field words none =
-    let tests = neither (is_misplaced progress.stage (Some (Words field words))) cause.Line (words_fault progress field words) none in
-    let first = neither (goes_past field (length words)) cause.Place _ tests.1 in
+    let tests = neither (is_misplaced progress.stage (Some (Words field words))) cause.Line _ none in
+    let steady = neither (ends_unsteady progress.stage progress.held (Some (Words field words))) cause.State (words_fault progress field words) tests.1 in
+    let first = neither (goes_past field (length words)) cause.Place _ steady.1 in
     let second = neither (is_too_great field words) cause.Word _ first.1 in
     let third = neither (repeats progress.given (writes field words)) cause.Repeated None second.1 in
     ((within field (length words) first.0, smalls (greatest field) words second.0), third.0)
@@ -128,19 +142,24 @@ yxx_of_node y n e =
     let low : n % 18 ≡ y % 100 = omega arith in
     (omega arith, omega arith)
 
+-- behind the header and before the end
+abbrev pub IsOpened : Progress → Type 0
+IsOpened progress = (progress.stage ≡ stage.Open) ⊎ ((node : ℕ) × (progress.stage ≡ stage.Block node))
+
 -- what is left of an image, from within it
 record Rest (progress : Progress) (forms : List Form) (chip : List NodeState) : Type 0 where
   field_lines : List (Field × List ℕ)
   blocks : List Block
   spelled : forms ≡ map field_line_form field_lines ++ (flat_map block_forms blocks ++ End ∷ [])
   unopened : progress.stage ≡ stage.Open → field_lines ≡ []
+  steady : (node : ℕ) → progress.stage ≡ stage.Block node → is_unsteady (held_after progress.held (all_writes field_lines)) ≡ false
   each_field : AllByRecursion IsFieldLine field_lines
   once : repeats progress.given (all_writes field_lines) ≡ false
   each : AllByRecursion IsBlock blocks
   apart : seen_twice progress.blocks (map (λ b. b.node) blocks) ≡ false
   describes : chip ≡ loaded (written (node_in progress.stage) progress.chip (all_writes field_lines)) blocks
 
-cut : (progress : Progress) (line : ℕ) (chip : List NodeState) → IsReady progress → at_end progress.stage progress.chip line ≡ Ok chip → ⊥
+cut : (progress : Progress) (line : ℕ) (chip : List NodeState) → IsOpened progress → at_end progress.stage progress.chip line ≡ Ok chip → ⊥
 cut progress line chip (inl is) e = let never : at_end stage.Open progress.chip line ≡ Ok chip = subst (λ (s : Stage). at_end s progress.chip line ≡ Ok chip) is e in cc
 cut progress line chip (inr (node, is)) e = let never : at_end (stage.Block node) progress.chip line ≡ Ok chip = subst (λ (s : Stage). at_end s progress.chip line ≡ Ok chip) is e in cc
 
@@ -149,7 +168,7 @@ last : (forms : List Form) (progress : Progress) (line : ℕ) (chip : List NodeS
 last [] progress line chip e = let same : chip ≡ progress.chip = cc in (refl, same)
 last (f ∷ forms) progress line chip e = cc
 
-field_in_block : (progress : Progress) (field : Field) (words : List ℕ) → IsReady progress → later_fault progress (Some (Words field words)) ≡ None → (node : ℕ) × (progress.stage ≡ stage.Block node)
+field_in_block : (progress : Progress) (field : Field) (words : List ℕ) → IsOpened progress → later_fault progress (Some (Words field words)) ≡ None → (node : ℕ) × (progress.stage ≡ stage.Block node)
 field_in_block progress field words (inr block) none = block
 field_in_block progress field words (inl is) none =
     let at = (neither (is_misplaced progress.stage (Some (Words field words))) cause.Line _ none).0 in
@@ -160,14 +179,28 @@ written-append : (node : ℕ) (chip : List NodeState) (xs ys : List (Field × �
 written-append node chip [] ys = refl
 written-append node chip (x ∷ xs) ys = written-append node (with_word chip node x) xs ys
 
-rest_of : (forms : List Form) (progress : Progress) (line : ℕ) (chip : List NodeState) → IsReady progress → reads progress line forms ≡ Ok chip → Rest progress forms chip
+pub held-append : (held : Held) (xs ys : List (Field × ℕ)) → held_after held (xs ++ ys) ≡ held_after (held_after held xs) ys
+held-append held [] ys = refl
+held-append held (x ∷ xs) ys = held-append (with_held held x) xs ys
+
+-- a block that ends without fault can stand
+ended_steady : (st : Stage) (held : Held) (node : ℕ) → ends_unsteady st held (Some End) ≡ false → st ≡ stage.Block node → is_unsteady held ≡ false
+ended_steady st held node e is = ap (λ s. ends_unsteady s held (Some End)) (sym is) ∙ e
+
+left_steady : (st : Stage) (held : Held) (node y : ℕ) → ends_unsteady st held (Some (Node y)) ≡ false → st ≡ stage.Block node → is_unsteady held ≡ false
+left_steady st held node y e is = ap (λ s. ends_unsteady s held (Some (Node y))) (sym is) ∙ e
+
+rest_of : (forms : List Form) (progress : Progress) (line : ℕ) (chip : List NodeState) → IsOpened progress → reads progress line forms ≡ Ok chip → Rest progress forms chip
 rest_of [] progress line chip ready e = absurd (cut progress line chip ready e)
 rest_of (End ∷ forms) progress line chip ready e =
     let parts = passed (later_fault progress (Some End)) line (reads (after_form progress (Some End)) (line + 1) forms) chip e in
     let after = last forms progress (line + 1) chip parts.1 in
+    let tests = neither (is_misplaced progress.stage (Some End)) cause.Line _ parts.0 in
+    let stood = neither (ends_unsteady progress.stage progress.held (Some End)) cause.State _ tests.1 in
     record {
       field_lines = [];
       blocks = [];
+      steady = λ node is. ended_steady progress.stage progress.held node stood.0 is;
       spelled = ap (λ fs. End ∷ fs) after.0;
       unopened = λ _. refl;
       each_field = tt;
@@ -180,7 +213,9 @@ rest_of (Node y ∷ forms) progress line chip ready e =
     let parts = passed (later_fault progress (Some (Node y))) line (reads (after_form progress (Some (Node y))) (line + 1) forms) chip e in
     let ok = node_ok progress y parts.0 in
     let at = yxx_of_node y ok.0 ok.1 in
-    let begun : Progress = record progress { stage = stage.Block ok.0; blocks = set progress.blocks ok.0 true; given = nothing_given } in
+    let begun : Progress = record progress { stage = stage.Block ok.0; blocks = set progress.blocks ok.0 true; given = nothing_given; held = runs } in
+    let tests = neither (is_misplaced progress.stage (Some (Node y))) cause.Line _ parts.0 in
+    let stood = neither (ends_unsteady progress.stage progress.held (Some (Node y))) cause.State _ tests.1 in
     let is : after_form progress (Some (Node y)) ≡ begun = ap (with_block progress) ok.1 in
     let rest = rest_of forms begun (line + 1) chip (inr (ok.0, refl)) (ap (λ f. reads f (line + 1) forms) (sym is) ∙ parts.1) in
     let below = fields_below rest.field_lines rest.each_field in
@@ -190,9 +225,10 @@ rest_of (Node y ∷ forms) progress line chip ready e =
       blocks = record { node = ok.0; field_lines = rest.field_lines } ∷ rest.blocks;
       spelled = both _ _ _ _ (ap (λ (n : ℕ). Node n) at.0) (rest.spelled ∙ sym (append_assoc (map field_line_form rest.field_lines) (flat_map block_forms rest.blocks) (End ∷ [])));
       unopened = λ _. refl;
+      steady = λ node is. left_steady progress.stage progress.held node y stood.0 is;
       each_field = tt;
       once = refl;
-      each = (record { node = at.1; field_lines = rest.each_field; apart = apart.1 }, rest.each);
+      each = (record { node = at.1; field_lines = rest.each_field; apart = apart.1; steady = rest.steady ok.0 refl }, rest.each);
       apart = rw ok.2 rest.apart;
       describes = rest.describes;
     }
@@ -200,7 +236,7 @@ rest_of (Words field words ∷ forms) progress line chip ready e =
     let parts = passed (later_fault progress (Some (Words field words))) line (reads (after_form progress (Some (Words field words))) (line + 1) forms) chip e in
     let block = field_in_block progress field words ready parts.0 in
     let ok = field_ok progress field words parts.0 in
-    let filled : Progress = record progress { given = marked progress.given (writes field words); chip = written (node_in progress.stage) progress.chip (writes field words) } in
+    let filled : Progress = record progress { given = marked progress.given (writes field words); held = held_after progress.held (writes field words); chip = written (node_in progress.stage) progress.chip (writes field words) } in
     let is : after_form progress (Some (Words field words)) ≡ filled = all_written progress (writes field words) in
     let rest = rest_of forms filled (line + 1) chip (inr block) (ap (λ f. reads f (line + 1) forms) (sym is) ∙ parts.1) in
     record {
@@ -208,6 +244,7 @@ rest_of (Words field words ∷ forms) progress line chip ready e =
       blocks = rest.blocks;
       spelled = ap (λ fs. Words field words ∷ fs) rest.spelled;
       unopened = λ begins. absurd (let never : stage.Open ≡ stage.Block block.0 = sym begins ∙ block.1 in cc);
+      steady = λ node at. ap is_unsteady (held-append progress.held (writes field words) (all_writes rest.field_lines)) ∙ rest.steady node at;
       each_field = (ok.0, rest.each_field);
       once = repeats-append progress.given (writes field words) (all_writes rest.field_lines) ∙ rw ok.1 rest.once;
       each = rest.each;
@@ -219,14 +256,30 @@ none_else : (b : Bool) (c : ImageCause) → cond b None (Some c) ≡ None → b 
 none_else true c e = refl
 none_else false c e = cc
 
-header_only : (text : List ℕ) → cond (is_header text) None (Some cause.Header) ≡ None → text ≡ header
-header_only text e = (bytes_eq-Decides text header).0 (none_else (is_header text) cause.Header e)
+one_of_two : (b c : Bool) → (b || c) ≡ true → (b ≡ true) ⊎ ((b ≡ false) × (c ≡ true))
+one_of_two true c e = inl refl
+one_of_two false c e = inr (refl, e)
 
-first_line_of : (text : List ℕ) (lines : List (List ℕ)) (chip : List NodeState) → reading start 1 (text ∷ lines) ≡ Ok chip → (text ≡ header) × (reading opened 2 lines ≡ Ok chip)
+-- a header is that of the format that it names
+pub header_of : (text : List ℕ) → is_header text ≡ true → (text ≡ header One) × (format_of text ≡ One) ⊎ (text ≡ header Two) × (format_of text ≡ Two)
+header_of text e =
+    elim (one_of_two (names text One) (names text Two) e) [
+      | inl one ↦ inl ((bytes_eq-Decides text (header One)).0 one, rw one refl)
+      | inr two ↦ inr ((bytes_eq-Decides text (header Two)).0 two.1, rw two.0 refl)
+    ]
+
+pub header_named : (text : List ℕ) → is_header text ≡ true → text ≡ header (format_of text)
+header_named text e =
+    elim (header_of text e) [
+      | inl one ↦ one.0 ∙ ap header (sym one.1)
+      | inr two ↦ two.0 ∙ ap header (sym two.1)
+    ]
+
+first_line_of : (text : List ℕ) (lines : List (List ℕ)) (chip : List NodeState) → reading start 1 (text ∷ lines) ≡ Ok chip → (text ≡ header (format_of text)) × (reading (opened (format_of text)) 2 lines ≡ Ok chip)
 unfolding reading start after_line
 first_line_of text lines chip e =
     let parts = passed (fault_of start text) 1 (reading (after_line start text) 2 lines) chip e in
-    (header_only text (not_short start text parts.0), parts.1)
+    (header_named text (none_else (is_header text) cause.Header (not_short start text parts.0)), parts.1)
 
 nothing_read : (chip : List NodeState) → reading start 1 [] ≡ Ok chip → ⊥
 unfolding reading start
@@ -236,22 +289,25 @@ nothing_read chip e = cc
 pub image_found : (texts : List (List ℕ)) (chip : List NodeState) → reading start 1 texts ≡ Ok chip → IsImage texts chip
 image_found [] chip e = absurd (nothing_read chip e)
 image_found (text ∷ lines) chip e =
-    let ready = opened_ready in
+    let format = format_of text in
+    let from = opened format in
+    let ready = opened_ready format in
     let first = first_line_of text lines chip e in
-    let later : opened.stage ≢ stage.Header = rw ready.0 (λ e. cc) in
-    let meaning = forms_of lines opened 2 chip later first.1 in
-    let rest = rest_of meaning.0 opened 2 chip (inl ready.0) meaning.2 in
+    let later : from.stage ≢ stage.Header = rw ready.0 (λ e. cc) in
+    let meaning = forms_of lines from format 2 chip later refl first.1 in
+    let rest = rest_of meaning.0 from 2 chip (inl ready.0) meaning.2 in
     let none : rest.field_lines ≡ [] = rest.unopened ready.0 in
     let forms : meaning.0 ≡ flat_map block_forms rest.blocks ++ End ∷ [] = rest.spelled ∙ ap (λ fs. map field_line_form fs ++ (flat_map block_forms rest.blocks ++ End ∷ [])) none in
-    let below : AreBelow (length opened.blocks) (map (λ b. b.node) rest.blocks) = rw ready.1 (nodes_below rest.blocks rest.each) in
+    let below : AreBelow (length from.blocks) (map (λ b. b.node) rest.blocks) = rw ready.1 (nodes_below rest.blocks rest.each) in
     record {
+      format = format;
       lines = lines;
       blocks = rest.blocks;
       starts = ap (λ t. t ∷ lines) first.0;
-      spelled = forms_spelled lines (flat_map block_forms rest.blocks ++ End ∷ []) (meaning.1 ∙ ap (map (λ f. Some f)) forms);
+      spelled = forms_spelled format lines (flat_map block_forms rest.blocks ++ End ∷ []) (meaning.1 ∙ ap (map (λ f. Some f)) forms);
       each = rest.each;
-      apart = (once_apart opened.blocks (map (λ b. b.node) rest.blocks) below rest.apart).1;
+      apart = (once_apart from.blocks (map (λ b. b.node) rest.blocks) below rest.apart).1;
       describes = rest.describes
-          ∙ ap (λ fs. loaded (written (node_in opened.stage) opened.chip (all_writes fs)) rest.blocks) none
+          ∙ ap (λ fs. loaded (written (node_in from.stage) from.chip (all_writes fs)) rest.blocks) none
           ∙ ap (λ c. loaded c rest.blocks) ready.2;
     }

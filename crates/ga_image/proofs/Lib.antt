@@ -6,6 +6,7 @@ pub mod Spellings
 pub mod Short
 pub mod Flags
 pub mod Writes
+pub mod Stages
 pub mod Steps
 pub mod Meanings
 pub mod Accepted

@@ -6,15 +6,16 @@ use Rattle.std.proofs.lemmas.Bool.Decides.{nat_tests}
 use Rattle.ga_node.specs.State.{NodeState}
 use Rattle.ga_grid.specs.Grid.{node_of}
 use Rattle.ga_image.specs.declared.field.Field.{Field}
-use Rattle.ga_image.specs.declared.field.Field.TheVariants.{A, B, P, Ram, Rom}
+use Rattle.ga_image.specs.declared.field.Field.TheVariants.{A, B, P, I, Io, Carry, Slot, Wait, Stop, Data, Return, Ram, Rom}
+use Rattle.ga_image.specs.declared.field.Format.{Format}
 use Rattle.ga_image.specs.declared.fault.ImageFault.{ImageFault}
 use Rattle.ga_image.specs.Progress.{Progress, Stage, Header, Open, Block, Ended}
 use Rattle.ga_image.specs.Spelling.{Form, Node, Words, End}
-use Rattle.ga_image.specs.Forms.{form}
 use Rattle.ga_image.specs.Fields.{writes, repeats, number_of, goes_past, greatest}
-use Rattle.ga_image.specs.Reading.{reading, fault_of, line_fault, later_fault, after_line, after_stage, after_form, at_end, refused, with_writes, with_write, words_fault, with_block}
+use Rattle.ga_image.specs.Reading.{form_in, reading, fault_of, line_fault, later_fault, after_line, after_stage, after_form, at_end, refused, with_writes, with_write, words_fault, with_block}
 use Rattle.ga_image.specs.Grammar.{field_line_form, all_writes, Fits, IsFieldLine}
-use Rattle.ga_image.proofs.Short.{short_form}
+use Rattle.ga_image.proofs.Short.{short_spelled}
+use Rattle.ga_image.proofs.Spellings.{kept_spelled}
 use Rattle.ga_image.proofs.Flags.{or_false}
 
 or_assoc : (x y z : Bool) → (x || (y || z)) ≡ ((x || y) || z)
@@ -42,14 +43,14 @@ still_later progress (Words field words) later = rw (stage_kept progress (writes
 still_later progress End later = λ e. cc
 
 -- behind the header a line is read by its form
-pub line_later : (stage : Stage) (progress : Progress) (text : List ℕ) → stage ≢ Header → line_fault stage progress text ≡ later_fault progress (form text)
+pub line_later : (stage : Stage) (progress : Progress) (text : List ℕ) → stage ≢ Header → line_fault stage progress text ≡ later_fault progress (form_in progress.format text)
 line_later Header progress text later = absurd (later refl)
 line_later Open progress text later = refl
 line_later (Block node) progress text later = refl
 line_later Ended progress text later = refl
 
 -- and so is what it leads to
-pub past_later : (stage : Stage) (progress : Progress) (text : List ℕ) → stage ≢ Header → after_stage stage progress text ≡ after_form progress (form text)
+pub past_later : (stage : Stage) (progress : Progress) (text : List ℕ) → stage ≢ Header → after_stage stage progress text ≡ after_form progress (form_in progress.format text)
 past_later Header progress text later = absurd (later refl)
 past_later Open progress text later = refl
 past_later (Block node) progress text later = refl
@@ -65,18 +66,35 @@ pub short_past : (progress : Progress) (text : List ℕ) → after_line progress
 unfolding after_line
 short_past progress text = refl
 
+-- behind the header the format stays
+words_format : (progress : Progress) (ws : List (Field × ℕ)) → (with_writes progress ws).format ≡ progress.format
+words_format progress [] = refl
+words_format progress (w ∷ ws) = words_format (with_write progress w) ws
+
+block_format : (progress : Progress) (node : Option ℕ) → (with_block progress node).format ≡ progress.format
+block_format progress None = refl
+block_format progress (Some node) = refl
+
+pub same_format : (progress : Progress) (f : Form) → (after_form progress (Some f)).format ≡ progress.format
+same_format progress (Node yxx) = block_format progress (node_of yxx)
+same_format progress (Words field words) = words_format progress (writes field words)
+same_format progress End = refl
+
 -- lines are read as their forms are
-pub reading_forms : (forms : List Form) (lines : List (List ℕ)) (progress : Progress) (line : ℕ) → progress.stage ≢ Header → map form lines ≡ map (λ f. Some f) forms → reading progress line lines ≡ reads progress line forms
+pub reading_forms : (forms : List Form) (lines : List (List ℕ)) (progress : Progress) (format : Format) (line : ℕ) → progress.stage ≢ Header → progress.format ≡ format
+    → map (form_in format) lines ≡ map (λ f. Some f) forms → reading progress line lines ≡ reads progress line forms
 unfolding reading
-reading_forms [] [] progress line later same = refl
-reading_forms [] (text ∷ lines) progress line later same = cc
-reading_forms (f ∷ forms) [] progress line later same = cc
-reading_forms (f ∷ forms) (text ∷ lines) progress line later same =
-    let meaning : form text ≡ Some f = cc in
-    let others : map form lines ≡ map (λ f. Some f) forms = cc in
-    let fault = short_fault progress text (short_form text f meaning) ∙ line_later progress.stage progress text later ∙ ap (later_fault progress) meaning in
-    let past = short_past progress text ∙ past_later progress.stage progress text later ∙ ap (after_form progress) meaning in
-    let again = reading_forms forms lines (after_form progress (Some f)) (line + 1) (still_later progress f later) others in
+reading_forms [] [] progress format line later is same = refl
+reading_forms [] (text ∷ lines) progress format line later is same = cc
+reading_forms (f ∷ forms) [] progress format line later is same = cc
+reading_forms (f ∷ forms) (text ∷ lines) progress format line later is same =
+    let meaning : form_in format text ≡ Some f = cc in
+    let here : form_in progress.format text ≡ Some f = ap (λ g. form_in g text) is ∙ meaning in
+    let others : map (form_in format) lines ≡ map (λ f. Some f) forms = cc in
+    let short = short_spelled text f (kept_spelled format text f meaning).0 in
+    let fault = short_fault progress text short ∙ line_later progress.stage progress text later ∙ ap (later_fault progress) here in
+    let past = short_past progress text ∙ past_later progress.stage progress text later ∙ ap (after_form progress) here in
+    let again = reading_forms forms lines (after_form progress (Some f)) format (line + 1) (still_later progress f later) (same_format progress f ∙ is) others in
     rw (fault, past, again) refl
 
 -- what words that are written leave marked
@@ -104,6 +122,14 @@ pub in_memory : (field : Field) (count : ℕ) → Fits field count → goes_past
 in_memory A count fits = refl
 in_memory B count fits = refl
 in_memory P count fits = refl
+in_memory I count fits = refl
+in_memory Io count fits = refl
+in_memory Carry count fits = refl
+in_memory Slot count fits = refl
+in_memory Wait count fits = refl
+in_memory Stop count fits = refl
+in_memory (Data k) count fits = grind (arith, nat_tests)
+in_memory (Return k) count fits = grind (arith, nat_tests)
 in_memory (Ram cell) count fits = grind (arith, nat_tests)
 in_memory (Rom cell) count fits = grind (arith, nat_tests)
 

@@ -4,13 +4,15 @@ use Rattle.ga_image.specs.declared.field.Field.{Field}
 use Rattle.ga_image.specs.Progress.{Progress, Stage}
 use Rattle.ga_image.specs.Progress as stage
 use Rattle.ga_image.specs.Spelling.{Form, Node, Words, End}
-use Rattle.ga_image.specs.Forms.{form}
+use Rattle.ga_image.specs.Held.{runs}
 use Rattle.ga_image.specs.Fields.{writes, next_field, number_of}
-use Rattle.ga_image.specs.Reading.{fault_of, after_line, after_form, later_fault, with_block, start, nothing_given, is_misplaced}
+use Rattle.ga_image.specs.Grammar.{format_of}
+use Rattle.ga_image.specs.Reading.{form_in, fault_of, after_line, after_form, later_fault, with_block, start, nothing_given, is_misplaced}
 use Rattle.ga_image.proofs.Flags.{or_false, seen_twice, AreBelow}
 use Rattle.ga_image.proofs.Accepted.{numbers, repeats_numbers, field_below, all_written}
 use Rattle.ga_image.proofs.Meanings.{marked, line_later, past_later, short_past}
-use Rattle.ga_image.proofs.Short.{some_field}
+use Rattle.ga_image.proofs.Short.{some_spelled}
+use Rattle.ga_image.proofs.Spellings.{kept_spelled}
 use Rattle.ga_image.proofs.Found.{not_short, neither, some_form, node_ok, field_ok, yxx_of_node}
 
 -- how many flags aren't set
@@ -42,7 +44,7 @@ pub length-marked : (flags : List Bool) (ws : List (Field × ℕ)) → length (m
 length-marked flags [] = refl
 length-marked flags (w ∷ ws) = length-marked (set flags (number_of w.0) true) ws ∙ length-set flags (number_of w.0) true
 
-field_less : (flags : List Bool) (field : Field) (words : List ℕ) → length flags ≡ 131 → 0 < length words → AreBelow 131 (numbers (writes field words)) → seen_twice flags (numbers (writes field words)) ≡ false → free (marked flags (writes field words)) < free flags
+field_less : (flags : List Bool) (field : Field) (words : List ℕ) → length flags ≡ 156 → 0 < length words → AreBelow 156 (numbers (writes field words)) → seen_twice flags (numbers (writes field words)) ≡ false → free (marked flags (writes field words)) < free flags
 field_less flags field [] size some below once = absurd (omega arith)
 field_less flags field (word ∷ words) size some below once =
     let parts = or_false (get_or flags (number_of field) false) _ once in
@@ -57,12 +59,12 @@ stage_room stage.Ended = 0
 
 -- the lines that may still come: each block can have as many as there are fields, and one that begins it
 abbrev pub room : Progress → ℕ
-room progress = stage_room progress.stage + 132 * free progress.blocks + free progress.given
+room progress = stage_room progress.stage + 157 * free progress.blocks + free progress.given
 
 -- there is a flag for each node and each field
 pub record IsSized (progress : Progress) : Type 0 where
   pub blocks : length progress.blocks ≡ 144
-  pub given : length progress.given ≡ 131
+  pub given : length progress.given ≡ 156
 
 -- a line behind another, without fault and of less room behind it
 abbrev pub IsLess : Progress → Progress → Type 0
@@ -82,7 +84,7 @@ form_less progress (Node y) sized later some none =
     let one = unended progress.stage (Node y) later (neither (is_misplaced progress.stage (Some (Node y))) _ _ none).0 in
     let ok = node_ok progress y none in
     let at = yxx_of_node y ok.0 ok.1 in
-    let begun : Progress = record progress { stage = stage.Block ok.0; blocks = set progress.blocks ok.0 true; given = nothing_given } in
+    let begun : Progress = record progress { stage = stage.Block ok.0; blocks = set progress.blocks ok.0 true; given = nothing_given; held = runs } in
     let less : free (set progress.blocks ok.0 true) < free progress.blocks = one_less progress.blocks ok.0 (omega (arith, at.1, sized.blocks)) ok.2 in
     let P : Progress → Type 0 = IsLess progress in
     subst P (ap (with_block progress) (sym ok.1)) (omega arith, record { blocks = length-set progress.blocks ok.0 true ∙ sized.blocks; given = refl })
@@ -99,7 +101,7 @@ known stage.Open = inr (λ e. cc)
 known (stage.Block node) = inr (λ e. cc)
 known stage.Ended = inr (λ e. cc)
 
-pub past_start : (progress : Progress) (text : List ℕ) → progress.stage ≡ stage.Header → after_line progress text ≡ record progress { stage = stage.Open }
+pub past_start : (progress : Progress) (text : List ℕ) → progress.stage ≡ stage.Header → after_line progress text ≡ record progress { format = format_of text; stage = stage.Open }
 past_start progress text is = short_past progress text ∙ rw is refl
 
 -- each line leaves less room for others
@@ -111,15 +113,15 @@ line_less progress text sized none =
           let two : stage_room progress.stage ≡ 2 = ap stage_room is in
           subst P (sym (past_start progress text is)) (omega arith, record { blocks = sized.blocks; given = sized.given })
       | inr later ↦
-          let none_later : later_fault progress (form text) ≡ None = sym (line_later progress.stage progress text later) ∙ not_short progress text none in
-          let placed = neither (is_misplaced progress.stage (form text)) _ _ none_later in
-          let meaning = some_form progress.stage (form text) later placed.0 in
+          let none_later : later_fault progress (form_in progress.format text) ≡ None = sym (line_later progress.stage progress text later) ∙ not_short progress text none in
+          let placed = neither (is_misplaced progress.stage (form_in progress.format text)) _ _ none_later in
+          let meaning = some_form progress.stage (form_in progress.format text) later placed.0 in
           let fault : later_fault progress (Some meaning.0) ≡ None = ap (later_fault progress) (sym meaning.1) ∙ none_later in
           let past : after_line progress text ≡ after_form progress (Some meaning.0) = short_past progress text ∙ past_later progress.stage progress text later ∙ ap (after_form progress) meaning.1 in
-          subst P (sym past) (form_less progress meaning.0 sized later (λ at ws is. some_field text at ws (meaning.1 ∙ ap (λ f. Some f) is)) fault)
+          subst P (sym past) (form_less progress meaning.0 sized later (λ at ws is. some_spelled text at ws (kept_spelled progress.format text (Words at ws) (meaning.1 ∙ ap (λ f. Some f) is)).0) fault)
     ]
 
 -- at the start
-pub start_room : (room start ≤ 19141) × IsSized start
+pub start_room : (room start ≤ 22766) × IsSized start
 unfolding start
 start_room = (lit≤ tt, record { blocks = refl; given = refl })

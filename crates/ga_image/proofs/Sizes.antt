@@ -4,7 +4,7 @@ use Rattle.std.proofs.Common.{◌≡◌, ℕ, ◌+◌, ◌*◌, ◌<◌, ◌≤�
 use Rattle.std.proofs.lemmas.Bool.Decides.{nat_tests}
 use Rattle.ga_node.specs.State.{NodeState}
 use Rattle.ga_image.specs.declared.fault.ImageCause.TheVariants.{Long}
-use Rattle.ga_image.specs.Lines.{lines_of, with_byte}
+use Rattle.ga_image.specs.Lines.{longest, lines_of, with_byte}
 use Rattle.ga_image.specs.Progress.{Progress}
 use Rattle.ga_image.specs.Grammar.{IsImage}
 use Rattle.ga_image.specs.Reading.{reading, fault_of, line_fault, after_line, start}
@@ -34,7 +34,7 @@ text_size (byte ∷ text) = let more = byte_size (byte == 10) byte (lines_of tex
 pub short_line : (progress : Progress) (text : List ℕ) → fault_of progress text ≡ None → length text ≤ 200
 unfolding fault_of
 short_line progress text none =
-    let short = (neither (nat_lt 200 (length text)) Long (line_fault progress.stage progress text) none).0 in
+    let short = (neither (nat_lt longest (length text)) Long (line_fault progress.stage progress text) none).0 in
     grind (arith, nat_tests)
 
 -- lines that are read take up room, 201 bytes at most each

@@ -1,13 +1,16 @@
 -- The words of a field line, one after the other.
-use Rattle.std.specs.Prelude.{nat_lt}
+use Rattle.std.specs.Prelude.{nat_lt, ◌==◌, ◌-◌}
 use Rattle.std.specs.List.{list_any}
-use Rattle.std.proofs.Common.{◌≡◌, ℕ, ◌+◌, ◌<◌, ◌≤◌, Bool, true, false, List, [], ◌∷◌, zero, suc, length, drop, get_or, set, Some, refl, ap, arith}
+use Rattle.std.proofs.Common.{◌≡◌, sym, ◌∙◌, cond, ℕ, ◌+◌, ◌<◌, ◌≤◌, Bool, true, false, List, [], ◌∷◌, zero, suc, length, drop, get_or, set, Some, refl, ap, arith}
 use Rattle.std.proofs.lemmas.Bool.Decides.{nat_tests}
 use Rattle.std.proofs.lemmas.List.{drop_more}
+use Rattle.ga_node.specs.declared.place.Place.TheVariants as place
+use Rattle.ga_node.specs.Places.{greatest_of}
 use Rattle.ga_image.specs.declared.field.Field.{Field}
-use Rattle.ga_image.specs.declared.field.Field.TheVariants.{A, B, P, Ram, Rom}
+use Rattle.ga_image.specs.declared.field.Field.TheVariants.{A, B, P, I, Io, Carry, Slot, Wait, Stop, Data, Return, Ram, Rom}
 use Rattle.ga_image.specs.declared.fault.ImageCause.TheVariants.{Repeated}
 use Rattle.ga_image.specs.Fields.{HasCell, goes_past, greatest, next_field, number_of, writes, repeats, is_too_great}
+use Rattle.ga_image.specs.Spelling.{HoldsCode, AreCodes}
 use Rattle.ga_image.specs.Progress.{Progress}
 use Rattle.ga_image.specs.Reading.{words_fault, with_write, with_writes}
 use Rattle.ga_image.proofs.Flags.{or_false}
@@ -17,6 +20,14 @@ pub has_cell : (field : Field) (count : ℕ) → 0 < count → goes_past field c
 has_cell A count some fits = tt
 has_cell B count some fits = tt
 has_cell P count some fits = tt
+has_cell I count some fits = tt
+has_cell Io count some fits = tt
+has_cell Carry count some fits = tt
+has_cell Slot count some fits = tt
+has_cell Wait count some fits = tt
+has_cell Stop count some fits = tt
+has_cell (Data k) count some fits = grind (arith, nat_tests)
+has_cell (Return k) count some fits = grind (arith, nat_tests)
 has_cell (Ram cell) count some fits = grind (arith, nat_tests)
 has_cell (Rom cell) count some fits = grind (arith, nat_tests)
 
@@ -25,14 +36,44 @@ pub next_fits : (field : Field) (count less : ℕ) → count ≡ less + 1 → go
 next_fits A count less e fits = refl
 next_fits B count less e fits = refl
 next_fits P count less e fits = refl
+next_fits I count less e fits = refl
+next_fits Io count less e fits = refl
+next_fits Carry count less e fits = refl
+next_fits Slot count less e fits = refl
+next_fits Wait count less e fits = refl
+next_fits Stop count less e fits = refl
+next_fits (Data k) count less e fits = grind (arith, nat_tests)
+next_fits (Return k) count less e fits = grind (arith, nat_tests)
 next_fits (Ram cell) count less e fits = grind (arith, nat_tests)
 next_fits (Rom cell) count less e fits = grind (arith, nat_tests)
 
--- the cells of a memory hold the same words
+-- every word of a stack may be as great as a word
+data_greatest : (k : ℕ) → greatest (Data k) ≡ 0x3ffff
+data_greatest k = either (k == 0) (k == 1) where
+  either : (b c : Bool) → greatest_of (cond b place.T (cond c place.S (place.DataCell (k - 2)))) ≡ 0x3ffff
+  either true c = refl
+  either false true = refl
+  either false false = refl
+
+return_greatest : (k : ℕ) → greatest (Return k) ≡ 0x3ffff
+return_greatest k = either (k == 0) where
+  either : (b : Bool) → greatest_of (cond b place.R (place.ReturnCell (k - 1))) ≡ 0x3ffff
+  either true = refl
+  either false = refl
+
+-- the words of a stack and the cells of a memory hold the same words
 pub next_greatest : (field : Field) → greatest (next_field field) ≡ greatest field
 next_greatest A = refl
 next_greatest B = refl
 next_greatest P = refl
+next_greatest I = refl
+next_greatest Io = refl
+next_greatest Carry = refl
+next_greatest Slot = refl
+next_greatest Wait = refl
+next_greatest Stop = refl
+next_greatest (Data k) = data_greatest (k + 1) ∙ sym (data_greatest k)
+next_greatest (Return k) = return_greatest (k + 1) ∙ sym (return_greatest k)
 next_greatest (Ram cell) = refl
 next_greatest (Rom cell) = refl
 
@@ -64,3 +105,28 @@ repeats_later given field words i within free = rw (one_write field words i with
 pub written_later : (progress : Progress) (field : Field) (words : List ℕ) (i : ℕ) → i < length words
     → with_writes progress (writes field (drop i words)) ≡ with_writes (with_write progress (field, get_or words i 0)) (writes (next_field field) (drop (i + 1) words))
 written_later progress field words i within = ap (with_writes progress) (one_write field words i within)
+
+-- the words of a line are for fields of one kind
+next_holds : (field : Field) (word : ℕ) → HoldsCode field word → HoldsCode (next_field field) word
+next_holds A word holds = tt
+next_holds B word holds = tt
+next_holds P word holds = tt
+next_holds I word holds = tt
+next_holds Io word holds = tt
+next_holds Carry word holds = tt
+next_holds Slot word holds = tt
+next_holds Wait word holds = holds
+next_holds Stop word holds = tt
+next_holds (Data k) word holds = tt
+next_holds (Return k) word holds = tt
+next_holds (Ram cell) word holds = tt
+next_holds (Rom cell) word holds = tt
+
+pub next_codes : (field : Field) (words : List ℕ) → AreCodes field words → AreCodes (next_field field) words
+next_codes field [] codes = tt
+next_codes field (word ∷ words) codes = (next_holds field word codes.0, next_codes field words codes.1)
+
+pub code_at : (field : Field) (words : List ℕ) (i : ℕ) → i < length words → AreCodes field words → HoldsCode field (get_or words i 0)
+code_at field [] i within codes = absurd (omega arith)
+code_at field (word ∷ words) zero within codes = codes.0
+code_at field (word ∷ words) (suc i) within codes = code_at field words i (omega arith) codes.1

@@ -1,5 +1,5 @@
--- The digits of a node and of a memory cell.
-use Rattle.std.specs.Prelude.{ℕ, ◌+◌, ◌-◌, ◌*◌, ◌&&◌, nat_le, if◌then◌else◌, List, [], ◌∷◌, Option, Some, None}
+-- The digits of a node and of a memory cell, and the letters of a set of sides.
+use Rattle.std.specs.Prelude.{ℕ, ◌+◌, ◌-◌, ◌*◌, ◌==◌, ◌&&◌, nat_le, if◌then◌else◌, List, [], ◌∷◌, Option, Some, None}
 use Rattle.hex.specs.Hex.{hex_digit_value}
 use Rattle.ga_image.specs.Steps.{◌>>=◌}
 
@@ -23,3 +23,17 @@ cell_number (x ∷ y ∷ []) = do
   low ← hex_digit_value y
   Some (high * 16 + low)
 cell_number _ = None
+
+-- the value of a side in a set, by its letter or a hyphen
+abbrev pub side_value : ℕ → ℕ → ℕ → Option ℕ
+side_value name value byte = if byte == name then Some value else if byte == 45 then Some 0 else None
+
+-- the number of a set of sides
+unfoldable pub set_number : List ℕ → Option ℕ
+set_number (a ∷ b ∷ c ∷ d ∷ []) = do
+  right ← side_value 114 8 a
+  down ← side_value 100 4 b
+  left ← side_value 108 2 c
+  up ← side_value 117 1 d
+  Some (right + down + left + up)
+set_number _ = None

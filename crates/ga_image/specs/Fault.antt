@@ -1,7 +1,7 @@
 -- The causes of a refusal: the number and the word by which each is reported.
 use Rattle.std.specs.Prelude.{ℕ, List, codes}
 use Rattle.ga_image.specs.declared.fault.ImageCause.{ImageCause}
-use Rattle.ga_image.specs.declared.fault.ImageCause.TheVariants.{Header, Line, Node, Word, Repeated, Place, Truncated, Long, Memory}
+use Rattle.ga_image.specs.declared.fault.ImageCause.TheVariants.{Header, Line, Node, Word, Repeated, Place, Truncated, Long, Memory, State}
 
 -- the number of a cause
 abbrev pub number_of : ImageCause → ℕ
@@ -14,6 +14,7 @@ number_of Place = 16
 number_of Truncated = 17
 number_of Long = 18
 number_of Memory = 19
+number_of State = 20
 
 -- its word
 abbrev pub word_of : ImageCause → List ℕ
@@ -26,3 +27,4 @@ word_of Place = codes "place"
 word_of Truncated = codes "truncated"
 word_of Long = codes "long"
 word_of Memory = codes "memory"
+word_of State = codes "state"

@@ -1,54 +1,89 @@
 -- The fields of a block, and where the words of a field line go.
-use Rattle.std.specs.Prelude.{ℕ, ◌+◌, ◌<◌, ◌||◌, nat_lt, Bool, true, false, List, [], ◌∷◌, slice_index_or, slice_set}
+use Rattle.std.specs.Prelude.{ℕ, ◌+◌, ◌-◌, ◌<◌, ◌==◌, ◌||◌, nat_lt, if◌then◌else◌, Bool, true, false, List, [], ◌∷◌, slice_index_or, slice_set}
 use Rattle.std.specs.List.{list_any}
 use Rattle.ga_node.specs.declared.place.Place.{Place}
 use Rattle.ga_node.specs.declared.place.Place.TheVariants as place
 use Rattle.ga_node.specs.Places.{greatest_of}
 use Rattle.ga_image.specs.declared.field.Field.{Field}
-use Rattle.ga_image.specs.declared.field.Field.TheVariants.{A, B, P, Ram, Rom}
+use Rattle.ga_image.specs.declared.field.Field.TheVariants.{A, B, P, I, Io, Carry, Slot, Wait, Stop, Data, Return, Ram, Rom}
+use Rattle.ga_image.specs.declared.field.Format.{Format}
+use Rattle.ga_image.specs.declared.field.Format.TheVariants.{One, Two}
 
--- the place of a node that a field stands for
+-- a format has a field: format 1 has the registers A, B and P and the memories, format 2 has all
+abbrev pub has_field : Format → Field → Bool
+has_field Two field = true
+has_field One A = true
+has_field One B = true
+has_field One P = true
+has_field One (Ram cell) = true
+has_field One (Rom cell) = true
+has_field One _ = false
+
+-- The place of a node that a field stands for. A node at load has the newest of its stacks' cells at 0, and the older ones
+-- follow: so the words of the data stack stand in T, S and the cells from 0 on, and those of the return stack in R and the cells.
 abbrev pub place_of : Field → Place
 place_of A = place.A
 place_of B = place.B
 place_of P = place.P
+place_of I = place.I
+place_of Io = place.Io
+place_of Carry = place.Carry
+place_of Slot = place.Slot
+place_of Wait = place.Wait
+place_of Stop = place.Stop
+place_of (Data k) = if k == 0 then place.T else if k == 1 then place.S else place.DataCell (k - 2)
+place_of (Return k) = if k == 0 then place.R else place.ReturnCell (k - 1)
 place_of (Ram cell) = place.Ram cell
 place_of (Rom cell) = place.Rom cell
 
--- its number among the registers and cells of a node
+-- how many fields a block can give
+abbrev pub field_count : ℕ
+field_count = 156
+
+-- the field's number among them
 abbrev pub number_of : Field → ℕ
 number_of A = 0
 number_of B = 1
 number_of P = 2
-number_of (Ram cell) = 3 + cell
-number_of (Rom cell) = 67 + cell
+number_of I = 3
+number_of Io = 4
+number_of Carry = 5
+number_of Slot = 6
+number_of Wait = 7
+number_of Stop = 8
+number_of (Data k) = 9 + k
+number_of (Return k) = 19 + k
+number_of (Ram cell) = 28 + cell
+number_of (Rom cell) = 92 + cell
 
 -- where the next word of a line goes
 abbrev pub next_field : Field → Field
-next_field A = A
-next_field B = B
-next_field P = P
+next_field (Data k) = Data (k + 1)
+next_field (Return k) = Return (k + 1)
 next_field (Ram cell) = Ram (cell + 1)
 next_field (Rom cell) = Rom (cell + 1)
+next_field register = register
 
 -- words for a field and for those after it
 abbrev pub writes : Field → List ℕ → List (Field × ℕ)
 writes field [] = []
 writes field (word ∷ words) = (field, word) ∷ writes (next_field field) words
 
--- a register, or a cell that a memory has
+-- a register, a word that a stack has, or a cell that a memory has
 abbrev pub HasCell : Field → Type 0
-HasCell A = Unit {0}
-HasCell B = Unit {0}
-HasCell P = Unit {0}
+HasCell (Data k) = k < 10
+HasCell (Return k) = k < 9
 HasCell (Ram cell) = cell < 64
 HasCell (Rom cell) = cell < 64
+HasCell register = Unit {0}
 
--- so many words go past the last cell
+-- so many words go past the last word of a stack or the last cell of a memory
 abbrev pub goes_past : Field → ℕ → Bool
+goes_past (Data k) count = nat_lt 10 (k + count)
+goes_past (Return k) count = nat_lt 9 (k + count)
 goes_past (Ram cell) count = nat_lt 64 (cell + count)
 goes_past (Rom cell) count = nat_lt 64 (cell + count)
-goes_past _ count = false
+goes_past register count = false
 
 -- the greatest word that it holds
 abbrev pub greatest : Field → ℕ

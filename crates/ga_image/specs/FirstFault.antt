@@ -1,15 +1,19 @@
 -- The first fault of a text that is no image, told by its lines: what is wrong with a line is said of that line and of the
 -- lines before it.
-use Rattle.std.specs.Prelude.{◌≡◌, ◌≢◌, ℕ, ◌+◌, ◌<◌, ◌⊎◌, List, [], ◌∷◌, ◌++◌, length, None}
+use Rattle.std.specs.Prelude.{◌≡◌, ◌≢◌, ℕ, ◌+◌, ◌<◌, ◌⊎◌, true, List, [], ◌∷◌, ◌++◌, length, None}
 use Rattle.std.specs.List.{AllByRecursion}
 use Rattle.ga_grid.specs.Grid.{node_of}
 use Rattle.ga_image.specs.declared.fault.ImageCause.{ImageCause}
 use Rattle.ga_image.specs.declared.fault.ImageCause.TheVariants as cause
 use Rattle.ga_image.specs.declared.fault.ImageFault.{ImageFault}
 use Rattle.ga_image.specs.declared.field.Field.{Field}
+use Rattle.ga_image.specs.declared.field.Format.{Format}
+use Rattle.ga_image.specs.declared.field.Format.TheVariants.{One}
 use Rattle.ga_image.specs.Fields.{writes, greatest}
-use Rattle.ga_image.specs.Spelling.{Form, Node, Words, End, Spells}
-use Rattle.ga_image.specs.Grammar.{header, Fits}
+use Rattle.ga_image.specs.Held.{runs, held_after, is_unsteady}
+use Rattle.ga_image.specs.Lines.{longest}
+use Rattle.ga_image.specs.Spelling.{Form, Node, Words, End, Spells, SpellsIn}
+use Rattle.ga_image.specs.Grammar.{header, format_of, field_line_form, all_writes, Fits}
 
 -- P holds of one of these
 abbrev pub OneOf : {X : Type 0} → (X → Type 0) → List X → Type 0
@@ -42,19 +46,35 @@ abbrev pub WasGiven : List (List ℕ) → Field → Type 0
 WasGiven [] field = ⊥
 WasGiven (line ∷ lines) field = WasGiven lines field ⊎ (GivesField field line × ¬ OneOf BeginsBlock lines)
 
+-- these lines are field lines, with these fields and words
+abbrev pub SpellFields : List (List ℕ) → List (Field × List ℕ) → Type 0
+SpellFields [] [] = Unit {0}
+SpellFields (line ∷ lines) (field_line ∷ field_lines) = Spells line (field_line_form field_line) × SpellFields lines field_lines
+SpellFields _ _ = ⊥
+
+-- The last of these blocks has these field lines, up to the last line.
+abbrev pub GivesLines : List (List ℕ) → List (Field × List ℕ) → Type 0
+GivesLines [] field_lines = ⊥
+GivesLines (line ∷ lines) field_lines = GivesLines lines field_lines ⊎ (BeginsBlock line × SpellFields lines field_lines)
+
+-- the format that the first of these lines names
+abbrev pub format_in : List (List ℕ) → Format
+format_in [] = One
+format_in (line ∷ lines) = format_of line
+
 -- ---- what may be wrong with a line, behind the lines before it
 
 -- it has more than 200 bytes
 abbrev pub IsLong : List ℕ → Type 0
-IsLong line = 200 < length line
+IsLong line = longest < length line
 
--- it is the first line, and not the header
+-- it is the first line, and not the header of a format
 abbrev pub IsOtherHeader : List (List ℕ) → List ℕ → Type 0
-IsOtherHeader before line = (before ≡ []) × (line ≢ header)
+IsOtherHeader before line = (before ≡ []) × ((format : Format) → line ≢ header format)
 
--- it has none of the forms
-abbrev pub HasNoForm : List ℕ → Type 0
-HasNoForm line = (form : Form) → ¬ Spells line form
+-- it has none of the format's forms
+abbrev pub HasNoForm : Format → List ℕ → Type 0
+HasNoForm format line = (form : Form) → ¬ SpellsIn format line form
 
 -- it is a field line before the first block
 abbrev pub IsBeforeBlocks : List (List ℕ) → List ℕ → Type 0
@@ -62,7 +82,13 @@ IsBeforeBlocks before line = GivesWords line × ¬ OneOf BeginsBlock before
 
 -- behind the header it has no form, or may not stand there
 abbrev pub IsNoLine : List (List ℕ) → List ℕ → Type 0
-IsNoLine before line = (before ≢ []) × (HasNoForm line ⊎ IsBeforeBlocks before line ⊎ OneOf IsEnd before)
+IsNoLine before line = (before ≢ []) × (HasNoForm (format_in before) line ⊎ IsBeforeBlocks before line ⊎ OneOf IsEnd before)
+
+-- it ends a block whose wait, stop and slot can't stand together
+abbrev pub EndsUnsteady : List (List ℕ) → List ℕ → Type 0
+EndsUnsteady before line =
+    (BeginsBlock line ⊎ IsEnd line)
+    × ((field_lines : List (Field × List ℕ)) × GivesLines before field_lines × (is_unsteady (held_after runs (all_writes field_lines)) ≡ true))
 
 -- it begins the block of no node of the grid
 abbrev pub NamesNoNode : List ℕ → Type 0
@@ -91,6 +117,7 @@ abbrev pub HasCause : List (List ℕ) → List ℕ → ImageCause → Type 0
 HasCause before line cause.Long = IsLong line
 HasCause before line cause.Header = IsOtherHeader before line
 HasCause before line cause.Line = IsNoLine before line
+HasCause before line cause.State = EndsUnsteady before line
 HasCause before line cause.Node = NamesNoNode line
 HasCause before line cause.Place = GivesNoCell line
 HasCause before line cause.Word = GivesGreatWord line
@@ -100,7 +127,8 @@ HasCause before line cause.Memory = ⊥
 
 -- the causes of one line, in the order in which they are answered
 abbrev pub causes : List ImageCause
-causes = cause.Long ∷ cause.Header ∷ cause.Line ∷ cause.Node ∷ cause.Place ∷ cause.Word ∷ cause.Repeated ∷ []
+causes =
+    cause.Long ∷ cause.Header ∷ cause.Line ∷ cause.State ∷ cause.Node ∷ cause.Place ∷ cause.Word ∷ cause.Repeated ∷ []
 
 -- the first of these causes that a line has
 abbrev pub IsFirstCause : List (List ℕ) → List ℕ → List ImageCause → ImageCause → Type 0

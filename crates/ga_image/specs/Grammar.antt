@@ -1,17 +1,32 @@
 -- Images: which lines describe which chip.
-use Rattle.std.specs.Prelude.{◌≡◌, ℕ, ◌+◌, ◌<◌, ◌≤◌, nat_eq, List, [], ◌∷◌, ◌++◌, length, codes, map, flat_map}
+use Rattle.std.specs.Prelude.{◌≡◌, ℕ, ◌+◌, ◌<◌, ◌≤◌, nat_eq, Bool, false, if◌then◌else◌, List, [], ◌∷◌, ◌++◌, length, codes, map, flat_map}
+use Rattle.std.specs.Cmp.Lexicographic.{pointwise}
 use Rattle.std.specs.List.{AllByRecursion, IsDistinct}
 use Rattle.ga_node.specs.State.{NodeState, with_value}
 use Rattle.ga_grid.specs.Chip.{default_chip, node_at, with_node}
 use Rattle.ga_grid.specs.Grid.{yxx_of}
 use Rattle.ga_image.specs.declared.field.Field.{Field}
-use Rattle.ga_image.specs.declared.field.Field.TheVariants.{A, B, P, Ram, Rom}
+use Rattle.ga_image.specs.declared.field.Field.TheVariants.{Wait, Stop, Data, Return, Ram, Rom}
+use Rattle.ga_image.specs.declared.field.Format.{Format}
+use Rattle.ga_image.specs.declared.field.Format.TheVariants.{One, Two}
+use Rattle.ga_node.specs.declared.wait.Wait.TheVariants.{Nothing}
+use Rattle.ga_node.specs.Waits.{wait_of}
 use Rattle.ga_image.specs.Fields.{place_of, writes, greatest, number_of}
-use Rattle.ga_image.specs.Spelling.{Form, Node, Words, End, Spells}
+use Rattle.ga_image.specs.Held.{runs, held_after, is_unsteady}
+use Rattle.ga_image.specs.Spelling.{Form, Node, Words, End, SpellsIn}
 
--- the first line
-abbrev pub header : List ℕ
-header = codes "ga144 1"
+-- the first line, which names the format
+abbrev pub header : Format → List ℕ
+header One = codes "ga144 1"
+header Two = codes "ga144 2"
+
+-- a line is the header of this format
+abbrev pub names : List ℕ → Format → Bool
+names text format = pointwise nat_eq text (header format)
+
+-- the format of a header
+abbrev pub format_of : List ℕ → Format
+format_of text = if names text One then One else Two
 
 -- a block: its node, and its field lines, each with a field and the words for it and for those after it
 pub record Block : Type 0 where
@@ -30,13 +45,13 @@ block_forms block = Node (yxx_of block.node) ∷ map field_line_form block.field
 abbrev pub all_writes : List (Field × List ℕ) → List (Field × ℕ)
 all_writes field_lines = flat_map (λ line. writes line.0 line.1) field_lines
 
--- so many words from a field on stay within its memory
+-- so many words from a field on stay within its stack or memory
 abbrev pub Fits : Field → ℕ → Type 0
-Fits A count = Unit {0}
-Fits B count = Unit {0}
-Fits P count = Unit {0}
+Fits (Data k) count = k + count ≤ 10
+Fits (Return k) count = k + count ≤ 9
 Fits (Ram cell) count = cell + count ≤ 64
 Fits (Rom cell) count = cell + count ≤ 64
+Fits _ count = Unit {0}
 
 -- no cell is past the last, and no word past its greatest
 abbrev pub IsFieldLine : Field × List ℕ → Type 0
@@ -48,10 +63,18 @@ pub record IsBlock (block : Block) : Type 0 where
   pub field_lines : AllByRecursion IsFieldLine block.field_lines
   -- no field is given twice
   pub apart : IsDistinct nat_eq (map (λ w. number_of w.0) (all_writes block.field_lines))
+  -- its wait, stop and slot can stand together
+  pub steady : is_unsteady (held_after runs (all_writes block.field_lines)) ≡ false
+
+-- A node with another word in a field. A node that waits isn't stopped, and one that is stopped doesn't wait.
+abbrev pub with_field : NodeState → Field → ℕ → NodeState
+with_field node Wait code = record node { wait = wait_of code; stop = 0 }
+with_field node Stop number = record node { stop = number; wait = Nothing }
+with_field node field word = with_value node (place_of field) word
 
 -- a chip with another word in a field of a node
 unfoldable pub with_word : List NodeState → ℕ → Field × ℕ → List NodeState
-with_word chip node w = with_node chip node (with_value (node_at chip node) (place_of w.0) w.1)
+with_word chip node w = with_node chip node (with_field (node_at chip node) w.0 w.1)
 
 -- a chip with what a block gives, one word after the other
 abbrev pub written : ℕ → List NodeState → List (Field × ℕ) → List NodeState
@@ -63,19 +86,20 @@ abbrev pub loaded : List NodeState → List Block → List NodeState
 loaded chip [] = chip
 loaded chip (block ∷ blocks) = loaded (written block.node chip (all_writes block.field_lines)) blocks
 
--- the lines spell these forms, one each
-abbrev pub Spell : List (List ℕ) → List Form → Type 0
-Spell [] [] = Unit {0}
-Spell (text ∷ texts) (form ∷ forms) = Spells text form × Spell texts forms
-Spell [] (form ∷ forms) = ⊥
-Spell (text ∷ texts) [] = ⊥
+-- lines of the format spell these forms, one each
+abbrev pub Spell : Format → List (List ℕ) → List Form → Type 0
+Spell format [] [] = Unit {0}
+Spell format (text ∷ texts) (form ∷ forms) = SpellsIn format text form × Spell format texts forms
+Spell format [] (form ∷ forms) = ⊥
+Spell format (text ∷ texts) [] = ⊥
 
 -- The lines are the header, blocks and `end`; the chip has what the blocks give, and else its defaults.
 pub record IsImage (texts : List (List ℕ)) (chip : List NodeState) : Type 0 where
+  pub format : Format
   pub lines : List (List ℕ)
   pub blocks : List Block
-  pub starts : texts ≡ header ∷ lines
-  pub spelled : Spell lines (flat_map block_forms blocks ++ End ∷ [])
+  pub starts : texts ≡ header format ∷ lines
+  pub spelled : Spell format lines (flat_map block_forms blocks ++ End ∷ [])
   pub each : AllByRecursion IsBlock blocks
   -- no node has two blocks
   pub apart : IsDistinct nat_eq (map (λ block. block.node) blocks)

@@ -1,6 +1,7 @@
 pub mod Lines
 pub mod Fault
 pub mod Fields
+pub mod Held
 pub mod Spelling
 pub mod Grammar
 pub mod Steps

@@ -10,3 +10,7 @@ with_byte byte (line ∷ lines) = (byte ∷ line) ∷ lines
 abbrev pub lines_of : List ℕ → List (List ℕ)
 lines_of [] = []
 lines_of (byte ∷ text) = if byte == 10 then [] ∷ lines_of text else with_byte byte (lines_of text)
+
+-- the most bytes of a line, without its line feed
+abbrev pub longest : ℕ
+longest = 200

@@ -1,6 +1,8 @@
 -- What the lines of an image come to, one after the other.
 use Rattle.std.specs.Prelude.{ℕ, Bool, List}
 use Rattle.ga_node.specs.State.{NodeState}
+use Rattle.ga_image.specs.declared.field.Format.{Format}
+use Rattle.ga_image.specs.declared.held.Held.{Held}
 use Rattle.ga_image.specs.declared.parser.Parser.{Parser}
 use Rattle.ga_image.specs.declared.parser.Stage.{Stage as Expects}
 use Rattle.ga_image.specs.declared.parser.Stage.TheVariants as expects
@@ -14,11 +16,15 @@ pub data Stage : Type 0 where
 
 -- what the lines so far come to
 pub record Progress : Type 0 where
+  -- the format that the header names
+  pub format : Format
   pub stage : Stage
   -- for each node by its number, whether it has a block
   pub blocks : List Bool
   -- for each field by its number, whether the last block gave it
   pub given : List Bool
+  -- what the last block says of its node's wait, stop and slot
+  pub held : Held
   pub chip : List NodeState
 
 -- a stage, as contracts see it
@@ -30,4 +36,17 @@ stage_of expects.Ended = Ended
 
 -- a parser, as contracts see it
 abbrev pub progress_of : Parser → Progress
-progress_of parser = record { stage = stage_of parser.stage; blocks = parser.blocks; given = parser.given; chip = parser.chip }
+progress_of parser = record {
+  format = parser.format;
+  stage = stage_of parser.stage;
+  blocks = parser.blocks;
+  given = parser.given;
+  held = parser.held;
+  chip = parser.chip;
+}
+
+-- the header was read, and no end
+abbrev pub IsBehindHeader : Stage → Type 0
+IsBehindHeader Open = Unit {0}
+IsBehindHeader (Block node) = Unit {0}
+IsBehindHeader _ = ⊥

@@ -1,6 +1,5 @@
 -- Reading an image line by line, with the first fault that is met.
-use Rattle.std.specs.Prelude.{◌≡◌, ℕ, ◌+◌, ◌⊎◌, nat_eq, nat_lt, Bool, true, false, if◌then◌else◌, List, [], ◌∷◌, length, replicate, slice_index_or, slice_set, is_none, Option, Some, None, Result, Ok, Err}
-use Rattle.std.specs.Cmp.Lexicographic.{pointwise}
+use Rattle.std.specs.Prelude.{◌≡◌, ℕ, ◌+◌, ◌⊎◌, nat_lt, Bool, true, false, ◌||◌, if◌then◌else◌, List, [], ◌∷◌, length, replicate, slice_index_or, slice_set, is_none, Option, Some, None, Result, Ok, Err}
 use Rattle.ga_node.specs.State.{NodeState}
 use Rattle.ga_grid.specs.Chip.{default_chip}
 use Rattle.ga_grid.specs.Grid.{node_of}
@@ -8,23 +7,43 @@ use Rattle.ga_image.specs.declared.fault.ImageCause.{ImageCause}
 use Rattle.ga_image.specs.declared.fault.ImageCause.TheVariants as cause
 use Rattle.ga_image.specs.declared.fault.ImageFault.{ImageFault}
 use Rattle.ga_image.specs.declared.field.Field.{Field}
-use Rattle.ga_image.specs.Fields.{number_of, writes, goes_past, is_too_great, repeats}
+use Rattle.ga_image.specs.declared.field.Format.{Format}
+use Rattle.ga_image.specs.declared.field.Format.TheVariants.{One, Two}
+use Rattle.ga_image.specs.declared.held.Held.{Held}
+use Rattle.ga_image.specs.Held.{runs, with_held, is_unsteady}
+use Rattle.ga_image.specs.Fields.{field_count, has_field, number_of, writes, goes_past, is_too_great, repeats}
 use Rattle.ga_image.specs.Spelling.{Form, Node, Words, End}
 use Rattle.ga_image.specs.Forms.{form}
-use Rattle.ga_image.specs.Grammar.{header, with_word}
+use Rattle.ga_image.specs.Lines.{longest}
+use Rattle.ga_image.specs.Grammar.{names, format_of, with_word}
 use Rattle.ga_image.specs.Progress.{Stage, Header, Open, Block, Ended, Progress}
 
 -- no field
 abbrev pub nothing_given : List Bool
-nothing_given = replicate 131 false
+nothing_given = replicate field_count false
 
 -- before the first line
 unfoldable pub start : Progress
-start = record { stage = Header; blocks = replicate 144 false; given = nothing_given; chip = default_chip }
+start = record {
+  format = One;
+  stage = Header;
+  blocks = replicate 144 false;
+  given = nothing_given;
+  held = runs;
+  chip = default_chip;
+}
 
--- the first line is the header
+-- the first line is a header
 abbrev pub is_header : List ℕ → Bool
-is_header text = pointwise nat_eq text header
+is_header text = names text One || names text Two
+
+-- the form of a line, if the format has it
+abbrev pub kept_in : Format → Option Form → Option Form
+kept_in format (Some (Words field words)) = if has_field format field then Some (Words field words) else None
+kept_in format other = other
+
+abbrev pub form_in : Format → List ℕ → Option Form
+form_in format text = kept_in format (form text)
 
 -- the line has no form, or is a field line before the first block, or stands behind the end
 abbrev pub is_misplaced : Stage → Option Form → Bool
@@ -59,6 +78,12 @@ words_fault progress field words = first_of (
     ∷ (cause.Repeated, repeats progress.given (writes field words))
     ∷ [])
 
+-- The line ends a block whose wait, stop and slot can't stand together.
+abbrev pub ends_unsteady : Stage → Held → Option Form → Bool
+ends_unsteady (Block node) held (Some (Node yxx)) = is_unsteady held
+ends_unsteady (Block node) held (Some End) = is_unsteady held
+ends_unsteady _ held _ = false
+
 -- with a line that may stand there,
 abbrev pub form_fault : Progress → Option Form → Option ImageCause
 form_fault progress (Some (Node yxx)) = node_fault progress yxx
@@ -67,16 +92,19 @@ form_fault progress _ = None
 
 -- with a line behind the first,
 abbrev pub later_fault : Progress → Option Form → Option ImageCause
-later_fault progress form = if is_misplaced progress.stage form then Some cause.Line else form_fault progress form
+later_fault progress form =
+    if is_misplaced progress.stage form then Some cause.Line
+    else if ends_unsteady progress.stage progress.held form then Some cause.State
+    else form_fault progress form
 
 -- and with any line.
 abbrev pub line_fault : Stage → Progress → List ℕ → Option ImageCause
 line_fault Header progress text = if is_header text then None else Some cause.Header
-line_fault _ progress text = later_fault progress (form text)
+line_fault _ progress text = later_fault progress (form_in progress.format text)
 
 -- The first fault of a line; that it is too long comes before all others.
 unfoldable pub fault_of : Progress → List ℕ → Option ImageCause
-fault_of progress text = if nat_lt 200 (length text) then Some cause.Long else line_fault progress.stage progress text
+fault_of progress text = if nat_lt longest (length text) then Some cause.Long else line_fault progress.stage progress text
 
 -- the node whose block it is
 abbrev pub node_in : Stage → ℕ
@@ -87,6 +115,7 @@ node_in _ = 0
 abbrev pub with_write : Progress → Field × ℕ → Progress
 with_write progress w = record progress {
   given = slice_set progress.given (number_of w.0) true;
+  held = with_held progress.held w;
   chip = with_word progress.chip (node_in progress.stage) w;
 }
 
@@ -97,7 +126,12 @@ with_writes progress (w ∷ ws) = with_writes (with_write progress w) ws
 
 -- a block of the node begins
 abbrev pub with_block : Progress → Option ℕ → Progress
-with_block progress (Some node) = record progress { stage = Block node; blocks = slice_set progress.blocks node true; given = nothing_given }
+with_block progress (Some node) = record progress {
+  stage = Block node;
+  blocks = slice_set progress.blocks node true;
+  given = nothing_given;
+  held = runs;
+}
 with_block progress None = progress
 
 -- after a line of a form that may stand there
@@ -109,8 +143,8 @@ after_form progress None = progress
 
 -- after a line at this stage
 abbrev pub after_stage : Stage → Progress → List ℕ → Progress
-after_stage Header progress text = record progress { stage = Open }
-after_stage _ progress text = after_form progress (form text)
+after_stage Header progress text = record progress { format = format_of text; stage = Open }
+after_stage _ progress text = after_form progress (form_in progress.format text)
 
 -- after a line with no fault
 unfoldable pub after_line : Progress → List ℕ → Progress

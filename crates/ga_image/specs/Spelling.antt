@@ -1,10 +1,13 @@
 -- The forms of a line, and how each is spelled.
-use Rattle.std.specs.Prelude.{◌≡◌, ℕ, ◌+◌, ◌/◌, ◌%◌, ◌^◌, ◌<◌, ◌≤◌, ◌++◌, List, [], ◌∷◌, length, codes, flat_map}
+use Rattle.std.specs.Prelude.{◌≡◌, ◌≢◌, ℕ, ◌+◌, ◌-◌, ◌/◌, ◌%◌, ◌^◌, ◌<◌, ◌≤◌, ◌==◌, nat_lt, if◌then◌else◌, true, ◌++◌, List, [], ◌∷◌, length, codes, flat_map}
 use Rattle.std.specs.List.{AllByRecursion}
 use Rattle.std.specs.Str.{str_to_ascii_lowercase}
 use Rattle.ga_word.specs.Word.{hex_digit, hex6_of}
+use Rattle.ga_node.specs.Waits.{IsWaitCode}
 use Rattle.ga_image.specs.declared.field.Field.{Field}
-use Rattle.ga_image.specs.declared.field.Field.TheVariants.{A, B, P, Ram, Rom}
+use Rattle.ga_image.specs.declared.field.Format.{Format}
+use Rattle.ga_image.specs.Fields.{has_field}
+use Rattle.ga_image.specs.declared.field.Field.TheVariants.{A, B, P, I, Io, Carry, Slot, Wait, Stop, Data, Return, Ram, Rom}
 
 -- A line behind the header: a block of the node with this row and column begins; words for a field and for those
 -- after it; or the end.
@@ -25,31 +28,53 @@ hex2_of n = hex_digit n 1 ∷ hex_digit n 0 ∷ []
 abbrev pub words_text : List ℕ → List ℕ
 words_text words = flat_map (λ word. 32 ∷ hex6_of word) words
 
+-- the letter of a side in a set, or a hyphen where the set lacks it
+abbrev pub letter : ℕ → ℕ → ℕ
+letter name bit = if bit == 1 then name else 45
+
+-- a set of sides: r for right, d for down, l for left and u for up
+abbrev pub set_text : ℕ → List ℕ
+set_text sides = letter 114 (sides / 8 % 2) ∷ letter 100 (sides / 4 % 2) ∷ letter 108 (sides / 2 % 2) ∷ letter 117 (sides % 2) ∷ []
+
+-- what a node waits for, by the number of the wait
+abbrev pub wait_text : ℕ → List ℕ
+wait_text code =
+    if nat_lt code 32 then codes "fetch " ++ set_text (code - 16)
+    else if nat_lt code 48 then codes "read " ++ set_text (code - 32)
+    else codes "write " ++ set_text (code - 48)
+
 -- what a field line begins with
 abbrev pub name_of : Field → List ℕ
 name_of A = codes "a"
 name_of B = codes "b"
 name_of P = codes "p"
+name_of I = codes "i"
+name_of Io = codes "io"
+name_of Carry = codes "carry "
+name_of Slot = codes "slot "
+name_of Wait = codes "wait "
+name_of Stop = codes "stop "
+name_of (Data k) = codes "d"
+name_of (Return k) = codes "r"
 name_of (Ram cell) = codes "ram "
 name_of (Rom cell) = codes "rom "
 
 -- and the numbers that follow
 abbrev pub numbers_of : Field → List ℕ → List ℕ
-numbers_of A words = words_text words
-numbers_of B words = words_text words
-numbers_of P words = words_text words
 numbers_of (Ram cell) words = hex2_of cell ++ words_text words
 numbers_of (Rom cell) words = hex2_of cell ++ words_text words
+numbers_of _ words = words_text words
 
--- a register is given one word; from a cell on 1 to 16 are given, and the cell has two digits
+-- A register is given one word, a stack all its words from the top on; from a cell on 1 to 16 are given, and the cell has two
+-- digits.
 abbrev pub HasCount : Field → ℕ → Type 0
-HasCount A count = count ≡ 1
-HasCount B count = count ≡ 1
-HasCount P count = count ≡ 1
+HasCount (Data k) count = (k ≡ 0) × (count ≡ 10)
+HasCount (Return k) count = (k ≡ 0) × (count ≡ 9)
 HasCount (Ram cell) count = (cell < 256) × (1 ≤ count) × (count ≤ 16)
 HasCount (Rom cell) count = (cell < 256) × (1 ≤ count) × (count ≤ 16)
+HasCount _ count = count ≡ 1
 
--- a field line, whose digits may be of either case
+-- a field line of words, whose digits may be of either case
 pub record SpellsWords (text : List ℕ) (field : Field) (words : List ℕ) : Type 0 where
   pub count : HasCount field (length words)
   pub six_digits : AllByRecursion (λ word. word < 2 ^ 24) words
@@ -57,8 +82,53 @@ pub record SpellsWords (text : List ℕ) (field : Field) (words : List ℕ) : Ty
   pub parts : text ≡ name_of field ++ numbers
   pub digits : str_to_ascii_lowercase numbers ≡ numbers_of field words
 
+-- the numbers that a carry, a slot, a wait or a stop may have in a line
+abbrev pub IsCode : Field → ℕ → Type 0
+IsCode Carry code = code ≤ 1
+IsCode Slot code = code ≤ 4
+IsCode Wait code = IsWaitCode code × (code ≢ 0)
+IsCode Stop code = (1 ≤ code) × (code ≤ 3)
+IsCode _ code = ⊥
+
+-- a word for a field, which for a wait is the number of one
+abbrev pub HoldsCode : Field → ℕ → Type 0
+HoldsCode Wait word = IsWaitCode word
+HoldsCode _ word = Unit {0}
+
+abbrev pub AreCodes : Field → List ℕ → Type 0
+AreCodes field words = AllByRecursion (HoldsCode field) words
+
+-- and how they are spelled: one decimal digit, or what the node waits for
+abbrev pub code_text : Field → ℕ → List ℕ
+code_text Wait code = wait_text code
+code_text _ code = (48 + code) ∷ []
+
+-- a line of a carry, a slot, a wait or a stop
+pub record SpellsCode (text : List ℕ) (field : Field) (words : List ℕ) : Type 0 where
+  pub code : ℕ
+  pub one : words ≡ code ∷ []
+  pub valid : IsCode field code
+  pub parts : text ≡ name_of field ++ code_text field code
+
+-- any field line
+abbrev pub SpellsField : List ℕ → Field → List ℕ → Type 0
+SpellsField text Carry words = SpellsCode text Carry words
+SpellsField text Slot words = SpellsCode text Slot words
+SpellsField text Wait words = SpellsCode text Wait words
+SpellsField text Stop words = SpellsCode text Stop words
+SpellsField text field words = SpellsWords text field words
+
 -- the text of a line behind the header
 abbrev pub Spells : List ℕ → Form → Type 0
 Spells text (Node yxx) = (yxx < 1000) × (text ≡ codes "node " ++ decimal3_of yxx)
-Spells text (Words field words) = SpellsWords text field words
+Spells text (Words field words) = SpellsField text field words
 Spells text End = text ≡ codes "end"
+
+-- a form that lines of the format may have
+abbrev pub IsFormOf : Format → Form → Type 0
+IsFormOf format (Words field words) = has_field format field ≡ true
+IsFormOf format _ = Unit {0}
+
+-- the text of a line of the format
+abbrev pub SpellsIn : Format → List ℕ → Form → Type 0
+SpellsIn format text form = Spells text form × IsFormOf format form

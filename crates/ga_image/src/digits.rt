@@ -1,7 +1,7 @@
 //! Numbers of a fixed count of digits.
 
-ghost use Rattle.std.specs.Prelude.{◌≡◌, ◌<◌, IfSome};
-ghost use Rattle.ga_image.specs.Digits.{decimal_digit, cell_number, node_number};
+ghost use Rattle.std.specs.Prelude.{◌≡◌, ◌<◌, ◌≤◌, ◌⊎◌, IfSome};
+ghost use Rattle.ga_image.specs.Digits.{decimal_digit, cell_number, node_number, side_value, set_number};
 
 /// The number of a cell, as two hexadecimal digits in either case.
 pub(crate) fn cell_number(text: &[u8]) -> Option<u8>
@@ -35,6 +35,37 @@ pub(crate) fn node_number(text: &[u8]) -> Option<u32>
             let tens = decimal_digit(*tens)?;
             let ones = decimal_digit(*ones)?;
             Some(100 * row + 10 * tens + ones)
+        }
+        _ => None,
+    }
+}
+
+fn side_value(name: u8, value: u32, byte: u8) -> Option<u32>
+    ensures value { result ≡ side_value name value byte }
+    ensures in_range { IfSome result (λ v. v ≤ value) }
+{
+    if byte == name {
+        Some(value)
+    } else if byte == b'-' {
+        Some(0)
+    } else {
+        None
+    }
+}
+
+/// The number of a set of sides: right 8, down 4, left 2, up 1.
+#[tactic(auto, unfolding(crate::specs::Digits::set_number))]
+pub(crate) fn set_number(text: &[u8]) -> Option<u32>
+    ensures value { result ≡ set_number text.now }
+    ensures in_range { IfSome result (λ sides. sides ≤ 15) }
+{
+    match text {
+        [right, down, left, up] => {
+            let right = side_value(b'r', 8, *right)?;
+            let down = side_value(b'd', 4, *down)?;
+            let left = side_value(b'l', 2, *left)?;
+            let up = side_value(b'u', 1, *up)?;
+            Some(right + down + left + up)
         }
         _ => None,
     }

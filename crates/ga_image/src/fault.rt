@@ -26,6 +26,8 @@ pub enum ImageCause {
     Long,
     #[error("out of memory")]
     Memory,
+    #[error("the wait, the stop and the slot of the block before can't stand together")]
+    State,
 }
 
 impl ImageCause {
@@ -43,6 +45,7 @@ impl ImageCause {
             ImageCause::Truncated => 17,
             ImageCause::Long => 18,
             ImageCause::Memory => 19,
+            ImageCause::State => 20,
         }
     }
 
@@ -60,6 +63,7 @@ impl ImageCause {
             ImageCause::Truncated => "truncated",
             ImageCause::Long => "long",
             ImageCause::Memory => "memory",
+            ImageCause::State => "state",
         }
     }
 }

@@ -1,25 +1,58 @@
 //! The fields of a block.
 
 ghost use Rattle.std.specs.Prelude.{◌≡◌, ◌<◌, ◌≤◌, length};
-ghost use Rattle.ga_image.specs.Fields.{place_of, number_of, next_field, goes_past, is_too_great, HasCell};
+ghost use Rattle.ga_image.specs.Fields.{has_field, place_of, number_of, next_field, goes_past, is_too_great, HasCell};
 
 use ga_node::Place;
 
-/// How many registers and cells of a node an image gives: A, B, P, and two memories of 64 words.
-pub(crate) const FIELDS: usize = 131;
+/// How many registers, words of the stacks and cells of a node an image gives: nine registers, ten and nine words, and two
+/// memories of 64 cells.
+pub(crate) const FIELDS: usize = 156;
 
-/// What a field line gives words to. Of a memory it names the cell of the first word.
+/// A format of images, by the number in its header.
+#[derive(Clone, Copy)]
+pub(crate) enum Format {
+    One,
+    Two,
+}
+
+/// What a field line gives words to. Of a stack or a memory it names the place of the first word.
 #[derive(Clone, Copy)]
 pub(crate) enum Field {
     A,
     B,
     P,
+    I,
+    Io,
+    Carry,
+    Slot,
+    Wait,
+    Stop,
+    /// A word of the data stack, 0 for T.
+    Data(u8),
+    /// A word of the return stack, 0 for R.
+    Return(u8),
     Ram(u8),
     Rom(u8),
 }
 
+impl Format {
+    /// Whether a block of this format may give the field.
+    pub(crate) fn has(self, field: Field) -> bool
+        ensures { result ≡ has_field self field }
+    {
+        match self {
+            Format::Two => true,
+            Format::One => match field {
+                Field::A | Field::B | Field::P | Field::Ram(_) | Field::Rom(_) => true,
+                _ => false,
+            },
+        }
+    }
+}
+
 impl Field {
-    /// The place of the node that it stands for.
+    /// The place of a node at load that it stands for.
     pub(crate) fn place(self) -> Place
         ensures { result ≡ place_of self }
     {
@@ -27,12 +60,23 @@ impl Field {
             Field::A => Place::A,
             Field::B => Place::B,
             Field::P => Place::P,
+            Field::I => Place::I,
+            Field::Io => Place::Io,
+            Field::Carry => Place::Carry,
+            Field::Slot => Place::Slot,
+            Field::Wait => Place::Wait,
+            Field::Stop => Place::Stop,
+            Field::Data(0) => Place::T,
+            Field::Data(1) => Place::S,
+            Field::Data(word) => Place::DataCell(word - 2),
+            Field::Return(0) => Place::R,
+            Field::Return(word) => Place::ReturnCell(word - 1),
             Field::Ram(cell) => Place::Ram(cell),
             Field::Rom(cell) => Place::Rom(cell),
         }
     }
 
-    /// Its number among the registers and cells of a node.
+    /// Its number among the fields of a node.
     pub(crate) fn number(self) -> usize
         requires { HasCell self }
         ensures value { result ≡ number_of self }
@@ -42,8 +86,16 @@ impl Field {
             Field::A => 0,
             Field::B => 1,
             Field::P => 2,
-            Field::Ram(cell) => 3 + cell as usize,
-            Field::Rom(cell) => 67 + cell as usize,
+            Field::I => 3,
+            Field::Io => 4,
+            Field::Carry => 5,
+            Field::Slot => 6,
+            Field::Wait => 7,
+            Field::Stop => 8,
+            Field::Data(word) => 9 + word as usize,
+            Field::Return(word) => 19 + word as usize,
+            Field::Ram(cell) => 28 + cell as usize,
+            Field::Rom(cell) => 92 + cell as usize,
         }
     }
 
@@ -53,18 +105,22 @@ impl Field {
         ensures { result ≡ next_field self }
     {
         match self {
+            Field::Data(word) => Field::Data(word + 1),
+            Field::Return(word) => Field::Return(word + 1),
             Field::Ram(cell) => Field::Ram(cell + 1),
             Field::Rom(cell) => Field::Rom(cell + 1),
             register => register,
         }
     }
 
-    /// Whether so many words go past the last cell.
+    /// Whether so many words go past the last word of the stack or the last cell of the memory.
     pub(crate) fn goes_past(self, count: usize) -> bool
         requires { count ≤ 16 }
         ensures { result ≡ goes_past self count }
     {
         match self {
+            Field::Data(word) => word as usize + count > 10,
+            Field::Return(word) => word as usize + count > 9,
             Field::Ram(cell) | Field::Rom(cell) => cell as usize + count > 64,
             _ => false,
         }

@@ -21,6 +21,7 @@
 mod digits;
 mod fault;
 mod field;
+mod held;
 mod image;
 pub mod laws;
 mod line;

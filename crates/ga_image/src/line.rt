@@ -1,10 +1,26 @@
 //! The forms of a line.
 
-ghost use Rattle.std.specs.Prelude.{◌≡◌};
+ghost use Rattle.std.specs.Prelude.{◌≡◌, ◌≤◌, [], ◌∷◌};
+ghost use Rattle.ga_image.specs.Spelling.{Words};
 ghost use Rattle.std.specs.Option.{option_map};
-ghost use Rattle.ga_image.specs.Forms.{form_of, field_in, words, word_form, cells_form, node_form, form};
+ghost use Rattle.ga_image.specs.Forms.{
+  form_of,
+  field_in,
+  words,
+  word_form,
+  cells_form,
+  stack_form,
+  digit_form,
+  set_form,
+  side_form,
+  wait_form,
+  node_form,
+  wide_form,
+  state_form,
+  form,
+};
 
-use super::digits::{cell_number, node_number};
+use super::digits::{cell_number, node_number, set_number};
 use super::field::Field;
 use arrayvec::ArrayVec;
 use ga_word::Word18;
@@ -70,11 +86,127 @@ fn cells_line(memory: Memory, text: &[u8]) -> Option<Line>
     Some(Line::Words(field, words))
 }
 
+#[tactic(auto, unfolding(crate::specs::Forms::stack_form))]
+fn stack_line(field: Field, count: usize, text: &[u8]) -> Option<Line>
+    ensures { option_map form_of result ≡ stack_form field count text.now }
+{
+    let words = read_words(text)?;
+    if words.len() == count {
+        Some(Line::Words(field, words))
+    } else {
+        None
+    }
+}
+
+fn one_word(field: Field, word: u32) -> Line
+    ensures { form_of result ≡ Words field (word ∷ []) }
+{
+    let mut words = ArrayVec::new();
+    words.push(word);
+    Line::Words(field, words)
+}
+
+#[tactic(auto, unfolding(crate::specs::Forms::digit_form))]
+fn digit_line(field: Field, least: u8, most: u8, text: &[u8]) -> Option<Line>
+    requires least { least ≤ 9 }
+    requires most { most ≤ 9 }
+    ensures { option_map form_of result ≡ digit_form field least most text.now }
+{
+    match text {
+        [digit] => {
+            if b'0' + least <= *digit && *digit <= b'0' + most {
+                Some(one_word(field, u32::from(*digit - b'0')))
+            } else {
+                None
+            }
+        }
+        _ => None,
+    }
+}
+
+#[tactic(auto, unfolding(crate::specs::Forms::set_form))]
+fn set_line(kind: u32, text: &[u8]) -> Option<Line>
+    requires { kind ≤ 48 }
+    ensures { option_map form_of result ≡ set_form kind text.now }
+{
+    let sides = set_number(text)?;
+    if sides == 0 {
+        None
+    } else {
+        Some(one_word(Field::Wait, kind + sides))
+    }
+}
+
+#[tactic(auto, unfolding(crate::specs::Forms::side_form))]
+fn side_line(text: &[u8]) -> Option<Line>
+    ensures { option_map form_of result ≡ side_form text.now }
+{
+    let sides = set_number(text)?;
+    if sides == 8 || sides == 4 || sides == 2 || sides == 1 {
+        Some(one_word(Field::Wait, 48 + sides))
+    } else {
+        None
+    }
+}
+
+#[tactic(auto, unfolding(crate::specs::Forms::wait_form))]
+fn wait_line(text: &[u8]) -> Option<Line>
+    ensures { option_map form_of result ≡ wait_form text.now }
+{
+    if let Some(rest) = text.strip_prefix(b"fetch ") {
+        set_line(16, rest)
+    } else if let Some(rest) = text.strip_prefix(b"read ") {
+        set_line(32, rest)
+    } else if let Some(rest) = text.strip_prefix(b"write ") {
+        side_line(rest)
+    } else {
+        None
+    }
+}
+
 #[tactic(auto, unfolding(crate::specs::Forms::node_form))]
 fn node_line(text: &[u8]) -> Option<Line>
     ensures { option_map form_of result ≡ node_form text.now }
 {
     Some(Line::Node(node_number(text)?))
+}
+
+#[tactic(auto, unfolding(crate::specs::Forms::wide_form))]
+fn wide_line(text: &[u8]) -> Option<Line>
+    ensures { option_map form_of result ≡ wide_form text.now }
+{
+    if let Some(rest) = text.strip_prefix(b"d") {
+        stack_line(Field::Data(0), 10, rest)
+    } else if let Some(rest) = text.strip_prefix(b"ram ") {
+        cells_line(Memory::Ram, rest)
+    } else if let Some(rest) = text.strip_prefix(b"rom ") {
+        cells_line(Memory::Rom, rest)
+    } else if let Some(rest) = text.strip_prefix(b"r") {
+        stack_line(Field::Return(0), 9, rest)
+    } else if let Some(rest) = text.strip_prefix(b"node ") {
+        node_line(rest)
+    } else if text == b"end".as_slice() {
+        Some(Line::End)
+    } else {
+        None
+    }
+}
+
+#[tactic(auto, unfolding(crate::specs::Forms::state_form))]
+fn state_line(text: &[u8]) -> Option<Line>
+    ensures { option_map form_of result ≡ state_form text.now }
+{
+    if let Some(rest) = text.strip_prefix(b"carry ") {
+        digit_line(Field::Carry, 0, 1, rest)
+    } else if let Some(rest) = text.strip_prefix(b"slot ") {
+        digit_line(Field::Slot, 0, 4, rest)
+    } else if let Some(rest) = text.strip_prefix(b"wait ") {
+        wait_line(rest)
+    } else if let Some(rest) = text.strip_prefix(b"stop ") {
+        digit_line(Field::Stop, 1, 3, rest)
+    } else {
+        wide_line(text)
+    }
 }
 
 impl Line {
@@ -89,16 +221,12 @@ impl Line {
             word_line(Field::B, rest)
         } else if let Some(rest) = text.strip_prefix(b"p ") {
             word_line(Field::P, rest)
-        } else if let Some(rest) = text.strip_prefix(b"ram ") {
-            cells_line(Memory::Ram, rest)
-        } else if let Some(rest) = text.strip_prefix(b"rom ") {
-            cells_line(Memory::Rom, rest)
-        } else if let Some(rest) = text.strip_prefix(b"node ") {
-            node_line(rest)
-        } else if text == b"end".as_slice() {
-            Some(Line::End)
+        } else if let Some(rest) = text.strip_prefix(b"i ") {
+            word_line(Field::I, rest)
+        } else if let Some(rest) = text.strip_prefix(b"io ") {
+            word_line(Field::Io, rest)
         } else {
-            None
+            state_line(text)
         }
     }
 }

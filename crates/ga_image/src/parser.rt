@@ -1,18 +1,35 @@
 //! Reading an image line by line.
 
-ghost use Rattle.std.specs.Prelude.{◌≡◌, ◌≤◌, length, OnOk};
+ghost use Rattle.std.specs.Prelude.{◌≡◌, ◌≤◌, length, OnOk, Some};
 ghost use Rattle.std.specs.Result.{result_err};
 ghost use Rattle.ga_grid.specs.Chip.{default_chip};
 ghost use Rattle.ga_grid.specs.Grid.{node_of};
 ghost use Rattle.ga_image.specs.Fields.{writes, greatest, HasCell};
-ghost use Rattle.ga_image.specs.Progress.{progress_of};
+ghost use Rattle.ga_image.specs.Progress.{progress_of, stage_of, IsBehindHeader, Header};
+ghost use Rattle.ga_image.specs.Spelling.{Node, Words, End, HoldsCode, AreCodes};
 ghost use Rattle.ga_image.specs.Grammar.{with_word};
-ghost use Rattle.ga_image.specs.Reading.{start, words_fault, node_fault, fault_of, with_block, with_writes, after_line};
+ghost use Rattle.ga_image.specs.Reading.{
+  start,
+  words_fault,
+  node_fault,
+  ends_unsteady,
+  kept_in,
+  later_fault,
+  line_fault,
+  fault_of,
+  with_block,
+  with_writes,
+  after_form,
+  after_stage,
+  after_line,
+};
 
 use super::fault::ImageCause;
-use super::field::{FIELDS, Field};
+use super::field::{FIELDS, Field, Format};
+use super::held::Held;
 use super::line::Line;
 use ga_grid::{Chip, NODES, NodeId};
+use ga_node::Place;
 
 /// How many bytes a line may have.
 const LONGEST: usize = 200;
@@ -33,11 +50,14 @@ pub(crate) enum Stage {
 /// What the lines so far come to.
 #[derive(Drop)]
 pub(crate) struct Parser {
+    pub format: Format,
     pub stage: Stage,
     /// For each node by its number, whether it has a block.
     pub blocks: [bool; NODES],
     /// For each field by its number, whether the last block gave it.
     pub given: [bool; FIELDS],
+    /// What the last block says of its node's wait, stop and slot.
+    pub held: Held,
     pub chip: Chip,
 }
 
@@ -49,9 +69,11 @@ impl Parser {
         ensures { progress_of result ≡ start }
     {
         Parser {
+            format: Format::One,
             stage: Stage::Header,
             blocks: [false; NODES],
             given: [false; FIELDS],
+            held: Held::runs(),
             chip,
         }
     }
@@ -66,11 +88,7 @@ impl Parser {
             return Err(ImageCause::Long);
         }
         if let Stage::Header = self.stage {
-            if text != b"ga144 1".as_slice() {
-                return Err(ImageCause::Header);
-            }
-            self.stage = Stage::Open;
-            return Ok(());
+            return self.read_header(text);
         }
         let Some(line) = Line::parse(text) else {
             return Err(ImageCause::Line);
@@ -81,22 +99,47 @@ impl Parser {
         }
         match line {
             Line::Node(yxx) => self.begin_block(yxx),
-            Line::Words(field, words) => match stage {
-                Stage::Block(node) => self.write_all(node, field, words.as_slice()),
-                _ => Err(ImageCause::Line),
-            },
-            Line::End => {
-                self.stage = Stage::Ended;
-                Ok(())
-            }
+            Line::Words(field, words) => self.read_field(field, words.as_slice()),
+            Line::End => self.end(),
         }
     }
 
+    fn read_header(&mut self, text: &[u8]) -> Result<(), ImageCause>
+        requires { self.old.stage ≡ Stage.Header }
+        ensures fault { result_err result ≡ line_fault Header (progress_of self.old) text.now }
+        ensures read { OnOk result (progress_of self.new ≡ after_stage Header (progress_of self.old) text.now) }
+    {
+        self.format = if text == b"ga144 1".as_slice() {
+            Format::One
+        } else if text == b"ga144 2".as_slice() {
+            Format::Two
+        } else {
+            return Err(ImageCause::Header);
+        };
+        self.stage = Stage::Open;
+        Ok(())
+    }
+
+    /// Whether the wait, the stop and the slot of the block that ends here can't stand together.
+    fn is_unsteady(&self) -> bool
+        ensures { result ≡ ends_unsteady (stage_of self.now.stage) self.now.held (Some End) }
+    {
+        match self.stage {
+            Stage::Block(_) => self.held.is_unsteady(),
+            _ => false,
+        }
+    }
+
+    /// Begins the block of a node, and ends the one before.
     #[tactic(auto, unfolding(crate::specs::Reading::node_fault))]
     fn begin_block(&mut self, yxx: u32) -> Result<(), ImageCause>
-        ensures fault { result_err result ≡ node_fault (progress_of self.old) yxx }
+        requires { IsBehindHeader (stage_of self.old.stage) }
+        ensures fault { result_err result ≡ later_fault (progress_of self.old) (Some (Node yxx)) }
         ensures begun { OnOk result (progress_of self.new ≡ with_block (progress_of self.old) (node_of yxx)) }
     {
+        if self.is_unsteady() {
+            return Err(ImageCause::State);
+        }
         let Some(node) = NodeId::from_yxx(yxx) else {
             return Err(ImageCause::Node);
         };
@@ -106,13 +149,45 @@ impl Parser {
         self.stage = Stage::Block(node);
         self.blocks[node.index()] = true;
         self.given = [false; FIELDS];
+        self.held = Held::runs();
         Ok(())
+    }
+
+    /// Ends the image, and the last block.
+    fn end(&mut self) -> Result<(), ImageCause>
+        requires { IsBehindHeader (stage_of self.old.stage) }
+        ensures fault { result_err result ≡ later_fault (progress_of self.old) (Some End) }
+        ensures ended { OnOk result (progress_of self.new ≡ after_form (progress_of self.old) (Some End)) }
+    {
+        if self.is_unsteady() {
+            return Err(ImageCause::State);
+        }
+        self.stage = Stage::Ended;
+        Ok(())
+    }
+
+    /// Reads a field line of the present block.
+    fn read_field(&mut self, field: Field, words: &[u32]) -> Result<(), ImageCause>
+        requires few { length words.now ≤ 16 }
+        requires codes { AreCodes field words.now }
+        requires open { IsBehindHeader (stage_of self.old.stage) }
+        ensures fault { result_err result ≡ later_fault (progress_of self.old) (kept_in self.old.format (Some (Words field words.now))) }
+        ensures read { OnOk result (progress_of self.new ≡ after_form (progress_of self.old) (kept_in self.old.format (Some (Words field words.now)))) }
+    {
+        if !self.format.has(field) {
+            return Err(ImageCause::Line);
+        }
+        match self.stage {
+            Stage::Block(node) => self.write_all(node, field, words),
+            _ => Err(ImageCause::Line),
+        }
     }
 
     /// Writes the words of a field line.
     #[tactic(auto, unfolding(crate::specs::Reading::words_fault))]
     fn write_all(&mut self, node: NodeId, field: Field, words: &[u32]) -> Result<(), ImageCause>
         requires few { length words.now ≤ 16 }
+        requires codes { AreCodes field words.now }
         requires block { self.old.stage ≡ Stage.Block node }
         ensures fault { result_err result ≡ words_fault (progress_of self.old) field words.now }
         ensures written { OnOk result (progress_of self.new ≡ with_writes (progress_of self.old) (writes field words.now)) }
@@ -130,6 +205,7 @@ impl Parser {
                 return Err(ImageCause::Repeated);
             }
             self.given[number] = true;
+            self.held = self.held.with(at, *word);
             write(&mut self.chip, node, at, *word);
             at = at.next();
         }
@@ -137,12 +213,24 @@ impl Parser {
     }
 }
 
-/// Writes one word of a node.
+/// Writes one word of a node. A node that waits isn't stopped, and one that is stopped doesn't wait.
 #[tactic(auto, unfolding(crate::specs::Grammar::with_word))]
 fn write(chip: &mut Chip, node: NodeId, field: Field, word: u32)
     requires cell { HasCell field }
     requires in_range { word ≤ greatest field }
+    requires code { HoldsCode field word }
     ensures { chip.new ≡ with_word chip.old node.number (field, word) }
 {
-    chip.node_mut(node).set(field.place(), word);
+    let held = chip.node_mut(node);
+    match field {
+        Field::Wait => {
+            held.set(Place::Stop, 0);
+            held.set(Place::Wait, word);
+        }
+        Field::Stop => {
+            held.set(Place::Wait, 0);
+            held.set(Place::Stop, word);
+        }
+        _ => held.set(field.place(), word),
+    }
 }

@@ -36,7 +36,8 @@ fn repeated(
 fn first_faults(rt: HostRuntime) {
     let table = [
         // the header
-        (b"ga144 2\nend\n".as_slice(), Some((11, 1))),
+        (b"ga144 3\nend\n".as_slice(), Some((11, 1))),
+        (b"ga144 2\nend\n".as_slice(), None),
         (b"ga144 1 \nend\n".as_slice(), Some((11, 1))),
         (b"\nga144 1\nend\n".as_slice(), Some((11, 1))),
         (b"ga144 1\r\nend\r\n".as_slice(), Some((11, 1))),
@@ -118,6 +119,113 @@ fn first_faults(rt: HostRuntime) {
         (b"".as_slice(), Some((17, 1))),
         (b"ga144 1\nnode 000\n".as_slice(), Some((17, 3))),
         (b"ga144 1\nend".as_slice(), None),
+    ];
+    for (text, wanted) in table {
+        assert_eq!(rt; refusal(rt.alloc(), text), wanted, "at {text:?}");
+    }
+}
+
+/// Texts of format 2, and lines of it under the header of format 1.
+#[test]
+fn first_faults_of_the_second_format(rt: HostRuntime) {
+    let table = [
+        // a block that can't stand, told at the line that ends it
+        (
+            b"ga144 2\nnode 000\nstop 1\nwait write r---\nend\n".as_slice(),
+            Some((20, 5)),
+        ),
+        (
+            b"ga144 2\nnode 000\nwait write r---\nend\n".as_slice(),
+            Some((20, 4)),
+        ),
+        (
+            b"ga144 2\nnode 000\nstop 1\nwait write r---\n".as_slice(),
+            Some((17, 5)),
+        ),
+        (
+            b"ga144 2\nnode 000\nstop 1\nwait write r---\nnode 999\n".as_slice(),
+            Some((20, 5)),
+        ),
+        (
+            b"ga144 2\nnode 000\nstop 1\nwait write r---\nnode 99\n".as_slice(),
+            Some((12, 5)),
+        ),
+        (
+            b"ga144 2\nnode 000\nwait fetch r---\nslot 3\nend".as_slice(),
+            Some((20, 5)),
+        ),
+        (b"ga144 2\nnode 000\nwait fetch rdlu\nend".as_slice(), None),
+        (
+            b"ga144 2\nnode 000\nslot 0\nwait read --l-\nend".as_slice(),
+            None,
+        ),
+        (
+            b"ga144 2\nnode 000\nslot 3\nwait write ---u\nnode 001\nstop 3\nend".as_slice(),
+            None,
+        ),
+        // forms
+        (
+            b"ga144 2\nnode 000\nwait write rd--\nend\n".as_slice(),
+            Some((12, 3)),
+        ),
+        (
+            b"ga144 2\nnode 000\nwait read ----\nend\n".as_slice(),
+            Some((12, 3)),
+        ),
+        (
+            b"ga144 2\nnode 000\nwait read R---\nend\n".as_slice(),
+            Some((12, 3)),
+        ),
+        (
+            b"ga144 2\nnode 000\nwait read dr--\nend\n".as_slice(),
+            Some((12, 3)),
+        ),
+        (
+            b"ga144 2\nnode 000\nslot 5\nend\n".as_slice(),
+            Some((12, 3)),
+        ),
+        (
+            b"ga144 2\nnode 000\ncarry 2\nend\n".as_slice(),
+            Some((12, 3)),
+        ),
+        (
+            b"ga144 2\nnode 000\nstop 0\nend\n".as_slice(),
+            Some((12, 3)),
+        ),
+        (
+            b"ga144 2\nnode 000\nstop 4\nend\n".as_slice(),
+            Some((12, 3)),
+        ),
+        (
+            b"ga144 2\nnode 000\nd 000001\nend\n".as_slice(),
+            Some((12, 3)),
+        ),
+        // great words, and what was given before
+        (
+            b"ga144 2\nnode 000\ni 040000\nend\n".as_slice(),
+            Some((14, 3)),
+        ),
+        (
+            b"ga144 2\nnode 000\nio 03ffff\nio 000000\nend\n".as_slice(),
+            Some((15, 4)),
+        ),
+        (
+            b"ga144 2\nnode 000\nslot 1\nwait read r---\nwait fetch r---\nend\n".as_slice(),
+            Some((15, 5)),
+        ),
+        (
+            b"ga144 2\nnode 000\nr 000001 000002 000003 000004 000005 000006 000007 000008 040000\nend\n".as_slice(),
+            Some((14, 3)),
+        ),
+        // the first format has none of these lines
+        (
+            b"ga144 1\nnode 000\nslot 0\nend\n".as_slice(),
+            Some((12, 3)),
+        ),
+        (
+            b"ga144 1\nnode 000\nio 000000\nend\n".as_slice(),
+            Some((12, 3)),
+        ),
     ];
     for (text, wanted) in table {
         assert_eq!(rt; refusal(rt.alloc(), text), wanted, "at {text:?}");
@@ -265,6 +373,7 @@ fn causes(rt: HostRuntime) {
         (ImageCause::Truncated, 17, "truncated"),
         (ImageCause::Long, 18, "long"),
         (ImageCause::Memory, 19, "memory"),
+        (ImageCause::State, 20, "state"),
     ];
     for (cause, number, word) in table {
         assert_eq!(rt; cause.number(), number);
@@ -306,6 +415,53 @@ fn given_values(rt: HostRuntime) -> Result<(), Fail> {
         let node = NodeId::from_yxx(yxx).ok_or("no node")?;
         assert_eq!(rt; chip.node(node).get(place), value, "at {yxx} {place:?}");
     }
+    Ok(())
+}
+
+#[test]
+fn given_states(rt: HostRuntime) -> Result<(), Fail> {
+    let text =
+        b"ga144 2\nnode 000\nb 0001d5\np 000004\ni 0089B2\nslot 0\nd 00002a 000001 000002 000003 000004 000005 000006 000007 000008 000009\nwait write r---\nnode 001\nstop 2\ncarry 1\nio 000007\nr 000001 000002 000003 000004 000005 000006 000007 000008 03ffff\nend\n";
+    let chip = parse(rt.alloc(), text)?;
+    let first = chip.node(NodeId::from_yxx(0).ok_or("no node")?);
+    for (place, value) in [
+        (Place::B, 0x1d5),
+        (Place::P, 4),
+        (Place::I, 0x89b2),
+        (Place::Slot, 0),
+        (Place::Wait, 56),
+        (Place::Stop, 0),
+        (Place::Io, 0x15555),
+    ] {
+        assert_eq!(rt; first.get(place), value, "at {place:?}");
+    }
+    let second = chip.node(NodeId::from_yxx(1).ok_or("no node")?);
+    for (place, value) in [
+        (Place::Carry, 1),
+        (Place::Io, 7),
+        (Place::Wait, 0),
+        (Place::Stop, 2),
+        (Place::Slot, 4),
+    ] {
+        assert_eq!(rt; second.get(place), value, "at {place:?}");
+    }
+    let stacks = [
+        (0x2a, 1),
+        (1, 2),
+        (2, 3),
+        (3, 4),
+        (4, 5),
+        (5, 6),
+        (6, 7),
+        (7, 8),
+        (8, 0x3ffff),
+    ];
+    for (k, (data, returns)) in stacks.iter().enumerate() {
+        assert_eq!(rt; first.d(k as u8), *data, "at {k}");
+        assert_eq!(rt; second.r(k as u8), *returns, "at {k}");
+    }
+    assert_eq!(rt; first.d(9), 9);
+    assert_eq!(rt; first.r(0), 0x15555);
     Ok(())
 }
 

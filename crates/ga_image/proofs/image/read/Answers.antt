@@ -1,4 +1,4 @@
-use Rattle.std.proofs.Common.{◌≡◌, ◌+◌, ◌≤◌, arith, sym, ◌∙◌, ap, inr, subst, refl}
+use Rattle.std.proofs.Common.{◌≡◌, ◌+◌, ◌≤◌, arith, sym, ◌∙◌, ap, subst, refl}
 use Rattle.std.proofs.lemmas.Bool.{eqb-true}
 use Rattle.std.proofs.lemmas.List.{nil_from_length}
 use Rattle.ga_image.specs.Lines.{lines_of}
@@ -15,7 +15,7 @@ returns-in-Err c =
 
 pub loop-rest-init : goal.loop-rest-init
 loop-rest-init c =
-    let Holds : Progress → Type 0 = λ progress. (reading progress 1 (lines_of c.args.text.now) ≡ reading start 1 (lines_of c.args.text.now)) × (1 + room progress ≤ 19142) × IsSized progress in
+    let Holds : Progress → Type 0 = λ progress. (reading progress 1 (lines_of c.args.text.now) ≡ reading start 1 (lines_of c.args.text.now)) × (1 + room progress ≤ 22767) × IsSized progress in
     let begun = start_room in
     let all : Holds (progress_of c.new-parser.result) = subst Holds (sym c.new-parser.ensures) (refl, omega arith, begun.1) in
     record { same = all.0; counts = all.1; sized = all.2 }
@@ -25,7 +25,7 @@ loop-rest-preserved c =
     let before = progress_of c.loop-rest.parser in
     let less = line_less before c.first_line.result.0.now c.loop-rest.invariant.sized (sym c.in_default.ensures.fault) in
     let onward = reads_on before c.loop-rest.line c.loop-rest.rest.now _ c.first_line.result.1.now c.first_line.ensures.splits (sym c.in_default.ensures.fault) in
-    let Holds : Progress → Type 0 = λ progress. (reading progress (c.loop-rest.line + 1) (lines_of c.first_line.result.1.now) ≡ reading start 1 (lines_of c.args.text.now)) × (c.loop-rest.line + 1 + room progress ≤ 19142) × IsSized progress in
+    let Holds : Progress → Type 0 = λ progress. (reading progress (c.loop-rest.line + 1) (lines_of c.first_line.result.1.now) ≡ reading start 1 (lines_of c.args.text.now)) × (c.loop-rest.line + 1 + room progress ≤ 22767) × IsSized progress in
     let all : Holds (progress_of c.read_line.new.self) = subst Holds (sym c.in_default.ensures.read) (sym onward ∙ c.loop-rest.invariant.same, omega (arith, less.0), less.1) in
     record { same = all.0; counts = all.1; sized = all.2 }
 

@@ -8,7 +8,7 @@ use Rattle.ga_image.proofs.image.read.Given as goal
 abbrev pub invariant-loop-rest : goal.invariant-loop-rest
 invariant-loop-rest l = record {
   same : reading (progress_of l.parser) l.line (lines_of l.rest) ≡ reading start 1 (lines_of l.fn.text);
-  counts : l.line + room (progress_of l.parser) ≤ 19142;
+  counts : l.line + room (progress_of l.parser) ≤ 22767;
   sized : IsSized (progress_of l.parser);
 }
 

@@ -2,7 +2,7 @@ use Rattle.std.proofs.Common.{◌≡◌, ℕ, ◌-◌, false, length, sym, ◌�
 use Rattle.ga_image.specs.Fields.{goes_past, is_too_great}
 use Rattle.ga_image.specs.Progress.{progress_of, stage_of}
 use Rattle.ga_image.specs.Reading.{node_in}
-use Rattle.ga_image.proofs.Writes.{next_fits, next_greatest, repeats_here, repeated_field, repeats_later, written_later}
+use Rattle.ga_image.proofs.Writes.{next_fits, next_greatest, repeats_here, repeated_field, repeats_later, written_later, next_codes}
 use Rattle.ga_image.proofs.parser.Parser.write_all.Goals as goal
 
 pub returns-then-self-number-clause-fault : goal.returns-then-self-number-clause-fault
@@ -20,9 +20,10 @@ loop-word-preserved c =
     record {
       fits = rw c.next-at.ensures (next_fits c.loop-word.at (length c.args.words.now - c.loop-word.word-index) _ (omega arith) c.loop-word.invariant.fits);
       greatest = rw c.next-at.ensures (next_greatest c.loop-word.at ∙ c.loop-word.invariant.greatest);
+      codes = rw c.next-at.ensures (next_codes c.loop-word.at c.args.words.now c.loop-word.invariant.codes);
       block = c.loop-word.invariant.block;
       faults = rw (c.number-number.ensures.value, c.next-at.ensures)
           (sym (repeats_later c.loop-word.self.given c.loop-word.at c.args.words.now c.loop-word.word-index c.loop-word-test.true free) ∙ c.loop-word.invariant.faults);
-      progress = rw (c.number-number.ensures.value, c.write.ensures, c.next-at.ensures, ← node)
+      progress = rw (c.number-number.ensures.value, c.with-self.ensures, c.write.ensures, c.next-at.ensures, ← node)
           (sym (written_later (progress_of c.loop-word.self) c.loop-word.at c.args.words.now c.loop-word.word-index c.loop-word-test.true) ∙ c.loop-word.invariant.progress);
     }

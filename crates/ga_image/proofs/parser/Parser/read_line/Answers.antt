@@ -1,0 +1,16 @@
+use Rattle.std.proofs.Common.{◌≡◌, Some, sym, ◌∙◌, ap, subst, arith}
+use Rattle.ga_image.specs.Forms.{form, form_of}
+use Rattle.ga_image.specs.Spelling.{Words, AreCodes}
+use Rattle.ga_image.proofs.Spellings.{form_spelled, codes_spelled}
+use Rattle.ga_image.proofs.Stages.{behind}
+use Rattle.ga_image.proofs.parser.Parser.read_line.Goals as goal
+
+pub read_field-requires : goal.read_field-requires
+read_field-requires c =
+    let meaning : form c.args.text.now ≡ Some (Words c.in-Words.field c.in-Words.words.items) = sym c.in-Some.ensures ∙ ap (λ l. Some (form_of l)) c.in-Words.is in
+    let codes = codes_spelled c.args.text.now c.in-Words.field c.in-Words.words.items (form_spelled c.args.text.now (Words c.in-Words.field c.in-Words.words.items) meaning) in
+    record {
+      few = omega arith;
+      codes = subst (AreCodes c.in-Words.field) (sym c.as_slice.ensures.value) codes;
+      «open» = behind c.args.self.now.stage c.in_default.not-Header c.in_default-stage.not-Ended;
+    }
