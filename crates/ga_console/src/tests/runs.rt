@@ -752,9 +752,25 @@ static INPUTS: [(&[u8], Status, &[u8]); 9] = [
         b"no 12 line line 2\n",
     ),
     (
-        b"ga144 2\nend\n",
+        b"ga144 3\nend\n",
         Status::ImageRefused,
         b"no 11 header line 1\n",
+    ),
+    (b"ga144 2\nend\n", Status::Done, b"ready\n"),
+    (
+        b"ga144 1\nnode 000\nslot 0\nend\n",
+        Status::ImageRefused,
+        b"no 12 line line 3\n",
+    ),
+    (
+        b"ga144 2\nnode 000\nstop 1\nwait write r---\nend\n",
+        Status::ImageRefused,
+        b"no 20 state line 5\n",
+    ),
+    (
+        b"ga144 2\nnode 000\nb 0001d5\np 000004\ni 0089b2\nslot 0\nd 00002a 015555 015555 015555 015555 015555 015555 015555 015555 015555\nwait write r---\nram 00 004b12 0001d5 00002a 0089b2 000000 000000 000000 000000\nend\nstep 000\nstep 001\nstep 001\n",
+        Status::Done,
+        b"ready\nno 1 waiting\n001 1 wait\npass 000 1 001 2 00002a\n",
     ),
 ];
 

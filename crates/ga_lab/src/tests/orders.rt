@@ -49,8 +49,8 @@ fn both_orders(rt: &impl Abort, alloc: Global, m: NodeId, n: NodeId) -> Result<(
     let mut other = busy(rt, alloc, 6000)?;
     let counts = one.counts();
     assert!(rt; counts.kept > 1000);
-    let k = one.history(m)?.len() as u32 / 2 + 1;
-    let j = one.history(n)?.len() as u32 / 2 + 1;
+    let k = u32::try_from(one.history(m)?.len())? / 2 + 1;
+    let j = u32::try_from(one.history(n)?.len())? / 2 + 1;
     let removed = one.rewind(m, k)?;
     assert!(rt; removed > 0 && removed < counts.kept);
     let _again = one.rewind(n, j);
@@ -104,7 +104,7 @@ fn drops_one(rt: HostRuntime) -> Result<(), Fail> {
 fn ticks_of(
     rt: &impl Abort,
     alloc: Global,
-    others: u32,
+    others: u16,
     node: NodeId,
     step: u32,
 ) -> Result<u64, Fail> {
@@ -114,6 +114,7 @@ fn ticks_of(
     load(rt, &mut chip, NodeId::new(1), taker(0x1d5));
     load(rt, &mut chip, n700, [0x10000, 0, 0, 0]);
     let mut lab = Lab::new(alloc, chip, LIMIT)?;
+    let others = u32::from(others);
     steps(&mut lab, n700, others)?;
     steps(&mut lab, NodeId::new(0), 7)?;
     steps(&mut lab, NodeId::new(1), 5)?;
