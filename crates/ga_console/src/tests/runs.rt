@@ -718,7 +718,7 @@ fn spellings(rt: HostRuntime) -> Result<(), Fail> {
 }
 
 /// Whole inputs, with what is written for them.
-static INPUTS: [(&[u8], Status, &[u8]); 9] = [
+static INPUTS: [(&[u8], Status, &[u8]); 13] = [
     (
         b"ga144 1\nend\nback\nback",
         Status::Done,
