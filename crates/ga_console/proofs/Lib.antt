@@ -12,3 +12,4 @@ pub mod ReplyLemmas
 pub mod ListedLemmas
 pub mod Heard
 pub mod RunLemmas
+pub mod Races

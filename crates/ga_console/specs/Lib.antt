@@ -10,3 +10,4 @@ pub mod Replies
 pub mod Session
 pub mod Run
 pub mod Settings
+pub mod Race

@@ -12,12 +12,14 @@ mod input;
 mod lines;
 mod node_text;
 mod output;
+mod race;
 mod readings;
 mod reply;
 mod run;
 mod settings;
 mod text;
 
+pub use race::race_report;
 pub use run::{Status, session};
 pub use settings::{LineFault, Settings, arguments};
 

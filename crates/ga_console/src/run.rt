@@ -101,7 +101,7 @@ fn open(alloc: Global, image: Vec<u8>, limit: u32) -> Result<Lab, ImageFault>
 }
 
 /// Writes the text of a refused image.
-fn refuse<W: Write>(writer: &mut W, fault: ImageFault) -> Status
+pub(crate) fn refuse<W: Write>(writer: &mut W, fault: ImageFault) -> Status
     ensures { (before : List ℕ) → W.contents writer.old ≡ Some before →
         (text : List ℕ) × (W.contents writer.new ≡ Some (before ++ text)) × Refuses fault text result }
 {

@@ -1,13 +1,11 @@
 -- A history with one call more.
-use Rattle.std.proofs.Common.{◌≡◌, ◌≢◌, ℕ, ◌+◌, List, [], ◌∷◌, ◌++◌, length, length-append, refl, sym, ap, ◌∙◌, subst, arith, zero-add, count_by, ◌==◌}
+use Rattle.std.proofs.Common.{◌≡◌, ◌≢◌, ℕ, ◌+◌, List, [], ◌∷◌, ◌++◌, length, length-append, sym, ap, ◌∙◌, subst, arith, zero-add}
 use Rattle.std.proofs.lemmas.List.Sums.{sum_by-append}
 use Rattle.ga_lab.specs.Machine.{State, first}
-use Rattle.ga_shared.specs.declared.call.Answer.{Answer}
 use Rattle.ga_shared.specs.declared.call.Answer.TheVariants as answer
-use Rattle.ga_shared.specs.declared.call.Call.{Call}
 use Rattle.ga_shared.specs.declared.call.Entry.{Entry}
 use Rattle.ga_shared.specs.Calls.{answer_to, state_after}
-use Rattle.ga_shared.specs.Log.{IsLegal, Desk, IsHistory, is_made, made_by}
+use Rattle.ga_shared.specs.Log.{IsLegal, Desk, IsHistory, made_by}
 use Rattle.ga_shared.proofs.Machine.{added_by, state_after-load, state_after-limit, state_after-made}
 
 pub IsLegal-push : (s t : State) (es : List Entry) (e : Entry) → IsLegal s es t → e.answer ≡ answer_to t e.call → e.answer ≢ answer.Refused 4 → IsLegal s (es ++ e ∷ []) (state_after t e.call)

@@ -1,13 +1,12 @@
 -- What a call leaves of the machine: its load, its limit, and how many events were made.
-use Rattle.std.proofs.Common.{◌≡◌, ◌+◌, ℕ, Bool, true, false, cond, refl, arith}
-use Rattle.std.specs.Prelude.{Result, Ok, Err, if◌then◌else◌}
+use Rattle.std.proofs.Common.{◌≡◌, ◌+◌, ℕ, cond, refl, arith}
+use Rattle.std.specs.Prelude.{Result, Ok, Err}
 use Rattle.ga_node.specs.declared.kind.NotReady.{NotReady}
 use Rattle.ga_event.specs.declared.event.Event.{Event}
 use Rattle.ga_event.specs.Next.{next}
 use Rattle.ga_journal.specs.declared.made.Made.{Made}
 use Rattle.ga_lab.specs.declared.fault.LabFault.{LabFault}
-use Rattle.ga_grid.specs.declared.node_id.NodeId.{NodeId}
-use Rattle.ga_lab.specs.Machine.{State, chip_of, step_answer, stepped, with_event, unless_refused, answer_to as lab_answer_to, rewind_answer, rewound}
+use Rattle.ga_lab.specs.Machine.{State, chip_of, step_answer, with_event, unless_refused, answer_to as lab_answer_to, rewind_answer}
 use Rattle.ga_shared.specs.declared.call.Call.{Call}
 use Rattle.ga_shared.specs.declared.call.Call.TheVariants.{Step, Rewind}
 use Rattle.ga_shared.specs.declared.call.Answer.{Answer}

@@ -75,7 +75,7 @@ record_of-copied from to t1 t2 t3 kept returned e1 e2 e3 d r =
 pub records_of-same : (x y : List NodeState) → length x ≡ 144 → length y ≡ 144 → ((k : ℕ) → k < 144 → record_of (node_at x k) ≡ record_of (node_at y k)) → records_of x ≡ records_of y
 records_of-same x y xs ys same =
     ext_get_or (record_of nowhere) (records_of x) (records_of y) (length-map x record_of ∙ xs ∙ sym (length-map y record_of ∙ ys))
-        (λ k below. record_at-records_of x k ∙ same k (omega (arith, length-map x record_of)) ∙ sym (record_at-records_of y k))
+    (λ k below. record_at-records_of x k ∙ same k (omega (arith, length-map x record_of)) ∙ sym (record_at-records_of y k))
 
 pub records_of-node : (x y : List NodeState) (k : ℕ) → records_of x ≡ records_of y → record_of (node_at x k) ≡ record_of (node_at y k)
 records_of-node x y k e = sym (record_at-records_of x k) ∙ ap (λ l. record_at l k) e ∙ record_at-records_of y k

@@ -1,19 +1,18 @@
 -- What a race leads to.
-use Rattle.std.proofs.Common.{◌≡◌, ◌<◌, ℕ, zero, suc, ◌+◌, List, [], ◌∷◌, ◌++◌, length, map, sum_by, Some, Bool, true, false, refl, sym, ap, ◌∙◌, subst, arith, get_or, ◌⊎◌, inl, inr, ⊎_elim, zero-add}
-use Rattle.std.specs.Prelude.{slice_get, filter, ◌==◌, if◌then◌else◌, Ok}
-use Rattle.std.proofs.lemmas.Bool.{eq-eqb}
+use Rattle.std.proofs.Common.{◌≡◌, ◌<◌, ℕ, zero, suc, ◌+◌, List, [], ◌∷◌, length, map, sum_by, Some, Bool, true, false, refl, sym, ap, ◌∙◌, subst, arith, get_or, zero-add}
+use Rattle.std.specs.Prelude.{slice_get, ◌==◌, if◌then◌else◌}
 use Rattle.std.proofs.lemmas.List.Sums.{sum_by-cons}
 use Rattle.std.proofs.lemmas.Option.{slice_get-get_or, slice_get_within, get_or_from_slice_get}
-use Rattle.ga_lab.specs.Machine.{State, first}
+use Rattle.ga_lab.specs.Machine.{first}
 use Rattle.ga_shared.specs.declared.call.Call.{Call}
 use Rattle.ga_shared.specs.declared.call.Entry.{Entry}
 use Rattle.ga_shared.specs.declared.call.Receipt.{Receipt}
 use Rattle.ga_shared.specs.declared.closing.Closed.{Closed}
 use Rattle.ga_node.specs.Record.{NodeRecord}
 use Rattle.ga_shared.specs.Log.{Worker, IsLegal, fresh_worker}
-use Rattle.ga_shared.specs.Opening.{Opening, receipts_of, WorkerAgrees}
+use Rattle.ga_shared.specs.Opening.{receipts_of, WorkerAgrees}
 use Rattle.ga_shared.specs.Close.{IsSound, IsOpenedOn}
-use Rattle.ga_shared.specs.Race.{Works, IsDone, Raced, calls_of}
+use Rattle.ga_shared.specs.Race.{IsDone, Raced, calls_of}
 
 branch : (b : Bool) (r : Receipt) (rs : List Receipt) (cs : List Call) → map (λ (r : Receipt). r.call) rs ≡ cs → map (λ (r : Receipt). r.call) (if b then r ∷ rs else rs) ≡ (if b then r.call ∷ cs else cs)
 branch true r rs cs same = ap (λ l. r.call ∷ l) same
@@ -58,6 +57,7 @@ raced load limit n lists seats closed many size done sound opened agrees =
         let d = done w s s_at in
         let same : get_or seats w s ≡ s = get_or_from_slice_get seats w s s s_at in
         (done_calls lists closed.log.items w s list d.0 d.1 at (subst (λ (x : Worker). x.number ≡ w → x.receipts ≡ receipts_of w 0 closed.log.items) same (agrees w (omega (arith, size)) w s in_seats) d.0)).1
+
     at_place : (w : ℕ) (list : List Call) → slice_get lists w ≡ Some list → (d : Worker) → (calls_of w closed.log.items ≡ list) × Unit {0}
     at_place w list at d =
         let in_lists = slice_get_within lists w list at in

@@ -1,6 +1,6 @@
 -- What closing knows of the log, the lab and the seats.
-use Rattle.std.proofs.Common.{◌≡◌, ◌<◌, ℕ, List, length, sum_by, sym, ◌∙◌, ap, subst}
-use Rattle.ga_lab.specs.Machine.{State, first}
+use Rattle.std.proofs.Common.{◌≡◌, ℕ, List, subst}
+use Rattle.ga_lab.specs.Machine.{first}
 use Rattle.ga_shared.specs.declared.call.Entry.{Entry}
 use Rattle.ga_shared.specs.Log.{Desk, Worker, IsLegal, IsHistory}
 use Rattle.ga_shared.specs.Opening.{AreSeated, WorkerAgrees}

@@ -1,14 +1,11 @@
 -- What closing a shared chip answers.
-use Rattle.std.specs.Prelude.{◌≡◌, ◌==◌, ◌<◌, ℕ, All, List, [], ◌∷◌, ◌+◌, length, sum_by, count_by, if◌then◌else◌, Option, Some, None, Result, Ok, Err}
-use Rattle.ga_node.specs.Record.{NodeRecord}
+use Rattle.std.specs.Prelude.{◌≡◌, ◌<◌, ℕ, List, length, sum_by, Some, None, Result, Ok, Err}
 use Rattle.ga_lab.specs.Machine.{State, first}
-use Rattle.ga_shared.specs.declared.call.Entry.{Entry}
-use Rattle.ga_shared.specs.declared.call.Receipt.{Receipt}
 use Rattle.ga_shared.specs.declared.closing.Closed.{Closed}
 use Rattle.ga_shared.specs.declared.closing.CloseFault.{CloseFault}
 use Rattle.ga_shared.specs.declared.closing.CloseFault.TheVariants.{Missing, Disagree}
 use Rattle.ga_shared.specs.Log.{Worker, IsLegal, made_by}
-use Rattle.ga_shared.specs.Opening.{Opening, receipts_of, AreSeated, WorkerAgrees, IsLeastWrong}
+use Rattle.ga_shared.specs.Opening.{Opening, AreSeated, WorkerAgrees, IsLeastWrong}
 
 -- the log leads the machine from its first state to the lab; it is as long as all workers together made calls, and the lab
 -- counts the events that it tells of

@@ -1,5 +1,5 @@
 -- Logs of calls that the machine could have answered, and what stands under the lock and at a seat.
-use Rattle.std.specs.Prelude.{◌≡◌, ◌≢◌, ◌==◌, ◌+◌, ◌≤◌, ℕ, Bool, true, false, count_by, List, [], ◌∷◌, ◌++◌, length, if◌then◌else◌}
+use Rattle.std.specs.Prelude.{◌≡◌, ◌≢◌, ◌+◌, ◌≤◌, ℕ, Bool, true, false, count_by, List, [], ◌∷◌, ◌++◌, length}
 use Rattle.ga_node.specs.Record.{NodeRecord}
 use Rattle.ga_lab.specs.Machine.{State, first}
 use Rattle.ga_shared.specs.declared.call.Call.{Call}

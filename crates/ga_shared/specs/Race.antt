@@ -1,7 +1,7 @@
 -- What workers do, each with a list of calls.
 use Rattle.std.specs.Prelude.{◌≡◌, ◌==◌, ◌+◌, ℕ, List, [], ◌∷◌, ◌++◌, length, map, sum_by, if◌then◌else◌, slice_get, Some}
 use Rattle.ga_node.specs.Record.{NodeRecord}
-use Rattle.ga_lab.specs.Machine.{State, first}
+use Rattle.ga_lab.specs.Machine.{first}
 use Rattle.ga_shared.specs.declared.call.Call.{Call}
 use Rattle.ga_shared.specs.declared.call.Entry.{Entry}
 use Rattle.ga_shared.specs.declared.call.Receipt.{Receipt}

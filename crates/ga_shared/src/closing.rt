@@ -32,7 +32,10 @@ pub enum CloseFault<L: Ledger> {
     },
     /// Where no worker is named, the lab was not opened on the chip and the limit handed in; else the receipts of this worker,
     /// and of none before it, are not the log's (22).
-    Disagree { worker: Option<u32>, closed: Closed },
+    Disagree {
+        worker: Option<u32>,
+        closed: Closed,
+    },
 }
 
 impl<L: Ledger> Shared<L> {

@@ -3,6 +3,7 @@
 /// What is told before and after each call of a worker, outside the lock. Calls count from 1.
 pub trait Gate {
     fn before(&self, worker: u32, call: u32);
+
     fn after(&self, worker: u32, call: u32);
 }
 

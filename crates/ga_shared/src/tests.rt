@@ -1,7 +1,8 @@
 ghost use Rattle.std.specs.Prelude.{◌≡◌, ◌<◌, ◌^◌, All, IfOk, vec_len};
 
 use crate::{
-    Answer, Call, CloseFault, Closed, Entry, Free, Gate, Receipt, Seat, Shared, race, receipts_match,
+    Answer, Call, CloseFault, Closed, Entry, Free, Gate, Receipt, Seat, Shared, race,
+    receipts_match,
 };
 use ga_grid::{Chip, NodeId};
 use ga_lab::Made;
@@ -82,11 +83,15 @@ fn own_step_back(rt: HostRuntime) -> Result<(), Fail> {
         step: 1,
         kind: Kind::Fetch,
     });
-    let answers = [made, Answer::Removed(1), Answer::Made(Made::Own {
-        node,
-        step: 1,
-        kind: Kind::Fetch,
-    })];
+    let answers = [
+        made,
+        Answer::Removed(1),
+        Answer::Made(Made::Own {
+            node,
+            step: 1,
+            kind: Kind::Fetch,
+        }),
+    ];
     assert_eq!(rt; closed.log.len(), 3);
     for (entry, answer) in closed.log.iter().zip(answers.iter()) {
         assert_eq!(rt; entry.worker, 0);
@@ -217,7 +222,12 @@ fn changed_receipts(rt: HostRuntime) -> Result<(), Fail> {
     let whole = log_of_four::<Brand, HostRuntime>(&rt, alloc, Blank::new(2))?;
     assert_eq!(rt; whole.log.len(), 4);
     for (change, named) in [(1, 1), (2, 1), (3, 1), (4, 0)] {
-        let (worker, closed) = after_change::<Brand, HostRuntime>(&rt, alloc, Blank::new(2), change)?;
+        let (worker, closed) = after_change::<Brand, HostRuntime>(
+            &rt,
+            alloc,
+            Blank::new(2),
+            change,
+        )?;
         assert_eq!(rt; worker, Some(named), "at {change}");
         assert!(rt; closed.log.as_slice() == whole.log.as_slice());
         assert!(rt; closed.lab.counts() == whole.lab.counts());

@@ -1,4 +1,4 @@
-use Rattle.std.proofs.Common.{◌≡◌, ℕ, true≢false, refl, arith, below_more, sym, ◌∙◌, ap, ◌==◌, count_by}
+use Rattle.std.proofs.Common.{◌≡◌, ℕ, true≢false, refl, arith, below_more, sym, ◌∙◌, ◌==◌, count_by}
 use Rattle.ga_shared.specs.Log.{Worker}
 use Rattle.ga_shared.proofs.closing.are_seated.Goals as goal
 

@@ -1,10 +1,8 @@
-use Rattle.std.proofs.Common.{◌≡◌, ◌≢◌, ◌<◌, ◌≤◌, ◌+◌, ℕ, List, length, ◌∙◌, ap, sym, subst, arith, below_more}
-use Rattle.ga_node.specs.State.{NodeState, fresh_node}
+use Rattle.std.proofs.Common.{◌≡◌, ◌<◌, length, ◌∙◌, ap, sym, arith, below_more}
 use Rattle.ga_node.specs.Record.{record_of}
 use Rattle.ga_grid.specs.Load.{load_p_of}
-use Rattle.ga_grid.specs.Chip.{node_at, with_node, default_chip}
+use Rattle.ga_grid.specs.Chip.{node_at, with_node}
 use Rattle.ga_grid.proofs.Chips.{node_at-default_chip, length-default_chip, node_at-with_node_same, node_at-with_node_other, length-with_node}
-use Rattle.ga_shared.specs.Copies.{IsFresh}
 use Rattle.ga_shared.proofs.NodeCopies.{records_of-same}
 use Rattle.ga_shared.proofs.copies.copy_of.Goals as goal
 
@@ -27,15 +25,15 @@ loop-number-preserved c =
     let new = c.copy_node.new.to in
     let within : at < length copy = omega (arith, i.copy_size) in
     let here : record_of (node_at (with_node copy at new) c.loop-number.number) ≡ record_of (node_at c.args.chip.now c.loop-number.number) =
-      ap (λ k. record_of (node_at (with_node copy at new) k)) (sym is) ∙ ap record_of (node_at-with_node_same copy at new within) ∙ c.copy_node.ensures ∙ ap record_of c.node.ensures.value ∙ ap (λ k. record_of (node_at c.args.chip.now k)) is in
+    ap (λ k. record_of (node_at (with_node copy at new) k)) (sym is) ∙ ap record_of (node_at-with_node_same copy at new within) ∙ c.copy_node.ensures ∙ ap record_of c.node.ensures.value ∙ ap (λ k. record_of (node_at c.args.chip.now k)) is in
     record {
       size = λ _. c.node.ensures.size;
       copy_size = length-with_node copy at new ∙ i.copy_size;
       same = below_more (λ k. record_of (node_at (with_node copy at new) k) ≡ record_of (node_at c.args.chip.now k)) c.loop-number.number (λ k below. ap record_of (node_at-with_node_other copy at k new (omega arith)) ∙ i.same k below) here;
       fresh = λ k from below. (
-        let fresh = i.fresh k (omega arith) below in
-        (fresh.0, node_at-with_node_other copy at k new (omega arith) ∙ fresh.1)
-      );
+          let fresh = i.fresh k (omega arith) below in
+          (fresh.0, node_at-with_node_other copy at k new (omega arith) ∙ fresh.1)
+          );
     }
 
 pub returns : goal.returns

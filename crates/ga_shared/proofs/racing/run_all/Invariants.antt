@@ -1,4 +1,4 @@
-use Rattle.std.proofs.Common.{◌≡◌, ◌+◌, ◌-◌, ◌<◌, ◌≤◌, ℕ, vec_len, map, true, Some}
+use Rattle.std.proofs.Common.{◌≡◌, ◌+◌, ◌<◌, ◌≤◌, ℕ, vec_len, map, true, Some}
 use Rattle.std.specs.Prelude.{slice_get, vec_capacity}
 use Rattle.ga_shared.specs.Log.{Worker, fresh_worker}
 use Rattle.ga_shared.specs.Race.{IsDone}

@@ -1,4 +1,4 @@
-use Rattle.std.proofs.Common.{◌≡◌, take}
+use Rattle.std.proofs.Common.{take}
 use Rattle.ga_shared.specs.Race.{Works}
 use Rattle.ga_shared.proofs.workers.work.Given as goal
 

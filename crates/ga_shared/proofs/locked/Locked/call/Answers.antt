@@ -1,4 +1,4 @@
-use Rattle.std.proofs.Common.{◌≡◌, [], ◌∷◌, ◌++◌, ap, ◌∙◌, arith, refl, rules, ◌+◌, vec_len}
+use Rattle.std.proofs.Common.{◌≡◌, [], ◌∷◌, ◌++◌, ap, ◌∙◌, arith, refl, rules, ◌+◌}
 use Rattle.ga_grid.specs.Chip.{records_of}
 use Rattle.ga_shared.specs.declared.call.Entry.{Entry}
 use Rattle.ga_shared.specs.declared.call.Receipt.{Receipt}
@@ -31,13 +31,13 @@ returns-clause-makes g c =
     let old : Desk = record { load = records_of was.load; lab = was.lab; log = was.log.items; calls = was.book.total } in
     let worker : Worker = record { number = seat.number; receipts = seat.receipts.items; calls = seat.share.amount } in
     let makes : Makes old (record { load = records_of was.load; lab = c.answer.new.lab; log = c.push_reserved.new.self.items; calls = c.add.new.self.total }) worker (record { number = seat.number; receipts = c.push_reserved-2.new.self.items; calls = c.add.new.share.amount }) c.args.call receipt =
-      record {
-        receipt_is = λ i. record { place = (c.len-place.ensures ∙ c.reserve-2.ensures.len ∙ was.log.ok.0) i; call = c.args.call; answer = answered.answer i };
-        lab = answered.lab;
-        limit = ap (λ s. s.limit) answered.lab ∙ state_after-limit was.lab c.args.call;
-        load = refl;
-        log = grown g c;
-        book = c.add.ensures.total ∙ ap (λ n. n + 1) c.audit.ensures.total;
-        worker = λ i. record { number = seat.number; receipts = (c.push_reserved-2.ensures.items ∙ ap (λ l. l ++ receipt ∷ []) c.reserve.ensures.items) i; calls = (c.add.ensures.amount ∙ ap (λ n. n + 1) c.audit.ensures.amount) i };
-      } in
+    record {
+      receipt_is = λ i. record { place = (c.len-place.ensures ∙ c.reserve-2.ensures.len ∙ was.log.ok.0) i; call = c.args.call; answer = answered.answer i };
+      lab = answered.lab;
+      limit = ap (λ s. s.limit) answered.lab ∙ state_after-limit was.lab c.args.call;
+      load = refl;
+      log = grown g c;
+      book = c.add.ensures.total ∙ ap (λ n. n + 1) c.audit.ensures.total;
+      worker = λ i. record { number = seat.number; receipts = (c.push_reserved-2.ensures.items ∙ ap (λ l. l ++ receipt ∷ []) c.reserve.ensures.items) i; calls = (c.add.ensures.amount ∙ ap (λ n. n + 1) c.audit.ensures.amount) i };
+    } in
     search rules

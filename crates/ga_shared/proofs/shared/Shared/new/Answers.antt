@@ -1,6 +1,6 @@
-use Rattle.std.proofs.Common.{◌≡◌, ◌+◌, ◌<◌, ℕ, Some, [], ◌∷◌, ◌++◌, ◌∙◌, ap, sym, arith, below_more, length, List}
+use Rattle.std.proofs.Common.{◌≡◌, Some, [], ◌∷◌, ◌++◌, ◌∙◌, ap, arith, below_more, length}
 use Rattle.std.specs.Prelude.{slice_get}
-use Rattle.ga_shared.specs.Log.{Worker, fresh_worker}
+use Rattle.ga_shared.specs.Log.{fresh_worker}
 use Rattle.ga_shared.proofs.Places.{slice_get-last, slice_get-front}
 use Rattle.ga_shared.proofs.shared.Shared.new.Goals as goal
 
@@ -16,7 +16,7 @@ loop-number-preserved g c =
       amount = omega (arith, i.amount, c.split_off-share.ensures.amount_left, c.split_off-share.ensures.amount);
       size = omega (arith, i.size, e.len);
       fresh = below_more (λ w. slice_get c.push.new.self.items w ≡ Some (fresh_worker w)) number
-        (λ w below. ap (λ l. slice_get l w) e.items ∙ slice_get-front seats.items _ w (omega arith) ∙ i.fresh w below)
-        (ap (λ l. slice_get l number) e.items ∙ ap (slice_get (seats.items ++ _ ∷ [])) last ∙ slice_get-last seats.items _
+          (λ w below. ap (λ l. slice_get l w) e.items ∙ slice_get-front seats.items _ w (omega arith) ∙ i.fresh w below)
+          (ap (λ l. slice_get l number) e.items ∙ ap (slice_get (seats.items ++ _ ∷ [])) last ∙ slice_get-last seats.items _
           ∙ (λ k. Some (record { number = number; receipts = c.new.ensures.items k; calls = c.split_off-share.ensures.amount k })));
     }

@@ -1,0 +1,96 @@
+-- From the parts of a race to the whole.
+use Rattle.std.proofs.Common.{◌≡◌, ◌≢◌, ◌<◌, ℕ, zero, suc, ◌+◌, ◌*◌, ◌⊎◌, inl, inr, List, [], ◌∷◌, ◌++◌, length, map, replicate, sum_by, Some, refl, sym, ap, ◌∙◌, subst, arith}
+use Rattle.std.specs.Prelude.{slice_get}
+use Rattle.std.proofs.lemmas.List.{length-replicate, length-map}
+use Rattle.std.proofs.lemmas.List.Sums.{sum_by-cons}
+use Rattle.std.proofs.lemmas.Option.{slice_get_within}
+use Rattle.ga_node.specs.State.{NodeState}
+use Rattle.ga_node.specs.Record.{NodeRecord}
+use Rattle.ga_grid.specs.Chip.{records_of}
+use Rattle.ga_grid.specs.NodeId.{node_id}
+use Rattle.ga_shared.specs.declared.call.Call.{Call}
+use Rattle.ga_shared.specs.declared.call.Call.TheVariants.{Step}
+use Rattle.ga_shared.specs.declared.closing.Closed.{Closed}
+use Rattle.ga_shared.specs.Race.{Raced}
+use Rattle.ga_image.specs.Lines.{lines_of}
+use Rattle.ga_image.specs.Grammar.{IsImage}
+use Rattle.ga_image.specs.FirstFault.{IsFirstFault}
+use Rattle.ga_image.specs.Reading.{no_memory}
+use Rattle.ga_image.specs.declared.fault.ImageFault.{ImageFault}
+use Rattle.ga_image.specs.declared.fault.ImageCause.TheVariants.{Memory}
+use Rattle.ga_lab.specs.Machine.{State}
+use Rattle.ga_console.specs.Texts.{image_fault_text}
+use Rattle.ga_console.specs.Run.{IsImagePart, Refuses}
+use Rattle.ga_console.specs.Race.{calls_by, IsRace, IsReport, IsRefusal, IsCutShort, Writes, Races, OfImage, Reports, report_text}
+use Rattle.ga_console.specs.declared.run.Status.{Status}
+use Rattle.ga_console.specs.declared.run.Status.TheVariants.{Done, ImageRefused, StreamFault, NotFinished}
+
+-- one call more
+replicate-push : {X : Type 0} (n : ℕ) (x : X) → replicate n x ++ x ∷ [] ≡ replicate (suc n) x
+replicate-push zero x = refl
+replicate-push (suc n) x = ap (λ l. x ∷ l) (replicate-push n x)
+
+pub calls_by-push : (worker n : ℕ) → calls_by worker n ++ Step (node_id worker) ∷ [] ≡ calls_by worker (n + 1)
+calls_by-push worker n =
+    let more : suc n ≡ n + 1 = omega arith in
+    replicate-push n (Step (node_id worker)) ∙ ap (λ k. replicate k (Step (node_id worker))) more
+
+-- lists of one length
+pub sum_by-lengths : (lists : List (List Call)) (c : ℕ) → ((w : ℕ) (list : List Call) → slice_get lists w ≡ Some list → length list ≡ c) → sum_by length lists ≡ length lists * c
+sum_by-lengths [] c each = omega arith
+sum_by-lengths (x ∷ xs) c each =
+    let here : length x ≡ c = each zero x refl in
+    let more = sum_by-lengths xs c (λ w list at. each (suc w) list at) in
+    sum_by-cons length x xs ∙ omega (arith, here, more)
+
+-- as many calls as all lists have
+pub race_count : (load : List NodeRecord) (limit workers calls : ℕ) (lists : List (List Call)) (closed : Closed) → length lists ≡ workers
+    → ((w : ℕ) → w < workers → slice_get lists w ≡ Some (calls_by w calls)) → Raced load limit lists closed → length closed.log.items ≡ workers * calls
+race_count load limit workers calls lists closed size at raced =
+    let each : (w : ℕ) (list : List Call) → slice_get lists w ≡ Some list → length list ≡ calls =
+      λ w list is. (
+        let known = at w (omega (arith, slice_get_within lists w list is, size)) in
+        let same : Some list ≡ Some (calls_by w calls) = sym is ∙ known in
+        let list_is : list ≡ calls_by w calls = cc in
+        ap length list_is ∙ length-replicate calls (Step (node_id w))
+      ) in
+    raced.count ∙ sum_by-lengths lists calls each ∙ ap (λ n. n * calls) size
+
+-- the race of these lists
+pub is_race : (load : List NodeRecord) (limit workers calls : ℕ) (lists : List (List Call)) (closed : Closed) → length lists ≡ workers
+    → ((w : ℕ) → w < workers → slice_get lists w ≡ Some (calls_by w calls)) → Raced load limit lists closed → IsRace load limit workers calls closed.lab
+is_race load limit workers calls lists closed size at raced = record {
+  log = closed.log.items;
+  legal = raced.legal;
+  by_worker = λ w below. raced.calls w (calls_by w calls) (at w below);
+  count = race_count load limit workers calls lists closed size at raced;
+}
+
+-- a report that was written, or not wholly
+pub races_reported : (limit workers calls : ℕ) (image text : List ℕ) (chip : List NodeState) (lab : State) (count : ℕ) (status : Status) → IsImage (lines_of image) chip → count ≡ workers * calls → IsRace (records_of chip) limit workers calls lab
+    → Writes (report_text count lab.made (length lab.kept)) text status → Races limit workers calls image text status
+races_reported limit workers calls image text chip lab count Done accepted counted race written =
+    record { chip = chip; lab = lab; accepted = accepted; race = race; told = written ∙ ap (λ n. report_text n lab.made (length lab.kept)) counted }
+races_reported limit workers calls image text chip lab count StreamFault accepted counted race front =
+    inl (record { whole = report_text count lab.made (length lab.kept); is_text = record { chip = chip; lab = lab; accepted = accepted; race = race; told = ap (λ n. report_text n lab.made (length lab.kept)) counted }; front = front })
+races_reported limit workers calls image text chip lab count ImageRefused accepted counted race none = absurd none
+races_reported limit workers calls image text chip lab count NotFinished accepted counted race none = absurd none
+
+-- a refusal that was written, or not wholly
+pub races_refused : (limit workers calls : ℕ) (image text : List ℕ) (fault : ImageFault) (status : Status) → IsFirstFault (lines_of image) fault → Refuses fault text status → Races limit workers calls image text status
+races_refused limit workers calls image text fault Done first none = absurd none
+races_refused limit workers calls image text fault ImageRefused first told = record { fault = fault; first = first; told = told }
+races_refused limit workers calls image text fault StreamFault first front = inr (record { whole = image_fault_text fault; is_text = record { fault = fault; first = first; told = refl }; front = front })
+races_refused limit workers calls image text fault NotFinished first none = absurd none
+
+-- the fault of a text that isn't refused for want of memory
+pub first_fault : (image : List ℕ) (fault : ImageFault) → (fault ≡ no_memory) ⊎ IsFirstFault (lines_of image) fault → fault.cause ≢ Memory → IsFirstFault (lines_of image) fault
+first_fault image fault (inl e) other = absurd (other (ap (λ f. f.cause) e))
+first_fault image fault (inr first) other = first
+
+-- what is said of the image that was read
+pub reports : (limit workers calls : ℕ) (image ahead rest text : List ℕ) (status : Status) → IsImagePart image ahead rest → Races limit workers calls image text status → Reports limit workers calls (image ++ ahead) rest text status
+reports limit workers calls image ahead rest text Done part races = (image, ahead, refl, part, races)
+reports limit workers calls image ahead rest text ImageRefused part races = (image, ahead, refl, part, races)
+reports limit workers calls image ahead rest text StreamFault part races = inr (image, ahead, refl, part, races)
+reports limit workers calls image ahead rest text NotFinished part races = races

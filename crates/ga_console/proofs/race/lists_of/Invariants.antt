@@ -1,0 +1,12 @@
+use Rattle.std.proofs.Common.{◌≡◌, ◌<◌, ℕ, map, vec_len, Some}
+use Rattle.std.specs.Prelude.{All, slice_get}
+use Rattle.ga_shared.specs.declared.call.Call.{Call}
+use Rattle.ga_console.specs.Race.{calls_by}
+use Rattle.ga_console.proofs.race.lists_of.Given as goal
+
+abbrev pub invariant-loop-worker : goal.invariant-loop-worker
+invariant-loop-worker l = record {
+  size : vec_len l.lists ≡ l.worker;
+  lists : (w : ℕ) → w < l.worker → slice_get (map (λ v. v.items) l.lists.items) w ≡ Some (calls_by w l.calls);
+  short : All (λ v. vec_len v ≡ l.calls) l.lists.items;
+}

@@ -1,0 +1,29 @@
+use Rattle.std.proofs.Common.{◌≡◌, ◌≢◌, ℕ, List, [], ◌++◌, length, Some, refl, sym, ap, ◌∙◌, subst}
+use denote.Enum.Bare.{same_false}
+use Rattle.ga_image.specs.contracts.fault.ImageCause.{the_type}
+use Rattle.ga_image.specs.declared.fault.ImageCause.TheVariants.{Memory}
+use Rattle.ga_image.specs.Lines.{lines_of}
+use Rattle.ga_image.specs.Grammar.{IsImage}
+use Rattle.ga_image.specs.FirstFault.{IsFirstFault}
+use Rattle.ga_console.proofs.Races.{races_reported, races_refused, first_fault}
+use Rattle.ga_console.proofs.race.run_image.Goals as goal
+
+pub returns-in-Some : goal.returns-in-Some
+returns-in-Some g c = λ before held.
+    let done = c.report.ensures before held in
+    let closed = c.in-Some.closed in
+    let accepted = subst (λ l. IsImage (lines_of l) c.in-Ok.chip) c.as_slice.ensures.value c.in-Ok.ensures.found in (
+      done.0,
+      done.1,
+      races_reported c.args.limit c.args.workers c.args.calls c.args.image.items done.0 c.in-Ok.chip closed.lab (length closed.log.items) c.report.result accepted c.in-Some.ensures.0 c.in-Some.ensures.1 done.2,
+    )
+
+pub returns : goal.returns
+returns g c = λ before held.
+    let done = c.refuse.ensures before held in
+    let other : c.in-Err.fault.cause ≢ Memory = λ e. same_false the_type c.in-Err.fault.cause Memory (sym c.eq.ensures ∙ c.if-eq.false) e in
+    let first = subst (λ l. IsFirstFault (lines_of l) c.in-Err.fault) c.as_slice.ensures.value (first_fault c.as_slice.result.now c.in-Err.fault c.in-Err.ensures.refused other) in (
+      done.0,
+      done.1,
+      races_refused c.args.limit c.args.workers c.args.calls c.args.image.items done.0 c.in-Err.fault c.refuse.result first done.2,
+    )

@@ -1,0 +1,86 @@
+-- What a race over an image may write, and how it may end.
+use Rattle.std.specs.Prelude.{◌≡◌, ℕ, ◌<◌, ◌*◌, ◌⊎◌, List, [], ◌++◌, length, replicate, codes, decimal}
+use Rattle.ga_node.specs.State.{NodeState}
+use Rattle.ga_node.specs.Record.{NodeRecord}
+use Rattle.ga_grid.specs.Chip.{records_of}
+use Rattle.ga_grid.specs.NodeId.{node_id}
+use Rattle.ga_image.specs.Lines.{lines_of}
+use Rattle.ga_image.specs.Grammar.{IsImage}
+use Rattle.ga_image.specs.FirstFault.{IsFirstFault}
+use Rattle.ga_image.specs.declared.fault.ImageFault.{ImageFault}
+use Rattle.ga_lab.specs.Machine.{State, first}
+use Rattle.ga_shared.specs.declared.call.Call.{Call}
+use Rattle.ga_shared.specs.declared.call.Call.TheVariants.{Step}
+use Rattle.ga_shared.specs.declared.call.Entry.{Entry}
+use Rattle.ga_shared.specs.Log.{IsLegal}
+use Rattle.ga_shared.specs.Race.{calls_of}
+use Rattle.ga_console.specs.Output.{Begins}
+use Rattle.ga_console.specs.Image.{HasNoEnd}
+use Rattle.ga_console.specs.Run.{IsImagePart}
+use Rattle.ga_console.specs.Texts.{image_fault_text}
+use Rattle.ga_console.specs.declared.run.Status.{Status}
+use Rattle.ga_console.specs.declared.run.Status.TheVariants.{Done, ImageRefused, StreamFault, NotFinished}
+
+-- what a worker calls: so many steps of the node with its number
+abbrev pub calls_by : ℕ → ℕ → List Call
+calls_by worker count = replicate count (Step (node_id worker))
+
+-- The calls of all workers, in the order in which they had the lock, lead the machine from the load to this lab.
+pub record IsRace (load : List NodeRecord) (limit workers calls : ℕ) (lab : State) : Type 0 where
+  pub log : List Entry
+  pub legal : IsLegal (first load limit) log lab
+  pub by_worker : (w : ℕ) → w < workers → calls_of w log ≡ calls_by w calls
+  pub count : length log ≡ workers * calls
+
+-- how many calls were made, how many events, and how many of them are kept
+abbrev pub report_text : ℕ → ℕ → ℕ → List ℕ
+report_text calls made kept =
+    codes "calls " ++ decimal calls ++ codes "\nmade " ++ decimal made ++ codes "\nkept " ++ decimal kept ++ codes "\n"
+
+-- the text is an image, and this reports a race on its chip
+pub record IsReport (limit workers calls : ℕ) (image text : List ℕ) : Type 0 where
+  pub chip : List NodeState
+  pub lab : State
+  pub accepted : IsImage (lines_of image) chip
+  pub race : IsRace (records_of chip) limit workers calls lab
+  pub told : text ≡ report_text (workers * calls) lab.made (length lab.kept)
+
+-- the text is no image, and this tells its first fault
+pub record IsRefusal (image text : List ℕ) : Type 0 where
+  pub fault : ImageFault
+  pub first : IsFirstFault (lines_of image) fault
+  pub told : text ≡ image_fault_text fault
+
+-- a write failed within such a text
+pub record IsCutShort (IsText : List ℕ → Type 0) (text : List ℕ) : Type 0 where
+  pub whole : List ℕ
+  pub is_text : IsText whole
+  pub front : Begins whole text
+
+-- a text was written whole, or that failed
+abbrev pub Writes : List ℕ → List ℕ → Status → Type 0
+Writes whole text Done = text ≡ whole
+Writes whole text StreamFault = Begins whole text
+Writes whole text ImageRefused = ⊥
+Writes whole text NotFinished = ⊥
+
+-- What may be written once the image was read.
+abbrev pub Races : ℕ → ℕ → ℕ → List ℕ → List ℕ → Status → Type 0
+Races limit workers calls image text Done = IsReport limit workers calls image text
+Races limit workers calls image text ImageRefused = IsRefusal image text
+Races limit workers calls image text StreamFault =
+    IsCutShort (IsReport limit workers calls image) text ⊎ IsCutShort (IsRefusal image) text
+Races limit workers calls image text NotFinished = text ≡ []
+
+-- P holds of the image that was read. Behind its line `end` stands what the last read brought
+abbrev pub OfImage : List ℕ → List ℕ → (List ℕ → Type 0) → Type 0
+OfImage read rest P = (image : List ℕ) × (ahead : List ℕ) × (read ≡ image ++ ahead) × IsImagePart image ahead rest × P image
+
+-- What a race may have written, where read was read of its input and rest is left of it.
+abbrev pub Reports : ℕ → ℕ → ℕ → List ℕ → List ℕ → List ℕ → Status → Type 0
+Reports limit workers calls read rest text Done = OfImage read rest (λ image. IsReport limit workers calls image text)
+Reports limit workers calls read rest text ImageRefused = OfImage read rest (λ image. IsRefusal image text)
+-- a read in the image failed, or a write of the report or of the refusal
+Reports limit workers calls read rest text StreamFault = ((text ≡ []) × HasNoEnd read)
+    ⊎ OfImage read rest (λ image. IsCutShort (IsReport limit workers calls image) text ⊎ IsCutShort (IsRefusal image) text)
+Reports limit workers calls read rest text NotFinished = text ≡ []

@@ -1,0 +1,157 @@
+//! A race of workers on the chip of an image.
+ghost use Rattle.std.specs.Prelude.{◌≡◌, ◌<◌, ◌≤◌, ◌*◌, ◌++◌, ℕ, List, map, length, Some, IfOk, IfSome, All, vec_len, slice_get};
+ghost use Rattle.ga_grid.specs.Chip.{records_of};
+ghost use Rattle.ga_console.specs.Race.{calls_by, report_text, IsRace, Races, Reports, Writes};
+
+use super::image::{ImageEnd, read_image};
+use super::input::Input;
+use super::output::{WriteFailed, write_all};
+use super::run::{Status, refuse};
+use super::text::{Text, push_number, push_text};
+use ga_grid::{Chip, NodeId};
+use ga_image::{ImageCause, parse};
+use ga_shared::{Call, Closed, Free, race};
+use std::alloc::{AllocError, Global};
+use std::io::{Read, Write};
+use std::sync::Wait;
+use std::thread::Threads;
+
+/// Reads an image up to its first line `end`, lets each worker make so many steps of the node with its number, each worker on
+/// a thread of its own, and writes how many calls and events were made and how many events are kept, of at most limit.
+pub fn race_report<T: Threads + Wait + Sync, R: Read, W: Write>(
+    rt: &T,
+    alloc: Global,
+    reader: &mut R,
+    writer: &mut W,
+    workers: u32,
+    calls: u32,
+    limit: u32,
+) -> Status
+    requires { (1 ≤ workers) × (workers ≤ 16) }
+    // Where the streams tell their bytes: what was read, and what was written for it by the status.
+    ensures { (left before : List ℕ) →
+        R.remaining reader.old ≡ Some left → W.contents writer.old ≡ Some before →
+        (read rest text : List ℕ) × (left ≡ read ++ rest) × (R.remaining reader.new ≡ Some rest)
+        × (W.contents writer.new ≡ Some (before ++ text)) × Reports limit workers calls read rest text result }
+{
+    let mut input = Input::new();
+    let mut image = Vec::new(alloc);
+    match read_image(&mut input, reader, &mut image) {
+        Err(_) => Status::NotFinished,
+        Ok(ImageEnd::Failed) => Status::StreamFault,
+        // No image that is accepted is so long.
+        Ok(ImageEnd::Past) => run_image(rt, alloc, writer, image, workers, calls, limit),
+        Ok(ImageEnd::Ended) => run_image(rt, alloc, writer, image, workers, calls, limit),
+        Ok(ImageEnd::EndLine) => run_image(rt, alloc, writer, image, workers, calls, limit),
+    }
+}
+
+/// Races on the chip of an image, or refuses the image. Want of memory is a race that is not finished.
+fn run_image<T: Threads + Wait + Sync, W: Write>(
+    rt: &T,
+    alloc: Global,
+    writer: &mut W,
+    image: Vec<u8>,
+    workers: u32,
+    calls: u32,
+    limit: u32,
+) -> Status
+    requires { (1 ≤ workers) × (workers ≤ 16) }
+    ensures { (before : List ℕ) → W.contents writer.old ≡ Some before →
+        (text : List ℕ) × (W.contents writer.new ≡ Some (before ++ text))
+        × Races limit workers calls image.items text result }
+{
+    match parse(alloc, image.as_slice()) {
+        Ok(chip) => match race_on(rt, alloc, chip, workers, calls, limit) {
+            Some(closed) => report(writer, &closed),
+            None => Status::NotFinished,
+        },
+        Err(fault) => {
+            if fault.cause == ImageCause::Memory {
+                return Status::NotFinished;
+            }
+            refuse(writer, fault)
+        }
+    }
+}
+
+/// The race on a chip, if it is finished.
+fn race_on<T: Threads + Wait + Sync>(
+    rt: &T,
+    alloc: Global,
+    chip: Chip,
+    workers: u32,
+    calls: u32,
+    limit: u32,
+) -> Option<Closed>
+    requires { (1 ≤ workers) × (workers ≤ 16) }
+    ensures { IfSome result (λ closed. (length closed.log.items ≡ workers * calls)
+        × IsRace (records_of chip) limit workers calls closed.lab) }
+{
+    let Ok(lists) = lists_of(alloc, workers, calls) else {
+        return None;
+    };
+    match race(rt, alloc, chip, limit, lists, &Free) {
+        Ok(closed) => Some(closed),
+        Err(_) => None,
+    }
+}
+
+/// For each worker so many steps of the node with its number.
+fn lists_of(alloc: Global, workers: u32, calls: u32) -> Result<Vec<Vec<Call>>, AllocError>
+    requires { workers ≤ 16 }
+    ensures count { IfOk result (λ lists. vec_len lists ≡ workers) }
+    ensures lists { IfOk result (λ lists. (w : ℕ) → w < workers →
+        slice_get (map (λ l. l.items) lists.items) w ≡ Some (calls_by w calls)) }
+    ensures short { IfOk result (λ lists. All (λ l. vec_len l ≡ calls) lists.items) }
+{
+    let mut lists = Vec::with_capacity(alloc, workers as usize)?;
+    for worker in 0..workers {
+        lists.push(list_of(alloc, worker, calls)?)?;
+    }
+    Ok(lists)
+}
+
+/// So many steps of the node with this number.
+fn list_of(alloc: Global, worker: u32, calls: u32) -> Result<Vec<Call>, AllocError>
+    requires { worker < 16 }
+    ensures list { IfOk result (λ list. list.items ≡ calls_by worker calls) }
+    ensures count { IfOk result (λ list. vec_len list ≡ calls) }
+{
+    let node = NodeId::new(worker as u8);
+    let mut list = Vec::with_capacity(alloc, calls as usize)?;
+    for _call in 0..calls {
+        list.push(Call::Step(node))?;
+    }
+    Ok(list)
+}
+
+/// Writes the three lines of a race.
+fn report<W: Write>(writer: &mut W, closed: &Closed) -> Status
+    ensures { (before : List ℕ) → W.contents writer.old ≡ Some before →
+        (text : List ℕ) × (W.contents writer.new ≡ Some (before ++ text))
+        × Writes (report_text (length closed.now.log.items) closed.now.lab.made (length closed.now.lab.kept)) text result }
+{
+    let mut text = Text::new();
+    put_report(&mut text, closed);
+    match write_all(writer, text.as_slice()) {
+        Ok(()) => Status::Done,
+        Err(WriteFailed) => Status::StreamFault,
+    }
+}
+
+/// Puts the three lines of a race.
+fn put_report(out: &mut Text, closed: &Closed)
+    ensures { out.new.items
+        ≡ report_text (length closed.now.log.items) closed.now.lab.made (length closed.now.lab.kept) }
+{
+    let counts = closed.lab.counts();
+    out.clear();
+    push_text(out, b"calls ");
+    push_number(out, closed.log.as_slice().len() as u64);
+    push_text(out, b"\nmade ");
+    push_number(out, counts.made);
+    push_text(out, b"\nkept ");
+    push_number(out, u64::from(counts.kept));
+    push_text(out, b"\n");
+}
