@@ -37,7 +37,11 @@ fn steps(lab: &mut Lab, node: NodeId, count: u32) -> u32 {
 fn passed(alloc: Global, own: u32) -> Option<Lab> {
     let mut chip = Chip::new(alloc).ok()?;
     for pair in 0..PAIRS {
-        load(&mut chip, NodeId::new(2 * pair), [0x4b12, 0x1d5, 0x2a, 0x89b2]);
+        load(
+            &mut chip,
+            NodeId::new(2 * pair),
+            [0x4b12, 0x1d5, 0x2a, 0x89b2],
+        );
         load(&mut chip, NodeId::new(2 * pair + 1), [0x4b02, 0x1d5, 0, 0]);
     }
     load(&mut chip, NodeId::new(143), [0x10000, 0, 0, 0]);

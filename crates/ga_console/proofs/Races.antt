@@ -48,12 +48,12 @@ pub race_count : (load : List NodeRecord) (limit workers calls : ℕ) (lists : L
     → ((w : ℕ) → w < workers → slice_get lists w ≡ Some (calls_by w calls)) → Raced load limit lists closed → length closed.log.items ≡ workers * calls
 race_count load limit workers calls lists closed size at raced =
     let each : (w : ℕ) (list : List Call) → slice_get lists w ≡ Some list → length list ≡ calls =
-      λ w list is. (
-        let known = at w (omega (arith, slice_get_within lists w list is, size)) in
-        let same : Some list ≡ Some (calls_by w calls) = sym is ∙ known in
-        let list_is : list ≡ calls_by w calls = cc in
-        ap length list_is ∙ length-replicate calls (Step (node_id w))
-      ) in
+    λ w list is. (
+    let known = at w (omega (arith, slice_get_within lists w list is, size)) in
+    let same : Some list ≡ Some (calls_by w calls) = sym is ∙ known in
+    let list_is : list ≡ calls_by w calls = cc in
+    ap length list_is ∙ length-replicate calls (Step (node_id w))
+    ) in
     raced.count ∙ sum_by-lengths lists calls each ∙ ap (λ n. n * calls) size
 
 -- the race of these lists

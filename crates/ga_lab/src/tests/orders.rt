@@ -121,7 +121,10 @@ fn ticks_of(
     let mut ticks = Ticks::new();
     let removed = lab.rewind_ticked(node, step, &mut ticks)?;
     let kept = lab.counts().kept;
-    assert!(rt; removed <= 12 && kept == others + 12 - removed, "{removed} removed");
+    assert!(rt;
+        removed <= 12 && kept == others + 12 - removed,
+        "{removed} removed"
+    );
     Ok(ticks.count())
 }
 
