@@ -1,15 +1,34 @@
-//! `ga144 debug`: a session with one node of a GA144 over standard input and output.
+//! `ga144 debug`: a session with a GA144 over standard input and output. `ga144 race`: workers that race for its nodes.
 #![tactic(auto)]
 
-use ga_console::{LineFault, Settings, Status, arguments, session};
+ghost use Rattle.std.specs.Prelude.{IfOk};
+ghost use Rattle.ga_console.specs.Settings.{AreInRange};
+
+use ga_console::{LineFault, Settings, Status, arguments, race_report, session};
 use std::process::ExitCode;
 use std::{env, io};
 
 fn main(rt: HostRuntime) -> ExitCode {
     match settings(&rt) {
         Ok(Settings::Debug { limit }) => debug(&rt, limit),
-        // Races are not run yet.
-        Ok(Settings::Race { .. }) => refused(&rt),
+        Ok(Settings::Race {
+            workers,
+            calls,
+            limit,
+        }) => {
+            let mut reader = rt.stdin();
+            let mut writer = rt.stdout();
+            let status = race_report(
+                &rt,
+                rt.alloc(),
+                &mut reader,
+                &mut writer,
+                workers,
+                calls,
+                limit,
+            );
+            exit(&rt, status)
+        }
         Err(LineFault::Refused) => refused(&rt),
         Err(LineFault::Help(text)) => {
             let _ = print!(rt; "{text}");
@@ -19,7 +38,9 @@ fn main(rt: HostRuntime) -> ExitCode {
 }
 
 /// What the words of the command line ask for.
-fn settings(rt: &HostRuntime) -> Result<Settings, LineFault> {
+fn settings(rt: &HostRuntime) -> Result<Settings, LineFault>
+    ensures { IfOk result AreInRange }
+{
     let Ok(words) = env::args(rt) else {
         return Err(LineFault::Refused);
     };
@@ -40,7 +61,12 @@ fn settings(rt: &HostRuntime) -> Result<Settings, LineFault> {
 fn debug(rt: &HostRuntime, limit: u32) -> ExitCode {
     let mut reader = rt.stdin();
     let mut writer = rt.stdout();
-    match session(rt.alloc(), &mut reader, &mut writer, limit) {
+    exit(rt, session(rt.alloc(), &mut reader, &mut writer, limit))
+}
+
+/// The exit status, and its line on standard error.
+fn exit(rt: &HostRuntime, status: Status) -> ExitCode {
+    match status {
         Status::Done => ExitCode::from(0),
         Status::ImageRefused => ExitCode::from(1),
         Status::StreamFault => {
