@@ -11,11 +11,13 @@ use std::{env, io};
 fn main(rt: HostRuntime) -> ExitCode {
     match settings(&rt) {
         Ok(Settings::Debug { limit }) => debug(&rt, limit),
-        Ok(Settings::Race {
-            workers,
-            calls,
-            limit,
-        }) => {
+        Ok(
+            Settings::Race {
+                workers,
+                calls,
+                limit,
+            },
+        ) => {
             let mut reader = rt.stdin();
             let mut writer = rt.stdout();
             let status = race_report(

@@ -1,7 +1,7 @@
 -- From the parts of a race to the whole.
-use Rattle.std.proofs.Common.{◌≡◌, ◌≢◌, ◌<◌, ℕ, zero, suc, ◌+◌, ◌*◌, ◌⊎◌, inl, inr, List, [], ◌∷◌, ◌++◌, length, map, replicate, sum_by, Some, refl, sym, ap, ◌∙◌, subst, arith}
+use Rattle.std.proofs.Common.{◌≡◌, ◌≢◌, ◌<◌, ℕ, zero, suc, ◌+◌, ◌*◌, ◌⊎◌, inl, inr, List, [], ◌∷◌, ◌++◌, length, replicate, sum_by, Some, refl, sym, ap, ◌∙◌, arith}
 use Rattle.std.specs.Prelude.{slice_get}
-use Rattle.std.proofs.lemmas.List.{length-replicate, length-map}
+use Rattle.std.proofs.lemmas.List.{length-replicate}
 use Rattle.std.proofs.lemmas.List.Sums.{sum_by-cons}
 use Rattle.std.proofs.lemmas.Option.{slice_get_within}
 use Rattle.ga_node.specs.State.{NodeState}
@@ -21,7 +21,7 @@ use Rattle.ga_image.specs.declared.fault.ImageCause.TheVariants.{Memory}
 use Rattle.ga_lab.specs.Machine.{State}
 use Rattle.ga_console.specs.Texts.{image_fault_text}
 use Rattle.ga_console.specs.Run.{IsImagePart, Refuses}
-use Rattle.ga_console.specs.Race.{calls_by, IsRace, IsReport, IsRefusal, IsCutShort, Writes, Races, OfImage, Reports, report_text}
+use Rattle.ga_console.specs.Race.{calls_by, IsRace, Writes, Races, Reports, report_text}
 use Rattle.ga_console.specs.declared.run.Status.{Status}
 use Rattle.ga_console.specs.declared.run.Status.TheVariants.{Done, ImageRefused, StreamFault, NotFinished}
 
@@ -48,12 +48,12 @@ pub race_count : (load : List NodeRecord) (limit workers calls : ℕ) (lists : L
     → ((w : ℕ) → w < workers → slice_get lists w ≡ Some (calls_by w calls)) → Raced load limit lists closed → length closed.log.items ≡ workers * calls
 race_count load limit workers calls lists closed size at raced =
     let each : (w : ℕ) (list : List Call) → slice_get lists w ≡ Some list → length list ≡ calls =
-      λ w list is. (
-        let known = at w (omega (arith, slice_get_within lists w list is, size)) in
-        let same : Some list ≡ Some (calls_by w calls) = sym is ∙ known in
-        let list_is : list ≡ calls_by w calls = cc in
-        ap length list_is ∙ length-replicate calls (Step (node_id w))
-      ) in
+    λ w list is. (
+    let known = at w (omega (arith, slice_get_within lists w list is, size)) in
+    let same : Some list ≡ Some (calls_by w calls) = sym is ∙ known in
+    let list_is : list ≡ calls_by w calls = cc in
+    ap length list_is ∙ length-replicate calls (Step (node_id w))
+    ) in
     raced.count ∙ sum_by-lengths lists calls each ∙ ap (λ n. n * calls) size
 
 -- the race of these lists

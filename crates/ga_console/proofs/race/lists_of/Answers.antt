@@ -1,4 +1,4 @@
-use Rattle.std.proofs.Common.{◌≡◌, ◌<◌, ℕ, [], ◌∷◌, ◌++◌, ◌+◌, map, length, vec_len, Some, subst, sym, ap, ◌∙◌, arith, below_more}
+use Rattle.std.proofs.Common.{◌≡◌, [], ◌∷◌, ◌++◌, map, length, vec_len, Some, subst, sym, ap, ◌∙◌, arith, below_more}
 use Rattle.std.specs.Prelude.{All, slice_get}
 use Rattle.std.proofs.lemmas.List.{map-append, length-map}
 use Rattle.std.proofs.lemmas.List.Elements.{All-push}
@@ -18,7 +18,7 @@ loop-worker-preserved c =
     record {
       size = omega (arith, i.size, pushed.len);
       lists = below_more (λ w. slice_get (map (λ v. v.items) c.push.new.self.items) w ≡ Some (calls_by w c.args.calls)) worker
-        (λ w below. ap (λ l. slice_get l w) grown ∙ slice_get-front (map (λ v. v.items) lists.items) list.items w (omega arith) ∙ i.lists w below)
-        (ap (λ l. slice_get l worker) grown ∙ ap (slice_get (map (λ v. v.items) lists.items ++ list.items ∷ [])) last ∙ slice_get-last (map (λ v. v.items) lists.items) list.items ∙ ap Some c.in_ok-list_of.ensures.list);
+          (λ w below. ap (λ l. slice_get l w) grown ∙ slice_get-front (map (λ v. v.items) lists.items) list.items w (omega arith) ∙ i.lists w below)
+          (ap (λ l. slice_get l worker) grown ∙ ap (slice_get (map (λ v. v.items) lists.items ++ list.items ∷ [])) last ∙ slice_get-last (map (λ v. v.items) lists.items) list.items ∙ ap Some c.in_ok-list_of.ensures.list);
       short = subst (All (λ v. vec_len v ≡ c.args.calls)) (sym pushed.items) (All-push (λ v. vec_len v ≡ c.args.calls) lists.items list i.short c.in_ok-list_of.ensures.count);
     }
