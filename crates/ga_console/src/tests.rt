@@ -1,4 +1,5 @@
 mod commands;
+mod races;
 mod runs;
 mod settings;
 mod streams;

@@ -1,7 +1,6 @@
-use Rattle.std.proofs.Common.{◌≡◌, ◌∷◌, ◌++◌, [], ◌+◌, length, refl, ap, ◌∙◌, arith, sym}
-use Rattle.std.proofs.lemmas.List.{length-replicate}
+use Rattle.std.proofs.Common.{◌∷◌, ◌++◌, [], ap, ◌∙◌, sym}
 use Rattle.ga_grid.specs.NodeId.{node_id}
-use Rattle.ga_grid.proofs.NodeIds.{NodeId-same, node_id-number}
+use Rattle.ga_grid.proofs.NodeIds.{node_id-number}
 use Rattle.ga_shared.specs.declared.call.Call.TheVariants.{Step}
 use Rattle.ga_console.specs.Race.{calls_by}
 use Rattle.ga_console.proofs.Races.{calls_by-push}

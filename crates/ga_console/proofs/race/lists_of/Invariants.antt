@@ -1,6 +1,5 @@
 use Rattle.std.proofs.Common.{◌≡◌, ◌<◌, ℕ, map, vec_len, Some}
 use Rattle.std.specs.Prelude.{All, slice_get}
-use Rattle.ga_shared.specs.declared.call.Call.{Call}
 use Rattle.ga_console.specs.Race.{calls_by}
 use Rattle.ga_console.proofs.race.lists_of.Given as goal
 

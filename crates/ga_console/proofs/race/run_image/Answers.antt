@@ -1,4 +1,4 @@
-use Rattle.std.proofs.Common.{◌≡◌, ◌≢◌, ℕ, List, [], ◌++◌, length, Some, refl, sym, ap, ◌∙◌, subst}
+use Rattle.std.proofs.Common.{◌≢◌, length, sym, ◌∙◌, subst}
 use denote.Enum.Bare.{same_false}
 use Rattle.ga_image.specs.contracts.fault.ImageCause.{the_type}
 use Rattle.ga_image.specs.declared.fault.ImageCause.TheVariants.{Memory}
