@@ -28,44 +28,18 @@ fn fields(rt: HostRuntime) -> Result<(), Fail> {
     Ok(())
 }
 
+/// The names of the opcodes, by their codes.
+static NAMES: [&str; 32] = [
+    ";", "ex", "jump", "call", "unext", "next", "if", "-if", "@p", "@+", "@b", "@", "!p", "!+",
+    "!b", "!", "+*", "2*", "2/", "invert", "+", "and", "or", "drop", "dup", "pop", "over", "a",
+    ".", "push", "b!", "a!",
+];
+
 #[test]
 fn names(rt: HostRuntime) {
-    for (code, name) in [
-        (0x00, ";"),
-        (0x01, "ex"),
-        (0x02, "jump"),
-        (0x03, "call"),
-        (0x04, "unext"),
-        (0x05, "next"),
-        (0x06, "if"),
-        (0x07, "-if"),
-        (0x08, "@p"),
-        (0x09, "@+"),
-        (0x0a, "@b"),
-        (0x0b, "@"),
-        (0x0c, "!p"),
-        (0x0d, "!+"),
-        (0x0e, "!b"),
-        (0x0f, "!"),
-        (0x10, "+*"),
-        (0x11, "2*"),
-        (0x12, "2/"),
-        (0x13, "invert"),
-        (0x14, "+"),
-        (0x15, "and"),
-        (0x16, "or"),
-        (0x17, "drop"),
-        (0x18, "dup"),
-        (0x19, "pop"),
-        (0x1a, "over"),
-        (0x1b, "a"),
-        (0x1c, "."),
-        (0x1d, "push"),
-        (0x1e, "b!"),
-        (0x1f, "a!"),
-    ] {
+    for code in 0..32u8 {
         let op = Op::from_code(code);
         assert_eq!(rt; op.code(), code);
-        assert_eq!(rt; op.name().as_bytes(), name.as_bytes());
+        assert_eq!(rt; op.name().as_bytes(), NAMES[code as usize].as_bytes());
     }
 }

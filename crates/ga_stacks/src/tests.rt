@@ -28,18 +28,18 @@ fn wraps_around(rt: HostRuntime) {
 
 #[test]
 fn of_lists(rt: HostRuntime) {
-    let mut list = [Word18::low(0); 10];
-    for (place, word) in list.iter_mut().enumerate() {
-        *word = Word18::low(place as u32 + 1);
-    }
-    let mut stack = DataStack::of(list);
-    assert_eq!(rt; words(&stack), [1, 2, 3, 4, 5, 6, 7, 8, 9, 10]);
+    let first = Word18::low(1);
+    let other = Word18::low(2);
+    let last = Word18::low(3);
+    let mut stack = DataStack::of([
+        first, other, other, other, other, other, other, other, other, last,
+    ]);
+    assert_eq!(rt; words(&stack), [1, 2, 2, 2, 2, 2, 2, 2, 2, 3]);
     let _overwritten = stack.push(Word18::low(0));
-    assert_eq!(rt; words(&stack), [0, 1, 2, 3, 4, 5, 6, 7, 8, 9]);
-    let [_, rest @ ..] = list;
-    let stack = ReturnStack::of(rest);
-    for place in 0..9u8 {
-        assert_eq!(rt; stack.at(place).get(), u32::from(place) + 2);
+    assert_eq!(rt; words(&stack), [0, 1, 2, 2, 2, 2, 2, 2, 2, 2]);
+    let stack = ReturnStack::of([first, other, other, other, other, other, other, other, last]);
+    for (place, word) in [1, 2, 2, 2, 2, 2, 2, 2, 3].iter().enumerate() {
+        assert_eq!(rt; stack.at(place as u8).get(), *word);
     }
 }
 
