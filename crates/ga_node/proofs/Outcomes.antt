@@ -1,5 +1,5 @@
 -- What follows an access, and the event that an opcode or a fetch comes to.
-use Rattle.std.proofs.Common.{◌≡◌, ◌≢◌, ℕ, ◌==◌, Bool, cond, List, [], ◌∷◌, ◌++◌, Result, Ok, Err, OnOk, IfErr, refl, sym, ap, subst, ◌∙◌, eq-eqb, ne_eqb, rules}
+use Rattle.std.proofs.Common.{◌≡◌, ◌≢◌, ℕ, Bool, cond, List, [], ◌∷◌, ◌++◌, Result, Ok, Err, OnOk, IfErr, refl, sym, ap, subst, ◌∙◌, eq-eqb, ne_eqb, rules}
 use Rattle.ga_slots.specs.Slots.{opcode}
 use Rattle.ga_slots.specs.Codes.{code_of}
 use Rattle.ga_ports.specs.declared.address.Target.{Target}

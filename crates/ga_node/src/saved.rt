@@ -1,6 +1,6 @@
 //! The values that an event overwrote, each with its place in one word of 32 bits.
 
-ghost use Rattle.std.specs.Prelude.{◌≡◌, ◌<◌, ◌^◌, ◌*◌};
+ghost use Rattle.std.specs.Prelude.{◌≡◌, ◌<◌, ◌^◌, ◌*◌, ◌/◌, ◌%◌};
 ghost use Rattle.ga_node.specs.State.{IsPlace};
 ghost use Rattle.ga_node.specs.Packed.{code_of, place_by, packed, unpacked};
 
@@ -120,22 +120,31 @@ fn code(place: Place) -> u32
     }
 }
 
-/// The place of a kind, by its number, and a cell.
+/// The cell of a word's place.
 #[inline(always)]
-fn place(kind: u32, cell: u8) -> Place
-    requires { kind < 18 }
-    ensures { result ≡ place_by kind cell }
+fn cell(word: u32) -> u8
+    requires { word < 1152 * 2 ^ 18 }
+    ensures { result ≡ word / 2 ^ 18 % 64 }
 {
-    match kind {
+    (word / 262144 % 64) as u8
+}
+
+/// The place of a word. The cell is taken out only where the place has one.
+#[inline(always)]
+fn place(word: u32) -> Place
+    requires { word < 1152 * 2 ^ 18 }
+    ensures { result ≡ place_by (word / 2 ^ 18 / 64) (word / 2 ^ 18 % 64) }
+{
+    match word / 262144 / 64 {
         0 => Place::T,
         1 => Place::S,
-        2 => Place::DataCell(cell),
+        2 => Place::DataCell(cell(word)),
         3 => Place::DataPointer,
         4 => Place::R,
-        5 => Place::ReturnCell(cell),
+        5 => Place::ReturnCell(cell(word)),
         6 => Place::ReturnPointer,
-        7 => Place::Ram(cell),
-        8 => Place::Rom(cell),
+        7 => Place::Ram(cell(word)),
+        8 => Place::Rom(cell(word)),
         9 => Place::A,
         10 => Place::B,
         11 => Place::P,
@@ -165,6 +174,5 @@ fn unpack(word: u32) -> (Place, u32)
     requires { word < 1152 * 2 ^ 18 }
     ensures { result ≡ unpacked word }
 {
-    let number = word / 262144;
-    (place(number / 64, (number % 64) as u8), word % 262144)
+    (place(word), word % 262144)
 }

@@ -1,4 +1,4 @@
-use Rattle.std.proofs.Common.{◌≡◌, ◌∙◌, ◌<◌, Some, ap, sym, length, arith}
+use Rattle.std.proofs.Common.{◌≡◌, ◌∙◌, Some, ap, sym, length, arith}
 use Rattle.std.specs.List.{slice_get}
 use Rattle.ga_node.proofs.Packing.{words_at, pair_at, counted}
 use Rattle.ga_node.proofs.saved.Saved.at.Goals as goal

@@ -1,5 +1,4 @@
-use Rattle.std.proofs.Common.{◌≡◌, ◌∙◌, ◌++◌, ◌∷◌, [], ap, subst}
-use Rattle.ga_node.specs.Packed.{AreWords}
+use Rattle.std.proofs.Common.{◌∙◌, ◌++◌, ◌∷◌, [], ap}
 use Rattle.ga_node.proofs.Packing.{words_push, pushed_pair}
 use Rattle.ga_node.proofs.saved.Saved.push.Goals as goal
 
