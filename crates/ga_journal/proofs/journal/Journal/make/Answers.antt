@@ -7,6 +7,7 @@ use Rattle.ga_journal.proofs.Counts.{count_within}
 use Rattle.ga_journal.proofs.Keeping.{append_keeps}
 use Rattle.ga_journal.proofs.Marking.{append_within, append_matched}
 use Rattle.ga_journal.proofs.Added.{is_made}
+use Rattle.ga_journal.proofs.Chains.{whole_more, back_more}
 use Rattle.ga_journal.proofs.journal.Journal.make.Goals as goal
 
 pub make_event-requires-clause-fits : goal.make_event-requires-clause-fits
@@ -34,3 +35,15 @@ invariant_of-self c =
 
 pub returns-in-Ok-clause-ok : goal.returns-in-Ok-clause-ok
 returns-in-Ok-clause-ok c = is_made _ c.args.self.now c.args.chip.now c.make_event.new.chip c.args.event c.in-Ok.made _ _ c.self.view_is c.requires.whole c.in-Ok.ensures.ok
+
+pub returns-in-Ok-clause-whole : goal.returns-in-Ok-clause-whole
+returns-in-Ok-clause-whole c =
+    let added = c.in-Ok.ensures.ok in
+    whole_more (lists_of c.self.inside.histories.items) (lists_of c.make_event.new.histories.items) c.self.inside.made c.args.event added.effect
+    (subst (λ (b : Book). IsWhole b.histories b.made) (sym c.self.view_is) c.requires.whole) added.applied.of_kind added.histories
+
+pub returns-in-Ok-clause-back : goal.returns-in-Ok-clause-back
+returns-in-Ok-clause-back c =
+    let added = c.in-Ok.ensures.ok in
+    back_more (lists_of c.self.inside.histories.items) (lists_of c.make_event.new.histories.items) c.make_event.new.chip c.self.inside.made c.args.event added.effect
+    (subst (λ (b : Book). IsWhole b.histories b.made) (sym c.self.view_is) c.requires.whole) added.applied.of_kind added.histories added.applied.ready

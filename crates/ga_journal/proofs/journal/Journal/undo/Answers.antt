@@ -5,6 +5,7 @@ use Rattle.ga_journal.specs.Logs.{Stamped, Records, IsWhole}
 use Rattle.ga_journal.specs.Popped.{IsNewest, TakesBack}
 use Rattle.ga_journal.proofs.Keeping.{none_kept, newest_is, kept_more, pop_keeps, popped_by}
 use Rattle.ga_journal.proofs.Marking.{none_go, pop_matched}
+use Rattle.ga_journal.proofs.Chains.{whole_less}
 use Rattle.ga_journal.proofs.journal.Journal.undo.Goals as goal
 
 pub returns-in-None-clause-none : goal.returns-in-None-clause-none
@@ -45,3 +46,10 @@ returns-in-Some-clause-some c =
           (ap (λ (b : Book). let n : Book = record { histories = lists_of c.undo_event.new.histories.items; limit = b.limit; made = b.made; ready = room_of c.undo_event.new.histories.items; going = b.going; waiting = b.waiting } in n) c.self.view_is);
       chip_is = out.chip_is;
     }
+
+pub returns-in-Some-clause-whole : goal.returns-in-Some-clause-whole
+returns-in-Some-clause-whole c =
+    let back : TakesBack c.args.chip.now (lists_of c.self.inside.histories.items) c.self.inside.made = subst (λ (b : Book). TakesBack c.args.chip.now b.histories b.made) (sym c.self.view_is) c.requires.back in
+    let out = c.undo_event.ensures.undone in
+    whole_less back.log (lists_of c.self.inside.histories.items) (lists_of c.undo_event.new.histories.items) c.self.inside.made c.undo_event.result out.effect
+    back.records (out.newest back.log c.self.inside.made back.records)
