@@ -37,9 +37,9 @@ fn loaded(cells: &[Cell]) -> Node {
     let mut node = Node::new(0);
     for place in 0..64u8 {
         let word = match cells.get(place as usize) {
-            Some(Cell::Code(ops)) => encode(*ops).unwrap_or(Word18::low(0)),
-            Some(Cell::Number(number)) => Word18::low(*number),
-            None => Word18::low(0),
+            Some(Cell::Code(ops)) => encode(*ops).unwrap_or(Word18::truncated(0)),
+            Some(Cell::Number(number)) => Word18::truncated(*number),
+            None => Word18::truncated(0),
         };
         node.set(Place::Ram(place), word.get());
     }

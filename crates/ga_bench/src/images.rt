@@ -10,9 +10,9 @@ use std::time::Instant;
 fn add_memory(text: &mut Vec<u8>, name: &[u8]) -> Result<(), AllocError> {
     for cell in 0..64u8 {
         text.extend_from_slice(name)?;
-        text.extend_from_slice(&Word18::low(u32::from(cell)).hex6()[4..])?;
+        text.extend_from_slice(&Word18::truncated(u32::from(cell)).hex6()[4..])?;
         text.extend_from_slice(b" ")?;
-        text.extend_from_slice(&Word18::low(1009 * u32::from(cell)).hex6())?;
+        text.extend_from_slice(&Word18::truncated(1009 * u32::from(cell)).hex6())?;
         text.extend_from_slice(b"\n")?;
     }
     Ok(())

@@ -13,9 +13,9 @@ use std::time::Instant;
 fn load(chip: &mut Chip, node: NodeId) {
     let words = [
         encode([Op::FetchP, Op::Push, Op::Nop, Op::Nop]),
-        Some(Word18::low(0x3ffff)),
+        Some(Word18::truncated(0x3ffff)),
         encode([Op::Dup, Op::Plus, Op::Nop, Op::Unext]),
-        Some(Word18::low(0x10000)),
+        Some(Word18::truncated(0x10000)),
     ];
     let at = chip.node_mut(node);
     at.set(Place::P, 0);

@@ -15,10 +15,10 @@ const PAIRS: u8 = 71;
 fn load(chip: &mut Chip, node: NodeId, words: [u32; 4]) {
     let at = chip.node_mut(node);
     at.set(Place::P, 0);
-    at.set(Place::Ram(0), Word18::low(words[0]).get());
-    at.set(Place::Ram(1), Word18::low(words[1]).get());
-    at.set(Place::Ram(2), Word18::low(words[2]).get());
-    at.set(Place::Ram(3), Word18::low(words[3]).get());
+    at.set(Place::Ram(0), Word18::truncated(words[0]).get());
+    at.set(Place::Ram(1), Word18::truncated(words[1]).get());
+    at.set(Place::Ram(2), Word18::truncated(words[2]).get());
+    at.set(Place::Ram(3), Word18::truncated(words[3]).get());
 }
 
 /// Makes so many steps of a node, and counts those that were made.

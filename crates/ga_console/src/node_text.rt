@@ -160,7 +160,7 @@ fn push_flags(out: &mut Text, node: &Node)
     push_text(out, b" carry ");
     push_digit(out, node.get(Place::Carry) as u8);
     push_text(out, b" io ");
-    push_word(out, Word18::low(node.get(Place::Io)));
+    push_word(out, Word18::truncated(node.get(Place::Io)));
 }
 
 /// Adds both stacks, the top of each first.
@@ -203,5 +203,5 @@ fn push_value(out: &mut Text, value: u32)
     ensures len { array_vec_len out.new ≡ array_vec_len out.old + 1 + WORD_ROOM }
 {
     push_text(out, b" ");
-    push_word(out, Word18::low(value));
+    push_word(out, Word18::truncated(value));
 }

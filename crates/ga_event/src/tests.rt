@@ -21,10 +21,10 @@ fn load(rt: &impl Abort, chip: &mut Chip, node: NodeId, words: [u32; 4]) {
     let node = chip.node_mut(node);
     assert_eq!(rt; node.stop(), 0);
     node.set(Place::P, 0);
-    node.set(Place::Ram(0), Word18::low(words[0]).get());
-    node.set(Place::Ram(1), Word18::low(words[1]).get());
-    node.set(Place::Ram(2), Word18::low(words[2]).get());
-    node.set(Place::Ram(3), Word18::low(words[3]).get());
+    node.set(Place::Ram(0), Word18::truncated(words[0]).get());
+    node.set(Place::Ram(1), Word18::truncated(words[1]).get());
+    node.set(Place::Ram(2), Word18::truncated(words[2]).get());
+    node.set(Place::Ram(3), Word18::truncated(words[3]).get());
 }
 
 fn step(chip: &mut Chip, node: NodeId) -> Result<Effect, NotReady> {

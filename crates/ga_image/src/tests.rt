@@ -467,14 +467,14 @@ fn given_states(rt: HostRuntime) -> Result<(), Fail> {
 
 /// A word that differs from place to place.
 fn word(number: u8, cell: u8, salt: u8) -> Word18 {
-    Word18::low(1009 * u32::from(number) + 64 * u32::from(cell) + u32::from(salt))
+    Word18::truncated(1009 * u32::from(number) + 64 * u32::from(cell) + u32::from(salt))
 }
 
 /// The lines of one memory, each with one word.
 fn add_memory(text: &mut Vec<u8>, name: &[u8], number: u8, salt: u8) -> Result<(), AllocError> {
     for cell in 0..64u8 {
         text.extend_from_slice(name)?;
-        text.extend_from_slice(&Word18::low(u32::from(cell)).hex6()[4..])?;
+        text.extend_from_slice(&Word18::truncated(u32::from(cell)).hex6()[4..])?;
         text.extend_from_slice(b" ")?;
         text.extend_from_slice(&word(number, cell, salt).hex6())?;
         text.extend_from_slice(b"\n")?;

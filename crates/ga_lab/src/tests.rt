@@ -25,10 +25,10 @@ fn load(rt: &impl Abort, chip: &mut Chip, node: NodeId, words: [u32; 4]) {
     let node = chip.node_mut(node);
     assert_eq!(rt; node.stop(), 0);
     node.set(Place::P, 0);
-    node.set(Place::Ram(0), Word18::low(words[0]).get());
-    node.set(Place::Ram(1), Word18::low(words[1]).get());
-    node.set(Place::Ram(2), Word18::low(words[2]).get());
-    node.set(Place::Ram(3), Word18::low(words[3]).get());
+    node.set(Place::Ram(0), Word18::truncated(words[0]).get());
+    node.set(Place::Ram(1), Word18::truncated(words[1]).get());
+    node.set(Place::Ram(2), Word18::truncated(words[2]).get());
+    node.set(Place::Ram(3), Word18::truncated(words[3]).get());
     node.set(Place::Ram(4), 0x10000);
 }
 
@@ -57,7 +57,7 @@ fn pass(writer: (NodeId, u32), reader: (NodeId, u32), word: u32) -> Made {
         writer_step: writer.1,
         reader: reader.0,
         reader_step: reader.1,
-        word: Word18::low(word),
+        word: Word18::truncated(word),
     }
 }
 

@@ -8,7 +8,7 @@ fn loaded(words: &[u32]) -> Node {
     let mut node = Node::new(0);
     for cell in 0..64u8 {
         if let Some(word) = words.get(cell as usize) {
-            node.set(Place::Ram(cell), Word18::low(*word).get());
+            node.set(Place::Ram(cell), Word18::truncated(*word).get());
         }
     }
     node
@@ -52,8 +52,8 @@ fn defaults(rt: HostRuntime) {
 #[test]
 fn sets_stacks(rt: HostRuntime) {
     let mut node = Node::new(0x195);
-    let data = [Word18::low(7); 10];
-    let returns = [Word18::low(8); 9];
+    let data = [Word18::truncated(7); 10];
+    let returns = [Word18::truncated(8); 9];
     node.set_stacks(DataStack::of(data), ReturnStack::of(returns));
     assert_eq!(rt; node.d(9), 7);
     assert_eq!(rt; node.r(8), 8);
@@ -129,7 +129,7 @@ fn waits_for_an_instruction(rt: HostRuntime) -> Result<(), Fail> {
     let Wait::Fetch(_) = node.wait() else {
         return Err(Fail::new("no wait"));
     };
-    let taken = node.take_half(Word18::low(0x2a));
+    let taken = node.take_half(Word18::truncated(0x2a));
     assert_eq!(rt; node.get(Place::I), 0x2a);
     assert_eq!(rt; node.get(Place::Slot), 0);
     node.restore(&taken);

@@ -63,6 +63,6 @@ pub fn advance_a(a: Word18) -> Word18
     if address / 256 % 2 == 1 {
         a
     } else {
-        Word18::low(address / 128 * 128 + (address + 1) % 128)
+        Word18::truncated(address / 128 * 128 + (address + 1) % 128)
     }
 }

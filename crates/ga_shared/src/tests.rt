@@ -29,7 +29,7 @@ fn load(chip: &mut Chip, node: NodeId, words: &[u32]) {
     node.set(Place::P, 0);
     for (cell, word) in words.iter().enumerate() {
         if cell < 64 {
-            node.set(Place::Ram(cell as u8), Word18::low(*word).get());
+            node.set(Place::Ram(cell as u8), Word18::truncated(*word).get());
         }
     }
 }

@@ -35,7 +35,7 @@ impl DataStack {
     pub fn new() -> Self
         ensures { result ≡ fresh_ring 2 }
     {
-        let word = Word18::low(FRESH_WORD);
+        let word = Word18::truncated(FRESH_WORD);
         DataStack {
             top: word,
             second: word,
@@ -164,9 +164,9 @@ impl DataStack {
         ensures { self.new ≡ with_word self.old place value }
     {
         match place {
-            StackPlace::Top => self.top = Word18::low(value),
-            StackPlace::Second => self.second = Word18::low(value),
-            StackPlace::Cell(k) => self.cells[k as usize] = Word18::low(value),
+            StackPlace::Top => self.top = Word18::truncated(value),
+            StackPlace::Second => self.second = Word18::truncated(value),
+            StackPlace::Cell(k) => self.cells[k as usize] = Word18::truncated(value),
             StackPlace::Pointer => self.pointer = value as u8,
         }
     }

@@ -34,7 +34,7 @@ impl ReturnStack {
     pub fn new() -> Self
         ensures { result ≡ fresh_ring 1 }
     {
-        let word = Word18::low(FRESH_WORD);
+        let word = Word18::truncated(FRESH_WORD);
         ReturnStack {
             top: word,
             cells: [word; 8],
@@ -149,9 +149,9 @@ impl ReturnStack {
         ensures { self.new ≡ with_word self.old place value }
     {
         match place {
-            StackPlace::Top => self.top = Word18::low(value),
+            StackPlace::Top => self.top = Word18::truncated(value),
             StackPlace::Second => unreachable!(),
-            StackPlace::Cell(k) => self.cells[k as usize] = Word18::low(value),
+            StackPlace::Cell(k) => self.cells[k as usize] = Word18::truncated(value),
             StackPlace::Pointer => self.pointer = value as u8,
         }
     }

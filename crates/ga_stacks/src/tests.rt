@@ -15,7 +15,7 @@ fn wraps_around(rt: HostRuntime) {
     let mut stack = DataStack::new();
     assert_eq!(rt; words(&stack), [0x15555; 10]);
     for number in 1..12 {
-        let _overwritten = stack.push(Word18::low(number));
+        let _overwritten = stack.push(Word18::truncated(number));
     }
     assert_eq!(rt; words(&stack), [11, 10, 9, 8, 7, 6, 5, 4, 3, 2]);
     let _overwritten = stack.pop();
@@ -28,14 +28,14 @@ fn wraps_around(rt: HostRuntime) {
 
 #[test]
 fn of_lists(rt: HostRuntime) {
-    let first = Word18::low(1);
-    let other = Word18::low(2);
-    let last = Word18::low(3);
+    let first = Word18::truncated(1);
+    let other = Word18::truncated(2);
+    let last = Word18::truncated(3);
     let mut stack = DataStack::of([
         first, other, other, other, other, other, other, other, other, last,
     ]);
     assert_eq!(rt; words(&stack), [1, 2, 2, 2, 2, 2, 2, 2, 2, 3]);
-    let _overwritten = stack.push(Word18::low(0));
+    let _overwritten = stack.push(Word18::truncated(0));
     assert_eq!(rt; words(&stack), [0, 1, 2, 2, 2, 2, 2, 2, 2, 2]);
     let stack = ReturnStack::of([first, other, other, other, other, other, other, other, last]);
     for (place, word) in [1, 2, 2, 2, 2, 2, 2, 2, 3].iter().enumerate() {
@@ -47,7 +47,7 @@ fn of_lists(rt: HostRuntime) {
 fn places(rt: HostRuntime) {
     let mut stack = DataStack::new();
     for number in 1..4 {
-        let _overwritten = stack.push(Word18::low(number));
+        let _overwritten = stack.push(Word18::truncated(number));
     }
     assert_eq!(rt; stack.second().get(), 2);
     assert_eq!(rt; stack.get(StackPlace::Top), 3);
@@ -81,7 +81,7 @@ fn places(rt: HostRuntime) {
 fn return_ring_wraps(rt: HostRuntime) {
     let mut stack = ReturnStack::new();
     for number in 1..11 {
-        let _overwritten = stack.push(Word18::low(number));
+        let _overwritten = stack.push(Word18::truncated(number));
     }
     for place in 0..9u8 {
         assert_eq!(rt; stack.at(place).get(), 10 - u32::from(place));
@@ -99,8 +99,8 @@ fn return_ring_wraps(rt: HostRuntime) {
 #[test]
 fn returns(rt: HostRuntime) {
     let mut stack = ReturnStack::new();
-    let _overwritten = stack.push(Word18::low(7));
-    let _overwritten = stack.replace_top(Word18::low(8));
+    let _overwritten = stack.push(Word18::truncated(7));
+    let _overwritten = stack.replace_top(Word18::truncated(8));
     assert_eq!(rt; stack.top().get(), 8);
     assert_eq!(rt; stack.at(1).get(), 0x15555);
     let _overwritten = stack.pop();

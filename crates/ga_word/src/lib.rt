@@ -45,7 +45,7 @@ impl Word18 {
     }
 
     /// The lowest 18 bits of a number.
-    pub fn low(value: u32) -> Self
+    pub fn truncated(value: u32) -> Self
         ensures { result ≡ value % words }
     {
         Word18 {
@@ -63,7 +63,7 @@ impl Word18 {
     pub fn add(self, other: Self) -> Self
         ensures { result ≡ (self + other) % words }
     {
-        Word18::low(self.bits + other.bits)
+        Word18::truncated(self.bits + other.bits)
     }
 
     /// The sum with a carry, and whether it passes the greatest word.
@@ -72,7 +72,7 @@ impl Word18 {
         ensures carry { result.1 ≡ nat_le words (self + other + carry_value carry) }
     {
         let sum = self.bits + other.bits + u32::from(carry);
-        (Word18::low(sum), sum >= WORDS)
+        (Word18::truncated(sum), sum >= WORDS)
     }
 
     pub fn signed(self) -> i32
@@ -89,7 +89,7 @@ impl Word18 {
     pub fn shl(self) -> Self
         ensures { result ≡ doubled self }
     {
-        Word18::low(self.bits << 1)
+        Word18::truncated(self.bits << 1)
     }
 
     /// Half the word, with its highest bit kept.

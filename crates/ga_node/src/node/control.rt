@@ -63,7 +63,7 @@ impl Node {
         let top = self.top_return();
         let p = top.get();
         self.set_p(saved, p % 1024);
-        self.set_top_return(saved, Word18::low(old));
+        self.set_top_return(saved, Word18::truncated(old));
         self.skip(saved);
     }
 
@@ -83,7 +83,7 @@ impl Node {
         ensures { IsDone (effect Op.Call (record_of self.old)) self.old self.new saved.new }
     {
         let p = self.p();
-        self.push_return(saved, Word18::low(p));
+        self.push_return(saved, Word18::truncated(p));
         self.jump(saved);
     }
 
@@ -98,7 +98,7 @@ impl Node {
             self.pop_return(saved);
             self.go_on(saved);
         } else {
-            self.set_top_return(saved, Word18::low(count - 1));
+            self.set_top_return(saved, Word18::truncated(count - 1));
             self.start_again(saved);
         }
     }
@@ -115,7 +115,7 @@ impl Node {
             self.pop_return(saved);
             self.skip(saved);
         } else {
-            self.set_top_return(saved, Word18::low(count - 1));
+            self.set_top_return(saved, Word18::truncated(count - 1));
             self.jump(saved);
         }
     }

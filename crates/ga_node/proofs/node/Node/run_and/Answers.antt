@@ -11,4 +11,4 @@ returns c =
     let small : bit_and c.get-x.result c.get-y.result < 2 ^ 18 = omega (arith, and_le_l c.get-x.result c.get-y.result) in
     let whole : bit_and c.get-x.result c.get-y.result % 2 ^ 18 ≡ bit_and c.get-x.result c.get-y.result = mod-eq_of_lt small in
     made c.requires (saves_then c.pop_to.ensures.saves c.go_on.ensures.saves (λ n m. refl)) refl (search rules)
-    (rw (c.go_on.ensures.change, c.pop_to.ensures.change, c.low.ensures, whole, c.get-x.ensures.value, c.get-y.ensures.value, c.top-top.ensures, c.second-second.ensures) refl)
+    (rw (c.go_on.ensures.change, c.pop_to.ensures.change, c.truncated.ensures, whole, c.get-x.ensures.value, c.get-y.ensures.value, c.top-top.ensures, c.second-second.ensures) refl)

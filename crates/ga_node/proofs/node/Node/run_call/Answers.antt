@@ -9,4 +9,4 @@ unfolding restored
 returns c =
     let whole : c.p-p.result % 2 ^ 18 ≡ c.p-p.result = mod-eq_of_lt (omega arith) in
     made c.requires.empty (saves_then c.push_return.ensures.saves c.jump.ensures.saves (λ n m. refl)) refl (search rules)
-    (rw (c.jump.ensures.change, c.push_return.ensures.change, c.low.ensures, whole, c.p-p.ensures.value) refl)
+    (rw (c.jump.ensures.change, c.push_return.ensures.change, c.truncated.ensures, whole, c.p-p.ensures.value) refl)

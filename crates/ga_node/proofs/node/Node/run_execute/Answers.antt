@@ -9,4 +9,4 @@ unfolding restored
 returns c =
     let whole : c.p-old.result % 2 ^ 18 ≡ c.p-old.result = mod-eq_of_lt (omega arith) in
     made c.requires (saves_then (saves_then c.set_p.ensures.saves c.set_top_return.ensures.saves (λ n m. refl)) c.skip.ensures.saves (λ n m. refl)) refl (search rules)
-    (rw (c.skip.ensures.change, c.set_top_return.ensures.change, c.set_p.ensures.change, c.low.ensures, whole, c.p-old.ensures.value, c.get-p.ensures.value, c.top_return-top.ensures) refl)
+    (rw (c.skip.ensures.change, c.set_top_return.ensures.change, c.set_p.ensures.change, c.truncated.ensures, whole, c.p-old.ensures.value, c.get-p.ensures.value, c.top_return-top.ensures) refl)

@@ -9,4 +9,4 @@ unfolding restored
 returns c =
     let whole : (262143 - c.get-word.result) % 2 ^ 18 ≡ (262143 - c.get-word.result) = mod-eq_of_lt (omega arith) in
     made c.requires (saves_then c.set_top.ensures.saves c.go_on.ensures.saves (λ n m. refl)) refl (search rules)
-    (rw (c.go_on.ensures.change, c.set_top.ensures.change, c.low.ensures, whole, c.get-word.ensures.value, c.top-top.ensures) refl)
+    (rw (c.go_on.ensures.change, c.set_top.ensures.change, c.truncated.ensures, whole, c.get-word.ensures.value, c.top-top.ensures) refl)

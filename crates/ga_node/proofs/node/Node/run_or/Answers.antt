@@ -12,4 +12,4 @@ returns c =
     let small : bit_xor c.get-x.result c.get-y.result < 2 ^ 18 = xor_lt 18 c.get-x.result c.get-y.result c.get-x.ensures.in_range c.get-y.ensures.in_range in
     let whole : bit_xor c.get-x.result c.get-y.result % 2 ^ 18 ≡ bit_xor c.get-x.result c.get-y.result = mod-eq_of_lt small in
     made c.requires (saves_then c.pop_to.ensures.saves c.go_on.ensures.saves (λ n m. refl)) refl (search rules)
-    (rw (c.go_on.ensures.change, c.pop_to.ensures.change, c.low.ensures, whole, c.get-x.ensures.value, c.get-y.ensures.value, c.top-top.ensures, c.second-second.ensures) refl)
+    (rw (c.go_on.ensures.change, c.pop_to.ensures.change, c.truncated.ensures, whole, c.get-x.ensures.value, c.get-y.ensures.value, c.top-top.ensures, c.second-second.ensures) refl)

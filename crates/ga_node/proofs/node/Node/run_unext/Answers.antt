@@ -18,4 +18,4 @@ returns-else-count-eq0 c =
     let more : (c.get-count.result == 0) ≡ false = grind arith in
     rw (← c.top_return-top.ensures, ← c.get-count.ensures.value, more)
     (made c.requires (saves_then c.set_top_return.ensures.saves c.start_again.ensures.saves (λ n m. refl)) refl (search rules)
-    (rw (c.start_again.ensures.change, c.set_top_return.ensures.change, c.low.ensures, whole) refl))
+    (rw (c.start_again.ensures.change, c.set_top_return.ensures.change, c.truncated.ensures, whole) refl))
