@@ -17,3 +17,4 @@ pub mod Sizes
 pub mod Causes
 pub mod Behind
 pub mod FirstFaults
+pub mod Pieces
