@@ -18,3 +18,4 @@ pub mod Sizes
 pub mod Causes
 pub mod Behind
 pub mod FirstFaults
+pub mod Pieces
