@@ -13,3 +13,4 @@ pub mod ListedLemmas
 pub mod Heard
 pub mod RunLemmas
 pub mod Races
+pub mod Reaching

@@ -1,17 +1,19 @@
 -- What a call of the lab means for the command.
 use Rattle.std.proofs.Common.{◌≡◌, ℕ, ◌-◌, ◌⊎◌, List, [], ◌∷◌, ◌++◌, length, take, Option, Some, None, Result, Ok, Err, inl, inr, refl, sym, ap, ◌∙◌, rules}
 use Rattle.std.specs.Prelude.{IsOk}
+use Rattle.ga_node.specs.Record.{NodeRecord}
 use Rattle.ga_grid.specs.declared.node_id.NodeId.{NodeId}
+use Rattle.ga_image.specs.Printing.{printed}
 use Rattle.ga_event.specs.declared.event.Event.{Event}
 use Rattle.ga_causal.specs.Steps.{place_of, rest_from}
 use Rattle.ga_causal.specs.declared.chain.Link.{Link}
 use Rattle.ga_journal.specs.declared.made.Made.{Made}
-use Rattle.ga_lab.specs.Machine.{State, step_answer, stepped, undone, rewind_answer, rewound, rest_answer, undo_answer, dropped_answer, history_of, why_answer}
+use Rattle.ga_lab.specs.Machine.{State, chip_of, step_answer, stepped, undone, rewind_answer, rewound, rest_answer, undo_answer, dropped_answer, history_of, why_answer}
 use Rattle.ga_lab.specs.declared.fault.LabFault.{LabFault}
 use Rattle.ga_lab.specs.declared.fault.LabFault.TheVariants as fault
 use Rattle.ga_console.specs.Texts.{made_text, removed_text, refusal_text}
 use Rattle.ga_console.specs.Replies.{Reply, Does, step_reply, back_reply, rewind_reply, steps_text, links_text, why_text}
-use Rattle.ga_console.specs.declared.command.Command.TheVariants.{Step, Back, Rewind, Trace, Why}
+use Rattle.ga_console.specs.declared.command.Command.TheVariants.{Step, Back, Rewind, Trace, Why, Dump}
 
 -- an answer with a machine
 pub replies : (text other : List ℕ) (new next : State) → text ≡ other → new ≡ next
@@ -88,6 +90,14 @@ trace_done s node steps text e t = inl (replies text (steps_text node (history_o
 
 pub trace_refused : (s : State) (node : NodeId) (why : LabFault) (text : List ℕ) → why ≡ fault.Memory → text ≡ refusal_text why → Does s (Trace node) text s
 trace_refused s node why text e t = inr (tt, t ∙ ap refusal_text e, refl)
+
+-- ---- dump
+
+pub dump_done : (s : State) (chip : List NodeRecord) (text said : List ℕ) → chip ≡ chip_of s → text ≡ printed chip → said ≡ text → Does s Dump said s
+dump_done s chip text said e t f = inl (replies said (printed (chip_of s)) s s (f ∙ t ∙ ap printed e) refl)
+
+pub dump_refused : (s : State) (text : List ℕ) → text ≡ refusal_text fault.Memory → Does s Dump text s
+dump_refused s text t = inr (tt, t, refl)
 
 -- ---- why
 

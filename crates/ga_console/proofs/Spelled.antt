@@ -5,7 +5,7 @@ use Rattle.std.proofs.Common.{◌≡◌, ℕ, Bool, true, false, cond, List, ◌
 use Rattle.std.proofs.lemmas.Slice.Eq.{bytes_eq-Decides}
 use Rattle.ga_grid.specs.declared.node_id.NodeId.{NodeId}
 use Rattle.ga_console.specs.declared.command.Command.{Command}
-use Rattle.ga_console.specs.declared.command.Command.TheVariants.{Step, Back, Rewind, Node, Memory, Trace, Why, Count, Quit}
+use Rattle.ga_console.specs.declared.command.Command.TheVariants.{Step, Back, Rewind, Node, Memory, Trace, Why, Count, Dump, Quit}
 use Rattle.ga_console.specs.Texts.{name_of}
 use Rattle.ga_console.specs.Commands.{IsNumber, SpellsAddress, Spells}
 use Rattle.ga_console.specs.Parsing.{cut, node_in, number_in, byte_in, step_in, rewind_in, memory_in, why_in, alone, with_arguments, command_by, command_in}
@@ -118,7 +118,9 @@ alone_spelled line c e =
     let P : Command → Type 0 = λ d. Spells d line in
     tested line (codes "back") _ _ c Q (λ is some. let same : Back ≡ c = cc in subst P same is) (
     tested line (codes "count") _ _ c Q (λ is some. let same : Count ≡ c = cc in subst P same is) (
+    tested line (codes "dump") _ _ c Q (λ is some. let same : Dump ≡ c = cc in subst P same is) (
     tested line (codes "quit") _ _ c Q (λ is some. let same : Quit ≡ c = cc in subst P same is) (λ none. cc)
+    )
     )
     ) e
 
@@ -156,6 +158,7 @@ spelled_read (Memory node address) line is = rw (is.2, memory_read node address 
 spelled_read (Trace node) line is = rw (is, name_node node) refl
 spelled_read (Why from k to j) line is = rw (is.2, why_read from k to j is.0 is.1) refl
 spelled_read Count line is = rw is refl
+spelled_read Dump line is = rw is refl
 spelled_read Quit line is = rw is refl
 
 -- a line spells what it is read as

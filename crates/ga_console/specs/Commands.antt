@@ -4,7 +4,7 @@ use Rattle.std.specs.Str.{str_to_ascii_lowercase}
 use Rattle.ga_image.specs.Spelling.{hex2_of}
 use Rattle.ga_console.specs.Texts.{name_of}
 use Rattle.ga_console.specs.declared.command.Command.{Command}
-use Rattle.ga_console.specs.declared.command.Command.TheVariants.{Step, Back, Rewind, Node, Memory, Trace, Why, Count, Quit}
+use Rattle.ga_console.specs.declared.command.Command.TheVariants.{Step, Back, Rewind, Node, Memory, Trace, Why, Count, Dump, Quit}
 
 -- the numbers of steps that can be named
 abbrev pub IsNumber : ℕ → Type 0
@@ -31,4 +31,5 @@ Spells (Memory node address) line = (word : List ℕ) × SpellsAddress address w
 Spells (Trace node) line = line ≡ spaced (codes "trace" ∷ name_of node ∷ [])
 Spells (Why from k to j) line = IsNumber k × IsNumber j × (line ≡ spaced (codes "why" ∷ name_of from ∷ decimal k ∷ name_of to ∷ decimal j ∷ []))
 Spells Count line = line ≡ codes "count"
+Spells Dump line = line ≡ codes "dump"
 Spells Quit line = line ≡ codes "quit"

@@ -7,6 +7,7 @@ pub mod Texts
 pub mod Parsing
 pub mod Commands
 pub mod Replies
+pub mod Reached
 pub mod Session
 pub mod Run
 pub mod Settings

@@ -7,7 +7,7 @@ use Rattle.ga_grid.specs.declared.node_id.NodeId.{NodeId}
 use Rattle.ga_image.specs.Digits.{decimal_digit, node_number, cell_number}
 use Rattle.ga_image.specs.Steps.{◌>>=◌}
 use Rattle.ga_console.specs.declared.command.Command.{Command}
-use Rattle.ga_console.specs.declared.command.Command.TheVariants.{Step, Back, Rewind, Node, Memory, Trace, Why, Count, Quit}
+use Rattle.ga_console.specs.declared.command.Command.TheVariants.{Step, Back, Rewind, Node, Memory, Trace, Why, Count, Dump, Quit}
 
 -- a byte more in front of the first part
 abbrev pub in_front : ℕ → Option (List ℕ × List ℕ) → Option (List ℕ × List ℕ)
@@ -87,6 +87,7 @@ unfoldable pub alone : List ℕ → Option Command
 alone name =
     if pointwise nat_eq name (codes "back") then Some Back
     else if pointwise nat_eq name (codes "count") then Some Count
+    else if pointwise nat_eq name (codes "dump") then Some Dump
     else if pointwise nat_eq name (codes "quit") then Some Quit
     else None
 

@@ -3,6 +3,7 @@ use Rattle.std.specs.Prelude.{◌≡◌, ◌≢◌, ℕ, ◌<◌, ◌≤◌, ◌
 use Rattle.ga_grid.specs.Chip.{record_at}
 use Rattle.ga_grid.specs.declared.node_id.NodeId.{NodeId}
 use Rattle.ga_causal.specs.declared.chain.Link.{Link}
+use Rattle.ga_image.specs.Printing.{printed}
 use Rattle.ga_journal.specs.Told.{made_in}
 use Rattle.ga_journal.specs.declared.made.Made.{Made}
 use Rattle.ga_lab.specs.Machine.{State, chip_of, step_answer, stepped, undo_answer, undone, rewind_answer, rewound, word_at, history_of, told_of_kept, why_answer}
@@ -15,7 +16,7 @@ use Rattle.ga_console.specs.declared.reply.Turn.{Turn}
 use Rattle.ga_console.specs.declared.reply.Turn.TheVariants.{Answered}
 use Rattle.ga_console.specs.declared.reply.Turn.TheVariants.{Quit as Quits}
 use Rattle.ga_console.specs.declared.command.Command.{Command}
-use Rattle.ga_console.specs.declared.command.Command.TheVariants.{Step, Back, Rewind, Node, Memory, Trace, Why, Count, Quit}
+use Rattle.ga_console.specs.declared.command.Command.TheVariants.{Step, Back, Rewind, Node, Memory, Trace, Why, Count, Dump, Quit}
 
 -- an answer, and the machine after it
 abbrev pub Reply : Type 0
@@ -66,9 +67,10 @@ reply s (Memory node address) = (memory_text node address (word_at (record_at (c
 reply s (Trace node) = (steps_text node (history_of s node.number), s)
 reply s (Why from k to j) = (why_text s (why_answer s from.number k to.number j), s)
 reply s Count = (counts_text (length s.kept) s.made s.limit, s)
+reply s Dump = (printed (chip_of s), s)
 reply s Quit = ([], s)
 
--- The command needs memory: a step that would be made, a trace, or why where both steps stand.
+-- The command needs memory: a step that would be made, a trace, why where both steps stand, or a dump.
 abbrev pub Grows : State → Command → Type 0
 Grows s (Step node) = IsOk (step_answer s node)
 Grows s Back = ⊥
@@ -78,6 +80,7 @@ Grows s (Memory node address) = ⊥
 Grows s (Trace node) = Unit {0}
 Grows s (Why from k to j) = IsOk (why_answer s from.number k to.number j)
 Grows s Count = ⊥
+Grows s Dump = Unit {0}
 Grows s Quit = ⊥
 
 -- The reply to a command. Where memory is wanting, a command that needs it is refused and changes nothing.

@@ -32,6 +32,8 @@ pub enum Command {
     },
     /// `count`: shows how many events are kept and were made, and the limit.
     Count,
+    /// `dump`: shows the chip as an image.
+    Dump,
     /// `quit`: ends the session.
     Quit,
 }
@@ -56,6 +58,7 @@ fn alone(name: &[u8]) -> Option<Command>
     match name {
         b"back" => Some(Command::Back),
         b"count" => Some(Command::Count),
+        b"dump" => Some(Command::Dump),
         b"quit" => Some(Command::Quit),
         _ => None,
     }

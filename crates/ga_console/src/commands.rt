@@ -9,6 +9,7 @@ use super::lines::{Line, LineEnd, read_line};
 use super::output::{Output, WriteFailed};
 use super::reply::{Turn, answer};
 use ga_lab::Lab;
+use std::alloc::Global;
 use std::io::{Read, Write};
 
 /// How the command part ended.
@@ -29,6 +30,7 @@ pub enum Ending {
 /// # Errors
 /// A write failed.
 pub fn serve<R: Read, W: Write>(
+    alloc: Global,
     input: &mut Input,
     reader: &mut R,
     output: &mut Output,
@@ -44,13 +46,14 @@ pub fn serve<R: Read, W: Write>(
         × Serves (input_limit - input.old.taken) lab.old read rest text result
         × Written result (said ++ text) sent }
 {
-    let ending = answer_lines(input, reader, output, writer, lab)?;
+    let ending = answer_lines(alloc, input, reader, output, writer, lab)?;
     output.send(writer)?;
     Ok(ending)
 }
 
 /// Answers the command lines one by one, until the input ends. Some of the answers may be pending then.
 fn answer_lines<R: Read, W: Write>(
+    alloc: Global,
     input: &mut Input,
     reader: &mut R,
     output: &mut Output,
@@ -68,7 +71,7 @@ fn answer_lines<R: Read, W: Write>(
     let mut line = Line::new();
     'lines: loop {
         match read_line(input, reader, output, writer, &mut line)? {
-            LineEnd::Feed => match answer(lab, &line, output, writer)? {
+            LineEnd::Feed => match answer(alloc, lab, &line, output, writer)? {
                 Turn::Quit => return Ok(Ending::Quit),
                 Turn::Answered => {}
             },
@@ -76,7 +79,7 @@ fn answer_lines<R: Read, W: Write>(
                 if line.is_empty() {
                     return Ok(Ending::Ended);
                 }
-                return match answer(lab, &line, output, writer)? {
+                return match answer(alloc, lab, &line, output, writer)? {
                     Turn::Quit => Ok(Ending::Quit),
                     Turn::Answered => Ok(Ending::Ended),
                 };

@@ -9,6 +9,7 @@ mod event;
 mod fault_text;
 mod image;
 mod input;
+pub mod laws;
 mod lines;
 mod node_text;
 mod output;

@@ -12,6 +12,9 @@ use thiserror::Error;
 #[error("a write failed")]
 pub struct WriteFailed;
 
+/// The bytes of a long text that are said at once.
+const BLOCK: usize = 4096;
+
 /// What was said and is not written yet.
 #[derive(Drop)]
 pub struct Output {
@@ -47,6 +50,23 @@ impl Output {
     {
         self.make_room(writer, text.len())?;
         let _fits = self.pending.try_extend_from_slice(text);
+        Ok(())
+    }
+
+    /// Says a text of any length, block by block.
+    ///
+    /// # Errors
+    /// A write failed.
+    pub fn say_blocks<W: Write>(&mut self, writer: &mut W, text: &[u8]) -> Result<(), WriteFailed>
+        ensures { (before said : List ℕ) → IsSaid (W.contents writer.old) before said self.old →
+            IsSaidOrCut result (W.contents writer.new) before (said ++ text.now) self.new }
+    {
+        let mut rest = text;
+        'pieces: while !rest.is_empty() {
+            let (block, after) = rest.split_at(rest.len().min(BLOCK));
+            self.say(writer, block)?;
+            rest = after;
+        }
         Ok(())
     }
 

@@ -4,7 +4,7 @@ ghost use Rattle.ga_journal.specs.Told.{made_in};
 ghost use Rattle.ga_lab.specs.Machine.{told_of_kept};
 ghost use Rattle.ga_console.specs.Output.{Says};
 ghost use Rattle.ga_console.specs.Replies.{Does, steps_text, told_text, links_text};
-ghost use Rattle.ga_console.specs.declared.command.Command.TheVariants.{Node, Memory, Trace, Why, Count};
+ghost use Rattle.ga_console.specs.declared.command.Command.TheVariants.{Node, Memory, Trace, Why, Count, Dump};
 
 use super::event::{put_chain, put_counts, put_made, put_trace, refusal};
 use super::node_text::{put_memory, put_node};
@@ -12,7 +12,9 @@ use super::output::{Output, WriteFailed};
 use super::text::Text;
 use ga_causal::Link;
 use ga_grid::NodeId;
-use ga_lab::{Lab, Made};
+use ga_image::print;
+use ga_lab::{Lab, LabFault, Made};
+use std::alloc::Global;
 use std::io::Write;
 
 /// `node NNN`: shows the node.
@@ -146,5 +148,21 @@ fn say_link<W: Write>(
             output.say(writer, text.as_slice())
         }
         None => Ok(()),
+    }
+}
+
+/// `dump`: shows the chip as an image.
+pub fn dump<W: Write>(
+    alloc: Global,
+    lab: &Lab,
+    output: &mut Output,
+    writer: &mut W,
+) -> Result<(), WriteFailed>
+    ensures { Says result (λ text. Does lab.now Dump text lab.now)
+        (W.contents writer.old) output.old (W.contents writer.new) output.new }
+{
+    match print(alloc, lab.chip()) {
+        Ok(image) => output.say_blocks(writer, image.as_slice()),
+        Err(_) => output.say(writer, refusal(LabFault::Memory)),
     }
 }

@@ -6,8 +6,9 @@ use super::changes::{back, rewind, step};
 use super::command::{Command, command_of};
 use super::lines::Line;
 use super::output::{Output, WriteFailed};
-use super::readings::{count, memory, node, trace, why};
+use super::readings::{count, dump, memory, node, trace, why};
 use ga_lab::Lab;
+use std::alloc::Global;
 use std::io::Write;
 
 /// The most bytes that a line has before its line feed.
@@ -27,6 +28,7 @@ pub enum Turn {
 /// # Errors
 /// A write failed.
 pub fn answer<W: Write>(
+    alloc: Global,
     lab: &mut Lab,
     line: &Line,
     output: &mut Output,
@@ -47,7 +49,7 @@ pub fn answer<W: Write>(
         Some(command) => match command {
             Command::Quit => Ok(Turn::Quit),
             _ => {
-                obey(lab, command, output, writer)?;
+                obey(alloc, lab, command, output, writer)?;
                 Ok(Turn::Answered)
             }
         },
@@ -56,6 +58,7 @@ pub fn answer<W: Write>(
 
 /// Carries a command out. `quit` asks for nothing here.
 fn obey<W: Write>(
+    alloc: Global,
     lab: &mut Lab,
     command: Command,
     output: &mut Output,
@@ -78,6 +81,7 @@ fn obey<W: Write>(
             to_step,
         } => why(lab, (from, from_step), (to, to_step), output, writer),
         Command::Count => count(lab, output, writer),
+        Command::Dump => dump(alloc, lab, output, writer),
         Command::Quit => Ok(()),
     }
 }

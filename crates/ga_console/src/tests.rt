@@ -1,4 +1,5 @@
 mod commands;
+mod memory;
 mod races;
 mod runs;
 mod settings;

@@ -1,3 +1,4 @@
 pub mod Applied
 pub mod Passes
 pub mod Locality
+pub mod Steadiness

@@ -7,9 +7,10 @@ ghost use Rattle.ga_grid.specs.Chip.{node_at};
 ghost use Rattle.ga_event.specs.declared.event.Event.{Event};
 ghost use Rattle.ga_event.specs.declared.event.Effect.{Effect};
 ghost use Rattle.ga_event.specs.Touches.{touches, meets};
-ghost use Rattle.ga_event.specs.Apply.{refusal_of, apply};
+ghost use Rattle.ga_event.specs.Apply.{refusal_of, apply, replay};
 ghost use Rattle.ga_event.specs.Undo.{unapplied, CanUnapply, IsApplied, IsLeft};
 ghost use Rattle.ga_event.specs.Agree.{Agree, Alike};
+ghost use Rattle.ga_event.specs.Steady.{AreSteady};
 
 /// An event changes the nodes that it touches alone.
 pub fn changes_touched_alone()
@@ -37,4 +38,13 @@ pub fn taken_back()
     ensures nodes { (old new chip : List NodeState) (event : Event) (effect : Effect) →
         IsApplied old event effect new → IsLeft event new chip →
         (n : ℕ) → node_at (unapplied chip event effect) n ≡ (if touches event n then node_at old n else node_at chip n) }
+{}
+
+/// On a chip of which each node's wait fits its slot and its stop, every event leaves such a chip, and so does every list of
+/// events.
+pub fn stays_steady()
+    ensures event { (chip : List NodeRecord) (event : Event) → AreSteady chip →
+        IfSome (apply chip event) (λ done. AreSteady done.0) }
+    ensures events { (chip : List NodeRecord) (events : List Event) → AreSteady chip →
+        IfSome (replay chip events) (λ last. AreSteady last) }
 {}

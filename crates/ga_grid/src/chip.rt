@@ -57,8 +57,8 @@ fn linked(node: NodeId, side: Side) -> u32
     }
 }
 
-// P of a node at load.
-fn load_p(node: NodeId) -> u32
+/// P of a node at load: the address that names the ports of all sides on which it has a neighbour.
+pub fn load_p(node: NodeId) -> u32
     ensures value { result ≡ load_p_of node.number }
     ensures in_range { result < 2 ^ 10 }
 {

@@ -5,7 +5,7 @@ mod chip;
 mod link;
 mod node_id;
 
-pub use chip::{Chip, Memory};
+pub use chip::{Chip, Memory, load_p};
 pub use link::neighbour;
 pub use node_id::{NODES, NodeId};
 

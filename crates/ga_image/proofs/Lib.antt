@@ -5,6 +5,7 @@ pub mod Numbers
 pub mod Spellings
 pub mod Short
 pub mod Flags
+pub mod SteadyLoads
 pub mod Writes
 pub mod Stages
 pub mod Steps
@@ -17,3 +18,4 @@ pub mod Sizes
 pub mod Causes
 pub mod Behind
 pub mod FirstFaults
+pub mod Pieces

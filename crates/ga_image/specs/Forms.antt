@@ -6,8 +6,8 @@ use Rattle.ga_image.specs.declared.field.Field.{Field}
 use Rattle.ga_image.specs.declared.field.Field.TheVariants.{A, B, P, I, Io, Carry, Slot, Wait, Stop, Data, Return, Ram, Rom}
 use Rattle.ga_image.specs.declared.line.Line.{Line}
 use Rattle.ga_image.specs.declared.line.Line.TheVariants as line
-use Rattle.ga_image.specs.declared.line.Memory.{Memory}
-use Rattle.ga_image.specs.declared.line.Memory.TheVariants as memory
+use Rattle.ga_image.specs.declared.field.Bank.{Bank}
+use Rattle.ga_image.specs.declared.field.Bank.TheVariants as bank
 use Rattle.ga_image.specs.Steps.{◌>>=◌}
 use Rattle.ga_image.specs.Digits.{cell_number, node_number, set_number}
 use Rattle.ga_image.specs.Spelling.{Form, Node, Words, End}
@@ -19,9 +19,9 @@ form_of (line.Words field words) = Words field words.items
 form_of line.End = End
 
 -- a field of a memory
-abbrev pub field_in : Memory → ℕ → Field
-field_in memory.Ram cell = Ram cell
-field_in memory.Rom cell = Rom cell
+abbrev pub field_in : Bank → ℕ → Field
+field_in bank.Ram cell = Ram cell
+field_in bank.Rom cell = Rom cell
 
 -- numbers of six digits, each behind one space
 unfoldable pub spaced_words : List ℕ → Option (List ℕ)

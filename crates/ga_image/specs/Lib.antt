@@ -10,3 +10,4 @@ pub mod Forms
 pub mod Progress
 pub mod Reading
 pub mod FirstFault
+pub mod Printing

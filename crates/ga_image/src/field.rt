@@ -1,6 +1,8 @@
 //! The fields of a block.
 
 ghost use Rattle.std.specs.Prelude.{◌≡◌, ◌<◌, ◌≤◌, length};
+ghost use Rattle.ga_image.specs.Spelling.{name_of};
+ghost use Rattle.ga_image.specs.Forms.{field_in};
 ghost use Rattle.ga_image.specs.Fields.{has_field, place_of, number_of, next_field, goes_past, is_too_great, HasCell};
 
 use ga_node::Place;
@@ -34,6 +36,25 @@ pub(crate) enum Field {
     Return(u8),
     Ram(u8),
     Rom(u8),
+}
+
+/// The two memories of a node.
+#[derive(Clone, Copy)]
+pub(crate) enum Bank {
+    Ram,
+    Rom,
+}
+
+impl Bank {
+    /// The field of one of its cells.
+    pub(crate) fn field(self, cell: u8) -> Field
+        ensures { result ≡ field_in self cell }
+    {
+        match self {
+            Bank::Ram => Field::Ram(cell),
+            Bank::Rom => Field::Rom(cell),
+        }
+    }
 }
 
 impl Format {
@@ -73,6 +94,27 @@ impl Field {
             Field::Return(word) => Place::ReturnCell(word - 1),
             Field::Ram(cell) => Place::Ram(cell),
             Field::Rom(cell) => Place::Rom(cell),
+        }
+    }
+
+    /// What its lines begin with.
+    pub(crate) fn name(self) -> &'static str
+        ensures { result.now ≡ name_of self }
+    {
+        match self {
+            Field::A => "a",
+            Field::B => "b",
+            Field::P => "p",
+            Field::I => "i",
+            Field::Io => "io",
+            Field::Carry => "carry ",
+            Field::Slot => "slot ",
+            Field::Wait => "wait ",
+            Field::Stop => "stop ",
+            Field::Data(_) => "d",
+            Field::Return(_) => "r",
+            Field::Ram(_) => "ram ",
+            Field::Rom(_) => "rom ",
         }
     }
 

@@ -21,15 +21,18 @@
 mod digits;
 mod fault;
 mod field;
+mod field_text;
 mod held;
 mod image;
 pub mod laws;
 mod line;
 mod lines;
 mod parser;
+mod printing;
 
 pub use fault::{ImageCause, ImageFault};
 pub use image::parse;
+pub use printing::print;
 
 #[cfg(test)]
 mod tests;

@@ -21,7 +21,7 @@ ghost use Rattle.ga_image.specs.Forms.{
 };
 
 use super::digits::{cell_number, node_number, set_number};
-use super::field::Field;
+use super::field::{Bank, Field};
 use arrayvec::ArrayVec;
 use ga_word::Word18;
 
@@ -33,13 +33,6 @@ pub(crate) enum Line {
     /// Words for a field and for those after it.
     Words(Field, ArrayVec<u32, 16>),
     End,
-}
-
-/// The memories of a node.
-#[derive(Clone, Copy)]
-pub(crate) enum Memory {
-    Ram,
-    Rom,
 }
 
 /// Reads 1 to 16 numbers of six digits, each behind one space.
@@ -70,8 +63,8 @@ fn word_line(field: Field, text: &[u8]) -> Option<Line>
 }
 
 #[tactic(auto, unfolding(crate::specs::Forms::cells_form))]
-fn cells_line(memory: Memory, text: &[u8]) -> Option<Line>
-    ensures { option_map form_of result ≡ cells_form (field_in memory) text.now }
+fn cells_line(bank: Bank, text: &[u8]) -> Option<Line>
+    ensures { option_map form_of result ≡ cells_form (field_in bank) text.now }
 {
     if text.len() < 2 {
         return None;
@@ -79,11 +72,7 @@ fn cells_line(memory: Memory, text: &[u8]) -> Option<Line>
     let (digits, rest) = text.split_at(2);
     let cell = cell_number(digits)?;
     let words = read_words(rest)?;
-    let field = match memory {
-        Memory::Ram => Field::Ram(cell),
-        Memory::Rom => Field::Rom(cell),
-    };
-    Some(Line::Words(field, words))
+    Some(Line::Words(bank.field(cell), words))
 }
 
 #[tactic(auto, unfolding(crate::specs::Forms::stack_form))]
@@ -178,9 +167,9 @@ fn wide_line(text: &[u8]) -> Option<Line>
     if let Some(rest) = text.strip_prefix(b"d") {
         stack_line(Field::Data(0), 10, rest)
     } else if let Some(rest) = text.strip_prefix(b"ram ") {
-        cells_line(Memory::Ram, rest)
+        cells_line(Bank::Ram, rest)
     } else if let Some(rest) = text.strip_prefix(b"rom ") {
-        cells_line(Memory::Rom, rest)
+        cells_line(Bank::Rom, rest)
     } else if let Some(rest) = text.strip_prefix(b"r") {
         stack_line(Field::Return(0), 9, rest)
     } else if let Some(rest) = text.strip_prefix(b"node ") {

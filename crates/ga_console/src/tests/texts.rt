@@ -9,6 +9,7 @@ use ga_image::{ImageCause, ImageFault, parse};
 use ga_lab::{Counts, LabFault, Made};
 use ga_node::Kind;
 use ga_word::Word18;
+use std::process::Abort;
 use std::test::Fail;
 
 /// The node with this name.
@@ -62,76 +63,88 @@ fn events(rt: HostRuntime) -> Result<(), Fail> {
     Ok(())
 }
 
+fn check(rt: &impl Abort, out: &Text, text: &[u8]) {
+    assert_eq!(rt; out.as_slice(), text);
+}
+
 #[test]
 fn lists(rt: HostRuntime) -> Result<(), Fail> {
     let mut out = Text::new();
     put_removed(&mut out, 1, 11);
-    assert_eq!(rt; out.as_slice(), b"removed 1 kept 11\n".as_slice());
+    check(&rt, &out, b"removed 1 kept 11\n");
     put_removed(&mut out, 2, 17);
-    assert_eq!(rt; out.as_slice(), b"removed 2 kept 17\n".as_slice());
+    check(&rt, &out, b"removed 2 kept 17\n");
     put_trace(&mut out, node(1)?, 5);
-    assert_eq!(rt; out.as_slice(), b"trace 001 5\n".as_slice());
+    check(&rt, &out, b"trace 001 5\n");
     put_trace(&mut out, node(2)?, 0);
-    assert_eq!(rt; out.as_slice(), b"trace 002 0\n".as_slice());
+    check(&rt, &out, b"trace 002 0\n");
     put_chain(&mut out, 3);
-    assert_eq!(rt; out.as_slice(), b"chain 3\n".as_slice());
-    put_counts(
-        &mut out,
+    check(&rt, &out, b"chain 3\n");
+    put_memory(&mut out, node(0)?, 0x41, word(0x1d5)?);
+    check(&rt, &out, b"mem 000 41 0001d5\n");
+    put_memory(&mut out, node(717)?, 0xff, word(0x3ffff)?);
+    check(&rt, &out, b"mem 717 ff 03ffff\n");
+    Ok(())
+}
+
+static COUNTS: [(Counts, &[u8]); 2] = [
+    (
         Counts {
             kept: 7,
             made: 7,
             limit: 1_000_000,
         },
-    );
-    assert_eq!(rt; out.as_slice(), b"kept 7 made 7 limit 1000000\n".as_slice());
-    put_counts(
-        &mut out,
+        b"kept 7 made 7 limit 1000000\n",
+    ),
+    (
         Counts {
             kept: 0,
             made: u64::MAX,
             limit: 4_000_000,
         },
-    );
-    assert_eq!(rt;
-        out.as_slice(),
-        b"kept 0 made 18446744073709551615 limit 4000000\n".as_slice()
-    );
-    put_memory(&mut out, node(0)?, 0x41, word(0x1d5)?);
-    assert_eq!(rt; out.as_slice(), b"mem 000 41 0001d5\n".as_slice());
-    put_memory(&mut out, node(717)?, 0xff, word(0x3ffff)?);
-    assert_eq!(rt; out.as_slice(), b"mem 717 ff 03ffff\n".as_slice());
-    Ok(())
-}
+        b"kept 0 made 18446744073709551615 limit 4000000\n",
+    ),
+];
 
 #[test]
-fn refusals(rt: HostRuntime) -> Result<(), Fail> {
-    let rows = [
-        (LabFault::Waiting, b"no 1 waiting\n".as_slice()),
-        (LabFault::Stopped, b"no 2 stopped\n"),
-        (LabFault::Full, b"no 3 full\n"),
-        (LabFault::Memory, b"no 4 memory\n"),
-        (LabFault::Empty, b"no 5 empty\n"),
-        (LabFault::NoStep, b"no 6 nostep\n"),
-        (LabFault::Spent, b"no 7 spent\n"),
-    ];
+fn counts(rt: HostRuntime) {
     let mut out = Text::new();
-    for (fault, text) in rows {
-        put_text(&mut out, refusal(fault));
-        assert_eq!(rt; out.as_slice(), text);
+    for (counts, text) in &COUNTS {
+        put_counts(&mut out, *counts);
+        check(&rt, &out, text);
     }
-    let fault = ImageFault {
-        line: 3,
-        cause: ImageCause::Word,
-    };
-    put_fault(&mut out, fault);
-    assert_eq!(rt; out.as_slice(), b"no 14 word line 3\n".as_slice());
-    let fault = ImageFault {
-        line: 1,
-        cause: ImageCause::Truncated,
-    };
-    put_fault(&mut out, fault);
-    assert_eq!(rt; out.as_slice(), b"no 17 truncated line 1\n".as_slice());
-    Ok(())
+}
+
+static REFUSALS: [(LabFault, &[u8]); 7] = [
+    (LabFault::Waiting, b"no 1 waiting\n"),
+    (LabFault::Stopped, b"no 2 stopped\n"),
+    (LabFault::Full, b"no 3 full\n"),
+    (LabFault::Memory, b"no 4 memory\n"),
+    (LabFault::Empty, b"no 5 empty\n"),
+    (LabFault::NoStep, b"no 6 nostep\n"),
+    (LabFault::Spent, b"no 7 spent\n"),
+];
+
+static IMAGE_REFUSALS: [(u32, ImageCause, &[u8]); 2] = [
+    (3, ImageCause::Word, b"no 14 word line 3\n"),
+    (1, ImageCause::Truncated, b"no 17 truncated line 1\n"),
+];
+
+#[test]
+fn refusals(rt: HostRuntime) {
+    let mut out = Text::new();
+    for (fault, text) in &REFUSALS {
+        put_text(&mut out, refusal(*fault));
+        check(&rt, &out, text);
+    }
+    for (line, cause, text) in &IMAGE_REFUSALS {
+        let fault = ImageFault {
+            line: *line,
+            cause: *cause,
+        };
+        put_fault(&mut out, fault);
+        check(&rt, &out, text);
+    }
 }
 
 /// A node after some events of its own.

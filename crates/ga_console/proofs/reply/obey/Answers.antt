@@ -23,3 +23,6 @@ returns-in-Why g c = rw c.in-Why.is c.why.ensures
 
 pub returns-in-Count : goal.returns-in-Count
 returns-in-Count g c = rw c.in-Count.is c.count.ensures
+
+pub returns-in-Dump : goal.returns-in-Dump
+returns-in-Dump g c = rw c.in-Dump.is c.dump.ensures

@@ -1,0 +1,60 @@
+-- The load of a session stays.
+use Rattle.std.proofs.Common.{◌≡◌, ℕ, List, [], ◌∷◌, Option, Some, None, Result, Ok, Err, inl, inr, refl, sym, ◌∙◌, ap}
+use Rattle.ga_node.specs.Record.{NodeRecord}
+use Rattle.ga_grid.specs.declared.node_id.NodeId.{NodeId}
+use Rattle.ga_event.specs.declared.event.Event.{Event}
+use Rattle.ga_node.specs.declared.kind.NotReady.{NotReady}
+use Rattle.ga_event.specs.Next.{next}
+use Rattle.ga_journal.specs.declared.made.Made.{Made}
+use Rattle.ga_lab.specs.Machine.{State, chip_of, step_answer, stepped, with_event, unless_refused, undo_answer, undone, rewind_answer, rewound}
+use Rattle.ga_lab.specs.declared.fault.LabFault.{LabFault}
+use Rattle.ga_console.specs.Replies.{Reply, Does, Answer, reply, step_reply, back_reply, rewind_reply}
+use Rattle.ga_console.specs.Replies.Answer.{long, command, syntax}
+use Rattle.ga_console.specs.declared.command.Command.{Command}
+use Rattle.ga_console.specs.declared.command.Command.TheVariants.{Step, Back, Rewind, Node, Memory, Trace, Why, Count, Dump, Quit}
+use Rattle.ga_console.specs.Reached.{Reaches}
+
+event_load : (s : State) (found : Result Event NotReady) → (with_event s found).load ≡ s.load
+event_load s (Ok event) = refl
+event_load s (Err why) = refl
+
+unless_load : (s : State) (answer : Result Made LabFault) (new : State) → new.load ≡ s.load → (unless_refused s answer new).load ≡ s.load
+unless_load s (Ok made) new same = same
+unless_load s (Err why) new same = refl
+
+step_load : (s : State) (node : NodeId) (answer : Result Made LabFault) → (step_reply s node answer).1.load ≡ s.load
+step_load s node (Ok made) = unless_load s (step_answer s node) (with_event s (next (chip_of s) node)) (event_load s (next (chip_of s) node))
+step_load s node (Err why) = refl
+
+back_load : (s : State) (answer : Result (Unit {0}) LabFault) → (back_reply s answer).1.load ≡ s.load
+back_load s (Ok done) = refl
+back_load s (Err why) = refl
+
+rewind_load : (s : State) (n k : ℕ) (answer : Result ℕ LabFault) → (rewind_reply s (rewound s n k) answer).1.load ≡ s.load
+rewind_load s n k (Ok removed) = refl
+rewind_load s n k (Err why) = refl
+
+reply_load : (s : State) (asked : Command) → (reply s asked).1.load ≡ s.load
+reply_load s (Step node) = step_load s node (step_answer s node)
+reply_load s Back = back_load s (undo_answer s)
+reply_load s (Rewind node k) = rewind_load s node.number k (rewind_answer s node.number k)
+reply_load s (Node node) = refl
+reply_load s (Memory node address) = refl
+reply_load s (Trace node) = refl
+reply_load s (Why from k to j) = refl
+reply_load s Count = refl
+reply_load s Dump = refl
+reply_load s Quit = refl
+
+does_load : (s : State) (asked : Command) (answer : List ℕ) (new : State) → Does s asked answer new → new.load ≡ s.load
+does_load s asked answer new (inl e) = ap (λ (r : Reply). r.1.load) e ∙ reply_load s asked
+does_load s asked answer new (inr refused) = ap (λ (m : State). m.load) refused.2
+
+answer_load : (s : State) (line answer : List ℕ) (new : State) → Answer s line answer new → new.load ≡ s.load
+answer_load s line answer new (long past text same) = ap (λ (m : State). m.load) same
+answer_load s line answer new (command c short spelled does) = does_load s c answer new does
+answer_load s line answer new (syntax short none text same) = ap (λ (m : State). m.load) same
+
+pub reached_load : (m : State) (lines : List (List ℕ)) (last : State) → Reaches m lines last → last.load ≡ m.load
+reached_load m [] last same = ap (λ (s : State). s.load) same
+reached_load m (line ∷ lines) last (answer, next, done, rest) = reached_load next lines last rest ∙ answer_load m line answer next done

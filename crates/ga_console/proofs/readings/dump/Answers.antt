@@ -1,0 +1,17 @@
+use Rattle.std.proofs.Common.{refl, ◌∙◌, ap}
+use Rattle.ga_console.proofs.ReplyLemmas.{dump_done, dump_refused}
+use Rattle.ga_console.proofs.readings.dump.Goals as goal
+
+pub returns-in-Ok : goal.returns-in-Ok
+returns-in-Ok g c = λ before said h. (
+  c.as_slice.result.now,
+  dump_done c.args.lab.now _ c.in-Ok.image.items c.as_slice.result.now c.chip.ensures.value c.in-Ok.ensures.text c.as_slice.ensures.value,
+  c.say_blocks.ensures before said h,
+)
+
+pub returns-in-Err : goal.returns-in-Err
+returns-in-Err g c = λ before said h. (
+  c.refusal.result.now,
+  dump_refused c.args.lab.now c.refusal.result.now c.refusal.ensures.text,
+  c.say.ensures before said h,
+)

@@ -1,0 +1,185 @@
+-- Texts that grow piece by piece.
+use Rattle.std.specs.Prelude.{◌==◌, codes}
+use Rattle.std.specs.List.{AllByRecursion, list_all}
+use Rattle.std.proofs.Common.{◌≡◌, ◌≢◌, ℕ, zero, suc, ◌+◌, ◌*◌, ◌^◌, ◌<◌, ◌≤◌, true, false, List, [], ◌∷◌, ◌++◌, length, map, flat_map, take, drop, get_or, refl, sym, ◌∙◌, ap, arith, append_assoc, below_more, length-append}
+use Rattle.std.proofs.lemmas.List.{take_more, map-append, append-nil, get_or_append_left, get_or_push, ext_get_or, drop_more, drop_all, take_at}
+use Rattle.std.proofs.lemmas.List.Concat.{flat_map-append}
+use Rattle.ga_word.specs.Word.{hex6_of}
+use Rattle.ga_image.specs.declared.field.Field.{Field}
+use Rattle.ga_node.specs.Record.{NodeRecord}
+use Rattle.ga_grid.specs.Grid.{yxx_of}
+use Rattle.ga_image.specs.Spelling.{Form, Node, End, words_text, decimal3_of}
+use Rattle.ga_image.specs.Grammar.{Block, field_line_form, block_forms}
+use Rattle.ga_image.specs.Printing.{AreWords, text_of, line_text, field_text, fields_text, blocks_text, line_unless, word_unless, row_cells, lines_at, block_unless, blocks_from, printed}
+
+-- one piece behind another
+pub grown : (old mid new a b : List ℕ) → mid ≡ old ++ a → new ≡ mid ++ b → new ≡ old ++ (a ++ b)
+grown old mid new a b p q = q ∙ ap (λ xs. xs ++ b) p ∙ append_assoc old a b
+
+-- one word more
+pub words_more : (words : List ℕ) (i : ℕ) → i < length words → words_text (take (i + 1) words) ≡ words_text (take i words) ++ 32 ∷ hex6_of (get_or words i 0)
+words_more words i within = ap words_text (take_more words i 0 within) ∙ flat_map-append (λ word. 32 ∷ hex6_of word) (take i words) (get_or words i 0 ∷ [])
+
+-- each of the words is one
+pub each_word : (words : List ℕ) (i : ℕ) → i < length words → AreWords words → get_or words i 0 < 2 ^ 18
+each_word [] i within small = absurd (omega arith)
+each_word (word ∷ words) zero within small = small.0
+each_word (word ∷ words) (suc i) within small = each_word words i (omega arith) small.1
+
+-- and one more
+pub words_push : (words : List ℕ) (word : ℕ) → AreWords words → word < 2 ^ 18 → AreWords (words ++ word ∷ [])
+words_push [] word small last = (last, tt)
+words_push (first ∷ words) word small last = (small.0, words_push words word small.1 last)
+
+-- the texts of some lines and of others
+pub fields_append : (xs ys : List (Field × List ℕ)) → fields_text (xs ++ ys) ≡ fields_text xs ++ fields_text ys
+fields_append xs ys = ap text_of (map-append (λ line. field_text line.0 line.1) xs ys) ∙ flat_map-append (λ line. line ++ 10 ∷ []) (map (λ line. field_text line.0 line.1) xs) (map (λ line. field_text line.0 line.1) ys)
+
+-- some lines behind others
+pub lines_grown : (old mid new : List ℕ) (xs ys : List (Field × List ℕ)) → mid ≡ old ++ fields_text xs → new ≡ mid ++ fields_text ys → new ≡ old ++ fields_text (xs ++ ys)
+lines_grown old mid new xs ys p q = grown old mid new (fields_text xs) (fields_text ys) p q ∙ ap (λ zs. old ++ zs) (sym (fields_append xs ys))
+
+-- the line of a word that is known
+pub word_grown : (old new : List ℕ) (at_load : ℕ) (field : Field) (v w : ℕ) → v ≡ w → new ≡ old ++ fields_text (word_unless at_load field v) → new ≡ old ++ fields_text (word_unless at_load field w)
+word_grown old new at_load field v w is e = e ∙ ap (λ (n : ℕ). old ++ fields_text (word_unless at_load field n)) is
+
+-- and of words
+pub words_grown : (old new : List ℕ) (at_load : ℕ) (field : Field) (vs ws : List ℕ) → vs ≡ ws → new ≡ old ++ fields_text (line_unless at_load field vs) → new ≡ old ++ fields_text (line_unless at_load field ws)
+words_grown old new at_load field vs ws is e = e ∙ ap (λ ns. old ++ fields_text (line_unless at_load field ns)) is
+
+-- no line
+pub none_written : (text : List ℕ) (at_load : ℕ) (field : Field) (words : List ℕ) → list_all (λ word. word == at_load) words ≡ true → text ≡ text ++ fields_text (line_unless at_load field words)
+none_written text at_load field words all = rw all (sym (append-nil text))
+
+-- one line
+pub one_written : (old new : List ℕ) (at_load : ℕ) (field : Field) (words : List ℕ) → list_all (λ word. word == at_load) words ≡ false → new ≡ old ++ (field_text field words ++ 10 ∷ []) → new ≡ old ++ fields_text (line_unless at_load field words)
+one_written old new at_load field words some e = rw some (e ∙ ap (λ xs. old ++ xs) (sym (append-nil (field_text field words ++ 10 ∷ []))))
+
+-- a list as far as it is filled
+abbrev pub IsFilled : List ℕ → ℕ → List ℕ → Type 0
+IsFilled words n whole = (k : ℕ) → k < n → get_or words k 0 ≡ get_or whole k 0
+
+-- and with one word more
+pub filled_more : (words whole : List ℕ) (n word : ℕ) → length words ≡ n → IsFilled words n whole → word ≡ get_or whole n 0 → IsFilled (words ++ word ∷ []) (n + 1) whole
+filled_more words whole n word size filled is =
+    below_more (λ (k : ℕ). get_or (words ++ word ∷ []) k 0 ≡ get_or whole k 0) n
+    (λ k below. let within : k < length words = omega arith in get_or_append_left words (word ∷ []) 0 k within ∙ filled k below)
+    (get_or_push words word 0 n size ∙ is)
+
+-- a list that is filled
+pub filled_whole : (words whole : List ℕ) (n : ℕ) → length words ≡ n → length whole ≡ n → IsFilled words n whole → words ≡ whole
+filled_whole words whole n size same filled = ext_get_or 0 words whole (size ∙ sym same) (λ k below. filled k (omega arith))
+
+-- one row more
+pub rows_more : (lines : ℕ → List (Field × List ℕ)) (cells : List ℕ) (i : ℕ) → i < length cells → flat_map lines (take (i + 1) cells) ≡ flat_map lines (take i cells) ++ lines (get_or cells i 0)
+rows_more lines cells i within =
+    ap (flat_map lines) (take_more cells i 0 within)
+    ∙ flat_map-append lines (take i cells) (get_or cells i 0 ∷ [])
+    ∙ ap (λ xs. flat_map lines (take i cells) ++ xs) (append-nil (lines (get_or cells i 0)))
+
+-- the first cell of a row
+pub row_cell : (i : ℕ) → i < 8 → get_or row_cells i 0 ≡ 8 * i
+row_cell zero small = refl
+row_cell (suc zero) small = refl
+row_cell (suc (suc zero)) small = refl
+row_cell (suc (suc (suc zero))) small = refl
+row_cell (suc (suc (suc (suc zero)))) small = refl
+row_cell (suc (suc (suc (suc (suc zero))))) small = refl
+row_cell (suc (suc (suc (suc (suc (suc zero)))))) small = refl
+row_cell (suc (suc (suc (suc (suc (suc (suc zero))))))) small = refl
+row_cell (suc (suc (suc (suc (suc (suc (suc (suc i)))))))) small = absurd (omega arith)
+
+-- ---- blocks
+
+-- lines of which there is a text are lines
+some_text : (line : Field × List ℕ) (lines : List (Field × List ℕ)) → 0 < length (fields_text (line ∷ lines))
+some_text line lines = omega (arith, length-append (field_text line.0 line.1 ++ 10 ∷ []) (fields_text lines), length-append (field_text line.0 line.1) (10 ∷ []))
+
+-- the texts of field lines by their forms
+forms_text : (lines : List (Field × List ℕ)) → map line_text (map field_line_form lines) ≡ map (λ line. field_text line.0 line.1) lines
+forms_text [] = refl
+forms_text (line ∷ lines) = ap (λ xs. field_text line.0 line.1 ∷ xs) (forms_text lines)
+
+-- the first line of a block
+abbrev pub block_head : ℕ → List ℕ
+block_head number = codes "node " ++ (decimal3_of (yxx_of number) ++ 10 ∷ [])
+
+-- the block of a node that has lines
+pub block_text : (number : ℕ) (lines : List (Field × List ℕ)) → length (fields_text lines) ≢ 0 → blocks_text (block_unless number lines) ≡ block_head number ++ fields_text lines
+block_text number [] some = absurd (some refl)
+block_text number (line ∷ lines) some =
+    ap (λ forms. text_of (line_text (Node (yxx_of number)) ∷ map line_text forms)) (append-nil (map field_line_form (line ∷ lines)))
+    ∙ ap (λ texts. block_head number ++ text_of texts) (forms_text (line ∷ lines))
+
+-- and of one that has none
+pub no_block_text : (number : ℕ) (lines : List (Field × List ℕ)) → length (fields_text lines) ≡ 0 → blocks_text (block_unless number lines) ≡ []
+no_block_text number [] none = refl
+no_block_text number (line ∷ lines) none = absurd (omega (arith, some_text line lines))
+
+-- the texts of some blocks and of others
+pub blocks_append : (xs ys : List Block) → blocks_text (xs ++ ys) ≡ blocks_text xs ++ blocks_text ys
+blocks_append xs ys =
+    ap (λ forms. text_of (map line_text forms)) (flat_map-append block_forms xs ys)
+    ∙ ap text_of (map-append line_text (flat_map block_forms xs) (flat_map block_forms ys))
+    ∙ flat_map-append (λ line. line ++ 10 ∷ []) (map line_text (flat_map block_forms xs)) (map line_text (flat_map block_forms ys))
+
+-- the blocks of the nodes from a number on are the block of that node and those behind it
+pub blocks_more : (nodes : List NodeRecord) (i : ℕ) (d : NodeRecord) → i < length nodes
+    → blocks_text (blocks_from i (drop i nodes)) ≡ blocks_text (block_unless i (lines_at i (get_or nodes i d))) ++ blocks_text (blocks_from (i + 1) (drop (i + 1) nodes))
+unfolding blocks_from
+blocks_more nodes i d within =
+    ap (λ left. blocks_text (blocks_from i left)) (drop_more nodes i d within)
+    ∙ blocks_append (block_unless i (lines_at i (get_or nodes i d))) (blocks_from (i + 1) (drop (i + 1) nodes))
+
+-- behind the last node there are none
+pub blocks_end : (nodes : List NodeRecord) (i : ℕ) → length nodes ≤ i → blocks_text (blocks_from i (drop i nodes)) ≡ []
+unfolding blocks_from
+blocks_end nodes i past = ap (λ left. blocks_text (blocks_from i left)) (drop_all i nodes past)
+
+-- the whole text
+pub whole : (nodes : List NodeRecord) → printed nodes ≡ codes "ga144 2\n" ++ (blocks_text (blocks_from 0 nodes) ++ codes "end\n")
+unfolding printed
+whole nodes =
+    let forms = flat_map block_forms (blocks_from 0 nodes) in
+    ap (λ texts. codes "ga144 2\n" ++ text_of texts) (map-append line_text forms (End ∷ []))
+    ∙ ap (λ text. codes "ga144 2\n" ++ text) (flat_map-append (λ line. line ++ 10 ∷ []) (map line_text forms) (codes "end" ∷ []))
+
+-- the text of a block behind others, where it has lines
+block_written : (old t1 t2 t3 t4 : List ℕ) (number : ℕ) (lines : List (Field × List ℕ)) → t1 ≡ old ++ codes "node " → t2 ≡ t1 ++ decimal3_of (yxx_of number) → t3 ≡ t2 ++ 10 ∷ [] → t4 ≡ t3 ++ fields_text lines
+    → t4 ≡ old ++ (block_head number ++ fields_text lines)
+block_written old t1 t2 t3 t4 number lines first second third fourth =
+    grown old t3 t4 (block_head number) (fields_text lines) (grown old t2 t3 (codes "node " ++ decimal3_of (yxx_of number)) (10 ∷ []) (grown old t1 t2 (codes "node ") (decimal3_of (yxx_of number)) first second) third) fourth
+
+longer : (t3 t4 more : List ℕ) → t4 ≡ t3 ++ more → length t4 ≡ length t3 + length more
+longer t3 t4 more e = ap length e ∙ length-append t3 more
+
+pub block_grown : (old t1 t2 t3 t4 : List ℕ) (number : ℕ) (lines : List (Field × List ℕ)) → t1 ≡ old ++ codes "node " → t2 ≡ t1 ++ decimal3_of (yxx_of number) → t3 ≡ t2 ++ 10 ∷ [] → t4 ≡ t3 ++ fields_text lines
+    → length t4 ≢ length t3 → t4 ≡ old ++ blocks_text (block_unless number lines)
+block_grown old t1 t2 t3 t4 number lines first second third fourth other =
+    let some : length (fields_text lines) ≢ 0 = λ none. other (omega (arith, longer t3 t4 (fields_text lines) fourth, none)) in
+    block_written old t1 t2 t3 t4 number lines first second third fourth ∙ ap (λ xs. old ++ xs) (sym (block_text number lines some))
+
+-- and where it has none and its first line is taken away
+pub block_dropped : (old t1 t2 t3 t4 : List ℕ) (number : ℕ) (lines : List (Field × List ℕ)) → t1 ≡ old ++ codes "node " → t2 ≡ t1 ++ decimal3_of (yxx_of number) → t3 ≡ t2 ++ 10 ∷ [] → t4 ≡ t3 ++ fields_text lines
+    → length t4 ≡ length t3 → take (length old) t4 ≡ old ++ blocks_text (block_unless number lines)
+block_dropped old t1 t2 t3 t4 number lines first second third fourth same =
+    let none : length (fields_text lines) ≡ 0 = omega (arith, longer t3 t4 (fields_text lines) fourth) in
+    ap (take (length old)) (block_written old t1 t2 t3 t4 number lines first second third fourth)
+    ∙ take_at old (block_head number ++ fields_text lines) (length old) refl
+    ∙ sym (append-nil old)
+    ∙ ap (λ xs. old ++ xs) (sym (no_block_text number lines none))
+
+-- one block more
+pub next_block : (nodes : List NodeRecord) (i : ℕ) (d : NodeRecord) (text new all : List ℕ) → i < length nodes → text ++ blocks_text (blocks_from i (drop i nodes)) ≡ all
+    → new ≡ text ++ blocks_text (block_unless i (lines_at i (get_or nodes i d))) → new ++ blocks_text (blocks_from (i + 1) (drop (i + 1) nodes)) ≡ all
+next_block nodes i d text new all within before piece =
+    let block = blocks_text (block_unless i (lines_at i (get_or nodes i d))) in
+    let left = blocks_text (blocks_from (i + 1) (drop (i + 1) nodes)) in
+    ap (λ xs. xs ++ left) piece ∙ append_assoc text block left ∙ ap (λ xs. text ++ xs) (sym (blocks_more nodes i d within)) ∙ before
+
+-- the end behind the last
+pub finished : (nodes : List NodeRecord) (i : ℕ) (text new : List ℕ) → length nodes ≤ i → text ++ blocks_text (blocks_from i (drop i nodes)) ≡ codes "ga144 2\n" ++ blocks_text (blocks_from 0 nodes)
+    → new ≡ text ++ codes "end\n" → new ≡ printed nodes
+finished nodes i text new past before last =
+    let all : text ≡ codes "ga144 2\n" ++ blocks_text (blocks_from 0 nodes) = sym (append-nil text) ∙ ap (λ xs. text ++ xs) (sym (blocks_end nodes i past)) ∙ before in
+    last ∙ ap (λ xs. xs ++ codes "end\n") all ∙ append_assoc (codes "ga144 2\n") (blocks_text (blocks_from 0 nodes)) (codes "end\n") ∙ sym (whole nodes)

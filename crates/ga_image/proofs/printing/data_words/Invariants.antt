@@ -1,0 +1,13 @@
+use Rattle.std.proofs.Common.{ℕ, ◌≡◌, ◌<◌, length}
+use Rattle.ga_node.specs.Record.{record_of}
+use Rattle.ga_image.specs.Printing.{AreWords}
+use Rattle.ga_image.proofs.Pieces.{IsFilled}
+use Rattle.ga_image.proofs.printing.data_words.Given as goal
+
+abbrev pub invariant-words : goal.invariant-words
+invariant-words l = record {
+  filled : IsFilled l.words.items l.place (record_of l.at).d;
+  words : AreWords l.words.items;
+  len : length l.words.items ≡ l.place;
+  size : 2 < l.place → length (record_of l.at).d ≡ 10;
+}

@@ -1,0 +1,138 @@
+-- The text of a chip in format 2: for each node what it holds beside its values at load.
+use Rattle.std.specs.Prelude.{ℕ, ◌+◌, ◌^◌, ◌<◌, ◌==◌, if◌then◌else◌, List, [], ◌∷◌, ◌++◌, take, drop, slice_index, codes, map, flat_map}
+use Rattle.std.specs.List.{AllByRecursion, list_all}
+use Rattle.std.specs.Int.{from_bool}
+use Rattle.ga_stacks.specs.Ring.{fresh_word}
+use Rattle.ga_node.specs.Record.{NodeRecord, fresh_record}
+use Rattle.ga_node.specs.Waits.{wait_code}
+use Rattle.ga_grid.specs.Load.{load_p_of}
+use Rattle.ga_image.specs.declared.field.Bank.{Bank}
+use Rattle.ga_image.specs.declared.field.Bank.TheVariants as bank
+use Rattle.ga_image.specs.declared.field.Field.{Field}
+use Rattle.ga_image.specs.declared.field.Field.TheVariants.{A, B, P, I, Io, Carry, Slot, Wait, Stop, Data, Return, Ram, Rom}
+use Rattle.ga_image.specs.declared.field.Format.TheVariants.{Two}
+use Rattle.ga_image.specs.Spelling.{Form, Node, Words, End, decimal3_of, name_of, numbers_of, code_text}
+use Rattle.ga_image.specs.Grammar.{header, Block, block_forms}
+
+-- ---- lines
+
+-- a field line, with its digits in lower case
+abbrev pub field_text : Field → List ℕ → List ℕ
+field_text Carry words = name_of Carry ++ code_text Carry (slice_index words 0)
+field_text Slot words = name_of Slot ++ code_text Slot (slice_index words 0)
+field_text Wait words = name_of Wait ++ code_text Wait (slice_index words 0)
+field_text Stop words = name_of Stop ++ code_text Stop (slice_index words 0)
+field_text field words = name_of field ++ numbers_of field words
+
+-- any line behind the header
+abbrev pub line_text : Form → List ℕ
+line_text (Node yxx) = codes "node " ++ decimal3_of yxx
+line_text (Words field words) = field_text field words
+line_text End = codes "end"
+
+-- lines, each ended by a line feed
+abbrev pub text_of : List (List ℕ) → List ℕ
+text_of lines = flat_map (λ line. line ++ 10 ∷ []) lines
+
+-- the text of field lines
+abbrev pub fields_text : List (Field × List ℕ) → List ℕ
+fields_text lines = text_of (map (λ line. field_text line.0 line.1) lines)
+
+-- the text of blocks
+abbrev pub blocks_text : List Block → List ℕ
+blocks_text blocks = text_of (map line_text (flat_map block_forms blocks))
+
+-- the fields whose lines give words, and those whose lines give one digit
+abbrev pub HasDigit : Field → Type 0
+HasDigit Carry = Unit {0}
+HasDigit Slot = Unit {0}
+HasDigit Stop = Unit {0}
+HasDigit _ = ⊥
+
+abbrev pub HasWords : Field → Type 0
+HasWords Carry = ⊥
+HasWords Slot = ⊥
+HasWords Wait = ⊥
+HasWords Stop = ⊥
+HasWords _ = Unit {0}
+
+-- words of 18 bits
+abbrev pub AreWords : List ℕ → Type 0
+AreWords words = AllByRecursion (λ word. word < 2 ^ 18) words
+
+-- ---- what is written of a node
+
+-- the line of words for a field, unless each of them is the one at load
+abbrev pub line_unless : ℕ → Field → List ℕ → List (Field × List ℕ)
+line_unless at_load field words = if list_all (λ word. word == at_load) words then [] else (field, words) ∷ []
+
+-- the line of one word
+abbrev pub word_unless : ℕ → Field → ℕ → List (Field × List ℕ)
+word_unless at_load field word = line_unless at_load field (word ∷ [])
+
+-- A memory is written in rows of eight words, from each of these cells on.
+abbrev pub row_cells : List ℕ
+row_cells = 0 ∷ 8 ∷ 16 ∷ 24 ∷ 32 ∷ 40 ∷ 48 ∷ 56 ∷ []
+
+abbrev pub row_at : List ℕ → ℕ → List ℕ
+row_at memory cell = take 8 (drop cell memory)
+
+-- the lines of the rows of a memory, whose cells are these fields and hold 0 at load
+abbrev pub memory_lines : (ℕ → Field) → List ℕ → List (Field × List ℕ)
+memory_lines field memory = flat_map (λ cell. line_unless 0 (field cell) (row_at memory cell)) row_cells
+
+-- the words of a memory
+abbrev pub memory_in : Bank → NodeRecord → List ℕ
+memory_in bank.Ram node = node.ram
+memory_in bank.Rom node = node.rom
+
+-- the lines of the registers that hold words
+abbrev pub register_lines : NodeRecord → NodeRecord → List (Field × List ℕ)
+register_lines fresh node =
+    word_unless fresh.a A node.a
+    ++ (word_unless fresh.b B node.b
+    ++ (word_unless fresh.p P node.p
+    ++ (word_unless fresh.i I node.i
+    ++ word_unless fresh.io Io node.io)))
+
+-- the lines of the carry and the slot, of the stacks, and of the wait and the stop
+abbrev pub state_lines : NodeRecord → NodeRecord → List (Field × List ℕ)
+state_lines fresh node =
+    word_unless (from_bool fresh.carry) Carry (from_bool node.carry)
+    ++ (word_unless fresh.slot Slot node.slot
+    ++ (line_unless fresh_word (Data 0) node.d
+    ++ (line_unless fresh_word (Return 0) node.r
+    ++ (word_unless (wait_code fresh.wait) Wait (wait_code node.wait)
+    ++ word_unless fresh.stop Stop node.stop))))
+
+-- the lines of a node, which at load would be fresh
+abbrev pub lines_beside : NodeRecord → NodeRecord → List (Field × List ℕ)
+lines_beside fresh node =
+    register_lines fresh node
+    ++ (state_lines fresh node
+    ++ (memory_lines Ram node.ram
+    ++ memory_lines Rom node.rom))
+
+-- the lines of a node by its number
+unfoldable pub lines_at : ℕ → NodeRecord → List (Field × List ℕ)
+lines_at number node = lines_beside (fresh_record (load_p_of number)) node
+
+-- ---- the text of a chip
+
+-- the block of a node, unless it has no lines
+abbrev pub block_unless : ℕ → List (Field × List ℕ) → List Block
+block_unless number [] = []
+block_unless number (line ∷ lines) = record { node = number; field_lines = line ∷ lines } ∷ []
+
+-- the blocks of nodes from a number on
+unfoldable pub blocks_from : ℕ → List NodeRecord → List Block
+blocks_from number [] = []
+blocks_from number (node ∷ nodes) = block_unless number (lines_at number node) ++ blocks_from (number + 1) nodes
+
+-- the lines behind the header
+abbrev pub forms_of : List NodeRecord → List Form
+forms_of nodes = flat_map block_forms (blocks_from 0 nodes) ++ End ∷ []
+
+-- the whole text
+unfoldable pub printed : List NodeRecord → List ℕ
+printed nodes = text_of (header Two ∷ map line_text (forms_of nodes))

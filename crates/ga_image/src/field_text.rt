@@ -1,0 +1,151 @@
+//! The field lines of an image as text.
+
+ghost use Rattle.std.specs.Prelude.{◌≡◌, ◌<◌, ◌≤◌, ◌++◌, [], ◌∷◌, ◌==◌, if◌then◌else◌, OnOk};
+ghost use Rattle.std.specs.List.{list_all};
+ghost use Rattle.ga_grid.specs.Grid.{yxx_of};
+ghost use Rattle.ga_node.specs.Waits.{IsWaitCode};
+ghost use Rattle.ga_image.specs.Spelling.{decimal3_of, hex2_of, words_text, set_text, wait_text};
+ghost use Rattle.ga_image.specs.Printing.{field_text, fields_text, line_unless, word_unless, HasWords, HasDigit, AreWords};
+
+use super::field::Field;
+use ga_grid::NodeId;
+use ga_word::Word18;
+use std::alloc::AllocError;
+
+/// Adds words, each as six digits behind a space.
+fn push_words(text: &mut Vec<u8>, words: &[u32]) -> Result<(), AllocError>
+    requires { AreWords words.now }
+    ensures { OnOk result (text.new.items ≡ text.old.items ++ words_text words.now) }
+{
+    for word in words {
+        text.extend_from_slice(b" ")?;
+        text.extend_from_slice(&Word18::truncated(*word).hex6())?;
+    }
+    Ok(())
+}
+
+/// Adds the number of a cell in two digits.
+fn push_cell(text: &mut Vec<u8>, cell: u8) -> Result<(), AllocError>
+    ensures { OnOk result (text.new.items ≡ text.old.items ++ hex2_of cell) }
+{
+    let [_, _, _, _, high, low] = Word18::truncated(u32::from(cell)).hex6();
+    text.extend_from_slice(&[high, low])
+}
+
+/// Adds the name of a node, its row and its column in three digits.
+pub(crate) fn push_node(text: &mut Vec<u8>, node: NodeId) -> Result<(), AllocError>
+    ensures { OnOk result (text.new.items ≡ text.old.items ++ decimal3_of (yxx_of node.number)) }
+{
+    let yxx = node.yxx();
+    text.extend_from_slice(&[
+        b'0' + (yxx / 100) as u8,
+        b'0' + (yxx / 10 % 10) as u8,
+        b'0' + (yxx % 10) as u8,
+    ])
+}
+
+/// The letter of a side, or a hyphen.
+fn letter(name: u8, is_named: bool) -> u8
+    ensures { result ≡ (if is_named then name else 45) }
+{
+    if is_named { name } else { b'-' }
+}
+
+/// Adds a set of sides, given by its number.
+fn push_set(text: &mut Vec<u8>, sides: u32) -> Result<(), AllocError>
+    ensures { OnOk result (text.new.items ≡ text.old.items ++ set_text sides) }
+{
+    text.extend_from_slice(&[
+        letter(b'r', sides / 8 % 2 == 1),
+        letter(b'd', sides / 4 % 2 == 1),
+        letter(b'l', sides / 2 % 2 == 1),
+        letter(b'u', sides % 2 == 1),
+    ])
+}
+
+/// Adds what a node waits for, given by its number.
+fn push_wait(text: &mut Vec<u8>, code: u32) -> Result<(), AllocError>
+    requires { 16 ≤ code }
+    ensures { OnOk result (text.new.items ≡ text.old.items ++ wait_text code) }
+{
+    if code < 32 {
+        text.extend_from_slice(b"fetch ")?;
+        push_set(text, code - 16)
+    } else if code < 48 {
+        text.extend_from_slice(b"read ")?;
+        push_set(text, code - 32)
+    } else {
+        text.extend_from_slice(b"write ")?;
+        push_set(text, code - 48)
+    }
+}
+
+/// Adds the line of words for a field.
+fn push_line(text: &mut Vec<u8>, field: Field, words: &[u32]) -> Result<(), AllocError>
+    requires field { HasWords field }
+    requires words { AreWords words.now }
+    ensures { OnOk result (text.new.items ≡ text.old.items ++ (field_text field words.now ++ 10 ∷ [])) }
+{
+    text.extend_from_slice(field.name().as_bytes())?;
+    if let Field::Ram(cell) | Field::Rom(cell) = field {
+        push_cell(text, cell)?;
+    }
+    push_words(text, words)?;
+    text.extend_from_slice(b"\n")
+}
+
+/// Whether each of the words is the one at load.
+fn are_at_load(words: &[u32], at_load: u32) -> bool
+    ensures { result ≡ list_all (λ word. word == at_load) words.now }
+{
+    words.iter().all(|word| *word == at_load)
+}
+
+/// Adds the line of words for a field, unless each of them is the one at load.
+pub(crate) fn push_words_unless(
+    text: &mut Vec<u8>,
+    at_load: u32,
+    field: Field,
+    words: &[u32],
+) -> Result<(), AllocError>
+    requires field { HasWords field }
+    requires words { AreWords words.now }
+    ensures { OnOk result (text.new.items ≡ text.old.items ++ fields_text (line_unless at_load field words.now)) }
+{
+    if are_at_load(words, at_load) {
+        Ok(())
+    } else {
+        push_line(text, field, words)
+    }
+}
+
+/// Adds the line of a number of one digit, unless it is the one at load.
+pub(crate) fn push_digit_unless(
+    text: &mut Vec<u8>,
+    at_load: u32,
+    field: Field,
+    digit: u32,
+) -> Result<(), AllocError>
+    requires digit { digit < 10 }
+    requires field { HasDigit field }
+    ensures { OnOk result (text.new.items ≡ text.old.items ++ fields_text (word_unless at_load field digit)) }
+{
+    if digit == at_load {
+        return Ok(());
+    }
+    text.extend_from_slice(field.name().as_bytes())?;
+    text.extend_from_slice(&[b'0' + digit as u8, b'\n'])
+}
+
+/// Adds the line of what a node waits for, given by its number, unless it waits for nothing.
+pub(crate) fn push_wait_unless(text: &mut Vec<u8>, code: u32) -> Result<(), AllocError>
+    requires { IsWaitCode code }
+    ensures { OnOk result (text.new.items ≡ text.old.items ++ fields_text (word_unless 0 Field.Wait code)) }
+{
+    if code == 0 {
+        return Ok(());
+    }
+    text.extend_from_slice(Field::Wait.name().as_bytes())?;
+    push_wait(text, code)?;
+    text.extend_from_slice(b"\n")
+}

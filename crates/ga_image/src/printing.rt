@@ -1,0 +1,189 @@
+//! A chip as a text.
+
+ghost use Rattle.std.specs.Prelude.{◌≡◌, ◌<◌, ◌≤◌, ◌+◌, ◌++◌, length, take, drop, OnOk, IfOk, IfErr, ◌^◌, slice_index};
+ghost use Rattle.ga_node.specs.Record.{record_of, fresh_record};
+ghost use Rattle.ga_grid.specs.Chip.{records_of};
+ghost use Rattle.ga_grid.specs.Load.{load_p_of};
+ghost use Rattle.ga_image.specs.Printing.{fields_text, register_lines, state_lines, memory_lines, row_at, lines_beside, blocks_text, block_unless, lines_at, printed, memory_in, AreWords};
+ghost use Rattle.ga_image.specs.Reading.{no_memory};
+ghost use Rattle.ga_image.specs.Forms.{field_in};
+
+use super::fault::{ImageCause, ImageFault};
+use super::field::{Bank, Field};
+use super::field_text::{push_digit_unless, push_node, push_wait_unless, push_words_unless};
+use arrayvec::ArrayVec;
+use ga_grid::{Chip, NODES, NodeId, load_p};
+use ga_node::{Node, Place};
+use ga_stacks::FRESH_WORD;
+use std::alloc::{AllocError, Global};
+
+/// The most bytes of a block: its first line, the nine lines of registers but one, for a node doesn't both wait and stop, the
+/// lines of the stacks, and eight lines for each memory.
+const BLOCK_ROOM: usize = b"node 717\n".len()
+    + 4 * b"a 03ffff\n".len()
+    + b"io 03ffff\n".len()
+    + b"carry 1\n".len()
+    + b"slot 0\n".len()
+    + b"d\n".len()
+    + b"r\n".len()
+    + 19 * b" 03ffff".len()
+    + b"wait fetch rdlu\n".len()
+    + 16 * (b"ram 38\n".len() + 8 * b" 03ffff".len());
+
+/// The most bytes of an image.
+const ROOM: usize = b"ga144 2\n".len() + NODES * BLOCK_ROOM + b"end\n".len();
+
+/// How many rows a memory is written in.
+const ROWS: u8 = 8;
+
+/// How many words a row has.
+const ROW_WORDS: u8 = 8;
+
+/// How many words the data stack has.
+const DATA_WORDS: u8 = 10;
+
+/// How many words the return stack has.
+const RETURN_WORDS: u8 = 9;
+
+/// The text of a chip as an image of format 2: of each node what it holds beside its values at load. The memory that any chip
+/// takes is taken first.
+pub fn print(alloc: Global, chip: &Chip) -> Result<Vec<u8>, ImageFault>
+    // The text is the one that the records determine.
+    ensures text { IfOk result (λ text. text.items ≡ printed (records_of chip.now)) }
+
+    // Nothing is refused but memory.
+    ensures refused { IfErr result (λ fault. fault ≡ no_memory) }
+{
+    match whole_text(alloc, chip) {
+        Ok(text) => Ok(text),
+        Err(_) => Err(ImageFault {
+            line: 0,
+            cause: ImageCause::Memory,
+        }),
+    }
+}
+
+fn whole_text(alloc: Global, chip: &Chip) -> Result<Vec<u8>, AllocError>
+    ensures { IfOk result (λ text. text.items ≡ printed (records_of chip.now)) }
+{
+    let mut text = Vec::with_capacity(alloc, ROOM)?;
+    text.extend_from_slice(b"ga144 2\n")?;
+    for number in 0..NODES as u8 {
+        let node = NodeId::new(number);
+        push_block(&mut text, node, chip.node(node))?;
+    }
+    text.extend_from_slice(b"end\n")?;
+    Ok(text)
+}
+
+/// Adds the block of a node, unless all that it holds is as at load.
+fn push_block(text: &mut Vec<u8>, node: NodeId, at: &Node) -> Result<(), AllocError>
+    ensures { OnOk result (text.new.items ≡ text.old.items ++ blocks_text (block_unless node.number (lines_at node.number (record_of at.now)))) }
+{
+    let before = text.as_slice().len();
+    text.extend_from_slice(b"node ")?;
+    push_node(text, node)?;
+    text.extend_from_slice(b"\n")?;
+    let begun = text.as_slice().len();
+    push_fields(text, node, at)?;
+    let after = text.as_slice().len();
+    if after == begun {
+        text.truncate(before);
+    }
+    Ok(())
+}
+
+/// Adds the field lines of a node.
+fn push_fields(text: &mut Vec<u8>, node: NodeId, at: &Node) -> Result<(), AllocError>
+    ensures { OnOk result (text.new.items ≡ text.old.items ++ fields_text (lines_at node.number (record_of at.now))) }
+{
+    push_registers(text, node, at)?;
+    push_state(text, at)?;
+    push_memory(text, at, Bank::Ram)?;
+    push_memory(text, at, Bank::Rom)
+}
+
+/// Adds the lines of the registers that hold words.
+fn push_registers(text: &mut Vec<u8>, node: NodeId, at: &Node) -> Result<(), AllocError>
+    ensures { OnOk result (text.new.items ≡ text.old.items ++ fields_text (register_lines (fresh_record (load_p_of node.number)) (record_of at.now))) }
+{
+    push_words_unless(text, 0, Field::A, &[at.get(Place::A)])?;
+    push_words_unless(text, 0x15d, Field::B, &[at.get(Place::B)])?;
+    push_words_unless(text, load_p(node), Field::P, &[at.get(Place::P)])?;
+    push_words_unless(text, 0, Field::I, &[at.get(Place::I)])?;
+    push_words_unless(text, FRESH_WORD, Field::Io, &[at.get(Place::Io)])
+}
+
+/// Adds the lines of the carry and the slot, of the stacks, and of the wait and the stop.
+fn push_state(text: &mut Vec<u8>, at: &Node) -> Result<(), AllocError>
+    ensures { OnOk result (text.new.items ≡ text.old.items ++ fields_text (state_lines (fresh_record 0) (record_of at.now))) }
+{
+    push_digit_unless(text, 0, Field::Carry, at.get(Place::Carry))?;
+    push_digit_unless(text, 4, Field::Slot, at.get(Place::Slot))?;
+    push_words_unless(text, FRESH_WORD, Field::Data(0), data_words(at).as_slice())?;
+    push_words_unless(text, FRESH_WORD, Field::Return(0), return_words(at).as_slice())?;
+    push_wait_unless(text, at.get(Place::Wait))?;
+    push_digit_unless(text, 0, Field::Stop, at.get(Place::Stop))
+}
+
+/// Adds the lines of a memory.
+fn push_memory(text: &mut Vec<u8>, at: &Node, bank: Bank) -> Result<(), AllocError>
+    ensures { OnOk result (text.new.items ≡ text.old.items ++ fields_text (memory_lines (field_in bank) (memory_in bank (record_of at.now)))) }
+{
+    'rows: for number in 0..ROWS {
+        let cell = ROW_WORDS * number;
+        push_words_unless(text, 0, bank.field(cell), row(at, bank, cell).as_slice())?;
+    }
+    Ok(())
+}
+
+/// The word in a cell of a memory.
+#[tactic(auto, unfolding(ga_node::specs::Record::record_of))]
+fn cell_at(at: &Node, bank: Bank, cell: u8) -> u32
+    requires { cell < 64 }
+    ensures value { result ≡ slice_index (memory_in bank (record_of at.now)) cell }
+    ensures size { length (memory_in bank (record_of at.now)) ≡ 64 }
+    ensures in_range { result < 2 ^ 18 }
+{
+    match bank {
+        Bank::Ram => at.get(Place::Ram(cell)),
+        Bank::Rom => at.get(Place::Rom(cell)),
+    }
+}
+
+/// The words of the data stack, the top first.
+fn data_words(at: &Node) -> ArrayVec<u32, 16>
+    ensures items { result.items ≡ (record_of at.now).d }
+    ensures words { AreWords result.items }
+{
+    let mut words = ArrayVec::new();
+    'words: for place in 0..DATA_WORDS {
+        words.push(at.d(place));
+    }
+    words
+}
+
+/// The words of the return stack, the top first.
+fn return_words(at: &Node) -> ArrayVec<u32, 16>
+    ensures items { result.items ≡ (record_of at.now).r }
+    ensures words { AreWords result.items }
+{
+    let mut words = ArrayVec::new();
+    'words: for place in 0..RETURN_WORDS {
+        words.push(at.r(place));
+    }
+    words
+}
+
+/// The words of a memory from a cell on.
+fn row(at: &Node, bank: Bank, cell: u8) -> ArrayVec<u32, 16>
+    requires { cell ≤ 56 }
+    ensures items { result.items ≡ row_at (memory_in bank (record_of at.now)) cell }
+    ensures words { AreWords result.items }
+{
+    let mut words = ArrayVec::new();
+    'words: for place in 0..ROW_WORDS {
+        words.push(cell_at(at, bank, cell + place));
+    }
+    words
+}

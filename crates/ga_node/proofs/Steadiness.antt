@@ -1,0 +1,187 @@
+-- What a node does keeps it steady.
+use Rattle.std.proofs.Common.{◌≡◌, ◌≢◌, ℕ, ◌/◌, ◌^◌, ◌==◌, Bool, true, false, cond, List, [], ◌∷◌, ◌++◌, None, Some, Result, Ok, Err, ◌⊎◌, inl, inr, refl, sym, ◌∙◌, subst, zero, suc}
+use Rattle.std.proofs.lemmas.Bool.{cases_eq, eqb-true}
+use Rattle.ga_slots.specs.Slots.{opcode}
+use Rattle.ga_slots.specs.Codes.{code_of}
+use Rattle.ga_slots.specs.declared.op.Op.{Op}
+use Rattle.ga_slots.specs.declared.op.Op.TheVariants as op
+use Rattle.ga_ports.specs.Address.{classified, is_single, side_of}
+use Rattle.ga_ports.specs.declared.side.Side.{Side}
+use Rattle.ga_ports.specs.declared.address.Target.{Target}
+use Rattle.ga_ports.specs.declared.address.Target.TheVariants.{Ram, Rom, Io, Ports, Bad}
+use Rattle.ga_node.specs.Record.{NodeRecord}
+use Rattle.ga_node.specs.Changes.{Change, PushData, PopData, SetTop, PopTo, PushReturn, PopReturn, SetTopReturn, SetP, SetA, SetB, SetI, SetIo, SetCarry, SetRam, GoOn, Skip, StartAgain, SetWait, SetStop, changed, after}
+use Rattle.ga_node.specs.Table.{t, r, found, stored, followed, effect, fetched, named, posts, halts, is_extended, own_event, own, refused_by, refusal, sent, taken, taking}
+use Rattle.ga_node.specs.Steady.{FitsWait, IsSteady}
+use Rattle.ga_node.specs.declared.wait.Wait.{Wait}
+use Rattle.ga_node.specs.declared.wait.Wait.TheVariants as wait
+use Rattle.ga_node.specs.declared.wait.Reader.{Reader}
+use Rattle.ga_node.specs.declared.wait.Reader.TheVariants.{Instruction, Stack}
+use Rattle.ga_node.specs.declared.kind.Kind.{Kind}
+use Rattle.ga_node.specs.declared.kind.Kind.TheVariants as kind
+use Rattle.ga_node.specs.declared.kind.NotReady.TheVariants.{Stopped}
+use Rattle.ga_node.proofs.Outcomes.{own_fetched, own_ran}
+
+-- a node that doesn't wait
+steady_without : (n : NodeRecord) → n.wait ≡ wait.Nothing → IsSteady n
+steady_without n e = subst (λ w. FitsWait w n.slot n.stop) (sym e) tt
+
+-- a change of neither the wait nor the stop
+abbrev IsPlain : Change → Type 0
+IsPlain (SetWait wait) = ⊥
+IsPlain (SetStop code) = ⊥
+IsPlain _ = Unit {0}
+
+abbrev ArePlain : List Change → Type 0
+ArePlain [] = Unit {0}
+ArePlain (change ∷ rest) = IsPlain change × ArePlain rest
+
+plain_change : (change : Change) (n : NodeRecord) → IsPlain change → (changed change n).wait ≡ n.wait
+plain_change (PushData word) n plain = refl
+plain_change PopData n plain = refl
+plain_change (SetTop word) n plain = refl
+plain_change (PopTo word) n plain = refl
+plain_change (PushReturn word) n plain = refl
+plain_change PopReturn n plain = refl
+plain_change (SetTopReturn word) n plain = refl
+plain_change (SetP address) n plain = refl
+plain_change (SetA word) n plain = refl
+plain_change (SetB address) n plain = refl
+plain_change (SetI word) n plain = refl
+plain_change (SetIo word) n plain = refl
+plain_change (SetCarry bit) n plain = refl
+plain_change (SetRam cell word) n plain = refl
+plain_change GoOn n plain = refl
+plain_change Skip n plain = refl
+plain_change StartAgain n plain = refl
+plain_change (SetWait wait) n plain = absurd plain
+plain_change (SetStop code) n plain = absurd plain
+
+after_plain : (changes : List Change) (n : NodeRecord) → ArePlain changes → (after changes n).wait ≡ n.wait
+after_plain [] n plain = refl
+after_plain (change ∷ rest) n plain = after_plain rest (changed change n) plain.1 ∙ plain_change change n plain.0
+
+-- a wait that fits the slot, or a stop, and nothing else
+abbrev Ends : ℕ → List Change → Type 0
+Ends slot changes = ((w : Wait) × (changes ≡ SetWait w ∷ []) × FitsWait w slot 0) ⊎ ((code : ℕ) × (changes ≡ SetStop code ∷ []))
+
+-- what an access, an opcode or a fetch comes to
+abbrev Lands : ℕ → Result (List Change) (Kind × List Change) → Type 0
+Lands slot (Ok changes) = ArePlain changes
+Lands slot (Err event) = Ends slot event.1
+
+-- who reads in this slot
+abbrev Reads : Reader → ℕ → Type 0
+Reads Instruction slot = slot ≡ 4
+Reads Stack slot = slot ≢ 4
+
+read_lands : (target : Target) (reader : Reader) (n : NodeRecord) (more : ℕ → List Change) → Reads reader n.slot → ((word : ℕ) → ArePlain (more word))
+    → Lands n.slot (followed (found target reader n) more)
+unfolding found followed
+read_lands (Ram k) reader n more reads plain = plain _
+read_lands (Rom k) reader n more reads plain = plain _
+read_lands Io reader n more reads plain = inr (3, refl)
+read_lands (Ports sides) Instruction n more reads plain = inl (wait.Fetch sides, refl, (reads, refl))
+read_lands (Ports sides) Stack n more reads plain = inl (wait.Read sides, refl, (reads, refl))
+read_lands Bad reader n more reads plain = inr (2, refl)
+
+post_lands : (single : Bool) (side : Side) (slot : ℕ) → slot ≢ 4 → Ends slot (cond single (posts (wait.Write side)) (halts 1)).1
+post_lands true side slot other = inl (wait.Write side, refl, (other, refl))
+post_lands false side slot other = inr (1, refl)
+
+write_lands : (target : Target) (n : NodeRecord) (more : List Change) → n.slot ≢ 4 → ArePlain more
+    → Lands n.slot (followed (stored target n) (λ changes. changes ++ more))
+unfolding stored followed
+write_lands (Ram k) n more other plain = (tt, plain)
+write_lands (Rom k) n more other plain = plain
+write_lands Io n more other plain = (tt, plain)
+write_lands (Ports sides) n more other plain = post_lands (is_single sides) (side_of sides) n.slot other
+write_lands Bad n more other plain = inr (2, refl)
+
+plain_either : (b : Bool) (x y : List Change) → ArePlain x → ArePlain y → ArePlain (cond b x y)
+plain_either true x y p q = p
+plain_either false x y p q = q
+
+effect_lands : (op : Op) (n : NodeRecord) → n.slot ≢ 4 → Lands n.slot (effect op n)
+effect_lands op.Return n other = (tt, (tt, (tt, tt)))
+effect_lands op.Execute n other = (tt, (tt, (tt, tt)))
+effect_lands op.Jump n other = (tt, (tt, tt))
+effect_lands op.Call n other = (tt, (tt, (tt, tt)))
+effect_lands op.Unext n other = plain_either (r n == 0) _ _ (tt, (tt, tt)) (tt, (tt, tt))
+effect_lands op.Next n other = plain_either (r n == 0) _ _ (tt, (tt, tt)) (tt, (tt, (tt, tt)))
+effect_lands op.If n other = plain_either (t n == 0) _ _ (tt, (tt, tt)) (tt, tt)
+effect_lands op.MinusIf n other = plain_either (t n / 2 ^ 17 == 0) _ _ (tt, (tt, tt)) (tt, tt)
+effect_lands op.FetchP n other = read_lands (classified n.p) Stack n _ other (λ word. (tt, (tt, (tt, tt))))
+effect_lands op.FetchPlus n other = read_lands (classified n.a) Stack n _ other (λ word. (tt, (tt, (tt, tt))))
+effect_lands op.FetchB n other = read_lands (classified n.b) Stack n _ other (λ word. (tt, (tt, tt)))
+effect_lands op.Fetch n other = read_lands (classified n.a) Stack n _ other (λ word. (tt, (tt, tt)))
+effect_lands op.StoreP n other = write_lands (classified n.p) n _ other (tt, (tt, (tt, tt)))
+effect_lands op.StorePlus n other = write_lands (classified n.a) n _ other (tt, (tt, (tt, tt)))
+effect_lands op.StoreB n other = write_lands (classified n.b) n _ other (tt, (tt, tt))
+effect_lands op.Store n other = write_lands (classified n.a) n _ other (tt, (tt, tt))
+effect_lands op.MultiplyStep n other = (tt, (tt, (tt, tt)))
+effect_lands op.TwoStar n other = (tt, (tt, tt))
+effect_lands op.TwoSlash n other = (tt, (tt, tt))
+effect_lands op.Invert n other = (tt, (tt, tt))
+effect_lands op.Plus n other = plain_either (is_extended n) _ _ (tt, (tt, (tt, tt))) (tt, (tt, tt))
+effect_lands op.And n other = (tt, (tt, tt))
+effect_lands op.Or n other = (tt, (tt, tt))
+effect_lands op.Drop n other = (tt, (tt, tt))
+effect_lands op.Dup n other = (tt, (tt, tt))
+effect_lands op.Pop n other = (tt, (tt, (tt, tt)))
+effect_lands op.Over n other = (tt, (tt, tt))
+effect_lands op.A n other = (tt, (tt, tt))
+effect_lands op.Nop n other = (tt, tt)
+effect_lands op.Push n other = (tt, (tt, (tt, tt)))
+effect_lands op.BStore n other = (tt, (tt, (tt, tt)))
+effect_lands op.AStore n other = (tt, (tt, (tt, tt)))
+
+named_steady : (n : NodeRecord) (kind : Kind) (outcome : Result (List Change) (Kind × List Change)) → n.wait ≡ wait.Nothing → n.stop ≡ 0 → Lands n.slot outcome
+    → IsSteady (after (named kind outcome).1 n)
+named_steady n kind (Ok changes) idle going plain = steady_without (after changes n) (after_plain changes n plain ∙ idle)
+named_steady n kind (Err event) idle going (inl (w, is, fits)) = subst (λ changes. IsSteady (after changes n)) (sym is) (subst (λ stop. FitsWait w n.slot stop) (sym going) fits)
+named_steady n kind (Err event) idle going (inr (code, is)) =
+    subst (λ changes. IsSteady (after changes n)) (sym is) (steady_without (changed (SetStop code) n) idle)
+
+-- an event of a node that runs
+run_steady : (n : NodeRecord) → n.wait ≡ wait.Nothing → n.stop ≡ 0 → IsSteady (own n).1
+unfolding own
+run_steady n idle going = elim (cases_eq n.slot 4) [ inl due ↦ fetches due | inr other ↦ runs other ]
+  where
+    fetches : n.slot ≡ 4 → IsSteady (after (own_event n).1 n)
+    fetches due =
+        subst (λ event. IsSteady (after event.1 n)) (sym (own_fetched n due))
+        (named_steady n kind.Fetch (fetched n) idle going (read_lands (classified n.p) Instruction n _ due (λ word. (tt, (tt, (tt, tt))))))
+
+    runs : n.slot ≢ 4 → IsSteady (after (own_event n).1 n)
+    runs other =
+        let op = opcode n.i n.slot in
+        subst (λ event. IsSteady (after event.1 n)) (sym (own_ran n other)) (named_steady n (kind.Run (code_of op)) (effect op n) idle going (effect_lands op n other))
+
+idle_when : (w : Wait) (stop : ℕ) → refused_by w stop ≡ None → (w ≡ wait.Nothing) × (stop ≡ 0)
+idle_when wait.Nothing stop e = (refl, by_test (stop == 0) (eqb-true stop 0) e)
+  where
+    by_test : (b : Bool) → (b ≡ true → stop ≡ 0) → cond b None (Some Stopped) ≡ None → stop ≡ 0
+    by_test true is e = is refl
+    by_test false is e = cc
+idle_when (wait.Fetch sides) stop e = cc
+idle_when (wait.Read sides) stop e = cc
+idle_when (wait.Write side) stop e = cc
+
+pub own_steady : (n : NodeRecord) → refusal n ≡ None → IsSteady (own n).1
+own_steady n ready = let runs = idle_when n.wait n.stop ready in run_steady n runs.0 runs.1
+
+-- the two sides of a transfer
+pub sent_steady : (n : NodeRecord) → IsSteady (sent n)
+unfolding sent
+sent_steady n = tt
+
+taken_by : (w : Wait) (word : ℕ) (n : NodeRecord) → n.wait ≡ w → IsSteady n → IsSteady (after (taking w word) n)
+taken_by wait.Nothing word n e steady = steady
+taken_by (wait.Fetch sides) word n e steady = tt
+taken_by (wait.Read sides) word n e steady = tt
+taken_by (wait.Write side) word n e steady = steady
+
+pub taken_steady : (word : ℕ) (n : NodeRecord) → IsSteady n → IsSteady (taken word n)
+unfolding taken
+taken_steady word n steady = taken_by n.wait word n refl steady
