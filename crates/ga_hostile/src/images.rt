@@ -1,0 +1,75 @@
+//! Chips and images.
+
+use crate::outcome::Outcome;
+use ga_grid::{Chip, Memory, NodeId};
+use ga_image::{ImageCause, ImageFault, parse};
+use ga_node::Place;
+use std::alloc::Global;
+
+/// Node 000 sends 2a to the right, node 001 takes a word from there.
+pub const SENDER_AND_TAKER: &[u8] =
+    b"ga144 1\nnode 000\np 000000\nram 00 004b12 0001d5 00002a 0089b2\nnode 001\np 000000\nram 00 004b02 0001d5\nend\n";
+
+/// The sender as it waits.
+pub const WAITING: &[u8] =
+    b"ga144 2\nnode 000\nb 0001d5\np 000004\ni 0089b2\nslot 0\nd 00002a 015555 015555 015555 015555 015555 015555 015555 015555 015555\nwait write r---\nram 00 004b12 0001d5 00002a 0089b2\nend\n";
+
+/// The chip at load.
+pub fn chip(alloc: Global) -> Outcome {
+    match Chip::new(alloc) {
+        Ok(chip) => {
+            if chip.node(NodeId::new(0)).get(Place::P) == 0x195 {
+                Outcome::Answered
+            } else {
+                Outcome::Wrong("another chip")
+            }
+        }
+        Err(Memory) => Outcome::Refused("chip").and(chip_again(alloc)),
+    }
+}
+
+fn chip_again(alloc: Global) -> Outcome {
+    match Chip::new(alloc) {
+        Ok(_) => Outcome::Answered,
+        Err(Memory) => Outcome::Wrong("refused again"),
+    }
+}
+
+/// An image of format 1.
+pub fn parse_first(alloc: Global) -> Outcome {
+    parsed(alloc, SENDER_AND_TAKER, 0)
+}
+
+/// An image of format 2.
+pub fn parse_second(alloc: Global) -> Outcome {
+    parsed(alloc, WAITING, 56)
+}
+
+/// An image, and the wait of node 000 in it.
+fn parsed(alloc: Global, image: &[u8], wait: u32) -> Outcome {
+    let memory = ImageFault {
+        line: 0,
+        cause: ImageCause::Memory,
+    };
+    match parse(alloc, image) {
+        Ok(chip) => is_sender(&chip, wait),
+        Err(fault) => {
+            if fault != memory {
+                return Outcome::Wrong("another fault");
+            }
+            match parse(alloc, image) {
+                Ok(chip) => Outcome::Refused("parse").and(is_sender(&chip, wait)),
+                Err(_) => Outcome::Wrong("refused again"),
+            }
+        }
+    }
+}
+
+fn is_sender(chip: &Chip, wait: u32) -> Outcome {
+    let node = chip.node(NodeId::new(0));
+    if node.get(Place::Ram(2)) == 0x2a && node.get(Place::Wait) == wait {
+        Outcome::Answered
+    } else {
+        Outcome::Wrong("another chip")
+    }
+}

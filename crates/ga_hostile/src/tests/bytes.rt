@@ -1,0 +1,299 @@
+//! Images in which one byte is changed.
+
+use super::changed;
+use ga_image::{ImageCause, parse};
+use std::alloc::Global;
+use std::process::Abort;
+use std::test::Fail;
+
+/// What comes of other bytes at some places of an image: the image is good with some, is refused with a cause at a line with
+/// others, and with all that are left at the line of the place itself.
+struct Places {
+    count: usize,
+    good: &'static [u8],
+    refused: (u8, u32, &'static [u8]),
+    left: (u8, u32),
+}
+
+const NONE: (u8, u32, &[u8]) = (0, 0, b"");
+
+/// In `ga144 1`, `node 000`, `p 000000`, `end`.
+const SMALL: (&[u8], &[Places]) = (
+    b"ga144 1\nnode 000\np 000000\nend\n",
+    &[
+        Places {
+            count: 6,
+            good: b"",
+            refused: NONE,
+            left: (11, 1),
+        },
+        Places {
+            count: 1,
+            good: b"12",
+            refused: NONE,
+            left: (11, 1),
+        },
+        Places {
+            count: 1,
+            good: b"",
+            refused: NONE,
+            left: (11, 1),
+        },
+        Places {
+            count: 5,
+            good: b"",
+            refused: NONE,
+            left: (12, 2),
+        },
+        Places {
+            count: 1,
+            good: b"01234567",
+            refused: (13, 2, b"89"),
+            left: (12, 2),
+        },
+        Places {
+            count: 1,
+            good: b"01",
+            refused: (13, 2, b"23456789"),
+            left: (12, 2),
+        },
+        Places {
+            count: 1,
+            good: b"0123456789",
+            refused: NONE,
+            left: (12, 2),
+        },
+        Places {
+            count: 1,
+            good: b"",
+            refused: NONE,
+            left: (12, 2),
+        },
+        Places {
+            count: 1,
+            good: b"abp",
+            refused: NONE,
+            left: (12, 3),
+        },
+        Places {
+            count: 1,
+            good: b"",
+            refused: NONE,
+            left: (12, 3),
+        },
+        Places {
+            count: 3,
+            good: b"0",
+            refused: (14, 3, b"123456789abcdefABCDEF"),
+            left: (12, 3),
+        },
+        Places {
+            count: 1,
+            good: b"0123",
+            refused: (14, 3, b"456789abcdefABCDEF"),
+            left: (12, 3),
+        },
+        Places {
+            count: 2,
+            good: b"0123456789abcdefABCDEF",
+            refused: NONE,
+            left: (12, 3),
+        },
+        Places {
+            count: 1,
+            good: b"",
+            refused: NONE,
+            left: (12, 3),
+        },
+        Places {
+            count: 4,
+            good: b"",
+            refused: NONE,
+            left: (12, 4),
+        },
+    ],
+);
+
+/// In `ga144 2`, `node 717`, `slot 1`, `wait read r---`, `end`.
+const STATES: (&[u8], &[Places]) = (
+    b"ga144 2\nnode 717\nslot 1\nwait read r---\nend\n",
+    &[
+        Places {
+            count: 6,
+            good: b"",
+            refused: NONE,
+            left: (11, 1),
+        },
+        Places {
+            count: 1,
+            good: b"2",
+            refused: (12, 3, b"1"),
+            left: (11, 1),
+        },
+        Places {
+            count: 1,
+            good: b"",
+            refused: NONE,
+            left: (11, 1),
+        },
+        Places {
+            count: 5,
+            good: b"",
+            refused: NONE,
+            left: (12, 2),
+        },
+        Places {
+            count: 1,
+            good: b"01234567",
+            refused: (13, 2, b"89"),
+            left: (12, 2),
+        },
+        Places {
+            count: 1,
+            good: b"01",
+            refused: (13, 2, b"23456789"),
+            left: (12, 2),
+        },
+        Places {
+            count: 1,
+            good: b"01234567",
+            refused: (13, 2, b"89"),
+            left: (12, 2),
+        },
+        Places {
+            count: 1,
+            good: b"",
+            refused: NONE,
+            left: (12, 2),
+        },
+        Places {
+            count: 5,
+            good: b"",
+            refused: NONE,
+            left: (12, 3),
+        },
+        Places {
+            count: 1,
+            good: b"0123",
+            refused: (20, 5, b"4"),
+            left: (12, 3),
+        },
+        Places {
+            count: 1,
+            good: b"",
+            refused: NONE,
+            left: (12, 3),
+        },
+        Places {
+            count: 10,
+            good: b"",
+            refused: NONE,
+            left: (12, 4),
+        },
+        Places {
+            count: 1,
+            good: b"r",
+            refused: NONE,
+            left: (12, 4),
+        },
+        Places {
+            count: 1,
+            good: b"-d",
+            refused: NONE,
+            left: (12, 4),
+        },
+        Places {
+            count: 1,
+            good: b"-l",
+            refused: NONE,
+            left: (12, 4),
+        },
+        Places {
+            count: 1,
+            good: b"-u",
+            refused: NONE,
+            left: (12, 4),
+        },
+        Places {
+            count: 1,
+            good: b"",
+            refused: NONE,
+            left: (12, 4),
+        },
+        Places {
+            count: 4,
+            good: b"",
+            refused: NONE,
+            left: (12, 5),
+        },
+    ],
+);
+
+/// The number of the cause and the line, where a text is refused.
+fn refusal(alloc: Global, text: &[u8]) -> Option<(u8, u32)> {
+    match parse(alloc, text) {
+        Ok(_) => None,
+        Err(fault) => Some((fault.cause.number(), fault.line)),
+    }
+}
+
+fn wanted(places: &Places, old: u8, byte: u8) -> Option<(u8, u32)> {
+    if byte == old || places.good.iter().any(|good| *good == byte) {
+        return None;
+    }
+    let (cause, line, bytes) = places.refused;
+    if bytes.iter().any(|one| *one == byte) {
+        Some((cause, line))
+    } else {
+        Some(places.left)
+    }
+}
+
+/// Puts each byte at each place of an image.
+fn change(rt: &impl Abort, alloc: Global, image: &[u8], all: &[Places]) -> Result<(), Fail> {
+    let mut at = 0usize;
+    for places in all {
+        for _ in 0..places.count {
+            let Some(old) = image.get(at) else {
+                return Err(Fail::from("too many places"));
+            };
+            for byte in 0..=255u8 {
+                let text = changed(alloc, image, at, byte)?;
+                let answer = refusal(alloc, text.as_slice());
+                assert_eq!(rt; answer, wanted(places, *old, byte), "{byte} at {at}");
+            }
+            at = at.saturating_add(1);
+        }
+    }
+    assert_eq!(rt; at, image.len());
+    Ok(())
+}
+
+#[test]
+fn every_byte(rt: HostRuntime) -> Result<(), Fail> {
+    change(&rt, rt.alloc(), SMALL.0, SMALL.1)
+}
+
+#[test]
+fn every_byte_of_the_second_format(rt: HostRuntime) -> Result<(), Fail> {
+    change(&rt, rt.alloc(), STATES.0, STATES.1)
+}
+
+/// The lines that are as long as may be, and one byte longer.
+#[test]
+fn longest_lines(rt: HostRuntime) -> Result<(), Fail> {
+    let alloc = rt.alloc();
+    for (count, number) in [
+        (200usize, ImageCause::Line.number()),
+        (201, ImageCause::Long.number()),
+    ] {
+        let mut text = b"ga144 1\n".as_slice().to_vec(alloc)?;
+        for _ in 0..count {
+            text.push(b'x')?;
+        }
+        assert_eq!(rt; refusal(alloc, text.as_slice()), Some((number, 2)));
+        text.push(b'\n')?;
+        assert_eq!(rt; refusal(alloc, text.as_slice()), Some((number, 2)));
+    }
+    Ok(())
+}

@@ -1,0 +1,160 @@
+//! Readers that fail, and writers that take one byte at a time and fail, at each of their calls.
+
+use crate::images::SENDER_AND_TAKER;
+use crate::labs::LIMIT;
+use ga_console::{Status, session};
+use std::alloc::{AllocError, Global};
+use std::io::{Error, ErrorKind, Read, Result, Write};
+use std::test::Fail;
+
+/// The commands behind an image, and their answers.
+static TURNS: [(&str, &str); 14] = [
+    ("step 000\n", "000 1 fetch\n"),
+    ("step 000\n", "000 2 run 08\n"),
+    ("step 000\n", "000 3 run 1e\n"),
+    ("step 000\n", "000 4 run 08\n"),
+    ("step 000\n", "000 5 run 1c\n"),
+    ("step 000\n", "000 6 fetch\n"),
+    ("step 000\n", "000 7 wait\n"),
+    ("step 001\n", "001 1 fetch\n"),
+    ("step 001\n", "001 2 run 08\n"),
+    ("step 001\n", "001 3 run 1e\n"),
+    ("step 001\n", "001 4 wait\n"),
+    ("step 001\n", "pass 000 8 001 5 00002a\n"),
+    (
+        "why 000 1 001 5\n",
+        "chain 2\n000 1 fetch\npass 000 8 001 5 00002a\n",
+    ),
+    ("rewind 000 7\n", "removed 2 kept 10\n"),
+];
+
+/// Hands out one byte at a call, and fails at one of its calls.
+#[derive(Drop)]
+struct Dripping<'a> {
+    left: &'a [u8],
+    calls: usize,
+    fails_at: usize,
+}
+
+impl<'a> Read for Dripping<'a> {
+    fn read(&mut self, buf: &mut [u8]) -> Result<usize> {
+        self.calls = self.calls.saturating_add(1);
+        if self.calls == self.fails_at {
+            return Err(Error::from(ErrorKind::Other));
+        }
+        match (self.left.split_first(), buf.first_mut()) {
+            (Some((byte, rest)), Some(slot)) => {
+                *slot = *byte;
+                self.left = rest;
+                Ok(1)
+            }
+            _ => Ok(0),
+        }
+    }
+}
+
+/// Takes one byte at a call, and fails at one of its calls.
+#[derive(Drop)]
+struct Narrow {
+    taken: Vec<u8>,
+    calls: usize,
+    fails_at: usize,
+}
+
+impl Write for Narrow {
+    fn write(&mut self, buf: &[u8]) -> Result<usize> {
+        self.calls = self.calls.saturating_add(1);
+        let Some(byte) = buf.first() else {
+            return Ok(0);
+        };
+        if self.calls == self.fails_at || self.taken.push(*byte).is_err() {
+            return Err(Error::from(ErrorKind::Other));
+        }
+        Ok(1)
+    }
+
+    fn flush(&mut self) -> Result<()> {
+        self.calls = self.calls.saturating_add(1);
+        if self.calls == self.fails_at {
+            return Err(Error::from(ErrorKind::Other));
+        }
+        Ok(())
+    }
+}
+
+/// The image and the commands.
+fn input(alloc: Global) -> std::result::Result<Vec<u8>, AllocError> {
+    let mut input = SENDER_AND_TAKER.to_vec(alloc)?;
+    for (command, _) in &TURNS {
+        input.extend_from_slice(command.as_bytes())?;
+    }
+    Ok(input)
+}
+
+/// What is answered where so many bytes were read.
+fn answers(alloc: Global, read: usize) -> std::result::Result<Vec<u8>, AllocError> {
+    let mut text = Vec::new(alloc);
+    let mut lines = SENDER_AND_TAKER.len();
+    if read < lines {
+        return Ok(text);
+    }
+    text.extend_from_slice(b"ready\n")?;
+    for (command, answer) in &TURNS {
+        lines = lines.saturating_add(command.len());
+        if read < lines {
+            return Ok(text);
+        }
+        text.extend_from_slice(answer.as_bytes())?;
+    }
+    Ok(text)
+}
+
+#[test]
+fn every_read_fails(rt: HostRuntime) -> std::result::Result<(), Fail> {
+    let alloc = rt.alloc();
+    let input = input(alloc)?;
+    for read in 0..input.len().saturating_add(1) {
+        let mut reader = Dripping {
+            left: input.as_slice(),
+            calls: 0,
+            fails_at: read.saturating_add(1),
+        };
+        let mut output = Vec::new(alloc);
+        let status = session(alloc, &mut reader, &mut output, LIMIT);
+        assert_eq!(rt; status, Status::StreamFault);
+        assert_eq!(rt; reader.calls, reader.fails_at);
+        let wanted = answers(alloc, read)?;
+        assert!(rt; output.as_slice() == wanted.as_slice(), "{read} bytes");
+    }
+    Ok(())
+}
+
+#[test]
+fn every_write_fails(rt: HostRuntime) -> std::result::Result<(), Fail> {
+    let alloc = rt.alloc();
+    let input = input(alloc)?;
+    let wanted = answers(alloc, input.len())?;
+    let mut fails_at = 1usize;
+    for _ in 0..10000u32 {
+        let mut reader = input.as_slice();
+        let mut writer = Narrow {
+            taken: Vec::new(alloc),
+            calls: 0,
+            fails_at,
+        };
+        let status = session(alloc, &mut reader, &mut writer, LIMIT);
+        if status == Status::Done {
+            assert!(rt; writer.calls < fails_at);
+            assert!(rt; writer.taken.as_slice() == wanted.as_slice());
+            return Ok(());
+        }
+        assert_eq!(rt; status, Status::StreamFault);
+        assert_eq!(rt; writer.calls, fails_at);
+        assert!(rt;
+            wanted.as_slice().starts_with(writer.taken.as_slice()),
+            "call {fails_at}"
+        );
+        fails_at = fails_at.saturating_add(1);
+    }
+    Err(Fail::from("it fails at each call"))
+}
