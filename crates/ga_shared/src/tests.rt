@@ -21,24 +21,23 @@ use std::thread::Threads;
 const SENDER: [u32; 4] = [0x4b12, 0x1d5, 0x2a, 0x89b2];
 
 /// `@p b! @b .`, which takes a word from the right.
-const TAKER: [u32; 2] = [0x4b02, 0x1d5];
+const TAKER: [u32; 4] = [0x4b02, 0x1d5, 0, 0];
 
-/// Puts a program into the RAM of a node, which begins with it.
-fn load(chip: &mut Chip, node: NodeId, words: &[u32]) {
+/// Puts four words into the RAM of a node, which begins with them.
+fn load(chip: &mut Chip, node: NodeId, words: [u32; 4]) {
     let node = chip.node_mut(node);
     node.set(Place::P, 0);
-    for (cell, word) in words.iter().enumerate() {
-        if cell < 64 {
-            node.set(Place::Ram(cell as u8), Word18::truncated(*word).get());
-        }
-    }
+    node.set(Place::Ram(0), Word18::truncated(words[0]).get());
+    node.set(Place::Ram(1), Word18::truncated(words[1]).get());
+    node.set(Place::Ram(2), Word18::truncated(words[2]).get());
+    node.set(Place::Ram(3), Word18::truncated(words[3]).get());
 }
 
 /// The sender in node 000 and the taker in node 001.
 fn linked(alloc: Global) -> Result<Chip, Fail> {
     let mut chip = Chip::new(alloc)?;
-    load(&mut chip, NodeId::new(0), SENDER.as_slice());
-    load(&mut chip, NodeId::new(1), TAKER.as_slice());
+    load(&mut chip, NodeId::new(0), SENDER);
+    load(&mut chip, NodeId::new(1), TAKER);
     Ok(chip)
 }
 
