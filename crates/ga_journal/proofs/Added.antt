@@ -1,5 +1,5 @@
 -- An event made and kept in one go.
-use Rattle.std.proofs.Common.{◌≡◌, ℕ, ◌+◌, List, length, Some, sym, ◌∙◌, ap, subst, refl}
+use Rattle.std.proofs.Common.{◌≡◌, ◌+◌, List, length, Some, sym, ◌∙◌, ap, subst, refl}
 use Rattle.std.specs.Prelude.{Option}
 use Rattle.ga_node.specs.State.{NodeState}
 use Rattle.ga_event.specs.declared.event.Event.{Event}

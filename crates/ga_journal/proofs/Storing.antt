@@ -10,7 +10,7 @@ use Rattle.ga_journal.specs.declared.entry.Part.{Part}
 use Rattle.ga_journal.specs.declared.entry.Part.TheVariants.{Own, Passed}
 use Rattle.ga_journal.specs.declared.entry.Pass.{Pass}
 use Rattle.ga_journal.specs.declared.entry.Entry.{Entry}
-use Rattle.ga_journal.specs.Histories.{Past, past, bound_from, bound_of}
+use Rattle.ga_journal.specs.Histories.{past, bound_from, bound_of}
 use Rattle.ga_journal.specs.Stored.{act_with, no_pass, act_in, past_in, passes_in, Names, IsBelow, IsDropped, AreNumbered}
 
 pub numbered_le : (n m : ℕ) (es : List Entry) → AreNumbered n es m → n ≤ m

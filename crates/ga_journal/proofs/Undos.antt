@@ -1,18 +1,16 @@
 -- The newest event taken back on the chip.
-use Rattle.std.proofs.Common.{◌≡◌, ◌≢◌, ℕ, List, [], ◌∷◌, ◌++◌, set, refl, sym, ◌∙◌, ap, subst, inl, inr, get_or-set_other}
+use Rattle.std.proofs.Common.{◌≡◌, ◌≢◌, ℕ, List, set, refl, sym, ◌∙◌, ap, subst, inl, inr, get_or-set_other}
 use Rattle.std.proofs.lemmas.List.{set_comm}
 use Rattle.ga_ports.specs.declared.side.Side.{Side}
 use Rattle.ga_node.specs.State.{NodeState, restored}
 use Rattle.ga_node.specs.declared.place.Place.{Place}
-use Rattle.ga_grid.specs.Chip.{nowhere, node_at, with_node}
+use Rattle.ga_grid.specs.Chip.{nowhere, node_at}
 use Rattle.ga_grid.specs.declared.node_id.NodeId.{NodeId}
-use Rattle.ga_event.specs.declared.event.Event.{Event}
 use Rattle.ga_event.specs.declared.event.Event.TheVariants as event
-use Rattle.ga_event.specs.declared.event.Effect.{Effect}
 use Rattle.ga_event.specs.declared.event.Effect.TheVariants as effect
 use Rattle.ga_event.specs.Undo.{restored_at, CanRestore, CanUnapply}
 use Rattle.ga_journal.specs.Histories.{Past, history}
-use Rattle.ga_journal.specs.Logs.{Stamped, built, Records}
+use Rattle.ga_journal.specs.Logs.{Stamped, Records}
 use Rattle.ga_journal.specs.Newest.{IsTopmost}
 use Rattle.ga_journal.specs.Ends.{CanGoBack}
 use Rattle.ga_journal.specs.Popped.{CanUndo}

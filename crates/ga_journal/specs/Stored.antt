@@ -1,5 +1,5 @@
 -- How a history is stored: entries, and the passes among them in a list of their own.
-use Rattle.std.specs.Prelude.{◌≡◌, ℕ, ◌+◌, ◌<◌, nat_lt, List, [], ◌∷◌, ◌++◌, length, map, slice_index_or, Vec, vec_len, vec_capacity}
+use Rattle.std.specs.Prelude.{◌≡◌, ℕ, ◌+◌, ◌<◌, nat_lt, List, [], ◌∷◌, ◌++◌, map, slice_index_or, Vec, vec_len, vec_capacity}
 use Rattle.std.specs.Global.{Global}
 use Rattle.ga_ports.specs.declared.side.Side.TheVariants.{Right}
 use Rattle.ga_grid.specs.NodeId.{node_id}
@@ -11,7 +11,7 @@ use Rattle.ga_journal.specs.declared.entry.Part.{Part}
 use Rattle.ga_journal.specs.declared.entry.Part.TheVariants.{Own, Passed}
 use Rattle.ga_journal.specs.declared.entry.Pass.{Pass}
 use Rattle.ga_journal.specs.declared.entry.Entry.{Entry}
-use Rattle.ga_journal.specs.Histories.{Past, Room, Held, past}
+use Rattle.ga_journal.specs.Histories.{Past, Held, past}
 
 -- an end of a pass as the part of its node
 abbrev pub act_with : Role → Pass → Act

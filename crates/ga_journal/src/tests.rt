@@ -91,7 +91,10 @@ fn linked(alloc: Global) -> Result<Journal, JournalFault>
 fn tells_events(rt: HostRuntime) -> Result<(), Fail> {
     let own = Event::Own(NodeId::new(0));
     let journal = linked(rt.alloc())?;
-    assert_eq!(rt; (journal.kept(), journal.made(), journal.limit()), (2, 2, 2));
+    assert_eq!(rt;
+        (journal.kept(), journal.made(), journal.limit()),
+        (2, 2, 2)
+    );
     for (place, event) in [(0, Some(own)), (1, Some(passed())), (2, None)] {
         assert_eq!(rt; journal.event_at(place), event, "at {place}");
     }
@@ -113,7 +116,10 @@ fn tells_steps(rt: HostRuntime) -> Result<(), Fail> {
     };
     assert_eq!(rt; (journal.steps_of(n000), journal.steps_of(n001)), (2, 1));
     assert_eq!(rt; journal.history(n001)?.as_slice(), [pass].as_slice());
-    assert_eq!(rt; (journal.made_at(1), journal.made_at(2)), (Some(pass), None));
+    assert_eq!(rt;
+        (journal.made_at(1), journal.made_at(2)),
+        (Some(pass), None)
+    );
     Ok(())
 }
 

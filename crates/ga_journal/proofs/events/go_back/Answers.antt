@@ -1,4 +1,4 @@
-use Rattle.std.proofs.Common.{◌<◌, ◌∙◌, subst, sym, ap}
+use Rattle.std.proofs.Common.{◌<◌, subst, sym}
 use Rattle.ga_journal.specs.Histories.{bound_of}
 use Rattle.ga_journal.specs.Ends.{CanGoBack}
 use Rattle.ga_journal.proofs.Rooms.{history_read, popped_last, popped_others}

@@ -1,4 +1,4 @@
-use Rattle.std.proofs.Common.{◌≡◌, ◌+◌, ◌∙◌, ap, sym, Some}
+use Rattle.std.proofs.Common.{◌+◌, ◌∙◌, ap, sym, Some}
 use Rattle.std.specs.Prelude.{Option}
 use Rattle.ga_event.specs.declared.event.Effect.TheVariants as effect
 use Rattle.ga_journal.specs.declared.made.Made.{Made}

@@ -1,5 +1,5 @@
-use Rattle.std.proofs.Common.{◌≡◌, ◌∙◌, ap, Result, Ok, Err, OnOk, true}
-use Rattle.ga_journal.specs.Histories.{Room, has_pass_room, room_of}
+use Rattle.std.proofs.Common.{◌∙◌, ap, Result, Ok, Err, OnOk}
+use Rattle.ga_journal.specs.Histories.{Room}
 use Rattle.ga_journal.proofs.Rooms.{on_ok, lists_same, room_grown, pass_rooms}
 use Rattle.ga_journal.proofs.histories.grow_for_pass.Goals as goal
 

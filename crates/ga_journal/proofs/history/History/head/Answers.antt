@@ -1,7 +1,7 @@
-use Rattle.std.proofs.Common.{◌<◌, ◌∙◌, List, length, map, refl, sym, ap, subst}
-use Rattle.std.specs.Prelude.{Some, slice_get}
+use Rattle.std.proofs.Common.{◌<◌, ◌∙◌, length, refl, sym, ap, subst}
+use Rattle.std.specs.Prelude.{slice_get}
 use Rattle.std.proofs.lemmas.List.{length-map}
-use Rattle.ga_journal.specs.Histories.{Past, Held}
+use Rattle.ga_journal.specs.Histories.{Held}
 use Rattle.ga_journal.specs.Stored.{past_in}
 use Rattle.ga_journal.proofs.Storing.{numbered_below, pasts_at}
 use Rattle.ga_journal.proofs.history.History.head.Goals as goal

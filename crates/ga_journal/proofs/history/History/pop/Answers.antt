@@ -1,4 +1,4 @@
-use Rattle.std.proofs.Common.{◌≡◌, ◌∙◌, ◌++◌, ◌∷◌, [], length, map, sym, ap, subst}
+use Rattle.std.proofs.Common.{◌∙◌, ◌++◌, ◌∷◌, [], length, map, sym, ap, subst}
 use Rattle.ga_journal.specs.Histories.{Held, past}
 use Rattle.ga_journal.specs.Stored.{AreNumbered, past_in}
 use Rattle.ga_journal.proofs.Storing.{last_is_below, last_counts, dropped_numbered, dropped_pasts}

@@ -1,8 +1,8 @@
 use Rattle.std.proofs.Common.{◌≡◌, ℕ, get_or, sym, ap, subst, []}
 use Rattle.ga_journal.specs.Histories.{Book, lists_of, room_of}
 use Rattle.ga_journal.specs.Kept.{kept_of}
-use Rattle.ga_journal.specs.Logs.{Stamped, Records, IsWhole}
-use Rattle.ga_journal.specs.Popped.{IsNewest, TakesBack}
+use Rattle.ga_journal.specs.Logs.{Records, IsWhole}
+use Rattle.ga_journal.specs.Popped.{TakesBack}
 use Rattle.ga_journal.proofs.Keeping.{none_kept, newest_is, kept_more, pop_keeps, popped_by}
 use Rattle.ga_journal.proofs.Marking.{none_go, pop_matched}
 use Rattle.ga_journal.proofs.Chains.{whole_less}
