@@ -2,7 +2,7 @@
 
 use crate::outcome::Outcome;
 use ga_grid::{Chip, Memory, NodeId};
-use ga_image::{ImageCause, ImageFault, parse};
+use ga_image::{ImageCause, ImageFault, parse, print};
 use ga_node::Place;
 use std::alloc::Global;
 
@@ -11,8 +11,14 @@ pub const SENDER_AND_TAKER: &[u8] =
     b"ga144 1\nnode 000\np 000000\nram 00 004b12 0001d5 00002a 0089b2\nnode 001\np 000000\nram 00 004b02 0001d5\nend\n";
 
 /// The sender as it waits.
-pub const WAITING: &[u8] =
-    b"ga144 2\nnode 000\nb 0001d5\np 000004\ni 0089b2\nslot 0\nd 00002a 015555 015555 015555 015555 015555 015555 015555 015555 015555\nwait write r---\nram 00 004b12 0001d5 00002a 0089b2\nend\n";
+pub const WAITING: &str =
+    "ga144 2\nnode 000\nb 0001d5\np 000004\ni 0089b2\nslot 0\nd 00002a 015555 015555 015555 015555 015555 015555 015555 015555 015555\nwait write r---\nram 00 004b12 0001d5 00002a 0089b2 000000 000000 000000 000000\nend\n";
+
+/// Want of memory.
+const MEMORY: ImageFault = ImageFault {
+    line: 0,
+    cause: ImageCause::Memory,
+};
 
 /// The chip at load.
 pub fn chip(alloc: Global) -> Outcome {
@@ -42,19 +48,15 @@ pub fn parse_first(alloc: Global) -> Outcome {
 
 /// An image of format 2.
 pub fn parse_second(alloc: Global) -> Outcome {
-    parsed(alloc, WAITING, 56)
+    parsed(alloc, WAITING.as_bytes(), 56)
 }
 
 /// An image, and the wait of node 000 in it.
 fn parsed(alloc: Global, image: &[u8], wait: u32) -> Outcome {
-    let memory = ImageFault {
-        line: 0,
-        cause: ImageCause::Memory,
-    };
     match parse(alloc, image) {
         Ok(chip) => is_sender(&chip, wait),
         Err(fault) => {
-            if fault != memory {
+            if fault != MEMORY {
                 return Outcome::Wrong("another fault");
             }
             match parse(alloc, image) {
@@ -71,5 +73,32 @@ fn is_sender(chip: &Chip, wait: u32) -> Outcome {
         Outcome::Answered
     } else {
         Outcome::Wrong("another chip")
+    }
+}
+
+/// The text of a chip.
+pub fn printed(alloc: Global) -> Outcome {
+    let Ok(chip) = parse(alloc, WAITING.as_bytes()) else {
+        return Outcome::Refused("parse");
+    };
+    match print(alloc, &chip) {
+        Ok(text) => is_waiting(text.as_slice()),
+        Err(fault) => {
+            if fault != MEMORY {
+                return Outcome::Wrong("another fault");
+            }
+            match print(alloc, &chip) {
+                Ok(text) => Outcome::Refused("print").and(is_waiting(text.as_slice())),
+                Err(_) => Outcome::Wrong("refused again"),
+            }
+        }
+    }
+}
+
+fn is_waiting(text: &[u8]) -> Outcome {
+    if text == WAITING.as_bytes() {
+        Outcome::Answered
+    } else {
+        Outcome::Wrong("another text")
     }
 }

@@ -76,6 +76,7 @@ fn run_of<R: Threads + Wait + Sync>(rt: &R, alloc: Global, run: &str) -> Outcome
         "chip" => images::chip(alloc),
         "parse" => images::parse_first(alloc),
         "parse-format-2" => images::parse_second(alloc),
+        "print" => images::printed(alloc),
         "causes" => causes::causes(alloc),
         "lab" => labs::lab(alloc),
         "session" => sessions::session_with_lists(alloc),

@@ -125,8 +125,13 @@ static READINGS: [Turn; 5] = [
     },
 ];
 
-/// Node 001 takes a word that node 000 was waiting with.
-static TRANSFER: [Turn; 3] = [
+/// The chip is written down, and node 001 takes a word that node 000 was waiting with.
+static TRANSFER: [Turn; 4] = [
+    Turn {
+        asks: "dump",
+        counts: Some("kept 0 made 0 limit 1000000\n"),
+        answer: WAITING,
+    },
     Turn {
         asks: "step 000",
         counts: None,
@@ -258,13 +263,13 @@ pub fn session_with_readings(alloc: Global) -> Outcome {
     talked(alloc, SENDER_AND_TAKER, turns)
 }
 
-/// On an image of format 2, a transfer and a history.
+/// On an image of format 2, a dump, a transfer and a history.
 pub fn session_of_second_format(alloc: Global) -> Outcome {
     let turns = Turns {
         steps: &TRANSFER,
         last: &TRANSFERRED,
     };
-    talked(alloc, WAITING, turns)
+    talked(alloc, WAITING.as_bytes(), turns)
 }
 
 /// A session on an image.
