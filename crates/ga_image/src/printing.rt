@@ -17,8 +17,8 @@ use ga_node::{Node, Place};
 use ga_stacks::FRESH_WORD;
 use std::alloc::{AllocError, Global};
 
-/// The most bytes of a block: its first line, the nine lines of registers but one, for a node doesn't both wait and stop, the
-/// lines of the stacks, and eight lines for each memory.
+/// The most bytes of a block: its first line, those of the registers, the carry and the slot, those of the stacks, that of a
+/// wait, which is longer than that of a stop and never stands beside one, and eight for each memory.
 const BLOCK_ROOM: usize = b"node 717\n".len()
     + 4 * b"a 03ffff\n".len()
     + b"io 03ffff\n".len()
