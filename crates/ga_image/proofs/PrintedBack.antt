@@ -100,34 +100,34 @@ lines_hold p node =
     let waiting : Held = record { wait = wait_code node.wait; stop = 0; slot = node.slot } in
     let last : Held = record { wait = wait_code node.wait; stop = node.stop; slot = node.slot } in
     let registers : Holds runs (register_lines fresh node) runs =
-        lines_held (plain_unless runs fresh.a A (node.a ∷ []) tt)
-        (lines_held (plain_unless runs fresh.b B (node.b ∷ []) tt)
-        (lines_held (plain_unless runs fresh.p P (node.p ∷ []) tt)
-        (lines_held (plain_unless runs fresh.i I (node.i ∷ []) tt)
-        (plain_unless runs fresh.io Io (node.io ∷ []) tt)))) in
+    lines_held (plain_unless runs fresh.a A (node.a ∷ []) tt)
+    (lines_held (plain_unless runs fresh.b B (node.b ∷ []) tt)
+    (lines_held (plain_unless runs fresh.p P (node.p ∷ []) tt)
+    (lines_held (plain_unless runs fresh.i I (node.i ∷ []) tt)
+    (plain_unless runs fresh.io Io (node.io ∷ []) tt)))) in
     let state : Holds runs (state_lines fresh node) last =
-        lines_held (plain_unless runs (from_bool fresh.carry) Carry (from_bool node.carry ∷ []) tt)
-        (lines_held (word_held (λ n. record { wait = 0; stop = 0; slot = n }) 4 Slot node.slot refl)
-        (lines_held (plain_unless slot_only 0x15555 (Data 0) node.d tt)
-        (lines_held (plain_unless slot_only 0x15555 (Return 0) node.r tt)
-        (lines_held (word_held (λ n. record { wait = n; stop = 0; slot = node.slot }) 0 Wait (wait_code node.wait) refl)
-        (word_held (λ n. record { wait = wait_code node.wait; stop = n; slot = node.slot }) 0 Stop node.stop refl))))) in
+    lines_held (plain_unless runs (from_bool fresh.carry) Carry (from_bool node.carry ∷ []) tt)
+    (lines_held (word_held (λ n. record { wait = 0; stop = 0; slot = n }) 4 Slot node.slot refl)
+    (lines_held (plain_unless slot_only 0x15555 (Data 0) node.d tt)
+    (lines_held (plain_unless slot_only 0x15555 (Return 0) node.r tt)
+    (lines_held (word_held (λ n. record { wait = n; stop = 0; slot = node.slot }) 0 Wait (wait_code node.wait) refl)
+    (word_held (λ n. record { wait = wait_code node.wait; stop = n; slot = node.slot }) 0 Stop node.stop refl))))) in
     let all : Holds runs (lines_beside fresh node) last =
-        lines_held registers
-        (lines_held state
-        (lines_held (memory_held last Ram node.ram (λ _. tt))
-        (memory_held last Rom node.rom (λ _. tt)))) in
+    lines_held registers
+    (lines_held state
+    (lines_held (memory_held last Ram node.ram (λ _. tt))
+    (memory_held last Rom node.rom (λ _. tt)))) in
     all.holds
 
 -- they stand together in a steady node
-steady_held : (wait : NodeWait) (slot stop : ℕ) → FitsWait wait slot stop → is_unsteady (record { wait = wait_code wait; stop = stop; slot = slot }) ≡ false
-steady_held Nothing slot stop fits = refl
-steady_held (Fetch s) slot stop fits = let due = fits.0 in let runs_on = fits.1 in grind (arith, nat_tests)
-steady_held (Read s) slot stop fits = let due = fits.0 in let runs_on = fits.1 in let high : nat_lt (32 + s) 32 ≡ false = grind (arith, nat_tests) in let no : (slot == 4) ≡ false = ne_eqb slot 4 due in rw (runs_on, high, no) (grind (arith, nat_tests))
-steady_held (Write Right) slot stop fits = let no : (slot == 4) ≡ false = ne_eqb slot 4 fits.0 in rw (fits.1, no) refl
-steady_held (Write Down) slot stop fits = let no : (slot == 4) ≡ false = ne_eqb slot 4 fits.0 in rw (fits.1, no) refl
-steady_held (Write Left) slot stop fits = let no : (slot == 4) ≡ false = ne_eqb slot 4 fits.0 in rw (fits.1, no) refl
-steady_held (Write Up) slot stop fits = let no : (slot == 4) ≡ false = ne_eqb slot 4 fits.0 in rw (fits.1, no) refl
+steady_held : (wait : NodeWait) (slot stop : ℕ) → HasSides wait → FitsWait wait slot stop → is_unsteady (record { wait = wait_code wait; stop = stop; slot = slot }) ≡ false
+steady_held Nothing slot stop sides fits = refl
+steady_held (Fetch s) slot stop sides fits = let low : nat_lt (16 + s) 32 ≡ true = let small = sides.1 in grind (arith, nat_tests) in let due : (slot == 4) ≡ true = rw (fits.0) refl in rw (fits.1, low, due) (grind (arith, nat_tests))
+steady_held (Read s) slot stop sides fits = let due = fits.0 in let runs_on = fits.1 in let high : nat_lt (32 + s) 32 ≡ false = grind (arith, nat_tests) in let no : (slot == 4) ≡ false = ne_eqb slot 4 due in rw (runs_on, high, no) (grind (arith, nat_tests))
+steady_held (Write Right) slot stop sides fits = let no : (slot == 4) ≡ false = ne_eqb slot 4 fits.0 in rw (fits.1, no) refl
+steady_held (Write Down) slot stop sides fits = let no : (slot == 4) ≡ false = ne_eqb slot 4 fits.0 in rw (fits.1, no) refl
+steady_held (Write Left) slot stop sides fits = let no : (slot == 4) ≡ false = ne_eqb slot 4 fits.0 in rw (fits.1, no) refl
+steady_held (Write Up) slot stop sides fits = let no : (slot == 4) ≡ false = ne_eqb slot 4 fits.0 in rw (fits.1, no) refl
 
 -- ---- blocks
 
@@ -150,7 +150,7 @@ block_good n node small is = either (lines_beside (fresh_record (load_p_of n)) n
           node = small;
           field_lines = subst (AllByRecursion IsFieldLine) same (good_lines _ (lines_good p node is.0));
           apart = subst (λ (ls : List (Field × List ℕ)). IsDistinct nat_eq (map (λ w. number_of w.0) (all_writes ls))) same (lines_apart p node is.0);
-          steady = ap (λ (ls : List (Field × List ℕ)). is_unsteady (held_after runs (all_writes ls))) (sym same) ∙ ap is_unsteady (lines_hold p node) ∙ steady_held node.wait node.slot node.stop is.1;
+          steady = ap (λ (ls : List (Field × List ℕ)). is_unsteady (held_after runs (all_writes ls))) (sym same) ∙ ap is_unsteady (lines_hold p node) ∙ steady_held node.wait node.slot node.stop is.0.wait is.1;
         },
         tt,
       )
@@ -175,9 +175,9 @@ unfolding blocks_from
 blocks_past n [] = tt
 blocks_past n (node ∷ nodes) =
     all_append (λ block. n ≤ block.node) (block_unless n (lines_at n node)) (blocks_from (n + 1) nodes) (either (lines_at n node)) (past_weaker n (n + 1) (blocks_from (n + 1) nodes) (omega arith) (blocks_past (n + 1) nodes)) where
-  either : (lines : List (Field × List ℕ)) → ArePast n (block_unless n lines)
-  either [] = tt
-  either (line ∷ lines) = (omega arith, tt)
+      either : (lines : List (Field × List ℕ)) → ArePast n (block_unless n lines)
+      either [] = tt
+      either (line ∷ lines) = (omega arith, tt)
 
 others : (n : ℕ) (blocks : List Block) → ArePast (n + 1) blocks → AllByRecursion (λ m. nat_eq n m ≡ false) (map (λ block. block.node) blocks)
 others n [] past = tt
@@ -261,8 +261,8 @@ nodes_loaded n (node ∷ nodes) chip size fits fresh each =
     let still : AreFresh (n + 1) next = λ k past small. node_at-with_node_other chip n k (made_of node) (λ same. omega arith) ∙ fresh k (omega arith) small in
     let counted = length-map chip record_of in
     let one : take (n + 1) (records_of next) ≡ take n (records_of chip) ++ node ∷ [] =
-        ap (take (n + 1)) (records_of-with_node chip n (made_of node) ∙ ap (set (records_of chip) n) (record_made node))
-        ∙ take_more_set (records_of chip) n node (omega arith) in
+    ap (take (n + 1)) (records_of-with_node chip n (made_of node) ∙ ap (set (records_of chip) n) (record_made node))
+    ∙ take_more_set (records_of chip) n node (omega arith) in
     ap records_of (loaded_append chip (block_unless n lines) (blocks_from (n + 1) nodes) ∙ ap (λ (c : List NodeState). loaded c (blocks_from (n + 1) nodes)) first)
     ∙ nodes_loaded (n + 1) nodes next (length-with_node chip n (made_of node) ∙ size) (omega arith) still each.1
     ∙ ap (λ xs. xs ++ nodes) one

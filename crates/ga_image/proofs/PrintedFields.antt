@@ -148,10 +148,10 @@ state_good p node is =
 pub lines_good : (p : ℕ) (node : NodeRecord) → IsSound node → AllByRecursion IsGood (lines_beside (fresh_record p) node)
 lines_good p node is =
     let good =
-        each_append IsGood (registers_good (fresh_record p) node is)
-        (each_append IsGood (state_good p node is)
-        (each_append IsGood (rows_each IsGood Ram node.ram (λ cell low. ram_good node.ram cell is.ram is.ram_size low))
-        (rows_each IsGood Rom node.rom (λ cell low. rom_good node.rom cell is.rom is.rom_size low)))) in
+    each_append IsGood (registers_good (fresh_record p) node is)
+    (each_append IsGood (state_good p node is)
+    (each_append IsGood (rows_each IsGood Ram node.ram (λ cell low. ram_good node.ram cell is.ram is.ram_size low))
+    (rows_each IsGood Rom node.rom (λ cell low. rom_good node.rom cell is.rom is.rom_size low)))) in
     good.all
 
 -- ---- no field is given twice
@@ -251,7 +251,7 @@ rows_climb : (base : ℕ) (field : ℕ → Field) (memory : List ℕ) → ((cell
     → DoClimb base (memory_lines field memory) (base + 64)
 rows_climb base field memory climbs =
     let at : (cell : ℕ) → cell ≤ 56 → DoClimb (base + cell) (line_unless 0 (field cell) (row_at memory cell)) (base + (cell + 8)) =
-        λ cell low. unless_climbs (base + cell) 0 (field cell) (row_at memory cell) (base + (cell + 8)) (omega arith) (climbs cell low) in
+    λ cell low. unless_climbs (base + cell) 0 (field cell) (row_at memory cell) (base + (cell + 8)) (omega arith) (climbs cell low) in
     let row : (cell : ℕ) → cell ≤ 56 → DoClimb (base + cell) (line_unless 0 (field cell) (row_at memory cell)) (base + (cell + 8)) = at in
     let first : DoClimb base (line_unless 0 (field 0) (row_at memory 0)) (base + 8) = unless_climbs base 0 (field 0) (row_at memory 0) (base + 8) (omega arith) (climbs_lower (base + 0) base (numbers_from (field 0) (row_at memory 0)) (base + 8) (omega arith) (climbs 0 (omega arith))) in
     let none : DoClimb (base + 64) [] (base + 64) = record { climb = omega arith } in
@@ -285,8 +285,8 @@ state_climbs p node is =
 pub lines_apart : (p : ℕ) (node : NodeRecord) → IsSound node → IsDistinct nat_eq (numbers_in (lines_beside (fresh_record p) node))
 lines_apart p node is =
     let climbing : DoClimb 0 (lines_beside (fresh_record p) node) 156 =
-        lines_climb (registers_climb (fresh_record p) node)
-        (lines_climb (state_climbs p node is)
-        (lines_climb (rows_climb 28 Ram node.ram (λ cell low. ram_climbs cell (row_at node.ram cell) (cell + 8) (let size = row_size node.ram cell is.ram_size low in omega arith)))
-        (rows_climb 92 Rom node.rom (λ cell low. rom_climbs cell (row_at node.rom cell) (cell + 8) (let size = row_size node.rom cell is.rom_size low in omega arith))))) in
+    lines_climb (registers_climb (fresh_record p) node)
+    (lines_climb (state_climbs p node is)
+    (lines_climb (rows_climb 28 Ram node.ram (λ cell low. ram_climbs cell (row_at node.ram cell) (cell + 8) (let size = row_size node.ram cell is.ram_size low in omega arith)))
+    (rows_climb 92 Rom node.rom (λ cell low. rom_climbs cell (row_at node.rom cell) (cell + 8) (let size = row_size node.rom cell is.rom_size low in omega arith))))) in
     climbs_apart 0 (numbers_in (lines_beside (fresh_record p) node)) 156 climbing.climb

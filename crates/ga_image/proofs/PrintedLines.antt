@@ -159,9 +159,9 @@ no_feed_letter name bit other = either (bit == 1) where
 
 no_feed_set : (sides : ℕ) → HasNoFeed (set_text sides)
 no_feed_set sides = (
-    no_feed_letter 114 (sides / 8 % 2) (omega arith),
-    (no_feed_letter 100 (sides / 4 % 2) (omega arith), (no_feed_letter 108 (sides / 2 % 2) (omega arith), (no_feed_letter 117 (sides % 2) (omega arith), tt))),
-  )
+  no_feed_letter 114 (sides / 8 % 2) (omega arith),
+  (no_feed_letter 100 (sides / 4 % 2) (omega arith), (no_feed_letter 108 (sides / 2 % 2) (omega arith), (no_feed_letter 117 (sides % 2) (omega arith), tt))),
+)
 
 no_feed_wait : (code : ℕ) → HasNoFeed (wait_text code)
 no_feed_wait code = either (nat_lt code 32) (nat_lt code 48) where

@@ -165,7 +165,7 @@ cells_given state field is front (old ∷ olds) back (word ∷ words) cell size 
     let before = front ++ (old ∷ (olds ++ back)) in
     let longer = front ++ word ∷ [] in
     let first : with_field (state before) (field cell) word ≡ state (longer ++ (olds ++ back)) =
-        is.writes_one before cell word ∙ ap state (set_at front old (olds ++ back) word cell size ∙ sym (append_assoc front (word ∷ []) (olds ++ back))) in
+    is.writes_one before cell word ∙ ap state (set_at front old (olds ++ back) word cell size ∙ sym (append_assoc front (word ∷ []) (olds ++ back))) in
     ap (given (state before)) (is.next cell words word)
     ∙ ap (λ (node : NodeState). given node (writes (field (cell + 1)) words)) first
     ∙ cells_given state field is longer olds back words (cell + 1) (omega (arith, length-append front (word ∷ []))) (omega arith)
@@ -188,7 +188,7 @@ row_given state field is memory cell left size fits =
     unless_given (state (front ++ replicate (8 + left) 0)) (state (take (cell + 8) memory ++ replicate left 0)) 0 (field cell) row
     (λ zeros. ap state (split ∙ ap (λ xs. front ++ (xs ++ replicate left 0)) (ap (λ (n : ℕ). replicate n 0) (sym count) ∙ sym (same_words row 0 zeros)) ∙ after))
     (λ _. ap (λ xs. given (state xs) (writes (field cell) row)) split
-    ∙ cells_given state field is front (replicate 8 0) (replicate left 0) row cell (length-take-le cell memory (omega arith)) (length-replicate 8 0 ∙ sym count)
+    ∙ cells_given state field is front (replicate 8 0) (replicate left 0) row cell (length-take-le cell memory (omega arith)) (length-replicate {A = ℕ} 8 0 ∙ sym count)
     ∙ ap state after)
 
 pub memory_given : (state : List ℕ → NodeState) (field : ℕ → Field) → IsMemory state field → (memory : List ℕ) → length memory ≡ 64 → Gives (state (replicate 64 0)) (memory_lines field memory) (state memory)
@@ -237,19 +237,19 @@ state_given p a b q i io ram rom node is steady =
     let s5 = at d r node.carry node.slot node.wait 0 in
     let s6 = at d r node.carry node.slot node.wait node.stop in
     let carry : Gives s0 (word_unless 0 Carry (from_bool node.carry)) s1 = then_same (word_given (λ n. at (fresh_ring 2) (fresh_ring 1) (n == 1) 4 Nothing 0) 0 Carry (from_bool node.carry) refl)
-        (ap (λ (c : Bool). at (fresh_ring 2) (fresh_ring 1) c 4 Nothing 0) (carry_back node.carry)) in
+    (ap (λ (c : Bool). at (fresh_ring 2) (fresh_ring 1) c 4 Nothing 0) (carry_back node.carry)) in
     let slot : Gives s1 (word_unless 4 Slot node.slot) s2 = word_given (λ n. at (fresh_ring 2) (fresh_ring 1) node.carry n Nothing 0) 4 Slot node.slot refl in
     let fresh_d : list_all (λ word. word == fresh_word) node.d ≡ true → s2 ≡ s3 = λ same.
-        ap (λ words. at (ring_of 2 words) (fresh_ring 1) node.carry node.slot Nothing 0) (ap (λ (n : ℕ). replicate n fresh_word) (sym is.d_size) ∙ sym (same_words node.d fresh_word same)) in
+    ap (λ words. at (ring_of 2 words) (fresh_ring 1) node.carry node.slot Nothing 0) (ap (λ (n : ℕ). replicate n fresh_word) (sym is.d_size) ∙ sym (same_words node.d fresh_word same)) in
     let fresh_r : list_all (λ word. word == fresh_word) node.r ≡ true → s3 ≡ s4 = λ same.
-        ap (λ words. at d (ring_of 1 words) node.carry node.slot Nothing 0) (ap (λ (n : ℕ). replicate n fresh_word) (sym is.r_size) ∙ sym (same_words node.r fresh_word same)) in
+    ap (λ words. at d (ring_of 1 words) node.carry node.slot Nothing 0) (ap (λ (n : ℕ). replicate n fresh_word) (sym is.r_size) ∙ sym (same_words node.r fresh_word same)) in
     let data_words = unless_given s2 s3 fresh_word (Data 0) node.d fresh_d (λ _. data_given (fresh_ring 1) ram rom a b q i io node.carry node.slot Nothing 0 node.d is.d_size) in
     let return_words = unless_given s3 s4 fresh_word (Return 0) node.r fresh_r (λ _. return_given d ram rom a b q i io node.carry node.slot Nothing 0 node.r is.r_size) in
     let wait : Gives s4 (word_unless 0 Wait (wait_code node.wait)) s5 = then_same (word_given (λ n. at d r node.carry node.slot (wait_of n) 0) 0 Wait (wait_code node.wait) refl)
-        (ap (λ (w : NodeWait). at d r node.carry node.slot w 0) (wait_back node.wait is.wait)) in
+    (ap (λ (w : NodeWait). at d r node.carry node.slot w 0) (wait_back node.wait is.wait)) in
     let none : list_all (λ word. word == 0) (node.stop ∷ []) ≡ true → s5 ≡ s6 = λ same. ap (λ (n : ℕ). at d r node.carry node.slot node.wait n) (sym (same_word node.stop 0 same)) in
     let some : list_all (λ word. word == 0) (node.stop ∷ []) ≡ false → given s5 ((Stop, node.stop) ∷ []) ≡ s6 = λ other.
-        ap (λ (w : NodeWait). at d r node.carry node.slot w node.stop) (sym (stopped node.wait node.slot node.stop steady (other_word 0 node.stop other))) in
+    ap (λ (w : NodeWait). at d r node.carry node.slot w node.stop) (sym (stopped node.wait node.slot node.stop steady (other_word 0 node.stop other))) in
     lines_given carry
     (lines_given slot
     (lines_given data_words
@@ -265,10 +265,10 @@ node_given p node is steady =
     let rams : IsMemory (λ ram. at ram zeros) Ram = record { writes_one = λ memory cell word. refl; next = λ cell words word. refl } in
     let roms : IsMemory (λ rom. at node.ram rom) Rom = record { writes_one = λ memory cell word. refl; next = λ cell words word. refl } in
     let all : Gives (fresh_node p) (lines_beside (fresh_record p) node) (made_of node) =
-        lines_given (registers_given p node)
-        (lines_given (state_given p node.a node.b node.p node.i node.io zeros zeros node is steady)
-        (lines_given (memory_given (λ ram. at ram zeros) Ram rams node.ram is.ram_size)
-        (memory_given (λ rom. at node.ram rom) Rom roms node.rom is.rom_size))) in
+    lines_given (registers_given p node)
+    (lines_given (state_given p node.a node.b node.p node.i node.io zeros zeros node is steady)
+    (lines_given (memory_given (λ ram. at ram zeros) Ram rams node.ram is.ram_size)
+    (memory_given (λ rom. at node.ram rom) Rom roms node.rom is.rom_size))) in
     all.gives
 
 -- and has its record

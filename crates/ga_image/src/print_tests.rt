@@ -1,3 +1,7 @@
+//! What is printed of chips, and read back.
+
+ghost use Rattle.std.specs.Prelude.{◌<◌, ◌^◌};
+
 use crate::{parse, print};
 use ga_grid::{Chip, NodeId};
 use ga_node::{Node, Place};
@@ -6,7 +10,8 @@ use std::alloc::Global;
 use std::test::Fail;
 
 /// The image of a node that waits to send a word to the right.
-const SENDER: &[u8] = b"ga144 2\nnode 000\nb 0001d5\np 000004\ni 0089b2\nslot 0\nd 00002a 015555 015555 015555 015555 015555 015555 015555 015555 015555\nwait write r---\nram 00 004b12 0001d5 00002a 0089b2 000000 000000 000000 000000\nend\n";
+const SENDER: &[u8] =
+    b"ga144 2\nnode 000\nb 0001d5\np 000004\ni 0089b2\nslot 0\nd 00002a 015555 015555 015555 015555 015555 015555 015555 015555 015555\nwait write r---\nram 00 004b12 0001d5 00002a 0089b2 000000 000000 000000 000000\nend\n";
 
 #[test]
 fn chip_at_load(rt: HostRuntime) -> Result<(), Fail> {
@@ -33,8 +38,10 @@ fn same_texts(rt: HostRuntime) -> Result<(), Fail> {
 /// What is given with its value at load, in upper case or in other rows is printed as ever.
 #[test]
 fn other_texts(rt: HostRuntime) -> Result<(), Fail> {
-    let text = b"ga144 1\nnode 717\nnode 000\nrom 07 00000A 00000B\na 000000\nb 00015D\nram 3f 000000\nend".as_slice();
-    let wanted = b"ga144 2\nnode 000\nrom 00 000000 000000 000000 000000 000000 000000 000000 00000a\nrom 08 00000b 000000 000000 000000 000000 000000 000000 000000\nend\n".as_slice();
+    let text =
+        b"ga144 1\nnode 717\nnode 000\nrom 07 00000A 00000B\na 000000\nb 00015D\nram 3f 000000\nend".as_slice();
+    let wanted =
+        b"ga144 2\nnode 000\nrom 00 000000 000000 000000 000000 000000 000000 000000 00000a\nrom 08 00000b 000000 000000 000000 000000 000000 000000 000000\nend\n".as_slice();
     let printed = print(rt.alloc(), &parse(rt.alloc(), text)?)?;
     assert!(rt; printed.as_slice() == wanted);
     Ok(())
@@ -46,7 +53,9 @@ fn next(state: &mut u32) -> u32 {
     *state >> 8
 }
 
-fn next_word(state: &mut u32) -> u32 {
+fn next_word(state: &mut u32) -> u32
+    ensures { result < 2 ^ 18 }
+{
     Word18::truncated(next(state)).get()
 }
 
@@ -142,7 +151,10 @@ fn read_back(rt: HostRuntime) -> Result<(), Fail> {
         let again = parse(rt.alloc(), &text)?;
         for number in 0..144u8 {
             let node = NodeId::new(number);
-            assert!(rt; is_same(chip.node(node), again.node(node)), "at {number} of {seed}");
+            assert!(rt;
+                is_same(chip.node(node), again.node(node)),
+                "at {number} of {seed}"
+            );
         }
     }
     Ok(())
@@ -151,7 +163,8 @@ fn read_back(rt: HostRuntime) -> Result<(), Fail> {
 /// The first bytes of an image of format 2, for each count of them.
 #[test]
 fn cut_off(rt: HostRuntime) {
-    let text = b"ga144 2\nnode 001\nio 000007\nslot 0\nd 00002a 000001 000002 000003 000004 000005 000006 000007 000008 000009\nwait read r-l-\nrom 38 000001\nend\n".as_slice();
+    let text =
+        b"ga144 2\nnode 001\nio 000007\nslot 0\nd 00002a 000001 000002 000003 000004 000005 000006 000007 000008 000009\nwait read r-l-\nrom 38 000001\nend\n".as_slice();
     // the answer from this count of bytes on
     let answers = [
         (0, Some((17, 1))),

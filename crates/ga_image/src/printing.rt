@@ -121,7 +121,12 @@ fn push_state(text: &mut Vec<u8>, at: &Node) -> Result<(), AllocError>
     push_digit_unless(text, 0, Field::Carry, at.get(Place::Carry))?;
     push_digit_unless(text, 4, Field::Slot, at.get(Place::Slot))?;
     push_words_unless(text, FRESH_WORD, Field::Data(0), data_words(at).as_slice())?;
-    push_words_unless(text, FRESH_WORD, Field::Return(0), return_words(at).as_slice())?;
+    push_words_unless(
+        text,
+        FRESH_WORD,
+        Field::Return(0),
+        return_words(at).as_slice(),
+    )?;
     push_wait_unless(text, at.get(Place::Wait))?;
     push_digit_unless(text, 0, Field::Stop, at.get(Place::Stop))
 }
