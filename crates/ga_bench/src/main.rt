@@ -1,8 +1,8 @@
-//! Times the events of a node, the reading of images, and the steps, undos and rollbacks of a lab. What depends on the machine
+//! Times the events of a node, the reading and printing of images, and the steps, undos and rollbacks of a lab. What depends on the machine
 //! goes to standard error.
 //!
 //! `ga_bench busy MODE EVENTS ROUNDS` and `ga_bench mixed MODE EVENTS ROUNDS` make events; MODE is `own`, `into`, `values` or
-//! `back`. `ga_bench image NODES ROUNDS` reads an image that gives each cell of so many nodes. `ga_bench lab NODES STEPS` steps
+//! `back`. `ga_bench image NODES ROUNDS` reads an image of each format that gives all of so many nodes, and prints that of format 2. `ga_bench lab NODES STEPS` steps
 //! the first nodes of a lab in turn, takes all steps back, and makes them again. `ga_bench rewind EVENTS ROUNDS` makes rollbacks
 //! that remove three entries where so many events are kept, and `ga_bench rewind-all EVENTS` one that removes so many. The best
 //! of the rounds counts.
@@ -57,6 +57,21 @@ fn print_rewind(rt: &HostRuntime, timed: Option<(u128, u32)>) -> io::Result<()> 
     }
 }
 
+fn print_images(rt: &HostRuntime, nodes: u32, rounds: u32) -> io::Result<()> {
+    match time_images(rt, nodes, rounds)? {
+        Some(times) => {
+            println!(rt; "format 1: {} bytes, format 2: {} bytes", times.first_bytes, times.second_bytes)?;
+            eprintln!(rt;
+                "nanoseconds: {} to read format 1, {} to read format 2, {} to print it",
+                times.first_read,
+                times.second_read,
+                times.printed
+            )
+        }
+        None => eprintln!(rt; "no memory"),
+    }
+}
+
 fn print_events(rt: &HostRuntime, is_mixed: bool, words: &[String]) -> io::Result<()> {
     let mode = match words.get(2) {
         Some(word) => word.as_str(),
@@ -91,9 +106,7 @@ fn main(rt: HostRuntime) -> io::Result<()> {
         }
         "image" => {
             let nodes = number(words.get(2), 144);
-            let (best, size) = time_images(&rt, nodes, number(words.get(3), 20))?;
-            println!(rt; "{size} bytes")?;
-            eprintln!(rt; "{best} nanoseconds")
+            print_images(&rt, nodes, number(words.get(3), 20))
         }
         _ => print_events(&rt, what == "mixed", words.as_slice()),
     }

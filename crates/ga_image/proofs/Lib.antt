@@ -19,3 +19,8 @@ pub mod Causes
 pub mod Behind
 pub mod FirstFaults
 pub mod Pieces
+pub mod PrintedLines
+pub mod PrintedFields
+pub mod PrintedStates
+pub mod PrintedBack
+pub mod ReadSteady

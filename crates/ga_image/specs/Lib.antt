@@ -11,3 +11,4 @@ pub mod Progress
 pub mod Reading
 pub mod FirstFault
 pub mod Printing
+pub mod ReadBack

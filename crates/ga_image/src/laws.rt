@@ -2,10 +2,14 @@
 
 ghost use Rattle.std.specs.Prelude.{ℕ, ◌≡◌, ◌<◌, ◌↔◌, List, length, Ok, Err};
 ghost use Rattle.ga_node.specs.State.{NodeState};
+ghost use Rattle.ga_node.specs.Record.{NodeRecord};
+ghost use Rattle.ga_grid.specs.Chip.{records_of};
 ghost use Rattle.ga_image.specs.declared.fault.ImageFault.{ImageFault};
 ghost use Rattle.ga_image.specs.FirstFault.{IsFirstFault};
 ghost use Rattle.ga_image.specs.Grammar.{IsImage};
 ghost use Rattle.ga_image.specs.Lines.{lines_of};
+ghost use Rattle.ga_image.specs.Printing.{printed};
+ghost use Rattle.ga_image.specs.ReadBack.{AreSound, AreSteady, Describes};
 ghost use Rattle.ga_image.specs.Reading.{start, reading};
 
 /// An image is shorter than 2 ^ 24 bytes: a block has at most one line for each field, and a line at most 200 bytes.
@@ -20,4 +24,15 @@ pub fn reading_tells()
         IsImage texts chip ↔ (reading start 1 texts ≡ Ok chip) }
     ensures faults { (texts : List (List ℕ)) (fault : ImageFault) →
         IsFirstFault texts fault ↔ (reading start 1 texts ≡ Err fault) }
+{}
+
+/// What is printed of a chip is an image of a chip with the same records, where in each node the wait, the slot and the stop
+/// stand together. So reading it gives the chip back, unless memory is refused.
+pub fn prints_back()
+    ensures { (nodes : List NodeRecord) → AreSound nodes → AreSteady nodes → Describes (lines_of (printed nodes)) nodes }
+{}
+
+/// The wait, the slot and the stop stand together in each node of a chip that an image describes.
+pub fn images_are_steady()
+    ensures { (texts : List (List ℕ)) (chip : List NodeState) → IsImage texts chip → AreSteady (records_of chip) }
 {}

@@ -13,6 +13,21 @@
 //! end
 //! ```
 //!
+//! Format 2, whose header is `ga144 2`, has these field lines too; `print` writes it:
+//!
+//! ```text
+//! i W
+//! io W
+//! carry D          0 or 1
+//! slot D           0 to 4
+//! d W ..           the ten words of the data stack, the top first
+//! r W ..           the nine words of the return stack
+//! wait fetch SET   what the node waits for, and the sides: `rdlu` with a hyphen for each side that is not meant
+//! wait read SET
+//! wait write SET   one side
+//! stop D           1 to 3
+//! ```
+//!
 //! One space stands between words and none at the ends, hexadecimal digits are of either case, and a line has at most
 //! 200 bytes. The fields of a block stand in any order. A node has at most one block, and in a block each register and
 //! each cell is given at most once; what is not given keeps its value at load.
@@ -34,5 +49,7 @@ pub use fault::{ImageCause, ImageFault};
 pub use image::parse;
 pub use printing::print;
 
+#[cfg(test)]
+mod print_tests;
 #[cfg(test)]
 mod tests;

@@ -17,8 +17,8 @@ use ga_node::{Node, Place};
 use ga_stacks::FRESH_WORD;
 use std::alloc::{AllocError, Global};
 
-/// The most bytes of a block: its first line, the nine lines of registers but one, for a node doesn't both wait and stop, the
-/// lines of the stacks, and eight lines for each memory.
+/// The most bytes of a block: its first line, those of the registers, the carry and the slot, those of the stacks, that of a
+/// wait, which is longer than that of a stop and never stands beside one, and eight for each memory.
 const BLOCK_ROOM: usize = b"node 717\n".len()
     + 4 * b"a 03ffff\n".len()
     + b"io 03ffff\n".len()
@@ -121,7 +121,12 @@ fn push_state(text: &mut Vec<u8>, at: &Node) -> Result<(), AllocError>
     push_digit_unless(text, 0, Field::Carry, at.get(Place::Carry))?;
     push_digit_unless(text, 4, Field::Slot, at.get(Place::Slot))?;
     push_words_unless(text, FRESH_WORD, Field::Data(0), data_words(at).as_slice())?;
-    push_words_unless(text, FRESH_WORD, Field::Return(0), return_words(at).as_slice())?;
+    push_words_unless(
+        text,
+        FRESH_WORD,
+        Field::Return(0),
+        return_words(at).as_slice(),
+    )?;
     push_wait_unless(text, at.get(Place::Wait))?;
     push_digit_unless(text, 0, Field::Stop, at.get(Place::Stop))
 }

@@ -16,7 +16,7 @@ loop-word-preserved c =
     let same : c.truncated.result ≡ get_or words i 0 = omega (arith, c.truncated.ensures) in
     let digits : c.hex6.result ≡ hex6_of (get_or words i 0) = c.hex6.ensures ∙ ap hex6_of same in
     let piece : new ≡ text ++ 32 ∷ hex6_of (get_or words i 0) =
-        grown text c.extend_from_slice.new.self.items new (32 ∷ []) c.hex6.result c.in_ok-extend_from_slice.ensures.items c.in_ok-extend_from_slice-2.ensures.items
-        ∙ ap (λ xs. text ++ 32 ∷ xs) digits in
+    grown text c.extend_from_slice.new.self.items new (32 ∷ []) c.hex6.result c.in_ok-extend_from_slice.ensures.items c.in_ok-extend_from_slice-2.ensures.items
+    ∙ ap (λ xs. text ++ 32 ∷ xs) digits in
     grown old text new (words_text (take i words)) (32 ∷ hex6_of (get_or words i 0)) c.loop-word.invariant piece
     ∙ ap (λ xs. old ++ xs) (sym (words_more words i within))

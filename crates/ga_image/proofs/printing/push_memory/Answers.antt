@@ -18,9 +18,9 @@ rows-preserved c =
     let within : number < 8 = omega arith in
     let words : c.as_slice.result.now ≡ row_at memory (8 * number) = c.as_slice.ensures.value ∙ c.row.ensures.items in
     let last : new ≡ text ++ fields_text (lines (8 * number)) =
-        c.in_ok-push_words_unless.ensures
-        ∙ ap (λ field. text ++ fields_text (line_unless 0 field c.as_slice.result.now)) c.field.ensures
-        ∙ ap (λ row. text ++ fields_text (line_unless 0 (field_in bank (8 * number)) row)) words in
+    c.in_ok-push_words_unless.ensures
+    ∙ ap (λ field. text ++ fields_text (line_unless 0 field c.as_slice.result.now)) c.field.ensures
+    ∙ ap (λ row. text ++ fields_text (line_unless 0 (field_in bank (8 * number)) row)) words in
     lines_grown old text new (flat_map lines (take number row_cells)) (lines (8 * number)) c.rows.invariant last
     ∙ ap (λ (n : ℕ). old ++ fields_text (flat_map lines (take number row_cells) ++ lines n)) (sym (row_cell number within))
     ∙ ap (λ found. old ++ fields_text found) (sym (rows_more lines row_cells number within))

@@ -22,7 +22,7 @@ returns c =
     let a = word_grown old t1 0 A c.get.result node.a c.get.ensures.value c.in_ok-push_words_unless.ensures in
     let b = word_grown t1 t2 0x15d B c.get-2.result node.b c.get-2.ensures.value c.in_ok-push_words_unless-2.ensures in
     let at = word_grown t2 t3 c.load_p.result P c.get-3.result node.p c.get-3.ensures.value c.in_ok-push_words_unless-3.ensures
-        ∙ ap (λ (n : ℕ). t2 ++ fields_text (word_unless n P node.p)) c.load_p.ensures.value in
+    ∙ ap (λ (n : ℕ). t2 ++ fields_text (word_unless n P node.p)) c.load_p.ensures.value in
     let i = word_grown t3 t4 0 I c.get-4.result node.i c.get-4.ensures.value c.in_ok-push_words_unless-4.ensures in
     let lines_io = word_unless fresh_word Io node.io in
     let lines_i = word_unless 0 I node.i ++ lines_io in

@@ -1,0 +1,50 @@
+-- A text that describes a chip, and the chips that a text in format 2 can describe.
+use Rattle.std.specs.Prelude.{ℕ, ◌≡◌, ◌^◌, ◌<◌, ◌≤◌, List, length}
+use Rattle.std.specs.List.{AllByRecursion}
+use Rattle.ga_node.specs.declared.wait.Wait.{Wait}
+use Rattle.ga_node.specs.declared.wait.Wait.TheVariants.{Nothing, Fetch, Read, Write}
+use Rattle.ga_node.specs.State.{NodeState}
+use Rattle.ga_node.specs.Record.{NodeRecord}
+use Rattle.ga_node.specs.Steady.{IsSteady}
+use Rattle.ga_grid.specs.Chip.{records_of, record_at}
+use Rattle.ga_image.specs.Printing.{AreWords}
+use Rattle.ga_image.specs.Grammar.{IsImage}
+
+-- a set of sides that names one at least, where the node waits for one of a set
+abbrev pub HasSides : Wait → Type 0
+HasSides Nothing = Unit {0}
+HasSides (Fetch sides) = (0 < sides) × (sides < 16)
+HasSides (Read sides) = (0 < sides) × (sides < 16)
+HasSides (Write side) = Unit {0}
+
+-- sizes and ranges of all that a node holds
+pub record IsSound (node : NodeRecord) : Type 0 where
+  pub d : AreWords node.d
+  pub d_size : length node.d ≡ 10
+  pub r : AreWords node.r
+  pub r_size : length node.r ≡ 9
+  pub ram : AreWords node.ram
+  pub ram_size : length node.ram ≡ 64
+  pub rom : AreWords node.rom
+  pub rom_size : length node.rom ≡ 64
+  pub a : node.a < 2 ^ 18
+  pub b : node.b < 2 ^ 9
+  pub p : node.p < 2 ^ 10
+  pub i : node.i < 2 ^ 18
+  pub io : node.io < 2 ^ 18
+  pub slot : node.slot ≤ 4
+  pub wait : HasSides node.wait
+  pub stop : node.stop ≤ 3
+
+-- each of 144 nodes is sound
+pub record AreSound (nodes : List NodeRecord) : Type 0 where
+  pub size : length nodes ≡ 144
+  pub each : AllByRecursion IsSound nodes
+
+-- the wait, the slot and the stop of each node stand together
+abbrev pub AreSteady : List NodeRecord → Type 0
+AreSteady nodes = (n : ℕ) → n < 144 → IsSteady (record_at nodes n)
+
+-- the lines are an image of a chip with these records
+abbrev pub Describes : List (List ℕ) → List NodeRecord → Type 0
+Describes texts nodes = (chip : List NodeState) × IsImage texts chip × (records_of chip ≡ nodes)
