@@ -1,7 +1,7 @@
 //! A law of the definitions, the contract of a function that does nothing.
 
 ghost use Rattle.std.specs.Prelude.{ℕ, List};
-ghost use Rattle.ga_event.specs.Steady.{AreSteady};
+ghost use Rattle.ga_grid.specs.Steady.{AreSteady};
 ghost use Rattle.ga_lab.specs.Machine.{State, chip_of};
 ghost use Rattle.ga_console.specs.Reached.{Reaches};
 ghost use Rattle.ga_console.specs.Run.{Opens};

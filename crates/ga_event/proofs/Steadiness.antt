@@ -12,7 +12,7 @@ use Rattle.ga_grid.specs.Chip.{nowhere, record_at}
 use Rattle.ga_event.specs.declared.event.Event.{Event}
 use Rattle.ga_event.specs.declared.event.Event.TheVariants.{Own, Pass}
 use Rattle.ga_event.specs.Apply.{Told, refusal_of, unless, after, apply, run, replay}
-use Rattle.ga_event.specs.Steady.{AreSteady}
+use Rattle.ga_grid.specs.Steady.{AreSteady}
 
 set_steady : (chip : List NodeRecord) (n : ℕ) (node : NodeRecord) → AreSteady chip → IsSteady node → AreSteady (set chip n node)
 set_steady chip n node steady new = λ m within.

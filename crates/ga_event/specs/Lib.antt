@@ -3,4 +3,3 @@ pub mod Apply
 pub mod Agree
 pub mod Next
 pub mod Undo
-pub mod Steady

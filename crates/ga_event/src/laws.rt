@@ -10,7 +10,7 @@ ghost use Rattle.ga_event.specs.Touches.{touches, meets};
 ghost use Rattle.ga_event.specs.Apply.{refusal_of, apply, replay};
 ghost use Rattle.ga_event.specs.Undo.{unapplied, CanUnapply, IsApplied, IsLeft};
 ghost use Rattle.ga_event.specs.Agree.{Agree, Alike};
-ghost use Rattle.ga_event.specs.Steady.{AreSteady};
+ghost use Rattle.ga_grid.specs.Steady.{AreSteady};
 
 /// An event changes the nodes that it touches alone.
 pub fn changes_touched_alone()

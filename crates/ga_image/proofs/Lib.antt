@@ -5,7 +5,6 @@ pub mod Numbers
 pub mod Spellings
 pub mod Short
 pub mod Flags
-pub mod SteadyLoads
 pub mod Writes
 pub mod Stages
 pub mod Steps

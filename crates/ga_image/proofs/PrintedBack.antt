@@ -29,7 +29,8 @@ use Rattle.ga_image.specs.Lines.{lines_of}
 use Rattle.ga_image.specs.Spelling.{Form, Node, Words, End}
 use Rattle.ga_image.specs.Grammar.{header, Block, field_line_form, block_forms, all_writes, IsFieldLine, IsBlock, with_field, with_word, written, loaded, IsImage}
 use Rattle.ga_image.specs.Printing.{line_text, text_of, line_unless, word_unless, row_at, memory_lines, register_lines, state_lines, lines_beside, lines_at, block_unless, blocks_from, forms_of, printed}
-use Rattle.ga_image.specs.ReadBack.{HasSides, IsSound, AreSound, AreSteady, Describes}
+use Rattle.ga_image.specs.ReadBack.{HasSides, IsSound, AreSound, Describes}
+use Rattle.ga_grid.specs.Steady.{AreSteady}
 use Rattle.ga_image.proofs.Found.{held-append}
 use Rattle.ga_image.proofs.PrintedLines.{IsPrintable, IsLine, forms_printed, no_feed_lines, no_feed_header, lines_again}
 use Rattle.ga_image.proofs.PrintedFields.{IsGood, all_append, lines_good, lines_apart}

@@ -21,7 +21,7 @@ use Rattle.ga_image.specs.declared.field.Field.{Field}
 use Rattle.ga_image.specs.declared.field.Field.TheVariants.{A, B, P, I, Io, Carry, Slot, Wait, Stop, Data, Return, Ram, Rom}
 use Rattle.ga_image.specs.Held.{runs, with_held, with_code, held_after, is_unsteady}
 use Rattle.ga_image.specs.Grammar.{Block, IsBlock, all_writes, with_field, written, loaded, IsImage}
-use Rattle.ga_image.specs.ReadBack.{AreSteady}
+use Rattle.ga_grid.specs.Steady.{AreSteady}
 use Rattle.ga_image.proofs.PrintedStates.{given}
 use Rattle.ga_image.proofs.PrintedBack.{written_given}
 

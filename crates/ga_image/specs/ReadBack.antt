@@ -5,8 +5,7 @@ use Rattle.ga_node.specs.declared.wait.Wait.{Wait}
 use Rattle.ga_node.specs.declared.wait.Wait.TheVariants.{Nothing, Fetch, Read, Write}
 use Rattle.ga_node.specs.State.{NodeState}
 use Rattle.ga_node.specs.Record.{NodeRecord}
-use Rattle.ga_node.specs.Steady.{IsSteady}
-use Rattle.ga_grid.specs.Chip.{records_of, record_at}
+use Rattle.ga_grid.specs.Chip.{records_of}
 use Rattle.ga_image.specs.Printing.{AreWords}
 use Rattle.ga_image.specs.Grammar.{IsImage}
 
@@ -40,10 +39,6 @@ pub record IsSound (node : NodeRecord) : Type 0 where
 pub record AreSound (nodes : List NodeRecord) : Type 0 where
   pub size : length nodes ≡ 144
   pub each : AllByRecursion IsSound nodes
-
--- the wait, the slot and the stop of each node stand together
-abbrev pub AreSteady : List NodeRecord → Type 0
-AreSteady nodes = (n : ℕ) → n < 144 → IsSteady (record_at nodes n)
 
 -- the lines are an image of a chip with these records
 abbrev pub Describes : List (List ℕ) → List NodeRecord → Type 0

@@ -4,12 +4,13 @@ ghost use Rattle.std.specs.Prelude.{ℕ, ◌≡◌, ◌<◌, ◌↔◌, List, le
 ghost use Rattle.ga_node.specs.State.{NodeState};
 ghost use Rattle.ga_node.specs.Record.{NodeRecord};
 ghost use Rattle.ga_grid.specs.Chip.{records_of};
+ghost use Rattle.ga_grid.specs.Steady.{AreSteady};
 ghost use Rattle.ga_image.specs.declared.fault.ImageFault.{ImageFault};
 ghost use Rattle.ga_image.specs.FirstFault.{IsFirstFault};
 ghost use Rattle.ga_image.specs.Grammar.{IsImage};
 ghost use Rattle.ga_image.specs.Lines.{lines_of};
 ghost use Rattle.ga_image.specs.Printing.{printed};
-ghost use Rattle.ga_image.specs.ReadBack.{AreSound, AreSteady, Describes};
+ghost use Rattle.ga_image.specs.ReadBack.{AreSound, Describes};
 ghost use Rattle.ga_image.specs.Reading.{start, reading};
 
 /// An image is shorter than 2 ^ 24 bytes: a block has at most one line for each field, and a line at most 200 bytes.

@@ -1,6 +1,6 @@
 //! A law over the machine, the contract of a function that does no work.
 
-ghost use Rattle.ga_event.specs.Steady.{AreSteady};
+ghost use Rattle.ga_grid.specs.Steady.{AreSteady};
 ghost use Rattle.ga_lab.specs.Machine.{State, chip_of};
 
 use ga_event::laws;

@@ -1,13 +1,13 @@
 use Rattle.std.proofs.Common.{List, sym, ap, ◌∙◌, subst}
 use Rattle.ga_node.specs.Record.{NodeRecord}
-use Rattle.ga_event.specs.Steady.{AreSteady}
+use Rattle.ga_grid.specs.Steady.{AreSteady}
 use Rattle.ga_lab.specs.Machine.{State}
 use Rattle.ga_image.specs.Lines.{lines_of}
-use Rattle.ga_image.proofs.SteadyLoads.{image_steady}
+use Rattle.ga_image.proofs.ReadSteady.{images_steady}
 use Rattle.ga_console.proofs.Reaching.{reached_load}
 use Rattle.ga_console.proofs.laws.stays_fit.Goals as goal
 
 pub returns : goal.returns
 returns c = λ image limit machine last lines opens reached.
     let load = ap (λ (s : State). s.load) opens.2 in
-    c.stays_steady.ensures last (subst (λ (l : List NodeRecord). AreSteady l) (sym (reached_load machine lines last reached ∙ load)) (image_steady (lines_of image) opens.0 opens.1))
+    c.stays_steady.ensures last (subst (λ (l : List NodeRecord). AreSteady l) (sym (reached_load machine lines last reached ∙ load)) (images_steady (lines_of image) opens.0 opens.1))
