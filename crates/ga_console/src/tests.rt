@@ -1,5 +1,4 @@
 mod commands;
-mod memory;
 mod races;
 mod runs;
 mod settings;
