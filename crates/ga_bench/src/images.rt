@@ -1,14 +1,15 @@
 //! The reading and the printing of images.
 
-use ga_image::{parse, print};
 use ga_grid::Chip;
+use ga_image::{parse, print};
 use ga_word::Word18;
 use std::alloc::{AllocError, Global};
 use std::io;
 use std::time::Instant;
 
 /// Lines of format 2 for all that a node has beside its memories.
-const STATE: &[u8] = b"a 000001\nb 000001\np 000001\ni 000001\nio 000001\ncarry 1\nslot 0\nd 000001 000001 000001 000001 000001 000001 000001 000001 000001 000001\nr 000001 000001 000001 000001 000001 000001 000001 000001 000001\nwait read rdlu\n";
+const STATE: &[u8] =
+    b"a 000001\nb 000001\np 000001\ni 000001\nio 000001\ncarry 1\nslot 0\nd 000001 000001 000001 000001 000001 000001 000001 000001 000001 000001\nr 000001 000001 000001 000001 000001 000001 000001 000001 000001\nwait read rdlu\n";
 
 /// What it took to read an image of each format and to print the chip of the second, in nanoseconds, and the bytes of each text.
 pub struct ImageTimes {

@@ -1,11 +1,11 @@
-//! Times the events of a node, the reading and printing of images, and the steps, undos and rollbacks of a lab. What depends on the machine
-//! goes to standard error.
+//! Times the events of a node, the reading and printing of images, and the steps, undos and rollbacks of a lab. What depends
+//! on the machine goes to standard error.
 //!
 //! `ga_bench busy MODE EVENTS ROUNDS` and `ga_bench mixed MODE EVENTS ROUNDS` make events; MODE is `own`, `into`, `values` or
-//! `back`. `ga_bench image NODES ROUNDS` reads an image of each format that gives all of so many nodes, and prints that of format 2. `ga_bench lab NODES STEPS` steps
-//! the first nodes of a lab in turn, takes all steps back, and makes them again. `ga_bench rewind EVENTS ROUNDS` makes rollbacks
-//! that remove three entries where so many events are kept, and `ga_bench rewind-all EVENTS` one that removes so many. The best
-//! of the rounds counts.
+//! `back`. `ga_bench image NODES ROUNDS` reads an image of each format that gives all of so many nodes, and prints the second.
+//! `ga_bench lab NODES STEPS` steps the first nodes of a lab in turn, takes all steps back, and makes them again. `ga_bench
+//! rewind EVENTS ROUNDS` makes rollbacks that remove three entries where so many events are kept, and `ga_bench rewind-all
+//! EVENTS` one that removes so many. The best of the rounds counts.
 #![tactic(auto)]
 
 mod events;
@@ -60,12 +60,13 @@ fn print_rewind(rt: &HostRuntime, timed: Option<(u128, u32)>) -> io::Result<()> 
 fn print_images(rt: &HostRuntime, nodes: u32, rounds: u32) -> io::Result<()> {
     match time_images(rt, nodes, rounds)? {
         Some(times) => {
-            println!(rt; "format 1: {} bytes, format 2: {} bytes", times.first_bytes, times.second_bytes)?;
+            println!(rt;
+                "format 1: {} bytes, format 2: {} bytes",
+                times.first_bytes, times.second_bytes
+            )?;
             eprintln!(rt;
                 "nanoseconds: {} to read format 1, {} to read format 2, {} to print it",
-                times.first_read,
-                times.second_read,
-                times.printed
+                times.first_read, times.second_read, times.printed
             )
         }
         None => eprintln!(rt; "no memory"),

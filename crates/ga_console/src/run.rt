@@ -82,14 +82,7 @@ fn after_image<R: Read, W: Write>(
     match open(alloc, image, limit) {
         Ok(mut lab) => {
             let mut output = Output::ready();
-            status_of(serve(
-                alloc,
-                input,
-                reader,
-                &mut output,
-                writer,
-                &mut lab,
-            ))
+            status_of(serve(alloc, input, reader, &mut output, writer, &mut lab))
         }
         Err(fault) => refuse(writer, fault),
     }
