@@ -12,6 +12,7 @@ const STATE: &[u8] =
     b"a 000001\nb 000001\np 000001\ni 000001\nio 000001\ncarry 1\nslot 0\nd 000001 000001 000001 000001 000001 000001 000001 000001 000001 000001\nr 000001 000001 000001 000001 000001 000001 000001 000001 000001\nwait read rdlu\n";
 
 /// What it took to read an image of each format and to print the chip of the second, in nanoseconds, and the bytes of each text.
+#[derive(Clone, Copy)]
 pub struct ImageTimes {
     pub first_bytes: usize,
     pub first_read: u128,
