@@ -136,6 +136,14 @@ fn makes_and_undoes(rt: HostRuntime) -> Result<(), Fail> {
     Ok(())
 }
 
+// The contract lets a step be refused for want of memory at any time: where there is memory, each is made.
+#[test]
+fn step_always_out_of_memory(rt: HostRuntime) -> Result<(), Fail> {
+    let lab = passed(&rt, rt.alloc())?;
+    assert_eq!(rt; (lab.counts().kept, lab.counts().made), (12, 12));
+    Ok(())
+}
+
 #[test]
 fn tells_histories(rt: HostRuntime) -> Result<(), Fail> {
     let n000 = NodeId::new(0);
