@@ -22,4 +22,5 @@ pub mod PrintedLines
 pub mod PrintedFields
 pub mod PrintedStates
 pub mod PrintedBack
+pub mod PrintedSound
 pub mod ReadSteady

@@ -1,6 +1,6 @@
 -- Texts that grow piece by piece.
 use Rattle.std.specs.Prelude.{◌==◌, codes}
-use Rattle.std.specs.List.{AllByRecursion, list_all}
+use Rattle.std.specs.List.{list_all}
 use Rattle.std.proofs.Common.{◌≡◌, ◌≢◌, ℕ, zero, suc, ◌+◌, ◌*◌, ◌^◌, ◌<◌, ◌≤◌, true, false, List, [], ◌∷◌, ◌++◌, length, map, flat_map, take, drop, get_or, refl, sym, ◌∙◌, ap, arith, append_assoc, below_more, length-append}
 use Rattle.std.proofs.lemmas.List.{take_more, map-append, append-nil, get_or_append_left, get_or_push, ext_get_or, drop_more, drop_all, take_at}
 use Rattle.std.proofs.lemmas.List.Concat.{flat_map-append}
@@ -8,7 +8,7 @@ use Rattle.ga_word.specs.Word.{hex6_of}
 use Rattle.ga_image.specs.declared.field.Field.{Field}
 use Rattle.ga_node.specs.Record.{NodeRecord}
 use Rattle.ga_grid.specs.Grid.{yxx_of}
-use Rattle.ga_image.specs.Spelling.{Form, Node, End, words_text, decimal3_of}
+use Rattle.ga_image.specs.Spelling.{Node, End, words_text, decimal3_of}
 use Rattle.ga_image.specs.Grammar.{Block, field_line_form, block_forms}
 use Rattle.ga_image.specs.Printing.{AreWords, text_of, line_text, field_text, fields_text, blocks_text, line_unless, word_unless, row_cells, lines_at, block_unless, blocks_from, printed}
 

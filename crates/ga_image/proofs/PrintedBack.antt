@@ -1,11 +1,11 @@
 -- What is printed is an image of a chip with the same records.
-use Rattle.std.specs.Prelude.{nat_lt, nat_eq, ◌==◌, ◌&&◌, ◌||◌, not}
+use Rattle.std.specs.Prelude.{nat_lt, nat_eq, ◌==◌}
 use Rattle.std.specs.Int.{from_bool}
 use Rattle.std.specs.List.{AllByRecursion, IsDistinct, list_all}
-use Rattle.std.proofs.Common.{◌≡◌, ◌≢◌, ℕ, zero, suc, ◌+◌, ◌*◌, ◌/◌, ◌%◌, ◌<◌, ◌≤◌, Bool, true, false, cond, List, [], ◌∷◌, ◌++◌, length, map, flat_map, take, set, get_or, refl, sym, ◌∙◌, ap, subst, arith, append_assoc, add-one}
+use Rattle.std.proofs.Common.{◌≡◌, ℕ, suc, ◌+◌, ◌/◌, ◌<◌, ◌≤◌, Bool, true, false, cond, List, [], ◌∷◌, ◌++◌, length, map, flat_map, take, set, refl, sym, ◌∙◌, ap, subst, arith, append_assoc}
 use Rattle.std.proofs.lemmas.Bool.Decides.{nat_tests}
 use Rattle.std.proofs.lemmas.Bool.{ne_eqb}
-use Rattle.std.proofs.lemmas.List.{append-nil, take_all, take_more_set, length-map, length-set, set-set, set-get_or}
+use Rattle.std.proofs.lemmas.List.{append-nil, take_all, take_more_set, length-map, set-set, set-get_or}
 use Rattle.std.proofs.lemmas.List.Concat.{flat_map-append}
 use Rattle.std.proofs.lemmas.Map.Keys.{IsDistinct-cons}
 use Rattle.ga_ports.specs.declared.side.Side.TheVariants.{Right, Down, Left, Up}
@@ -24,15 +24,15 @@ use Rattle.ga_image.specs.declared.field.Field.{Field}
 use Rattle.ga_image.specs.declared.field.Field.TheVariants.{A, B, P, I, Io, Carry, Slot, Wait, Stop, Data, Return, Ram, Rom}
 use Rattle.ga_image.specs.declared.field.Format.TheVariants.{Two}
 use Rattle.ga_image.specs.Fields.{writes, number_of}
-use Rattle.ga_image.specs.Held.{runs, with_held, held_after, is_unsteady}
+use Rattle.ga_image.specs.Held.{runs, held_after, is_unsteady}
 use Rattle.ga_image.specs.Lines.{lines_of}
-use Rattle.ga_image.specs.Spelling.{Form, Node, Words, End}
+use Rattle.ga_image.specs.Spelling.{Node, End}
 use Rattle.ga_image.specs.Grammar.{header, Block, field_line_form, block_forms, all_writes, IsFieldLine, IsBlock, with_field, with_word, written, loaded, IsImage}
-use Rattle.ga_image.specs.Printing.{line_text, text_of, line_unless, word_unless, row_at, memory_lines, register_lines, state_lines, lines_beside, lines_at, block_unless, blocks_from, forms_of, printed}
+use Rattle.ga_image.specs.Printing.{line_text, line_unless, word_unless, row_at, memory_lines, register_lines, state_lines, lines_beside, lines_at, block_unless, blocks_from, forms_of, printed}
 use Rattle.ga_image.specs.ReadBack.{HasSides, IsSound, AreSound, Describes}
 use Rattle.ga_grid.specs.Steady.{AreSteady}
 use Rattle.ga_image.proofs.Found.{held-append}
-use Rattle.ga_image.proofs.PrintedLines.{IsPrintable, IsLine, forms_printed, no_feed_lines, no_feed_header, lines_again}
+use Rattle.ga_image.proofs.PrintedLines.{IsPrintable, forms_printed, no_feed_lines, no_feed_header, lines_again}
 use Rattle.ga_image.proofs.PrintedFields.{IsGood, all_append, lines_good, lines_apart}
 use Rattle.ga_image.proofs.PrintedStates.{given, writes_append, made_of, node_given, record_made, same_word}
 
@@ -151,7 +151,7 @@ block_good n node small is = either (lines_beside (fresh_record (load_p_of n)) n
           node = small;
           field_lines = subst (AllByRecursion IsFieldLine) same (good_lines _ (lines_good p node is.0));
           apart = subst (λ (ls : List (Field × List ℕ)). IsDistinct nat_eq (map (λ w. number_of w.0) (all_writes ls))) same (lines_apart p node is.0);
-          steady = ap (λ (ls : List (Field × List ℕ)). is_unsteady (held_after runs (all_writes ls))) (sym same) ∙ ap is_unsteady (lines_hold p node) ∙ steady_held node.wait node.slot node.stop is.0.wait is.1;
+          steady = ap (λ (ls : List (Field × List ℕ)). is_unsteady (held_after runs (all_writes ls))) (sym same) ∙ ap is_unsteady (lines_hold p node) ∙ steady_held node.wait node.slot node.stop is.0.state.wait is.1;
         },
         tt,
       )

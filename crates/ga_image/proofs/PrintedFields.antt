@@ -1,13 +1,12 @@
 -- The field lines that are printed of a node: they can be printed and read, and none gives a field twice.
-use Rattle.std.specs.Prelude.{nat_eq, nat_lt, ◌==◌, ◌-◌, ◌&&◌}
+use Rattle.std.specs.Prelude.{nat_eq, nat_lt, ◌==◌, ◌-◌}
 use Rattle.std.specs.Int.{from_bool}
 use Rattle.std.specs.List.{AllByRecursion, IsDistinct, list_all}
-use Rattle.std.proofs.Common.{◌≡◌, ◌≢◌, ℕ, zero, suc, ◌+◌, ◌*◌, ◌^◌, ◌<◌, ◌≤◌, ◌⊎◌, inl, inr, Bool, true, false, cond, List, [], ◌∷◌, ◌++◌, length, map, flat_map, take, drop, refl, sym, ◌∙◌, ap, subst, arith, eq-eqb, length-drop}
+use Rattle.std.proofs.Common.{◌≡◌, ◌≢◌, ℕ, zero, suc, ◌+◌, ◌<◌, ◌≤◌, inl, inr, Bool, true, false, cond, List, [], ◌∷◌, ◌++◌, length, map, take, drop, refl, sym, ◌∙◌, ap, subst, arith, eq-eqb, length-drop}
 use Rattle.std.proofs.lemmas.Bool.Decides.{nat_tests}
 use Rattle.std.proofs.lemmas.Bool.{ne_eqb, false≢true}
 use Rattle.std.proofs.lemmas.List.{length-take-le, map-append, append-nil}
 use Rattle.std.proofs.lemmas.List.Concat.{flat_map-append}
-use Rattle.std.proofs.lemmas.Map.Keys.{IsDistinct-cons}
 use Rattle.ga_stacks.specs.Ring.{fresh_word}
 use Rattle.ga_ports.specs.declared.side.Side.TheVariants.{Right, Down, Left, Up}
 use Rattle.ga_node.specs.declared.wait.Wait.TheVariants.{Nothing, Fetch, Read, Write}
@@ -18,7 +17,7 @@ use Rattle.ga_image.specs.declared.field.Field.{Field}
 use Rattle.ga_image.specs.declared.field.Field.TheVariants.{A, B, P, I, Io, Carry, Slot, Wait, Stop, Data, Return, Ram, Rom}
 use Rattle.ga_image.specs.Fields.{writes, number_of}
 use Rattle.ga_image.specs.Grammar.{all_writes, IsFieldLine}
-use Rattle.ga_image.specs.Printing.{AreWords, line_unless, word_unless, row_at, memory_lines, register_lines, state_lines, lines_beside}
+use Rattle.ga_image.specs.Printing.{AreWords, line_unless, row_at, memory_lines, register_lines, state_lines, lines_beside}
 use Rattle.ga_image.specs.ReadBack.{IsSound, HasSides}
 use Rattle.ga_image.proofs.PrintedLines.{IsLine, AreSix}
 
@@ -129,20 +128,20 @@ rows_each Q field memory holds =
 
 registers_good : (fresh node : NodeRecord) → IsSound node → Each IsGood (register_lines fresh node)
 registers_good fresh node is =
-    each_append IsGood (each_unless IsGood fresh.a A (node.a ∷ []) (λ _. let h = is.a in ((refl, (omega arith, tt)), (tt, (omega arith, tt)))))
-    (each_append IsGood (each_unless IsGood fresh.b B (node.b ∷ []) (λ _. let h = is.b in ((refl, (omega arith, tt)), (tt, (omega arith, tt)))))
-    (each_append IsGood (each_unless IsGood fresh.p P (node.p ∷ []) (λ _. let h = is.p in ((refl, (omega arith, tt)), (tt, (omega arith, tt)))))
-    (each_append IsGood (each_unless IsGood fresh.i I (node.i ∷ []) (λ _. let h = is.i in ((refl, (omega arith, tt)), (tt, (omega arith, tt)))))
-    (each_unless IsGood fresh.io Io (node.io ∷ []) (λ _. let h = is.io in ((refl, (omega arith, tt)), (tt, (omega arith, tt))))))))
+    each_append IsGood (each_unless IsGood fresh.a A (node.a ∷ []) (λ _. let h = is.registers.a in ((refl, (omega arith, tt)), (tt, (omega arith, tt)))))
+    (each_append IsGood (each_unless IsGood fresh.b B (node.b ∷ []) (λ _. let h = is.registers.b in ((refl, (omega arith, tt)), (tt, (omega arith, tt)))))
+    (each_append IsGood (each_unless IsGood fresh.p P (node.p ∷ []) (λ _. let h = is.registers.p in ((refl, (omega arith, tt)), (tt, (omega arith, tt)))))
+    (each_append IsGood (each_unless IsGood fresh.i I (node.i ∷ []) (λ _. let h = is.registers.i in ((refl, (omega arith, tt)), (tt, (omega arith, tt)))))
+    (each_unless IsGood fresh.io Io (node.io ∷ []) (λ _. let h = is.registers.io in ((refl, (omega arith, tt)), (tt, (omega arith, tt))))))))
 
 state_good : (p : ℕ) (node : NodeRecord) → IsSound node → Each IsGood (state_lines (fresh_record p) node)
 state_good p node is =
     each_append IsGood (each_unless IsGood 0 Carry (from_bool node.carry ∷ []) (λ _. ((from_bool node.carry, refl, carry_fits node.carry), (tt, (carry_fits node.carry, tt)))))
-    (each_append IsGood (each_unless IsGood 4 Slot (node.slot ∷ []) (λ _. ((node.slot, refl, is.slot), (tt, (is.slot, tt)))))
-    (each_append IsGood (each_unless IsGood fresh_word (Data 0) node.d (λ _. let size = is.d_size in (((refl, is.d_size), small_six node.d is.d), (omega arith, small_greatest node.d is.d))))
-    (each_append IsGood (each_unless IsGood fresh_word (Return 0) node.r (λ _. let size = is.r_size in (((refl, is.r_size), small_six node.r is.r), (omega arith, small_greatest node.r is.r))))
-    (each_append IsGood (each_unless IsGood 0 Wait (wait_code node.wait ∷ []) (λ some. ((wait_code node.wait, refl, (wait_fits node.wait is.wait, other_word 0 (wait_code node.wait) some)), (tt, (wait_most node.wait is.wait, tt)))))
-    (each_unless IsGood 0 Stop (node.stop ∷ []) (λ some. let other = other_word 0 node.stop some in let h = is.stop in ((node.stop, refl, (omega arith, is.stop)), (tt, (is.stop, tt)))))))))
+    (each_append IsGood (each_unless IsGood 4 Slot (node.slot ∷ []) (λ _. ((node.slot, refl, is.state.slot), (tt, (is.state.slot, tt)))))
+    (each_append IsGood (each_unless IsGood fresh_word (Data 0) node.d (λ _. let size = is.state.d.1 in (((refl, is.state.d.1), small_six node.d is.state.d.0), (omega arith, small_greatest node.d is.state.d.0))))
+    (each_append IsGood (each_unless IsGood fresh_word (Return 0) node.r (λ _. let size = is.state.r.1 in (((refl, is.state.r.1), small_six node.r is.state.r.0), (omega arith, small_greatest node.r is.state.r.0))))
+    (each_append IsGood (each_unless IsGood 0 Wait (wait_code node.wait ∷ []) (λ some. ((wait_code node.wait, refl, (wait_fits node.wait is.state.wait, other_word 0 (wait_code node.wait) some)), (tt, (wait_most node.wait is.state.wait, tt)))))
+    (each_unless IsGood 0 Stop (node.stop ∷ []) (λ some. let other = other_word 0 node.stop some in let h = is.state.stop in ((node.stop, refl, (omega arith, is.state.stop)), (tt, (is.state.stop, tt)))))))))
 
 -- each line of a node can be printed and read
 pub lines_good : (p : ℕ) (node : NodeRecord) → IsSound node → AllByRecursion IsGood (lines_beside (fresh_record p) node)
@@ -150,8 +149,8 @@ lines_good p node is =
     let good =
     each_append IsGood (registers_good (fresh_record p) node is)
     (each_append IsGood (state_good p node is)
-    (each_append IsGood (rows_each IsGood Ram node.ram (λ cell low. ram_good node.ram cell is.ram is.ram_size low))
-    (rows_each IsGood Rom node.rom (λ cell low. rom_good node.rom cell is.rom is.rom_size low)))) in
+    (each_append IsGood (rows_each IsGood Ram node.ram (λ cell low. ram_good node.ram cell is.ram.0 is.ram.1 low))
+    (rows_each IsGood Rom node.rom (λ cell low. rom_good node.rom cell is.rom.0 is.rom.1 low)))) in
     good.all
 
 -- ---- no field is given twice
@@ -276,8 +275,8 @@ state_climbs : (p : ℕ) (node : NodeRecord) → IsSound node → DoClimb 5 (sta
 state_climbs p node is =
     lines_climb (unless_climbs 5 0 Carry (from_bool node.carry ∷ []) 6 (omega arith) (omega arith, omega arith))
     (lines_climb (unless_climbs 6 4 Slot (node.slot ∷ []) 7 (omega arith) (omega arith, omega arith))
-    (lines_climb (unless_climbs 7 fresh_word (Data 0) node.d 17 (omega arith) (data_climbs 0 node.d (let size = is.d_size in omega arith)))
-    (lines_climb (unless_climbs 17 fresh_word (Return 0) node.r 26 (omega arith) (return_climbs 0 node.r (let size = is.r_size in omega arith)))
+    (lines_climb (unless_climbs 7 fresh_word (Data 0) node.d 17 (omega arith) (data_climbs 0 node.d (let size = is.state.d.1 in omega arith)))
+    (lines_climb (unless_climbs 17 fresh_word (Return 0) node.r 26 (omega arith) (return_climbs 0 node.r (let size = is.state.r.1 in omega arith)))
     (lines_climb (unless_climbs 26 0 Wait (wait_code node.wait ∷ []) 27 (omega arith) (omega arith, omega arith))
     (unless_climbs 27 0 Stop (node.stop ∷ []) 28 (omega arith) (omega arith, omega arith))))))
 
@@ -287,6 +286,6 @@ lines_apart p node is =
     let climbing : DoClimb 0 (lines_beside (fresh_record p) node) 156 =
     lines_climb (registers_climb (fresh_record p) node)
     (lines_climb (state_climbs p node is)
-    (lines_climb (rows_climb 28 Ram node.ram (λ cell low. ram_climbs cell (row_at node.ram cell) (cell + 8) (let size = row_size node.ram cell is.ram_size low in omega arith)))
-    (rows_climb 92 Rom node.rom (λ cell low. rom_climbs cell (row_at node.rom cell) (cell + 8) (let size = row_size node.rom cell is.rom_size low in omega arith))))) in
+    (lines_climb (rows_climb 28 Ram node.ram (λ cell low. ram_climbs cell (row_at node.ram cell) (cell + 8) (let size = row_size node.ram cell is.ram.1 low in omega arith)))
+    (rows_climb 92 Rom node.rom (λ cell low. rom_climbs cell (row_at node.rom cell) (cell + 8) (let size = row_size node.rom cell is.rom.1 low in omega arith))))) in
     climbs_apart 0 (numbers_in (lines_beside (fresh_record p) node)) 156 climbing.climb

@@ -3,17 +3,17 @@ use Rattle.std.specs.Prelude.{nat_lt, slice_index, codes, ◌==◌, ◌-◌, not
 use Rattle.std.specs.List.{AllByRecursion, list_all}
 use Rattle.std.specs.Char.{to_ascii_lowercase}
 use Rattle.std.specs.Str.{str_to_ascii_lowercase}
-use Rattle.std.proofs.Common.{◌≡◌, ◌≢◌, ℕ, ◌+◌, ◌/◌, ◌%◌, ◌^◌, ◌<◌, ◌≤◌, Bool, true, false, cond, ◌&&◌, List, [], ◌∷◌, ◌++◌, length, map, flat_map, Option, Some, None, refl, sym, ◌∙◌, ap, arith, append_assoc, lit<}
+use Rattle.std.proofs.Common.{◌≡◌, ◌≢◌, ℕ, ◌+◌, ◌/◌, ◌%◌, ◌^◌, ◌<◌, Bool, true, false, cond, ◌&&◌, List, [], ◌∷◌, ◌++◌, length, map, Some, None, refl, sym, ◌∙◌, ap, arith, append_assoc, lit<}
 use Rattle.std.proofs.Math.Nat.{mod-lt}
-use Rattle.std.proofs.lemmas.Bool.{ne_eqb, eqb-false}
+use Rattle.std.proofs.lemmas.Bool.{eqb-false}
 use Rattle.hex.specs.Hex.{hex_digit_value, lower_digits}
 use Rattle.hex.proofs.HexLemmas.{IsDigits-lower_digits}
-use Rattle.ga_word.specs.Word.{hex_digit, hex6_of}
+use Rattle.ga_word.specs.Word.{hex_digit}
 use Rattle.ga_image.specs.declared.field.Field.{Field}
 use Rattle.ga_image.specs.declared.field.Field.TheVariants.{A, B, P, I, Io, Carry, Slot, Wait, Stop, Data, Return, Ram, Rom}
 use Rattle.ga_image.specs.declared.field.Format.TheVariants.{Two}
 use Rattle.ga_image.specs.Lines.{lines_of, with_byte}
-use Rattle.ga_image.specs.Spelling.{Form, Node, Words, End, decimal3_of, hex2_of, words_text, letter, set_text, wait_text, name_of, numbers_of, code_text, HasCount, SpellsWords, IsCode, SpellsCode, SpellsField, Spells, SpellsIn}
+use Rattle.ga_image.specs.Spelling.{Form, Node, Words, End, decimal3_of, hex2_of, words_text, letter, set_text, wait_text, name_of, numbers_of, code_text, HasCount, SpellsWords, IsCode, SpellsCode, SpellsField, SpellsIn}
 use Rattle.ga_image.specs.Grammar.{Spell, header}
 use Rattle.ga_image.specs.Printing.{field_text, line_text, text_of}
 use Rattle.ga_image.proofs.Numbers.{digit_spelled}

@@ -1,10 +1,10 @@
 -- What the lines that are printed of a node make of the node at load.
-use Rattle.std.specs.Prelude.{nat_lt, ◌==◌, ◌-◌, ◌&&◌, ◌||◌, not}
+use Rattle.std.specs.Prelude.{nat_lt, ◌==◌, ◌-◌, ◌&&◌}
 use Rattle.std.specs.Int.{from_bool}
 use Rattle.std.specs.List.{list_all}
-use Rattle.std.proofs.Common.{◌≡◌, ◌≢◌, ℕ, zero, suc, ◌+◌, ◌*◌, ◌^◌, ◌<◌, ◌≤◌, Bool, true, false, cond, List, [], ◌∷◌, ◌++◌, length, flat_map, take, drop, set, replicate, refl, sym, ◌∙◌, ap, subst, arith, append_assoc, length-append, length-drop}
+use Rattle.std.proofs.Common.{◌≡◌, ◌≢◌, ℕ, ◌+◌, Bool, true, false, cond, List, [], ◌∷◌, ◌++◌, length, take, drop, set, replicate, refl, sym, ◌∙◌, ap, arith, append_assoc, length-append, length-drop}
 use Rattle.std.proofs.lemmas.Bool.Decides.{nat_tests}
-use Rattle.std.proofs.lemmas.Bool.{ne_eqb, eqb-true}
+use Rattle.std.proofs.lemmas.Bool.{eqb-true}
 use Rattle.std.proofs.lemmas.List.{append-nil, set_at, take-append-drop, take-take, drop-take, take_all, length-take-le, length-replicate, replicate-append-replicate}
 use Rattle.std.proofs.lemmas.List.Concat.{flat_map-append}
 use Rattle.ga_stacks.specs.Ring.{Ring, fresh_ring, fresh_word, listed}
@@ -15,11 +15,9 @@ use Rattle.ga_node.specs.Waits.{wait_code, wait_of}
 use Rattle.ga_node.specs.State.{NodeState, fresh_node}
 use Rattle.ga_node.specs.Record.{NodeRecord, record_of, fresh_record}
 use Rattle.ga_node.specs.Steady.{FitsWait, IsSteady}
-use Rattle.ga_image.specs.declared.held.Held.{Held}
 use Rattle.ga_image.specs.declared.field.Field.{Field}
 use Rattle.ga_image.specs.declared.field.Field.TheVariants.{A, B, P, I, Io, Carry, Slot, Wait, Stop, Data, Return, Ram, Rom}
 use Rattle.ga_image.specs.Fields.{writes}
-use Rattle.ga_image.specs.Held.{runs, with_held, held_after, is_unsteady}
 use Rattle.ga_image.specs.Grammar.{all_writes, with_field}
 use Rattle.ga_image.specs.Printing.{line_unless, word_unless, row_at, memory_lines, register_lines, state_lines, lines_beside}
 use Rattle.ga_image.specs.ReadBack.{IsSound, HasSides}
@@ -240,13 +238,13 @@ state_given p a b q i io ram rom node is steady =
     (ap (λ (c : Bool). at (fresh_ring 2) (fresh_ring 1) c 4 Nothing 0) (carry_back node.carry)) in
     let slot : Gives s1 (word_unless 4 Slot node.slot) s2 = word_given (λ n. at (fresh_ring 2) (fresh_ring 1) node.carry n Nothing 0) 4 Slot node.slot refl in
     let fresh_d : list_all (λ word. word == fresh_word) node.d ≡ true → s2 ≡ s3 = λ same.
-    ap (λ words. at (ring_of 2 words) (fresh_ring 1) node.carry node.slot Nothing 0) (ap (λ (n : ℕ). replicate n fresh_word) (sym is.d_size) ∙ sym (same_words node.d fresh_word same)) in
+    ap (λ words. at (ring_of 2 words) (fresh_ring 1) node.carry node.slot Nothing 0) (ap (λ (n : ℕ). replicate n fresh_word) (sym is.state.d.1) ∙ sym (same_words node.d fresh_word same)) in
     let fresh_r : list_all (λ word. word == fresh_word) node.r ≡ true → s3 ≡ s4 = λ same.
-    ap (λ words. at d (ring_of 1 words) node.carry node.slot Nothing 0) (ap (λ (n : ℕ). replicate n fresh_word) (sym is.r_size) ∙ sym (same_words node.r fresh_word same)) in
-    let data_words = unless_given s2 s3 fresh_word (Data 0) node.d fresh_d (λ _. data_given (fresh_ring 1) ram rom a b q i io node.carry node.slot Nothing 0 node.d is.d_size) in
-    let return_words = unless_given s3 s4 fresh_word (Return 0) node.r fresh_r (λ _. return_given d ram rom a b q i io node.carry node.slot Nothing 0 node.r is.r_size) in
+    ap (λ words. at d (ring_of 1 words) node.carry node.slot Nothing 0) (ap (λ (n : ℕ). replicate n fresh_word) (sym is.state.r.1) ∙ sym (same_words node.r fresh_word same)) in
+    let data_words = unless_given s2 s3 fresh_word (Data 0) node.d fresh_d (λ _. data_given (fresh_ring 1) ram rom a b q i io node.carry node.slot Nothing 0 node.d is.state.d.1) in
+    let return_words = unless_given s3 s4 fresh_word (Return 0) node.r fresh_r (λ _. return_given d ram rom a b q i io node.carry node.slot Nothing 0 node.r is.state.r.1) in
     let wait : Gives s4 (word_unless 0 Wait (wait_code node.wait)) s5 = then_same (word_given (λ n. at d r node.carry node.slot (wait_of n) 0) 0 Wait (wait_code node.wait) refl)
-    (ap (λ (w : NodeWait). at d r node.carry node.slot w 0) (wait_back node.wait is.wait)) in
+    (ap (λ (w : NodeWait). at d r node.carry node.slot w 0) (wait_back node.wait is.state.wait)) in
     let none : list_all (λ word. word == 0) (node.stop ∷ []) ≡ true → s5 ≡ s6 = λ same. ap (λ (n : ℕ). at d r node.carry node.slot node.wait n) (sym (same_word node.stop 0 same)) in
     let some : list_all (λ word. word == 0) (node.stop ∷ []) ≡ false → given s5 ((Stop, node.stop) ∷ []) ≡ s6 = λ other.
     ap (λ (w : NodeWait). at d r node.carry node.slot w node.stop) (sym (stopped node.wait node.slot node.stop steady (other_word 0 node.stop other))) in
@@ -267,8 +265,8 @@ node_given p node is steady =
     let all : Gives (fresh_node p) (lines_beside (fresh_record p) node) (made_of node) =
     lines_given (registers_given p node)
     (lines_given (state_given p node.a node.b node.p node.i node.io zeros zeros node is steady)
-    (lines_given (memory_given (λ ram. at ram zeros) Ram rams node.ram is.ram_size)
-    (memory_given (λ rom. at node.ram rom) Rom roms node.rom is.rom_size))) in
+    (lines_given (memory_given (λ ram. at ram zeros) Ram rams node.ram is.ram.1)
+    (memory_given (λ rom. at node.ram rom) Rom roms node.rom is.rom.1))) in
     all.gives
 
 -- and has its record

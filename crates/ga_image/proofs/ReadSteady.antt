@@ -1,7 +1,7 @@
 -- What an image describes is steady.
 use Rattle.std.specs.Prelude.{nat_lt, nat_eq, ◌==◌, ◌-◌, ◌&&◌, ◌||◌, not}
 use Rattle.std.specs.List.{AllByRecursion, IsDistinct}
-use Rattle.std.proofs.Common.{◌≡◌, ◌≢◌, ℕ, ◌+◌, ◌<◌, ◌≤◌, ◌⊎◌, inl, inr, Bool, true, false, cond, List, [], ◌∷◌, length, map, refl, sym, ◌∙◌, ap, subst, arith}
+use Rattle.std.proofs.Common.{◌≡◌, ◌≢◌, ℕ, ◌<◌, ◌⊎◌, inl, inr, Bool, true, false, cond, List, [], ◌∷◌, length, map, refl, sym, ◌∙◌, ap, subst, arith}
 use Rattle.std.proofs.lemmas.Bool.{eqb-true, eqb-false}
 use Rattle.std.proofs.lemmas.Bool.Decides.{eqb_tells}
 use Rattle.std.proofs.lemmas.Map.Keys.{IsDistinct-head, IsDistinct-tail}
@@ -14,13 +14,13 @@ use Rattle.ga_node.specs.State.{NodeState, fresh_node, with_value}
 use Rattle.ga_node.specs.Record.{record_of}
 use Rattle.ga_node.specs.Steady.{FitsWait, IsSteady}
 use Rattle.ga_grid.specs.Load.{load_p_of}
-use Rattle.ga_grid.specs.Chip.{node_at, with_node, records_of, record_at, default_chip}
+use Rattle.ga_grid.specs.Chip.{node_at, with_node, records_of, default_chip}
 use Rattle.ga_grid.proofs.Chips.{record_at-records_of, node_at-with_node_same, node_at-with_node_other, length-with_node, node_at-default_chip, length-default_chip}
 use Rattle.ga_image.specs.declared.held.Held.{Held}
 use Rattle.ga_image.specs.declared.field.Field.{Field}
 use Rattle.ga_image.specs.declared.field.Field.TheVariants.{A, B, P, I, Io, Carry, Slot, Wait, Stop, Data, Return, Ram, Rom}
 use Rattle.ga_image.specs.Held.{runs, with_held, with_code, held_after, is_unsteady}
-use Rattle.ga_image.specs.Grammar.{Block, IsBlock, all_writes, with_field, written, loaded, IsImage}
+use Rattle.ga_image.specs.Grammar.{Block, IsBlock, all_writes, with_field, loaded, IsImage}
 use Rattle.ga_grid.specs.Steady.{AreSteady}
 use Rattle.ga_image.proofs.PrintedStates.{given}
 use Rattle.ga_image.proofs.PrintedBack.{written_given}

@@ -16,24 +16,32 @@ HasSides (Fetch sides) = (0 < sides) × (sides < 16)
 HasSides (Read sides) = (0 < sides) × (sides < 16)
 HasSides (Write side) = Unit {0}
 
--- sizes and ranges of all that a node holds
-pub record IsSound (node : NodeRecord) : Type 0 where
-  pub d : AreWords node.d
-  pub d_size : length node.d ≡ 10
-  pub r : AreWords node.r
-  pub r_size : length node.r ≡ 9
-  pub ram : AreWords node.ram
-  pub ram_size : length node.ram ≡ 64
-  pub rom : AreWords node.rom
-  pub rom_size : length node.rom ≡ 64
+-- a stack or a memory that holds so many words
+abbrev pub HoldsWords : ℕ → List ℕ → Type 0
+HoldsWords size words = AreWords words × (length words ≡ size)
+
+-- the ranges of the registers that hold words
+pub record HasSoundRegisters (node : NodeRecord) : Type 0 where
   pub a : node.a < 2 ^ 18
   pub b : node.b < 2 ^ 9
   pub p : node.p < 2 ^ 10
   pub i : node.i < 2 ^ 18
   pub io : node.io < 2 ^ 18
+
+-- the sizes and ranges of the slot, of the stacks, and of the wait and the stop
+pub record HasSoundState (node : NodeRecord) : Type 0 where
   pub slot : node.slot ≤ 4
+  pub d : HoldsWords 10 node.d
+  pub r : HoldsWords 9 node.r
   pub wait : HasSides node.wait
   pub stop : node.stop ≤ 3
+
+-- sizes and ranges of all that a node holds
+pub record IsSound (node : NodeRecord) : Type 0 where
+  pub registers : HasSoundRegisters node
+  pub state : HasSoundState node
+  pub ram : HoldsWords 64 node.ram
+  pub rom : HoldsWords 64 node.rom
 
 -- each of 144 nodes is sound
 pub record AreSound (nodes : List NodeRecord) : Type 0 where

@@ -4,7 +4,10 @@ ghost use Rattle.std.specs.Prelude.{◌≡◌, ◌<◌, ◌≤◌, ◌+◌, ◌+
 ghost use Rattle.ga_node.specs.Record.{record_of, fresh_record};
 ghost use Rattle.ga_grid.specs.Chip.{records_of};
 ghost use Rattle.ga_grid.specs.Load.{load_p_of};
+ghost use Rattle.ga_grid.specs.Steady.{AreSteady};
 ghost use Rattle.ga_image.specs.Printing.{fields_text, register_lines, state_lines, memory_lines, row_at, lines_beside, blocks_text, block_unless, lines_at, printed, memory_in, AreWords};
+ghost use Rattle.ga_image.specs.ReadBack.{HasSoundRegisters, HasSoundState, HoldsWords, IsSound, AreSound, Describes};
+ghost use Rattle.ga_image.specs.Lines.{lines_of};
 ghost use Rattle.ga_image.specs.Reading.{no_memory};
 ghost use Rattle.ga_image.specs.Forms.{field_in};
 
@@ -51,6 +54,9 @@ pub fn print(alloc: Global, chip: &Chip) -> Result<Vec<u8>, ImageFault>
     // The text is the one that the records determine.
     ensures text { IfOk result (λ text. text.items ≡ printed (records_of chip.now)) }
 
+    // It is an image of a chip with the same records, where in each node the wait, the slot and the stop stand together.
+    ensures back { IfOk result (λ text. AreSteady (records_of chip.now) → Describes (lines_of text.items) (records_of chip.now)) }
+
     // Nothing is refused but memory.
     ensures refused { IfErr result (λ fault. fault ≡ no_memory) }
 {
@@ -64,7 +70,8 @@ pub fn print(alloc: Global, chip: &Chip) -> Result<Vec<u8>, ImageFault>
 }
 
 fn whole_text(alloc: Global, chip: &Chip) -> Result<Vec<u8>, AllocError>
-    ensures { IfOk result (λ text. text.items ≡ printed (records_of chip.now)) }
+    ensures text { IfOk result (λ text. text.items ≡ printed (records_of chip.now)) }
+    ensures sound { OnOk result (AreSound (records_of chip.now)) }
 {
     let mut text = Vec::with_capacity(alloc, ROOM)?;
     text.extend_from_slice(b"ga144 2\n")?;
@@ -78,7 +85,8 @@ fn whole_text(alloc: Global, chip: &Chip) -> Result<Vec<u8>, AllocError>
 
 /// Adds the block of a node, unless all that it holds is as at load.
 fn push_block(text: &mut Vec<u8>, node: NodeId, at: &Node) -> Result<(), AllocError>
-    ensures { OnOk result (text.new.items ≡ text.old.items ++ blocks_text (block_unless node.number (lines_at node.number (record_of at.now)))) }
+    ensures text { OnOk result (text.new.items ≡ text.old.items ++ blocks_text (block_unless node.number (lines_at node.number (record_of at.now)))) }
+    ensures sound { OnOk result (IsSound (record_of at.now)) }
 {
     let before = text.as_slice().len();
     text.extend_from_slice(b"node ")?;
@@ -95,7 +103,8 @@ fn push_block(text: &mut Vec<u8>, node: NodeId, at: &Node) -> Result<(), AllocEr
 
 /// Adds the field lines of a node.
 fn push_fields(text: &mut Vec<u8>, node: NodeId, at: &Node) -> Result<(), AllocError>
-    ensures { OnOk result (text.new.items ≡ text.old.items ++ fields_text (lines_at node.number (record_of at.now))) }
+    ensures text { OnOk result (text.new.items ≡ text.old.items ++ fields_text (lines_at node.number (record_of at.now))) }
+    ensures sound { OnOk result (IsSound (record_of at.now)) }
 {
     push_registers(text, node, at)?;
     push_state(text, at)?;
@@ -105,7 +114,8 @@ fn push_fields(text: &mut Vec<u8>, node: NodeId, at: &Node) -> Result<(), AllocE
 
 /// Adds the lines of the registers that hold words.
 fn push_registers(text: &mut Vec<u8>, node: NodeId, at: &Node) -> Result<(), AllocError>
-    ensures { OnOk result (text.new.items ≡ text.old.items ++ fields_text (register_lines (fresh_record (load_p_of node.number)) (record_of at.now))) }
+    ensures text { OnOk result (text.new.items ≡ text.old.items ++ fields_text (register_lines (fresh_record (load_p_of node.number)) (record_of at.now))) }
+    ensures sound { OnOk result (HasSoundRegisters (record_of at.now)) }
 {
     push_words_unless(text, 0, Field::A, &[at.get(Place::A)])?;
     push_words_unless(text, 0x15d, Field::B, &[at.get(Place::B)])?;
@@ -116,7 +126,8 @@ fn push_registers(text: &mut Vec<u8>, node: NodeId, at: &Node) -> Result<(), All
 
 /// Adds the lines of the carry and the slot, of the stacks, and of the wait and the stop.
 fn push_state(text: &mut Vec<u8>, at: &Node) -> Result<(), AllocError>
-    ensures { OnOk result (text.new.items ≡ text.old.items ++ fields_text (state_lines (fresh_record 0) (record_of at.now))) }
+    ensures text { OnOk result (text.new.items ≡ text.old.items ++ fields_text (state_lines (fresh_record 0) (record_of at.now))) }
+    ensures sound { OnOk result (HasSoundState (record_of at.now)) }
 {
     push_digit_unless(text, 0, Field::Carry, at.get(Place::Carry))?;
     push_digit_unless(text, 4, Field::Slot, at.get(Place::Slot))?;
@@ -127,13 +138,14 @@ fn push_state(text: &mut Vec<u8>, at: &Node) -> Result<(), AllocError>
         Field::Return(0),
         return_words(at).as_slice(),
     )?;
-    push_wait_unless(text, at.get(Place::Wait))?;
+    push_wait_unless(text, at.wait().code())?;
     push_digit_unless(text, 0, Field::Stop, at.get(Place::Stop))
 }
 
 /// Adds the lines of a memory.
 fn push_memory(text: &mut Vec<u8>, at: &Node, bank: Bank) -> Result<(), AllocError>
-    ensures { OnOk result (text.new.items ≡ text.old.items ++ fields_text (memory_lines (field_in bank) (memory_in bank (record_of at.now)))) }
+    ensures text { OnOk result (text.new.items ≡ text.old.items ++ fields_text (memory_lines (field_in bank) (memory_in bank (record_of at.now)))) }
+    ensures sound { OnOk result (HoldsWords 64 (memory_in bank (record_of at.now))) }
 {
     'rows: for number in 0..ROWS {
         let cell = ROW_WORDS * number;
@@ -159,6 +171,7 @@ fn cell_at(at: &Node, bank: Bank, cell: u8) -> u32
 /// The words of the data stack, the top first.
 fn data_words(at: &Node) -> ArrayVec<u32, 16>
     ensures items { result.items ≡ (record_of at.now).d }
+    ensures size { length result.items ≡ 10 }
     ensures words { AreWords result.items }
 {
     let mut words = ArrayVec::new();
@@ -171,6 +184,7 @@ fn data_words(at: &Node) -> ArrayVec<u32, 16>
 /// The words of the return stack, the top first.
 fn return_words(at: &Node) -> ArrayVec<u32, 16>
     ensures items { result.items ≡ (record_of at.now).r }
+    ensures size { length result.items ≡ 9 }
     ensures words { AreWords result.items }
 {
     let mut words = ArrayVec::new();
@@ -184,6 +198,7 @@ fn return_words(at: &Node) -> ArrayVec<u32, 16>
 fn row(at: &Node, bank: Bank, cell: u8) -> ArrayVec<u32, 16>
     requires { cell ≤ 56 }
     ensures items { result.items ≡ row_at (memory_in bank (record_of at.now)) cell }
+    ensures size { length (memory_in bank (record_of at.now)) ≡ 64 }
     ensures words { AreWords result.items }
 {
     let mut words = ArrayVec::new();

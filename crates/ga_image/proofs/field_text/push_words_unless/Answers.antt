@@ -1,4 +1,4 @@
-use Rattle.std.proofs.Common.{◌≡◌, sym, ◌∙◌}
+use Rattle.std.proofs.Common.{sym, ◌∙◌}
 use Rattle.std.proofs.lemmas.Result.{on_ok_weaker}
 use Rattle.ga_image.proofs.Pieces.{none_written, one_written}
 use Rattle.ga_image.proofs.field_text.push_words_unless.Goals as goal

@@ -1,4 +1,4 @@
-use Rattle.std.proofs.Common.{ℕ, ◌≡◌, ◌+◌, ◌<◌, ◌++◌, [], ◌∷◌, length, arith}
+use Rattle.std.proofs.Common.{◌≡◌, ◌++◌, [], ◌∷◌, length, arith}
 use Rattle.ga_node.specs.Record.{record_of}
 use Rattle.ga_image.proofs.Pieces.{filled_more, filled_whole, words_push}
 use Rattle.ga_image.proofs.printing.data_words.Goals as goal

@@ -1,4 +1,4 @@
-use Rattle.std.proofs.Common.{ℕ, ◌≡◌, ◌<◌, length}
+use Rattle.std.proofs.Common.{◌≡◌, ◌<◌, length}
 use Rattle.ga_node.specs.Record.{record_of}
 use Rattle.ga_image.specs.Printing.{AreWords}
 use Rattle.ga_image.proofs.Pieces.{IsFilled}

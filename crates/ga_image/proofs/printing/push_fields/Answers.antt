@@ -7,9 +7,9 @@ use Rattle.ga_image.specs.Printing.{register_lines, state_lines, memory_lines, l
 use Rattle.ga_image.proofs.Pieces.{lines_grown}
 use Rattle.ga_image.proofs.printing.push_fields.Goals as goal
 
-pub returns : goal.returns
+pub returns-clause-text : goal.returns-clause-text
 unfolding lines_at
-returns c =
+returns-clause-text c =
     let node = record_of c.args.at.now in
     let fresh = fresh_record (load_p_of c.args.node.number) in
     let old : List ℕ = c.args.text.now.items in
@@ -21,8 +21,19 @@ returns c =
     let lines_ram = memory_lines Ram node.ram ++ lines_rom in
     on_ok_weaker c.push_memory-2.result
     (λ last.
-    lines_grown old t1 t4 (register_lines fresh node) (state_lines fresh node ++ lines_ram) c.in_ok-push_registers.ensures
-    (lines_grown t1 t2 t4 (state_lines fresh node) lines_ram c.in_ok-push_state.ensures
-    (lines_grown t2 t3 t4 (memory_lines Ram node.ram) lines_rom c.in_ok-push_memory.ensures
+    lines_grown old t1 t4 (register_lines fresh node) (state_lines fresh node ++ lines_ram) c.in_ok-push_registers.ensures.text
+    (lines_grown t1 t2 t4 (state_lines fresh node) lines_ram c.in_ok-push_state.ensures.text
+    (lines_grown t2 t3 t4 (memory_lines Ram node.ram) lines_rom c.in_ok-push_memory.ensures.text
     last)))
-    c.push_memory-2.ensures
+    c.push_memory-2.ensures.text
+
+pub returns-clause-sound : goal.returns-clause-sound
+returns-clause-sound c =
+    on_ok_weaker c.push_memory-2.result
+    (λ rom. record {
+      registers = c.in_ok-push_registers.ensures.sound;
+      state = c.in_ok-push_state.ensures.sound;
+      ram = c.in_ok-push_memory.ensures.sound;
+      rom = rom;
+    })
+    c.push_memory-2.ensures.sound

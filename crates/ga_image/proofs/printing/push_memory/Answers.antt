@@ -1,9 +1,10 @@
-use Rattle.std.proofs.Common.{ℕ, ◌≡◌, ◌*◌, ◌<◌, List, ◌++◌, take, flat_map, get_or, sym, ap, ◌∙◌, arith}
+use Rattle.std.proofs.Common.{ℕ, ◌≡◌, ◌*◌, ◌<◌, List, ◌++◌, take, flat_map, sym, ap, ◌∙◌, subst, arith}
 use Rattle.ga_node.specs.Record.{record_of}
 use Rattle.ga_image.specs.declared.field.Field.{Field}
 use Rattle.ga_image.specs.Forms.{field_in}
-use Rattle.ga_image.specs.Printing.{fields_text, line_unless, row_at, row_cells, memory_in}
+use Rattle.ga_image.specs.Printing.{AreWords, fields_text, line_unless, row_at, row_cells, memory_in}
 use Rattle.ga_image.proofs.Pieces.{lines_grown, rows_more, row_cell}
+use Rattle.ga_image.proofs.PrintedSound.{rows_words, memory_words}
 use Rattle.ga_image.proofs.printing.push_memory.Goals as goal
 
 pub rows-preserved : goal.rows-preserved
@@ -21,6 +22,17 @@ rows-preserved c =
     c.in_ok-push_words_unless.ensures
     ∙ ap (λ field. text ++ fields_text (line_unless 0 field c.as_slice.result.now)) c.field.ensures
     ∙ ap (λ row. text ++ fields_text (line_unless 0 (field_in bank (8 * number)) row)) words in
-    lines_grown old text new (flat_map lines (take number row_cells)) (lines (8 * number)) c.rows.invariant last
+    let more =
+    lines_grown old text new (flat_map lines (take number row_cells)) (lines (8 * number)) c.rows.invariant.text last
     ∙ ap (λ (n : ℕ). old ++ fields_text (flat_map lines (take number row_cells) ++ lines n)) (sym (row_cell number within))
-    ∙ ap (λ found. old ++ fields_text found) (sym (rows_more lines row_cells number within))
+    ∙ ap (λ found. old ++ fields_text found) (sym (rows_more lines row_cells number within)) in
+    record {
+      text = more;
+      words = rows_words memory number c.rows.invariant.words (subst AreWords c.row.ensures.items c.row.ensures.words);
+      size = λ _. c.row.ensures.size;
+    }
+
+pub returns-clause-sound : goal.returns-clause-sound
+returns-clause-sound c =
+    let memory = memory_in c.args.bank (record_of c.args.at.now) in
+    memory_words memory c.rows.number (omega arith) (c.rows.invariant.size (omega arith)) c.rows.invariant.words

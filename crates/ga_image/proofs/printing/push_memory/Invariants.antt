@@ -1,11 +1,14 @@
-use Rattle.std.proofs.Common.{◌≡◌, ◌++◌, take, flat_map}
+use Rattle.std.proofs.Common.{◌≡◌, ◌*◌, ◌<◌, ◌++◌, length, take, flat_map}
 use Rattle.ga_node.specs.Record.{record_of}
 use Rattle.ga_image.specs.Forms.{field_in}
-use Rattle.ga_image.specs.Printing.{fields_text, line_unless, row_at, row_cells, memory_in}
+use Rattle.ga_image.specs.Printing.{AreWords, fields_text, line_unless, row_at, row_cells, memory_in}
 use Rattle.ga_image.proofs.printing.push_memory.Given as goal
 
 abbrev pub invariant-rows : goal.invariant-rows
 invariant-rows l =
-    l.text.items
-    ≡ l.initial.text.items
-    ++ fields_text (flat_map (λ cell. line_unless 0 (field_in l.bank cell) (row_at (memory_in l.bank (record_of l.at)) cell)) (take l.number row_cells))
+    let memory = memory_in l.bank (record_of l.at) in
+    record {
+      text : l.text.items ≡ l.initial.text.items ++ fields_text (flat_map (λ cell. line_unless 0 (field_in l.bank cell) (row_at memory cell)) (take l.number row_cells));
+      words : AreWords (take (8 * l.number) memory);
+      size : 0 < l.number → length memory ≡ 64;
+    }

@@ -1,4 +1,4 @@
-use Rattle.std.proofs.Common.{ℕ, List, ◌++◌, ap, ◌∙◌}
+use Rattle.std.proofs.Common.{ℕ, List, ◌++◌, sym, ap, ◌∙◌}
 use Rattle.std.proofs.lemmas.Result.{on_ok_weaker}
 use Rattle.ga_stacks.specs.Ring.{fresh_word}
 use Rattle.ga_node.specs.Record.{record_of}
@@ -8,9 +8,9 @@ use Rattle.ga_image.specs.Printing.{fields_text, word_unless}
 use Rattle.ga_image.proofs.Pieces.{lines_grown, word_grown}
 use Rattle.ga_image.proofs.printing.push_registers.Goals as goal
 
-pub returns : goal.returns
+pub returns-clause-text : goal.returns-clause-text
 unfolding record_of
-returns c =
+returns-clause-text c =
     let node = c.args.at.now in
     let p = load_p_of c.args.node.number in
     let old : List ℕ = c.args.text.now.items in
@@ -35,4 +35,17 @@ returns c =
     (lines_grown t2 t3 t5 (word_unless p P node.p) lines_i at
     (lines_grown t3 t4 t5 (word_unless 0 I node.i) lines_io i
     (word_grown t4 t5 fresh_word Io c.get-5.result node.io c.get-5.ensures.value last)))))
+    c.push_words_unless-5.ensures
+
+pub returns-clause-sound : goal.returns-clause-sound
+unfolding record_of
+returns-clause-sound c =
+    on_ok_weaker c.push_words_unless-5.result
+    (λ _. record {
+      a = rw (sym c.get.ensures.value) c.get.ensures.in_range;
+      b = rw (sym c.get-2.ensures.value) c.get-2.ensures.in_range;
+      p = rw (sym c.get-3.ensures.value) c.get-3.ensures.in_range;
+      i = rw (sym c.get-4.ensures.value) c.get-4.ensures.in_range;
+      io = rw (sym c.get-5.ensures.value) c.get-5.ensures.in_range;
+    })
     c.push_words_unless-5.ensures

@@ -1,17 +1,19 @@
 use Rattle.std.specs.Int.{from_bool}
-use Rattle.std.proofs.Common.{ℕ, List, ◌++◌, ◌∙◌}
+use Rattle.std.proofs.Common.{ℕ, List, ◌++◌, sym, ◌∙◌, ap, subst}
 use Rattle.std.proofs.lemmas.Result.{on_ok_weaker}
 use Rattle.ga_stacks.specs.Ring.{fresh_word, listed}
 use Rattle.ga_node.specs.Record.{record_of}
 use Rattle.ga_node.specs.Waits.{wait_code}
 use Rattle.ga_image.specs.declared.field.Field.TheVariants.{Carry, Slot, Wait, Stop, Data, Return}
 use Rattle.ga_image.specs.Printing.{line_unless, word_unless}
+use Rattle.ga_image.specs.ReadBack.{HasSides}
 use Rattle.ga_image.proofs.Pieces.{lines_grown, word_grown, words_grown}
+use Rattle.ga_image.proofs.PrintedSound.{sides_of, holds_words}
 use Rattle.ga_image.proofs.printing.push_state.Goals as goal
 
-pub returns : goal.returns
+pub returns-clause-text : goal.returns-clause-text
 unfolding record_of
-returns c =
+returns-clause-text c =
     let node = c.args.at.now in
     let old : List ℕ = c.args.text.now.items in
     let t1 : List ℕ = c.push_digit_unless.new.text.items in
@@ -26,7 +28,7 @@ returns c =
     let slot = word_grown t1 t2 4 Slot c.get-2.result node.slot c.get-2.ensures.value c.in_ok-push_digit_unless-2.ensures in
     let data_words = words_grown t2 t3 fresh_word (Data 0) c.as_slice.result.now d (c.as_slice.ensures.value ∙ c.data_words.ensures.items) c.in_ok-push_words_unless.ensures in
     let return_words = words_grown t3 t4 fresh_word (Return 0) c.as_slice-2.result.now r (c.as_slice-2.ensures.value ∙ c.return_words.ensures.items) c.in_ok-push_words_unless-2.ensures in
-    let wait = word_grown t4 t5 0 Wait c.get-3.result (wait_code node.wait) c.get-3.ensures.value c.in_ok-push_wait_unless.ensures in
+    let wait = word_grown t4 t5 0 Wait c.code.result (wait_code node.wait) (c.code.ensures.value ∙ ap wait_code c.wait.ensures.value) c.in_ok-push_wait_unless.ensures in
     let lines_stop = word_unless 0 Stop node.stop in
     let lines_wait = word_unless 0 Wait (wait_code node.wait) ++ lines_stop in
     let lines_r = line_unless fresh_word (Return 0) r ++ lines_wait in
@@ -39,5 +41,19 @@ returns c =
     (lines_grown t2 t3 t6 (line_unless fresh_word (Data 0) d) lines_r data_words
     (lines_grown t3 t4 t6 (line_unless fresh_word (Return 0) r) lines_wait return_words
     (lines_grown t4 t5 t6 (word_unless 0 Wait (wait_code node.wait)) lines_stop wait
-    (word_grown t5 t6 0 Stop c.get-4.result node.stop c.get-4.ensures.value last))))))
+    (word_grown t5 t6 0 Stop c.get-3.result node.stop c.get-3.ensures.value last))))))
+    c.push_digit_unless-3.ensures
+
+pub returns-clause-sound : goal.returns-clause-sound
+unfolding record_of
+returns-clause-sound c =
+    let node = record_of c.args.at.now in
+    on_ok_weaker c.push_digit_unless-3.result
+    (λ _. record {
+      slot = rw (sym c.get-2.ensures.value) c.get-2.ensures.in_range;
+      d = holds_words 10 c.data_words.result.items node.d c.data_words.ensures.items c.data_words.ensures.words c.data_words.ensures.size;
+      r = holds_words 9 c.return_words.result.items node.r c.return_words.ensures.items c.return_words.ensures.words c.return_words.ensures.size;
+      wait = subst HasSides (c.code.ensures.back ∙ c.wait.ensures.value) (sides_of c.code.result c.code.ensures.valid);
+      stop = rw (sym c.get-3.ensures.value) c.get-3.ensures.in_range;
+    })
     c.push_digit_unless-3.ensures

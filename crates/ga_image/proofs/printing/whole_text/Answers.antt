@@ -1,11 +1,12 @@
-use Rattle.std.specs.Prelude.{codes}
-use Rattle.std.proofs.Common.{ℕ, ◌≡◌, ◌<◌, ◌≤◌, List, ◌++◌, length, sym, ap, ◌∙◌, arith}
+use Rattle.std.proofs.Common.{ℕ, ◌≡◌, ◌<◌, ◌≤◌, List, ◌++◌, length, sym, ap, ◌∙◌, subst, arith}
 use Rattle.std.proofs.lemmas.List.{length-map}
 use Rattle.ga_node.specs.Record.{NodeRecord, record_of}
 use Rattle.ga_grid.specs.Chip.{nowhere, node_at, records_of, record_at}
 use Rattle.ga_grid.proofs.Chips.{record_at-records_of}
 use Rattle.ga_image.specs.Printing.{blocks_text, block_unless, lines_at}
+use Rattle.ga_image.specs.ReadBack.{IsSound}
 use Rattle.ga_image.proofs.Pieces.{next_block, finished}
+use Rattle.ga_image.proofs.PrintedSound.{all_more, all_whole}
 use Rattle.ga_image.proofs.printing.whole_text.Goals as goal
 
 pub loop-number-preserved : goal.loop-number-preserved
@@ -18,16 +19,24 @@ loop-number-preserved c =
     let found : ℕ → NodeRecord → List ℕ = λ number node. text ++ blocks_text (block_unless number (lines_at number node)) in
     let number : c.new-node.result.number ≡ n = c.new-node.ensures in
     let node : record_of c.node.result.now ≡ record_at nodes n = ap record_of (c.node.ensures.value ∙ ap (node_at chip) number) ∙ sym (record_at-records_of chip n) in
-    let piece : new ≡ found n (record_at nodes n) = c.in_ok-push_block.ensures ∙ ap (λ (k : ℕ). found k (record_of c.node.result.now)) number ∙ ap (found n) node in
+    let piece : new ≡ found n (record_at nodes n) = c.in_ok-push_block.ensures.text ∙ ap (λ (k : ℕ). found k (record_of c.node.result.now)) number ∙ ap (found n) node in
     let within : n < length nodes = omega (arith, length-map chip record_of, c.node.ensures.size) in
     record {
       whole = next_block nodes n (record_of nowhere) text new _ within c.loop-number.invariant.whole piece;
       size = λ _. c.node.ensures.size;
+      sound = all_more IsSound nodes n (record_of nowhere) within c.loop-number.invariant.sound (subst IsSound node c.in_ok-push_block.ensures.sound);
     }
 
-pub returns : goal.returns
-returns c =
+pub returns-clause-text : goal.returns-clause-text
+returns-clause-text c =
     let chip = c.args.chip.now in
     let size : length chip ≡ 144 = c.loop-number.invariant.size (omega arith) in
     let past : length (records_of chip) ≤ c.loop-number.number = omega (arith, length-map chip record_of) in
     finished (records_of chip) c.loop-number.number c.loop-number.text.items c.extend_from_slice-2.new.self.items past c.loop-number.invariant.whole c.in_ok-extend_from_slice-2.ensures.items
+
+pub returns-clause-sound : goal.returns-clause-sound
+returns-clause-sound c =
+    let chip = c.args.chip.now in
+    let size : length chip ≡ 144 = c.loop-number.invariant.size (omega arith) in
+    let count : length (records_of chip) ≡ 144 = length-map chip record_of ∙ size in
+    record { size = count; each = all_whole IsSound (records_of chip) c.loop-number.number (omega arith) c.loop-number.invariant.sound }
