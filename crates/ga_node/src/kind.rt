@@ -11,7 +11,7 @@ pub enum Kind {
     Run(u8),
     /// The node now waits at a port.
     Wait,
-    /// The node is stopped: 1 for a write to several ports, 2 for an address that names nothing, 3 for a read of `io`.
+    /// The node is stopped: 1 for a write to several ports, 2 for an address that names nothing.
     Stop(u8),
 }
 

@@ -1,4 +1,4 @@
-use crate::{Kind, Node, NotReady, Place, Wait};
+use crate::{Beside, Kind, Node, NotReady, Place, Seen, Wait};
 use ga_stacks::{DataStack, ReturnStack};
 use ga_word::Word18;
 use std::test::Fail;
@@ -17,7 +17,7 @@ fn loaded(words: &[u32]) -> Node {
 /// The node's events, until one is refused.
 fn run(node: &mut Node, kinds: &mut [Kind]) -> Option<NotReady> {
     for kind in kinds.iter_mut() {
-        match node.own() {
+        match node.own(Seen::nobody()) {
             Ok((made, _)) => *kind = made,
             Err(reason) => return Some(reason),
         }
@@ -88,9 +88,29 @@ fn stops(rt: HostRuntime) {
     assert_eq!(rt; run(&mut several, &mut kinds), Some(NotReady::Stopped));
     assert_eq!(rt; kinds[6], Kind::Stop(1));
     assert_eq!(rt; several.stop(), 1);
-    let mut input = loaded(&[0x009b2]);
-    assert_eq!(rt; run(&mut input, &mut kinds), Some(NotReady::Stopped));
-    assert_eq!(rt; kinds[1], Kind::Stop(3));
+}
+
+// A read of `io` shows who waits at the node's sides.
+#[test]
+fn looks_at_the_sides(rt: HostRuntime) {
+    let mut node = loaded(&[0x009b2]);
+    assert!(rt; !node.looks());
+    assert!(rt; matches!(node.own(Seen::nobody()), Ok((Kind::Fetch, _))));
+    assert!(rt; node.looks());
+    let seen = Seen {
+        right: Beside::Writing,
+        down: Beside::Reading,
+        left: Beside::Idle,
+        up: Beside::Writing,
+    };
+    assert_eq!(rt; seen.io_word().get(), 0x19755);
+    if let Ok((kind, saved)) = node.own(seen) {
+        assert_eq!(rt; kind, Kind::Run(0x0a));
+        assert_eq!(rt; node.d(0), 0x19755);
+        node.restore(&saved);
+    }
+    assert_eq!(rt; node.d(0), 0x15555);
+    assert_eq!(rt; Seen::nobody().io_word().get(), 0x15555);
 }
 
 #[test]
@@ -145,7 +165,7 @@ fn saves_what_it_overwrites(rt: HostRuntime) -> Result<(), Fail> {
     node.set(Place::T, 5);
     node.set(Place::I, 0x2e9b2);
     node.set(Place::Slot, 0);
-    let (kind, saved) = node.own()?;
+    let (kind, saved) = node.own(Seen::nobody())?;
     assert_eq!(rt; kind, Kind::Run(0x1d));
     let overwritten = [
         (Place::ReturnPointer, 0),

@@ -3,6 +3,7 @@
 use super::Node;
 use crate::kind::Kind;
 use crate::saved::Saved;
+use crate::seen::Seen;
 use crate::wait::{Reader, Wait};
 use ga_ports::{Target, classify};
 use ga_word::Word18;
@@ -44,21 +45,22 @@ impl Node {
     #[inline(always)]
     pub(super) fn read(
         &mut self,
+        seen: Seen,
         saved: &mut Saved,
         address: u32,
         reader: Reader,
     ) -> Result<Word18, Kind>
         requires running { IsRunning (record_of self.old) }
         requires empty { saved.old ≡ [] }
-        ensures word { IfOk result (λ word. found (classified address) reader (record_of self.old) ≡ Ok word) }
+        ensures word { IfOk result (λ word. found (classified address) reader seen (record_of self.old) ≡ Ok word) }
         ensures same { OnOk result (self.new ≡ self.old) }
         ensures unsaved { OnOk result (saved.new ≡ []) }
-        ensures ended { IfErr result (λ kind. IsEnded (found (classified address) reader (record_of self.old)) kind self.old self.new saved.new) }
+        ensures ended { IfErr result (λ kind. IsEnded (found (classified address) reader seen (record_of self.old)) kind self.old self.new saved.new) }
     {
         match classify(address) {
             Target::Ram(k) => Ok(self.ram[k as usize]),
             Target::Rom(k) => Ok(self.rom[k as usize]),
-            Target::Io => Err(self.stop_with(saved, 3)),
+            Target::Io => Ok(seen.io_word()),
             Target::Ports(sides) => {
                 let wait = match reader {
                     Reader::Instruction => Wait::Fetch(sides),

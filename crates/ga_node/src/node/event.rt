@@ -4,10 +4,12 @@ ghost use Rattle.std.specs.Prelude.{◌≡◌};
 ghost use Rattle.ga_node.specs.Table.{kind_of};
 
 use super::Node;
+use crate::due::Due;
 use crate::kind::{Kind, NotReady};
 use crate::saved::Saved;
+use crate::seen::Seen;
 use crate::wait::{Reader, Wait};
-use ga_ports::advance_p;
+use ga_ports::{Target, advance_p, classify};
 use ga_slots::{Op, opcode};
 
 /// The kind of an event, which an access may have made another.
@@ -27,17 +29,17 @@ impl Node {
     ghost use Rattle.ga_node.specs.State.{IsApart};
     ghost use Rattle.ga_node.specs.Record.{record_of};
     ghost use Rattle.ga_node.specs.Saving.{Overwrites, IsDone, IsEnded};
-    ghost use Rattle.ga_node.specs.Table.{own, own_event, effect, fetched, refusal, IsRunning};
+    ghost use Rattle.ga_node.specs.Table.{own, own_event, effect, fetched, looks, looks_by, reads_io, due_of, refusal, IsRunning, CanDo};
 
     /// Carries out an opcode, or answers the kind of the event that its access has become.
     #[inline(always)]
-    pub(super) fn execute(&mut self, saved: &mut Saved, op: Op) -> Result<(), Kind>
+    pub(super) fn execute(&mut self, seen: Seen, saved: &mut Saved, op: Op) -> Result<(), Kind>
         requires running { IsRunning (record_of self.old) }
         requires slot { (record_of self.old).slot < 4 }
         requires last { (record_of self.old).slot ≡ 3 → code_of op % 4 ≡ 0 }
         requires empty { saved.old ≡ [] }
-        ensures done { OnOk result (IsDone (effect op (record_of self.old)) self.old self.new saved.new) }
-        ensures ended { IfErr result (λ kind. IsEnded (effect op (record_of self.old)) kind self.old self.new saved.new) }
+        ensures done { OnOk result (IsDone (effect op seen (record_of self.old)) self.old self.new saved.new) }
+        ensures ended { IfErr result (λ kind. IsEnded (effect op seen (record_of self.old)) kind self.old self.new saved.new) }
     {
         match op {
             Op::Return => self.run_return(saved),
@@ -48,10 +50,10 @@ impl Node {
             Op::Next => self.run_next(saved),
             Op::If => self.run_if(saved),
             Op::MinusIf => self.run_minus_if(saved),
-            Op::FetchP => self.run_fetch_p(saved)?,
-            Op::FetchPlus => self.run_fetch_plus(saved)?,
-            Op::FetchB => self.run_fetch_b(saved)?,
-            Op::Fetch => self.run_fetch(saved)?,
+            Op::FetchP => self.run_fetch_p(seen, saved)?,
+            Op::FetchPlus => self.run_fetch_plus(seen, saved)?,
+            Op::FetchB => self.run_fetch_b(seen, saved)?,
+            Op::Fetch => self.run_fetch(seen, saved)?,
             Op::StoreP => self.run_store_p(saved)?,
             Op::StorePlus => self.run_store_plus(saved)?,
             Op::StoreB => self.run_store_b(saved)?,
@@ -95,59 +97,133 @@ impl Node {
     }
 
     /// Fetches the word at P, or answers the kind of the event that this has become.
-    pub(super) fn fetch(&mut self, saved: &mut Saved) -> Result<(), Kind>
+    pub(super) fn fetch(&mut self, seen: Seen, saved: &mut Saved) -> Result<(), Kind>
         requires running { IsRunning (record_of self.old) }
         requires empty { saved.old ≡ [] }
-        ensures done { OnOk result (IsDone (fetched (record_of self.old)) self.old self.new saved.new) }
-        ensures ended { IfErr result (λ kind. IsEnded (fetched (record_of self.old)) kind self.old self.new saved.new) }
+        ensures done { OnOk result (IsDone (fetched seen (record_of self.old)) self.old self.new saved.new) }
+        ensures ended { IfErr result (λ kind. IsEnded (fetched seen (record_of self.old)) kind self.old self.new saved.new) }
     {
         let p = self.p();
-        let word = self.read(saved, p, Reader::Instruction)?;
+        let word = self.read(seen, saved, p, Reader::Instruction)?;
         self.set_i(saved, word);
         self.set_p(saved, advance_p(p));
         self.start_again(saved);
         Ok(())
     }
 
-    /// Makes the node's next event, as [`Node::own`] does, and puts the values that it overwrote into a list that the
-    /// caller keeps, which is empty before.
-    #[tactic(auto, using(crate::proofs::Saving::apart_from_running))]
-    pub fn own_into(&mut self, saved: &mut Saved) -> Result<Kind, NotReady>
-        requires { saved.old ≡ [] }
-        ensures ready { MatchResult result (λ _. refusal (record_of self.old) ≡ None) (λ reason. refusal (record_of self.old) ≡ Some reason) }
-        ensures event { IfOk result (λ kind. (kind, record_of self.new) ≡ own (record_of self.old)) }
-        ensures saves { OnOk result (Overwrites (own_event (record_of self.old)).1 self.old self.new saved.new) }
-        ensures apart { OnOk result (IsApart self.old) }
-        ensures same { OnErr result (self.new ≡ self.old) }
-        ensures unsaved { OnErr result (saved.new ≡ []) }
+    /// Whether the opcode reads `io`.
+    #[inline(always)]
+    fn reads_io(&self, op: Op) -> bool
+        ensures { result ≡ reads_io op (record_of self.now) }
+    {
+        let address = match op {
+            Op::FetchP => self.p(),
+            Op::FetchPlus => self.a().get(),
+            Op::FetchB => self.b(),
+            Op::Fetch => self.a().get(),
+            _ => return false,
+        };
+        classify(address) == Target::Io
+    }
+
+    /// What the node's next event of its own carries out, for [`Node::looks_by`] and [`Node::do_into`].
+    ///
+    /// # Errors
+    /// `Waiting` or `Stopped`, where the node waits or is stopped.
+    #[inline(always)]
+    pub fn due(&self) -> Result<Due, NotReady>
+        ensures ready { MatchResult result (λ _. refusal (record_of self.now) ≡ None) (λ reason. refusal (record_of self.now) ≡ Some reason) }
+        ensures due { IfOk result (λ due. due ≡ due_of (record_of self.now)) }
+        ensures can { IfOk result (λ due. CanDo due (record_of self.now)) }
     {
         if let Some(reason) = self.not_ready() {
             return Err(reason);
         }
         let slot = self.slot();
         if slot == 4 {
-            let done = self.fetch(saved);
-            return Ok(named(Kind::Fetch, done));
+            return Ok(Due::Fetch);
         }
-        let op = opcode(self.i(), slot);
-        let done = self.execute(saved, op);
-        Ok(named(Kind::Run(op.code()), done))
+        Ok(Due::Run(opcode(self.i(), slot)))
     }
 
-    /// Makes the node's next event: a fetch where one is due, else the opcode in the slot. An access to a port becomes a
-    /// wait, and a bad one a stop, in place of the whole event (DB001, opcodes and ports).
+    /// Whether an event that carries this out is a look ([`Node::looks`]).
+    #[inline(always)]
+    pub fn looks_by(&self, due: Due) -> bool
+        ensures { result ≡ looks_by due (record_of self.now) }
+    {
+        match due {
+            Due::Fetch => classify(self.p()) == Target::Io,
+            Due::Run(op) => self.reads_io(op),
+        }
+    }
+
+    /// Whether the node's next event of its own is a look: it reads `io` or fetches from it (DB001, the `io` register), so
+    /// that it depends on what stands beside the node.
+    #[tactic(auto, unfolding(crate::specs::Table::looks))]
+    pub fn looks(&self) -> bool
+        ensures { result ≡ looks (record_of self.now) }
+    {
+        let slot = self.slot();
+        if slot == 4 {
+            return self.looks_by(Due::Fetch);
+        }
+        self.looks_by(Due::Run(opcode(self.i(), slot)))
+    }
+
+    /// Makes the node's next event, which carries this out, as [`Node::own`] does, and puts the values that it overwrote
+    /// into a list that the caller keeps, which is empty before.
+    #[inline(always)]
+    pub fn do_into(&mut self, due: Due, seen: Seen, saved: &mut Saved) -> Kind
+        requires due { due ≡ due_of (record_of self.old) }
+        requires can { CanDo due (record_of self.old) }
+        requires empty { saved.old ≡ [] }
+        ensures event { (result, record_of self.new) ≡ own seen (record_of self.old) }
+        ensures saves { Overwrites (own_event seen (record_of self.old)).1 self.old self.new saved.new }
+    {
+        match due {
+            Due::Fetch => {
+                let done = self.fetch(seen, saved);
+                named(Kind::Fetch, done)
+            }
+            Due::Run(op) => {
+                let done = self.execute(seen, saved, op);
+                named(Kind::Run(op.code()), done)
+            }
+        }
+    }
+
+    /// Makes the node's next event, as [`Node::own`] does, and puts the values that it overwrote into a list that the
+    /// caller keeps, which is empty before.
+    #[inline(always)]
+    #[tactic(auto, using(crate::proofs::Saving::apart_from_ready))]
+    pub fn own_into(&mut self, seen: Seen, saved: &mut Saved) -> Result<Kind, NotReady>
+        requires { saved.old ≡ [] }
+        ensures ready { MatchResult result (λ _. refusal (record_of self.old) ≡ None) (λ reason. refusal (record_of self.old) ≡ Some reason) }
+        ensures event { IfOk result (λ kind. (kind, record_of self.new) ≡ own seen (record_of self.old)) }
+        ensures saves { OnOk result (Overwrites (own_event seen (record_of self.old)).1 self.old self.new saved.new) }
+        ensures apart { OnOk result (IsApart self.old) }
+        ensures same { OnErr result (self.new ≡ self.old) }
+        ensures unsaved { OnErr result (saved.new ≡ []) }
+    {
+        let due = self.due()?;
+        Ok(self.do_into(due, seen, saved))
+    }
+
+    /// Makes the node's next event, where this stands beside it: a fetch where one is due, else the opcode in the slot. An
+    /// access to a port becomes a wait, and a bad one a stop, in place of the whole event (DB001, opcodes and ports). Only
+    /// a look depends on what stands beside the node ([`Node::looks`]).
     ///
     /// # Errors
     /// `Waiting` or `Stopped`, where the node waits or is stopped.
-    pub fn own(&mut self) -> Result<(Kind, Saved), NotReady>
+    pub fn own(&mut self, seen: Seen) -> Result<(Kind, Saved), NotReady>
         ensures ready { MatchResult result (λ _. refusal (record_of self.old) ≡ None) (λ reason. refusal (record_of self.old) ≡ Some reason) }
-        ensures event { IfOk result (λ event. (event.0, record_of self.new) ≡ own (record_of self.old)) }
-        ensures saves { IfOk result (λ event. Overwrites (own_event (record_of self.old)).1 self.old self.new event.1) }
+        ensures event { IfOk result (λ event. (event.0, record_of self.new) ≡ own seen (record_of self.old)) }
+        ensures saves { IfOk result (λ event. Overwrites (own_event seen (record_of self.old)).1 self.old self.new event.1) }
         ensures apart { OnOk result (IsApart self.old) }
         ensures same { OnErr result (self.new ≡ self.old) }
     {
         let mut saved = Saved::new();
-        let kind = self.own_into(&mut saved)?;
+        let kind = self.own_into(seen, &mut saved)?;
         Ok((kind, saved))
     }
 }

@@ -3,6 +3,7 @@
 use super::Node;
 use crate::kind::Kind;
 use crate::saved::Saved;
+use crate::seen::Seen;
 use crate::wait::Reader;
 use ga_ports::{advance_a, advance_p};
 use ga_slots::Op;
@@ -10,18 +11,19 @@ use ga_slots::Op;
 impl Node {
     ghost use Rattle.std.specs.Prelude.{◌≡◌, [], IfErr, OnOk};
     ghost use Rattle.ga_node.specs.Record.{record_of};
+    ghost use Rattle.ga_node.specs.Io.{nobody};
     ghost use Rattle.ga_node.specs.Saving.{IsDone, IsEnded};
     ghost use Rattle.ga_node.specs.Table.{effect, IsRunning};
 
     /// `@p`, fetch p: the word at P is pushed, and P advances.
-    pub(super) fn run_fetch_p(&mut self, saved: &mut Saved) -> Result<(), Kind>
+    pub(super) fn run_fetch_p(&mut self, seen: Seen, saved: &mut Saved) -> Result<(), Kind>
         requires running { IsRunning (record_of self.old) }
         requires empty { saved.old ≡ [] }
-        ensures done { OnOk result (IsDone (effect Op.FetchP (record_of self.old)) self.old self.new saved.new) }
-        ensures ended { IfErr result (λ kind. IsEnded (effect Op.FetchP (record_of self.old)) kind self.old self.new saved.new) }
+        ensures done { OnOk result (IsDone (effect Op.FetchP seen (record_of self.old)) self.old self.new saved.new) }
+        ensures ended { IfErr result (λ kind. IsEnded (effect Op.FetchP seen (record_of self.old)) kind self.old self.new saved.new) }
     {
         let p = self.p();
-        let word = self.read(saved, p, Reader::Stack)?;
+        let word = self.read(seen, saved, p, Reader::Stack)?;
         self.push_data(saved, word);
         self.set_p(saved, advance_p(p));
         self.go_on(saved);
@@ -29,14 +31,14 @@ impl Node {
     }
 
     /// `@+`, fetch plus: the word at A is pushed, and A advances.
-    pub(super) fn run_fetch_plus(&mut self, saved: &mut Saved) -> Result<(), Kind>
+    pub(super) fn run_fetch_plus(&mut self, seen: Seen, saved: &mut Saved) -> Result<(), Kind>
         requires running { IsRunning (record_of self.old) }
         requires empty { saved.old ≡ [] }
-        ensures done { OnOk result (IsDone (effect Op.FetchPlus (record_of self.old)) self.old self.new saved.new) }
-        ensures ended { IfErr result (λ kind. IsEnded (effect Op.FetchPlus (record_of self.old)) kind self.old self.new saved.new) }
+        ensures done { OnOk result (IsDone (effect Op.FetchPlus seen (record_of self.old)) self.old self.new saved.new) }
+        ensures ended { IfErr result (λ kind. IsEnded (effect Op.FetchPlus seen (record_of self.old)) kind self.old self.new saved.new) }
     {
         let a = self.a();
-        let word = self.read(saved, a.get(), Reader::Stack)?;
+        let word = self.read(seen, saved, a.get(), Reader::Stack)?;
         self.push_data(saved, word);
         self.set_a(saved, advance_a(a));
         self.go_on(saved);
@@ -44,28 +46,28 @@ impl Node {
     }
 
     /// `@b`, fetch b: the word at B is pushed.
-    pub(super) fn run_fetch_b(&mut self, saved: &mut Saved) -> Result<(), Kind>
+    pub(super) fn run_fetch_b(&mut self, seen: Seen, saved: &mut Saved) -> Result<(), Kind>
         requires running { IsRunning (record_of self.old) }
         requires empty { saved.old ≡ [] }
-        ensures done { OnOk result (IsDone (effect Op.FetchB (record_of self.old)) self.old self.new saved.new) }
-        ensures ended { IfErr result (λ kind. IsEnded (effect Op.FetchB (record_of self.old)) kind self.old self.new saved.new) }
+        ensures done { OnOk result (IsDone (effect Op.FetchB seen (record_of self.old)) self.old self.new saved.new) }
+        ensures ended { IfErr result (λ kind. IsEnded (effect Op.FetchB seen (record_of self.old)) kind self.old self.new saved.new) }
     {
         let b = self.b();
-        let word = self.read(saved, b, Reader::Stack)?;
+        let word = self.read(seen, saved, b, Reader::Stack)?;
         self.push_data(saved, word);
         self.go_on(saved);
         Ok(())
     }
 
     /// `@`, fetch: the word at A is pushed.
-    pub(super) fn run_fetch(&mut self, saved: &mut Saved) -> Result<(), Kind>
+    pub(super) fn run_fetch(&mut self, seen: Seen, saved: &mut Saved) -> Result<(), Kind>
         requires running { IsRunning (record_of self.old) }
         requires empty { saved.old ≡ [] }
-        ensures done { OnOk result (IsDone (effect Op.Fetch (record_of self.old)) self.old self.new saved.new) }
-        ensures ended { IfErr result (λ kind. IsEnded (effect Op.Fetch (record_of self.old)) kind self.old self.new saved.new) }
+        ensures done { OnOk result (IsDone (effect Op.Fetch seen (record_of self.old)) self.old self.new saved.new) }
+        ensures ended { IfErr result (λ kind. IsEnded (effect Op.Fetch seen (record_of self.old)) kind self.old self.new saved.new) }
     {
         let a = self.a();
-        let word = self.read(saved, a.get(), Reader::Stack)?;
+        let word = self.read(seen, saved, a.get(), Reader::Stack)?;
         self.push_data(saved, word);
         self.go_on(saved);
         Ok(())
@@ -75,8 +77,8 @@ impl Node {
     pub(super) fn run_store_p(&mut self, saved: &mut Saved) -> Result<(), Kind>
         requires running { IsRunning (record_of self.old) }
         requires empty { saved.old ≡ [] }
-        ensures done { OnOk result (IsDone (effect Op.StoreP (record_of self.old)) self.old self.new saved.new) }
-        ensures ended { IfErr result (λ kind. IsEnded (effect Op.StoreP (record_of self.old)) kind self.old self.new saved.new) }
+        ensures done { OnOk result (IsDone (effect Op.StoreP nobody (record_of self.old)) self.old self.new saved.new) }
+        ensures ended { IfErr result (λ kind. IsEnded (effect Op.StoreP nobody (record_of self.old)) kind self.old self.new saved.new) }
     {
         let p = self.p();
         self.write(saved, p)?;
@@ -90,8 +92,8 @@ impl Node {
     pub(super) fn run_store_plus(&mut self, saved: &mut Saved) -> Result<(), Kind>
         requires running { IsRunning (record_of self.old) }
         requires empty { saved.old ≡ [] }
-        ensures done { OnOk result (IsDone (effect Op.StorePlus (record_of self.old)) self.old self.new saved.new) }
-        ensures ended { IfErr result (λ kind. IsEnded (effect Op.StorePlus (record_of self.old)) kind self.old self.new saved.new) }
+        ensures done { OnOk result (IsDone (effect Op.StorePlus nobody (record_of self.old)) self.old self.new saved.new) }
+        ensures ended { IfErr result (λ kind. IsEnded (effect Op.StorePlus nobody (record_of self.old)) kind self.old self.new saved.new) }
     {
         let a = self.a();
         self.write(saved, a.get())?;
@@ -105,8 +107,8 @@ impl Node {
     pub(super) fn run_store_b(&mut self, saved: &mut Saved) -> Result<(), Kind>
         requires running { IsRunning (record_of self.old) }
         requires empty { saved.old ≡ [] }
-        ensures done { OnOk result (IsDone (effect Op.StoreB (record_of self.old)) self.old self.new saved.new) }
-        ensures ended { IfErr result (λ kind. IsEnded (effect Op.StoreB (record_of self.old)) kind self.old self.new saved.new) }
+        ensures done { OnOk result (IsDone (effect Op.StoreB nobody (record_of self.old)) self.old self.new saved.new) }
+        ensures ended { IfErr result (λ kind. IsEnded (effect Op.StoreB nobody (record_of self.old)) kind self.old self.new saved.new) }
     {
         let b = self.b();
         self.write(saved, b)?;
@@ -119,8 +121,8 @@ impl Node {
     pub(super) fn run_store(&mut self, saved: &mut Saved) -> Result<(), Kind>
         requires running { IsRunning (record_of self.old) }
         requires empty { saved.old ≡ [] }
-        ensures done { OnOk result (IsDone (effect Op.Store (record_of self.old)) self.old self.new saved.new) }
-        ensures ended { IfErr result (λ kind. IsEnded (effect Op.Store (record_of self.old)) kind self.old self.new saved.new) }
+        ensures done { OnOk result (IsDone (effect Op.Store nobody (record_of self.old)) self.old self.new saved.new) }
+        ensures ended { IfErr result (λ kind. IsEnded (effect Op.Store nobody (record_of self.old)) kind self.old self.new saved.new) }
     {
         let a = self.a();
         self.write(saved, a.get())?;

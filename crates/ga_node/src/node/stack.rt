@@ -7,13 +7,14 @@ use ga_slots::Op;
 impl Node {
     ghost use Rattle.std.specs.Prelude.{◌≡◌, []};
     ghost use Rattle.ga_node.specs.Record.{record_of};
+    ghost use Rattle.ga_node.specs.Io.{nobody};
     ghost use Rattle.ga_node.specs.Saving.{IsDone};
     ghost use Rattle.ga_node.specs.Table.{effect};
 
     /// `drop`: the data stack is popped.
     pub(super) fn run_drop(&mut self, saved: &mut Saved)
         requires { saved.old ≡ [] }
-        ensures { IsDone (effect Op.Drop (record_of self.old)) self.old self.new saved.new }
+        ensures { IsDone (effect Op.Drop nobody (record_of self.old)) self.old self.new saved.new }
     {
         self.pop_data(saved);
         self.go_on(saved);
@@ -22,7 +23,7 @@ impl Node {
     /// `dup`: T is pushed on the data stack.
     pub(super) fn run_dup(&mut self, saved: &mut Saved)
         requires { saved.old ≡ [] }
-        ensures { IsDone (effect Op.Dup (record_of self.old)) self.old self.new saved.new }
+        ensures { IsDone (effect Op.Dup nobody (record_of self.old)) self.old self.new saved.new }
     {
         let top = self.top();
         self.push_data(saved, top);
@@ -32,7 +33,7 @@ impl Node {
     /// `pop`: R is pushed on the data stack, and popped.
     pub(super) fn run_pop(&mut self, saved: &mut Saved)
         requires { saved.old ≡ [] }
-        ensures { IsDone (effect Op.Pop (record_of self.old)) self.old self.new saved.new }
+        ensures { IsDone (effect Op.Pop nobody (record_of self.old)) self.old self.new saved.new }
     {
         let top = self.top_return();
         self.push_data(saved, top);
@@ -43,7 +44,7 @@ impl Node {
     /// `over`: S is pushed on the data stack.
     pub(super) fn run_over(&mut self, saved: &mut Saved)
         requires { saved.old ≡ [] }
-        ensures { IsDone (effect Op.Over (record_of self.old)) self.old self.new saved.new }
+        ensures { IsDone (effect Op.Over nobody (record_of self.old)) self.old self.new saved.new }
     {
         let second = self.second();
         self.push_data(saved, second);
@@ -53,7 +54,7 @@ impl Node {
     /// `a`: A is pushed on the data stack.
     pub(super) fn run_a(&mut self, saved: &mut Saved)
         requires { saved.old ≡ [] }
-        ensures { IsDone (effect Op.A (record_of self.old)) self.old self.new saved.new }
+        ensures { IsDone (effect Op.A nobody (record_of self.old)) self.old self.new saved.new }
     {
         let a = self.a();
         self.push_data(saved, a);
@@ -63,7 +64,7 @@ impl Node {
     /// `.`, nop: nothing but the next slot.
     pub(super) fn run_nop(&mut self, saved: &mut Saved)
         requires { saved.old ≡ [] }
-        ensures { IsDone (effect Op.Nop (record_of self.old)) self.old self.new saved.new }
+        ensures { IsDone (effect Op.Nop nobody (record_of self.old)) self.old self.new saved.new }
     {
         self.go_on(saved);
     }
@@ -71,7 +72,7 @@ impl Node {
     /// `push`: T is pushed on the return stack, and popped.
     pub(super) fn run_push(&mut self, saved: &mut Saved)
         requires { saved.old ≡ [] }
-        ensures { IsDone (effect Op.Push (record_of self.old)) self.old self.new saved.new }
+        ensures { IsDone (effect Op.Push nobody (record_of self.old)) self.old self.new saved.new }
     {
         let top = self.top();
         self.push_return(saved, top);
@@ -82,7 +83,7 @@ impl Node {
     /// `b!`, b store: B := the low nine bits of T, which is popped.
     pub(super) fn run_b_store(&mut self, saved: &mut Saved)
         requires { saved.old ≡ [] }
-        ensures { IsDone (effect Op.BStore (record_of self.old)) self.old self.new saved.new }
+        ensures { IsDone (effect Op.BStore nobody (record_of self.old)) self.old self.new saved.new }
     {
         let top = self.top();
         let word = top.get();
@@ -94,7 +95,7 @@ impl Node {
     /// `a!`, a store: A := T, which is popped.
     pub(super) fn run_a_store(&mut self, saved: &mut Saved)
         requires { saved.old ≡ [] }
-        ensures { IsDone (effect Op.AStore (record_of self.old)) self.old self.new saved.new }
+        ensures { IsDone (effect Op.AStore nobody (record_of self.old)) self.old self.new saved.new }
     {
         let top = self.top();
         self.set_a(saved, top);

@@ -1,0 +1,27 @@
+-- What a read of `io` shows of the neighbours (F18A Technology Reference DB001, the `io` register; the whole table is a choice
+-- of this project's own: which bits a side has, what sets and clears them, every other bit, and what counts as waiting).
+use Rattle.std.specs.Prelude.{ℕ, ◌+◌, ◌^◌}
+use Rattle.ga_node.specs.declared.seen.Beside.{Beside}
+use Rattle.ga_node.specs.declared.seen.Beside.TheVariants.{Nobody, Idle, Reading, Writing}
+use Rattle.ga_node.specs.declared.seen.Seen.{Seen}
+
+-- what a side shows in its two bits: the first is cleared where the neighbour waits reading a set with the side, and the
+-- second is set where it waits writing the side
+abbrev pub shown : Beside → ℕ → ℕ → ℕ
+shown Nobody first second = 2 ^ first
+shown Idle first second = 2 ^ first
+shown Reading first second = 0
+shown Writing first second = 2 ^ first + 2 ^ second
+
+-- 015555 with the bits that each side shows; where no neighbour waits it is 015555 itself
+unfoldable pub io_word : Seen → ℕ
+io_word seen =
+    0x155
+    + shown seen.right 16 15
+    + shown seen.down 14 13
+    + shown seen.left 12 11
+    + shown seen.up 10 9
+
+-- nobody on any side; what reads nothing does the same whatever stands there
+abbrev pub nobody : Seen
+nobody = record { right = Nobody; down = Nobody; left = Nobody; up = Nobody }

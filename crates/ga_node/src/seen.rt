@@ -1,0 +1,74 @@
+//! What a node can see of its neighbours, and the word that a read of `io` gives.
+
+ghost use Rattle.std.specs.Prelude.{◌≡◌, ◌+◌, ◌≤◌, ◌<◌, ◌^◌};
+ghost use Rattle.ga_node.specs.Io.{io_word, nobody};
+
+use ga_word::Word18;
+
+/// What stands on one side of a node.
+#[derive(Clone, Copy, PartialEq, Eq, Debug)]
+pub enum Beside {
+    /// No node: an edge of the grid.
+    Nobody,
+    /// A neighbour that doesn't wait for this side.
+    Idle,
+    /// A neighbour that waits reading a set with this side.
+    Reading,
+    /// A neighbour that waits writing this side.
+    Writing,
+}
+
+/// What stands on each side of a node.
+#[derive(Clone, Copy, PartialEq, Eq, Debug)]
+pub struct Seen {
+    pub right: Beside,
+    pub down: Beside,
+    pub left: Beside,
+    pub up: Beside,
+}
+
+impl Beside {
+    // What a side shows in its two bits, which are given by their values.
+    fn shown(self, first: u32, second: u32) -> u32
+        requires { first + second < 2 ^ 18 }
+        ensures nobody { self ≡ Beside.Nobody → result ≡ first }
+        ensures idle { self ≡ Beside.Idle → result ≡ first }
+        ensures reading { self ≡ Beside.Reading → result ≡ 0 }
+        ensures writing { self ≡ Beside.Writing → result ≡ first + second }
+        ensures in_range { result ≤ first + second }
+    {
+        match self {
+            Beside::Nobody => first,
+            Beside::Idle => first,
+            Beside::Reading => 0,
+            Beside::Writing => first + second,
+        }
+    }
+}
+
+impl Seen {
+    /// Nobody on any side.
+    #[inline(always)]
+    pub fn nobody() -> Self
+        ensures { result ≡ nobody }
+    {
+        Seen {
+            right: Beside::Nobody,
+            down: Beside::Nobody,
+            left: Beside::Nobody,
+            up: Beside::Nobody,
+        }
+    }
+
+    /// The word that a read of `io` gives.
+    #[tactic(auto, unfolding(crate::specs::Io::io_word))]
+    pub fn io_word(self) -> Word18
+        ensures { result ≡ io_word self }
+    {
+        let right = self.right.shown(0x10000, 0x8000);
+        let down = self.down.shown(0x4000, 0x2000);
+        let left = self.left.shown(0x1000, 0x800);
+        let up = self.up.shown(0x400, 0x200);
+        Word18::truncated(0x155 + right + down + left + up)
+    }
+}
