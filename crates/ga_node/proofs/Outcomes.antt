@@ -7,9 +7,12 @@ use Rattle.ga_ports.specs.declared.address.Target.TheVariants.{Ram, Rom, Io, Por
 use Rattle.ga_node.specs.State.{NodeState, restored, AreFit}
 use Rattle.ga_node.specs.Record.{NodeRecord, record_of}
 use Rattle.ga_node.specs.Changes.{Change, SetRam, SetIo, after, written}
-use Rattle.ga_node.specs.Table.{t, stored, followed, named, kind_of, fetched, effect, own_event, own}
+use Rattle.ga_node.specs.Table.{t, stored, followed, named, kind_of, fetched, effect, due_of, done_by, own_event, own}
 use Rattle.ga_node.specs.Saving.{IsOnce, Overwrites, IsMade, IsDone, IsEnded, Saves}
 use Rattle.ga_node.specs.declared.place.Place.{Place}
+use Rattle.ga_node.specs.declared.seen.Seen.{Seen}
+use Rattle.ga_node.specs.declared.due.Due.{Due}
+use Rattle.ga_node.specs.declared.due.Due.TheVariants as due
 use Rattle.ga_node.specs.declared.kind.Kind.{Kind}
 use Rattle.ga_node.specs.declared.kind.Kind.TheVariants as kind
 use Rattle.ga_node.proofs.Saving.{AreBeside, saves_then, saves_made, made}
@@ -55,27 +58,30 @@ is_named kind (Err event) (Ok done) old new saved ok err = absurd ok
 is_named kind (Ok changes) (Err other) old new saved ok err = absurd err
 is_named kind (Err event) (Err other) old new saved ok err = record { is = sym err.0; whole = err.1 }
 
-pub own_fetched : (n : NodeRecord) → n.slot ≡ 4 → own_event n ≡ named kind.Fetch (fetched n)
+pub own_fetched : (seen : Seen) (n : NodeRecord) → n.slot ≡ 4 → own_event seen n ≡ named kind.Fetch (fetched seen n)
 unfolding own_event
-own_fetched n due =
-    let op = opcode n.i n.slot in
-    ap (λ (b : Bool). cond b (named kind.Fetch (fetched n)) (named (kind.Run (code_of op)) (effect op n))) (eq-eqb n.slot 4 due)
+own_fetched seen n is =
+    ap (λ (b : Bool). done_by (cond b due.Fetch (due.Run (opcode n.i n.slot))) seen n) (eq-eqb n.slot 4 is)
 
-pub own_ran : (n : NodeRecord) → n.slot ≢ 4 → own_event n ≡ named (kind.Run (code_of (opcode n.i n.slot))) (effect (opcode n.i n.slot) n)
+pub own_ran : (seen : Seen) (n : NodeRecord) → n.slot ≢ 4 → own_event seen n ≡ named (kind.Run (code_of (opcode n.i n.slot))) (effect (opcode n.i n.slot) seen n)
 unfolding own_event
-own_ran n other =
-    let op = opcode n.i n.slot in
-    ap (λ (b : Bool). cond b (named kind.Fetch (fetched n)) (named (kind.Run (code_of op)) (effect op n))) (ne_eqb n.slot 4 other)
+own_ran seen n other =
+    ap (λ (b : Bool). done_by (cond b due.Fetch (due.Run (opcode n.i n.slot))) seen n) (ne_eqb n.slot 4 other)
 
-pub event_is : (old new : NodeState) (kind : Kind) (event : Kind × List Change) (saved : List (Place × ℕ)) → own_event (record_of old) ≡ event → IsNamed kind event old new saved
-    → (kind, record_of new) ≡ own (record_of old)
+-- the event by what it carries out
+pub own_done : (due : Due) (seen : Seen) (n : NodeRecord) → due ≡ due_of n → own_event seen n ≡ done_by due seen n
+unfolding own_event
+own_done due seen n is = ap (λ d. done_by d seen n) (sym is)
+
+pub event_is : (seen : Seen) (old new : NodeState) (kind : Kind) (event : Kind × List Change) (saved : List (Place × ℕ)) → own_event seen (record_of old) ≡ event
+    → IsNamed kind event old new saved → (kind, record_of new) ≡ own seen (record_of old)
 unfolding own
-event_is old new kind event saved is whole =
+event_is seen old new kind event saved is whole =
     ap (λ z. (z, record_of new)) whole.is ∙ ap (λ z. (event.0, z)) whole.whole.effect ∙ ap (λ e. (e.0, after e.1 (record_of old))) (sym is)
 
-pub event_saves : (old new : NodeState) (kind : Kind) (event : Kind × List Change) (saved : List (Place × ℕ)) → own_event (record_of old) ≡ event → IsNamed kind event old new saved
-    → Overwrites (own_event (record_of old)).1 old new saved
-event_saves old new kind event saved is whole = subst (λ e. Overwrites e.1 old new saved) (sym is) whole.whole.saves
+pub event_saves : (seen : Seen) (old new : NodeState) (kind : Kind) (event : Kind × List Change) (saved : List (Place × ℕ)) → own_event seen (record_of old) ≡ event
+    → IsNamed kind event old new saved → Overwrites (own_event seen (record_of old)).1 old new saved
+event_saves seen old new kind event saved is whole = subst (λ e. Overwrites e.1 old new saved) (sym is) whole.whole.saves
 
 -- nothing changed
 pub made_nothing : (n : NodeState) (saved : List (Place × ℕ)) → saved ≡ [] → IsMade [] n n saved

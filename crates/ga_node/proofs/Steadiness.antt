@@ -13,6 +13,7 @@ use Rattle.ga_node.specs.Record.{NodeRecord}
 use Rattle.ga_node.specs.Changes.{Change, PushData, PopData, SetTop, PopTo, PushReturn, PopReturn, SetTopReturn, SetP, SetA, SetB, SetI, SetIo, SetCarry, SetRam, GoOn, Skip, StartAgain, SetWait, SetStop, changed, after}
 use Rattle.ga_node.specs.Table.{t, r, found, stored, followed, effect, fetched, named, posts, halts, is_extended, own_event, own, refused_by, refusal, sent, taken, taking}
 use Rattle.ga_node.specs.Steady.{FitsWait, IsSteady}
+use Rattle.ga_node.specs.declared.seen.Seen.{Seen}
 use Rattle.ga_node.specs.declared.wait.Wait.{Wait}
 use Rattle.ga_node.specs.declared.wait.Wait.TheVariants as wait
 use Rattle.ga_node.specs.declared.wait.Reader.{Reader}
@@ -75,15 +76,15 @@ abbrev Reads : Reader → ℕ → Type 0
 Reads Instruction slot = slot ≡ 4
 Reads Stack slot = slot ≢ 4
 
-read_lands : (target : Target) (reader : Reader) (n : NodeRecord) (more : ℕ → List Change) → Reads reader n.slot → ((word : ℕ) → ArePlain (more word))
-    → Lands n.slot (followed (found target reader n) more)
+read_lands : (target : Target) (reader : Reader) (seen : Seen) (n : NodeRecord) (more : ℕ → List Change) → Reads reader n.slot
+    → ((word : ℕ) → ArePlain (more word)) → Lands n.slot (followed (found target reader seen n) more)
 unfolding found followed
-read_lands (Ram k) reader n more reads plain = plain _
-read_lands (Rom k) reader n more reads plain = plain _
-read_lands Io reader n more reads plain = inr (3, refl)
-read_lands (Ports sides) Instruction n more reads plain = inl (wait.Fetch sides, refl, (reads, refl))
-read_lands (Ports sides) Stack n more reads plain = inl (wait.Read sides, refl, (reads, refl))
-read_lands Bad reader n more reads plain = inr (2, refl)
+read_lands (Ram k) reader seen n more reads plain = plain _
+read_lands (Rom k) reader seen n more reads plain = plain _
+read_lands Io reader seen n more reads plain = plain _
+read_lands (Ports sides) Instruction seen n more reads plain = inl (wait.Fetch sides, refl, (reads, refl))
+read_lands (Ports sides) Stack seen n more reads plain = inl (wait.Read sides, refl, (reads, refl))
+read_lands Bad reader seen n more reads plain = inr (2, refl)
 
 post_lands : (single : Bool) (side : Side) (slot : ℕ) → slot ≢ 4 → Ends slot (cond single (posts (wait.Write side)) (halts 1)).1
 post_lands true side slot other = inl (wait.Write side, refl, (other, refl))
@@ -102,39 +103,39 @@ plain_either : (b : Bool) (x y : List Change) → ArePlain x → ArePlain y → 
 plain_either true x y p q = p
 plain_either false x y p q = q
 
-effect_lands : (op : Op) (n : NodeRecord) → n.slot ≢ 4 → Lands n.slot (effect op n)
-effect_lands op.Return n other = (tt, (tt, (tt, tt)))
-effect_lands op.Execute n other = (tt, (tt, (tt, tt)))
-effect_lands op.Jump n other = (tt, (tt, tt))
-effect_lands op.Call n other = (tt, (tt, (tt, tt)))
-effect_lands op.Unext n other = plain_either (r n == 0) _ _ (tt, (tt, tt)) (tt, (tt, tt))
-effect_lands op.Next n other = plain_either (r n == 0) _ _ (tt, (tt, tt)) (tt, (tt, (tt, tt)))
-effect_lands op.If n other = plain_either (t n == 0) _ _ (tt, (tt, tt)) (tt, tt)
-effect_lands op.MinusIf n other = plain_either (t n / 2 ^ 17 == 0) _ _ (tt, (tt, tt)) (tt, tt)
-effect_lands op.FetchP n other = read_lands (classified n.p) Stack n _ other (λ word. (tt, (tt, (tt, tt))))
-effect_lands op.FetchPlus n other = read_lands (classified n.a) Stack n _ other (λ word. (tt, (tt, (tt, tt))))
-effect_lands op.FetchB n other = read_lands (classified n.b) Stack n _ other (λ word. (tt, (tt, tt)))
-effect_lands op.Fetch n other = read_lands (classified n.a) Stack n _ other (λ word. (tt, (tt, tt)))
-effect_lands op.StoreP n other = write_lands (classified n.p) n _ other (tt, (tt, (tt, tt)))
-effect_lands op.StorePlus n other = write_lands (classified n.a) n _ other (tt, (tt, (tt, tt)))
-effect_lands op.StoreB n other = write_lands (classified n.b) n _ other (tt, (tt, tt))
-effect_lands op.Store n other = write_lands (classified n.a) n _ other (tt, (tt, tt))
-effect_lands op.MultiplyStep n other = (tt, (tt, (tt, tt)))
-effect_lands op.TwoStar n other = (tt, (tt, tt))
-effect_lands op.TwoSlash n other = (tt, (tt, tt))
-effect_lands op.Invert n other = (tt, (tt, tt))
-effect_lands op.Plus n other = plain_either (is_extended n) _ _ (tt, (tt, (tt, tt))) (tt, (tt, tt))
-effect_lands op.And n other = (tt, (tt, tt))
-effect_lands op.Or n other = (tt, (tt, tt))
-effect_lands op.Drop n other = (tt, (tt, tt))
-effect_lands op.Dup n other = (tt, (tt, tt))
-effect_lands op.Pop n other = (tt, (tt, (tt, tt)))
-effect_lands op.Over n other = (tt, (tt, tt))
-effect_lands op.A n other = (tt, (tt, tt))
-effect_lands op.Nop n other = (tt, tt)
-effect_lands op.Push n other = (tt, (tt, (tt, tt)))
-effect_lands op.BStore n other = (tt, (tt, (tt, tt)))
-effect_lands op.AStore n other = (tt, (tt, (tt, tt)))
+effect_lands : (op : Op) (seen : Seen) (n : NodeRecord) → n.slot ≢ 4 → Lands n.slot (effect op seen n)
+effect_lands op.Return seen n other = (tt, (tt, (tt, tt)))
+effect_lands op.Execute seen n other = (tt, (tt, (tt, tt)))
+effect_lands op.Jump seen n other = (tt, (tt, tt))
+effect_lands op.Call seen n other = (tt, (tt, (tt, tt)))
+effect_lands op.Unext seen n other = plain_either (r n == 0) _ _ (tt, (tt, tt)) (tt, (tt, tt))
+effect_lands op.Next seen n other = plain_either (r n == 0) _ _ (tt, (tt, tt)) (tt, (tt, (tt, tt)))
+effect_lands op.If seen n other = plain_either (t n == 0) _ _ (tt, (tt, tt)) (tt, tt)
+effect_lands op.MinusIf seen n other = plain_either (t n / 2 ^ 17 == 0) _ _ (tt, (tt, tt)) (tt, tt)
+effect_lands op.FetchP seen n other = read_lands (classified n.p) Stack seen n _ other (λ word. (tt, (tt, (tt, tt))))
+effect_lands op.FetchPlus seen n other = read_lands (classified n.a) Stack seen n _ other (λ word. (tt, (tt, (tt, tt))))
+effect_lands op.FetchB seen n other = read_lands (classified n.b) Stack seen n _ other (λ word. (tt, (tt, tt)))
+effect_lands op.Fetch seen n other = read_lands (classified n.a) Stack seen n _ other (λ word. (tt, (tt, tt)))
+effect_lands op.StoreP seen n other = write_lands (classified n.p) n _ other (tt, (tt, (tt, tt)))
+effect_lands op.StorePlus seen n other = write_lands (classified n.a) n _ other (tt, (tt, (tt, tt)))
+effect_lands op.StoreB seen n other = write_lands (classified n.b) n _ other (tt, (tt, tt))
+effect_lands op.Store seen n other = write_lands (classified n.a) n _ other (tt, (tt, tt))
+effect_lands op.MultiplyStep seen n other = (tt, (tt, (tt, tt)))
+effect_lands op.TwoStar seen n other = (tt, (tt, tt))
+effect_lands op.TwoSlash seen n other = (tt, (tt, tt))
+effect_lands op.Invert seen n other = (tt, (tt, tt))
+effect_lands op.Plus seen n other = plain_either (is_extended n) _ _ (tt, (tt, (tt, tt))) (tt, (tt, tt))
+effect_lands op.And seen n other = (tt, (tt, tt))
+effect_lands op.Or seen n other = (tt, (tt, tt))
+effect_lands op.Drop seen n other = (tt, (tt, tt))
+effect_lands op.Dup seen n other = (tt, (tt, tt))
+effect_lands op.Pop seen n other = (tt, (tt, (tt, tt)))
+effect_lands op.Over seen n other = (tt, (tt, tt))
+effect_lands op.A seen n other = (tt, (tt, tt))
+effect_lands op.Nop seen n other = (tt, tt)
+effect_lands op.Push seen n other = (tt, (tt, (tt, tt)))
+effect_lands op.BStore seen n other = (tt, (tt, (tt, tt)))
+effect_lands op.AStore seen n other = (tt, (tt, (tt, tt)))
 
 named_steady : (n : NodeRecord) (kind : Kind) (outcome : Result (List Change) (Kind × List Change)) → n.wait ≡ wait.Nothing → n.stop ≡ 0 → Lands n.slot outcome
     → IsSteady (after (named kind outcome).1 n)
@@ -144,19 +145,20 @@ named_steady n kind (Err event) idle going (inr (code, is)) =
     subst (λ changes. IsSteady (after changes n)) (sym is) (steady_without (changed (SetStop code) n) idle)
 
 -- an event of a node that runs
-run_steady : (n : NodeRecord) → n.wait ≡ wait.Nothing → n.stop ≡ 0 → IsSteady (own n).1
+run_steady : (seen : Seen) (n : NodeRecord) → n.wait ≡ wait.Nothing → n.stop ≡ 0 → IsSteady (own seen n).1
 unfolding own
-run_steady n idle going = elim (cases_eq n.slot 4) [ inl due ↦ fetches due | inr other ↦ runs other ]
+run_steady seen n idle going = elim (cases_eq n.slot 4) [ inl due ↦ fetches due | inr other ↦ runs other ]
   where
-    fetches : n.slot ≡ 4 → IsSteady (after (own_event n).1 n)
+    fetches : n.slot ≡ 4 → IsSteady (after (own_event seen n).1 n)
     fetches due =
-        subst (λ event. IsSteady (after event.1 n)) (sym (own_fetched n due))
-        (named_steady n kind.Fetch (fetched n) idle going (read_lands (classified n.p) Instruction n _ due (λ word. (tt, (tt, (tt, tt))))))
+        subst (λ event. IsSteady (after event.1 n)) (sym (own_fetched seen n due))
+        (named_steady n kind.Fetch (fetched seen n) idle going (read_lands (classified n.p) Instruction seen n _ due (λ word. (tt, (tt, (tt, tt))))))
 
-    runs : n.slot ≢ 4 → IsSteady (after (own_event n).1 n)
+    runs : n.slot ≢ 4 → IsSteady (after (own_event seen n).1 n)
     runs other =
         let op = opcode n.i n.slot in
-        subst (λ event. IsSteady (after event.1 n)) (sym (own_ran n other)) (named_steady n (kind.Run (code_of op)) (effect op n) idle going (effect_lands op n other))
+        subst (λ event. IsSteady (after event.1 n)) (sym (own_ran seen n other))
+        (named_steady n (kind.Run (code_of op)) (effect op seen n) idle going (effect_lands op seen n other))
 
 idle_when : (w : Wait) (stop : ℕ) → refused_by w stop ≡ None → (w ≡ wait.Nothing) × (stop ≡ 0)
 idle_when wait.Nothing stop e = (refl, by_test (stop == 0) (eqb-true stop 0) e)
@@ -168,8 +170,8 @@ idle_when (wait.Fetch sides) stop e = cc
 idle_when (wait.Read sides) stop e = cc
 idle_when (wait.Write side) stop e = cc
 
-pub own_steady : (n : NodeRecord) → refusal n ≡ None → IsSteady (own n).1
-own_steady n ready = let runs = idle_when n.wait n.stop ready in run_steady n runs.0 runs.1
+pub own_steady : (seen : Seen) (n : NodeRecord) → refusal n ≡ None → IsSteady (own seen n).1
+own_steady seen n ready = let runs = idle_when n.wait n.stop ready in run_steady seen n runs.0 runs.1
 
 -- the two sides of a transfer
 pub sent_steady : (n : NodeRecord) → IsSteady (sent n)

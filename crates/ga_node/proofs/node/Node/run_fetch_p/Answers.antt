@@ -10,7 +10,7 @@ use Rattle.ga_node.proofs.node.Node.run_fetch_p.Goals as goal
 
 pub returns-in_err-word-clause-ended : goal.returns-in_err-word-clause-ended
 returns-in_err-word-clause-ended c =
-    let ended : IsEnded (effect FetchP (record_of c.args.self.now)) c.in_err-word.field-0.0 c.args.self.now c.read.new.self c.read.new.saved =
+    let ended : IsEnded (effect FetchP c.args.seen (record_of c.args.self.now)) c.in_err-word.field-0.0 c.args.self.now c.read.new.self c.read.new.saved =
     ended_followed _ _ _ _ _ _ (rw (c.p-p.ensures.value) at c.in_err-word.ensures.ended) in
     search (rules, ended)
 
