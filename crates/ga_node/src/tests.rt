@@ -90,27 +90,113 @@ fn stops(rt: HostRuntime) {
     assert_eq!(rt; several.stop(), 1);
 }
 
-// A read of `io` shows who waits at the node's sides.
+/// Nobody but this neighbour, on the right, below, on the left or above.
+fn beside(side: u32, neighbour: Beside) -> Seen {
+    let mut seen = Seen::nobody();
+    match side {
+        0 => seen.right = neighbour,
+        1 => seen.down = neighbour,
+        2 => seen.left = neighbour,
+        _ => seen.up = neighbour,
+    }
+    seen
+}
+
+/// Each side with a neighbour of each kind, and the word that `io` then gives.
+const SHOWN: [(u32, Beside, u32); 16] = [
+    (0, Beside::Nobody, 0x15555),
+    (0, Beside::Idle, 0x15555),
+    (0, Beside::Reading, 0x05555),
+    (0, Beside::Writing, 0x1d555),
+    (1, Beside::Nobody, 0x15555),
+    (1, Beside::Idle, 0x15555),
+    (1, Beside::Reading, 0x11555),
+    (1, Beside::Writing, 0x17555),
+    (2, Beside::Nobody, 0x15555),
+    (2, Beside::Idle, 0x15555),
+    (2, Beside::Reading, 0x14555),
+    (2, Beside::Writing, 0x15d55),
+    (3, Beside::Nobody, 0x15555),
+    (3, Beside::Idle, 0x15555),
+    (3, Beside::Reading, 0x15155),
+    (3, Beside::Writing, 0x15755),
+];
+
 #[test]
-fn looks_at_the_sides(rt: HostRuntime) {
-    let mut node = loaded(&[0x009b2]);
-    assert!(rt; !node.looks());
-    assert!(rt; matches!(node.own(Seen::nobody()), Ok((Kind::Fetch, _))));
-    assert!(rt; node.looks());
-    let seen = Seen {
-        right: Beside::Writing,
+fn io_shows_each_side(rt: HostRuntime) -> Result<(), Fail> {
+    for (side, neighbour, word) in SHOWN {
+        let seen = beside(side, neighbour);
+        assert_eq!(rt; seen.io_word().get(), word);
+        // `@b . . .`, with B at `io` and another word written there.
+        let mut node = Node::new(0);
+        node.set(Place::Io, 7);
+        node.set(Place::I, 0x009b2);
+        node.set(Place::Slot, 0);
+        let (kind, saved) = node.own(seen)?;
+        assert_eq!(rt; kind, Kind::Run(0x0a));
+        assert_eq!(rt; node.d(0), word);
+        node.restore(&saved);
+        assert_eq!(rt; node.d(0), 0x15555);
+    }
+    let all_reading = Seen {
+        right: Beside::Reading,
         down: Beside::Reading,
-        left: Beside::Idle,
+        left: Beside::Reading,
+        up: Beside::Reading,
+    };
+    assert_eq!(rt; all_reading.io_word().get(), 0x00155);
+    let all_writing = Seen {
+        right: Beside::Writing,
+        down: Beside::Writing,
+        left: Beside::Writing,
         up: Beside::Writing,
     };
-    assert_eq!(rt; seen.io_word().get(), 0x19755);
-    if let Ok((kind, saved)) = node.own(seen) {
-        assert_eq!(rt; kind, Kind::Run(0x0a));
-        assert_eq!(rt; node.d(0), 0x19755);
-        node.restore(&saved);
+    assert_eq!(rt; all_writing.io_word().get(), 0x1ff55);
+    Ok(())
+}
+
+#[test]
+fn looks_by_each_read(rt: HostRuntime) -> Result<(), Fail> {
+    let seen = beside(0, Beside::Reading);
+    // `@p`, `@+`, `@b` and `@`, each with `. . .`: all three registers name `io`, or none does.
+    for (word, code) in [
+        (0x049b2, 0x08),
+        (0x069b2, 0x09),
+        (0x009b2, 0x0a),
+        (0x029b2, 0x0b),
+    ] {
+        for (address, look) in [(0x15d, true), (0x020, false)] {
+            let mut node = Node::new(address);
+            node.set(Place::A, address);
+            node.set(Place::B, address);
+            node.set(Place::I, word);
+            node.set(Place::Slot, 0);
+            assert_eq!(rt; node.looks(), look);
+            let (kind, _) = node.own(seen)?;
+            assert_eq!(rt; kind, Kind::Run(code));
+            assert_eq!(rt; node.d(0), if look { 0x05555 } else { 0 });
+            assert_eq!(rt; node.get(Place::Slot), 1);
+            assert!(rt; !node.looks());
+        }
     }
-    assert_eq!(rt; node.d(0), 0x15555);
-    assert_eq!(rt; Seen::nobody().io_word().get(), 0x15555);
+    Ok(())
+}
+
+#[test]
+fn fetches_from_io(rt: HostRuntime) -> Result<(), Fail> {
+    let mut node = Node::new(0x15d);
+    assert!(rt; node.looks());
+    let (kind, saved) = node.own(beside(2, Beside::Writing))?;
+    assert_eq!(rt; kind, Kind::Fetch);
+    assert_eq!(rt; node.get(Place::I), 0x15d55);
+    assert_eq!(rt; node.get(Place::P), 0x15d);
+    assert_eq!(rt; node.get(Place::Slot), 0);
+    node.restore(&saved);
+    assert_eq!(rt; node.get(Place::I), 0);
+    assert_eq!(rt; node.get(Place::Slot), 4);
+    let blind = Node::new(0x020);
+    assert!(rt; !blind.looks());
+    Ok(())
 }
 
 #[test]
