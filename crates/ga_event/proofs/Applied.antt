@@ -1,9 +1,13 @@
 -- What an event does to a chip, from what it does to its nodes.
-use Rattle.std.proofs.Common.{◌≡◌, ◌≢◌, ℕ, ◌<◌, true, List, length, set, Option, Some, None, refl, sym, ◌∙◌, ap, subst}
+use Rattle.std.proofs.Common.{◌≡◌, ◌≢◌, ℕ, ◌<◌, Bool, true, false, List, length, set, Option, Some, None, refl, sym, ◌∙◌, ap, subst}
 use Rattle.std.proofs.lemmas.List.{set-set, set-get_or, get_or-set_same, get_or-set_other, length-set}
-use Rattle.ga_node.specs.State.{NodeState, restored, IsApart}
-use Rattle.ga_node.specs.Record.{record_of}
-use Rattle.ga_node.specs.Table.{t, own, refusal, sent, taken}
+use Rattle.ga_node.specs.State.{NodeState, restored, AreFit, IsApart}
+use Rattle.ga_node.specs.Record.{NodeRecord, record_of}
+use Rattle.ga_node.specs.Table.{t, own, looks, looks_by, due_of, refusal, sent, taken}
+use Rattle.ga_node.specs.declared.due.Due.{Due}
+use Rattle.ga_node.specs.declared.seen.Seen.{Seen}
+use Rattle.ga_node.proofs.Looks.{own_blind, looks_due}
+use Rattle.ga_node.proofs.Saving.{apart_from_ready}
 use Rattle.ga_node.specs.Saving.{Overwrites}
 use Rattle.ga_node.specs.Changes.{Change}
 use Rattle.ga_node.specs.declared.kind.Kind.{Kind}
@@ -12,14 +16,17 @@ use Rattle.ga_ports.specs.declared.side.Side.{Side}
 use Rattle.ga_grid.specs.declared.node_id.NodeId.{NodeId}
 use Rattle.ga_grid.specs.Chip.{nowhere, node_at, with_node, records_of, record_at}
 use Rattle.ga_grid.proofs.Chips.{record_at-records_of, records_of-with_node}
-use Rattle.ga_event.specs.declared.event.Event.TheVariants as event
+use Rattle.ga_event.specs.declared.event.Cause.{Cause}
+use Rattle.ga_event.specs.declared.event.Effect.{Effect}
 use Rattle.ga_event.specs.declared.event.Effect.TheVariants as effect
+use Rattle.ga_event.specs.declared.event.Event.{Event}
+use Rattle.ga_event.specs.declared.event.Event.TheVariants as event
 use Rattle.ga_node.specs.declared.wait.Wait.{Wait}
 use Rattle.std.proofs.lemmas.Bool.{and_parts, eqb-true}
 use Rattle.ga_grid.specs.Grid.{neighbour_of}
 use Rattle.ga_grid.proofs.Links.{neighbour_of-other}
-use Rattle.ga_event.specs.Apply.{Did, Carried, is_number, is_open, unmatched, after_own, after_pass, unless}
-use Rattle.ga_event.specs.Undo.{restored_at, IsApplied}
+use Rattle.ga_event.specs.Apply.{Did, Carried, seen_from, is_number, is_open, unmatched, after_own, after_pass, unless, apply, cause_of}
+use Rattle.ga_event.specs.Undo.{cause_with, own_effect, restored_at, CanRestore, IsApplied}
 
 -- a node written back
 restored_back : (chip : List NodeState) (n : ℕ) (new : NodeState) (saved : List (Place × ℕ)) → n < length chip → restored new saved ≡ node_at chip n → restored_at (with_node chip n new) n saved ≡ chip
@@ -29,26 +36,67 @@ restored_back chip n new saved l back =
     ∙ set-set chip n new (node_at chip n)
     ∙ set-get_or chip n nowhere
 
-pub own_applied : (chip : List NodeState) (node : NodeId) (new : NodeState) (kind : Kind) (saved : List (Place × ℕ)) → node.number < length chip
-    → refusal (record_of (node_at chip node.number)) ≡ None → IsApart (node_at chip node.number)
-    → (kind, record_of new) ≡ own (record_of (node_at chip node.number)) → {changes : List Change} → Overwrites changes (node_at chip node.number) new saved
-    → IsApplied chip (event.Own node) (effect.Own kind saved) (with_node chip node.number new)
-own_applied chip node new kind saved l ready apart made saves =
+-- what the node does where its sides show what they showed the code
+own_done : (chip : List NodeState) (node : NodeId) (new : NodeState) (kind : Kind) → refusal (record_of (node_at chip node.number)) ≡ None
+    → (kind, record_of new) ≡ own (seen_from (records_of chip) node.number) (record_of (node_at chip node.number))
+    → apply (records_of chip) (event.Own node) ≡ Some (records_of (with_node chip node.number new), Did kind)
+own_done chip node new kind ready made =
     let n = node.number in
+    let seen : Seen = seen_from (records_of chip) n in
     let read : record_at (records_of chip) n ≡ record_of (node_at chip n) = record_at-records_of chip n in
-    record {
-      of_kind = tt;
-      done =
-          ap (λ z. unless (refusal z) (after_own (records_of chip) n (own z))) read
-          ∙ ap (λ z. unless z (after_own (records_of chip) n (own (record_of (node_at chip n))))) ready
-          ∙ ap (λ z. Some (after_own (records_of chip) n z)) (sym made)
-          ∙ ap (λ z. Some (z, Did kind)) (sym (records_of-with_node chip n new));
-      undone = restored_back chip n new saved l saves.undone;
-      ready = record {
-        fit = saves.fit;
-        apart = subst (λ z. IsApart (restored z saved)) (sym (get_or-set_same chip n new nowhere l)) (subst (λ z. IsApart z) (sym saves.undone) apart);
-      };
-    }
+    ap (λ z. unless (refusal z) (after_own (records_of chip) n (own seen z))) read
+    ∙ ap (λ z. unless z (after_own (records_of chip) n (own seen (record_of (node_at chip n))))) ready
+    ∙ ap (λ z. Some (after_own (records_of chip) n z)) (sym made)
+    ∙ ap (λ z. Some (z, Did kind)) (sym (records_of-with_node chip n new))
+
+own_ready : (chip : List NodeState) (n : ℕ) (new : NodeState) (saved : List (Place × ℕ)) → n < length chip → restored new saved ≡ node_at chip n → AreFit saved → IsApart (node_at chip n)
+    → CanRestore (node_at (with_node chip n new) n) saved
+own_ready chip n new saved l back fit apart = record {
+  fit = fit;
+  apart = subst (λ z. IsApart (restored z saved)) (sym (get_or-set_same chip n new nowhere l)) (subst (λ z. IsApart z) (sym back) apart);
+}
+
+-- what the code showed the node matters only where it looks
+shown_same : (chip : List NodeState) (n : ℕ) (seen : Seen) (at : NodeRecord) (look : Bool) → looks at ≡ look → (look ≡ true → seen ≡ seen_from (records_of chip) n) → own seen at ≡ own (seen_from (records_of chip) n) at
+shown_same chip n seen at true is given = ap (λ z. own z at) (given refl)
+shown_same chip n seen at false is given = own_blind seen (seen_from (records_of chip) n) at is
+
+own_applied : (chip : List NodeState) (node : NodeId) (new : NodeState) (kind : Kind) (saved : List (Place × ℕ)) (seen : Seen) (look : Bool) → node.number < length chip
+    → refusal (record_of (node_at chip node.number)) ≡ None → IsApart (node_at chip node.number)
+    → looks (record_of (node_at chip node.number)) ≡ look → (look ≡ true → seen ≡ seen_from (records_of chip) node.number)
+    → (kind, record_of new) ≡ own seen (record_of (node_at chip node.number)) → {changes : List Change} → Overwrites changes (node_at chip node.number) new saved
+    → IsApplied chip (event.Own node) (own_effect (record { kind = kind; look = look }) saved) (with_node chip node.number new)
+own_applied chip node new kind saved seen true l ready apart is given made saves = record {
+  of_kind = tt;
+  done = own_done chip node new kind ready (made ∙ shown_same chip node.number seen _ true is given);
+  look = ap (λ z. looks z) (record_at-records_of chip node.number) ∙ is;
+  undone = restored_back chip node.number new saved l saves.undone;
+  ready = own_ready chip node.number new saved l saves.undone saves.fit apart;
+}
+own_applied chip node new kind saved seen false l ready apart is given made saves = record {
+  of_kind = tt;
+  done = own_done chip node new kind ready (made ∙ shown_same chip node.number seen _ false is given);
+  look = ap (λ z. looks z) (record_at-records_of chip node.number) ∙ is;
+  undone = restored_back chip node.number new saved l saves.undone;
+  ready = own_ready chip node.number new saved l saves.undone saves.fit apart;
+}
+
+-- the same for a call that is told what the event carries out
+pub due_applied : (chip : List NodeState) (node : NodeId) (at new : NodeState) (kind : Kind) (saved : List (Place × ℕ)) (seen : Seen) (due : Due) (look : Bool) → node.number < length chip → at ≡ node_at chip node.number
+    → refusal (record_of (node_at chip node.number)) ≡ None → due ≡ due_of (record_of (node_at chip node.number))
+    → looks_by due (record_of (node_at chip node.number)) ≡ look → (look ≡ true → seen ≡ seen_from (records_of chip) node.number)
+    → (kind, record_of new) ≡ own seen (record_of at) → {changes : List Change} → Overwrites changes at new saved
+    → IsApplied chip (event.Own node) (own_effect (record { kind = kind; look = look }) saved) (with_node chip node.number new)
+due_applied chip node at new kind saved seen due look l is ready due_is by given made {changes} saves =
+    own_applied chip node new kind saved seen look l ready (apart_from_ready (node_at chip node.number) ready) (looks_due due (record_of (node_at chip node.number)) look due_is by) given
+    (subst (λ z. (kind, record_of new) ≡ own seen (record_of z)) is made) (subst (λ z. Overwrites changes z new saved) is saves)
+
+-- the effect says whether the event looked
+pub applied_cause : (old new : List NodeState) (event : Event) (effect : Effect) → IsApplied old event effect new → cause_of (records_of old) event ≡ cause_with event effect
+applied_cause old new event effect made = ap (λ z. made_cause event z) made.look
+  where
+    made_cause : Event → Bool → Cause
+    made_cause event look = record { event = event; look = look }
 
 pub pass_applied : (chip : List NodeState) (writer reader : NodeId) (side : Side) (new_writer new_reader : NodeState) (word : ℕ) (gave took : List (Place × ℕ))
     → writer.number < length chip → reader.number < length chip → writer.number ≢ reader.number
@@ -79,6 +127,7 @@ pass_applied chip writer reader side x y word gave took lw lr other open_ told s
           ∙ ap (λ z. Some (set (set (records_of chip) w (record_of x)) r z, Carried word)) (sym taking)
           ∙ ap (λ z. Some (set z r (record_of y), Carried word)) (sym (records_of-with_node chip w x))
           ∙ ap (λ z. Some (z, Carried word)) (sym (records_of-with_node (with_node chip w x) r y));
+      look = refl;
       undone = ap (λ z. restored_at z w gave) back_r ∙ restored_back chip w x gave lw given.undone;
       ready = (
         other,

@@ -1,32 +1,60 @@
 -- What an event does depends on the nodes that it sees alone, and changes those that it touches alone.
-use Rattle.std.proofs.Common.{◌≡◌, ℕ, ◌<◌, ◌≤◌, Bool, true, false, ◌||◌, List, length, set, Option, Some, None, refl, sym, ◌∙◌, ap, subst, inl, inr, arith, length-set, get_or-set_other, get_or-set_same, eq-eqb, IfSome}
+use Rattle.std.proofs.Common.{◌≡◌, ℕ, ◌<◌, ◌≤◌, Bool, true, false, ◌||◌, List, [], ◌∷◌, ◌++◌, length, set, Option, Some, None, refl, sym, ◌∙◌, ap, subst, ⊎_elim, inl, inr, arith, append-nil, length-set, get_or-set_other, get_or-set_same, eq-eqb, IfSome}
 use Rattle.std.specs.List.{list_any}
-use Rattle.std.proofs.lemmas.Bool.{cases_eq, cases_lt, or_parts, both_ways, false_from_ne_true}
+use Rattle.std.proofs.lemmas.Bool.{cases_eq, cases_lt, cases_Bool, or_parts, or_left, or_right, or_cases, or_from, both_ways, false_from_ne_true}
 use Rattle.std.proofs.lemmas.List.{set_past}
 use Rattle.ga_ports.specs.declared.side.Side.{Side}
 use Rattle.ga_node.specs.Record.{NodeRecord, record_of}
-use Rattle.ga_node.specs.Table.{own, refusal}
+use Rattle.ga_node.specs.Table.{own, looks, refusal}
+use Rattle.ga_node.specs.declared.seen.Seen.{Seen}
+use Rattle.ga_node.specs.declared.seen.Beside.{Beside}
+use Rattle.ga_node.proofs.Looks.{own_blind}
+use Rattle.ga_ports.specs.declared.side.Side.TheVariants.{Right, Down, Left, Up}
+use Rattle.ga_grid.specs.Grid.{neighbour_of}
 use Rattle.ga_node.specs.declared.kind.NotReady.{NotReady}
 use Rattle.ga_grid.specs.Chip.{nowhere, record_at}
 use Rattle.ga_grid.specs.declared.node_id.NodeId.{NodeId}
 use Rattle.ga_event.specs.declared.event.Event.{Event}
+use Rattle.ga_event.specs.declared.event.Cause.{Cause}
 use Rattle.ga_event.specs.declared.event.Event.TheVariants.{Own, Pass}
-use Rattle.ga_event.specs.Touches.{nodes_of, touches, seen_by, meets}
-use Rattle.ga_event.specs.Apply.{is_open, unmatched, refusal_of, after_own, after_pass, unless, after, apply}
+use Rattle.ga_event.specs.Touches.{nodes_of, touches, with_some, neighbours, looked_at, seen_by, meets}
+use Rattle.ga_event.specs.Apply.{Told, shows, beside_in, seen_from, is_open, unmatched, refusal_of, after_own, after_pass, unless, after, apply, is_look, cause_of}
 use Rattle.ga_event.specs.Agree.{Agree, Alike}
 
+pub any-append : (marks : ℕ → Bool) (a b : List ℕ) → list_any marks a ≡ true → list_any marks (a ++ b) ≡ true
+any-append marks [] b t = absurd (both_ways false refl t)
+any-append marks (n ∷ a) b t = ⊎_elim (λ u. or_left (marks n) (list_any marks (a ++ b)) u) (λ u. or_right (marks n) (list_any marks (a ++ b)) (any-append marks a b u)) (or_cases (marks n) (list_any marks a) t)
+
+any-free : (marks : ℕ → Bool) (a b : List ℕ) → list_any marks (a ++ b) ≡ false → (list_any marks a ≡ false) × (list_any marks b ≡ false)
+any-free marks [] b f = (refl, f)
+any-free marks (n ∷ a) b f =
+    let p : (marks n ≡ false) × (list_any marks (a ++ b) ≡ false) = or_parts (marks n) (list_any marks (a ++ b)) f in
+    let q = any-free marks a b p.1 in
+    (or_from (marks n) (list_any marks a) p.0 q.0, q.1)
+
 -- an event sees the nodes that it touches
-pub meets-touched : (marks : ℕ → Bool) (event : Event) → list_any marks (nodes_of event) ≡ true → meets marks event ≡ true
+pub meets-touched : (marks : ℕ → Bool) (cause : Cause) → list_any marks (nodes_of cause.event) ≡ true → meets marks cause ≡ true
 unfolding seen_by
-meets-touched marks event t = t
+meets-touched marks cause t = any-append marks (nodes_of cause.event) (looked_at cause.event cause.look) t
 
-pub touched_free : (marks : ℕ → Bool) (event : Event) → meets marks event ≡ false → list_any marks (nodes_of event) ≡ false
-touched_free marks event free = false_from_ne_true (list_any marks (nodes_of event)) (λ t. both_ways (meets marks event) free (meets-touched marks event t))
+pub touched_free : (marks : ℕ → Bool) (cause : Cause) → meets marks cause ≡ false → list_any marks (nodes_of cause.event) ≡ false
+touched_free marks cause free = false_from_ne_true (list_any marks (nodes_of cause.event)) (λ t. both_ways (meets marks cause) free (meets-touched marks cause t))
 
--- it sees no other node
-pub touched-meets : (marks : ℕ → Bool) (event : Event) → meets marks event ≡ true → list_any marks (nodes_of event) ≡ true
+-- and those at which it looks
+looked_free : (marks : ℕ → Bool) (cause : Cause) → meets marks cause ≡ false → list_any marks (looked_at cause.event cause.look) ≡ false
 unfolding seen_by
-touched-meets marks event t = t
+looked_free marks cause free = (any-free marks (nodes_of cause.event) (looked_at cause.event cause.look) free).1
+
+looked_none : (event : Event) → looked_at event false ≡ []
+looked_none (Own node) = refl
+looked_none (Pass writer reader side) = refl
+
+-- one that does not look sees no other node
+pub touched-meets : (marks : ℕ → Bool) (cause : Cause) → cause.look ≡ false → meets marks cause ≡ true → list_any marks (nodes_of cause.event) ≡ true
+unfolding seen_by
+touched-meets marks cause blind t =
+    subst (λ z. list_any marks z ≡ true) (ap (λ z. nodes_of cause.event ++ z) (looked_none cause.event) ∙ append-nil (nodes_of cause.event))
+    (subst (λ b. list_any marks (nodes_of cause.event ++ looked_at cause.event b) ≡ true) blind t)
 
 pub Agree-set : (marks : ℕ → Bool) (c d : List NodeRecord) (n : ℕ) (x : NodeRecord) → Agree marks c d → Agree marks (set c n x) (set d n x)
 Agree-set marks c d n x a = record {
@@ -48,48 +76,91 @@ Agree-set marks c d n x a = record {
     here m e free = elim (cases_lt n (length c)) [ inl h ↦ within m e free h | inr h ↦ past m e free h ]
 
 -- an event that sees no marked node finds the nodes that it touches alike
-seen_same : (marks : ℕ → Bool) (c d : List NodeRecord) (node : NodeId) → Agree marks c d → meets marks (Own node) ≡ false → record_at c node.number ≡ record_at d node.number
-unfolding seen_by
+seen_same : (marks : ℕ → Bool) (c d : List NodeRecord) (node : NodeId) → Agree marks c d → list_any marks (nodes_of (Own node)) ≡ false → record_at c node.number ≡ record_at d node.number
 seen_same marks c d node a free = a.same node.number ((or_parts (marks node.number) false free).0)
 
-seen_both : (marks : ℕ → Bool) (c d : List NodeRecord) (w r : NodeId) (side : Side) → Agree marks c d → meets marks (Pass w r side) ≡ false → (record_at c w.number ≡ record_at d w.number) × (record_at c r.number ≡ record_at d r.number)
-unfolding seen_by
+seen_both : (marks : ℕ → Bool) (c d : List NodeRecord) (w r : NodeId) (side : Side) → Agree marks c d → list_any marks (nodes_of (Pass w r side)) ≡ false → (record_at c w.number ≡ record_at d w.number) × (record_at c r.number ≡ record_at d r.number)
 seen_both marks c d w r side a free =
     let p : (marks w.number ≡ false) × ((marks r.number || false) ≡ false) = or_parts (marks w.number) (marks r.number || false) free in
     (a.same w.number p.0, a.same r.number ((or_parts (marks r.number) false p.1).0))
 
-pub refusal_alike : (marks : ℕ → Bool) (c d : List NodeRecord) (event : Event) → Agree marks c d → meets marks event ≡ false → refusal_of c event ≡ refusal_of d event
-refusal_alike marks c d (Own node) a free = ap (λ z. refusal z) (seen_same marks c d node a free)
-refusal_alike marks c d (Pass w r side) a free =
+-- and the neighbours at which it looks
+record SideAlike (marks : ℕ → Bool) (c d : List NodeRecord) (side : Side) (at : Option ℕ) (ns : List ℕ) : Type 0 where
+  here : beside_in c side at ≡ beside_in d side at
+  others : list_any marks ns ≡ false
+
+side_alike : (marks : ℕ → Bool) (c d : List NodeRecord) (side : Side) (at : Option ℕ) (ns : List ℕ) → Agree marks c d → list_any marks (with_some at ns) ≡ false → SideAlike marks c d side at ns
+side_alike marks c d side None ns a free = record { here = refl; others = free }
+side_alike marks c d side (Some n) ns a free =
+    let p : (marks n ≡ false) × (list_any marks ns ≡ false) = or_parts (marks n) (list_any marks ns) free in
+    record { here = ap (λ (z : NodeRecord). shows z.wait side) (a.same n p.0); others = p.1 }
+
+sides_alike : (marks : ℕ → Bool) (c d : List NodeRecord) (n : ℕ) → Agree marks c d → list_any marks (neighbours n) ≡ false → seen_from c n ≡ seen_from d n
+unfolding neighbours seen_from
+sides_alike marks c d n a free =
+    let right = side_alike marks c d Right (neighbour_of n Right) _ a free in
+    let down = side_alike marks c d Down (neighbour_of n Down) _ a right.others in
+    let left = side_alike marks c d Left (neighbour_of n Left) _ a down.others in
+    let up = side_alike marks c d Up (neighbour_of n Up) [] a left.others in
+    rw (right.here, down.here, left.here, up.here) refl
+
+-- what a node does is the same where it sees no marked node
+own_alike : (marks : ℕ → Bool) (c d : List NodeRecord) (node : NodeId) (at : NodeRecord) (look : Bool) → Agree marks c d → looks at ≡ look → list_any marks (looked_at (Own node) look) ≡ false → own (seen_from c node.number) at ≡ own (seen_from d node.number) at
+own_alike marks c d node at true a is free = ap (λ z. own z at) (sides_alike marks c d node.number a free)
+own_alike marks c d node at false a is free = own_blind (seen_from c node.number) (seen_from d node.number) at is
+
+touch_alike : (marks : ℕ → Bool) (c d : List NodeRecord) (event : Event) → Agree marks c d → list_any marks (nodes_of event) ≡ false → refusal_of c event ≡ refusal_of d event
+touch_alike marks c d (Own node) a free = ap (λ z. refusal z) (seen_same marks c d node a free)
+touch_alike marks c d (Pass w r side) a free =
     let e : (record_at c w.number ≡ record_at d w.number) × (record_at c r.number ≡ record_at d r.number) = seen_both marks c d w r side a free in
     ap (λ z. unmatched (is_open w.number r.number side z.wait (record_at c r.number).wait)) e.0
     ∙ ap (λ z. unmatched (is_open w.number r.number side (record_at d w.number).wait z.wait)) e.1
 
+pub refusal_alike : (marks : ℕ → Bool) (c d : List NodeRecord) (event : Event) → Agree marks c d → meets marks (cause_of c event) ≡ false → refusal_of c event ≡ refusal_of d event
+refusal_alike marks c d event a free = touch_alike marks c d event a (touched_free marks (cause_of c event) free)
+
 -- what it does where it can be
-after_alike : (marks : ℕ → Bool) (c d : List NodeRecord) (event : Event) → Agree marks c d → meets marks event ≡ false → Agree marks (after c event).0 (after d event).0 × ((after c event).1 ≡ (after d event).1)
+abbrev DoneAlike : (ℕ → Bool) → List NodeRecord × Told → List NodeRecord × Told → Type 0
+DoneAlike marks here there = Agree marks here.0 there.0 × (here.1 ≡ there.1)
+
+after_alike : (marks : ℕ → Bool) (c d : List NodeRecord) (event : Event) → Agree marks c d → meets marks (cause_of c event) ≡ false → DoneAlike marks (after c event) (after d event)
 after_alike marks c d (Own node) a free =
     let n = node.number in
-    let e : record_at c n ≡ record_at d n = seen_same marks c d node a free in
-    subst (λ z. Agree marks (after_own c n (own (record_at c n))).0 (after_own d n (own z)).0 × ((after_own c n (own (record_at c n))).1 ≡ (after_own d n (own z)).1)) e
-    (Agree-set marks c d n (own (record_at c n)).1 a, refl)
+    let cause = cause_of c (Own node) in
+    let e : record_at c n ≡ record_at d n = seen_same marks c d node a (touched_free marks cause free) in
+    let s : own (seen_from c n) (record_at c n) ≡ own (seen_from d n) (record_at c n) = own_alike marks c d node (record_at c n) (looks (record_at c n)) a refl (looked_free marks cause free) in
+    subst (λ z. DoneAlike marks (after_own c n (own (seen_from c n) (record_at c n))) (after_own d n (own (seen_from d n) z))) e
+    (subst (λ z. DoneAlike marks (after_own c n (own (seen_from c n) (record_at c n))) (after_own d n z)) s
+    (Agree-set marks c d n (own (seen_from c n) (record_at c n)).1 a, refl))
 after_alike marks c d (Pass writer reader side) a free =
     let w = writer.number in
     let r = reader.number in
-    let e : (record_at c w ≡ record_at d w) × (record_at c r ≡ record_at d r) = seen_both marks c d writer reader side a free in
+    let e : (record_at c w ≡ record_at d w) × (record_at c r ≡ record_at d r) = seen_both marks c d writer reader side a (touched_free marks (cause_of c (Pass writer reader side)) free) in
     let x = record_at c w in
     let y = record_at c r in
-    subst (λ z. Agree marks (after_pass c w r x y).0 (after_pass d w r z (record_at d r)).0 × ((after_pass c w r x y).1 ≡ (after_pass d w r z (record_at d r)).1)) e.0
-    (subst (λ z. Agree marks (after_pass c w r x y).0 (after_pass d w r x z).0 × ((after_pass c w r x y).1 ≡ (after_pass d w r x z).1)) e.1
+    subst (λ z. DoneAlike marks (after_pass c w r x y) (after_pass d w r z (record_at d r))) e.0
+    (subst (λ z. DoneAlike marks (after_pass c w r x y) (after_pass d w r x z)) e.1
     (Agree-set marks (set c w _) (set d w _) r _ (Agree-set marks c d w _ a), refl))
 
 -- an event that sees no marked node does the same to two chips that agree elsewhere
-pub apply_alike : (marks : ℕ → Bool) (c d : List NodeRecord) (event : Event) → Agree marks c d → meets marks event ≡ false → Alike marks (apply c event) (apply d event)
+pub apply_alike : (marks : ℕ → Bool) (c d : List NodeRecord) (event : Event) → Agree marks c d → meets marks (cause_of c event) ≡ false → Alike marks (apply c event) (apply d event)
 apply_alike marks c d event a free =
     subst (λ z. Alike marks (unless (refusal_of c event) (after c event)) (unless z (after d event))) (refusal_alike marks c d event a free) (go (refusal_of c event))
   where
     go : (o : Option NotReady) → Alike marks (unless o (after c event)) (unless o (after d event))
     go None = after_alike marks c d event a free
     go (Some why) = tt
+
+-- and it looks at both or at neither
+look_alike : (marks : ℕ → Bool) (c d : List NodeRecord) (event : Event) → Agree marks c d → list_any marks (nodes_of event) ≡ false → is_look c event ≡ is_look d event
+look_alike marks c d (Own node) a free = ap (λ z. looks z) (seen_same marks c d node a free)
+look_alike marks c d (Pass w r side) a free = refl
+
+pub cause_alike : (marks : ℕ → Bool) (c d : List NodeRecord) (event : Event) → Agree marks c d → meets marks (cause_of c event) ≡ false → cause_of c event ≡ cause_of d event
+cause_alike marks c d event a free = ap (λ (b : Bool). named event b) (look_alike marks c d event a (touched_free marks (cause_of c event) free))
+  where
+    named : Event → Bool → Cause
+    named e b = record { event = e; look = b }
 
 Agree-refl : (marks : ℕ → Bool) (c : List NodeRecord) → Agree marks c c
 Agree-refl marks c = record { size = refl; same = λ n free. refl }

@@ -1,9 +1,13 @@
 -- What an event does to a chip, and what the events of a list do one after another.
-use Rattle.std.specs.Prelude.{ℕ, ◌==◌, Bool, true, false, ◌&&◌, List, [], ◌∷◌, Option, Some, None, option_map, option_and_then, slice_set, Result, MatchResult, ◌≡◌}
+use Rattle.std.specs.Prelude.{ℕ, ◌==◌, Bool, true, false, ◌&&◌, if◌then◌else◌, List, [], ◌∷◌, Option, Some, None, option_map, option_and_then, slice_set, Result, MatchResult, ◌≡◌}
 use Rattle.ga_ports.specs.declared.side.Side.{Side}
+use Rattle.ga_ports.specs.declared.side.Side.TheVariants.{Right, Down, Left, Up}
 use Rattle.ga_ports.specs.Address.{has_side, is_side}
 use Rattle.ga_node.specs.Record.{NodeRecord}
-use Rattle.ga_node.specs.Table.{t, own, refusal, sent, taken}
+use Rattle.ga_node.specs.Table.{t, own, looks, refusal, sent, taken}
+use Rattle.ga_node.specs.declared.seen.Beside.{Beside}
+use Rattle.ga_node.specs.declared.seen.Beside.TheVariants.{Nobody, Idle, Reading, Writing}
+use Rattle.ga_node.specs.declared.seen.Seen.{Seen}
 use Rattle.ga_node.specs.declared.kind.Kind.{Kind}
 use Rattle.ga_node.specs.declared.kind.NotReady.{NotReady}
 use Rattle.ga_node.specs.declared.kind.NotReady.TheVariants.{Unmatched}
@@ -13,6 +17,7 @@ use Rattle.ga_grid.specs.Grid.{neighbour_of}
 use Rattle.ga_grid.specs.Chip.{record_at}
 use Rattle.ga_event.specs.declared.event.Event.{Event}
 use Rattle.ga_event.specs.declared.event.Event.TheVariants.{Own, Pass}
+use Rattle.ga_event.specs.declared.event.Cause.{Cause}
 
 -- what is told of an event: its kind, or the word that went over
 pub data Told : Type 0 where
@@ -32,6 +37,24 @@ reads_from Nothing side = false
 reads_from (Fetch sides) side = has_side sides side
 reads_from (Read sides) side = has_side sides side
 reads_from (Write posted) side = false
+
+-- what a neighbour that waits so shows on a side
+abbrev pub shows : Wait → Side → Beside
+shows wait side = if reads_from wait side then Reading else if writes_to wait side then Writing else Idle
+
+-- what stands at a number, where there is one, as it shows on a side
+abbrev pub beside_in : List NodeRecord → Side → Option ℕ → Beside
+beside_in chip side None = Nobody
+beside_in chip side (Some n) = shows (record_at chip n).wait side
+
+-- what stands on each side of a node
+unfoldable pub seen_from : List NodeRecord → ℕ → Seen
+seen_from chip n = record {
+  right = beside_in chip Right (neighbour_of n Right);
+  down = beside_in chip Down (neighbour_of n Down);
+  left = beside_in chip Left (neighbour_of n Left);
+  up = beside_in chip Up (neighbour_of n Up);
+}
 
 -- the number is that of the node, where there is one
 abbrev pub is_number : Option ℕ → ℕ → Bool
@@ -66,7 +89,7 @@ IsRefusedBy answer why = MatchResult answer (λ done. why ≡ None) (λ reason. 
 
 -- what the event does where it can be
 abbrev pub after : List NodeRecord → Event → List NodeRecord × Told
-after chip (Own node) = after_own chip node.number (own (record_at chip node.number))
+after chip (Own node) = after_own chip node.number (own (seen_from chip node.number) (record_at chip node.number))
 after chip (Pass writer reader side) =
     after_pass chip writer.number reader.number (record_at chip writer.number) (record_at chip reader.number)
 
@@ -78,11 +101,21 @@ unless (Some why) done = None
 abbrev pub apply : List NodeRecord → Event → Option (List NodeRecord × Told)
 apply chip event = unless (refusal_of chip event) (after chip event)
 
--- the events in order, each on the chip that those before it left, with what is told of each; none where one cannot be
-abbrev pub run : List NodeRecord → List Event → Option (List NodeRecord × List Told)
+-- whether the event would look at the neighbours of its node: it reads `io` or fetches from it
+abbrev pub is_look : List NodeRecord → Event → Bool
+is_look chip (Own node) = looks (record_at chip node.number)
+is_look chip (Pass writer reader side) = false
+
+-- the event, with whether it would look
+abbrev pub cause_of : List NodeRecord → Event → Cause
+cause_of chip event = record { event = event; look = is_look chip event }
+
+-- the events in order, each on the chip that those before it left, with whether each looks and what is told of it; none where
+-- one cannot be
+abbrev pub run : List NodeRecord → List Event → Option (List NodeRecord × List (Cause × Told))
 run chip [] = Some (chip, [])
 run chip (event ∷ events) =
-    option_and_then (λ first. option_map (λ rest. (rest.0, first.1 ∷ rest.1)) (run first.0 events)) (apply chip event)
+    option_and_then (λ first. option_map (λ rest. (rest.0, (cause_of chip event, first.1) ∷ rest.1)) (run first.0 events)) (apply chip event)
 
 abbrev pub replay : List NodeRecord → List Event → Option (List NodeRecord)
 replay chip events = option_map (λ done. done.0) (run chip events)

@@ -1,19 +1,36 @@
 -- An event taken back: the old values of the touched nodes are written back.
-use Rattle.std.specs.Prelude.{◌≡◌, ◌≢◌, ℕ, true, List, length, Some}
+use Rattle.std.specs.Prelude.{◌≡◌, ◌≢◌, ℕ, Bool, true, false, if◌then◌else◌, List, length, Some}
 use Rattle.ga_node.specs.State.{NodeState, restored, AreFit, IsApart}
 use Rattle.ga_node.specs.declared.place.Place.{Place}
 use Rattle.ga_grid.specs.Chip.{node_at, with_node, records_of}
 use Rattle.ga_event.specs.declared.event.Event.{Event}
 use Rattle.ga_event.specs.declared.event.Event.TheVariants as event
+use Rattle.ga_event.specs.declared.event.Cause.{Cause}
+use Rattle.ga_event.specs.declared.event.Deed.{Deed}
 use Rattle.ga_event.specs.declared.event.Effect.{Effect}
 use Rattle.ga_event.specs.declared.event.Effect.TheVariants as effect
 use Rattle.ga_event.specs.Touches.{touches}
-use Rattle.ga_event.specs.Apply.{Told, Did, Carried, apply}
+use Rattle.ga_event.specs.Apply.{Told, Did, Carried, apply, is_look}
 
 -- what is told of an event with this effect
 abbrev pub told_of : Effect → Told
 told_of (effect.Own kind saved) = Did kind
+told_of (effect.Look kind saved) = Did kind
 told_of (effect.Pass word writer reader) = Carried word
+
+-- the event looked at the neighbours of its node
+abbrev pub has_looked : Effect → Bool
+has_looked (effect.Own kind saved) = false
+has_looked (effect.Look kind saved) = true
+has_looked (effect.Pass word writer reader) = false
+
+-- an event with this effect, with whether it looked
+abbrev pub cause_with : Event → Effect → Cause
+cause_with event effect = record { event = event; look = has_looked effect }
+
+-- the effect of a node's own event, which looked or didn't
+abbrev pub own_effect : Deed → List (Place × ℕ) → Effect
+own_effect deed saved = if deed.look then effect.Look deed.kind saved else effect.Own deed.kind saved
 
 -- the chip with a node's old values written back
 abbrev pub restored_at : List NodeState → ℕ → List (Place × ℕ) → List NodeState
@@ -22,17 +39,21 @@ restored_at chip n saved = with_node chip n (restored (node_at chip n) saved)
 -- the chip with the old values of the touched nodes written back
 abbrev pub unapplied : List NodeState → Event → Effect → List NodeState
 unapplied chip (event.Own node) (effect.Own kind saved) = restored_at chip node.number saved
+unapplied chip (event.Own node) (effect.Look kind saved) = restored_at chip node.number saved
 unapplied chip (event.Pass writer reader side) (effect.Pass word sent took) =
     restored_at (restored_at chip reader.number took) writer.number sent
 unapplied chip (event.Own node) (effect.Pass word sent took) = chip
 unapplied chip (event.Pass writer reader side) (effect.Own kind saved) = chip
+unapplied chip (event.Pass writer reader side) (effect.Look kind saved) = chip
 
 -- the effect is of the event's kind, and the nodes of a pass are two
 abbrev pub IsOfKind : Event → Effect → Type 0
 IsOfKind (event.Own node) (effect.Own kind saved) = Unit {0}
+IsOfKind (event.Own node) (effect.Look kind saved) = Unit {0}
 IsOfKind (event.Pass writer reader side) (effect.Pass word sent took) = writer.number ≢ reader.number
 IsOfKind (event.Own node) (effect.Pass word sent took) = ⊥
 IsOfKind (event.Pass writer reader side) (effect.Own kind saved) = ⊥
+IsOfKind (event.Pass writer reader side) (effect.Look kind saved) = ⊥
 
 -- the old values of a node can be written back
 pub record CanRestore (node : NodeState) (saved : List (Place × ℕ)) : Type 0 where
@@ -43,16 +64,19 @@ pub record CanRestore (node : NodeState) (saved : List (Place × ℕ)) : Type 0 
 -- It holds of each chip where the touched nodes are as the event left them.
 abbrev pub CanUnapply : List NodeState → Event → Effect → Type 0
 CanUnapply chip (event.Own node) (effect.Own kind saved) = CanRestore (node_at chip node.number) saved
+CanUnapply chip (event.Own node) (effect.Look kind saved) = CanRestore (node_at chip node.number) saved
 CanUnapply chip (event.Pass writer reader side) (effect.Pass word sent took) =
     (writer.number ≢ reader.number) × CanRestore (node_at chip writer.number) sent × CanRestore (node_at chip reader.number) took
 CanUnapply chip (event.Own node) (effect.Pass word sent took) = ⊥
 CanUnapply chip (event.Pass writer reader side) (effect.Own kind saved) = ⊥
+CanUnapply chip (event.Pass writer reader side) (effect.Look kind saved) = ⊥
 
 -- The event led from one chip to the other with this effect, which is of its kind: the records are those of the definition,
--- which tells what the effect tells, and taking it back leads to the old chip as a whole.
+-- which tells what the effect tells, it looked where the effect says so, and taking it back leads to the old chip as a whole.
 pub record IsApplied (old : List NodeState) (event : Event) (effect : Effect) (new : List NodeState) : Type 0 where
   pub of_kind : IsOfKind event effect
   pub done : apply (records_of old) event ≡ Some (records_of new, told_of effect)
+  pub look : is_look (records_of old) event ≡ has_looked effect
   pub undone : unapplied new event effect ≡ old
   pub ready : CanUnapply new event effect
 

@@ -28,6 +28,10 @@ pub fn unapply(chip: &mut Chip, event: Event, effect: &Effect)
             Event::Own(node) => restore(chip, node, saved),
             Event::Pass { .. } => unreachable!(),
         },
+        Effect::Look(_, saved) => match event {
+            Event::Own(node) => restore(chip, node, saved),
+            Event::Pass { .. } => unreachable!(),
+        },
         Effect::Pass {
             writer: sent,
             reader: taken,

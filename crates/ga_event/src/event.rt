@@ -2,6 +2,7 @@
 
 ghost use Rattle.std.specs.Prelude.{◌≡◌};
 ghost use Rattle.ga_event.specs.Touches.{touches};
+ghost use Rattle.ga_event.specs.Undo.{cause_with};
 
 use ga_grid::NodeId;
 use ga_node::{Kind, Saved};
@@ -21,17 +22,47 @@ pub enum Event {
     },
 }
 
+/// An event, with whether it is a look: an own event that reads `io` or fetches from it, and so depends on what the
+/// neighbours of its node wait for. It touches none of them. No pass is a look.
+#[derive(Clone, Copy, PartialEq, Eq, Debug)]
+pub struct Cause {
+    pub event: Event,
+    pub look: bool,
+}
+
+/// What a node's own event was, and whether it looked at the neighbours: an [`Effect`] without the old values.
+#[derive(Clone, Copy, PartialEq, Eq, Debug)]
+pub struct Deed {
+    pub kind: Kind,
+    pub look: bool,
+}
+
 /// What an event did, with the old values of the places that it overwrote.
 #[derive(Debug, Drop)]
 pub enum Effect {
-    /// The kind of a node's own event.
+    /// The kind of a node's own event that didn't look at the neighbours.
     Own(Kind, Saved),
+    /// The kind of a node's own event that looked at all neighbours: it read `io` or fetched from it.
+    Look(Kind, Saved),
     /// The word that went over, and what its two nodes held.
     Pass {
         word: Word18,
         writer: Saved,
         reader: Saved,
     },
+}
+
+/// An event with this effect, with whether it looked.
+#[inline]
+pub fn cause_with(event: Event, effect: &Effect) -> Cause
+    ensures { result ≡ cause_with event effect.now }
+{
+    let look = match effect {
+        Effect::Own(..) => false,
+        Effect::Look(..) => true,
+        Effect::Pass { .. } => false,
+    };
+    Cause { event, look }
 }
 
 /// Whether the event touches the node.

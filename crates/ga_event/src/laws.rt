@@ -3,12 +3,12 @@
 ghost use Rattle.std.specs.Prelude.{◌≡◌, ℕ, Bool, false, if◌then◌else◌, List, IfSome};
 ghost use Rattle.ga_node.specs.State.{NodeState};
 ghost use Rattle.ga_node.specs.Record.{NodeRecord};
-ghost use Rattle.ga_grid.specs.Chip.{node_at};
+ghost use Rattle.ga_grid.specs.Chip.{node_at, records_of};
 ghost use Rattle.ga_event.specs.declared.event.Event.{Event};
 ghost use Rattle.ga_event.specs.declared.event.Effect.{Effect};
 ghost use Rattle.ga_event.specs.Touches.{touches, meets};
-ghost use Rattle.ga_event.specs.Apply.{refusal_of, apply, replay};
-ghost use Rattle.ga_event.specs.Undo.{unapplied, CanUnapply, IsApplied, IsLeft};
+ghost use Rattle.ga_event.specs.Apply.{refusal_of, apply, cause_of, replay};
+ghost use Rattle.ga_event.specs.Undo.{unapplied, cause_with, CanUnapply, IsApplied, IsLeft};
 ghost use Rattle.ga_event.specs.Agree.{Agree, Alike};
 ghost use Rattle.ga_grid.specs.Steady.{AreSteady};
 
@@ -18,15 +18,24 @@ pub fn changes_touched_alone()
         IfSome (apply chip event) (λ done. Agree (touches event) chip done.0) }
 {}
 
-/// Whether an event can be, what is told of it and what it does depends on the nodes that it sees alone: on chips that agree
-/// there it is refused alike, or tells the same and leaves chips that agree as much as before.
+/// Whether an event can be, whether it looks, what is told of it and what it does depends on the nodes that it sees alone: on
+/// chips that agree there it is refused alike, or tells the same and leaves chips that agree as much as before.
 pub fn depends_on_seen_alone()
     ensures refused { (marks : ℕ → Bool) (chip other : List NodeRecord) (event : Event) →
-        Agree marks chip other → meets marks event ≡ false →
+        Agree marks chip other → meets marks (cause_of chip event) ≡ false →
         refusal_of chip event ≡ refusal_of other event }
+    ensures cause { (marks : ℕ → Bool) (chip other : List NodeRecord) (event : Event) →
+        Agree marks chip other → meets marks (cause_of chip event) ≡ false →
+        cause_of chip event ≡ cause_of other event }
     ensures alike { (marks : ℕ → Bool) (chip other : List NodeRecord) (event : Event) →
-        Agree marks chip other → meets marks event ≡ false →
+        Agree marks chip other → meets marks (cause_of chip event) ≡ false →
         Alike marks (apply chip event) (apply other event) }
+{}
+
+/// The effect of an event says whether it looked.
+pub fn effect_gives_cause()
+    ensures { (old new : List NodeState) (event : Event) (effect : Effect) →
+        IsApplied old event effect new → cause_of (records_of old) event ≡ cause_with event effect }
 {}
 
 /// An event can be taken back also where nodes that it doesn't touch have changed since: the touched nodes are what they were

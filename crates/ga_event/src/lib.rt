@@ -8,8 +8,8 @@ pub mod laws;
 mod next;
 
 pub use back::{restore, unapply};
-pub use event::{Effect, Event, touches};
-pub use forward::{apply, apply_own, apply_pass};
+pub use event::{Cause, Deed, Effect, Event, cause_with, touches};
+pub use forward::{apply, apply_own, apply_pass, cause_of, seen_from};
 pub use next::next_event;
 
 #[cfg(test)]

@@ -1,6 +1,6 @@
 use crate::{Effect, Event, apply, next_event, touches, unapply};
 use ga_grid::{Chip, NodeId};
-use ga_node::{Kind, NotReady, Place};
+use ga_node::{Kind, NotReady, Place, Wait};
 use ga_ports::Side;
 use ga_word::Word18;
 use std::process::Abort;
@@ -35,6 +35,7 @@ fn step(chip: &mut Chip, node: NodeId) -> Result<Effect, NotReady> {
 fn kind_of(effect: &Effect) -> Option<Kind> {
     match effect {
         Effect::Own(kind, _) => Some(*kind),
+        Effect::Look(kind, _) => Some(*kind),
         Effect::Pass { .. } => None,
     }
 }
@@ -42,6 +43,7 @@ fn kind_of(effect: &Effect) -> Option<Kind> {
 fn word_of(effect: &Effect) -> Option<u32> {
     match effect {
         Effect::Own(..) => None,
+        Effect::Look(..) => None,
         Effect::Pass { word, .. } => Some(word.get()),
     }
 }
@@ -175,5 +177,26 @@ fn stops(rt: HostRuntime) -> Result<(), Fail> {
     run(&rt, &mut chip, n000, &kinds[..6])?;
     run(&rt, &mut chip, n000, &[Kind::Stop(1)])?;
     assert_eq!(rt; next_event(&chip, n000), Err(NotReady::Stopped));
+    Ok(())
+}
+
+// A read of `io` shows a neighbour that waits, and leaves it alone; without the look nothing is read from the neighbours.
+#[test]
+fn looks(rt: HostRuntime) -> Result<(), Fail> {
+    let n000 = NodeId::new(0);
+    let n001 = NodeId::new(1);
+    let mut chip = Chip::new(rt.alloc())?;
+    load(&rt, &mut chip, n000, sender(0x1d5, 0x2a));
+    load(&rt, &mut chip, n001, [0x009b2, 0, 0, 0]);
+    run(&rt, &mut chip, n000, &sending())?;
+    let fetch = step(&mut chip, n001)?;
+    assert!(rt; matches!(fetch, Effect::Own(Kind::Fetch, _)));
+    let look = apply(&mut chip, Event::Own(n001))?;
+    assert!(rt; matches!(look, Effect::Look(Kind::Run(0x0a), _)));
+    assert_eq!(rt; chip.node(n001).d(0), 0x1d555);
+    assert_eq!(rt; chip.node(n000).wait(), Wait::Write(Side::Right));
+    unapply(&mut chip, Event::Own(n001), &look);
+    assert_eq!(rt; chip.node(n001).d(0), 0x15555);
+    assert_eq!(rt; shown(&chip, n001), [1, 0x15d, 0x009b2, 0, 0, 0x15555]);
     Ok(())
 }

@@ -1,0 +1,10 @@
+use Rattle.std.proofs.Common.{◌≡◌, ◌<◌, false, length, arith, refl}
+use Rattle.std.proofs.lemmas.Bool.{both_ways}
+use Rattle.ga_event.proofs.Applied.{due_applied}
+use Rattle.ga_event.proofs.forward.apply_blind.Goals as goal
+
+pub returns : goal.returns
+returns c =
+    let size : length c.args.chip.now ≡ 144 = c.node_mut.ensures.size in
+    due_applied c.args.chip.now c.args.node c.node_mut.result.now c.do_into.new.self c.do_into.result c.do_into.new.saved c.nobody.result c.args.due false (omega arith) c.node_mut.ensures.value
+    c.requires.ready c.requires.due c.requires.looks (λ yes. absurd (both_ways false refl yes)) c.do_into.ensures.event c.do_into.ensures.saves
