@@ -1,6 +1,8 @@
-use crate::{Effect, Event, apply, next_event, touches, unapply};
-use ga_grid::{Chip, NodeId};
-use ga_node::{Kind, NotReady, Place, Wait};
+use crate::{
+    Cause, Effect, Event, apply, cause_of, cause_with, next_event, seen_from, touches, unapply,
+};
+use ga_grid::{Chip, NodeId, neighbour};
+use ga_node::{Beside, Kind, NotReady, Place, Seen, Wait};
 use ga_ports::Side;
 use ga_word::Word18;
 use std::process::Abort;
@@ -14,6 +16,11 @@ fn sender(port: u32, word: u32) -> [u32; 4] {
 // `@p b! @b .`, where the literal is a port or several.
 fn taker(ports: u32) -> [u32; 4] {
     [0x4b02, ports, 0, 0]
+}
+
+// `@b . . .`, where B holds `io` from the load on.
+fn reader_of_io() -> [u32; 4] {
+    [0x009b2, 0, 0, 0]
 }
 
 // Puts four words from cell 0 on, and P at cell 0.
@@ -180,23 +187,92 @@ fn stops(rt: HostRuntime) -> Result<(), Fail> {
     Ok(())
 }
 
-// A read of `io` shows a neighbour that waits, and leaves it alone; without the look nothing is read from the neighbours.
+// A read of `io` shows a neighbour that waits, and leaves it alone; it is taken back as other events are.
 #[test]
 fn looks(rt: HostRuntime) -> Result<(), Fail> {
     let n000 = NodeId::new(0);
     let n001 = NodeId::new(1);
     let mut chip = Chip::new(rt.alloc())?;
     load(&rt, &mut chip, n000, sender(0x1d5, 0x2a));
-    load(&rt, &mut chip, n001, [0x009b2, 0, 0, 0]);
+    load(&rt, &mut chip, n001, reader_of_io());
     run(&rt, &mut chip, n000, &sending())?;
+    let own = Event::Own(n001);
+    assert!(rt; !cause_of(&chip, own).look);
     let fetch = step(&mut chip, n001)?;
     assert!(rt; matches!(fetch, Effect::Own(Kind::Fetch, _)));
-    let look = apply(&mut chip, Event::Own(n001))?;
+    assert!(rt; cause_of(&chip, own).look);
+    let look = apply(&mut chip, own)?;
     assert!(rt; matches!(look, Effect::Look(Kind::Run(0x0a), _)));
+    assert_eq!(rt; cause_with(own, &look), Cause { event: own, look: true });
     assert_eq!(rt; chip.node(n001).d(0), 0x1d555);
     assert_eq!(rt; chip.node(n000).wait(), Wait::Write(Side::Right));
-    unapply(&mut chip, Event::Own(n001), &look);
-    assert_eq!(rt; chip.node(n001).d(0), 0x15555);
+    unapply(&mut chip, own, &look);
     assert_eq!(rt; shown(&chip, n001), [1, 0x15d, 0x009b2, 0, 0, 0x15555]);
+    Ok(())
+}
+
+// Loads one neighbour of n101 and lets it come to its wait; answers what n101 then reads of `io`.
+fn read_beside(
+    rt: &impl Abort,
+    chip: &mut Chip,
+    side: Side,
+    words: [u32; 4],
+    kinds: &[Kind],
+) -> Result<u32, NotReady> {
+    let n101 = NodeId::new(19);
+    let Some(other) = neighbour(n101, side) else {
+        return Err(NotReady::Unmatched);
+    };
+    load(rt, chip, other, words);
+    run(rt, chip, other, kinds)?;
+    load(rt, chip, n101, reader_of_io());
+    run(rt, chip, n101, &[Kind::Fetch, Kind::Run(0x0a)])?;
+    Ok(chip.node(n101).d(0))
+}
+
+// Each side has two bits of its own: one for a neighbour that waits to read over the side, one for one that waits to write it.
+// A neighbour that waits for another side changes neither.
+#[test]
+fn looks_at_each_side(rt: HostRuntime) -> Result<(), Fail> {
+    let rows: [(Side, u32, u32, u32); 4] = [
+        (Side::Right, 0x1d5, 0x05555, 0x1d555),
+        (Side::Down, 0x115, 0x11555, 0x17555),
+        (Side::Left, 0x175, 0x14555, 0x15d55),
+        (Side::Up, 0x145, 0x15155, 0x15755),
+    ];
+    for (side, port, reading, writing) in rows {
+        let mut chip = Chip::new(rt.alloc())?;
+        let word = read_beside(&rt, &mut chip, side, taker(port), &taking())?;
+        assert_eq!(rt; word, reading);
+        let mut chip = Chip::new(rt.alloc())?;
+        let word = read_beside(&rt, &mut chip, side, sender(port, 7), &sending())?;
+        assert_eq!(rt; word, writing);
+        let mut chip = Chip::new(rt.alloc())?;
+        let away = if side == Side::Left { 0x1d5 } else { 0x175 };
+        let word = read_beside(&rt, &mut chip, side, taker(away), &taking())?;
+        assert_eq!(rt; word, 0x15555);
+    }
+    Ok(())
+}
+
+// In a corner of the grid two sides have nobody, and show nothing. A fetch from `io` looks as well.
+#[test]
+fn looks_at_the_edge(rt: HostRuntime) -> Result<(), Fail> {
+    let n000 = NodeId::new(0);
+    let n001 = NodeId::new(1);
+    let mut chip = Chip::new(rt.alloc())?;
+    run(&rt, &mut chip, n001, &[Kind::Wait])?;
+    let seen = Seen {
+        right: Beside::Reading,
+        down: Beside::Idle,
+        left: Beside::Nobody,
+        up: Beside::Nobody,
+    };
+    assert_eq!(rt; seen_from(&chip, n000), seen);
+    load(&rt, &mut chip, n000, [0; 4]);
+    chip.node_mut(n000).set(Place::P, 0x15d);
+    let look = step(&mut chip, n000)?;
+    assert!(rt; matches!(look, Effect::Look(Kind::Fetch, _)));
+    assert_eq!(rt; chip.node(n000).get(Place::I), 0x05555);
     Ok(())
 }
