@@ -62,7 +62,7 @@ run_steady chip (event ∷ events) steady = go (λ next h. run_steady next event
         → (first : Option (List NodeRecord × Told)) → IfSome first (λ done. AreSteady done.0)
         → IfSome (option_and_then (λ (done : List NodeRecord × Told). with_first (cause_of chip event, done.1) (run done.0 events)) first) (λ done. AreSteady done.0)
     go others None h = tt
-    go others (Some done) h = more done.1 (run done.0 events) (others done.0 h)
+    go others (Some done) h = more (cause_of chip event, done.1) (run done.0 events) (others done.0 h)
 
 pub replay_steady : (chip : List NodeRecord) (events : List Event) → AreSteady chip → IfSome (replay chip events) AreSteady
 replay_steady chip events steady = go (run chip events) (run_steady chip events steady)
