@@ -1,13 +1,11 @@
 -- What an event does depends on the nodes that it sees alone, and changes those that it touches alone.
 use Rattle.std.proofs.Common.{◌≡◌, ℕ, ◌<◌, ◌≤◌, Bool, true, false, ◌||◌, List, [], ◌∷◌, ◌++◌, length, set, Option, Some, None, refl, sym, ◌∙◌, ap, subst, ⊎_elim, inl, inr, arith, append-nil, length-set, get_or-set_other, get_or-set_same, eq-eqb, IfSome}
 use Rattle.std.specs.List.{list_any}
-use Rattle.std.proofs.lemmas.Bool.{cases_eq, cases_lt, cases_Bool, or_parts, or_left, or_right, or_cases, or_from, both_ways, false_from_ne_true}
+use Rattle.std.proofs.lemmas.Bool.{cases_eq, cases_lt, or_parts, or_left, or_right, or_cases, or_from, both_ways, false_from_ne_true}
 use Rattle.std.proofs.lemmas.List.{set_past}
 use Rattle.ga_ports.specs.declared.side.Side.{Side}
 use Rattle.ga_node.specs.Record.{NodeRecord, record_of}
 use Rattle.ga_node.specs.Table.{own, looks, refusal}
-use Rattle.ga_node.specs.declared.seen.Seen.{Seen}
-use Rattle.ga_node.specs.declared.seen.Beside.{Beside}
 use Rattle.ga_node.proofs.Looks.{own_blind}
 use Rattle.ga_ports.specs.declared.side.Side.TheVariants.{Right, Down, Left, Up}
 use Rattle.ga_grid.specs.Grid.{neighbour_of}

@@ -203,7 +203,13 @@ fn looks(rt: HostRuntime) -> Result<(), Fail> {
     assert!(rt; cause_of(&chip, own).look);
     let look = apply(&mut chip, own)?;
     assert!(rt; matches!(look, Effect::Look(Kind::Run(0x0a), _)));
-    assert_eq!(rt; cause_with(own, &look), Cause { event: own, look: true });
+    assert_eq!(rt;
+        cause_with(own, &look),
+        Cause {
+            event: own,
+            look: true
+        }
+    );
     assert_eq!(rt; chip.node(n001).d(0), 0x1d555);
     assert_eq!(rt; chip.node(n000).wait(), Wait::Write(Side::Right));
     unapply(&mut chip, own, &look);

@@ -1,4 +1,4 @@
-use Rattle.std.proofs.Common.{◌≡◌, ◌<◌, false, length, arith, refl}
+use Rattle.std.proofs.Common.{◌≡◌, false, length, arith, refl}
 use Rattle.std.proofs.lemmas.Bool.{both_ways}
 use Rattle.ga_event.proofs.Applied.{due_applied}
 use Rattle.ga_event.proofs.forward.apply_blind.Goals as goal

@@ -1,4 +1,4 @@
-use Rattle.std.proofs.Common.{◌≡◌, ◌<◌, true, length, arith}
+use Rattle.std.proofs.Common.{◌≡◌, true, length, arith}
 use Rattle.ga_event.proofs.Applied.{due_applied}
 use Rattle.ga_event.proofs.forward.apply_look.Goals as goal
 
