@@ -2,7 +2,7 @@
 use Rattle.std.proofs.Common.{◌≡◌, ℕ, zero, suc, ◌<◌, ◌≤◌, ◌≢◌, ◌==◌, Bool, true, false, not, cond, List, [], ◌∷◌, length, refl, sym, ap, subst, ⊎_elim, arith}
 use Rattle.std.specs.Prelude.{nat_lt, Option, Some, None, slice_index_or}
 use Rattle.std.proofs.lemmas.Bool.{cases_Bool, cases_lt, cases_eq, both_ways, cond-true, cond-false, le-ltb, lt-ltb, eq-eqb, ne_eqb, and_from, and_parts}
-use Rattle.ga_event.specs.declared.event.Event.{Event}
+use Rattle.ga_event.specs.declared.event.Cause.{Cause}
 use Rattle.ga_causal.specs.declared.chain.Link.{Link}
 use Rattle.ga_causal.specs.Dependence.{rule_between, event_at, dependents, DependsOn, itself, through}
 use Rattle.ga_causal.specs.Chains.{IsOldest, IsChainTo, alone, longer, IsFound, leads_to, least_below, oldest_cause, links_to, chain_of}
@@ -52,11 +52,11 @@ not_zero n h = ap not (ne_eqb n 0 h)
 not_zero_of : (n : ℕ) → not (n == 0) ≡ true → n ≢ 0
 not_zero_of n h e = both_ways false refl (subst (λ z. not z ≡ true) (eq-eqb n 0 e) h)
 
-leads_from : (es : List Event) (i q p : ℕ) → slice_index_or (dependents es i) p false ≡ true → rule_between es p q ≢ 0 → leads_to es i q p ≡ true
+leads_from : (es : List Cause) (i q p : ℕ) → slice_index_or (dependents es i) p false ≡ true → rule_between es p q ≢ 0 → leads_to es i q p ≡ true
 leads_from es i q p f r = and_from (slice_index_or (dependents es i) p false) (not (rule_between es p q == 0)) f (not_zero (rule_between es p q) r)
 
 -- the oldest cause of a dependent event that is not the first
-oldest_is : (es : List Event) (i q : ℕ) → i < length es → q < length es → q ≢ i → slice_index_or (dependents es i) q false ≡ true → IsOldest es i q (oldest_cause es i q)
+oldest_is : (es : List Cause) (i q : ℕ) → i < length es → q < length es → q ≢ i → slice_index_or (dependents es i) q false ≡ true → IsOldest es i q (oldest_cause es i q)
 oldest_is es i q k l ne f = ⊎_elim (λ e. absurd (ne e)) (λ w. found w) (why_dependent es i q f)
   where
     found : Earlier es (dependents es i) q → IsOldest es i q (oldest_cause es i q)
@@ -71,7 +71,7 @@ oldest_is es i q k l ne f = ⊎_elim (λ e. absurd (ne e)) (λ w. found w) (why_
           oldest = λ other d s. h.first other s.before (leads_from es i q other (flag_from_DependsOn es i other k d) s.by_rule);
         }
 
-links_chain : (most : ℕ) (es : List Event) (i q : ℕ) → q < most → i < length es → q < length es → slice_index_or (dependents es i) q false ≡ true → IsChainTo es i q (links_to most es i q)
+links_chain : (most : ℕ) (es : List Cause) (i q : ℕ) → q < most → i < length es → q < length es → slice_index_or (dependents es i) q false ≡ true → IsChainTo es i q (links_to most es i q)
 unfolding links_to
 links_chain zero es i q u k l f = absurd (omega arith)
 links_chain (suc most) es i q u k l f = ⊎_elim
@@ -83,7 +83,7 @@ links_chain (suc most) es i q u k l f = ⊎_elim
     (longer ne o (links_chain most es i (oldest_cause es i q) (omega arith) k (omega arith) (flag_from_DependsOn es i (oldest_cause es i q) k o.dependent))))
     (cases_eq q i)
 
-pub chain_found : (es : List Event) (i q : ℕ) → i < length es → q < length es → IsFound es i q (chain_of es i q)
+pub chain_found : (es : List Cause) (i q : ℕ) → i < length es → q < length es → IsFound es i q (chain_of es i q)
 unfolding chain_of
 chain_found es i q k l = ⊎_elim
     (λ f. subst (λ z. IsFound es i q z) (sym (cond-true (slice_index_or (dependents es i) q false) (Some (links_to (suc q) es i q)) None f)) (links_chain (suc q) es i q (omega arith) k l f))
@@ -92,15 +92,15 @@ chain_found es i q k l = ⊎_elim
     (cases_Bool (slice_index_or (dependents es i) q false))
 
 -- an answer that is found is the one
-chained : (es : List Event) (i q : ℕ) (links : List Link) → IsChainTo es i q links → DependsOn es i q
+chained : (es : List Cause) (i q : ℕ) (links : List Link) → IsChainTo es i q links → DependsOn es i q
 chained es i q links alone = itself
 chained es i q links (longer ne o h) = through o.dependent o.direct
 
-found_one : (es : List Event) (i q : ℕ) (x y : Option (List Link)) → IsFound es i q x → IsFound es i q y → x ≡ y
+found_one : (es : List Cause) (i q : ℕ) (x y : Option (List Link)) → IsFound es i q x → IsFound es i q y → x ≡ y
 found_one es i q None None f g = refl
 found_one es i q None (Some ys) f g = absurd (f (chained es i q ys g))
 found_one es i q (Some xs) None f g = absurd (g (chained es i q xs f))
 found_one es i q (Some xs) (Some ys) f g = ap Some (chain_one es i q xs ys f g)
 
-pub chain_is : (es : List Event) (i q : ℕ) (answer : Option (List Link)) → i < length es → q < length es → IsFound es i q answer → answer ≡ chain_of es i q
+pub chain_is : (es : List Cause) (i q : ℕ) (answer : Option (List Link)) → i < length es → q < length es → IsFound es i q answer → answer ≡ chain_of es i q
 chain_is es i q answer k l f = found_one es i q answer (chain_of es i q) f (chain_found es i q k l)

@@ -2,21 +2,28 @@
 use Rattle.std.proofs.Common.{◌≡◌, ℕ, zero, suc, ◌<◌, ◌≢◌, ◌⊎◌, ◌↔◌, Bool, true, false, ◌||◌, cond, List, [], ◌∷◌, length, refl, sym, ◌∙◌, ap, subst, inl, inr, ⊎_elim, arith, IsTrue}
 use Rattle.std.specs.Prelude.{slice_index_or}
 use Rattle.std.specs.List.{list_any}
-use Rattle.std.proofs.lemmas.Bool.{or_left, or_right, or_cases, cases_Bool, both_ways, cond-true, cond-false}
-use Rattle.ga_event.specs.declared.event.Event.{Event}
-use Rattle.ga_event.specs.Touches.{touches, seen_by, meets}
+use Rattle.std.proofs.lemmas.Bool.{or_left, or_right, or_cases, cases_Bool, both_ways, cond-true, cond-false, false_from_ne_true}
+use Rattle.ga_event.specs.declared.event.Cause.{Cause}
+use Rattle.ga_causal.specs.Causes.{nodes_of, touches}
+use Rattle.ga_event.specs.Touches.{seen_by, meets}
+use Rattle.ga_event.proofs.Locality.{meets-touched}
 use Rattle.ga_causal.specs.Dependence.{is_a_pass, rule_of, event_at, DependsOn, itself, through, marked, dependents_after, dependents}
 
--- direct dependence of two events is one rule or the other: the later sees a node that the earlier touches
-pub rule_meets : (d e : Event) → rule_of d e ≢ 0 → meets (touches d) e ≡ true
-rule_meets d e h = ⊎_elim (λ t. t) (λ f. absurd (h (cond-false (meets (touches d) e) _ 0 f))) (cases_Bool (meets (touches d) e))
+-- direct dependence of two events is one rule or another: the later sees a node that the earlier touches
+pub rule_meets : (d e : Cause) → rule_of d e ≢ 0 → meets (touches d) e ≡ true
+rule_meets d e h = ⊎_elim (λ t. t)
+    (λ f. absurd (h (cond-false (list_any (touches d) (nodes_of e)) _ (cond (meets (touches d) e) 3 0) (false_from_ne_true _ (λ t. both_ways (meets (touches d) e) f (meets-touched (touches d) e t)))
+    ∙ cond-false (meets (touches d) e) 3 0 f)))
+    (cases_Bool (meets (touches d) e))
 
-some_rule : (b : Bool) → cond {A = ℕ} b 2 1 ≢ 0
-some_rule true e = omega arith
-some_rule false e = omega arith
+some_rule : (a b : Bool) → cond {A = ℕ} a (cond b 2 1) 3 ≢ 0
+some_rule true true e = omega arith
+some_rule true false e = omega arith
+some_rule false b e = omega arith
 
-pub meets_rule : (d e : Event) → meets (touches d) e ≡ true → rule_of d e ≢ 0
-meets_rule d e h = λ z. some_rule (is_a_pass d || is_a_pass e) (sym (cond-true (meets (touches d) e) (cond {A = ℕ} (is_a_pass d || is_a_pass e) 2 1) 0 h) ∙ z)
+pub meets_rule : (d e : Cause) → meets (touches d) e ≡ true → rule_of d e ≢ 0
+meets_rule d e h = λ z. some_rule (list_any (touches d) (nodes_of e)) (is_a_pass d.event || is_a_pass e.event)
+    (ap (λ (k : ℕ). cond {A = ℕ} (list_any (touches d) (nodes_of e)) (cond (is_a_pass d.event || is_a_pass e.event) 2 1) k) (sym (cond-true (meets (touches d) e) 3 0 h)) ∙ z)
 
 pub any-mono : (m k : ℕ → Bool) → ((n : ℕ) → m n ≡ true → k n ≡ true) → (ns : List ℕ) → list_any m ns ≡ true → list_any k ns ≡ true
 any-mono m k h [] t = t
@@ -31,23 +38,23 @@ any-or m k (n ∷ ns) t =
     (λ u. ⊎_elim (λ v. inl (or_right (m n) (list_any m ns) v)) (λ v. inr (or_right (k n) (list_any k ns) v)) (any-or m k ns u))
     (or_cases (m n || k n) (list_any (λ n. m n || k n) ns) t)
 
-pub meets-mono : (m k : ℕ → Bool) (e : Event) → ((n : ℕ) → m n ≡ true → k n ≡ true) → meets m e ≡ true → meets k e ≡ true
+pub meets-mono : (m k : ℕ → Bool) (e : Cause) → ((n : ℕ) → m n ≡ true → k n ≡ true) → meets m e ≡ true → meets k e ≡ true
 meets-mono m k e h t = any-mono m k h (seen_by e) t
 
-pub meets-or : (m k : ℕ → Bool) (e : Event) → meets (λ n. m n || k n) e ≡ true → (meets m e ≡ true) ⊎ (meets k e ≡ true)
+pub meets-or : (m k : ℕ → Bool) (e : Cause) → meets (λ n. m n || k n) e ≡ true → (meets m e ≡ true) ⊎ (meets k e ≡ true)
 meets-or m k e t = any-or m k (seen_by e) t
 
 -- a mark stays
-marked_stays : (marks : ℕ → Bool) (e : Event) (n : ℕ) → marks n ≡ true → marked marks e n ≡ true
+marked_stays : (marks : ℕ → Bool) (e : Cause) (n : ℕ) → marks n ≡ true → marked marks e n ≡ true
 marked_stays marks e n h = ⊎_elim (λ t. rw t (or_left _ _ h)) (λ f. rw f h) (cases_Bool (meets marks e))
 
-pub flag_marked : (marks : ℕ → Bool) (es : List Event) (q : ℕ) → q < length es → meets marks (event_at es q) ≡ true → slice_index_or (dependents_after marks es) q false ≡ true
+pub flag_marked : (marks : ℕ → Bool) (es : List Cause) (q : ℕ) → q < length es → meets marks (event_at es q) ≡ true → slice_index_or (dependents_after marks es) q false ≡ true
 flag_marked marks [] q l h = absurd (omega arith)
 flag_marked marks (e ∷ es) zero l h = h
 flag_marked marks (e ∷ es) (suc q) l h =
     flag_marked (marked marks e) es q (omega arith) (meets-mono marks (marked marks e) (event_at es q) (marked_stays marks e) h)
 
-flag_more : (marks : ℕ → Bool) (es : List Event) (p q : ℕ) → slice_index_or (dependents_after marks es) p false ≡ true → p < q → q < length es → meets (touches (event_at es p)) (event_at es q) ≡ true → slice_index_or (dependents_after marks es) q false ≡ true
+flag_more : (marks : ℕ → Bool) (es : List Cause) (p q : ℕ) → slice_index_or (dependents_after marks es) p false ≡ true → p < q → q < length es → meets (touches (event_at es p)) (event_at es q) ≡ true → slice_index_or (dependents_after marks es) q false ≡ true
 flag_more marks [] p q f k l h = absurd (omega arith)
 flag_more marks (e ∷ es) p zero f k l h = absurd (omega arith)
 flag_more marks (e ∷ es) zero (suc q) f k l h =
@@ -55,7 +62,7 @@ flag_more marks (e ∷ es) zero (suc q) f k l h =
 flag_more marks (e ∷ es) (suc p) (suc q) f k l h = flag_more (marked marks e) es p q f (omega arith) (omega arith) h
 
 -- what depends directly on a flagged event is flagged
-pub flag_direct : (es : List Event) (i p q : ℕ) → slice_index_or (dependents es i) p false ≡ true → p < q → q < length es → meets (touches (event_at es p)) (event_at es q) ≡ true → slice_index_or (dependents es i) q false ≡ true
+pub flag_direct : (es : List Cause) (i p q : ℕ) → slice_index_or (dependents es i) p false ≡ true → p < q → q < length es → meets (touches (event_at es p)) (event_at es q) ≡ true → slice_index_or (dependents es i) q false ≡ true
 flag_direct [] i p q f k l h = absurd (omega arith)
 flag_direct (e ∷ es) i p zero f k l h = absurd (omega arith)
 flag_direct (e ∷ es) zero zero (suc q) f k l h = flag_marked (touches e) es q (omega arith) h
@@ -63,39 +70,39 @@ flag_direct (e ∷ es) zero (suc p) (suc q) f k l h = flag_more (touches e) es p
 flag_direct (e ∷ es) (suc i) zero (suc q) f k l h = absurd (both_ways false refl f)
 flag_direct (e ∷ es) (suc i) (suc p) (suc q) f k l h = flag_direct es i p q f (omega arith) (omega arith) h
 
-pub flag_itself : (es : List Event) (i : ℕ) → i < length es → slice_index_or (dependents es i) i false ≡ true
+pub flag_itself : (es : List Cause) (i : ℕ) → i < length es → slice_index_or (dependents es i) i false ≡ true
 flag_itself [] i l = absurd (omega arith)
 flag_itself (e ∷ es) zero l = refl
 flag_itself (e ∷ es) (suc i) l = flag_itself es i (omega arith)
 
-pub flag_from_DependsOn : (es : List Event) (i j : ℕ) → i < length es → DependsOn es i j → slice_index_or (dependents es i) j false ≡ true
+pub flag_from_DependsOn : (es : List Cause) (i j : ℕ) → i < length es → DependsOn es i j → slice_index_or (dependents es i) j false ≡ true
 flag_from_DependsOn es i j l itself = flag_itself es i l
 flag_from_DependsOn es i j l (through {middle} d s) =
     flag_direct es i middle j (flag_from_DependsOn es i middle l d) s.before s.within (rule_meets (event_at es middle) (event_at es j) s.by_rule)
 
 -- a flagged event before, on which this one depends directly
-pub record Earlier (es : List Event) (flags : List Bool) (q : ℕ) : Type 0 where
+pub record Earlier (es : List Cause) (flags : List Bool) (q : ℕ) : Type 0 where
   pub place : ℕ
   pub before : place < q
   pub flagged : slice_index_or flags place false ≡ true
   pub direct : meets (touches (event_at es place)) (event_at es q) ≡ true
 
-Earlier-shift : (e : Event) (es : List Event) (b : Bool) (flags : List Bool) (q : ℕ) → Earlier es flags q → Earlier (e ∷ es) (b ∷ flags) (suc q)
+Earlier-shift : (e : Cause) (es : List Cause) (b : Bool) (flags : List Bool) (q : ℕ) → Earlier es flags q → Earlier (e ∷ es) (b ∷ flags) (suc q)
 Earlier-shift e es b flags q w = record { place = suc w.place; before = omega (arith, w.before); flagged = w.flagged; direct = w.direct }
 
-first_mark : (marks : ℕ → Bool) (e : Event) (es : List Event) (q : ℕ) → meets (marked marks e) (event_at es q) ≡ true → (meets marks (event_at es q) ≡ true) ⊎ Earlier (e ∷ es) (dependents_after marks (e ∷ es)) (suc q)
+first_mark : (marks : ℕ → Bool) (e : Cause) (es : List Cause) (q : ℕ) → meets (marked marks e) (event_at es q) ≡ true → (meets marks (event_at es q) ≡ true) ⊎ Earlier (e ∷ es) (dependents_after marks (e ∷ es)) (suc q)
 first_mark marks e es q h = ⊎_elim
     (λ t. ⊎_elim inl (λ u. inr (record { place = zero; before = omega arith; flagged = t; direct = u }))
     (meets-or marks (touches e) (event_at es q) (let g : meets (λ n. marks n || touches e n) (event_at es q) ≡ true = subst (λ b. meets (cond b (λ n. marks n || touches e n) marks) (event_at es q) ≡ true) t h in g)))
     (λ f. inl (subst (λ b. meets (cond b (λ n. marks n || touches e n) marks) (event_at es q) ≡ true) f h))
     (cases_Bool (meets marks e))
 
-why_flagged : (marks : ℕ → Bool) (es : List Event) (q : ℕ) → slice_index_or (dependents_after marks es) q false ≡ true → (meets marks (event_at es q) ≡ true) ⊎ Earlier es (dependents_after marks es) q
+why_flagged : (marks : ℕ → Bool) (es : List Cause) (q : ℕ) → slice_index_or (dependents_after marks es) q false ≡ true → (meets marks (event_at es q) ≡ true) ⊎ Earlier es (dependents_after marks es) q
 why_flagged marks [] q f = absurd (both_ways false refl f)
 why_flagged marks (e ∷ es) zero f = inl f
 why_flagged marks (e ∷ es) (suc q) f = ⊎_elim (first_mark marks e es q) (λ w. inr (Earlier-shift e es (meets marks e) (dependents_after (marked marks e) es) q w)) (why_flagged (marked marks e) es q f)
 
-pub why_dependent : (es : List Event) (i q : ℕ) → slice_index_or (dependents es i) q false ≡ true → (q ≡ i) ⊎ Earlier es (dependents es i) q
+pub why_dependent : (es : List Cause) (i q : ℕ) → slice_index_or (dependents es i) q false ≡ true → (q ≡ i) ⊎ Earlier es (dependents es i) q
 why_dependent [] i q f = absurd (both_ways false refl f)
 why_dependent (e ∷ es) zero zero f = inl refl
 why_dependent (e ∷ es) zero (suc q) f = ⊎_elim
@@ -105,7 +112,7 @@ why_dependent (e ∷ es) zero (suc q) f = ⊎_elim
 why_dependent (e ∷ es) (suc i) zero f = absurd (both_ways false refl f)
 why_dependent (e ∷ es) (suc i) (suc q) f = ⊎_elim (λ h. inl (ap suc h)) (λ w. inr (Earlier-shift e es false (dependents es i) q w)) (why_dependent es i q f)
 
-DependsOn_within : (fuel : ℕ) (es : List Event) (i q : ℕ) → q < fuel → q < length es → slice_index_or (dependents es i) q false ≡ true → DependsOn es i q
+DependsOn_within : (fuel : ℕ) (es : List Cause) (i q : ℕ) → q < fuel → q < length es → slice_index_or (dependents es i) q false ≡ true → DependsOn es i q
 DependsOn_within zero es i q u l f = absurd (omega arith)
 DependsOn_within (suc fuel) es i q u l f = ⊎_elim
     (λ h. subst (λ z. DependsOn es i z) (sym h) itself)
@@ -113,18 +120,18 @@ DependsOn_within (suc fuel) es i q u l f = ⊎_elim
     (record { before = w.before; within = l; by_rule = meets_rule (event_at es w.place) (event_at es q) w.direct }))
     (why_dependent es i q f)
 
-pub DependsOn_from_flag : (es : List Event) (i q : ℕ) → q < length es → slice_index_or (dependents es i) q false ≡ true → DependsOn es i q
+pub DependsOn_from_flag : (es : List Cause) (i q : ℕ) → q < length es → slice_index_or (dependents es i) q false ≡ true → DependsOn es i q
 DependsOn_from_flag es i q l f = DependsOn_within (suc q) es i q (omega arith) l f
 
 -- the flags are the dependent places
-pub dependents_exact : (es : List Event) (i j : ℕ) → i < length es → j < length es → IsTrue (slice_index_or (dependents es i) j false) ↔ DependsOn es i j
+pub dependents_exact : (es : List Cause) (i j : ℕ) → i < length es → j < length es → IsTrue (slice_index_or (dependents es i) j false) ↔ DependsOn es i j
 dependents_exact es i j k l = (DependsOn_from_flag es i j l, flag_from_DependsOn es i j k)
 
-length-dependents_after : (marks : ℕ → Bool) (es : List Event) → length (dependents_after marks es) ≡ length es
+length-dependents_after : (marks : ℕ → Bool) (es : List Cause) → length (dependents_after marks es) ≡ length es
 length-dependents_after marks [] = refl
 length-dependents_after marks (e ∷ es) = ap suc (length-dependents_after (marked marks e) es)
 
-pub length-dependents : (es : List Event) (i : ℕ) → length (dependents es i) ≡ length es
+pub length-dependents : (es : List Cause) (i : ℕ) → length (dependents es i) ≡ length es
 length-dependents [] i = refl
 length-dependents (e ∷ es) zero = ap suc (length-dependents_after (touches e) es)
 length-dependents (e ∷ es) (suc i) = ap suc (length-dependents es i)

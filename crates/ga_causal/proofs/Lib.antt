@@ -10,5 +10,6 @@ pub mod Refusals
 pub mod ChainLaws
 pub mod Oldest
 pub mod Noting
+pub mod Looks
 pub mod ChainOf
 pub mod Places

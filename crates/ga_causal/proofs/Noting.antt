@@ -2,20 +2,19 @@
 use Rattle.std.proofs.Common.{◌≡◌, ℕ, ◌+◌, ◌<◌, ◌≤◌, ◌≢◌, min, true, false, cond, List, [], ◌∷◌, length, get_or, sym, ◌∙◌, ap, subst, ⊎_elim, arith, slice_index_or}
 use Rattle.std.proofs.lemmas.List.{get_or_default}
 use Rattle.std.proofs.lemmas.Bool.{cases_Bool}
-use Rattle.ga_grid.specs.NodeId.{node_id}
-use Rattle.ga_event.specs.declared.event.Event.{Event}
-use Rattle.ga_event.specs.declared.event.Event.TheVariants.{Own}
-use Rattle.ga_event.specs.Touches.{touches, seen_by}
-use Rattle.ga_causal.specs.Dependence.{event_at, dependents, DependsOn}
+use Rattle.ga_event.specs.declared.event.Cause.{Cause}
+use Rattle.ga_causal.specs.Causes.{touches}
+use Rattle.ga_event.specs.Touches.{seen_by}
+use Rattle.ga_causal.specs.Dependence.{no_cause, event_at, dependents, DependsOn}
 use Rattle.ga_causal.specs.Firsts.{Oldest, first_at, least, IsFirsts}
 use Rattle.ga_causal.specs.Chains.{IsOldest}
 use Rattle.ga_causal.proofs.Exact.{flag_from_DependsOn}
 use Rattle.ga_causal.proofs.Oldest.{least_flag, flag_least, oldest_of, IsFirsts-first, IsFirsts-other, IsFirsts-noted}
 
-pub event_read : (es : List Event) (place : ℕ) (e : Event) → place < length es → e ≡ get_or es place e → event_at es place ≡ e
-event_read es place e l h = get_or_default es place (Own (node_id 0)) e l ∙ sym h
+pub event_read : (es : List Cause) (place : ℕ) (e : Cause) → place < length es → e ≡ get_or es place e → event_at es place ≡ e
+event_read es place e l h = get_or_default es place no_cause e l ∙ sym h
 
-least_read : (es : List Event) (place to : ℕ) (firsts : Oldest) (e : Event) (found : ℕ) → firsts.none ≡ to → place < length es → e ≡ get_or es place e → found ≡ least (first_at firsts) firsts.none (seen_by e) → found ≡ least (first_at firsts) to (seen_by (event_at es place))
+least_read : (es : List Cause) (place to : ℕ) (firsts : Oldest) (e : Cause) (found : ℕ) → firsts.none ≡ to → place < length es → e ≡ get_or es place e → found ≡ least (first_at firsts) firsts.none (seen_by e) → found ≡ least (first_at firsts) to (seen_by (event_at es place))
 least_read es place to firsts e found n l r f =
     f ∙ ap (λ z. least (first_at firsts) z (seen_by e)) n ∙ ap (λ z. least (first_at firsts) to (seen_by z)) (sym (event_read es place e l r))
 
@@ -24,20 +23,20 @@ least_most first none [] = omega arith
 least_most first none (n ∷ ns) = let h : least first none ns ≤ none = least_most first none ns in omega arith
 
 -- the cause is noted first
-pub noted_first : (es : List Event) (i to : ℕ) (fresh now : Oldest) (e : Event) → i < to → i < length es → e ≡ get_or es i e → ((n : ℕ) → first_at fresh n ≡ to) → ((n : ℕ) → first_at now n ≡ cond (touches e n) (min (first_at fresh n) i) (first_at fresh n)) → IsFirsts es i (i + 1) to (first_at now)
+pub noted_first : (es : List Cause) (i to : ℕ) (fresh now : Oldest) (e : Cause) → i < to → i < length es → e ≡ get_or es i e → ((n : ℕ) → first_at fresh n ≡ to) → ((n : ℕ) → first_at now n ≡ cond (touches e n) (min (first_at fresh n) i) (first_at fresh n)) → IsFirsts es i (i + 1) to (first_at now)
 noted_first es i to fresh now e l k r none is =
     IsFirsts-first es i to (first_at now) l k
     (λ n. is n ∙ ap (λ z. cond (touches e n) (min z i) z) (none n) ∙ ap (λ z. cond (touches z n) (min to i) to) (sym (event_read es i e k r)))
 
 -- an event that sees a node with a place is noted
-pub noted_more : (es : List Event) (i place to : ℕ) (firsts now : Oldest) (e : Event) (found : ℕ) → IsFirsts es i place to (first_at firsts) → firsts.none ≡ to → place < length es → place < to → e ≡ get_or es place e → found ≡ least (first_at firsts) firsts.none (seen_by e) → found < to → ((n : ℕ) → first_at now n ≡ cond (touches e n) (min (first_at firsts n) place) (first_at firsts n)) → IsFirsts es i (place + 1) to (first_at now)
+pub noted_more : (es : List Cause) (i place to : ℕ) (firsts now : Oldest) (e : Cause) (found : ℕ) → IsFirsts es i place to (first_at firsts) → firsts.none ≡ to → place < length es → place < to → e ≡ get_or es place e → found ≡ least (first_at firsts) firsts.none (seen_by e) → found < to → ((n : ℕ) → first_at now n ≡ cond (touches e n) (min (first_at firsts n) place) (first_at firsts n)) → IsFirsts es i (place + 1) to (first_at now)
 noted_more es i place to firsts now e found w n l k r f h is =
     let low : least (first_at firsts) to (seen_by (event_at es place)) < to = subst (λ z. z < to) (least_read es place to firsts e found n l r f) h in
     IsFirsts-noted es i place to (first_at firsts) (first_at now) k (least_flag es i place to (first_at firsts) w l low) w
     (λ m. is m ∙ ap (λ z. cond (touches z m) (min (first_at firsts m) place) (first_at firsts m)) (sym (event_read es place e l r)))
 
 -- another is not
-pub noted_none : (es : List Event) (i place to : ℕ) (firsts : Oldest) (e : Event) (found : ℕ) → IsFirsts es i place to (first_at firsts) → firsts.none ≡ to → i < place → place < length es → place < to → e ≡ get_or es place e → found ≡ least (first_at firsts) firsts.none (seen_by e) → to ≤ found → IsFirsts es i (place + 1) to (first_at firsts)
+pub noted_none : (es : List Cause) (i place to : ℕ) (firsts : Oldest) (e : Cause) (found : ℕ) → IsFirsts es i place to (first_at firsts) → firsts.none ≡ to → i < place → place < length es → place < to → e ≡ get_or es place e → found ≡ least (first_at firsts) firsts.none (seen_by e) → to ≤ found → IsFirsts es i (place + 1) to (first_at firsts)
 noted_none es i place to firsts e found w n a l k r f h = ⊎_elim
     (λ t. absurd (
     let low : least (first_at firsts) to (seen_by (event_at es place)) < to = flag_least es i place to (first_at firsts) w a (omega arith) t in
@@ -47,18 +46,18 @@ noted_none es i place to firsts e found w n a l k r f h = ⊎_elim
     (cases_Bool (slice_index_or (dependents es i) place false))
 
 -- the place read is that of the oldest cause
-pub oldest_read : (es : List Event) (i to at : ℕ) (firsts : Oldest) (e : Event) (before : ℕ) → IsFirsts es i to to (first_at firsts) → firsts.none ≡ to → i < length es → at < length es → at ≤ to → at ≢ i → slice_index_or (dependents es i) at false ≡ true → e ≡ get_or es at e → before ≡ least (first_at firsts) firsts.none (seen_by e) → IsOldest es i at before
+pub oldest_read : (es : List Cause) (i to at : ℕ) (firsts : Oldest) (e : Cause) (before : ℕ) → IsFirsts es i to to (first_at firsts) → firsts.none ≡ to → i < length es → at < length es → at ≤ to → at ≢ i → slice_index_or (dependents es i) at false ≡ true → e ≡ get_or es at e → before ≡ least (first_at firsts) firsts.none (seen_by e) → IsOldest es i at before
 oldest_read es i to at firsts e before w n l k m ne t r f =
     subst (λ z. IsOldest es i at z) (sym (least_read es at to firsts e before n k r f)) (oldest_of es i to at (first_at firsts) w l k m ne t)
 
 -- no place is read for an event that does not depend on the cause, and else one is
-pub none_read : (es : List Event) (i to : ℕ) (firsts : Oldest) (e : Event) (found : ℕ) → IsFirsts es i to to (first_at firsts) → firsts.none ≡ to → i < to → to < length es → e ≡ get_or es to e → found ≡ least (first_at firsts) firsts.none (seen_by e) → found ≡ to → DependsOn es i to → ⊥
+pub none_read : (es : List Cause) (i to : ℕ) (firsts : Oldest) (e : Cause) (found : ℕ) → IsFirsts es i to to (first_at firsts) → firsts.none ≡ to → i < to → to < length es → e ≡ get_or es to e → found ≡ least (first_at firsts) firsts.none (seen_by e) → found ≡ to → DependsOn es i to → ⊥
 none_read es i to firsts e found w n a l r f h d =
     let low : least (first_at firsts) to (seen_by (event_at es to)) < to = flag_least es i to to (first_at firsts) w a (omega arith) (flag_from_DependsOn es i to (omega arith) d) in
     let is : found ≡ least (first_at firsts) to (seen_by (event_at es to)) = least_read es to to firsts e found n l r f in
     omega arith
 
-pub some_read : (es : List Event) (i to : ℕ) (firsts : Oldest) (e : Event) (found : ℕ) → IsFirsts es i to to (first_at firsts) → firsts.none ≡ to → to < length es → e ≡ get_or es to e → found ≡ least (first_at firsts) firsts.none (seen_by e) → found ≢ to → slice_index_or (dependents es i) to false ≡ true
+pub some_read : (es : List Cause) (i to : ℕ) (firsts : Oldest) (e : Cause) (found : ℕ) → IsFirsts es i to to (first_at firsts) → firsts.none ≡ to → to < length es → e ≡ get_or es to e → found ≡ least (first_at firsts) firsts.none (seen_by e) → found ≢ to → slice_index_or (dependents es i) to false ≡ true
 some_read es i to firsts e found w n l r f h =
     let is : found ≡ least (first_at firsts) to (seen_by (event_at es to)) = least_read es to to firsts e found n l r f in
     let most : least (first_at firsts) to (seen_by (event_at es to)) ≤ to = least_most (first_at firsts) to (seen_by (event_at es to)) in

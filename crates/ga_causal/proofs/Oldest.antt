@@ -2,8 +2,9 @@
 use Rattle.std.proofs.Common.{◌≡◌, ℕ, ◌+◌, ◌<◌, ◌≤◌, ◌≢◌, ◌==◌, ◌⊎◌, min, Bool, true, false, cond, List, [], ◌∷◌, length, refl, sym, ◌∙◌, ap, subst, inl, inr, ⊎_elim, arith, slice_index_or, eq-eqb}
 use Rattle.std.specs.List.{list_any}
 use Rattle.std.proofs.lemmas.Bool.{or_left, or_right, or_cases, cases_Bool, cases_lt, cases_eq, both_ways, cond-true, cond-false, eqb-true}
-use Rattle.ga_event.specs.declared.event.Event.{Event}
-use Rattle.ga_event.specs.Touches.{touches, seen_by, meets}
+use Rattle.ga_event.specs.declared.event.Cause.{Cause}
+use Rattle.ga_causal.specs.Causes.{touches}
+use Rattle.ga_event.specs.Touches.{seen_by, meets}
 use Rattle.ga_causal.specs.Dependence.{event_at, dependents, DependsOn, itself, through}
 use Rattle.ga_causal.specs.Firsts.{least, IsFirsts}
 use Rattle.ga_causal.specs.Chains.{IsOldest}
@@ -55,7 +56,7 @@ met_at : (marks : ℕ → Bool) (ns : List ℕ) (n : ℕ) → Among ns n → mar
 met_at marks ns n t h = any-mono (λ k. k == n) marks (λ k q. subst (λ z. marks z ≡ true) (sym (eqb-true k n q)) h) ns t
 
 -- an event that meets an older dependent one, below the limit, sees a node with no later place
-least_cause : (es : List Event) (i limit none : ℕ) (first : ℕ → ℕ) (e : Event) (q : ℕ) → IsFirsts es i limit none first → q < limit → slice_index_or (dependents es i) q false ≡ true → meets (touches (event_at es q)) e ≡ true → least first none (seen_by e) ≤ q
+least_cause : (es : List Cause) (i limit none : ℕ) (first : ℕ → ℕ) (e : Cause) (q : ℕ) → IsFirsts es i limit none first → q < limit → slice_index_or (dependents es i) q false ≡ true → meets (touches (event_at es q)) e ≡ true → least first none (seen_by e) ≤ q
 least_cause es i limit none first e q w l f m =
     let k = marked_of (touches (event_at es q)) (seen_by e) m in
     let a : least first none (seen_by e) ≤ first k.node = least_below first none k.node (seen_by e) k.among in
@@ -63,12 +64,12 @@ least_cause es i limit none first e q w l f m =
     omega arith
 
 -- the least place, where there is one, is that of a dependent event below the limit, which the event meets
-record IsCause (es : List Event) (i limit : ℕ) (e : Event) (place : ℕ) : Type 0 where
+record IsCause (es : List Cause) (i limit : ℕ) (e : Cause) (place : ℕ) : Type 0 where
   below : place < limit
   dependent : slice_index_or (dependents es i) place false ≡ true
   direct : meets (touches (event_at es place)) e ≡ true
 
-cause_least : (es : List Event) (i limit none : ℕ) (first : ℕ → ℕ) (e : Event) → IsFirsts es i limit none first → least first none (seen_by e) < none → IsCause es i limit e (least first none (seen_by e))
+cause_least : (es : List Cause) (i limit none : ℕ) (first : ℕ → ℕ) (e : Cause) → IsFirsts es i limit none first → least first none (seen_by e) < none → IsCause es i limit e (least first none (seen_by e))
 cause_least es i limit none first e w l =
     let k = least_found first none (seen_by e) l in
     let h : first k.node < none = subst (λ z. z < none) (sym k.at) l in
@@ -80,12 +81,12 @@ cause_least es i limit none first e w l =
     })
 
 -- an event after the cause depends on it exactly where a node that it sees has a place
-pub least_flag : (es : List Event) (i place none : ℕ) (first : ℕ → ℕ) → IsFirsts es i place none first → place < length es → least first none (seen_by (event_at es place)) < none → slice_index_or (dependents es i) place false ≡ true
+pub least_flag : (es : List Cause) (i place none : ℕ) (first : ℕ → ℕ) → IsFirsts es i place none first → place < length es → least first none (seen_by (event_at es place)) < none → slice_index_or (dependents es i) place false ≡ true
 least_flag es i place none first w l h =
     let k = cause_least es i place none first (event_at es place) w h in
     flag_direct es i _ place k.dependent k.below l k.direct
 
-pub flag_least : (es : List Event) (i place none : ℕ) (first : ℕ → ℕ) → IsFirsts es i place none first → i < place → place ≤ none → slice_index_or (dependents es i) place false ≡ true → least first none (seen_by (event_at es place)) < none
+pub flag_least : (es : List Cause) (i place none : ℕ) (first : ℕ → ℕ) → IsFirsts es i place none first → i < place → place ≤ none → slice_index_or (dependents es i) place false ≡ true → least first none (seen_by (event_at es place)) < none
 flag_least es i place none first w l m f = ⊎_elim
     (λ e. absurd (omega arith))
     (λ k. let h : least first none (seen_by (event_at es place)) ≤ k.place = least_cause es i place none first (event_at es place) k.place w k.before k.flagged k.direct in
@@ -93,7 +94,7 @@ flag_least es i place none first w l m f = ⊎_elim
     (why_dependent es i place f)
 
 -- the least place is that of the oldest event on which it depends directly
-pub oldest_of : (es : List Event) (i to place : ℕ) (first : ℕ → ℕ) → IsFirsts es i to to first → i < length es → place < length es → place ≤ to → place ≢ i → slice_index_or (dependents es i) place false ≡ true → IsOldest es i place (least first to (seen_by (event_at es place)))
+pub oldest_of : (es : List Cause) (i to place : ℕ) (first : ℕ → ℕ) → IsFirsts es i to to first → i < length es → place < length es → place ≤ to → place ≢ i → slice_index_or (dependents es i) place false ≡ true → IsOldest es i place (least first to (seen_by (event_at es place)))
 oldest_of es i to place first w l k m ne f = ⊎_elim (λ e. absurd (ne e)) go (why_dependent es i place f)
   where
     go : Earlier es (dependents es i) place → IsOldest es i place (least first to (seen_by (event_at es place)))
@@ -109,12 +110,12 @@ oldest_of es i to place first w l k m ne f = ⊎_elim (λ e. absurd (ne e)) go (
         }
 
 -- no event depends on a later one
-pub DependsOn-order : (es : List Event) (i q : ℕ) → DependsOn es i q → i ≤ q
+pub DependsOn-order : (es : List Cause) (i q : ℕ) → DependsOn es i q → i ≤ q
 DependsOn-order es i q itself = omega arith
 DependsOn-order es i q (through {middle} d s) = let h : i ≤ middle = DependsOn-order es i middle d in omega (arith, s.before)
 
 -- before any event is noted
-pub IsFirsts-first : (es : List Event) (i none : ℕ) (first : ℕ → ℕ) → i < none → i < length es → ((n : ℕ) → first n ≡ cond (touches (event_at es i) n) (min none i) none) → IsFirsts es i (i + 1) none first
+pub IsFirsts-first : (es : List Cause) (i none : ℕ) (first : ℕ → ℕ) → i < none → i < length es → ((n : ℕ) → first n ≡ cond (touches (event_at es i) n) (min none i) none) → IsFirsts es i (i + 1) none first
 IsFirsts-first es i none first l k is = record {
   noted = λ n h. (let e : first n ≡ i = at n h in omega arith);
   dependent = λ n h. subst (λ z. slice_index_or (dependents es i) z false ≡ true) (sym (at n h)) (flag_itself es i k);
@@ -132,7 +133,7 @@ IsFirsts-first es i none first l k is = record {
     only q m f = let h : i ≤ q = DependsOn-order es i q (DependsOn_from_flag es i q (omega arith) f) in omega arith
 
 -- an event that does not depend on the cause
-pub IsFirsts-other : (es : List Event) (i place none : ℕ) (first : ℕ → ℕ) → slice_index_or (dependents es i) place false ≡ false → IsFirsts es i place none first → IsFirsts es i (place + 1) none first
+pub IsFirsts-other : (es : List Cause) (i place none : ℕ) (first : ℕ → ℕ) → slice_index_or (dependents es i) place false ≡ false → IsFirsts es i place none first → IsFirsts es i (place + 1) none first
 IsFirsts-other es i place none first free w = record {
   noted = λ n h. (let k : first n < place = w.noted n h in omega arith);
   dependent = w.dependent;
@@ -144,7 +145,7 @@ IsFirsts-other es i place none first free w = record {
 }
 
 -- one that does
-pub IsFirsts-noted : (es : List Event) (i place none : ℕ) (first now : ℕ → ℕ) → place < none → slice_index_or (dependents es i) place false ≡ true → IsFirsts es i place none first → ((n : ℕ) → now n ≡ cond (touches (event_at es place) n) (min (first n) place) (first n)) → IsFirsts es i (place + 1) none now
+pub IsFirsts-noted : (es : List Cause) (i place none : ℕ) (first now : ℕ → ℕ) → place < none → slice_index_or (dependents es i) place false ≡ true → IsFirsts es i place none first → ((n : ℕ) → now n ≡ cond (touches (event_at es place) n) (min (first n) place) (first n)) → IsFirsts es i (place + 1) none now
 IsFirsts-noted es i place none first now l f w is = record {
   noted = λ n h. elim (split n) [ inl e ↦ (let k : first n < place = w.noted n (subst (λ z. z < none) e h) in omega arith) | inr e ↦ (let g : now n ≡ place = e.1 in omega arith) ];
   dependent = λ n h. elim (split n) [

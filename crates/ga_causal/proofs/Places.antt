@@ -7,8 +7,8 @@ use Rattle.std.proofs.lemmas.Option.{same_Some}
 use Rattle.std.proofs.lemmas.List.{drop_all}
 use Rattle.std.proofs.lemmas.List.Sums.{sum_by-cons}
 use Rattle.std.specs.Prelude.{Option, Some, None, option_map}
-use Rattle.ga_event.specs.declared.event.Event.{Event}
-use Rattle.ga_event.specs.Touches.{touches}
+use Rattle.ga_event.specs.declared.event.Cause.{Cause}
+use Rattle.ga_causal.specs.Causes.{touches}
 use Rattle.ga_causal.specs.Steps.{touching, place_of, IsStep}
 use Rattle.ga_causal.proofs.Refusals.{place-first, place-touched, place-other, some-shift, shifted_of}
 
@@ -25,54 +25,54 @@ on_by-suc i None = refl
 on_by-suc i (Some q) = ap Some (let h : i + suc q ≡ i + 1 + q = omega arith in h)
 
 -- the list from a place on begins with the event there
-drop_at : (es : List Event) (i : ℕ) (e : Event) → i < length es → e ≡ get_or es i e → drop i es ≡ e ∷ drop (i + 1) es
+drop_at : (es : List Cause) (i : ℕ) (e : Cause) → i < length es → e ≡ get_or es i e → drop i es ≡ e ∷ drop (i + 1) es
 drop_at es i e l is =
     drop-cons es i e l ∙ ap (λ z. z ∷ drop (suc i) es) (sym is) ∙ ap (λ (k : ℕ). e ∷ drop k es) (let h : suc i ≡ i + 1 = omega arith in h)
 
 -- the search from a place on, by the event there
-pub on_found : (es : List Event) (n i left : ℕ) (e : Event) → i < length es → e ≡ get_or es i e → touches e n ≡ true → left ≡ 0 → on_by i (place_of (drop i es) n (suc left)) ≡ Some i
+pub on_found : (es : List Cause) (n i left : ℕ) (e : Cause) → i < length es → e ≡ get_or es i e → touches e n ≡ true → left ≡ 0 → on_by i (place_of (drop i es) n (suc left)) ≡ Some i
 on_found es n i left e l is t none =
     ap (λ (k : ℕ). on_by i (place_of (drop i es) n (suc k))) none
     ∙ ap (λ z. on_by i (place_of z n 1)) (drop_at es i e l is) ∙ ap (on_by i) (place-first e (drop (i + 1) es) n t)
     ∙ ap Some (let h : i + 0 ≡ i = omega arith in h)
 
-pub on_touched : (es : List Event) (n i left : ℕ) (e : Event) → i < length es → e ≡ get_or es i e → touches e n ≡ true → on_by i (place_of (drop i es) n (suc (suc left))) ≡ on_by (i + 1) (place_of (drop (i + 1) es) n (suc left))
+pub on_touched : (es : List Cause) (n i left : ℕ) (e : Cause) → i < length es → e ≡ get_or es i e → touches e n ≡ true → on_by i (place_of (drop i es) n (suc (suc left))) ≡ on_by (i + 1) (place_of (drop (i + 1) es) n (suc left))
 on_touched es n i left e l is t =
     ap (λ z. on_by i (place_of z n (suc (suc left)))) (drop_at es i e l is) ∙ ap (on_by i) (place-touched e (drop (i + 1) es) n left t)
     ∙ on_by-suc i (place_of (drop (i + 1) es) n (suc left))
 
-pub on_other : (es : List Event) (n i left : ℕ) (e : Event) → i < length es → e ≡ get_or es i e → touches e n ≡ false → on_by i (place_of (drop i es) n (suc left)) ≡ on_by (i + 1) (place_of (drop (i + 1) es) n (suc left))
+pub on_other : (es : List Cause) (n i left : ℕ) (e : Cause) → i < length es → e ≡ get_or es i e → touches e n ≡ false → on_by i (place_of (drop i es) n (suc left)) ≡ on_by (i + 1) (place_of (drop (i + 1) es) n (suc left))
 on_other es n i left e l is t =
     ap (λ z. on_by i (place_of z n (suc left))) (drop_at es i e l is) ∙ ap (on_by i) (place-other e (drop (i + 1) es) n left t)
     ∙ on_by-suc i (place_of (drop (i + 1) es) n (suc left))
 
 -- no step has number 0
-pub place-zero : (es : List Event) (n : ℕ) → place_of es n 0 ≡ None
+pub place-zero : (es : List Cause) (n : ℕ) → place_of es n 0 ≡ None
 place-zero [] n = refl
 place-zero (e ∷ es) n = refl
 
 -- past the list nothing is found
-pub on_end : (es : List Event) (n i k : ℕ) → length es ≤ i → on_by i (place_of (drop i es) n k) ≡ None
+pub on_end : (es : List Cause) (n i k : ℕ) → length es ≤ i → on_by i (place_of (drop i es) n k) ≡ None
 on_end es n i k l = ap (λ z. on_by i (place_of z n k)) (drop_all i es l)
 
 -- one event more
-touching-cons : (n : ℕ) (e : Event) (es : List Event) → touching n (e ∷ es) ≡ cond (touches e n) 1 0 + touching n es
-touching-cons n e es = sum_by-cons (λ (x : Event). cond (touches x n) 1 0) e es
+touching-cons : (n : ℕ) (e : Cause) (es : List Cause) → touching n (e ∷ es) ≡ cond (touches e n) 1 0 + touching n es
+touching-cons n e es = sum_by-cons (λ (x : Cause). cond (touches x n) 1 0) e es
 
-touching_yes : (n : ℕ) (e : Event) (es : List Event) → touches e n ≡ true → touching n (e ∷ es) ≡ suc (touching n es)
+touching_yes : (n : ℕ) (e : Cause) (es : List Cause) → touches e n ≡ true → touching n (e ∷ es) ≡ suc (touching n es)
 touching_yes n e es t = sum _ _ (touching-cons n e es) (ap (λ (z : Bool). cond {A = ℕ} z 1 0) t)
   where
     sum : (a b : ℕ) → a ≡ b + touching n es → b ≡ 1 → a ≡ suc (touching n es)
     sum a b p q = omega arith
 
-touching_no : (n : ℕ) (e : Event) (es : List Event) → touches e n ≡ false → touching n (e ∷ es) ≡ touching n es
+touching_no : (n : ℕ) (e : Cause) (es : List Cause) → touches e n ≡ false → touching n (e ∷ es) ≡ touching n es
 touching_no n e es t = sum _ _ (touching-cons n e es) (ap (λ (z : Bool). cond {A = ℕ} z 1 0) t)
   where
     sum : (a b : ℕ) → a ≡ b + touching n es → b ≡ 0 → a ≡ touching n es
     sum a b p q = omega arith
 
 -- a step stands up to the number of events that touch the node
-pub place_stands : (es : List Event) (n k : ℕ) → is_some (place_of es n (suc k)) ≡ nat_lt k (touching n es)
+pub place_stands : (es : List Cause) (n k : ℕ) → is_some (place_of es n (suc k)) ≡ nat_lt k (touching n es)
 place_stands [] n k = sym (le-ltb k 0 (omega arith))
 place_stands (e ∷ es) n zero = ⊎_elim
     (λ t. ap is_some (place-first e es n t) ∙ sym (lt-ltb 0 (touching n (e ∷ es)) (let h = touching_yes n e es t in omega (arith, h))))
@@ -89,7 +89,7 @@ place_stands (e ∷ es) n (suc k) = ⊎_elim
         (λ l. le-ltb a b l ∙ sym (le-ltb (suc a) (suc b) (omega arith)))
         (cases_lt a b)
 
-pub stands_exact : (es : List Event) (n k : ℕ) → IsSome (place_of es n k) ↔ ((0 < k) × (k ≤ touching n es))
+pub stands_exact : (es : List Cause) (n k : ℕ) → IsSome (place_of es n k) ↔ ((0 < k) × (k ≤ touching n es))
 stands_exact es n zero = (λ h. absurd (both_ways false refl (sym (ap is_some (place-zero es n)) ∙ h)), λ p. absurd (omega (arith, p.0)))
 stands_exact es n (suc k) = (
   λ h. let l : k < touching n es = ltb-true k (touching n es) (sym (place_stands es n k) ∙ h) in (omega arith, omega (arith, l)),
@@ -97,17 +97,17 @@ stands_exact es n (suc k) = (
 )
 
 -- and is one
-step_later : (e : Event) (es : List Event) (n k place : ℕ) → touches e n ≡ true → IsStep es n k place → IsStep (e ∷ es) n (suc k) (suc place)
+step_later : (e : Cause) (es : List Cause) (n k place : ℕ) → touches e n ≡ true → IsStep es n k place → IsStep (e ∷ es) n (suc k) (suc place)
 step_later e es n k place t s =
     let a = touching_yes n e (take place es) t in
     record { within = omega (arith, s.within); touched = s.touched; before = omega (arith, s.before, a) }
 
-step_past : (e : Event) (es : List Event) (n k place : ℕ) → touches e n ≡ false → IsStep es n k place → IsStep (e ∷ es) n k (suc place)
+step_past : (e : Cause) (es : List Cause) (n k place : ℕ) → touches e n ≡ false → IsStep es n k place → IsStep (e ∷ es) n k (suc place)
 step_past e es n k place f s =
     let a = touching_no n e (take place es) f in
     record { within = omega (arith, s.within); touched = s.touched; before = omega (arith, s.before, a) }
 
-pub place_step : (es : List Event) (n k place : ℕ) → place_of es n k ≡ Some place → IsStep es n k place
+pub place_step : (es : List Cause) (n k place : ℕ) → place_of es n k ≡ Some place → IsStep es n k place
 place_step [] n k place h = absurd (cc)
 place_step (e ∷ es) n zero place h = absurd (cc)
 place_step (e ∷ es) n (suc zero) place h = ⊎_elim
@@ -123,7 +123,7 @@ place_step (e ∷ es) n (suc (suc i)) place h = ⊎_elim
     (cases_Bool (touches e n))
 
 -- the place of a step in a list of two parts
-pub place_split : (n j : ℕ) (xs : List Event) (x : Event) (ys : List Event) → touching n xs ≡ j → touches x n ≡ true → place_of (xs ++ x ∷ ys) n (suc j) ≡ Some (length xs)
+pub place_split : (n j : ℕ) (xs : List Cause) (x : Cause) (ys : List Cause) → touching n xs ≡ j → touches x n ≡ true → place_of (xs ++ x ∷ ys) n (suc j) ≡ Some (length xs)
 place_split n zero [] x ys q t = place-first x ys n t
 place_split n (suc j) [] x ys q t = absurd (zero_suc j q)
   where
@@ -138,7 +138,7 @@ place_split n (suc j) (e ∷ es) x ys q t = ⊎_elim
     (λ no. place-other e (es ++ x ∷ ys) n (suc j) no ∙ ap (option_map suc) (place_split n (suc j) es x ys (sym (touching_no n e es no) ∙ q) t))
     (cases_Bool (touches e n))
 
-pub place_more : (n j : ℕ) (xs ys : List Event) → j < touching n xs → place_of (xs ++ ys) n (suc j) ≡ place_of xs n (suc j)
+pub place_more : (n j : ℕ) (xs ys : List Cause) → j < touching n xs → place_of (xs ++ ys) n (suc j) ≡ place_of xs n (suc j)
 place_more n j [] ys l = absurd (omega (arith, l))
 place_more n zero (e ∷ es) ys l = ⊎_elim
     (λ yes. place-first e (es ++ ys) n yes ∙ sym (place-first e es n yes))

@@ -3,8 +3,9 @@ use Rattle.std.proofs.Common.{◌≡◌, ℕ, zero, suc, ◌<◌, ◌↔◌, Boo
 use Rattle.std.specs.Prelude.{option_map}
 use Rattle.std.proofs.lemmas.Bool.{or_left, or_right, cases_Bool, both_ways, cond-true, cond-false, ne_eqb, eqb-true, not-false, false_from_ne_true}
 use Rattle.std.proofs.lemmas.Option.{same_Some}
-use Rattle.ga_event.specs.declared.event.Event.{Event}
-use Rattle.ga_event.specs.Touches.{nodes_of, touches, meets}
+use Rattle.ga_event.specs.declared.event.Cause.{Cause}
+use Rattle.ga_causal.specs.Causes.{nodes_of, touches}
+use Rattle.ga_event.specs.Touches.{meets}
 use Rattle.ga_causal.specs.Dependence.{marked, event_at, dependents_after, dependents, rest, DependsOn}
 use Rattle.ga_causal.specs.Steps.{place_of}
 use Rattle.ga_event.proofs.Locality.{meets-touched}
@@ -13,15 +14,15 @@ use Rattle.ga_causal.proofs.Runs.{kept}
 use Rattle.ga_causal.proofs.Rollbacks.{kept-dropped, kept-kept}
 
 -- the place of a step by cases
-pub place-first : (e : Event) (es : List Event) (n : ℕ) → touches e n ≡ true → place_of (e ∷ es) n 1 ≡ Some 0
+pub place-first : (e : Cause) (es : List Cause) (n : ℕ) → touches e n ≡ true → place_of (e ∷ es) n 1 ≡ Some 0
 place-first e es n t = cond-true (touches e n) (Some 0) (option_map suc (place_of es n 1)) t
 
-pub place-touched : (e : Event) (es : List Event) (n i : ℕ) → touches e n ≡ true → place_of (e ∷ es) n (suc (suc i)) ≡ option_map suc (place_of es n (suc i))
+pub place-touched : (e : Cause) (es : List Cause) (n i : ℕ) → touches e n ≡ true → place_of (e ∷ es) n (suc (suc i)) ≡ option_map suc (place_of es n (suc i))
 place-touched e es n i t =
     cond-true (touches e n) (cond (suc i == 0) (Some 0) (option_map suc (place_of es n (suc i)))) (option_map suc (place_of es n (suc (suc i)))) t
     ∙ cond-false (suc i == 0) (Some 0) (option_map suc (place_of es n (suc i))) (ne_eqb (suc i) 0 (λ q. omega arith))
 
-pub place-other : (e : Event) (es : List Event) (n i : ℕ) → touches e n ≡ false → place_of (e ∷ es) n (suc i) ≡ option_map suc (place_of es n (suc i))
+pub place-other : (e : Cause) (es : List Cause) (n i : ℕ) → touches e n ≡ false → place_of (e ∷ es) n (suc i) ≡ option_map suc (place_of es n (suc i))
 place-other e es n i f = cond-false (touches e n) _ (option_map suc (place_of es n (suc i))) f
 
 -- what was found under a shift
@@ -39,7 +40,7 @@ some-shift None = refl
 some-shift (Some p) = refl
 
 -- the event there touches the node
-pub touching : (es : List Event) (n k q : ℕ) → place_of es n k ≡ Some q → (q < length es) × (touches (event_at es q) n ≡ true)
+pub touching : (es : List Cause) (n k q : ℕ) → place_of es n k ≡ Some q → (q < length es) × (touches (event_at es q) n ≡ true)
 touching [] n k q h = absurd (cc)
 touching (e ∷ es) n zero q h = absurd (cc)
 touching (e ∷ es) n (suc zero) q h = ⊎_elim
@@ -58,11 +59,11 @@ touching (e ∷ es) n (suc (suc i)) q h = ⊎_elim
     subst (λ w. (w < suc (length es)) × (touches (event_at (e ∷ es) w) n ≡ true)) (sym s.shift) (omega (arith, r.0), r.1))
     (cases_Bool (touches e n))
 
-touch_meets : (marks : ℕ → Bool) (e : Event) (n : ℕ) → marks n ≡ true → touches e n ≡ true → meets marks e ≡ true
+touch_meets : (marks : ℕ → Bool) (e : Cause) (n : ℕ) → marks n ≡ true → touches e n ≡ true → meets marks e ≡ true
 touch_meets marks e n m t = meets-touched marks e (any-mono (λ k. k == n) marks (λ k q. subst (λ z. marks z ≡ true) (sym (eqb-true k n q)) m) (nodes_of e) t)
 
 -- no step of a marked node stays
-none_kept : (marks : ℕ → Bool) (es : List Event) (n k : ℕ) → marks n ≡ true → place_of (kept marks es) n k ≡ None
+none_kept : (marks : ℕ → Bool) (es : List Cause) (n k : ℕ) → marks n ≡ true → place_of (kept marks es) n k ≡ None
 none_kept marks [] n k m = refl
 none_kept marks (e ∷ es) n k m = ⊎_elim
     (λ t. ap (λ z. place_of z n k) (kept-dropped marks e es t) ∙ none_kept (λ a. marks a || touches e a) es n k (or_left (marks n) (touches e n) m))
@@ -74,39 +75,39 @@ none_kept marks (e ∷ es) n k m = ⊎_elim
     later (suc j) f h = place-other e (kept marks es) n j f ∙ ap (λ (o : Option ℕ). option_map suc o) (h (suc j))
 
 -- the step stands after the drop exactly where its event was not flagged
-Stands : List Event → List Bool → ℕ → ℕ → ℕ → Type 0
+Stands : List Cause → List Bool → ℕ → ℕ → ℕ → Type 0
 Stands now flags n k q = is_some (place_of now n k) ≡ not (slice_index_or flags q false)
 
-stands_none : (now : List Event) (flags : List Bool) (n k q : ℕ) → place_of now n k ≡ None → slice_index_or flags q false ≡ true → Stands now flags n k q
+stands_none : (now : List Cause) (flags : List Bool) (n k q : ℕ) → place_of now n k ≡ None → slice_index_or flags q false ≡ true → Stands now flags n k q
 unfolding Stands
 stands_none now flags n k q h f = ap is_some h ∙ sym (ap not f)
 
-stands_first : (e : Event) (es : List Event) (flags : List Bool) (n : ℕ) → touches e n ≡ true → slice_index_or flags 0 false ≡ false → Stands (e ∷ es) flags n 1 0
+stands_first : (e : Cause) (es : List Cause) (flags : List Bool) (n : ℕ) → touches e n ≡ true → slice_index_or flags 0 false ≡ false → Stands (e ∷ es) flags n 1 0
 unfolding Stands
 stands_first e es flags n t f = ap is_some (place-first e es n t) ∙ sym (ap not f)
 
-stands_touched : (e : Event) (es : List Event) (b : Bool) (flags : List Bool) (n i q : ℕ) → touches e n ≡ true → Stands es flags n (suc i) q → Stands (e ∷ es) (b ∷ flags) n (suc (suc i)) (suc q)
+stands_touched : (e : Cause) (es : List Cause) (b : Bool) (flags : List Bool) (n i q : ℕ) → touches e n ≡ true → Stands es flags n (suc i) q → Stands (e ∷ es) (b ∷ flags) n (suc (suc i)) (suc q)
 unfolding Stands
 stands_touched e es b flags n i q t h = ap is_some (place-touched e es n i t) ∙ some-shift (place_of es n (suc i)) ∙ h
 
-stands_other : (e : Event) (es : List Event) (b : Bool) (flags : List Bool) (n i q : ℕ) → touches e n ≡ false → Stands es flags n (suc i) q → Stands (e ∷ es) (b ∷ flags) n (suc i) (suc q)
+stands_other : (e : Cause) (es : List Cause) (b : Bool) (flags : List Bool) (n i q : ℕ) → touches e n ≡ false → Stands es flags n (suc i) q → Stands (e ∷ es) (b ∷ flags) n (suc i) (suc q)
 unfolding Stands
 stands_other e es b flags n i q f h = ap is_some (place-other e es n i f) ∙ some-shift (place_of es n (suc i)) ∙ h
 
-stands_dropped : (now : List Event) (b : Bool) (flags : List Bool) (n k q : ℕ) → Stands now flags n k q → Stands now (b ∷ flags) n k (suc q)
+stands_dropped : (now : List Cause) (b : Bool) (flags : List Bool) (n k q : ℕ) → Stands now flags n k q → Stands now (b ∷ flags) n k (suc q)
 unfolding Stands
 stands_dropped now b flags n k q h = h
 
-stands_at : (now : List Event) (flags : List Bool) (n k p q : ℕ) → p ≡ q → Stands now flags n k p → Stands now flags n k q
+stands_at : (now : List Cause) (flags : List Bool) (n k p q : ℕ) → p ≡ q → Stands now flags n k p → Stands now flags n k q
 stands_at now flags n k p q e h = subst (λ z. Stands now flags n k z) e h
 
 -- what a step of the list without its first event is, or the first itself
-pub data FoundAt (e : Event) (es : List Event) (n : ℕ) : ℕ → ℕ → Type 0 where
+pub data FoundAt (e : Cause) (es : List Cause) (n : ℕ) : ℕ → ℕ → Type 0 where
   at_first : touches e n ≡ true → FoundAt e es n 1 0
   after_touched : {i q : ℕ} → touches e n ≡ true → place_of es n (suc i) ≡ Some q → FoundAt e es n (suc (suc i)) (suc q)
   after_other : {i q : ℕ} → touches e n ≡ false → place_of es n (suc i) ≡ Some q → FoundAt e es n (suc i) (suc q)
 
-found_at : (e : Event) (es : List Event) (n k q : ℕ) → place_of (e ∷ es) n k ≡ Some q → FoundAt e es n k q
+found_at : (e : Cause) (es : List Cause) (n k q : ℕ) → place_of (e ∷ es) n k ≡ Some q → FoundAt e es n k q
 found_at e es n zero q h = absurd (cc)
 found_at e es n (suc zero) q h = ⊎_elim
     (λ t. subst (λ z. FoundAt e es n 1 z) (same_Some 0 q (sym (place-first e es n t) ∙ h)) (at_first t))
@@ -117,22 +118,22 @@ found_at e es n (suc (suc i)) q h = ⊎_elim
     (λ f. let s = shifted_of (place_of es n (suc (suc i))) q (sym (place-other e es n (suc i) f) ∙ h) in subst (λ z. FoundAt e es n (suc (suc i)) z) (sym s.shift) (after_other f s.is))
     (cases_Bool (touches e n))
 
-joined : (ℕ → Bool) → Event → ℕ → Bool
+joined : (ℕ → Bool) → Cause → ℕ → Bool
 joined marks e n = marks n || touches e n
 
-flag_of : (marks : ℕ → Bool) (es : List Event) (n k q : ℕ) → marks n ≡ true → place_of es n k ≡ Some q → slice_index_or (dependents_after marks es) q false ≡ true
+flag_of : (marks : ℕ → Bool) (es : List Cause) (n k q : ℕ) → marks n ≡ true → place_of es n k ≡ Some q → slice_index_or (dependents_after marks es) q false ≡ true
 flag_of marks es n k q m h = let r = touching es n k q h in flag_marked marks es q r.0 (touch_meets marks (event_at es q) n m r.1)
 
-marked-stays : (marks : ℕ → Bool) (e : Event) (n : ℕ) → meets marks e ≡ true → touches e n ≡ true → marked marks e n ≡ true
+marked-stays : (marks : ℕ → Bool) (e : Cause) (n : ℕ) → meets marks e ≡ true → touches e n ≡ true → marked marks e n ≡ true
 marked-stays marks e n m t = rw m (or_right (marks n) (touches e n) t)
 
-after_drop : (marks : ℕ → Bool) (e : Event) (es : List Event) → meets marks e ≡ true → kept marks (e ∷ es) ≡ kept (marked marks e) es
+after_drop : (marks : ℕ → Bool) (e : Cause) (es : List Cause) → meets marks e ≡ true → kept marks (e ∷ es) ≡ kept (marked marks e) es
 after_drop marks e es m = kept-dropped marks e es m ∙ ap (λ z. kept z es) (sym (cond-true (meets marks e) (λ n. marks n || touches e n) marks m))
 
-after_keep : (marks : ℕ → Bool) (e : Event) (es : List Event) → meets marks e ≡ false → kept marks (e ∷ es) ≡ e ∷ kept (marked marks e) es
+after_keep : (marks : ℕ → Bool) (e : Cause) (es : List Cause) → meets marks e ≡ false → kept marks (e ∷ es) ≡ e ∷ kept (marked marks e) es
 after_keep marks e es f = kept-kept marks e es f ∙ ap (λ z. e ∷ kept z es) (sym (cond-false (meets marks e) (λ n. marks n || touches e n) marks f))
 
-kept_stands : (marks : ℕ → Bool) (es : List Event) (n k q : ℕ) → place_of es n k ≡ Some q → Stands (kept marks es) (dependents_after marks es) n k q
+kept_stands : (marks : ℕ → Bool) (es : List Cause) (n k q : ℕ) → place_of es n k ≡ Some q → Stands (kept marks es) (dependents_after marks es) n k q
 kept_stands marks [] n k q h = absurd (cc)
 kept_stands marks (e ∷ es) n k q h = go k q (found_at e es n k q h) (λ j p. kept_stands (marked marks e) es n j p)
   where
@@ -150,7 +151,7 @@ kept_stands marks (e ∷ es) n k q h = go k q (found_at e es n k q h) (λ j p. k
         (λ f. subst (λ z. Stands z (dependents_after marks (e ∷ es)) n (suc i) (suc r)) (sym (after_keep marks e es f)) (stands_other e (kept (marked marks e) es) (meets marks e) (dependents_after (marked marks e) es) n i r o (ih (suc i) r w)))
         (cases_Bool (meets marks e))
 
-rest_stands : (es : List Event) (i n k q : ℕ) → place_of es n k ≡ Some q → Stands (rest es i) (dependents es i) n k q
+rest_stands : (es : List Cause) (i n k q : ℕ) → place_of es n k ≡ Some q → Stands (rest es i) (dependents es i) n k q
 rest_stands [] i n k q h = absurd (cc)
 rest_stands (e ∷ es) zero n k q h = go k q (found_at e es n k q h)
   where
@@ -169,7 +170,7 @@ not_of : (b c : Bool) → c ≡ not b → ((c ≡ false) → (b ≡ true)) × ((
 not_of b c e = ((λ h. not-false b (sym e ∙ h)), (λ h. e ∙ ap not h))
 
 -- a step stands no more after the rollback exactly where its event depends on the one taken back
-pub refused_exactly : (events : List Event) (n k m j i q : ℕ) → place_of events n k ≡ Some i → place_of events m j ≡ Some q → IsNone (place_of (rest events i) m j) ↔ DependsOn events i q
+pub refused_exactly : (events : List Cause) (n k m j i q : ℕ) → place_of events n k ≡ Some i → place_of events m j ≡ Some q → IsNone (place_of (rest events i) m j) ↔ DependsOn events i q
 unfolding Stands
 refused_exactly es n k m j i q h g =
     let u : i < length es = (touching es n k i h).0 in

@@ -6,26 +6,27 @@ use mathlib.Core.Path.{fun_ext}
 use Rattle.std.specs.List.Sorted.{IsPermutation}
 use Rattle.std.proofs.lemmas.List.Sorted.{list_any-IsPermutation}
 use Rattle.std.proofs.lemmas.Bool.{or_cases, or_parts, or_left, or_right, or_from, and_from, cases_Bool, both_ways, cond-true, cond-false, false_from_ne_true, eq-eqb, ne_eqb}
-use Rattle.ga_event.specs.declared.event.Event.{Event}
-use Rattle.ga_event.specs.Touches.{nodes_of, touches, seen_by, meets}
+use Rattle.ga_event.specs.declared.event.Cause.{Cause}
+use Rattle.ga_causal.specs.Causes.{nodes_of, touches}
+use Rattle.ga_event.specs.Touches.{seen_by, meets}
 use Rattle.ga_causal.specs.Steps.{counted, place_of, rest_from, rewound, rewound_all}
 use Rattle.ga_event.proofs.Locality.{meets-touched}
 use Rattle.ga_causal.proofs.Exact.{any-mono, any-or, meets-mono, meets-or}
 use Rattle.ga_causal.proofs.Runs.{kept}
 
 -- one of the event's steps is among those to be taken back, after so many steps of each node
-abbrev is_cut : (ℕ → ℕ) → (ℕ → ℕ → Bool) → Event → Bool
+abbrev is_cut : (ℕ → ℕ) → (ℕ → ℕ → Bool) → Cause → Bool
 is_cut c cut e = list_any (λ n. cut n (c n + 1)) (nodes_of e)
 
 -- the events that are left when all these steps are taken back at once, with what depends on them
-abbrev walk : (ℕ → Bool) → (ℕ → ℕ) → (ℕ → ℕ → Bool) → List Event → List Event
+abbrev walk : (ℕ → Bool) → (ℕ → ℕ) → (ℕ → ℕ → Bool) → List Cause → List Cause
 walk marks c cut [] = []
 walk marks c cut (e ∷ es) = cond (meets marks e || is_cut c cut e) (walk (λ n. marks n || touches e n) c cut es) (e ∷ walk marks (counted c e) cut es)
 
-walk-dropped : (marks : ℕ → Bool) (c : ℕ → ℕ) (cut : ℕ → ℕ → Bool) (e : Event) (es : List Event) → (meets marks e || is_cut c cut e) ≡ true → walk marks c cut (e ∷ es) ≡ walk (λ n. marks n || touches e n) c cut es
+walk-dropped : (marks : ℕ → Bool) (c : ℕ → ℕ) (cut : ℕ → ℕ → Bool) (e : Cause) (es : List Cause) → (meets marks e || is_cut c cut e) ≡ true → walk marks c cut (e ∷ es) ≡ walk (λ n. marks n || touches e n) c cut es
 walk-dropped marks c cut e es t = cond-true (meets marks e || is_cut c cut e) _ _ t
 
-walk-kept : (marks : ℕ → Bool) (c : ℕ → ℕ) (cut : ℕ → ℕ → Bool) (e : Event) (es : List Event) → (meets marks e || is_cut c cut e) ≡ false → walk marks c cut (e ∷ es) ≡ e ∷ walk marks (counted c e) cut es
+walk-kept : (marks : ℕ → Bool) (c : ℕ → ℕ) (cut : ℕ → ℕ → Bool) (e : Cause) (es : List Cause) → (meets marks e || is_cut c cut e) ≡ false → walk marks c cut (e ∷ es) ≡ e ∷ walk marks (counted c e) cut es
 walk-kept marks c cut e es f = cond-false (meets marks e || is_cut c cut e) _ _ f
 
 -- marks and counts of two walks, one over what the other leaves, and those of the one walk that does both
@@ -44,11 +45,11 @@ or-join : (x y z : Bool) → ((x || y) || z) ≡ (x || (y || z))
 or-join true y z = refl
 or-join false y z = refl
 
-counted-other : (c : ℕ → ℕ) (e : Event) (n : ℕ) → touches e n ≡ false → counted c e n ≡ c n
+counted-other : (c : ℕ → ℕ) (e : Cause) (n : ℕ) → touches e n ≡ false → counted c e n ≡ c n
 counted-other c e n f = cond-false (touches e n) (c n + 1) (c n) f
 
 -- a drop is a drop of the one walk too
-drop_one : (m j : ℕ → Bool) (c b : ℕ → ℕ) (x y : ℕ → ℕ → Bool) (e : Event) → ((n : ℕ) → m n ≡ true → j n ≡ true) → ((n : ℕ) → j n ≡ false → c n ≡ b n) → ((n i : ℕ) → x n i ≡ true → y n i ≡ true) → (meets m e || is_cut c x e) ≡ true → (meets j e || is_cut b y e) ≡ true
+drop_one : (m j : ℕ → Bool) (c b : ℕ → ℕ) (x y : ℕ → ℕ → Bool) (e : Cause) → ((n : ℕ) → m n ≡ true → j n ≡ true) → ((n : ℕ) → j n ≡ false → c n ≡ b n) → ((n i : ℕ) → x n i ≡ true → y n i ≡ true) → (meets m e || is_cut c x e) ≡ true → (meets j e || is_cut b y e) ≡ true
 drop_one m j c b x y e h g k t = ⊎_elim
     (λ u. or_left (meets j e) (is_cut b y e) (meets-mono m j e h u))
     (λ u. ⊎_elim (λ v. or_left (meets j e) (is_cut b y e) (meets-touched j e v)) (λ v. or_right (meets j e) (is_cut b y e) v)
@@ -61,7 +62,7 @@ drop_one m j c b x y e h g k t = ⊎_elim
     (or_cases (meets m e) (is_cut c x e) t)
 
 -- a drop of the one walk is a drop of one of the two
-drop_two : (m k j : ℕ → Bool) (c d b : ℕ → ℕ) (x y : ℕ → ℕ → Bool) (e : Event) → Joins m k j c d b → (meets j e || is_cut b (λ n i. x n i || y n i) e) ≡ true → ((meets m e || is_cut c x e) ≡ true) ⊎ ((meets k e || is_cut d y e) ≡ true)
+drop_two : (m k j : ℕ → Bool) (c d b : ℕ → ℕ) (x y : ℕ → ℕ → Bool) (e : Cause) → Joins m k j c d b → (meets j e || is_cut b (λ n i. x n i || y n i) e) ≡ true → ((meets m e || is_cut c x e) ≡ true) ⊎ ((meets k e || is_cut d y e) ≡ true)
 drop_two m k j c d b x y e w t = ⊎_elim by_mark by_cut (or_cases (meets j e) (is_cut b (λ n i. x n i || y n i) e) t)
   where
     marks : (meets m e ≡ true) ⊎ (meets k e ≡ true) → ((meets m e || is_cut c x e) ≡ true) ⊎ ((meets k e || is_cut d y e) ≡ true)
@@ -83,21 +84,21 @@ drop_two m k j c d b x y e w t = ⊎_elim by_mark by_cut (or_cases (meets j e) (
         (λ v. cuts (any-or (λ n. x n (c n + 1)) (λ n. y n (d n + 1)) (nodes_of e) v))
         (any-or j (λ n. x n (c n + 1) || y n (d n + 1)) (nodes_of e) (any-mono (λ n. x n (b n + 1) || y n (b n + 1)) (λ n. j n || (x n (c n + 1) || y n (d n + 1))) one (nodes_of e) u))
 
-Joins-second : (m k j : ℕ → Bool) (c d b : ℕ → ℕ) (e : Event) → Joins m k j c d b → Joins m (λ n. k n || touches e n) (λ n. j n || touches e n) c d b
+Joins-second : (m k j : ℕ → Bool) (c d b : ℕ → ℕ) (e : Cause) → Joins m k j c d b → Joins m (λ n. k n || touches e n) (λ n. j n || touches e n) c d b
 Joins-second m k j c d b e w = record {
   both = λ n. ap (λ z. z || touches e n) (w.both n) ∙ or-join (m n) (k n) (touches e n);
   first = λ n f. w.first n ((or_parts (j n) (touches e n) f).0);
   second = λ n f. w.second n ((or_parts (j n) (touches e n) f).0);
 }
 
-Joins-first : (m k j : ℕ → Bool) (c d b : ℕ → ℕ) (e : Event) → Joins m k j c d b → Joins (λ n. m n || touches e n) k (λ n. j n || touches e n) c (counted d e) b
+Joins-first : (m k j : ℕ → Bool) (c d b : ℕ → ℕ) (e : Cause) → Joins m k j c d b → Joins (λ n. m n || touches e n) k (λ n. j n || touches e n) c (counted d e) b
 Joins-first m k j c d b e w = record {
   both = λ n. ap (λ z. z || touches e n) (w.both n) ∙ or-swap (m n) (k n) (touches e n);
   first = λ n f. w.first n ((or_parts (j n) (touches e n) f).0);
   second = λ n f. counted-other d e n ((or_parts (j n) (touches e n) f).1) ∙ w.second n ((or_parts (j n) (touches e n) f).0);
 }
 
-Joins-kept : (m k j : ℕ → Bool) (c d b : ℕ → ℕ) (e : Event) → Joins m k j c d b → Joins m k j (counted c e) (counted d e) (counted b e)
+Joins-kept : (m k j : ℕ → Bool) (c d b : ℕ → ℕ) (e : Cause) → Joins m k j c d b → Joins m k j (counted c e) (counted d e) (counted b e)
 Joins-kept m k j c d b e w = record {
   both = w.both;
   first = λ n f. ap (λ (z : ℕ). cond (touches e n) (z + 1) z) (w.first n f);
@@ -105,18 +106,18 @@ Joins-kept m k j c d b e w = record {
 }
 
 -- a walk over what another leaves is one walk
-walk_twice : (m k j : ℕ → Bool) (c d b : ℕ → ℕ) (x y : ℕ → ℕ → Bool) (es : List Event) → Joins m k j c d b → walk m c x (walk k d y es) ≡ walk j b (λ n i. x n i || y n i) es
+walk_twice : (m k j : ℕ → Bool) (c d b : ℕ → ℕ) (x y : ℕ → ℕ → Bool) (es : List Cause) → Joins m k j c d b → walk m c x (walk k d y es) ≡ walk j b (λ n i. x n i || y n i) es
 walk_twice m k j c d b x y [] w = refl
 walk_twice m k j c d b x y (e ∷ es) w = ⊎_elim
-    (λ t. ap (λ (z : List Event). walk m c x z) (walk-dropped k d y e es t)
+    (λ t. ap (λ (z : List Cause). walk m c x z) (walk-dropped k d y e es t)
     ∙ walk_twice m (λ n. k n || touches e n) (λ n. j n || touches e n) c d b x y es (Joins-second m k j c d b e w)
     ∙ sym (walk-dropped j b (λ n i. x n i || y n i) e es (drop_one k j d b y (λ n i. x n i || y n i) e (λ n v. w.both n ∙ or_right (m n) (k n) v) w.second (λ n i v. or_right (x n i) (y n i) v) t)))
     (λ f. ⊎_elim
-    (λ t. ap (λ (z : List Event). walk m c x z) (walk-kept k d y e es f)
+    (λ t. ap (λ (z : List Cause). walk m c x z) (walk-kept k d y e es f)
     ∙ walk-dropped m c x e (walk k (counted d e) y es) t
     ∙ walk_twice (λ n. m n || touches e n) k (λ n. j n || touches e n) c (counted d e) b x y es (Joins-first m k j c d b e w)
     ∙ sym (walk-dropped j b (λ n i. x n i || y n i) e es (drop_one m j c b x (λ n i. x n i || y n i) e (λ n v. w.both n ∙ or_left (m n) (k n) v) w.first (λ n i v. or_left (x n i) (y n i) v) t)))
-    (λ g. ap (λ (z : List Event). walk m c x z) (walk-kept k d y e es f)
+    (λ g. ap (λ (z : List Cause). walk m c x z) (walk-kept k d y e es f)
     ∙ walk-kept m c x e (walk k (counted d e) y es) g
     ∙ ap (λ z. e ∷ z) (walk_twice m k j (counted c e) (counted d e) (counted b e) x y es (Joins-kept m k j c d b e w))
     ∙ sym (walk-kept j b (λ n i. x n i || y n i) e es (false_from_ne_true (meets j e || is_cut b (λ n i. x n i || y n i) e) (λ t. ⊎_elim (λ v. both_ways _ g v) (λ v. both_ways _ f v) (drop_two m k j c d b x y e w t)))))
@@ -151,17 +152,17 @@ single_cut c n k (m ∷ ns) =
     (λ t. ap (λ (z : ℕ). (c z + 1) == k) (eqb-true m n t)) (single_cut c n k ns)
 
 -- the event is dropped only by that step
-single_drop : (c : ℕ → ℕ) (n k : ℕ) (e : Event) → (meets nowhere e || is_cut c (single n k) e) ≡ (touches e n && ((c n + 1) == k))
+single_drop : (c : ℕ → ℕ) (n k : ℕ) (e : Cause) → (meets nowhere e || is_cut c (single n k) e) ≡ (touches e n && ((c n + 1) == k))
 single_drop c n k e = ap (λ z. z || is_cut c (single n k) e) (nowhere-meets (seen_by e)) ∙ single_cut c n k (nodes_of e)
 
-pub kept-dropped : (marks : ℕ → Bool) (e : Event) (es : List Event) → meets marks e ≡ true → kept marks (e ∷ es) ≡ kept (λ n. marks n || touches e n) es
+pub kept-dropped : (marks : ℕ → Bool) (e : Cause) (es : List Cause) → meets marks e ≡ true → kept marks (e ∷ es) ≡ kept (λ n. marks n || touches e n) es
 kept-dropped marks e es t = rw t refl
 
-pub kept-kept : (marks : ℕ → Bool) (e : Event) (es : List Event) → meets marks e ≡ false → kept marks (e ∷ es) ≡ e ∷ kept marks es
+pub kept-kept : (marks : ℕ → Bool) (e : Cause) (es : List Cause) → meets marks e ≡ false → kept marks (e ∷ es) ≡ e ∷ kept marks es
 kept-kept marks e es f = rw f refl
 
 -- once its node is marked, the step cuts no more
-walk_marked : (marks : ℕ → Bool) (c : ℕ → ℕ) (n k : ℕ) (es : List Event) → marks n ≡ true → walk marks c (single n k) es ≡ kept marks es
+walk_marked : (marks : ℕ → Bool) (c : ℕ → ℕ) (n k : ℕ) (es : List Cause) → marks n ≡ true → walk marks c (single n k) es ≡ kept marks es
 walk_marked marks c n k [] h = refl
 walk_marked marks c n k (e ∷ es) h = ⊎_elim
     (λ t. walk-dropped marks c (single n k) e es (or_left (meets marks e) (is_cut c (single n k) e) t)
@@ -183,38 +184,38 @@ never true y h = h
 never false y h = refl
 
 -- an event that is not that step stays
-walk-other : (c : ℕ → ℕ) (n k : ℕ) (e : Event) (es : List Event) → (touches e n && ((c n + 1) == k)) ≡ false → walk nowhere c (single n k) (e ∷ es) ≡ e ∷ walk nowhere (counted c e) (single n k) es
+walk-other : (c : ℕ → ℕ) (n k : ℕ) (e : Cause) (es : List Cause) → (touches e n && ((c n + 1) == k)) ≡ false → walk nowhere c (single n k) (e ∷ es) ≡ e ∷ walk nowhere (counted c e) (single n k) es
 walk-other c n k e es h = walk-kept nowhere c (single n k) e es (single_drop c n k e ∙ h)
 
 -- a step that was made before the list begins cuts nothing
-walk_past : (c : ℕ → ℕ) (n k : ℕ) (es : List Event) → k ≤ c n → walk nowhere c (single n k) es ≡ es
+walk_past : (c : ℕ → ℕ) (n k : ℕ) (es : List Cause) → k ≤ c n → walk nowhere c (single n k) es ≡ es
 walk_past c n k [] h = refl
 walk_past c n k (e ∷ es) h =
     walk-other c n k e es (never (touches e n) ((c n + 1) == k) (ne_eqb (c n + 1) k (λ q. omega arith)))
     ∙ ap (λ z. e ∷ z) (walk_past (counted c e) n k es (⊎_elim (λ t. rw t (omega arith)) (λ f. rw f h) (cases_Bool (touches e n))))
 
-rest_later : (e : Event) (es : List Event) (o : Option ℕ) → rest_from (e ∷ es) (option_map suc o) ≡ e ∷ rest_from es o
+rest_later : (e : Cause) (es : List Cause) (o : Option ℕ) → rest_from (e ∷ es) (option_map suc o) ≡ e ∷ rest_from es o
 rest_later e es None = refl
 rest_later e es (Some i) = refl
 
-rewound-first : (e : Event) (es : List Event) (n : ℕ) → touches e n ≡ true → rewound (e ∷ es) n 1 ≡ kept (touches e) es
+rewound-first : (e : Cause) (es : List Cause) (n : ℕ) → touches e n ≡ true → rewound (e ∷ es) n 1 ≡ kept (touches e) es
 rewound-first e es n t = ap (λ (o : Option ℕ). rest_from (e ∷ es) o) (cond-true (touches e n) (Some 0) (option_map suc (place_of es n 1)) t)
 
-rewound-touched : (e : Event) (es : List Event) (n i : ℕ) → touches e n ≡ true → rewound (e ∷ es) n (suc (suc i)) ≡ e ∷ rewound es n (suc i)
+rewound-touched : (e : Cause) (es : List Cause) (n i : ℕ) → touches e n ≡ true → rewound (e ∷ es) n (suc (suc i)) ≡ e ∷ rewound es n (suc i)
 rewound-touched e es n i t =
     ap (λ (o : Option ℕ). rest_from (e ∷ es) o)
     (cond-true (touches e n) (cond (suc i == 0) (Some 0) (option_map suc (place_of es n (suc i)))) (option_map suc (place_of es n (suc (suc i)))) t
     ∙ cond-false (suc i == 0) (Some 0) (option_map suc (place_of es n (suc i))) (ne_eqb (suc i) 0 (λ q. omega arith)))
     ∙ rest_later e es (place_of es n (suc i))
 
-rewound-other : (e : Event) (es : List Event) (n j : ℕ) → touches e n ≡ false → rewound (e ∷ es) n (suc j) ≡ e ∷ rewound es n (suc j)
+rewound-other : (e : Cause) (es : List Cause) (n j : ℕ) → touches e n ≡ false → rewound (e ∷ es) n (suc j) ≡ e ∷ rewound es n (suc j)
 rewound-other e es n j f = ap (λ (o : Option ℕ). rest_from (e ∷ es) o) (cond-false (touches e n) _ (option_map suc (place_of es n (suc j))) f) ∙ rest_later e es (place_of es n (suc j))
 
-counted-touched : (c : ℕ → ℕ) (e : Event) (n : ℕ) → touches e n ≡ true → counted c e n ≡ c n + 1
+counted-touched : (c : ℕ → ℕ) (e : Cause) (n : ℕ) → touches e n ≡ true → counted c e n ≡ c n + 1
 counted-touched c e n t = cond-true (touches e n) (c n + 1) (c n) t
 
 -- a rollback is a walk that cuts one step
-rewound_walk : (c : ℕ → ℕ) (n k : ℕ) (es : List Event) (j : ℕ) → k ≡ c n + j → walk nowhere c (single n k) es ≡ rewound es n j
+rewound_walk : (c : ℕ → ℕ) (n k : ℕ) (es : List Cause) (j : ℕ) → k ≡ c n + j → walk nowhere c (single n k) es ≡ rewound es n j
 rewound_walk c n k [] j q = refl
 rewound_walk c n k (e ∷ es) zero q = walk_past c n k (e ∷ es) (omega arith)
 rewound_walk c n k (e ∷ es) (suc zero) q = ⊎_elim
@@ -236,7 +237,7 @@ rewound_walk c n k (e ∷ es) (suc (suc i)) q = ⊎_elim
     ∙ sym (rewound-other e es n (suc i) f))
     (cases_Bool (touches e n))
 
-walk_none : (c : ℕ → ℕ) (es : List Event) → walk nowhere c (λ n k. false) es ≡ es
+walk_none : (c : ℕ → ℕ) (es : List Cause) → walk nowhere c (λ n k. false) es ≡ es
 walk_none c [] = refl
 walk_none c (e ∷ es) =
     walk-kept nowhere c (λ n k. false) e es (or_from (meets nowhere e) _ (nowhere-meets (seen_by e)) (nowhere-meets (nodes_of e)))
@@ -245,9 +246,9 @@ walk_none c (e ∷ es) =
 Joins-none : Joins nowhere nowhere nowhere (λ n. 0) (λ n. 0) (λ n. 0)
 Joins-none = record { both = λ n. refl; first = λ n f. refl; second = λ n f. refl }
 
-at_once : (x : ℕ → ℕ → Bool) (es : List Event) (n k : ℕ) → walk nowhere (λ n. 0) x (rewound es n k) ≡ walk nowhere (λ n. 0) (λ m i. x m i || single n k m i) es
+at_once : (x : ℕ → ℕ → Bool) (es : List Cause) (n k : ℕ) → walk nowhere (λ n. 0) x (rewound es n k) ≡ walk nowhere (λ n. 0) (λ m i. x m i || single n k m i) es
 at_once x es n k =
-    ap (λ (z : List Event). walk nowhere (λ n. 0) x z) (sym (rewound_walk (λ n. 0) n k es k (omega arith)))
+    ap (λ (z : List Cause). walk nowhere (λ n. 0) x z) (sym (rewound_walk (λ n. 0) n k es k (omega arith)))
     ∙ walk_twice nowhere nowhere nowhere (λ n. 0) (λ n. 0) (λ n. 0) x (single n k) es Joins-none
 
 -- one of the steps
@@ -260,10 +261,10 @@ or-comm true false = refl
 or-comm false true = refl
 or-comm false false = refl
 
-same_cuts : (x y : ℕ → ℕ → Bool) (es : List Event) → ((m i : ℕ) → x m i ≡ y m i) → walk nowhere (λ n. 0) x es ≡ walk nowhere (λ n. 0) y es
+same_cuts : (x y : ℕ → ℕ → Bool) (es : List Cause) → ((m i : ℕ) → x m i ≡ y m i) → walk nowhere (λ n. 0) x es ≡ walk nowhere (λ n. 0) y es
 same_cuts x y es h = ap (λ z. walk nowhere (λ n. 0) z es) (fun_ext (λ m. fun_ext (λ i. h m i)))
 
-rewound_all_walk : (steps : List (ℕ × ℕ)) (es : List Event) → rewound_all es steps ≡ walk nowhere (λ n. 0) (among steps) es
+rewound_all_walk : (steps : List (ℕ × ℕ)) (es : List Cause) → rewound_all es steps ≡ walk nowhere (λ n. 0) (among steps) es
 unfolding among
 rewound_all_walk [] es = sym (walk_none (λ n. 0) es)
 rewound_all_walk (step ∷ steps) es =
@@ -272,14 +273,14 @@ rewound_all_walk (step ∷ steps) es =
     ∙ same_cuts (λ m i. among steps m i || single step.0 step.1 m i) (among (step ∷ steps)) es (λ m i. or-comm (among steps m i) (single step.0 step.1 m i))
 
 -- the same steps, in any order
-pub rewound_any_order : (events : List Event) (steps others : List (ℕ × ℕ)) → IsPermutation steps others → rewound_all events steps ≡ rewound_all events others
+pub rewound_any_order : (events : List Cause) (steps others : List (ℕ × ℕ)) → IsPermutation steps others → rewound_all events steps ≡ rewound_all events others
 unfolding among
 rewound_any_order es steps others h =
     rewound_all_walk steps es
     ∙ same_cuts (among steps) (among others) es (λ m i. list_any-IsPermutation (λ (step : ℕ × ℕ). single step.0 step.1 m i) steps others h)
     ∙ sym (rewound_all_walk others es)
 
-pub rewound_twice : (events : List Event) (n k m j : ℕ) → rewound (rewound events n k) m j ≡ rewound (rewound events m j) n k
+pub rewound_twice : (events : List Cause) (n k m j : ℕ) → rewound (rewound events n k) m j ≡ rewound (rewound events m j) n k
 unfolding among
 rewound_twice es n k m j =
     sym (rewound_walk (λ n. 0) m j (rewound es n k) j (omega arith))

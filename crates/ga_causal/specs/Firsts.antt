@@ -1,7 +1,7 @@
 -- Of each node the oldest event that touches it, among those that depend on one of a list.
-use Rattle.std.specs.Prelude.{◌≡◌, ◌<◌, ◌≤◌, ℕ, min, true, false, List, [], ◌∷◌, slice_index_or}
-use Rattle.ga_event.specs.declared.event.Event.{Event}
-use Rattle.ga_event.specs.Touches.{touches}
+use Rattle.std.specs.Prelude.{◌≡◌, ◌<◌, ◌≤◌, ℕ, min, true, false, List, [], ◌∷◌, slice_index_or, Option, Some, None}
+use Rattle.ga_event.specs.declared.event.Cause.{Cause}
+use Rattle.ga_causal.specs.Causes.{touches}
 use Rattle.ga_causal.specs.Dependence.{event_at, dependents}
 
 -- a place for each node, or the one that stands for none
@@ -17,8 +17,13 @@ abbrev pub least : (ℕ → ℕ) → ℕ → List ℕ → ℕ
 least first none [] = none
 least first none (n ∷ ns) = min (first n) (least first none ns)
 
+-- the least of a place and that of a node, where there is one
+abbrev pub least_with : (ℕ → ℕ) → Option ℕ → ℕ → ℕ
+least_with first None place = place
+least_with first (Some n) place = min (first n) place
+
 -- Each node has the place of the oldest event below the limit that depends on the cause and touches the node.
-pub record IsFirsts (events : List Event) (cause limit none : ℕ) (first : ℕ → ℕ) : Type 0 where
+pub record IsFirsts (events : List Cause) (cause limit none : ℕ) (first : ℕ → ℕ) : Type 0 where
   pub noted : (n : ℕ) → first n < none → first n < limit
   pub dependent : (n : ℕ) → first n < none → slice_index_or (dependents events cause) (first n) false ≡ true
   pub touched : (n : ℕ) → first n < none → touches (event_at events (first n)) n ≡ true

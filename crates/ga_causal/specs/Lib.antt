@@ -1,3 +1,4 @@
+pub mod Causes
 pub mod Dependence
 pub mod Steps
 pub mod Equivalence

@@ -7,7 +7,7 @@ ghost use Rattle.ga_causal.specs.Chains.{IsChain, IsChainTo, IsFound, IsNext};
 
 use crate::firsts::Firsts;
 use crate::rule::rule;
-use ga_event::Event;
+use ga_event::Cause;
 use ga_grid::Memory;
 use std::alloc::Global;
 use std::marker::Model;
@@ -75,7 +75,7 @@ impl Chain {
 // The chain to an event that depends on the one at `from`, made from its end.
 fn chain_back(
     alloc: Global,
-    events: &[Event],
+    events: &[Cause],
     firsts: &Firsts,
     from: u32,
     to: u32,
@@ -109,7 +109,7 @@ fn chain_back(
 // The chain from one event to a later one.
 fn chain_between(
     alloc: Global,
-    events: &[Event],
+    events: &[Cause],
     from: u32,
     to: u32,
 ) -> Result<Option<Chain>, Memory>
@@ -139,7 +139,7 @@ fn chain_alone(alloc: Global, place: u32) -> Result<Chain, Memory>
 /// Looks at each event between the two once.
 pub fn find_chain(
     alloc: Global,
-    events: &[Event],
+    events: &[Cause],
     from: u32,
     to: u32,
 ) -> Result<Option<Chain>, Memory>
@@ -158,7 +158,7 @@ pub fn find_chain(
 }
 
 // Whether the link may follow the event at the place before.
-fn is_next(events: &[Event], before: u32, link: &Link) -> bool
+fn is_next(events: &[Cause], before: u32, link: &Link) -> bool
     requires { before < length events.now }
     ensures { IsTrue result ↔ IsNext events.now before link.now }
 {
@@ -171,7 +171,7 @@ fn is_next(events: &[Event], before: u32, link: &Link) -> bool
 
 /// Whether the links are a chain: at least one, all of them places of the list, the first with rule 0 and each other one with
 /// the rule by which its event depends directly on the one before.
-pub fn check_chain(events: &[Event], chain: &Chain) -> bool
+pub fn check_chain(events: &[Cause], chain: &Chain) -> bool
     ensures { IsTrue result ↔ IsChain events.now chain.now }
 {
     let links = chain.links.as_slice();

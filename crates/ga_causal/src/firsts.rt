@@ -1,11 +1,14 @@
 //! Of each node the oldest event that touches it, among those that depend on one of a list.
 
 ghost use Rattle.std.specs.Prelude.{◌≡◌, ◌<◌, ◌≤◌, ◌≢◌, ◌==◌, ◌+◌, ℕ, length, min, if◌then◌else◌};
-ghost use Rattle.ga_event.specs.Touches.{touches, seen_by};
-ghost use Rattle.ga_causal.specs.Firsts.{first_at, least, IsFirsts};
+ghost use Rattle.ga_grid.specs.Grid.{neighbour_of};
+ghost use Rattle.ga_event.specs.Touches.{neighbours, seen_by};
+ghost use Rattle.ga_causal.specs.Causes.{touches};
+ghost use Rattle.ga_causal.specs.Firsts.{first_at, least, least_with, IsFirsts};
 
-use ga_event::Event;
-use ga_grid::NODES;
+use ga_event::{Cause, Event};
+use ga_grid::{NODES, NodeId, neighbour};
+use ga_ports::Side;
 use std::marker::Model;
 
 /// For each node the place of the oldest event noted that touches it, or a place that stands for none.
@@ -38,7 +41,7 @@ impl Firsts {
     }
 
     /// Notes the events below `to` that depend on the one at `from`.
-    pub(crate) fn of(events: &[Event], from: u32, to: u32) -> Self
+    pub(crate) fn of(events: &[Cause], from: u32, to: u32) -> Self
         requires order { from < to }
         requires within { to < length events.now }
         ensures firsts { IsFirsts events.now from to to (first_at result) }
@@ -57,23 +60,51 @@ impl Firsts {
 
     /// The oldest place noted at the nodes that the event sees.
     #[tactic(auto, unfolding(ga_event::specs::Touches::seen_by))]
-    pub(crate) fn oldest(&self, event: &Event) -> u32
+    pub(crate) fn oldest(&self, event: &Cause) -> u32
         ensures { result ≡ least (first_at self.now) self.now.none (seen_by event.now) }
     {
-        match *event {
-            Event::Own(node) => self.places[node.index()].min(self.none),
+        match event.event {
+            Event::Own(node) => {
+                let looked = if event.look {
+                    self.oldest_beside(node)
+                } else {
+                    self.none
+                };
+                self.places[node.index()].min(looked)
+            }
             Event::Pass { writer, reader, .. } => {
                 self.places[writer.index()].min(self.places[reader.index()].min(self.none))
             }
         }
     }
 
-    fn note(&mut self, event: &Event, place: u32)
+    // The oldest place noted at the neighbours of a node.
+    #[tactic(auto, using(crate::proofs::Looks::least_neighbours))]
+    fn oldest_beside(&self, node: NodeId) -> u32
+        ensures { result ≡ least (first_at self.now) self.now.none (neighbours node.number) }
+    {
+        let up = self.with_beside(node, Side::Up, self.none);
+        let left = self.with_beside(node, Side::Left, up);
+        let down = self.with_beside(node, Side::Down, left);
+        self.with_beside(node, Side::Right, down)
+    }
+
+    // The older of a place and the one at the neighbour on a side.
+    fn with_beside(&self, node: NodeId, side: Side, place: u32) -> u32
+        ensures { result ≡ least_with (first_at self.now) (neighbour_of node.number side) place }
+    {
+        match neighbour(node, side) {
+            Some(other) => self.places[other.index()].min(place),
+            None => place,
+        }
+    }
+
+    fn note(&mut self, event: &Cause, place: u32)
         ensures places { (n : ℕ) → first_at self.new n
             ≡ (if touches event.now n then min (first_at self.old n) place else first_at self.old n) }
         ensures none { self.new.none ≡ self.old.none }
     {
-        match *event {
+        match event.event {
             Event::Own(node) => self.note_at(node.index(), place),
             Event::Pass { writer, reader, .. } => {
                 self.note_at(writer.index(), place);

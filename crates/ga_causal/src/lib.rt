@@ -9,6 +9,7 @@ mod rule;
 mod step;
 
 pub use chain::{Chain, Link, check_chain, find_chain};
+pub use ga_event::Cause;
 pub use ga_grid::Memory;
 pub use marks::{Marks, closure};
 pub use step::place_of;

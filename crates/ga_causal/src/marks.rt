@@ -1,11 +1,15 @@
 //! Marked nodes, and the events that depend on one of a list.
 
 ghost use Rattle.std.specs.Prelude.{◌≡◌, ◌↔◌, ◌<◌, ◌^◌, ℕ, Bool, ◌||◌, false, length, slice_index_or, IfOk, IsTrue};
-ghost use Rattle.ga_event.specs.Touches.{touches, meets};
+ghost use Rattle.std.specs.List.{list_any};
+ghost use Rattle.ga_grid.specs.Grid.{neighbour_of};
+ghost use Rattle.ga_event.specs.Touches.{neighbours, meets};
+ghost use Rattle.ga_causal.specs.Causes.{touches, any_of};
 ghost use Rattle.ga_causal.specs.Dependence.{is_marked, marked, dependents, DependsOn};
 
-use ga_event::Event;
-use ga_grid::{Memory, NODES};
+use ga_event::{Cause, Event};
+use ga_grid::{Memory, NODES, NodeId, neighbour};
+use ga_ports::Side;
 use std::alloc::Global;
 use std::marker::Model;
 
@@ -26,8 +30,8 @@ impl Model for Marks {
 }
 
 impl Marks {
-    /// The nodes of this event.
-    pub fn new(event: Event) -> Self
+    /// The nodes that this event touches.
+    pub fn new(event: Cause) -> Self
         ensures { is_marked result ≡ touches event }
     {
         let mut marks = Marks {
@@ -37,8 +41,9 @@ impl Marks {
         marks
     }
 
-    /// Whether the event depends on one that was taken up before; if so its nodes are marked.
-    pub fn take(&mut self, event: Event) -> bool
+    /// Whether the event depends on one that was taken up before: it touches a marked node, or is a look at one. If so the nodes
+    /// that it touches are marked.
+    pub fn take(&mut self, event: Cause) -> bool
         ensures answer { result ≡ meets (is_marked self.old) event }
         ensures marks { is_marked self.new ≡ marked (is_marked self.old) event }
     {
@@ -50,21 +55,48 @@ impl Marks {
     }
 
     #[tactic(auto, unfolding(ga_event::specs::Touches::seen_by))]
-    fn is_met_by(&self, event: &Event) -> bool
+    fn is_met_by(&self, event: &Cause) -> bool
         ensures { result ≡ meets (is_marked self.now) event.now }
     {
-        match *event {
-            Event::Own(node) => self.flags[node.index()],
+        match event.event {
+            Event::Own(node) => {
+                if self.flags[node.index()] {
+                    return true;
+                }
+                event.look && self.is_marked_beside(node)
+            }
             Event::Pass { writer, reader, .. } => {
                 self.flags[writer.index()] || self.flags[reader.index()]
             }
         }
     }
 
-    fn mark(&mut self, event: Event)
+    // Whether a neighbour of the node is marked.
+    #[tactic(auto, using(crate::proofs::Looks::any_neighbours))]
+    fn is_marked_beside(&self, node: NodeId) -> bool
+        ensures { result ≡ list_any (is_marked self.now) (neighbours node.number) }
+    {
+        let right = self.is_marked_on(node, Side::Right);
+        let down = self.is_marked_on(node, Side::Down);
+        let left = self.is_marked_on(node, Side::Left);
+        let up = self.is_marked_on(node, Side::Up);
+        right || down || left || up
+    }
+
+    // Whether the neighbour on a side is marked.
+    fn is_marked_on(&self, node: NodeId, side: Side) -> bool
+        ensures { result ≡ any_of (is_marked self.now) (neighbour_of node.number side) }
+    {
+        match neighbour(node, side) {
+            Some(other) => self.flags[other.index()],
+            None => false,
+        }
+    }
+
+    fn mark(&mut self, event: Cause)
         ensures { is_marked self.new ≡ (λ n. is_marked self.old n || touches event n) }
     {
-        match event {
+        match event.event {
             Event::Own(node) => self.flags[node.index()] = true,
             Event::Pass { writer, reader, .. } => {
                 self.flags[writer.index()] = true;
@@ -75,7 +107,7 @@ impl Marks {
 }
 
 /// Of each event of the list, whether it depends on the one at the place. Looks at each event once.
-pub fn closure(alloc: Global, events: &[Event], place: u32) -> Result<Vec<bool>, Memory>
+pub fn closure(alloc: Global, events: &[Cause], place: u32) -> Result<Vec<bool>, Memory>
     requires { place < length events.now }
     ensures flags { IfOk result (λ flags. flags.items ≡ dependents events.now place) }
     ensures exact { IfOk result (λ flags.

@@ -1,21 +1,57 @@
 //! The rules of dependence between two events.
 
 ghost use Rattle.std.specs.Prelude.{◌≡◌};
-ghost use Rattle.ga_event.specs.Touches.{touches, meets};
+ghost use Rattle.std.specs.List.{list_any};
+ghost use Rattle.ga_grid.specs.Grid.{neighbour_of};
+ghost use Rattle.ga_event.specs.Touches.{touches, nodes_of, neighbours, looked_at};
+ghost use Rattle.ga_causal.specs.Causes.{any_of};
 ghost use Rattle.ga_causal.specs.Dependence.{is_a_pass, rule_of};
 
-use ga_event::{Event, touches};
+use ga_event::{Cause, Event, touches};
+use ga_grid::{NodeId, neighbour};
+use ga_ports::Side;
 
-/// Whether the later event sees a node that the earlier one touches.
-#[tactic(auto, unfolding(ga_event::specs::Touches::seen_by))]
-fn is_met(earlier: &Event, later: &Event) -> bool
-    ensures { result ≡ meets (touches earlier.now) later.now }
+/// Whether the two events touch a common node.
+fn is_touched(earlier: &Event, later: &Event) -> bool
+    ensures { result ≡ list_any (touches earlier.now) (nodes_of later.now) }
 {
     match *later {
         Event::Own(node) => touches(*earlier, node),
         Event::Pass { writer, reader, .. } => {
             touches(*earlier, writer) || touches(*earlier, reader)
         }
+    }
+}
+
+/// Whether the event touches the neighbour on a side of a node.
+fn touches_beside(earlier: &Event, node: NodeId, side: Side) -> bool
+    ensures { result ≡ any_of (touches earlier.now) (neighbour_of node.number side) }
+{
+    match neighbour(node, side) {
+        Some(other) => touches(*earlier, other),
+        None => false,
+    }
+}
+
+/// Whether the event touches a neighbour of a node.
+#[tactic(auto, using(crate::proofs::Looks::any_neighbours))]
+fn touches_a_neighbour(earlier: &Event, node: NodeId) -> bool
+    ensures { result ≡ list_any (touches earlier.now) (neighbours node.number) }
+{
+    let right = touches_beside(earlier, node, Side::Right);
+    let down = touches_beside(earlier, node, Side::Down);
+    let left = touches_beside(earlier, node, Side::Left);
+    let up = touches_beside(earlier, node, Side::Up);
+    right || down || left || up
+}
+
+/// Whether the later event looks at a node that the earlier one touches.
+fn is_looked_at(earlier: &Event, later: &Cause) -> bool
+    ensures { result ≡ list_any (touches earlier.now) (looked_at later.now.event later.now.look) }
+{
+    match later.event {
+        Event::Own(node) => later.look && touches_a_neighbour(earlier, node),
+        Event::Pass { .. } => false,
     }
 }
 
@@ -26,14 +62,19 @@ fn is_pass(event: &Event) -> bool
 }
 
 /// The rule by which the later event depends directly on the earlier one, or 0.
-pub(crate) fn rule(earlier: &Event, later: &Event) -> u8
+#[tactic(auto, using(crate::proofs::Looks::meets_parts))]
+pub(crate) fn rule(earlier: &Cause, later: &Cause) -> u8
     ensures { result ≡ rule_of earlier.now later.now }
 {
-    if !is_met(earlier, later) {
-        0
-    } else if is_pass(earlier) || is_pass(later) {
-        2
+    if is_touched(&earlier.event, &later.event) {
+        if is_pass(&earlier.event) || is_pass(&later.event) {
+            2
+        } else {
+            1
+        }
+    } else if is_looked_at(&earlier.event, later) {
+        3
     } else {
-        1
+        0
     }
 }

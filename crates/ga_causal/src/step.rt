@@ -3,11 +3,11 @@
 ghost use Rattle.std.specs.Prelude.{◌≡◌, ◌<◌, ◌^◌, length, IfSome};
 ghost use Rattle.ga_causal.specs.Steps.{place_of};
 
-use ga_event::{Event, touches};
+use ga_event::{Cause, touches};
 use ga_grid::NodeId;
 
 /// The place of a node's step, which is the so many-th event that touches the node, counted from 1. None where there is none.
-pub fn place_of(events: &[Event], node: NodeId, step: u32) -> Option<u32>
+pub fn place_of(events: &[Cause], node: NodeId, step: u32) -> Option<u32>
     requires { length events.now < 2 ^ 32 }
     ensures value { result ≡ place_of events.now node.number step }
     ensures within { IfSome result (λ place. place < length events.now) }
@@ -17,7 +17,7 @@ pub fn place_of(events: &[Event], node: NodeId, step: u32) -> Option<u32>
     }
     let mut left = step - 1;
     'events: for (place, event) in events.iter().enumerate() {
-        if touches(*event, node) {
+        if touches(event.event, node) {
             if left == 0 {
                 return Some(place as u32);
             }
