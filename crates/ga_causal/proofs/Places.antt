@@ -1,14 +1,16 @@
 -- The places of the steps.
 use Rattle.std.proofs.Common.{◌≡◌, ℕ, true, false, zero, suc, ◌+◌, ◌<◌, ◌≤◌, List, [], ◌∷◌, ◌++◌, length, take, drop, refl, sym, ◌∙◌, ap, arith, get_or, subst, cond, Bool, ⊎_elim}
 use Rattle.std.proofs.Math.Seq.{drop-cons}
-use Rattle.std.specs.Prelude.{nat_lt, is_some, IsSome, ◌↔◌}
+use Rattle.std.specs.Prelude.{nat_lt, count_by, is_some, IsSome, ◌↔◌}
 use Rattle.std.proofs.lemmas.Bool.{cases_Bool, lt-ltb, le-ltb, ltb-true, cases_lt, both_ways}
 use Rattle.std.proofs.lemmas.Option.{same_Some}
 use Rattle.std.proofs.lemmas.List.{drop_all}
 use Rattle.std.proofs.lemmas.List.Sums.{sum_by-cons}
 use Rattle.std.specs.Prelude.{Option, Some, None, option_map}
+use Rattle.ga_event.specs.declared.event.Event.{Event}
 use Rattle.ga_event.specs.declared.event.Cause.{Cause}
-use Rattle.ga_causal.specs.Causes.{touches}
+use Rattle.ga_event.specs.Touches.{touches as event_touches}
+use Rattle.ga_causal.specs.Causes.{events_in, touches}
 use Rattle.ga_causal.specs.Steps.{touching, place_of, IsStep}
 use Rattle.ga_causal.proofs.Refusals.{place-first, place-touched, place-other, some-shift, shifted_of}
 
@@ -58,6 +60,13 @@ on_end es n i k l = ap (λ z. on_by i (place_of z n k)) (drop_all i es l)
 -- one event more
 touching-cons : (n : ℕ) (e : Cause) (es : List Cause) → touching n (e ∷ es) ≡ cond (touches e n) 1 0 + touching n es
 touching-cons n e es = sum_by-cons (λ (x : Cause). cond (touches x n) 1 0) e es
+
+-- whether an event looks is no matter
+pub touching_in : (n : ℕ) (es : List Cause) → touching n es ≡ count_by (λ e. event_touches e n) (events_in es)
+touching_in n [] = refl
+touching_in n (e ∷ es) =
+    touching-cons n e es ∙ ap (λ (z : ℕ). cond (touches e n) 1 0 + z) (touching_in n es)
+    ∙ sym (sum_by-cons (λ (x : Event). cond (event_touches x n) 1 0) e.event (events_in es))
 
 touching_yes : (n : ℕ) (e : Cause) (es : List Cause) → touches e n ≡ true → touching n (e ∷ es) ≡ suc (touching n es)
 touching_yes n e es t = sum _ _ (touching-cons n e es) (ap (λ (z : Bool). cond {A = ℕ} z 1 0) t)

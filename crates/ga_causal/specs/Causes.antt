@@ -8,6 +8,7 @@ use Rattle.ga_event.specs.Touches as Touches
 abbrev pub events_in : List Cause → List Event
 events_in causes = map (λ (cause : Cause). cause.event) causes
 
+-- the nodes that the event touches, whether it looks or not
 abbrev pub nodes_of : Cause → List ℕ
 nodes_of cause = Touches.nodes_of cause.event
 

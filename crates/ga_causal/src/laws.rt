@@ -1,9 +1,10 @@
 //! The laws of dependence, each the contract of a function that does nothing. They stand over the definitions alone.
 
-ghost use Rattle.std.specs.Prelude.{◌≡◌, ◌↔◌, ◌<◌, ◌≤◌, ℕ, Bool, false, List, [], ◌∷◌, IsTrue, IsSome, IsNone, Option, Some, map, option_map, reverse, length, slice_index_or, IsPermutation};
+ghost use Rattle.std.specs.Prelude.{◌≡◌, ◌↔◌, ◌<◌, ◌≤◌, ℕ, Bool, false, List, [], ◌∷◌, IsTrue, IsSome, IsNone, Option, Some, map, option_map, reverse, length, count_by, slice_index_or, IsPermutation};
 ghost use Rattle.ga_event.specs.declared.event.Event.{Event};
 ghost use Rattle.ga_event.specs.declared.event.Cause.{Cause};
 ghost use Rattle.ga_node.specs.Record.{NodeRecord};
+ghost use Rattle.ga_event.specs.Touches.{touches};
 ghost use Rattle.ga_event.specs.Apply.{Told, replay, run, cause_of};
 ghost use Rattle.ga_causal.specs.declared.chain.Link.{Link};
 ghost use Rattle.ga_causal.specs.Chains.{IsChain, IsChainTo, IsFound, chain_of};
@@ -54,8 +55,9 @@ pub fn largest_rest()
         (j : ℕ) → DependsOn events i j → IsTrue (slice_index_or dropped j false) }
 {}
 
-/// A node has as many steps as events touch it, and its k-th step is the k-th of them.
+/// A node has as many steps as events touch it, whether they look or not, and its k-th step is the k-th of them.
 pub fn steps()
+    ensures events { (events : List Cause) (n : ℕ) → touching n events ≡ count_by (λ e. touches e n) (events_in events) }
     ensures stands { (events : List Cause) (n k : ℕ) →
         (IsSome (place_of events n k) ↔ ((0 < k) × (k ≤ touching n events))) }
     ensures place { (events : List Cause) (n k place : ℕ) → place_of events n k ≡ Some place → IsStep events n k place }

@@ -1,5 +1,8 @@
-use Rattle.ga_causal.proofs.Places.{stands_exact, place_step}
+use Rattle.ga_causal.proofs.Places.{touching_in, stands_exact, place_step}
 use Rattle.ga_causal.proofs.laws.steps.Goals as goal
+
+pub returns-clause-events : goal.returns-clause-events
+returns-clause-events c events n = touching_in n events
 
 pub returns-clause-stands : goal.returns-clause-stands
 returns-clause-stands c = stands_exact
