@@ -42,8 +42,9 @@ pub fn marks_exact()
 {}
 
 /// No larger rest keeps the numbers of the steps: a list without the event at the place `i`, in which each event keeps the
-/// numbers of its steps, has no event that depends on it. That holds of lists without looks, since a look has the same numbers
-/// where what it saw is gone. In any list it holds where each look also keeps the numbers of the next steps at which it looks.
+/// numbers of its steps, has no event that depends on it. A look keeps its own numbers also where what it saw is gone, so this
+/// holds of lists without looks, and of any list where each look also keeps the number of the next step of each node at which
+/// it looks.
 pub fn largest_rest()
     ensures steps { (events : List Cause) → NoneLooks events →
         (i : ℕ) (dropped : List Bool) → length dropped ≡ length events → IsTrue (slice_index_or dropped i false) →

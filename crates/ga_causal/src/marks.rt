@@ -60,10 +60,7 @@ impl Marks {
     {
         match event.event {
             Event::Own(node) => {
-                if self.flags[node.index()] {
-                    return true;
-                }
-                event.look && self.is_marked_beside(node)
+                self.flags[node.index()] || (event.look && self.is_marked_beside(node))
             }
             Event::Pass { writer, reader, .. } => {
                 self.flags[writer.index()] || self.flags[reader.index()]
@@ -106,7 +103,7 @@ impl Marks {
     }
 }
 
-/// Of each event of the list, whether it depends on the one at the place. Looks at each event once.
+/// Of each event of the list, whether it depends on the one at the place. Reads each event once.
 pub fn closure(alloc: Global, events: &[Cause], place: u32) -> Result<Vec<bool>, Memory>
     requires { place < length events.now }
     ensures flags { IfOk result (λ flags. flags.items ≡ dependents events.now place) }
