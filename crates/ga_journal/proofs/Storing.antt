@@ -1,17 +1,20 @@
 -- How a history is stored.
-use Rattle.std.proofs.Common.{◌≡◌, ℕ, zero, suc, ◌+◌, ◌-◌, ◌<◌, ◌≤◌, List, [], ◌∷◌, ◌++◌, length, map, get_or, set, take, refl, sym, ◌∙◌, ap, subst, arith, length-append, add-zero}
+use Rattle.std.proofs.Common.{◌≡◌, ℕ, zero, suc, ◌+◌, ◌-◌, ◌<◌, ◌≤◌, Bool, true, false, List, [], ◌∷◌, ◌++◌, length, map, get_or, set, take, refl, sym, ◌∙◌, ap, subst, arith, length-append, add-zero}
 use Rattle.std.specs.Prelude.{Some, slice_get}
 use Rattle.std.proofs.Math.ListN.{get_or-append}
 use Rattle.std.proofs.Math.Seq.{get_or-append_seam}
 use Rattle.std.proofs.lemmas.List.{map-append, take_all, take_more}
 use Rattle.ga_node.specs.declared.kind.Kind.{Kind}
 use Rattle.ga_journal.specs.declared.entry.Role.{Role}
+use Rattle.ga_journal.specs.declared.entry.Role.TheVariants.{Writer, Reader}
 use Rattle.ga_journal.specs.declared.entry.Part.{Part}
-use Rattle.ga_journal.specs.declared.entry.Part.TheVariants.{Own, Passed}
+use Rattle.ga_journal.specs.declared.entry.Part.TheVariants.{Own, Look, Passed}
 use Rattle.ga_journal.specs.declared.entry.Pass.{Pass}
 use Rattle.ga_journal.specs.declared.entry.Entry.{Entry}
 use Rattle.ga_journal.specs.Histories.{past, bound_from, bound_of}
-use Rattle.ga_journal.specs.Stored.{act_with, no_pass, act_in, past_in, passes_in, Names, IsBelow, IsDropped, AreNumbered}
+use Rattle.ga_journal.specs.Ends.{own_act}
+use Rattle.ga_journal.proofs.Heads.{deed}
+use Rattle.ga_journal.specs.Stored.{own_part, act_with, no_pass, act_in, past_in, passes_in, Names, IsBelow, IsDropped, AreNumbered}
 
 pub numbered_le : (n m : ℕ) (es : List Entry) → AreNumbered n es m → n ≤ m
 numbered_le n m [] h = omega (arith, h)
@@ -20,6 +23,7 @@ numbered_le n m (e ∷ es) h = let k = numbered_le (n + passes_in e.part) m es h
 -- there are no more passes than entries
 one_pass : (part : Part) → passes_in part ≤ 1
 one_pass (Own kind) = omega arith
+one_pass (Look kind) = omega arith
 one_pass (Passed role) = omega arith
 
 pub numbered_long : (n m : ℕ) (es : List Entry) → AreNumbered n es m → m ≤ n + length es
@@ -27,15 +31,15 @@ numbered_long n m [] h = omega (arith, h)
 numbered_long n m (e ∷ es) h = let k = numbered_long (n + passes_in e.part) m es h.1 in let j = one_pass e.part in omega (arith, k, j)
 
 -- an entry more
-pub numbered_push : (n m : ℕ) (es : List Entry) (e : Entry) → AreNumbered n es m → Names e.part e.pass m → AreNumbered n (es ++ e ∷ []) (m + passes_in e.part)
-numbered_push n m [] e h k = (subst (λ z. Names e.part e.pass z) (sym h) k, ap (λ z. z + passes_in e.part) h)
+pub numbered_push : (n m : ℕ) (es : List Entry) (e : Entry) → AreNumbered n es m → Names e.part e.place m → AreNumbered n (es ++ e ∷ []) (m + passes_in e.part)
+numbered_push n m [] e h k = (subst (λ z. Names e.part e.place z) (sym h) k, ap (λ z. z + passes_in e.part) h)
 numbered_push n m (x ∷ xs) e h k = (h.0, numbered_push (n + passes_in x.part) m xs e h.1 k)
 
 -- an entry less
 pub record IsNumberedLast (n : ℕ) (es : List Entry) (e : Entry) (k : ℕ) : Type 0 where
   pub before : ℕ
   pub numbered : AreNumbered n es before
-  pub names : Names e.part e.pass before
+  pub names : Names e.part e.place before
   pub sum : k ≡ before + passes_in e.part
 
 pub numbered_pop : (n k : ℕ) (es : List Entry) (e : Entry) → AreNumbered n (es ++ e ∷ []) k → IsNumberedLast n es e k
@@ -45,48 +49,59 @@ numbered_pop n k (x ∷ xs) e h =
     record { before = r.before; numbered = (h.0, r.numbered); names = r.names; sum = r.sum }
 
 -- what an entry names is there
-below_by : (part : Part) (place n m : ℕ) → Names part place n → n + passes_in part ≤ m → IsBelow part place m
+pub below_by : (part : Part) (place n m : ℕ) → Names part place n → n + passes_in part ≤ m → IsBelow part place m
 below_by (Own kind) place n m h l = tt
+below_by (Look kind) place n m h l = tt
 below_by (Passed role) place n m h l = omega (arith, h, l)
 
-pub numbered_below : (n m i : ℕ) (es : List Entry) (e : Entry) → AreNumbered n es m → i < length es → e ≡ get_or es i e → IsBelow e.part e.pass m
+pub numbered_below : (n m i : ℕ) (es : List Entry) (e : Entry) → AreNumbered n es m → i < length es → e ≡ get_or es i e → IsBelow e.part e.place m
 numbered_below n m i [] e h l at = absurd (omega (arith, l))
 numbered_below n m zero (x ∷ xs) e h l at =
-    subst (λ (z : Entry). IsBelow z.part z.pass m) (sym at) (below_by x.part x.pass n m h.0 (numbered_le (n + passes_in x.part) m xs h.1))
+    subst (λ (z : Entry). IsBelow z.part z.place m) (sym at) (below_by x.part x.place n m h.0 (numbered_le (n + passes_in x.part) m xs h.1))
 numbered_below n m (suc i) (x ∷ xs) e h l at = numbered_below (n + passes_in x.part) m i xs e h.1 (omega (arith, l)) at
 
 -- a pass more leaves what the entries before tell
 act_more : (ps : List Pass) (p : Pass) (part : Part) (place : ℕ) → IsBelow part place (length ps) → act_in (ps ++ p ∷ []) part place ≡ act_in ps part place
 act_more ps p (Own kind) place l = refl
+act_more ps p (Look kind) place l = refl
 act_more ps p (Passed role) place l = ap (λ z. act_with role z) (get_or-append ps (p ∷ []) no_pass place l)
 
 below_more : (part : Part) (place n m : ℕ) → IsBelow part place n → n ≤ m → IsBelow part place m
 below_more (Own kind) place n m h l = tt
+below_more (Look kind) place n m h l = tt
 below_more (Passed role) place n m h l = omega (arith, h, l)
 
 pub pasts_more : (ps : List Pass) (p : Pass) (n m : ℕ) (es : List Entry) → AreNumbered n es m → m ≤ length ps → map (past_in (ps ++ p ∷ [])) es ≡ map (past_in ps) es
 pasts_more ps p n m [] h l = refl
 pasts_more ps p n m (e ∷ es) h l =
-    let b : IsBelow e.part e.pass (length ps) = below_more e.part e.pass m (length ps) (below_by e.part e.pass n m h.0 (numbered_le (n + passes_in e.part) m es h.1)) l in
-    ap (λ z. past e.stamp z e.saved ∷ map (past_in (ps ++ p ∷ [])) es) (act_more ps p e.part e.pass b)
+    let b : IsBelow e.part e.place (length ps) = below_more e.part e.place m (length ps) (below_by e.part e.place n m h.0 (numbered_le (n + passes_in e.part) m es h.1)) l in
+    ap (λ z. past e.stamp z e.saved ∷ map (past_in (ps ++ p ∷ [])) es) (act_more ps p e.part e.place b)
     ∙ ap (λ z. past_in ps e ∷ z) (pasts_more ps p (n + passes_in e.part) m es h.1 l)
+
+-- where the newest look stands is no part of an act
+abbrev pub with_looked : Pass → ℕ → Pass
+with_looked p looked = record { partner = p.partner; side = p.side; at = p.at; looked = looked; word = p.word }
+
+pub same_act : (role : Role) (p : Pass) (looked : ℕ) → act_with role (with_looked p looked) ≡ act_with role p
+same_act Writer p looked = refl
+same_act Reader p looked = refl
 
 -- the new one tells the new pass
 pub act_last : (ps : List Pass) (p : Pass) (role : Role) → act_in (ps ++ p ∷ []) (Passed role) (length ps) ≡ act_with role p
 act_last ps p role = ap (λ z. act_with role z) (get_or-append_seam ps p [] no_pass)
 
--- an own event more
+-- an entry more with no pass
 pub pasts_own : (ps : List Pass) (es : List Entry) (e : Entry) → map (past_in ps) (es ++ e ∷ []) ≡ map (past_in ps) es ++ past_in ps e ∷ []
 pasts_own ps es e = map-append (past_in ps) es (e ∷ [])
 
 -- an end of a pass more
-pub pasts_passed : (ps : List Pass) (p : Pass) (role : Role) (es : List Entry) (e : Entry) → AreNumbered 0 es (length ps) → e.part ≡ Passed role → e.pass ≡ length ps
+pub pasts_passed : (ps : List Pass) (p : Pass) (role : Role) (es : List Entry) (e : Entry) → AreNumbered 0 es (length ps) → e.part ≡ Passed role → e.place ≡ length ps
     → map (past_in (ps ++ p ∷ [])) (es ++ e ∷ []) ≡ map (past_in ps) es ++ past e.stamp (act_with role p) e.saved ∷ []
 pasts_passed ps p role es e h part place =
     map-append (past_in (ps ++ p ∷ [])) es (e ∷ [])
     ∙ ap (λ z. z ++ past_in (ps ++ p ∷ []) e ∷ []) (pasts_more ps p 0 (length ps) es h (omega arith))
     ∙ ap (λ z. map (past_in ps) es ++ past e.stamp z e.saved ∷ [])
-    (ap (λ z. act_in (ps ++ p ∷ []) z e.pass) part ∙ ap (λ z. act_in (ps ++ p ∷ []) (Passed role) z) place ∙ act_last ps p role)
+    (ap (λ z. act_in (ps ++ p ∷ []) z e.place) part ∙ ap (λ z. act_in (ps ++ p ∷ []) (Passed role) z) place ∙ act_last ps p role)
 
 -- the entry at a place
 pub pasts_at : (ps : List Pass) (es : List Entry) (i : ℕ) (e : Entry) → i < length es → e ≡ get_or es i e → slice_get (map (past_in ps) es) i ≡ Some (past_in ps e)
@@ -106,6 +121,15 @@ pub none_bound : (ps : List Pass) (es : List Entry) → length es ≡ 0 → boun
 none_bound ps [] h = refl
 none_bound ps (x ∷ xs) h = absurd (omega (arith, h))
 
+-- an own event more
+act_own : (ps : List Pass) (kind : Kind) (look : Bool) (place : ℕ) → act_in ps (own_part (deed kind look)) place ≡ own_act (deed kind look)
+act_own ps kind true place = refl
+act_own ps kind false place = refl
+
+pub pasts_deed : (ps : List Pass) (es : List Entry) (e : Entry) (kind : Kind) (look : Bool) → e.part ≡ own_part (deed kind look) → map (past_in ps) (es ++ e ∷ []) ≡ map (past_in ps) es ++ past e.stamp (own_act (deed kind look)) e.saved ∷ []
+pasts_deed ps es e kind look part =
+    pasts_own ps es e ∙ ap (λ z. map (past_in ps) es ++ past e.stamp z e.saved ∷ []) (ap (λ z. act_in ps z e.place) part ∙ act_own ps kind look e.place)
+
 -- the last of a list
 pub end_of_list : (es : List Entry) (e : Entry) (i : ℕ) → i + 1 ≡ length es → e ≡ get_or es i e → es ≡ take i es ++ e ∷ []
 end_of_list es e i long at =
@@ -114,10 +138,12 @@ end_of_list es e i long at =
 -- an entry less, and the last pass where it is of one
 drop_counts : (part : Part) (ps qs : List Pass) (before : ℕ) → length ps ≡ before + passes_in part → IsDropped part ps qs → before ≡ length qs
 drop_counts (Own kind) ps qs before sum d = let k : length qs ≡ length ps = ap length d in omega (arith, k, sum)
+drop_counts (Look kind) ps qs before sum d = let k : length qs ≡ length ps = ap length d in omega (arith, k, sum)
 drop_counts (Passed role) ps qs before sum d = let k : length ps ≡ length qs + 1 = ap length d.1 ∙ length-append qs (d.0 ∷ []) in omega (arith, k, sum)
 
 drop_same : (part : Part) (ps qs : List Pass) (es : List Entry) → AreNumbered 0 es (length qs) → IsDropped part ps qs → map (past_in ps) es ≡ map (past_in qs) es
 drop_same (Own kind) ps qs es h d = ap (λ z. map (past_in z) es) (sym d)
+drop_same (Look kind) ps qs es h d = ap (λ z. map (past_in z) es) (sym d)
 drop_same (Passed role) ps qs es h d = ap (λ z. map (past_in z) es) d.1 ∙ pasts_more qs d.0 0 (length qs) es h (omega arith)
 
 pub dropped_numbered : (es : List Entry) (e : Entry) (ps qs : List Pass) → AreNumbered 0 (es ++ e ∷ []) (length ps) → IsDropped e.part ps qs → AreNumbered 0 es (length qs)
@@ -135,12 +161,13 @@ last_counts es e ps h = let r : IsNumberedLast 0 es e (length ps) = numbered_pop
 
 last_below : (part : Part) (place before n : ℕ) → Names part place before → n ≡ before + passes_in part → IsBelow part place n
 last_below (Own kind) place before n h q = tt
+last_below (Look kind) place before n h q = tt
 last_below (Passed role) place before n h q = omega (arith, h, q)
 
-pub last_is_below : (es : List Entry) (e : Entry) (ps : List Pass) → AreNumbered 0 (es ++ e ∷ []) (length ps) → IsBelow e.part e.pass (length ps)
+pub last_is_below : (es : List Entry) (e : Entry) (ps : List Pass) → AreNumbered 0 (es ++ e ∷ []) (length ps) → IsBelow e.part e.place (length ps)
 last_is_below es e ps h =
     let r : IsNumberedLast 0 es e (length ps) = numbered_pop 0 (length ps) es e h in
-    last_below e.part e.pass r.before (length ps) r.names r.sum
+    last_below e.part e.place r.before (length ps) r.names r.sum
 
 -- the last entry read and written
 pub read_last : (es all : List Entry) (first e : Entry) (k : ℕ) → all ≡ es ++ first ∷ [] → k + 1 ≡ length all → e ≡ get_or all k e → e ≡ first
@@ -158,16 +185,19 @@ set_last es all first e k is long =
     ap (λ z. set z k e) is ∙ ap (λ z. set (es ++ first ∷ []) z e) q ∙ set_end es first e
 
 -- an own event more is numbered
-pub own_numbered : (es : List Entry) (ps : List Pass) (e : Entry) (kind : Kind) → AreNumbered 0 es (length ps) → e.part ≡ Own kind → AreNumbered 0 (es ++ e ∷ []) (length ps)
-own_numbered es ps e kind h part =
-    subst (λ z. AreNumbered 0 (es ++ e ∷ []) z) (ap (λ (p : Part). length ps + passes_in p) part ∙ add-zero (length ps))
-    (numbered_push 0 (length ps) es e h (subst (λ (p : Part). Names p e.pass (length ps)) (sym part) tt))
+pub own_numbered : (es : List Entry) (m : ℕ) (e : Entry) (kind : Kind) (look : Bool) → AreNumbered 0 es m → e.part ≡ own_part (deed kind look) → AreNumbered 0 (es ++ e ∷ []) m
+own_numbered es m e kind true h part =
+    subst (λ z. AreNumbered 0 (es ++ e ∷ []) z) (ap (λ (p : Part). m + passes_in p) part ∙ add-zero m)
+    (numbered_push 0 m es e h (subst (λ (p : Part). Names p e.place m) (sym part) tt))
+own_numbered es m e kind false h part =
+    subst (λ z. AreNumbered 0 (es ++ e ∷ []) z) (ap (λ (p : Part). m + passes_in p) part ∙ add-zero m)
+    (numbered_push 0 m es e h (subst (λ (p : Part). Names p e.place m) (sym part) tt))
 
 -- and a pass more
-pub pass_numbered : (es : List Entry) (ps : List Pass) (p : Pass) (e : Entry) (role : Role) → AreNumbered 0 es (length ps) → e.part ≡ Passed role → e.pass ≡ length ps → AreNumbered 0 (es ++ e ∷ []) (length (ps ++ p ∷ []))
+pub pass_numbered : (es : List Entry) (ps : List Pass) (p : Pass) (e : Entry) (role : Role) → AreNumbered 0 es (length ps) → e.part ≡ Passed role → e.place ≡ length ps → AreNumbered 0 (es ++ e ∷ []) (length (ps ++ p ∷ []))
 pass_numbered es ps p e role h part place =
     subst (λ z. AreNumbered 0 (es ++ e ∷ []) z) (ap (λ (q : Part). length ps + passes_in q) part ∙ sym (length-append ps (p ∷ [])))
-    (numbered_push 0 (length ps) es e h (subst (λ (q : Part). Names q e.pass (length ps)) (sym part) place))
+    (numbered_push 0 (length ps) es e h (subst (λ (q : Part). Names q e.place (length ps)) (sym part) place))
 
 some_entries : (ps : List Pass) (es : List Entry) → 0 < bound_of (map (past_in ps) es) → 0 < length es
 some_entries ps [] h = h

@@ -1,21 +1,26 @@
 -- The newest event taken back on the chip.
-use Rattle.std.proofs.Common.{◌≡◌, ◌≢◌, ℕ, List, set, refl, sym, ◌∙◌, ap, subst, inl, inr, get_or-set_other}
+use Rattle.std.proofs.Common.{◌≡◌, ◌≢◌, ℕ, Bool, true, false, List, set, refl, sym, ◌∙◌, ap, subst, inl, inr, get_or-set_other}
 use Rattle.std.proofs.lemmas.List.{set_comm}
 use Rattle.ga_ports.specs.declared.side.Side.{Side}
 use Rattle.ga_node.specs.State.{NodeState, restored}
+use Rattle.ga_node.specs.declared.kind.Kind.{Kind}
 use Rattle.ga_node.specs.declared.place.Place.{Place}
 use Rattle.ga_grid.specs.Chip.{nowhere, node_at}
 use Rattle.ga_grid.specs.declared.node_id.NodeId.{NodeId}
 use Rattle.ga_event.specs.declared.event.Event.TheVariants as event
 use Rattle.ga_event.specs.declared.event.Effect.TheVariants as effect
-use Rattle.ga_event.specs.Undo.{restored_at, CanRestore, CanUnapply}
+use Rattle.ga_event.specs.Undo.{own_effect, restored_at, CanRestore, CanUnapply}
 use Rattle.ga_journal.specs.Histories.{Past, history}
 use Rattle.ga_journal.specs.Logs.{Stamped, Records}
 use Rattle.ga_journal.specs.Newest.{IsTopmost}
 use Rattle.ga_journal.specs.Ends.{CanGoBack}
 use Rattle.ga_journal.specs.Popped.{CanUndo}
-use Rattle.ga_journal.proofs.Heads.{Headed, headed}
+use Rattle.ga_journal.proofs.Heads.{deed, Headed, headed}
 use Rattle.ga_journal.proofs.Popping.{SentLeft, TookLeft, end_gone}
+
+can_own : (chip : List NodeState) (node : NodeId) (kind : Kind) (look : Bool) (saved : List (Place × ℕ)) → CanUnapply chip (event.Own node) (own_effect (deed kind look) saved) → CanRestore (node_at chip node.number) saved
+can_own chip node kind true saved h = h
+can_own chip node kind false saved h = h
 
 -- the node's own last entry can be taken back
 pub can_first : (log : List Stamped) (made : ℕ) (hs : List (List Past)) (chip : List NodeState) (node : NodeId) → Records log hs made → IsTopmost hs node.number → CanUndo chip log → CanGoBack (history hs node.number) chip node.number
@@ -26,8 +31,8 @@ can_first log made hs chip node r top can front e has = go (headed log made hs n
         let back : CanUnapply chip h.first.event h.first.effect = subst (λ z. CanUndo chip z) h.is can in
         elim h.head [
           | inl o ↦
-              (let b : CanUnapply chip (event.Own node) (effect.Own o.kind o.saved) = subst (λ z. CanUnapply chip (event.Own node) z) o.effect (subst (λ z. CanUnapply chip z h.first.effect) o.event back) in
-              subst (λ (z : Past). CanRestore (node_at chip node.number) z.saved) (sym o.last) b)
+              (let b : CanUnapply chip (event.Own node) (own_effect (deed o.kind o.look) o.saved) = subst (λ z. CanUnapply chip (event.Own node) z) o.effect (subst (λ z. CanUnapply chip z h.first.effect) o.event back) in
+              subst (λ (z : Past). CanRestore (node_at chip node.number) z.saved) (sym o.last) (can_own chip node o.kind o.look o.saved b))
           | inr both ↦ elim both [
             | inl w ↦
                 (let b : CanUnapply chip (event.Pass node w.reader w.side) (effect.Pass w.word w.sent w.took) = subst (λ z. CanUnapply chip (event.Pass node w.reader w.side) z) w.effect (subst (λ z. CanUnapply chip z h.first.effect) w.event back) in

@@ -1,8 +1,8 @@
 -- Looks that saw what is to go: an own event that looked saw of each neighbour just the entries with stamps below its own.
-use Rattle.std.specs.Prelude.{◌≡◌, ℕ, ◌<◌, ◌≤◌, true, false, List, Some, slice_get}
+use Rattle.std.specs.Prelude.{◌≡◌, ℕ, zero, suc, ◌<◌, ◌≤◌, true, false, List, Some, slice_get}
 use Rattle.ga_journal.specs.Histories.{Past, Book, history}
 use Rattle.ga_journal.specs.Kept.{has_looked_in}
-use Rattle.ga_journal.specs.Marks.{entry_at, mark_of}
+use Rattle.ga_journal.specs.Marks.{mark_of}
 
 -- the newest look among the first entries of a history, as many as the mark says
 pub record IsNewestLook (entries : List Past) (mark at : ℕ) : Type 0 where
@@ -16,15 +16,30 @@ pub record IsNewestLook (entries : List Past) (mark at : ℕ) : Type 0 where
 abbrev pub HasNoLook : List Past → ℕ → Type 0
 HasNoLook entries mark = (p : ℕ) (e : Past) → p < mark → slice_get entries p ≡ Some e → has_looked_in e.act ≡ false
 
--- the newest look of the looker that is to stay so far, which came after an entry of the node that is to go
-pub record IsLookToGo (book : Book) (node looker at : ℕ) : Type 0 where
-  pub look : IsNewestLook (history book.histories looker) (mark_of book looker) at
+-- one past the newest of them, or 0
+abbrev pub IsPastNewest : List Past → ℕ → ℕ → Type 0
+IsPastNewest entries mark zero = HasNoLook entries mark
+IsPastNewest entries mark (suc at) = IsNewestLook entries mark at
+
+-- the newest look came after the entry at a position of another history
+pub record IsLookAfter (entries : List Past) (mark : ℕ) (others : List Past) (place at : ℕ) : Type 0 where
+  pub look : IsNewestLook entries mark at
   pub gone : Past
-  pub first : entry_at book.histories node (mark_of book node) ≡ Some gone
+  pub first : slice_get others place ≡ Some gone
   pub after : gone.stamp < look.entry.stamp
 
--- no look of the looker that is to stay so far came after an entry of the node that is to go
+-- no look among them did
+abbrev pub HasNoLookAfter : List Past → ℕ → List Past → ℕ → Type 0
+HasNoLookAfter entries mark others place =
+    (p : ℕ) (e f : Past) → p < mark → slice_get entries p ≡ Some e → has_looked_in e.act ≡ true
+    → slice_get others place ≡ Some f → e.stamp ≤ f.stamp
+
+-- the newest look of the looker that is to stay so far came after an entry of the node that is to go
+abbrev pub IsLookToGo : Book → ℕ → ℕ → ℕ → Type 0
+IsLookToGo book node looker at =
+    IsLookAfter (history book.histories looker) (mark_of book looker) (history book.histories node) (mark_of book node) at
+
+-- no look of the looker that is to stay so far did
 abbrev pub SawNoneToGo : Book → ℕ → ℕ → Type 0
 SawNoneToGo book node looker =
-    (p : ℕ) (e f : Past) → p < mark_of book looker → entry_at book.histories looker p ≡ Some e → has_looked_in e.act ≡ true
-    → entry_at book.histories node (mark_of book node) ≡ Some f → e.stamp ≤ f.stamp
+    HasNoLookAfter (history book.histories looker) (mark_of book looker) (history book.histories node) (mark_of book node)

@@ -1,8 +1,9 @@
 -- How a history is stored: entries, the passes among them in a list of their own, and where the newest look stands.
-use Rattle.std.specs.Prelude.{◌≡◌, ℕ, ◌+◌, ◌<◌, nat_lt, List, [], ◌∷◌, ◌++◌, length, map, slice_index_or, Vec, vec_len, vec_capacity}
+use Rattle.std.specs.Prelude.{◌≡◌, ℕ, ◌+◌, ◌<◌, nat_lt, if◌then◌else◌, List, [], ◌∷◌, ◌++◌, length, map, slice_index_or, Vec, vec_len, vec_capacity}
 use Rattle.std.specs.Global.{Global}
 use Rattle.ga_ports.specs.declared.side.Side.TheVariants.{Right}
 use Rattle.ga_grid.specs.NodeId.{node_id}
+use Rattle.ga_event.specs.declared.event.Deed.{Deed}
 use Rattle.ga_journal.specs.declared.entry.Act.{Act}
 use Rattle.ga_journal.specs.declared.entry.Act.TheVariants.{Alone, Looked, Sent, Took}
 use Rattle.ga_journal.specs.declared.entry.Role.{Role}
@@ -17,6 +18,10 @@ use Rattle.ga_journal.specs.Histories.{Past, Held, past}
 abbrev pub act_with : Role → Pass → Act
 act_with Writer p = Sent p.partner p.side p.at p.word
 act_with Reader p = Took p.partner p.side p.at p.word
+
+-- an own event that looked or didn't
+abbrev pub own_part : Deed → Part
+own_part deed = if deed.look then Look deed.kind else Own deed.kind
 
 -- past the list no pass stands: no entry names such a place
 abbrev pub no_pass : Pass

@@ -11,18 +11,27 @@ ghost use Rattle.ga_journal.specs.Logs.{Stamped, Records, IsWhole};
 ghost use Rattle.ga_journal.specs.Newest.{IsTopmost};
 ghost use Rattle.ga_journal.specs.Popped.{IsNewest, TakesBack, IsTakenOut};
 ghost use Rattle.ga_journal.specs.Stored.{act_with};
-ghost use Rattle.ga_journal.specs.Ends.{CanGoBack, IsGoneBack};
+ghost use Rattle.ga_journal.specs.Ends.{own_act, CanGoBack, IsGoneBack};
 ghost use Rattle.ga_journal.specs.Making.{IsAdded};
 
 use crate::entry::{Act, Pass, Role, Taken};
 use crate::histories::count;
 use crate::history::History;
 use crate::made::Made;
-use ga_event::{Effect, Event, apply_pass};
+use ga_event::{Deed, Effect, Event, apply_pass};
 use ga_grid::{Chip, NodeId};
-use ga_node::{Kind, NotReady, Saved};
+use ga_node::{NotReady, Saved};
 use ga_ports::Side;
 use ga_word::Word18;
+
+/// A node that the event touches.
+#[inline(always)]
+pub(crate) fn node_of(event: Event) -> NodeId {
+    match event {
+        Event::Own(node) => node,
+        Event::Pass { writer, .. } => writer,
+    }
+}
 
 /// Adds an own event to one history.
 #[inline(always)]
@@ -30,18 +39,19 @@ fn push_own(
     histories: &mut Vec<History>,
     node: NodeId,
     stamp: u64,
-    kind: Kind,
+    deed: Deed,
     saved: Saved,
     before: NodeId,
 )
     requires size { length histories.old.items ≡ 144 }
     requires room { has_room (room_of histories.old.items) node.number }
+    requires fits { length (history (lists_of histories.old.items) node.number) + 1 < 2 ^ 32 }
     ensures after { lists_of histories.new.items
-        ≡ pushed (lists_of histories.old.items) node.number (past stamp (Act.Alone kind) saved) }
+        ≡ pushed (lists_of histories.old.items) node.number (past stamp (own_act deed) saved) }
     ensures size { length histories.new.items ≡ 144 }
 {
     let history = &mut histories[node.index()];
-    history.push_own(stamp, kind, saved, before);
+    history.push_own(stamp, deed, saved, before);
 }
 
 /// Adds an end of a pass to one history.
@@ -110,6 +120,7 @@ pub(crate) fn take_event(histories: &mut Vec<History>, node: NodeId) -> (Event, 
     let Taken { act, saved, .. } = take_last(histories, node);
     match act {
         Act::Alone(kind) => (Event::Own(node), Effect::Own(kind, saved)),
+        Act::Looked(kind) => (Event::Own(node), Effect::Look(kind, saved)),
         Act::Sent { to, side, word, .. } => {
             let other = take_last(histories, to);
             let event = Event::Pass {
@@ -170,12 +181,14 @@ fn push_pass(
         partner: reader,
         side,
         at: count(histories, reader),
+        looked: 0,
         word,
     };
     let there = Pass {
         partner: writer,
         side,
         at: count(histories, writer),
+        looked: 0,
         word,
     };
     push_end(histories, writer, stamp, Role::Writer, here, sent, before);
@@ -194,13 +207,20 @@ pub(crate) fn push_event(
     requires size { length histories.old.items ≡ 144 }
     requires room { HasRoom (room_of histories.old.items) event }
     requires of_kind { IsOfKind event effect }
-    requires fits { (n : ℕ) → length (history (lists_of histories.old.items) n) < 2 ^ 32 }
+    requires fits { (n : ℕ) → length (history (lists_of histories.old.items) n) + 1 < 2 ^ 32 }
     ensures after { lists_of histories.new.items ≡ appended (lists_of histories.old.items) stamp event effect }
     ensures size { length histories.new.items ≡ 144 }
 {
     match event {
         Event::Own(node) => match effect {
-            Effect::Own(kind, saved) => push_own(histories, node, stamp, kind, saved, before),
+            Effect::Own(kind, saved) => {
+                let deed = Deed { kind, look: false };
+                push_own(histories, node, stamp, deed, saved, before);
+            }
+            Effect::Look(kind, saved) => {
+                let deed = Deed { kind, look: true };
+                push_own(histories, node, stamp, deed, saved, before);
+            }
             Effect::Pass { .. } => unreachable!(),
         },
         Event::Pass {
@@ -209,6 +229,7 @@ pub(crate) fn push_event(
             side,
         } => match effect {
             Effect::Own(..) => unreachable!(),
+            Effect::Look(..) => unreachable!(),
             Effect::Pass {
                 word,
                 writer: sent,
@@ -248,7 +269,11 @@ fn make_own(
     let step = count(histories, node) + 1;
     let history = &mut histories[node.index()];
     match history.make_own(chip, node, stamp, before) {
-        Ok(kind) => Ok(Made::Own { node, step, kind }),
+        Ok(deed) => Ok(Made::Own {
+            node,
+            step,
+            kind: deed.kind,
+        }),
         Err(why) => Err(why),
     }
 }
@@ -331,6 +356,7 @@ pub(crate) fn undo_event(histories: &mut Vec<History>, chip: &mut Chip, node: No
 {
     match go_back(histories, chip, node) {
         Act::Alone(_) => Event::Own(node),
+        Act::Looked(_) => Event::Own(node),
         Act::Sent { to, side, .. } => {
             let _ = go_back(histories, chip, to);
             Event::Pass {

@@ -1,11 +1,11 @@
 //! The history of one node.
 
-ghost use Rattle.std.specs.Prelude.{◌≡◌, ◌≤◌, length};
-ghost use Rattle.ga_journal.specs.Stored.{act_in, passes_in, IsBelow, IsDropped};
+ghost use Rattle.std.specs.Prelude.{◌≡◌, ◌+◌, ◌<◌, ◌≤◌, ◌^◌, length};
+ghost use Rattle.ga_journal.specs.Stored.{own_part, act_in, looked_in, looked_after, passes_in, IsBelow, IsDropped};
 
 use crate::entry::{Act, Entry, Head, Part, Pass, Role, Taken};
 use crate::fault::JournalFault;
-use ga_event::{apply_own, restore};
+use ga_event::{Deed, apply_own, restore};
 use ga_grid::{Chip, NodeId};
 use ga_node::{Kind, NotReady, Saved};
 use std::alloc::Global;
@@ -17,19 +17,20 @@ use std::marker::Model;
 pub(crate) struct History {
     entries: Vec<Entry>,
     passes: Vec<Pass>,
+    // One past the position of the newest look, 0 for none.
+    looked: u32,
 }
 
 impl Model for History {
-    ghost use Rattle.std.specs.Prelude.{length};
     ghost use Rattle.ga_journal.specs.Histories.{Held};
 
     ghost Value = { Held };
 
-    ghost use Rattle.ga_journal.specs.Stored.{held_by, AreNumbered};
+    ghost use Rattle.ga_journal.specs.Stored.{held_by, IsHistory};
 
     ghost view = { λ h. held_by h.entries h.passes };
 
-    ghost invariant = { λ h. AreNumbered 0 h.entries.items (length h.passes.items) };
+    ghost invariant = { λ h. IsHistory h.entries.items h.passes.items h.looked };
 }
 
 /// A node's part in an event, with the pass at a place of the list.
@@ -40,12 +41,14 @@ fn act_of(passes: &Vec<Pass>, part: Part, place: u32) -> Act
 {
     match part {
         Part::Own(kind) => Act::Alone(kind),
+        Part::Look(kind) => Act::Looked(kind),
         Part::Passed(role) => {
             let Pass {
                 partner,
                 side,
                 at,
                 word,
+                ..
             } = passes[place as usize];
             match role {
                 Role::Writer => Act::Sent {
@@ -65,6 +68,44 @@ fn act_of(passes: &Vec<Pass>, part: Part, place: u32) -> Act
     }
 }
 
+/// One past the position of the newest look before an entry, where its pass stands at a place of the list.
+#[inline(always)]
+fn looked_before(passes: &Vec<Pass>, part: Part, place: u32) -> u32
+    requires { IsBelow part place (length passes.now.items) }
+    ensures { result ≡ looked_in passes.now.items part place }
+{
+    match part {
+        Part::Own(_) => place,
+        Part::Look(_) => place,
+        Part::Passed(_) => passes[place as usize].looked,
+    }
+}
+
+/// The part of a node in its own event.
+#[inline(always)]
+fn part_of(deed: Deed) -> Part
+    ensures { result ≡ own_part deed }
+{
+    if deed.look {
+        Part::Look(deed.kind)
+    } else {
+        Part::Own(deed.kind)
+    }
+}
+
+/// One past the position of the newest look after an entry at this position.
+#[inline(always)]
+fn looked_with(looked: u32, at: usize, part: Part) -> u32
+    requires { at + 1 < 2 ^ 32 }
+    ensures { result ≡ looked_after looked at part }
+{
+    match part {
+        Part::Own(_) => looked,
+        Part::Look(_) => at as u32 + 1,
+        Part::Passed(_) => looked,
+    }
+}
+
 /// Takes the last pass out, where the part is an end of one.
 #[inline(always)]
 fn drop_pass(passes: &mut Vec<Pass>, part: Part)
@@ -73,6 +114,7 @@ fn drop_pass(passes: &mut Vec<Pass>, part: Part)
 {
     match part {
         Part::Own(_) => {}
+        Part::Look(_) => {}
         Part::Passed(_) => {
             let _ = passes.pop();
         }
@@ -87,7 +129,8 @@ impl History {
     ghost use Rattle.ga_event.specs.Apply.{refusal_of, IsRefusedBy};
     ghost use Rattle.ga_journal.specs.Histories.{past, past_of, bound_of};
     ghost use Rattle.ga_journal.specs.Stored.{act_with};
-    ghost use Rattle.ga_journal.specs.Ends.{TellsOf, IsMadeAlone, CanGoBack, IsGoneBack};
+    ghost use Rattle.ga_journal.specs.Ends.{TellsOf, own_act, IsMadeAlone, CanGoBack, IsGoneBack};
+    ghost use Rattle.ga_journal.specs.Looks.{IsNewestLook, HasNoLook, IsPastNewest};
 
     /// A history without an entry.
     #[inline(always)]
@@ -97,6 +140,7 @@ impl History {
         History {
             entries: Vec::new(alloc),
             passes: Vec::new(alloc),
+            looked: 0,
         }
     }
 
@@ -129,9 +173,32 @@ impl History {
         let entry = &self.entries[at];
         Head {
             stamp: entry.stamp,
-            act: act_of(&self.passes, entry.part, entry.pass),
+            act: act_of(&self.passes, entry.part, entry.place),
             before: entry.before,
         }
+    }
+
+    /// One past the position of the newest look among the first entries, 0 where none is a look.
+    fn looked_by(&self, mark: u32) -> u32
+        requires { mark ≤ length self.now.items }
+        ensures { IsPastNewest self.now.items mark result }
+    {
+        let at = mark as usize;
+        if at == self.len() {
+            return self.looked;
+        }
+        let entry = &self.entries[at];
+        looked_before(&self.passes, entry.part, entry.place)
+    }
+
+    /// The position of the newest look among the first entries.
+    pub fn newest_look(&self, mark: u32) -> Option<u32>
+        requires { mark ≤ length self.now.items }
+        ensures some { IfSome result (λ at. IsNewestLook self.now.items mark at) }
+        ensures none { IfNone result (HasNoLook self.now.items mark) }
+    {
+        let looked = self.looked_by(mark);
+        if looked == 0 { None } else { Some(looked - 1) }
     }
 
     /// Makes the growth for an own event.
@@ -161,20 +228,24 @@ impl History {
 
     /// Adds an own event.
     #[inline(always)]
-    pub fn push_own(&mut self, stamp: u64, kind: Kind, saved: Saved, before: NodeId)
-        requires { IsTrue self.old.room.entry }
-        ensures { self.new.items ≡ self.old.items ++ past stamp (Act.Alone kind) saved ∷ [] }
+    pub fn push_own(&mut self, stamp: u64, deed: Deed, saved: Saved, before: NodeId)
+        requires room { IsTrue self.old.room.entry }
+        requires fits { length self.old.items + 1 < 2 ^ 32 }
+        ensures { self.new.items ≡ self.old.items ++ past stamp (own_act deed) saved ∷ [] }
     {
+        let place = self.looked;
+        let part = part_of(deed);
+        self.looked = looked_with(place, self.entries.as_slice().len(), part);
         self.entries.push_reserved(Entry {
             stamp,
-            pass: 0,
-            part: Part::Own(kind),
+            place,
+            part,
             before,
             saved,
         });
     }
 
-    /// Adds an end of a pass.
+    /// Adds an end of a pass, to which it puts where the newest look stands.
     pub fn push_pass(&mut self, stamp: u64, role: Role, pass: Pass, saved: Saved, before: NodeId)
         requires room { IsTrue self.old.room.entry }
         requires pass_room { IsTrue self.old.room.pass }
@@ -182,10 +253,13 @@ impl History {
         ensures { self.new.items ≡ self.old.items ++ past stamp (act_with role pass) saved ∷ [] }
     {
         let place = self.passes.as_slice().len() as u32;
-        self.passes.push_reserved(pass);
+        self.passes.push_reserved(Pass {
+            looked: self.looked,
+            ..pass
+        });
         self.entries.push_reserved(Entry {
             stamp,
-            pass: place,
+            place,
             part: Part::Passed(role),
             before,
             saved,
@@ -200,17 +274,18 @@ impl History {
         node: NodeId,
         stamp: u64,
         before: NodeId,
-    ) -> Result<Kind, NotReady>
-        requires { IsTrue self.old.room.entry }
-        ensures ok { IfOk result (λ kind.
-            IsMadeAlone self.old.items chip.old node stamp kind self.new.items chip.new) }
+    ) -> Result<Deed, NotReady>
+        requires room { IsTrue self.old.room.entry }
+        requires fits { length self.old.items + 1 < 2 ^ 32 }
+        ensures ok { IfOk result (λ deed.
+            IsMadeAlone self.old.items chip.old node stamp deed self.new.items chip.new) }
         ensures refused { IsRefusedBy result (refusal_of (records_of chip.old) (event.Own node)) }
         ensures chip { OnErr result (chip.new ≡ chip.old) }
         ensures same { OnErr result (self.new.items ≡ self.old.items) }
     {
         self.entries.push_reserved(Entry {
             stamp,
-            pass: 0,
+            place: self.looked,
             part: Part::Own(Kind::Fetch),
             before,
             saved: Saved::new(),
@@ -218,9 +293,11 @@ impl History {
         let last = self.entries.as_slice().len() - 1;
         let entry = &mut self.entries[last];
         match apply_own(chip, node, &mut entry.saved) {
-            Ok(kind) => {
-                entry.part = Part::Own(kind);
-                Ok(kind)
+            Ok(deed) => {
+                let part = part_of(deed);
+                entry.part = part;
+                self.looked = looked_with(self.looked, last, part);
+                Ok(deed)
             }
             Err(why) => {
                 let _ = self.entries.pop();
@@ -240,12 +317,13 @@ impl History {
             Some(entry) => {
                 let Entry {
                     stamp,
-                    pass,
+                    place,
                     part,
                     saved,
                     ..
                 } = entry;
-                let act = act_of(&self.passes, part, pass);
+                let act = act_of(&self.passes, part, place);
+                self.looked = looked_before(&self.passes, part, place);
                 drop_pass(&mut self.passes, part);
                 Taken { stamp, act, saved }
             }
@@ -263,7 +341,8 @@ impl History {
         let entry = &self.entries[last];
         restore(chip, node, &entry.saved);
         let part = entry.part;
-        let act = act_of(&self.passes, part, entry.pass);
+        let act = act_of(&self.passes, part, entry.place);
+        self.looked = looked_before(&self.passes, part, entry.place);
         drop_pass(&mut self.passes, part);
         let _ = self.entries.pop();
         act

@@ -1,4 +1,4 @@
-use Rattle.std.proofs.Common.{◌∙◌, ap, refl}
+use Rattle.std.proofs.Common.{◌∙◌, true, false, ap, refl}
 use Rattle.ga_event.specs.Undo.{restored_at}
 use Rattle.ga_event.specs.declared.event.Effect.TheVariants as effect
 use Rattle.ga_journal.specs.Histories.{lists_of}
@@ -54,7 +54,17 @@ returns-in-Alone-clause-undone c =
     let gone = c.go_back.ensures.back in
     record {
       effect = effect.Own c.in-Alone.field-0 gone.entry.saved;
-      newest = λ log made r. own_newest log made hs (lists_of c.go_back.new.histories.items) c.args.node _ gone.entry c.in-Alone.field-0 gone.entry.saved r c.requires.topmost gone.last c.go_back.ensures.others (gone.part ∙ c.in-Alone.is) refl;
+      newest = λ log made r. own_newest log made hs (lists_of c.go_back.new.histories.items) c.args.node _ gone.entry c.in-Alone.field-0 false gone.entry.saved r c.requires.topmost gone.last c.go_back.ensures.others (gone.part ∙ c.in-Alone.is) refl;
+      chip_is = gone.node;
+    }
+
+pub returns-in-Looked-clause-undone : goal.returns-in-Looked-clause-undone
+returns-in-Looked-clause-undone c =
+    let hs = lists_of c.args.histories.now.items in
+    let gone = c.go_back.ensures.back in
+    record {
+      effect = effect.Look c.in-Looked.field-0 gone.entry.saved;
+      newest = λ log made r. own_newest log made hs (lists_of c.go_back.new.histories.items) c.args.node _ gone.entry c.in-Looked.field-0 true gone.entry.saved r c.requires.topmost gone.last c.go_back.ensures.others (gone.part ∙ c.in-Looked.is) refl;
       chip_is = gone.node;
     }
 

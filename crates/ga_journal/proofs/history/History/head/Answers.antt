@@ -9,7 +9,7 @@ use Rattle.ga_journal.proofs.history.History.head.Goals as goal
 pub act_of-requires : goal.act_of-requires
 act_of-requires c =
     let long = ap (λ (h : Held). length h.items) (sym c.self.view_is) ∙ length-map c.self.inside.entries.items (past_in c.self.inside.passes.items) in
-    numbered_below 0 (length c.self.inside.passes.items) c.args.at c.self.inside.entries.items c.index-entry.result.now c.self.invariant (subst (λ z. c.args.at < z) long c.requires) c.index-entry.ensures
+    numbered_below 0 (length c.self.inside.passes.items) c.args.at c.self.inside.entries.items c.index-entry.result.now c.self.invariant.numbered (subst (λ z. c.args.at < z) long c.requires) c.index-entry.ensures
 
 pub returns : goal.returns
 returns c =

@@ -1,30 +1,43 @@
-use Rattle.std.proofs.Common.{◌≡◌, ◌+◌, ◌-◌, ◌∙◌, ◌++◌, ◌∷◌, [], length, map, refl, sym, ap, subst, arith, length-append}
-use Rattle.ga_journal.specs.declared.entry.Act.TheVariants.{Alone}
+use Rattle.std.proofs.Common.{◌≡◌, ◌+◌, ◌-◌, ◌∙◌, ◌++◌, ◌∷◌, [], length, map, sym, ap, subst, arith, length-append}
 use Rattle.ga_journal.specs.declared.entry.Entry.{Entry}
+use Rattle.ga_journal.specs.Ends.{own_act}
 use Rattle.ga_journal.specs.Histories.{Held, past}
-use Rattle.ga_journal.specs.Stored.{AreNumbered, past_in}
-use Rattle.ga_journal.proofs.Storing.{own_numbered, pasts_own, read_last, set_last}
+use Rattle.ga_journal.specs.Stored.{IsHistory, past_in, looked_after}
+use Rattle.ga_journal.proofs.Looking.{own_more}
+use Rattle.ga_journal.proofs.Storing.{pasts_deed, read_last, set_last}
 use Rattle.ga_journal.proofs.history.History.make_own.Goals as goal
 
 pub invariant_of-self : goal.invariant_of-self
 invariant_of-self c =
+    let es = c.self.inside.entries.items in
+    let ps = c.self.inside.passes.items in
+    let first = c.index_mut-entry.result.now in
+    let e : Entry = record { stamp = first.stamp; place = first.place; part = c.part_of-part.result; before = first.before; saved = c.apply_own.new.saved } in
     let here : length c.as_slice.result.now ≡ length c.push_reserved.new.self.items = ap length c.as_slice.ensures.value in
-    let more : length c.push_reserved.new.self.items ≡ length c.self.inside.entries.items + 1 = ap length c.push_reserved.ensures.items ∙ length-append c.self.inside.entries.items _ in
-    subst (λ z. AreNumbered 0 z (length c.self.inside.passes.items))
-    (sym (set_last c.self.inside.entries.items c.push_reserved.new.self.items _ _ (length c.as_slice.result.now - 1) c.push_reserved.ensures.items (omega (arith, here, more))))
-    (own_numbered c.self.inside.entries.items c.self.inside.passes.items _ c.in-Ok.kind c.self.invariant refl)
+    let more : length c.push_reserved.new.self.items ≡ length es + 1 = ap length c.push_reserved.ensures.items ∙ length-append es _ in
+    let read = read_last es c.push_reserved.new.self.items _ first (length c.as_slice.result.now - 1) c.push_reserved.ensures.items (omega (arith, here, more)) c.index_mut-entry.ensures.value in
+    subst (λ z. IsHistory z ps c.looked_with-self-inside.result)
+    (sym (set_last es c.push_reserved.new.self.items _ e (length c.as_slice.result.now - 1) c.push_reserved.ensures.items (omega (arith, here, more))))
+    (subst (λ z. IsHistory (es ++ e ∷ []) ps z)
+    (sym (c.looked_with-self-inside.ensures
+    ∙ ap (λ z. looked_after c.self.inside.looked z c.part_of-part.result) (let q : length c.as_slice.result.now - 1 ≡ length es = omega (arith, here, more) in q)
+    ∙ ap (looked_after c.self.inside.looked (length es)) c.part_of-part.ensures))
+    (own_more es ps c.self.inside.looked e c.in-Ok.deed.kind c.in-Ok.deed.look c.self.invariant c.part_of-part.ensures (ap (λ (z : Entry). z.place) read)))
 
 pub returns-in-Ok-clause-ok : goal.returns-in-Ok-clause-ok
 returns-in-Ok-clause-ok c =
+    let es = c.self.inside.entries.items in
+    let ps = c.self.inside.passes.items in
+    let first = c.index_mut-entry.result.now in
+    let e : Entry = record { stamp = first.stamp; place = first.place; part = c.part_of-part.result; before = first.before; saved = c.apply_own.new.saved } in
     let here : length c.as_slice.result.now ≡ length c.push_reserved.new.self.items = ap length c.as_slice.ensures.value in
-    let more : length c.push_reserved.new.self.items ≡ length c.self.inside.entries.items + 1 = ap length c.push_reserved.ensures.items ∙ length-append c.self.inside.entries.items _ in
-    let read = read_last c.self.inside.entries.items c.push_reserved.new.self.items _ c.index_mut-entry.result.now (length c.as_slice.result.now - 1) c.push_reserved.ensures.items (omega (arith, here, more)) c.index_mut-entry.ensures.value in
+    let more : length c.push_reserved.new.self.items ≡ length es + 1 = ap length c.push_reserved.ensures.items ∙ length-append es _ in
+    let read = read_last es c.push_reserved.new.self.items _ first (length c.as_slice.result.now - 1) c.push_reserved.ensures.items (omega (arith, here, more)) c.index_mut-entry.ensures.value in
     record {
       saved = c.apply_own.new.saved;
       applied = c.in-Ok.ensures.ok;
-      added = ap (λ z. map (past_in c.self.inside.passes.items) z)
-          (set_last c.self.inside.entries.items c.push_reserved.new.self.items _ _ (length c.as_slice.result.now - 1) c.push_reserved.ensures.items (omega (arith, here, more)))
-          ∙ pasts_own c.self.inside.passes.items c.self.inside.entries.items _
-          ∙ ap (λ (h : Held). h.items ++ past c.index_mut-entry.result.now.stamp (Alone c.in-Ok.kind) c.apply_own.new.saved ∷ []) c.self.view_is
-          ∙ ap (λ (e : Entry). c.args.self.now.items ++ past e.stamp (Alone c.in-Ok.kind) c.apply_own.new.saved ∷ []) read;
+      added = ap (λ z. map (past_in ps) z) (set_last es c.push_reserved.new.self.items _ e (length c.as_slice.result.now - 1) c.push_reserved.ensures.items (omega (arith, here, more)))
+          ∙ pasts_deed ps es e c.in-Ok.deed.kind c.in-Ok.deed.look c.part_of-part.ensures
+          ∙ ap (λ (h : Held). h.items ++ past first.stamp (own_act c.in-Ok.deed) c.apply_own.new.saved ∷ []) c.self.view_is
+          ∙ ap (λ (z : Entry). c.args.self.now.items ++ past z.stamp (own_act c.in-Ok.deed) c.apply_own.new.saved ∷ []) read;
     }

@@ -1,9 +1,27 @@
-use Rattle.std.proofs.Common.{length, refl, sym, subst}
-use Rattle.ga_journal.specs.Stored.{AreNumbered}
-use Rattle.ga_journal.proofs.Storing.{own_numbered}
+use Rattle.std.proofs.Common.{◌∙◌, ◌++◌, ◌∷◌, [], length, map, refl, sym, ap, subst}
+use Rattle.ga_journal.specs.declared.entry.Entry.{Entry}
+use Rattle.ga_journal.specs.Ends.{own_act}
+use Rattle.ga_journal.specs.Histories.{Held, past}
+use Rattle.ga_journal.specs.Stored.{IsHistory, past_in, looked_after}
+use Rattle.ga_journal.proofs.Looking.{own_more}
+use Rattle.ga_journal.proofs.Storing.{pasts_deed}
 use Rattle.ga_journal.proofs.history.History.push_own.Goals as goal
 
 pub invariant_of-self : goal.invariant_of-self
 invariant_of-self c =
-    subst (λ z. AreNumbered 0 z (length c.self.inside.passes.items)) (sym c.push_reserved.ensures.items)
-    (own_numbered c.self.inside.entries.items c.self.inside.passes.items _ c.args.kind c.self.invariant refl)
+    let es = c.self.inside.entries.items in
+    let ps = c.self.inside.passes.items in
+    let e : Entry = record { stamp = c.args.stamp; place = c.self.inside.looked; part = c.part_of-part.result; before = c.args.before; saved = c.args.saved } in
+    subst (λ z. IsHistory z ps c.looked_with-self-inside.result) (sym c.push_reserved.ensures.items)
+    (subst (λ z. IsHistory (es ++ e ∷ []) ps z)
+    (sym (c.looked_with-self-inside.ensures ∙ ap (λ z. looked_after c.self.inside.looked z c.part_of-part.result) (ap length c.as_slice.ensures.value) ∙ ap (looked_after c.self.inside.looked (length es)) c.part_of-part.ensures))
+    (own_more es ps c.self.inside.looked e c.args.deed.kind c.args.deed.look c.self.invariant c.part_of-part.ensures refl))
+
+pub returns : goal.returns
+returns c =
+    let es = c.self.inside.entries.items in
+    let ps = c.self.inside.passes.items in
+    let e : Entry = record { stamp = c.args.stamp; place = c.self.inside.looked; part = c.part_of-part.result; before = c.args.before; saved = c.args.saved } in
+    ap (λ z. map (past_in ps) z) c.push_reserved.ensures.items
+    ∙ pasts_deed ps es e c.args.deed.kind c.args.deed.look c.part_of-part.ensures
+    ∙ ap (λ (h : Held). h.items ++ past c.args.stamp (own_act c.args.deed) c.args.saved ∷ []) c.self.view_is

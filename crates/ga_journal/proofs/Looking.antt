@@ -1,0 +1,191 @@
+-- Where the newest look stands.
+use Rattle.std.proofs.Common.{◌≡◌, ℕ, zero, suc, ◌+◌, ◌-◌, ◌<◌, ◌≤◌, Bool, true, false, if◌then◌else◌, List, [], ◌∷◌, ◌++◌, length, map, get_or, refl, sym, ◌∙◌, ap, subst, arith, ⊎_elim, add-one, add-zero}
+use Rattle.std.specs.Prelude.{Some, None, slice_get}
+use Rattle.std.proofs.Math.ListN.{get_or-append}
+use Rattle.std.proofs.Math.Seq.{get_or-append_seam}
+use Rattle.std.proofs.lemmas.Bool.{cases_eq, cases_lt}
+use Rattle.std.proofs.lemmas.List.{length-map}
+use Rattle.std.proofs.lemmas.Option.{same_Some, slice_get_within}
+use Rattle.ga_node.specs.declared.kind.Kind.{Kind}
+use Rattle.ga_journal.specs.declared.entry.Role.{Role}
+use Rattle.ga_journal.specs.declared.entry.Role.TheVariants.{Writer, Reader}
+use Rattle.ga_journal.specs.declared.entry.Part.{Part}
+use Rattle.ga_journal.specs.declared.entry.Part.TheVariants.{Own, Look, Passed}
+use Rattle.ga_journal.specs.declared.entry.Pass.{Pass}
+use Rattle.ga_journal.specs.declared.entry.Entry.{Entry}
+use Rattle.ga_journal.specs.Histories.{Past, past, Rises}
+use Rattle.ga_journal.specs.Kept.{has_looked_in}
+use Rattle.ga_journal.specs.Looks.{IsNewestLook, HasNoLook, IsPastNewest, IsLookAfter, HasNoLookAfter}
+use Rattle.ga_journal.specs.Stored.{own_part, act_with, no_pass, act_in, past_in, passes_in, IsBelow, IsDropped, AreNumbered, looked_in, looked_after, KeepLooks, IsHistory}
+use Rattle.ga_journal.proofs.Heads.{deed}
+use Rattle.ga_journal.proofs.Matches.{entries_ordered}
+use Rattle.ga_journal.proofs.Storing.{numbered_le, below_by, own_numbered, pass_numbered, dropped_numbered}
+
+-- an entry more
+keep_push : (ps : List Pass) (at n m : ℕ) (es : List Entry) (e : Entry) → KeepLooks ps at n es m → looked_in ps e.part e.place ≡ m → KeepLooks ps at n (es ++ e ∷ []) (looked_after m (at + length es) e.part)
+keep_push ps at n m [] e h k = (k ∙ sym h, ap (λ z. looked_after z at e.part) h ∙ ap (λ z. looked_after m z e.part) (let q : at ≡ at + 0 = omega arith in q))
+keep_push ps at n m (x ∷ xs) e h k = (
+  h.0,
+  subst (λ z. KeepLooks ps (at + 1) (looked_after n at x.part) (xs ++ e ∷ []) (looked_after m z e.part)) (let q : (at + 1) + length xs ≡ at + suc (length xs) = omega arith in q)
+      (keep_push ps (at + 1) (looked_after n at x.part) m xs e h.1 k),
+)
+
+-- an entry less
+keep_pop : (ps : List Pass) (at n k : ℕ) (es : List Entry) (e : Entry) → KeepLooks ps at n (es ++ e ∷ []) k → KeepLooks ps at n es (looked_in ps e.part e.place)
+keep_pop ps at n k [] e h = sym h.0
+keep_pop ps at n k (x ∷ xs) e h = (h.0, keep_pop ps (at + 1) (looked_after n at x.part) k xs e h.1)
+
+-- a pass more, or less
+looked_more : (ps : List Pass) (p : Pass) (part : Part) (place : ℕ) → IsBelow part place (length ps) → looked_in (ps ++ p ∷ []) part place ≡ looked_in ps part place
+looked_more ps p (Own kind) place l = refl
+looked_more ps p (Look kind) place l = refl
+looked_more ps p (Passed role) place l = ap (λ (z : Pass). z.looked) (get_or-append ps (p ∷ []) no_pass place l)
+
+keep_other : (ps qs : List Pass) (at n m a b : ℕ) (es : List Entry) → ((part : Part) (place : ℕ) → IsBelow part place b → looked_in qs part place ≡ looked_in ps part place) → AreNumbered a es b → KeepLooks ps at n es m → KeepLooks qs at n es m
+keep_other ps qs at n m a b [] f num h = h
+keep_other ps qs at n m a b (e ∷ es) f num h = (
+  f e.part e.place (below_by e.part e.place a b num.0 (numbered_le (a + passes_in e.part) b es num.1)) ∙ h.0,
+  keep_other ps qs (at + 1) (looked_after n at e.part) m (a + passes_in e.part) b es f num.1 h.1,
+)
+
+-- an own event more
+own_looked : (ps : List Pass) (kind : Kind) (look : Bool) (place : ℕ) → looked_in ps (own_part (deed kind look)) place ≡ place
+own_looked ps kind true place = refl
+own_looked ps kind false place = refl
+
+pub own_more : (es : List Entry) (ps : List Pass) (looked : ℕ) (e : Entry) (kind : Kind) (look : Bool) → IsHistory es ps looked → e.part ≡ own_part (deed kind look) → e.place ≡ looked
+    → IsHistory (es ++ e ∷ []) ps (looked_after looked (length es) (own_part (deed kind look)))
+own_more es ps looked e kind look h part place = record {
+  numbered = own_numbered es (length ps) e kind look h.numbered part;
+  looks = subst (λ z. KeepLooks ps 0 0 (es ++ e ∷ []) z)
+      (ap (λ z. looked_after looked (0 + length es) z) part ∙ ap (λ z. looked_after looked z (own_part (deed kind look))) (let q : 0 + length es ≡ length es = omega arith in q))
+      (keep_push ps 0 0 looked es e h.looks (ap (λ z. looked_in ps z e.place) part ∙ own_looked ps kind look e.place ∙ place));
+}
+
+-- an end of a pass more
+pub pass_more : (es : List Entry) (ps : List Pass) (looked : ℕ) (p : Pass) (e : Entry) (role : Role) → IsHistory es ps looked → e.part ≡ Passed role → e.place ≡ length ps → p.looked ≡ looked → IsHistory (es ++ e ∷ []) (ps ++ p ∷ []) looked
+pass_more es ps looked p e role h part place same = record {
+  numbered = pass_numbered es ps p e role h.numbered part place;
+  looks = subst (λ z. KeepLooks (ps ++ p ∷ []) 0 0 (es ++ e ∷ []) z) (ap (λ z. looked_after looked (0 + length es) z) part)
+      (keep_push (ps ++ p ∷ []) 0 0 looked es e
+      (keep_other ps (ps ++ p ∷ []) 0 0 looked 0 (length ps) es (λ q i l. looked_more ps p q i l) h.numbered h.looks)
+      (ap (λ z. looked_in (ps ++ p ∷ []) z e.place) part ∙ ap (λ z. looked_in (ps ++ p ∷ []) (Passed role) z) place
+      ∙ ap (λ (z : Pass). z.looked) (get_or-append_seam ps p [] no_pass) ∙ same));
+}
+
+-- an entry less, and the last pass where it is of one
+keep_dropped : (part : Part) (ps qs : List Pass) (m : ℕ) (es : List Entry) → AreNumbered 0 es (length qs) → IsDropped part ps qs → KeepLooks ps 0 0 es m → KeepLooks qs 0 0 es m
+keep_dropped (Own kind) ps qs m es num d h = subst (λ z. KeepLooks z 0 0 es m) (sym d) h
+keep_dropped (Look kind) ps qs m es num d h = subst (λ z. KeepLooks z 0 0 es m) (sym d) h
+keep_dropped (Passed role) ps qs m es num d h =
+    keep_other ps qs 0 0 m 0 (length qs) es (λ q i l. sym (ap (λ z. looked_in z q i) d.1 ∙ looked_more qs d.0 q i l)) num h
+
+pub one_less : (es : List Entry) (e : Entry) (ps qs : List Pass) (looked : ℕ) → IsHistory (es ++ e ∷ []) ps looked → IsDropped e.part ps qs → IsHistory es qs (looked_in ps e.part e.place)
+one_less es e ps qs looked h d = record {
+  numbered = dropped_numbered es e ps qs h.numbered d;
+  looks = keep_dropped e.part ps qs (looked_in ps e.part e.place) es (dropped_numbered es e ps qs h.numbered d) d (keep_pop ps 0 0 looked es e h.looks);
+}
+
+-- a part is a look where its act is
+abbrev part_looks : Part → Bool
+part_looks (Own kind) = false
+part_looks (Look kind) = true
+part_looks (Passed role) = false
+
+act_looks : (ps : List Pass) (part : Part) (place : ℕ) → has_looked_in (act_in ps part place) ≡ part_looks part
+act_looks ps (Own kind) place = refl
+act_looks ps (Look kind) place = refl
+act_looks ps (Passed Writer) place = refl
+act_looks ps (Passed Reader) place = refl
+
+-- no look more
+past_blind : (h : List Past) (at n : ℕ) (e : Past) → IsPastNewest h at n → slice_get h at ≡ Some e → has_looked_in e.act ≡ false → IsPastNewest h (at + 1) n
+past_blind h at zero e t found blind = λ p f l g. ⊎_elim
+    (λ k. t p f k g)
+    (λ k. ap (λ (z : Past). has_looked_in z.act) (same_Some f e (sym g ∙ ap (slice_get h) (let q : p ≡ at = omega (arith, l, k) in q) ∙ found)) ∙ blind)
+    (cases_lt p at)
+past_blind h at (suc n) e t found blind = record {
+  entry = t.entry;
+  below = let l = t.below in omega (arith, l);
+  found = t.found;
+  looked = t.looked;
+  newest = λ p f above l g. ⊎_elim
+      (λ k. t.newest p f above k g)
+      (λ k. ap (λ (z : Past). has_looked_in z.act) (same_Some f e (sym g ∙ ap (slice_get h) (let q : p ≡ at = omega (arith, l, k) in q) ∙ found)) ∙ blind)
+      (cases_lt p at);
+}
+
+-- an entry on
+past_next : (h : List Past) (at n : ℕ) (e : Past) (part : Part) → IsPastNewest h at n → slice_get h at ≡ Some e → has_looked_in e.act ≡ part_looks part → IsPastNewest h (at + 1) (looked_after n at part)
+past_next h at n e (Own kind) t found is = past_blind h at n e t found is
+past_next h at n e (Look kind) t found is =
+    subst (λ z. IsPastNewest h (at + 1) z) (sym (add-one at))
+    (record { entry = e; below = (omega arith); found = found; looked = is; newest = λ p f above l g. absurd (let q : at + 1 ≤ at = omega (arith, above, l) in omega (arith, q)) })
+past_next h at n e (Passed role) t found is = past_blind h at n e t found is
+
+-- what each entry keeps
+pub past_at : (h : List Past) (ps : List Pass) (at n m : ℕ) (es : List Entry) (i : ℕ) (e : Entry) → ((j : ℕ) → slice_get h (at + j) ≡ slice_get (map (past_in ps) es) j) → IsPastNewest h at n → KeepLooks ps at n es m
+    → i < length es → e ≡ get_or es i e → IsPastNewest h (at + i) (looked_in ps e.part e.place)
+past_at h ps at n m [] i e same t k l is = absurd (omega (arith, l))
+past_at h ps at n m (x ∷ xs) zero e same t k l is =
+    subst (λ (z : Entry). IsPastNewest h (at + 0) (looked_in ps z.part z.place)) (sym is)
+    (subst (λ z. IsPastNewest h (at + 0) z) (sym k.0) (subst (λ z. IsPastNewest h z n) (let q : at ≡ at + 0 = omega arith in q) t))
+past_at h ps at n m (x ∷ xs) (suc i) e same t k l is =
+    subst (λ z. IsPastNewest h z (looked_in ps e.part e.place)) (let q : (at + 1) + i ≡ at + suc i = omega arith in q)
+    (past_at h ps (at + 1) (looked_after n at x.part) m xs i e
+    (λ j. ap (slice_get h) (let q : (at + 1) + j ≡ at + suc j = omega arith in q) ∙ same (suc j))
+    (past_next h at n (past_in ps x) x.part t (ap (slice_get h) (let q : at ≡ at + 0 = omega arith in q) ∙ same 0) (act_looks ps x.part x.place)) k.1 (omega (arith, l)) is)
+
+pub past_end : (h : List Past) (ps : List Pass) (at n m : ℕ) (es : List Entry) → ((j : ℕ) → slice_get h (at + j) ≡ slice_get (map (past_in ps) es) j) → IsPastNewest h at n → KeepLooks ps at n es m → IsPastNewest h (at + length es) m
+past_end h ps at n m [] same t k = subst (λ z. IsPastNewest h (at + 0) z) k (subst (λ z. IsPastNewest h z n) (let q : at ≡ at + 0 = omega arith in q) t)
+past_end h ps at n m (x ∷ xs) same t k =
+    subst (λ z. IsPastNewest h z m) (let q : (at + 1) + length xs ≡ at + suc (length xs) = omega arith in q)
+    (past_end h ps (at + 1) (looked_after n at x.part) m xs
+    (λ j. ap (slice_get h) (let q : (at + 1) + j ≡ at + suc j = omega arith in q) ∙ same (suc j))
+    (past_next h at n (past_in ps x) x.part t (ap (slice_get h) (let q : at ≡ at + 0 = omega arith in q) ∙ same 0) (act_looks ps x.part x.place)) k.1)
+
+-- at first there is none
+pub none_first : (h : List Past) → IsPastNewest h 0 0
+none_first h p e l g = absurd (omega (arith, l))
+
+pub past_none : (h : List Past) (mark n : ℕ) → n ≡ 0 → IsPastNewest h mark n → HasNoLook h mark
+past_none h mark zero q t = t
+past_none h mark (suc n) q t = absurd (omega (arith, q))
+
+pub past_some : (h : List Past) (mark n : ℕ) → 0 < n → IsPastNewest h mark n → IsNewestLook h mark (n - 1)
+past_some h mark zero l t = absurd (omega (arith, l))
+past_some h mark (suc n) l t = subst (λ z. IsNewestLook h mark z) (let q : n ≡ suc n - 1 = omega arith in q) t
+
+-- the newest look, and an entry of another history
+pub look_first : (h : List Past) (mark : ℕ) (others : List Past) (place at stamp : ℕ) (e f : Past) → (k : IsNewestLook h mark at) → slice_get others place ≡ Some f → f.stamp ≡ stamp → slice_get h at ≡ Some e → stamp < e.stamp
+    → IsLookAfter h mark others place at
+look_first h mark others place at stamp e f k first is found l = record {
+  look = k;
+  gone = f;
+  first = first;
+  after = let q : k.entry.stamp ≡ e.stamp = ap (λ (z : Past). z.stamp) (same_Some k.entry e (sym k.found ∙ found)) in omega (arith, q, is, l);
+}
+
+pub look_before : (h : List Past) (mark : ℕ) (others : List Past) (place at stamp top : ℕ) (e f : Past) → Rises 0 h top → IsNewestLook h mark at → slice_get others place ≡ Some f → f.stamp ≡ stamp → slice_get h at ≡ Some e → e.stamp ≤ stamp
+    → HasNoLookAfter h mark others place
+look_before h mark others place at stamp top e f rise k first is found l p x y below there looked gone =
+    let s : y.stamp ≡ stamp = ap (λ (z : Past). z.stamp) (same_Some y f (sym gone ∙ first)) ∙ is in
+    ⊎_elim
+    (λ j. let q = entries_ordered 0 top p at h x e rise there found j in omega (arith, q, s, l))
+    (λ j. ⊎_elim
+    (λ i. let q : x.stamp ≡ e.stamp = ap (λ (z : Past). z.stamp) (same_Some x e (sym there ∙ ap (slice_get h) i ∙ found)) in omega (arith, q, s, l))
+    (λ ne. absurd (looks_blind (k.newest p x (omega (arith, j, ne)) below there) looked))
+    (cases_eq p at))
+    (cases_lt p at)
+  where
+    looks_blind : {b : Bool} → b ≡ false → b ≡ true → ⊥
+    looks_blind q r = cc
+
+pub none_before : (h : List Past) (mark : ℕ) (others : List Past) (place : ℕ) → HasNoLook h mark → HasNoLookAfter h mark others place
+none_before h mark others place none p x y below there looked gone = absurd (both (none p x below there) looked)
+  where
+    both : {b : Bool} → b ≡ false → b ≡ true → ⊥
+    both q r = cc
+
+pub past_end_none : (h : List Past) (mark : ℕ) (others : List Past) (place : ℕ) → length others ≤ place → HasNoLookAfter h mark others place
+past_end_none h mark others place long p x y below there looked gone = let q = slice_get_within others place y gone in omega (arith, q, long)
