@@ -6,7 +6,7 @@ ghost use Rattle.ga_journal.specs.Logs.{IsWhole};
 ghost use Rattle.ga_journal.specs.Marks.{IsAtRest};
 
 use crate::{Journal, JournalFault, Made, Ticks};
-use ga_event::{Effect, Event};
+use ga_event::{Cause, Effect, Event};
 use ga_grid::{Chip, NodeId};
 use ga_node::{Kind, NotReady, Place, Saved};
 use ga_ports::Side;
@@ -30,6 +30,15 @@ fn is_slot(saved: &Saved, number: u32) -> bool {
 fn is_own(effect: &Effect, wanted: Kind, number: u32) -> bool {
     match effect {
         Effect::Own(kind, saved) => *kind == wanted && is_slot(saved, number),
+        Effect::Look(..) => false,
+        Effect::Pass { .. } => false,
+    }
+}
+
+fn is_look(effect: &Effect, wanted: Kind, number: u32) -> bool {
+    match effect {
+        Effect::Own(..) => false,
+        Effect::Look(kind, saved) => *kind == wanted && is_slot(saved, number),
         Effect::Pass { .. } => false,
     }
 }
@@ -37,6 +46,7 @@ fn is_own(effect: &Effect, wanted: Kind, number: u32) -> bool {
 fn is_pass(effect: &Effect, sent: u32, taken: u32) -> bool {
     match effect {
         Effect::Own(..) => false,
+        Effect::Look(..) => false,
         Effect::Pass {
             word,
             writer,
@@ -51,6 +61,10 @@ fn passed() -> Event {
         reader: NodeId::new(1),
         side: Side::Right,
     }
+}
+
+fn cause(event: Event, look: bool) -> Cause {
+    Cause { event, look }
 }
 
 // Makes room for an event, and adds it.
@@ -98,7 +112,8 @@ fn tells_events(rt: HostRuntime) -> Result<(), Fail> {
     for (place, event) in [(0, Some(own)), (1, Some(passed())), (2, None)] {
         assert_eq!(rt; journal.event_at(place), event, "at {place}");
     }
-    assert_eq!(rt; journal.events()?.as_slice(), [own, passed()].as_slice());
+    let causes = [cause(own, false), cause(passed(), false)];
+    assert_eq!(rt; journal.causes()?.as_slice(), causes.as_slice());
     Ok(())
 }
 
@@ -199,5 +214,135 @@ fn restores_an_end(rt: HostRuntime) -> Result<(), Fail> {
     journal.restore_last(&mut chip, n001, &mut ticks);
     assert_eq!(rt; (journal.kept(), journal.made(), ticks.count()), (0, 1, 2));
     assert_eq!(rt; chip.node(n001).get(Place::Wait), 0);
+    Ok(())
+}
+
+// An own event of node 000, a look of node 001, a word to it from node 000, and a look of node 001 again.
+fn looked(alloc: Global) -> Result<Journal, JournalFault>
+    ensures whole { IfOk result (λ journal. IsWhole journal.histories journal.made) }
+    ensures rest { IfOk result (λ journal. IsAtRest journal) }
+{
+    let mut journal = Journal::new(alloc, 4)?;
+    let own = Effect::Own(Kind::Fetch, slot(0));
+    keep(&mut journal, Event::Own(NodeId::new(0)), own)?;
+    let first = Effect::Look(Kind::Fetch, slot(1));
+    keep(&mut journal, Event::Own(NodeId::new(1)), first)?;
+    let pass = Effect::Pass {
+        word: Word18::truncated(0x2a),
+        writer: slot(2),
+        reader: slot(3),
+    };
+    let event = Event::Pass {
+        writer: NodeId::new(0),
+        reader: NodeId::new(1),
+        side: Side::Right,
+    };
+    keep(&mut journal, event, pass)?;
+    let second = Effect::Look(Kind::Fetch, slot(4));
+    keep(&mut journal, Event::Own(NodeId::new(1)), second)?;
+    Ok(journal)
+}
+
+// A look is told as another own event is, and its cause says that it looked.
+#[test]
+fn tells_looks(rt: HostRuntime) -> Result<(), Fail> {
+    let n001 = NodeId::new(1);
+    let look = Event::Own(n001);
+    let mut journal = looked(rt.alloc())?;
+    let causes = [
+        cause(Event::Own(NodeId::new(0)), false),
+        cause(look, true),
+        cause(passed(), false),
+        cause(look, true),
+    ];
+    assert_eq!(rt; journal.causes()?.as_slice(), causes.as_slice());
+    assert_eq!(rt; journal.event_at(3), Some(look));
+    let made = Made::Own {
+        node: n001,
+        step: 3,
+        kind: Kind::Fetch,
+    };
+    assert_eq!(rt; journal.made_at(3), Some(made));
+    let (event, effect) = journal.pop().ok_or("none")?;
+    assert!(rt; event == look && is_look(&effect, Kind::Fetch, 4));
+    assert_eq!(rt; journal.causes()?.as_slice(), &causes[..3]);
+    Ok(())
+}
+
+// The newest look that is to stay is found where it came after what is to go of the other node. A find is a tick.
+#[test]
+fn finds_looks_to_go(rt: HostRuntime) -> Result<(), Fail> {
+    let n000 = NodeId::new(0);
+    let n001 = NodeId::new(1);
+    let mut journal = looked(rt.alloc())?;
+    let mut ticks = Ticks::new();
+    assert_eq!(rt; (journal.mark_of(n000), journal.mark_of(n001)), (2, 3));
+    assert_eq!(rt; journal.look_to_go(n000, n001, &mut ticks), None);
+    journal.lower(n000, 1, &mut ticks);
+    assert_eq!(rt; journal.look_to_go(n001, n000, &mut ticks), None);
+    assert_eq!(rt; ticks.count(), 1);
+    assert_eq!(rt; journal.look_to_go(n000, n001, &mut ticks), Some(2));
+    assert_eq!(rt; ticks.count(), 2);
+    assert_eq!(rt; (journal.mark_of(n000), journal.mark_of(n001)), (1, 3));
+    journal.lower(n001, 2, &mut ticks);
+    assert_eq!(rt; journal.look_to_go(n000, n001, &mut ticks), None);
+    assert_eq!(rt; (journal.mark_of(n000), journal.mark_of(n001)), (1, 2));
+    journal.lower(n000, 0, &mut ticks);
+    assert_eq!(rt; journal.look_to_go(n000, n001, &mut ticks), Some(0));
+    assert_eq!(rt; (journal.mark_of(n000), journal.mark_of(n001)), (0, 2));
+    journal.lower(n001, 1, &mut ticks);
+    assert_eq!(rt; journal.look_to_go(n000, n001, &mut ticks), Some(0));
+    assert_eq!(rt; (journal.mark_of(n000), journal.mark_of(n001)), (0, 1));
+    journal.lower(n001, 0, &mut ticks);
+    assert_eq!(rt; journal.look_to_go(n000, n001, &mut ticks), None);
+    assert_eq!(rt; ticks.count(), 8);
+    Ok(())
+}
+
+// A look that was popped is found no more.
+#[test]
+fn forgets_a_popped_look(rt: HostRuntime) -> Result<(), Fail> {
+    let n000 = NodeId::new(0);
+    let n001 = NodeId::new(1);
+    let mut journal = looked(rt.alloc())?;
+    let _last = journal.pop().ok_or("none")?;
+    let mut ticks = Ticks::new();
+    assert_eq!(rt; (journal.mark_of(n000), journal.mark_of(n001)), (2, 2));
+    journal.lower(n000, 1, &mut ticks);
+    assert_eq!(rt; journal.look_to_go(n000, n001, &mut ticks), None);
+    assert_eq!(rt; (journal.mark_of(n000), journal.mark_of(n001)), (1, 2));
+    journal.lower(n000, 0, &mut ticks);
+    assert_eq!(rt; journal.look_to_go(n000, n001, &mut ticks), Some(0));
+    Ok(())
+}
+
+// Node 001 runs `@b`, where B names `io`: its fetch is no look, and its read is one.
+#[test]
+fn makes_and_undoes_a_look(rt: HostRuntime) -> Result<(), Fail> {
+    let n000 = NodeId::new(0);
+    let n001 = NodeId::new(1);
+    let own = Event::Own(n001);
+    let mut chip = Chip::new(rt.alloc())?;
+    chip.node_mut(n001).set(Place::P, 0);
+    chip.node_mut(n001).set(Place::Ram(0), 0x009b2);
+    let mut journal = Journal::new(rt.alloc(), 3)?;
+    journal.room(Event::Own(n000))?;
+    let _waits = journal.make(&mut chip, Event::Own(n000))?;
+    journal.room(own)?;
+    let _fetches = journal.make(&mut chip, own)?;
+    journal.room(own)?;
+    let _looks = journal.make(&mut chip, own)?;
+    let causes = [
+        cause(Event::Own(n000), false),
+        cause(own, false),
+        cause(own, true),
+    ];
+    assert_eq!(rt; journal.causes()?.as_slice(), causes.as_slice());
+    assert_eq!(rt; journal.undo(&mut chip), Some(own));
+    assert_eq!(rt; journal.causes()?.as_slice(), &causes[..2]);
+    let mut ticks = Ticks::new();
+    assert_eq!(rt; (journal.mark_of(n000), journal.mark_of(n001)), (1, 1));
+    journal.lower(n000, 0, &mut ticks);
+    assert_eq!(rt; journal.look_to_go(n000, n001, &mut ticks), None);
     Ok(())
 }

@@ -7,7 +7,7 @@ use Rattle.ga_event.specs.declared.event.Event.TheVariants as event
 use Rattle.ga_event.specs.declared.event.Effect.{Effect}
 use Rattle.ga_event.specs.declared.event.Effect.TheVariants as effect
 use Rattle.ga_journal.specs.declared.made.Made.{Made}
-use Rattle.ga_journal.specs.declared.entry.Act.TheVariants.{Alone}
+use Rattle.ga_journal.specs.declared.entry.Act.TheVariants.{Alone, Looked}
 use Rattle.ga_journal.specs.Histories.{Past, Book, history, past, appended}
 use Rattle.ga_journal.specs.Logs.{IsWhole}
 use Rattle.ga_journal.specs.Making.{IsMade}
@@ -28,6 +28,10 @@ made_can old new chip now node told whole m front e has = go m.effect m.applied.
     go (effect.Own kind saved) k can same =
         let is = last_same (history old.histories node.number) front (past old.made (Alone kind) saved) e
         (sym (history-pushed_same old.histories node.number (past old.made (Alone kind) saved) (rw size node.in_range)) ∙ ap (λ z. history z node.number) (sym same) ∙ has) in
+        subst (λ (z : Past). CanRestore (node_at now node.number) z.saved) is.1 can
+    go (effect.Look kind saved) k can same =
+        let is = last_same (history old.histories node.number) front (past old.made (Looked kind) saved) e
+        (sym (history-pushed_same old.histories node.number (past old.made (Looked kind) saved) (rw size node.in_range)) ∙ ap (λ z. history z node.number) (sym same) ∙ has) in
         subst (λ (z : Past). CanRestore (node_at now node.number) z.saved) is.1 can
     go (effect.Pass word sent took) k can same = absurd k
 
