@@ -1,10 +1,9 @@
 -- Where the newest look stands.
-use Rattle.std.proofs.Common.{◌≡◌, ℕ, zero, suc, ◌+◌, ◌-◌, ◌<◌, ◌≤◌, Bool, true, false, if◌then◌else◌, List, [], ◌∷◌, ◌++◌, length, map, get_or, refl, sym, ◌∙◌, ap, subst, arith, ⊎_elim, add-one, add-zero}
-use Rattle.std.specs.Prelude.{Some, None, slice_get}
+use Rattle.std.proofs.Common.{◌≡◌, ℕ, zero, suc, ◌+◌, ◌-◌, ◌<◌, ◌≤◌, Bool, true, false, List, [], ◌∷◌, ◌++◌, length, map, get_or, refl, sym, ◌∙◌, ap, subst, arith, ⊎_elim, add-one}
+use Rattle.std.specs.Prelude.{Some, slice_get}
 use Rattle.std.proofs.Math.ListN.{get_or-append}
 use Rattle.std.proofs.Math.Seq.{get_or-append_seam}
 use Rattle.std.proofs.lemmas.Bool.{cases_eq, cases_lt}
-use Rattle.std.proofs.lemmas.List.{length-map}
 use Rattle.std.proofs.lemmas.Option.{same_Some, slice_get_within}
 use Rattle.ga_node.specs.declared.kind.Kind.{Kind}
 use Rattle.ga_journal.specs.declared.entry.Role.{Role}
@@ -13,10 +12,10 @@ use Rattle.ga_journal.specs.declared.entry.Part.{Part}
 use Rattle.ga_journal.specs.declared.entry.Part.TheVariants.{Own, Look, Passed}
 use Rattle.ga_journal.specs.declared.entry.Pass.{Pass}
 use Rattle.ga_journal.specs.declared.entry.Entry.{Entry}
-use Rattle.ga_journal.specs.Histories.{Past, past, Rises}
+use Rattle.ga_journal.specs.Histories.{Past, Rises}
 use Rattle.ga_journal.specs.Kept.{has_looked_in}
 use Rattle.ga_journal.specs.Looks.{IsNewestLook, HasNoLook, IsPastNewest, IsLookAfter, HasNoLookAfter}
-use Rattle.ga_journal.specs.Stored.{own_part, act_with, no_pass, act_in, past_in, passes_in, IsBelow, IsDropped, AreNumbered, looked_in, looked_after, KeepLooks, IsHistory}
+use Rattle.ga_journal.specs.Stored.{own_part, no_pass, act_in, past_in, passes_in, IsBelow, IsDropped, AreNumbered, looked_in, looked_after, KeepLooks, IsHistory}
 use Rattle.ga_journal.proofs.Heads.{deed}
 use Rattle.ga_journal.proofs.Matches.{entries_ordered}
 use Rattle.ga_journal.proofs.Storing.{numbered_le, below_by, own_numbered, pass_numbered, dropped_numbered}

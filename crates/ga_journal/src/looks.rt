@@ -19,10 +19,10 @@ pub(crate) fn look_after(
     requires within { looker.1 ≤ length (history (lists_of histories.now.items) looker.0.number) }
     ensures some { IfSome result (λ at.
         IsLookAfter (history (lists_of histories.now.items) looker.0.number) looker.1
-            (history (lists_of histories.now.items) gone.0.number) gone.1 at) }
+        (history (lists_of histories.now.items) gone.0.number) gone.1 at) }
     ensures none { IfNone result (
         HasNoLookAfter (history (lists_of histories.now.items) looker.0.number) looker.1
-            (history (lists_of histories.now.items) gone.0.number) gone.1) }
+        (history (lists_of histories.now.items) gone.0.number) gone.1) }
 {
     let (node, place) = gone;
     let others = &histories[node.index()];

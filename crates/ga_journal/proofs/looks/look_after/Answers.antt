@@ -1,4 +1,4 @@
-use Rattle.std.proofs.Common.{◌≡◌, ◌<◌, ◌≤◌, ap, sym, subst, arith}
+use Rattle.std.proofs.Common.{◌<◌, ◌≤◌, sym, subst, arith}
 use Rattle.ga_journal.specs.Histories.{lists_of, history, Rises}
 use Rattle.ga_journal.specs.Looks.{IsLookAfter, HasNoLookAfter}
 use Rattle.ga_journal.proofs.Rooms.{history_read}
