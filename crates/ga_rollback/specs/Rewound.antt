@@ -6,16 +6,18 @@ use Rattle.ga_grid.specs.Chip.{records_of}
 use Rattle.ga_event.specs.Apply.{replay}
 use Rattle.ga_causal.specs.Steps.{rewound}
 use Rattle.ga_journal.specs.Histories.{Book}
-use Rattle.ga_journal.specs.Kept.{events_of, steps_of}
+use Rattle.ga_journal.specs.Kept.{causes_of, events_of, steps_of}
 use Rattle.ga_journal.specs.Walked.{walked_chip}
 use Rattle.ga_journal.specs.Marks.{entries, IsAtRest}
+use Rattle.ga_rollback.specs.Marked.{looks_of}
 use Rattle.ga_rollback.specs.Tied.{IsTied}
 
 -- Node n was rolled back to its step k, which removed so many events. The events that are left are those that do not depend on
--- the step, in their order, and replaying them from the load, which stays, leads to the new chip.
+-- the step, in their order, and those of them that looked still do; replaying them from the load, which stays, leads to the
+-- new chip.
 pub record IsRolledBack (old : Book) (chip : List NodeState) (n k : ℕ) (new : Book) (now : List NodeState) (removed : ℕ) : Type 0 where
   pub stands : (0 < k) × (k ≤ steps_of n (events_of old))
-  pub left : events_of new ≡ rewound (events_of old) n k
+  pub left : causes_of new ≡ rewound (causes_of old) n k
   pub load : walked_chip now new.histories ≡ walked_chip chip old.histories
   pub replays : replay (records_of (walked_chip chip old.histories)) (events_of new) ≡ Some (records_of now)
   pub number : removed + length (events_of new) ≡ length (events_of old)
@@ -24,10 +26,13 @@ pub record IsRolledBack (old : Book) (chip : List NodeState) (n k : ℕ) (new : 
   pub tied : IsTied now new
   pub settled : IsAtRest new
 
--- How much a rollback did: at least one tick for each entry that it removed, and at most four for each and one more, whatever
--- else is kept.
+-- How much a rollback did: at least one tick for each entry that it removed, and at most four for each, one for each look among
+-- them and one more, whatever else is kept.
 pub record IsTicked (old new : Book) (from to : ℕ) : Type 0 where
   pub gone : ℕ
+  pub looks_gone : ℕ
   pub entries_left : entries new + gone ≡ entries old
+  pub looks_left : looks_of new.histories + looks_gone ≡ looks_of old.histories
+  pub among : looks_gone ≤ gone
   pub least : from + gone ≤ to
-  pub most : to ≤ from + 4 * gone + 1
+  pub most : to ≤ from + 4 * gone + looks_gone + 1
