@@ -72,7 +72,7 @@ off_sides g h =
     (or_from (g Down) (g Left || (g Up || false)) (h Down) (or_from (g Left) (g Up || false) (h Left) (or_from (g Up) false (h Up) refl)))
 
 neighbours_on : (f : ℕ → Bool) (n j : ℕ) (side : Side) → neighbour_of n side ≡ Some j → f j ≡ true → list_any f (neighbours n) ≡ true
-neighbours_on f n j side at yes = any_neighbours f n ∙ on_side (λ s. any_of f (neighbour_of n s)) side (ap (any_of f) at ∙ yes)
+neighbours_on f n j side at on = any_neighbours f n ∙ on_side (λ s. any_of f (neighbour_of n s)) side (ap (any_of f) at ∙ on)
 
 neighbours_off : (f : ℕ → Bool) (n : ℕ) → ((j : ℕ) (side : Side) → neighbour_of n side ≡ Some j → f j ≡ false) → list_any f (neighbours n) ≡ false
 neighbours_off f n none = any_neighbours f n ∙ off_sides (λ s. any_of f (neighbour_of n s)) (λ s. any_of_off f (neighbour_of n s) (λ j at. none j s at))
@@ -96,13 +96,13 @@ meets_on f e done n t h = meets-touched f (cause_with e done) (any_on f (nodes_o
 
 -- and on one at which it looked
 pub meets_beside : (f : ℕ → Bool) (e : Event) (done : Effect) (j : ℕ) (side : Side) → IsOfKind e done → has_looked done ≡ true → neighbour_of (first_of e) side ≡ Some j → f j ≡ true → meets f (cause_with e done) ≡ true
-meets_beside f (event.Own node) (effect.Look kind saved) j side k looked at yes =
-    meets_parts f (cause_with (event.Own node) (effect.Look kind saved)) ∙ or_right (list_any f (nodes_of (event.Own node))) (list_any f (neighbours node.number)) (neighbours_on f node.number j side at yes)
-meets_beside f (event.Own node) (effect.Own kind saved) j side k looked at yes = absurd (cc)
-meets_beside f (event.Pass w r over) (effect.Pass word sent took) j side k looked at yes = absurd (cc)
-meets_beside f (event.Own node) (effect.Pass word sent took) j side k looked at yes = absurd k
-meets_beside f (event.Pass w r over) (effect.Own kind saved) j side k looked at yes = absurd k
-meets_beside f (event.Pass w r over) (effect.Look kind saved) j side k looked at yes = absurd k
+meets_beside f (event.Own node) (effect.Look kind saved) j side k looked at on =
+    meets_parts f (cause_with (event.Own node) (effect.Look kind saved)) ∙ or_right (list_any f (nodes_of (event.Own node))) (list_any f (neighbours node.number)) (neighbours_on f node.number j side at on)
+meets_beside f (event.Own node) (effect.Own kind saved) j side k looked at on = absurd (cc)
+meets_beside f (event.Pass w r over) (effect.Pass word sent took) j side k looked at on = absurd (cc)
+meets_beside f (event.Own node) (effect.Pass word sent took) j side k looked at on = absurd k
+meets_beside f (event.Pass w r over) (effect.Own kind saved) j side k looked at on = absurd k
+meets_beside f (event.Pass w r over) (effect.Look kind saved) j side k looked at on = absurd k
 
 -- and no others
 pub meets_off : (f : ℕ → Bool) (e : Event) (done : Effect) → IsOfKind e done → ((n : ℕ) → touches e n ≡ true → f n ≡ false) → ((j : ℕ) (side : Side) → has_looked done ≡ true → neighbour_of (first_of e) side ≡ Some j → f j ≡ false)
