@@ -109,7 +109,11 @@ all_done old node ticks new later seen sound chain all unseen done x = ⊎_elim
     (λ ne. still_done old node ticks new later seen x sound chain (done x ne))
     (cases_eq x node)
 
--- and the ticks fit
+-- and the ticks fit, for more of them too
+pub room_after : (old : Book) (node ticks : ℕ) (new : Book) (later room : ℕ) → AreMarks old → AreLowered old node ticks new later → ticks + 2 * entries old + 2 < room + 2 * to_go old → later + 2 * entries new + 2 < room + 2 * to_go new
+room_after old node ticks new later room sound chain fits =
+    let after = after_lowered old node ticks new later sound chain in let a = after.bound in let b = after.size in omega arith
+
 pub ticks_fit : (old : Book) (node ticks : ℕ) (new : Book) (later : ℕ) → AreMarks old → AreLowered old node ticks new later → later + 2 * to_go old ≤ ticks + 2 * entries old
 ticks_fit old node ticks new later sound chain =
     let after = after_lowered old node ticks new later sound chain in
