@@ -2,29 +2,29 @@ use Rattle.std.proofs.Common.{Err, sym, ◌∙◌, ap, inl, inr}
 use Rattle.std.specs.Prelude.{Result, Option, List}
 use Rattle.ga_causal.specs.declared.chain.Link.{Link}
 use Rattle.ga_lab.specs.declared.fault.LabFault.{LabFault}
-use Rattle.ga_lab.proofs.Reasons.{no_cause, no_effect, reasoned, why_refused, from_events}
+use Rattle.ga_lab.proofs.Reasons.{no_cause, no_effect, reasoned, why_refused, from_causes}
 use Rattle.ga_lab.proofs.lab.Lab.why.Goals.{then-not-stands-via-then-not-stands, then-not-stands-via-else-not-stands+then-not-stands-2}
 use Rattle.ga_lab.proofs.lab.Lab.why.Goals as goal
 
 pub returns-then-not-stands-clause-answer : goal.returns-then-not-stands-clause-answer
 returns-then-not-stands-clause-answer c = elim c.then-not-stands.branch [
   | then-not-stands-via-then-not-stands w ↦
-      inl (sym (no_cause c.args.self.now c.args.from.0.number c.args.from.1 c.args.to.0.number c.args.to.1 (sym c.stands.ensures ∙ w.if-not-stands.true)))
+      inl (sym (no_cause c.args.self.now c.args.from.0.number c.args.from.1 c.args.to.0.number c.args.to.1 c.stands.ensures.caused (sym c.stands.ensures.value ∙ w.if-not-stands.true)))
   | then-not-stands-via-else-not-stands+then-not-stands-2 w ↦
-      inl (sym (no_effect c.args.self.now c.args.from.0.number c.args.from.1 c.args.to.0.number c.args.to.1 (sym w.stands-else-not-stands.ensures ∙ w.if-not-stands-2.true)))
+      inl (sym (no_effect c.args.self.now c.args.from.0.number c.args.from.1 c.args.to.0.number c.args.to.1 c.stands.ensures.caused (sym w.stands-else-not-stands.ensures.value ∙ w.if-not-stands-2.true)))
 ]
 
 pub returns-in-Ok-clause-answer : goal.returns-in-Ok-clause-answer
 returns-in-Ok-clause-answer c =
-    from_events c.args.self.now c.deref.result.now c.args.from.0.number c.args.from.1 c.args.to.0.number c.args.to.1 c.chain_between.result
+    from_causes c.args.self.now c.deref.result.now c.args.from.0.number c.args.from.1 c.args.to.0.number c.args.to.1 c.chain_between.result
     (c.deref.ensures.value ∙ c.in-Ok.ensures.ok) c.chain_between.ensures
 
 pub returns-in-Ok-clause-refused : goal.returns-in-Ok-clause-refused
 returns-in-Ok-clause-refused c =
-    why_refused c.args.self.now c.args.from.0.number c.args.from.1 c.args.to.0.number c.args.to.1 c.chain_between.result (returns-in-Ok-clause-answer c)
+    why_refused c.args.self.now c.args.from.0.number c.args.from.1 c.args.to.0.number c.args.to.1 c.chain_between.result c.stands.ensures.caused (returns-in-Ok-clause-answer c)
 
 pub returns-in-Err-clause-answer : goal.returns-in-Err-clause-answer
 returns-in-Err-clause-answer c = inr (
   ap (λ (f : LabFault). let r : Result (Option (List Link)) LabFault = Err f in r) c.in-Err.ensures.err,
-  reasoned c.args.self.now c.args.from.0.number c.args.from.1 c.args.to.0.number c.args.to.1 (sym c.stands.ensures ∙ c.if-not-stands.false) (sym c.stands-else-not-stands.ensures ∙ c.if-not-stands-2.false),
+  reasoned c.args.self.now c.args.from.0.number c.args.from.1 c.args.to.0.number c.args.to.1 c.stands.ensures.caused (sym c.stands.ensures.value ∙ c.if-not-stands.false) (sym c.stands-else-not-stands.ensures.value ∙ c.if-not-stands-2.false),
 )
