@@ -6,6 +6,8 @@ use std::process::Abort;
 
 mod dumps;
 mod images;
+mod look_causes;
+mod looks;
 mod one_node;
 mod rollbacks;
 mod spellings;
@@ -30,10 +32,15 @@ const SENDER: &str = "node 000|p 000000|ram 00 004b12 0001d5 00002a 0089b2";
 const SENDER_AND_TAKER: &str =
     "node 000|p 000000|ram 00 004b12 0001d5 00002a 0089b2|node 001|p 000000|ram 00 004b02 0001d5";
 
+const SENDER_AND_LOOKER: &str =
+    "node 000|p 000000|ram 00 004b12 0001d5 00002a 0089b2|node 001|p 000000|ram 00 0009b2";
+
 const SENDS: &str =
     "000 1 fetch|000 2 run 08|000 3 run 1e|000 4 run 08|000 5 run 1c|000 6 fetch|000 7 wait";
 
 const TAKES: &str = "001 1 fetch|001 2 run 08|001 3 run 1e|001 4 wait";
+
+const LOOKS: &str = "001 1 fetch|001 2 run 0a";
 
 const PASSED: &str = "pass 000 8 001 5 00002a";
 

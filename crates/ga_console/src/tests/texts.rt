@@ -7,7 +7,7 @@ use crate::text::{Text, put_text};
 use ga_grid::NodeId;
 use ga_image::{ImageCause, ImageFault, parse};
 use ga_lab::{Counts, LabFault, Made};
-use ga_node::Kind;
+use ga_node::{Kind, Seen};
 use ga_word::Word18;
 use std::process::Abort;
 use std::test::Fail;
@@ -217,7 +217,7 @@ fn nodes(rt: HostRuntime) -> Result<(), Fail> {
         let name = node(row.yxx)?;
         let mut chip = parse(rt.alloc(), row.image)?;
         for _ in 0..row.events {
-            chip.node_mut(name).own()?;
+            chip.node_mut(name).own(Seen::nobody())?;
         }
         put_node(&mut out, name, chip.node(name));
         let text = out.as_slice();

@@ -5,7 +5,7 @@ use crate::{Status, session};
 use std::test::Fail;
 
 /// Whole inputs, with what is written for them.
-static INPUTS: [(&[u8], Status, &[u8]); 14] = [
+static INPUTS: [(&[u8], Status, &[u8]); 15] = [
     (
         b"ga144 1\nend\nback\nback",
         Status::Done,
@@ -63,6 +63,11 @@ static INPUTS: [(&[u8], Status, &[u8]); 14] = [
         b"ga144 2\nnode 000\nb 0001d5\np 000004\ni 0089b2\nslot 0\nd 00002a 015555 015555 015555 015555 015555 015555 015555 015555 015555\nwait write r---\nram 00 004b12 0001d5 00002a 0089b2 000000 000000 000000 000000\nend\nstep 000\nstep 001\nstep 001\n",
         Status::Done,
         b"ready\nno 1 waiting\n001 1 wait\npass 000 1 001 2 00002a\n",
+    ),
+    (
+        b"ga144 2\nnode 000\nb 0001d5\np 000004\ni 0089b2\nslot 0\nwait write r---\nnode 001\np 00015d\ni 0049b2\nslot 0\nend\nstep 001\nnode 001\nback\nrewind 001 1\n",
+        Status::Done,
+        b"ready\n001 1 run 08\nnode 001 run p 00015d a 000000 b 00015d i 0049b2 slot 1 carry 0 io 015555 d 01d555 015555 015555 015555 015555 015555 015555 015555 015555 015555 r 015555 015555 015555 015555 015555 015555 015555 015555 015555\nremoved 1 kept 0\nno 6 nostep\n",
     ),
 ];
 

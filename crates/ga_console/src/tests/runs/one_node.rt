@@ -3,7 +3,7 @@
 use super::{LIMIT, Run, SENDER, SENDS, check};
 use std::test::Fail;
 
-static STEPS: [Run; 6] = [
+static STEPS: [Run; 5] = [
     Run {
         name: "a write wait",
         limit: LIMIT,
@@ -49,13 +49,6 @@ static STEPS: [Run; 6] = [
             "no 2 stopped|removed 1 kept 6|000 7 stop 1",
         ],
     },
-    Run {
-        name: "a read of io",
-        limit: LIMIT,
-        image: "node 000|p 000000|ram 00 004b12 0001d5 00002a 0089b2|node 001|p 000000|ram 00 0009b2",
-        commands: &[(7, "step 000"), (2, "step 001")],
-        output: &[SENDS, "001 1 fetch|001 2 stop 3"],
-    },
 ];
 
 #[test]
@@ -89,9 +82,9 @@ static LIMITS: [Run; 6] = [
     Run {
         name: "stopped comes before the limit",
         limit: 2,
-        image: "node 000|p 000000|ram 00 0009b2",
+        image: "node 000|b 000141|p 000000|ram 00 0009b2",
         commands: &[(3, "step 000"), (1, "step 001")],
-        output: &["000 1 fetch|000 2 stop 3|no 2 stopped|no 3 full"],
+        output: &["000 1 fetch|000 2 stop 2|no 2 stopped|no 3 full"],
     },
     Run {
         name: "five steps, two taken back",
