@@ -3,27 +3,31 @@
 ghost use Rattle.std.specs.Prelude.{◌<◌};
 
 use crate::outcome::Outcome;
-use ga_causal::{Link, closure, find_chain};
+use ga_causal::{Cause, Link, closure, find_chain};
 use ga_event::Event;
 use ga_grid::{Memory, NodeId};
 use ga_ports::Side;
 use std::alloc::Global;
 
-/// Nodes 000 and 001 make an event each, then a word goes over, then nodes 000 and 002 make an event each.
-fn events() -> [Event; 5] {
+/// Nodes 000 and 001 make an event each, then a word goes over, then nodes 000 and 002 make an event each. None looks.
+fn events() -> [Cause; 5] {
     let first = NodeId::new(0);
     let second = NodeId::new(1);
     [
-        Event::Own(first),
-        Event::Own(second),
-        Event::Pass {
+        blind(Event::Own(first)),
+        blind(Event::Own(second)),
+        blind(Event::Pass {
             writer: first,
             reader: second,
             side: Side::Right,
-        },
-        Event::Own(first),
-        Event::Own(NodeId::new(2)),
+        }),
+        blind(Event::Own(first)),
+        blind(Event::Own(NodeId::new(2))),
     ]
+}
+
+fn blind(event: Event) -> Cause {
+    Cause { event, look: false }
 }
 
 /// The marks of what depends on the first event, the chain from it to the fourth, and that none leads to the fifth.

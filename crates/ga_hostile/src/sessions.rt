@@ -2,7 +2,7 @@
 
 ghost use Rattle.std.specs.Prelude.{◌≤◌, length};
 
-use crate::images::{SENDER_AND_TAKER, WAITING};
+use crate::images::{SENDER_AND_LOOKER, SENDER_AND_TAKER, WAITING};
 use crate::labs::LIMIT;
 use crate::outcome::Outcome;
 use arrayvec::ArrayVec;
@@ -122,6 +122,35 @@ static READINGS: [Turn; 5] = [
         asks: "rewind 001 1",
         counts: None,
         answer: "removed 4 kept 7\n",
+    },
+];
+
+/// Node 001 looks at the sender that waits, and what it saw is taken back.
+static LOOKS: [Turn; 5] = [
+    Turn {
+        asks: "step 001",
+        counts: Some("kept 7 made 7 limit 1000000\n"),
+        answer: "001 1 fetch\n",
+    },
+    Turn {
+        asks: "step 001",
+        counts: Some("kept 8 made 8 limit 1000000\n"),
+        answer: "001 2 run 0a\n",
+    },
+    Turn {
+        asks: "why 000 7 001 2",
+        counts: Some("kept 9 made 9 limit 1000000\n"),
+        answer: "chain 2\n000 7 wait\n001 2 run 0a\n",
+    },
+    Turn {
+        asks: "trace 001",
+        counts: Some("kept 9 made 9 limit 1000000\n"),
+        answer: "trace 001 2\n001 1 fetch\n001 2 run 0a\n",
+    },
+    Turn {
+        asks: "rewind 000 7",
+        counts: None,
+        answer: "removed 2 kept 7\n",
     },
 ];
 
@@ -261,6 +290,15 @@ pub fn session_with_readings(alloc: Global) -> Outcome {
         last: &READINGS,
     };
     talked(alloc, SENDER_AND_TAKER, turns)
+}
+
+/// The steps of the sender, a look at it, a chain of causes, a history and a rollback.
+pub fn session_with_looks(alloc: Global) -> Outcome {
+    let turns = Turns {
+        steps: &STEPS[..7],
+        last: &LOOKS,
+    };
+    talked(alloc, SENDER_AND_LOOKER, turns)
 }
 
 /// On an image of format 2, a dump, a transfer and a history.
