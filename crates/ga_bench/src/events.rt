@@ -1,6 +1,6 @@
 //! The events of a node.
 
-use ga_node::{Kind, Node, Place, Saved};
+use ga_node::{Kind, Node, Place, Saved, Seen};
 use ga_slots::{Op, encode};
 use ga_word::Word18;
 use std::io;
@@ -51,7 +51,7 @@ fn loaded(cells: &[Cell]) -> Node {
 fn sum_kinds(node: &mut Node, count: u32) -> u32 {
     let mut sum = 0u32;
     for _ in 0..count {
-        if let Ok((Kind::Run(code), _)) = node.own() {
+        if let Ok((Kind::Run(code), _)) = node.own(Seen::nobody()) {
             sum = sum.wrapping_add(u32::from(code));
         }
     }
@@ -65,7 +65,7 @@ fn sum_kinds_into(node: &mut Node, count: u32) -> u32 {
     let mut saved = Saved::new();
     for _ in 0..count {
         saved.clear();
-        if let Ok(Kind::Run(code)) = node.own_into(&mut saved) {
+        if let Ok(Kind::Run(code)) = node.own_into(Seen::nobody(), &mut saved) {
             sum = sum.wrapping_add(u32::from(code));
         }
     }
@@ -77,7 +77,7 @@ fn sum_kinds_into(node: &mut Node, count: u32) -> u32 {
 fn sum_values(node: &mut Node, count: u32) -> u32 {
     let mut sum = 0u32;
     for _ in 0..count {
-        if let Ok((_, saved)) = node.own() {
+        if let Ok((_, saved)) = node.own(Seen::nobody()) {
             for k in 0..saved.len() {
                 let (_, old) = saved.at(k);
                 sum = sum.wrapping_add(old);
@@ -93,10 +93,10 @@ fn sum_backs(node: &mut Node, count: u32) -> u32 {
     let mut sum = 0u32;
     for _ in 0..count {
         let mut saved = Saved::new();
-        if node.own_into(&mut saved).is_ok() {
+        if node.own_into(Seen::nobody(), &mut saved).is_ok() {
             node.restore(&saved);
         }
-        if let Ok((Kind::Run(code), _)) = node.own() {
+        if let Ok((Kind::Run(code), _)) = node.own(Seen::nobody()) {
             sum = sum.wrapping_add(u32::from(code));
         }
     }

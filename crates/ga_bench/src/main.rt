@@ -4,8 +4,9 @@
 //! `ga_bench busy MODE EVENTS ROUNDS` and `ga_bench mixed MODE EVENTS ROUNDS` make events; MODE is `own`, `into`, `values` or
 //! `back`. `ga_bench image NODES ROUNDS` reads an image of each format that gives all of so many nodes, and prints the second.
 //! `ga_bench lab NODES STEPS` steps the first nodes of a lab in turn, takes all steps back, and makes them again. `ga_bench
-//! rewind EVENTS ROUNDS` makes rollbacks that remove three entries where so many events are kept, and `ga_bench rewind-all
-//! EVENTS` one that removes so many. The best of the rounds counts.
+//! rewind EVENTS ROUNDS` makes rollbacks that remove three entries where so many events are kept, `ga_bench rewind-all EVENTS`
+//! one that removes so many, and `ga_bench rewind-looks LOOKS ROUNDS` rollbacks of a wait that take so many looks of a
+//! neighbour along. The best of the rounds counts.
 #![tactic(auto)]
 
 mod events;
@@ -16,7 +17,7 @@ mod rewinds;
 use events::time_events;
 use images::time_images;
 use labs::time_lab;
-use rewinds::{time_large, time_small};
+use rewinds::{time_large, time_looks, time_small};
 use std::{env, io};
 
 fn number(word: Option<&String>, otherwise: u32) -> u32 {
@@ -103,6 +104,11 @@ fn main(rt: HostRuntime) -> io::Result<()> {
         }
         "rewind-all" => {
             let timed = time_large(&rt, number(words.get(2), 1_000_000))?;
+            print_rewind(&rt, timed)
+        }
+        "rewind-looks" => {
+            let count = number(words.get(2), 1000);
+            let timed = time_looks(&rt, count, number(words.get(3), 200))?;
             print_rewind(&rt, timed)
         }
         "image" => {

@@ -32,16 +32,18 @@ fn steps(lab: &mut Lab, node: NodeId, count: u32) -> u32 {
     made
 }
 
+/// `@p b! @p .` with the port to the right and a literal, and `!b . . .`: the literal is sent to the right.
+const SENDER: [u32; 4] = [0x4b12, 0x1d5, 0x2a, 0x89b2];
+
+/// `@b @b @b unext` and `jump 0`: three reads of `io`, again and again.
+const LOOKER: [u32; 4] = [0x1f04, 0x10000, 0, 0];
+
 /// A lab in which the last node has made so many own events, and then each pair has passed its word: the first node of a pair
 /// sends a literal to the right, and the second takes it.
 fn passed(alloc: Global, own: u32) -> Option<Lab> {
     let mut chip = Chip::new(alloc).ok()?;
     for pair in 0..PAIRS {
-        load(
-            &mut chip,
-            NodeId::new(2 * pair),
-            [0x4b12, 0x1d5, 0x2a, 0x89b2],
-        );
+        load(&mut chip, NodeId::new(2 * pair), SENDER);
         load(&mut chip, NodeId::new(2 * pair + 1), [0x4b02, 0x1d5, 0, 0]);
     }
     load(&mut chip, NodeId::new(143), [0x10000, 0, 0, 0]);
@@ -101,4 +103,35 @@ pub fn time_large(rt: &HostRuntime, own: u32) -> io::Result<Option<(u128, u32)>>
     let start = Instant::now(rt)?;
     let removed = lab.rewind(NodeId::new(143), 1).unwrap_or(0);
     Ok(Some((start.elapsed(rt)?.as_nanos(), removed)))
+}
+
+/// A lab in which node 001 has fetched, and node 000 has come to where its next step posts a wait.
+fn loaded_to_look(alloc: Global) -> Option<Lab> {
+    let mut chip = Chip::new(alloc).ok()?;
+    load(&mut chip, NodeId::new(0), SENDER);
+    load(&mut chip, NodeId::new(1), LOOKER);
+    let mut lab = Lab::new(alloc, chip, u32::MAX).ok()?;
+    let _fetched = steps(&mut lab, NodeId::new(1), 1);
+    let _sent = steps(&mut lab, NodeId::new(0), 6);
+    Some(lab)
+}
+
+/// The nanoseconds of the best of some rounds of one rollback that removes a wait and so many later looks at it, with the
+/// `unext` behind each three of them, and the number of events removed; none without memory.
+pub fn time_looks(rt: &HostRuntime, looks: u32, rounds: u32) -> io::Result<Option<(u128, u32)>> {
+    let mut lab = match loaded_to_look(rt.alloc()) {
+        Some(lab) => lab,
+        None => return Ok(None),
+    };
+    let count = looks.saturating_add(looks / 3);
+    let mut best = u128::MAX;
+    let mut removed = 0u32;
+    for _ in 0..rounds {
+        let _waits = steps(&mut lab, NodeId::new(0), 1);
+        let _looked = steps(&mut lab, NodeId::new(1), count);
+        let start = Instant::now(rt)?;
+        removed = lab.rewind(NodeId::new(0), 7).unwrap_or(0);
+        best = best.min(start.elapsed(rt)?.as_nanos());
+    }
+    Ok(Some((best, removed)))
 }
