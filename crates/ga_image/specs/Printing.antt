@@ -1,4 +1,4 @@
--- The text of a chip in format 2: for each node what it holds beside its values at load.
+-- The text of a chip in format 2, a format of this project's own: for each node what it holds beside its values at load.
 use Rattle.std.specs.Prelude.{ℕ, ◌+◌, ◌^◌, ◌<◌, ◌==◌, if◌then◌else◌, List, [], ◌∷◌, ◌++◌, take, drop, slice_index, codes, map, flat_map}
 use Rattle.std.specs.List.{AllByRecursion, list_all}
 use Rattle.std.specs.Int.{from_bool}

@@ -1,4 +1,4 @@
--- A text that describes a chip, and the chips that a text in format 2 can describe.
+-- A text that describes a chip, and the chips that a text in format 2, a format of this project's own, can describe.
 use Rattle.std.specs.Prelude.{ℕ, ◌≡◌, ◌^◌, ◌<◌, ◌≤◌, List, length}
 use Rattle.std.specs.List.{AllByRecursion}
 use Rattle.ga_node.specs.declared.wait.Wait.{Wait}

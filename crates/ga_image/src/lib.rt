@@ -50,6 +50,4 @@ pub use image::parse;
 pub use printing::print;
 
 #[cfg(test)]
-mod print_tests;
-#[cfg(test)]
 mod tests;

@@ -1,4 +1,5 @@
--- Which waits, slots and stops stand together in a node.
+-- Which waits, slots and stops stand together in a node: a node waits at its ports until a neighbour is ready, for an
+-- instruction word or for an opcode's word (F18A Technology Reference DB001, ports); the stops are this project's own.
 use Rattle.std.specs.Prelude.{ℕ, ◌≡◌, ◌≢◌}
 use Rattle.ga_node.specs.Record.{NodeRecord}
 use Rattle.ga_node.specs.declared.wait.Wait.{Wait}
