@@ -1,12 +1,12 @@
 -- The marks of a node's neighbours, as they are lowered from look to look.
-use Rattle.std.proofs.Common.{◌≡◌, ◌≢◌, ℕ, ◌+◌, ◌*◌, ◌<◌, ◌≤◌, Bool, true, false, List, length, get_or, Some, refl, sym, ◌∙◌, ap, subst, arith, ⊎_elim}
+use Rattle.std.proofs.Common.{◌≡◌, ◌≢◌, ℕ, ◌+◌, ◌*◌, ◌<◌, ◌≤◌, true, List, get_or, Some, refl, sym, ◌∙◌, subst, arith, ⊎_elim}
 use Rattle.std.proofs.lemmas.Bool.{cases_eq}
 use Rattle.std.proofs.lemmas.Option.{same_Some}
 use Rattle.ga_ports.specs.declared.side.Side.{Side}
 use Rattle.ga_ports.specs.declared.side.Side.TheVariants.{Right, Down, Left, Up}
 use Rattle.ga_grid.specs.Grid.{neighbour_of}
 use Rattle.ga_grid.proofs.Links.{neighbour_of-other}
-use Rattle.ga_journal.specs.Histories.{Past, Book, history}
+use Rattle.ga_journal.specs.Histories.{Past, Book}
 use Rattle.ga_journal.specs.Kept.{has_looked_in}
 use Rattle.ga_journal.specs.Marks.{entry_at, mark_of, going_of, to_go, entries, lowered, AreMarks}
 use Rattle.ga_journal.specs.Looks.{IsLookToGo, SawNoneToGo}
