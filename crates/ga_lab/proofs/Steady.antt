@@ -1,5 +1,5 @@
 -- The machine's chip is steady where its load is.
-use Rattle.std.proofs.Common.{ℕ, List, [], Option, Some, None, IfSome}
+use Rattle.std.proofs.Common.{List, [], Option, Some, None, IfSome}
 use Rattle.std.specs.Prelude.{unwrap_or}
 use Rattle.ga_node.specs.State.{fresh_node}
 use Rattle.ga_node.specs.Record.{NodeRecord, record_of}

@@ -18,14 +18,21 @@ fn port(number: u32) -> u32 {
     }
 }
 
-// All nodes in a pattern of senders, to sides that are picked, and takers, from all sides, after so many steps of nodes that
-// are picked.
+// `@b . . .` in a loop, where B holds `io` from the load on.
+fn looker() -> [u32; 4] {
+    [0x9b2, 0x10000, 0, 0]
+}
+
+// All nodes in a pattern of senders, to sides that are picked, takers, from all sides, and some that look at their neighbours,
+// after so many steps of nodes that are picked.
 fn busy(rt: &impl Abort, alloc: Global, count: u32) -> Result<Lab, Fail> {
     let mut chip = Chip::new(alloc)?;
     let mut picked = 12345u32;
     for number in 0..144u8 {
         picked = picked.wrapping_mul(1_103_515_245).wrapping_add(12345);
-        let words = if (number / 18 + number % 18) % 2 == 0 {
+        let words = if number % 7 == 3 {
+            looker()
+        } else if (number / 18 + number % 18) % 2 == 0 {
             sender(port(picked >> 16), number as u32)
         } else {
             taker(0x1a5)
@@ -136,6 +143,26 @@ fn ticks_by_what_goes(rt: HostRuntime) -> Result<(), Fail> {
         let alone = ticks_of(&rt, rt.alloc(), 0, node, step)?;
         assert!(rt; alone >= least && alone <= most, "{alone} ticks");
         assert_eq!(rt; ticks_of(&rt, rt.alloc(), 1000, node, step)?, alone);
+    }
+    Ok(())
+}
+
+// What a rollback costs that takes a look back, with what it saw or alone.
+#[test]
+fn ticks_of_looks(rt: HostRuntime) -> Result<(), Fail> {
+    let n000 = NodeId::new(0);
+    let n001 = NodeId::new(1);
+    for (node, step, removed, least, most) in [(n000, 7, 2, 2, 10), (n001, 2, 1, 1, 6)] {
+        let mut chip = Chip::new(rt.alloc())?;
+        load(&rt, &mut chip, n000, sender(0x1d5, 0x2a));
+        load(&rt, &mut chip, n001, looker());
+        let mut lab = Lab::new(rt.alloc(), chip, LIMIT)?;
+        steps(&mut lab, n000, 7)?;
+        steps(&mut lab, n001, 2)?;
+        let mut ticks = Ticks::new();
+        assert_eq!(rt; lab.rewind_ticked(node, step, &mut ticks), Ok(removed));
+        let ticks = ticks.count();
+        assert!(rt; ticks >= least && ticks <= most, "{ticks} ticks");
     }
     Ok(())
 }
