@@ -29,6 +29,7 @@ pub struct Seen {
 
 impl Beside {
     /// What a side shows in its two bits, which are given by their values.
+    #[inline(always)]
     fn shown(self, first: u32, second: u32) -> u32
         requires { first + second < 2 ^ 18 }
         ensures nobody { self ≡ Beside.Nobody → result ≡ first }
@@ -62,6 +63,7 @@ impl Seen {
 
     /// The word that a read of `io` gives (DB001, the `io` register; which bit shows what is this project's own choice). What
     /// was written to `io` is no part of it.
+    #[inline(always)]
     #[tactic(auto, unfolding(crate::specs::Io::io_word))]
     pub fn io_word(self) -> Word18
         ensures { result ≡ io_word self }

@@ -50,14 +50,14 @@ impl Node {
             Op::Next => self.run_next(saved),
             Op::If => self.run_if(saved),
             Op::MinusIf => self.run_minus_if(saved),
-            Op::FetchP => self.run_fetch_p(seen, saved)?,
-            Op::FetchPlus => self.run_fetch_plus(seen, saved)?,
-            Op::FetchB => self.run_fetch_b(seen, saved)?,
-            Op::Fetch => self.run_fetch(seen, saved)?,
-            Op::StoreP => self.run_store_p(saved)?,
-            Op::StorePlus => self.run_store_plus(saved)?,
-            Op::StoreB => self.run_store_b(saved)?,
-            Op::Store => self.run_store(saved)?,
+            Op::FetchP => return self.run_fetch_p(seen, saved),
+            Op::FetchPlus => return self.run_fetch_plus(seen, saved),
+            Op::FetchB => return self.run_fetch_b(seen, saved),
+            Op::Fetch => return self.run_fetch(seen, saved),
+            Op::StoreP => return self.run_store_p(saved),
+            Op::StorePlus => return self.run_store_plus(saved),
+            Op::StoreB => return self.run_store_b(saved),
+            Op::Store => return self.run_store(saved),
             Op::MultiplyStep => self.run_multiply_step(saved),
             Op::TwoStar => self.run_two_star(saved),
             Op::TwoSlash => self.run_two_slash(saved),
@@ -97,6 +97,7 @@ impl Node {
     }
 
     /// Fetches the word at P, or answers the kind of the event that this has become.
+    #[inline(always)]
     pub(super) fn fetch(&mut self, seen: Seen, saved: &mut Saved) -> Result<(), Kind>
         requires running { IsRunning (record_of self.old) }
         requires empty { saved.old ≡ [] }
@@ -194,7 +195,6 @@ impl Node {
 
     /// Makes the node's next event, as [`Node::own`] does, and puts the values that it overwrote into a list that the
     /// caller keeps, which is empty before.
-    #[inline(always)]
     #[tactic(auto, using(crate::proofs::Saving::apart_from_ready))]
     pub fn own_into(&mut self, seen: Seen, saved: &mut Saved) -> Result<Kind, NotReady>
         requires { saved.old ≡ [] }
