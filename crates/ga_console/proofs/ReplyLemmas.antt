@@ -75,12 +75,9 @@ rewind_done s node k removed kept text new e f counts t =
     ∙ ap (rewind_reply s after) e)
 
 pub rewind_refused : (s : State) (node : NodeId) (k : ℕ) (why : LabFault) (text : List ℕ) (new : State) → Err why ≡ rewind_answer s node.number k
-    → new ≡ rewound s node.number k → text ≡ refusal_text why → Does s (Rewind node k) text new
-rewind_refused s node k why text new e f t = inl (replies text (refusal_text why) new s t (f ∙ go (place_of s.kept node.number k) refl e)
-    ∙ ap (λ (r : Result ℕ LabFault). rewind_reply s (rewound s node.number k) r) e) where
-      go : (place : Option ℕ) → place_of s.kept node.number k ≡ place → Err why ≡ rest_answer s.kept place → rewound s node.number k ≡ s
-      go None is refused = ap (λ (p : Option ℕ). record s { kept = rest_from s.kept p }) is
-      go (Some place) is refused = absurd (let bad = refused in cc)
+    → new ≡ s → text ≡ refusal_text why → Does s (Rewind node k) text new
+rewind_refused s node k why text new e f t =
+    inl (replies text (refusal_text why) new s t f ∙ ap (λ (r : Result ℕ LabFault). rewind_reply s (rewound s node.number k) r) e)
 
 -- ---- trace
 
