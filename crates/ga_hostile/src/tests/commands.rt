@@ -16,7 +16,7 @@ fn is_said(alloc: Global, commands: &[u8], said: &[u8]) -> Result<bool, AllocErr
     Ok(is_answered(alloc, input.as_slice(), Status::Done, text.as_slice()))
 }
 
-static COMMANDS: [&str; 9] = [
+static COMMANDS: [&str; 10] = [
     "step 000",
     "back",
     "rewind 000 1",
@@ -25,6 +25,7 @@ static COMMANDS: [&str; 9] = [
     "trace 000",
     "why 000 1 001 5",
     "count",
+    "dump",
     "quit",
 ];
 
