@@ -1,12 +1,11 @@
 -- The load of a session stays.
-use Rattle.std.proofs.Common.{◌≡◌, ℕ, List, [], ◌∷◌, Option, Some, None, Result, Ok, Err, inl, inr, refl, sym, ◌∙◌, ap}
-use Rattle.ga_node.specs.Record.{NodeRecord}
+use Rattle.std.proofs.Common.{◌≡◌, ℕ, List, [], ◌∷◌, Result, Ok, Err, inl, inr, refl, ◌∙◌, ap}
 use Rattle.ga_grid.specs.declared.node_id.NodeId.{NodeId}
 use Rattle.ga_event.specs.declared.event.Event.{Event}
 use Rattle.ga_node.specs.declared.kind.NotReady.{NotReady}
 use Rattle.ga_event.specs.Next.{next}
 use Rattle.ga_journal.specs.declared.made.Made.{Made}
-use Rattle.ga_lab.specs.Machine.{State, chip_of, step_answer, stepped, with_event, unless_refused, undo_answer, undone, rewind_answer, rewound}
+use Rattle.ga_lab.specs.Machine.{State, chip_of, step_answer, with_event, unless_refused, undo_answer, rewind_answer, rewound}
 use Rattle.ga_lab.specs.declared.fault.LabFault.{LabFault}
 use Rattle.ga_console.specs.Replies.{Reply, Does, Answer, reply, step_reply, back_reply, rewind_reply}
 use Rattle.ga_console.specs.Replies.Answer.{long, command, syntax}

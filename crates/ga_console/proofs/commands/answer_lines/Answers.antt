@@ -1,7 +1,6 @@
-use Rattle.std.proofs.Common.{◌≡◌, ℕ, ◌-◌, ◌++◌, [], List, refl, sym, ap, ◌∙◌, arith}
+use Rattle.std.proofs.Common.{ℕ, ◌-◌, ◌++◌, [], List, refl, sym, ap, ◌∙◌, arith}
 use Rattle.std.specs.Prelude.{Result, Ok}
 use Rattle.std.specs.Result.{IsErr}
-use Rattle.ga_console.specs.Output.{IsSaidOrCut, IsCut}
 use Rattle.ga_console.specs.Session.{Serves, ServesCut}
 use Rattle.ga_console.specs.Texts.{no_input}
 use Rattle.ga_lab.specs.Machine.{State}

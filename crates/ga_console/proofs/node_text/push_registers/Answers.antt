@@ -1,5 +1,5 @@
 use Rattle.std.specs.Prelude.{codes}
-use Rattle.std.proofs.Common.{ℕ, List, ◌∷◌, ◌++◌, ap, ◌∙◌}
+use Rattle.std.proofs.Common.{ℕ, List, ◌++◌, ap, ◌∙◌}
 use Rattle.ga_console.specs.Texts.{register_text}
 use Rattle.ga_node.specs.Record.{record_of}
 use Rattle.ga_console.proofs.Pieces.{four_pieces}

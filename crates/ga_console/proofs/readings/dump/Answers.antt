@@ -1,4 +1,3 @@
-use Rattle.std.proofs.Common.{refl, ◌∙◌, ap}
 use Rattle.ga_console.proofs.ReplyLemmas.{dump_done, dump_refused}
 use Rattle.ga_console.proofs.readings.dump.Goals as goal
 

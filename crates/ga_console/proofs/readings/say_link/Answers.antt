@@ -1,4 +1,4 @@
-use Rattle.std.proofs.Common.{[], refl, sym, ap, ◌∙◌}
+use Rattle.std.proofs.Common.{[], sym, ap, ◌∙◌}
 use Rattle.ga_console.specs.Replies.{told_text}
 use Rattle.ga_console.proofs.SaidLemmas.{either_same, said_pending}
 use Rattle.ga_console.proofs.readings.say_link.Goals as goal

@@ -1,8 +1,5 @@
 use Rattle.std.proofs.Common.{ℕ, List, ◌++◌, length, take}
 use Rattle.std.specs.Prelude.{flat_map}
-use Rattle.ga_journal.specs.Told.{made_in}
-use Rattle.ga_lab.specs.Machine.{told_of_kept}
-use Rattle.ga_causal.specs.declared.chain.Link.{Link}
 use Rattle.ga_console.specs.Output.{IsSaid}
 use Rattle.ga_console.specs.Texts.{chain_text}
 use Rattle.ga_console.specs.Replies.{link_text}

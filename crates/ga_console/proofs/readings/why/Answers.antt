@@ -1,4 +1,4 @@
-use Rattle.std.proofs.Common.{◌∙◌, ap, refl, Option, Some, None, Result, Ok, Err}
+use Rattle.std.proofs.Common.{◌∙◌, ap, refl, Some, None, Ok, Err}
 use Rattle.ga_console.specs.Texts.{independent}
 use Rattle.ga_console.specs.Replies.{links_text}
 use Rattle.ga_console.proofs.ReplyLemmas.{why_done}

@@ -1,4 +1,4 @@
-use Rattle.std.proofs.Common.{ℕ, List, ◌++◌}
+use Rattle.std.proofs.Common.{◌++◌}
 use Rattle.ga_console.proofs.SaidLemmas.{cut_more, cut_here}
 use Rattle.ga_console.proofs.output.Output.say.Goals as goal
 

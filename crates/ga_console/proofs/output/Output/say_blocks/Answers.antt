@@ -1,4 +1,4 @@
-use Rattle.std.proofs.Common.{ℕ, List, [], ◌++◌, ◌≡◌, take, drop, refl, sym, ap, ◌∙◌, append_assoc, take-append-drop}
+use Rattle.std.proofs.Common.{ℕ, List, [], ◌++◌, ◌≡◌, drop, refl, sym, ap, ◌∙◌, append_assoc, take-append-drop}
 use Rattle.std.proofs.lemmas.List.{append-nil}
 use Rattle.ga_console.proofs.SaidLemmas.{cut_here, cut_within, cut_assoc, said_as, said_assoc, said_pending}
 use Rattle.ga_console.proofs.PartLemmas.{no_bytes}
