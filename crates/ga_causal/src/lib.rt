@@ -13,6 +13,3 @@ pub use ga_event::Cause;
 pub use ga_grid::Memory;
 pub use marks::{Marks, closure};
 pub use step::place_of;
-
-#[cfg(test)]
-mod tests;

@@ -23,6 +23,3 @@ mod text;
 pub use race::race_report;
 pub use run::{Status, session};
 pub use settings::{LineFault, Settings, arguments};
-
-#[cfg(test)]
-mod tests;

@@ -11,6 +11,3 @@ pub use back::{restore, unapply};
 pub use event::{Cause, Deed, Effect, Event, cause_with, touches};
 pub use forward::{apply, apply_own, apply_pass, cause_of, seen_from};
 pub use next::next_event;
-
-#[cfg(test)]
-mod tests;

@@ -8,6 +8,3 @@ mod node_id;
 pub use chip::{Chip, Memory, load_p};
 pub use link::neighbour;
 pub use node_id::{NODES, NodeId};
-
-#[cfg(test)]
-mod tests;

@@ -48,6 +48,3 @@ mod printing;
 pub use fault::{ImageCause, ImageFault};
 pub use image::parse;
 pub use printing::print;
-
-#[cfg(test)]
-mod tests;

@@ -20,6 +20,3 @@ pub use racing::{RaceFault, race};
 pub use seat::Seat;
 pub use shared::Shared;
 pub use workers::work;
-
-#[cfg(test)]
-mod tests;

@@ -8,6 +8,3 @@ mod returns;
 pub use data::DataStack;
 pub use place::{FRESH_WORD, Overwritten, StackPlace};
 pub use returns::ReturnStack;
-
-#[cfg(test)]
-mod tests;

@@ -139,6 +139,3 @@ impl Word18 {
         Some(u32::from(high) * 65536 + u32::from(middle) * 256 + u32::from(low))
     }
 }
-
-#[cfg(test)]
-mod tests;

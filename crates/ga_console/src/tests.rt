@@ -1,6 +1,0 @@
-mod commands;
-mod races;
-mod runs;
-mod settings;
-mod streams;
-mod texts;

@@ -1,0 +1,4 @@
+mod races;
+mod runs;
+mod settings;
+mod streams;

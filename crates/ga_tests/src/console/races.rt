@@ -1,0 +1,136 @@
+//! Races, with the texts that they report.
+
+ghost use Rattle.std.specs.Prelude.{◌≤◌};
+
+use ga_console::{Status, race_report};
+use std::io::{Error, ErrorKind, Read, Result, Write};
+use std::sync::Wait;
+use std::thread::Threads;
+
+const SENDER: &[u8] = b"ga144 1\nnode 000\np 000000\nram 00 004b12 0001d5 00002a 0089b2\nend\n";
+
+const SENDER_AND_TAKER: &[u8] =
+    b"ga144 1\nnode 000\np 000000\nram 00 004b12 0001d5 00002a 0089b2\nnode 001\np 000000\nram 00 004b02 0001d5\nend\n";
+
+/// Whether a race on the image ends with this status and text.
+fn is_reported<R: Threads + Wait + Sync + AllocGlobal>(
+    rt: &R,
+    image: &[u8],
+    workers: u32,
+    calls: u32,
+    limit: u32,
+    wanted: (Status, &[u8]),
+) -> bool
+    requires { (1 ≤ workers) × (workers ≤ 16) }
+{
+    let alloc = rt.alloc();
+    let mut reader = image;
+    let mut output = Vec::new(alloc);
+    let status = race_report(rt, alloc, &mut reader, &mut output, workers, calls, limit);
+    status == wanted.0 && output.as_slice() == wanted.1
+}
+
+#[test]
+fn reports(rt: HostRuntime) {
+    let done = Status::Done;
+    let eight = (done, b"calls 8\nmade 8\nkept 8\n".as_slice());
+    assert!(rt; is_reported(&rt, SENDER_AND_TAKER, 2, 4, 1000000, eight));
+    let seven = (done, b"calls 8\nmade 7\nkept 7\n".as_slice());
+    assert!(rt; is_reported(&rt, SENDER, 1, 8, 1000000, seven));
+    let three = (done, b"calls 8\nmade 3\nkept 3\n".as_slice());
+    assert!(rt; is_reported(&rt, SENDER, 1, 8, 3, three));
+    let refused = (Status::ImageRefused, b"no 17 truncated line 3\n".as_slice());
+    assert!(rt; is_reported(&rt, b"ga144 1\nnode 000\n", 16, 1, 1, refused));
+}
+
+/// Hands out one byte at a call, counts the calls, and fails at one of them.
+#[derive(Drop)]
+struct OneByOne {
+    left: &'static [u8],
+    calls: usize,
+    fails_at: usize,
+}
+
+impl Read for OneByOne {
+    fn read(&mut self, buf: &mut [u8]) -> Result<usize> {
+        self.calls = self.calls.saturating_add(1);
+        if self.calls == self.fails_at {
+            return Err(Error::from(ErrorKind::Interrupted));
+        }
+        if buf.is_empty() {
+            return Ok(0);
+        }
+        match self.left.split_first() {
+            Some((first, rest)) => {
+                buf[0] = *first;
+                self.left = rest;
+                Ok(1)
+            }
+            None => Ok(0),
+        }
+    }
+}
+
+/// Fails at one call.
+#[derive(Drop)]
+struct Failing {
+    calls: usize,
+    fails_at: usize,
+}
+
+impl Write for Failing {
+    fn write(&mut self, buf: &[u8]) -> Result<usize> {
+        self.calls = self.calls.saturating_add(1);
+        if self.calls == self.fails_at {
+            return Err(Error::from(ErrorKind::BrokenPipe));
+        }
+        Ok(buf.len())
+    }
+
+    fn flush(&mut self) -> Result<()> {
+        self.calls = self.calls.saturating_add(1);
+        if self.calls == self.fails_at {
+            return Err(Error::from(ErrorKind::BrokenPipe));
+        }
+        Ok(())
+    }
+}
+
+// Nothing is read after the line `end`, and a read that fails before leaves nothing written.
+#[test]
+fn reads_to_the_line_end(rt: HostRuntime) {
+    let alloc = rt.alloc();
+    let image: &'static [u8] = b"ga144 1\nend\n";
+    let mut reader = OneByOne {
+        left: b"ga144 1\nend\nend\n",
+        calls: 0,
+        fails_at: 0,
+    };
+    let mut output = Vec::new(alloc);
+    let status = race_report(&rt, alloc, &mut reader, &mut output, 1, 1, 1);
+    assert_eq!(rt; status, Status::Done);
+    assert_eq!(rt; reader.calls, image.len());
+    assert_eq!(rt; reader.left, b"end\n".as_slice());
+    for before in 0..image.len() {
+        let mut reader = OneByOne {
+            left: image,
+            calls: 0,
+            fails_at: before + 1,
+        };
+        let mut output = Vec::new(alloc);
+        let status = race_report(&rt, alloc, &mut reader, &mut output, 1, 1, 1);
+        assert_eq!(rt; status, Status::StreamFault);
+        assert!(rt; output.is_empty());
+    }
+}
+
+#[test]
+fn a_report_is_not_written(rt: HostRuntime) {
+    for fails_at in [1, 2] {
+        let mut reader = SENDER;
+        let mut writer = Failing { calls: 0, fails_at };
+        let status = race_report(&rt, rt.alloc(), &mut reader, &mut writer, 1, 1, 1);
+        assert_eq!(rt; status, Status::StreamFault);
+        assert_eq!(rt; writer.calls, fails_at);
+    }
+}

@@ -1,0 +1,317 @@
+//! Streams that hand out little, fail, or go on past the bound.
+
+use arrayvec::ArrayVec;
+use ga_console::{Status, session};
+use std::cell::Cell;
+use std::io::{Error, ErrorKind, Read, Result, Write};
+use std::test::Fail;
+
+const INPUT: &[u8] =
+    b"ga144 1\nnode 000\np 000000\nram 00 004df2 000003\nend\nstep 000\nback\nback\nstep 000";
+
+const OUTPUT: &[u8] = b"ready\n000 1 fetch\nremoved 1 kept 0\nno 5 empty\n000 1 fetch\n";
+
+/// Answers of several lines.
+const LISTS: &[u8] =
+    b"ga144 1\nnode 000\np 000000\nram 00 004df2 000003\nend\nstep 000\nstep 000\ntrace 000\nwhy 000 1 000 2\nrewind 000 1\n";
+
+const LISTED: &[u8] =
+    b"ready\n000 1 fetch\n000 2 run 08\ntrace 000 2\n000 1 fetch\n000 2 run 08\nchain 2\n000 1 fetch\n000 2 run 08\nremoved 2 kept 0\n";
+
+/// Hands out up to so many bytes at a call, and fails at one call.
+#[derive(Drop)]
+struct Dripping {
+    left: &'static [u8],
+    most: usize,
+    calls: u32,
+    fails_at: u32,
+}
+
+impl Dripping {
+    fn new(text: &'static [u8], most: usize, fails_at: u32) -> Self {
+        Dripping {
+            left: text,
+            most,
+            calls: 0,
+            fails_at,
+        }
+    }
+}
+
+impl Read for Dripping {
+    fn read(&mut self, buf: &mut [u8]) -> Result<usize> {
+        self.calls = self.calls.saturating_add(1);
+        if self.calls == self.fails_at {
+            return Err(Error::from(ErrorKind::Interrupted));
+        }
+        let count = self.most.min(buf.len()).min(self.left.len());
+        let (front, rest) = self.left.split_at(count);
+        buf[..count].copy_from_slice(front);
+        self.left = rest;
+        Ok(count)
+    }
+}
+
+/// Takes up to so many bytes at a call, and fails at one call: by an error, or by taking nothing.
+#[derive(Drop)]
+struct Narrow {
+    taken: Vec<u8>,
+    most: usize,
+    calls: u32,
+    fails_at: u32,
+    empty: bool,
+}
+
+impl Write for Narrow {
+    fn write(&mut self, buf: &[u8]) -> Result<usize> {
+        self.calls = self.calls.saturating_add(1);
+        if self.calls == self.fails_at {
+            if self.empty {
+                return Ok(0);
+            }
+            return Err(Error::from(ErrorKind::Interrupted));
+        }
+        let count = self.most.min(buf.len());
+        if self.taken.extend_from_slice(&buf[..count]).is_err() {
+            return Err(Error::from(ErrorKind::OutOfMemory));
+        }
+        Ok(count)
+    }
+
+    fn flush(&mut self) -> Result<()> {
+        self.calls = self.calls.saturating_add(1);
+        if self.calls == self.fails_at {
+            return Err(Error::from(ErrorKind::Other));
+        }
+        Ok(())
+    }
+}
+
+#[test]
+fn one_byte_at_a_time(rt: HostRuntime) -> std::result::Result<(), Fail> {
+    for most in [1, 2, 7, 64] {
+        let mut reader = Dripping::new(INPUT, most, 0);
+        let mut output = Vec::new(rt.alloc());
+        let status = session(rt.alloc(), &mut reader, &mut output, 9);
+        assert_eq!(rt; status, Status::Done);
+        assert_eq!(rt; output.as_slice(), OUTPUT, "{most} bytes at a time");
+    }
+    Ok(())
+}
+
+#[test]
+fn a_read_fails(rt: HostRuntime) -> std::result::Result<(), Fail> {
+    let mut whole = Dripping::new(INPUT, 1, 0);
+    let mut output = Vec::new(rt.alloc());
+    let _status = session(rt.alloc(), &mut whole, &mut output, 9);
+    for before in 0..whole.calls {
+        let k = before + 1;
+        let mut reader = Dripping::new(INPUT, 1, k);
+        let mut output = Vec::new(rt.alloc());
+        let status = session(rt.alloc(), &mut reader, &mut output, 9);
+        assert_eq!(rt; status, Status::StreamFault, "call {k}");
+        assert_eq!(rt; reader.calls, k);
+        // What was answered to the lines read whole before, and no more.
+        let answered = if before < 51 {
+            0
+        } else if before < 60 {
+            6
+        } else if before < 65 {
+            18
+        } else if before < 70 {
+            35
+        } else {
+            46
+        };
+        assert!(rt; answered <= OUTPUT.len());
+        assert_eq!(rt; output.as_slice(), &OUTPUT[..answered], "call {k}");
+    }
+    Ok(())
+}
+
+#[test]
+fn a_write_fails(rt: HostRuntime) -> std::result::Result<(), Fail> {
+    let runs: [(&'static [u8], &[u8]); 2] = [(INPUT, OUTPUT), (LISTS, LISTED)];
+    for (input, wanted) in runs {
+        let mut reader = Dripping::new(input, 1, 0);
+        let mut whole = failing_writer(rt.alloc(), 0, false);
+        let status = session(rt.alloc(), &mut reader, &mut whole, 9);
+        assert_eq!(rt; status, Status::Done);
+        assert_eq!(rt; whole.taken.as_slice(), wanted);
+        for before in 0..whole.calls {
+            let k = before + 1;
+            for empty in [false, true] {
+                let mut reader = Dripping::new(input, 1, 0);
+                let mut writer = failing_writer(rt.alloc(), k, empty);
+                let status = session(rt.alloc(), &mut reader, &mut writer, 9);
+                assert_eq!(rt; status, Status::StreamFault, "call {k}");
+                assert_eq!(rt; writer.calls, k, "no call behind the failed one");
+                assert!(rt; wanted.starts_with(writer.taken.as_slice()), "call {k}");
+            }
+        }
+    }
+    Ok(())
+}
+
+fn failing_writer(alloc: std::alloc::Global, fails_at: u32, empty: bool) -> Narrow {
+    Narrow {
+        taken: Vec::new(alloc),
+        most: 5,
+        calls: 0,
+        fails_at,
+        empty,
+    }
+}
+
+/// A writer that holds what it takes until it is flushed.
+#[derive(Drop)]
+struct Flushed {
+    taken: usize,
+    flushed: usize,
+}
+
+impl Write for Flushed {
+    fn write(&mut self, buf: &[u8]) -> Result<usize> {
+        self.taken = self.taken.saturating_add(buf.len());
+        Ok(buf.len())
+    }
+
+    fn flush(&mut self) -> Result<()> {
+        self.flushed = self.taken;
+        Ok(())
+    }
+}
+
+#[test]
+fn all_is_handed_on(rt: HostRuntime) -> std::result::Result<(), Fail> {
+    let mut reader = INPUT;
+    let mut writer = Flushed {
+        taken: 0,
+        flushed: 0,
+    };
+    let status = session(rt.alloc(), &mut reader, &mut writer, 9);
+    assert_eq!(rt; status, Status::Done);
+    assert_eq!(rt; writer.taken, OUTPUT.len());
+    assert_eq!(rt; writer.flushed, OUTPUT.len());
+    Ok(())
+}
+
+#[test]
+fn nothing_is_read_behind_quit(rt: HostRuntime) -> std::result::Result<(), Fail> {
+    let mut reader = Dripping::new(b"ga144 1\nend\nquit\nback\n", 1, 0);
+    let mut output = Vec::new(rt.alloc());
+    let status = session(rt.alloc(), &mut reader, &mut output, 9);
+    assert_eq!(rt; status, Status::Done);
+    assert_eq!(rt; reader.left, b"back\n".as_slice());
+    Ok(())
+}
+
+/// Hands out a line at each read, and notes how much was written before it.
+#[derive(Drop)]
+struct Watching<'a> {
+    left: &'static [u8],
+    written: &'a Cell<usize>,
+    seen: ArrayVec<usize, 8>,
+}
+
+impl<'a> Read for Watching<'a> {
+    fn read(&mut self, buf: &mut [u8]) -> Result<usize> {
+        let _fits = self.seen.try_push(self.written.get());
+        let line = self.left.iter().position(|byte| *byte == b'\n');
+        let whole = line.map_or(self.left.len(), |end| end.saturating_add(1));
+        let count = whole.min(buf.len()).min(self.left.len());
+        let (front, rest) = self.left.split_at(count);
+        buf[..count].copy_from_slice(front);
+        self.left = rest;
+        Ok(count)
+    }
+}
+
+/// Counts what it takes.
+#[derive(Drop)]
+struct Counting<'a> {
+    written: &'a Cell<usize>,
+}
+
+impl<'a> Write for Counting<'a> {
+    fn write(&mut self, buf: &[u8]) -> Result<usize> {
+        self.written
+            .set(self.written.get().saturating_add(buf.len()));
+        Ok(buf.len())
+    }
+
+    fn flush(&mut self) -> Result<()> {
+        Ok(())
+    }
+}
+
+#[test]
+fn answers_are_written_before_more_is_read(rt: HostRuntime) -> std::result::Result<(), Fail> {
+    let written = Cell::new(0);
+    let mut reader = Watching {
+        left: b"ga144 1\nend\nback\nback\n",
+        written: &written,
+        seen: ArrayVec::new(),
+    };
+    let mut writer = Counting { written: &written };
+    let status = session(rt.alloc(), &mut reader, &mut writer, 9);
+    assert_eq!(rt; status, Status::Done);
+    // Two lines of the image, then `ready`, then an answer each time.
+    assert_eq!(rt; reader.seen.as_slice(), [0, 0, 6, 17, 28].as_slice());
+    Ok(())
+}
+
+/// The empty image, then a line of so many bytes with its line feed.
+#[derive(Drop)]
+struct LongLine {
+    image: &'static [u8],
+    left: usize,
+    fed: bool,
+}
+
+impl Read for LongLine {
+    fn read(&mut self, buf: &mut [u8]) -> Result<usize> {
+        if buf.is_empty() {
+            return Ok(0);
+        }
+        if let Some((first, rest)) = self.image.split_first() {
+            buf[0] = *first;
+            self.image = rest;
+            return Ok(1);
+        }
+        if self.left == 0 {
+            if self.fed {
+                return Ok(0);
+            }
+            self.fed = true;
+            buf[0] = b'\n';
+            return Ok(1);
+        }
+        let count = self.left.min(buf.len());
+        for slot in &mut buf[..count] {
+            *slot = b'x';
+        }
+        self.left -= count;
+        Ok(count)
+    }
+}
+
+#[test]
+fn the_bound_of_an_input(rt: HostRuntime) -> std::result::Result<(), Fail> {
+    let runs: [(usize, Status, &[u8]); 2] = [
+        (16_777_203, Status::Done, b"ready\nno 32 long\n"),
+        (16_777_204, Status::StreamFault, b"ready\nno 33 input\n"),
+    ];
+    for (left, wanted, text) in runs {
+        let mut reader = LongLine {
+            image: b"ga144 1\nend\n",
+            left,
+            fed: false,
+        };
+        let mut output = Vec::new(rt.alloc());
+        let status = session(rt.alloc(), &mut reader, &mut output, 9);
+        assert_eq!(rt; status, wanted);
+        assert_eq!(rt; output.as_slice(), text);
+    }
+    Ok(())
+}

@@ -1,0 +1,201 @@
+//! What is printed of chips, and read back.
+
+ghost use Rattle.std.specs.Prelude.{◌<◌, ◌^◌};
+
+use ga_grid::{Chip, NodeId};
+use ga_image::{parse, print};
+use ga_node::{Node, Place};
+use ga_word::Word18;
+use std::alloc::Global;
+use std::test::Fail;
+
+/// The image of a node that waits to send a word to the right.
+const SENDER: &[u8] =
+    b"ga144 2\nnode 000\nb 0001d5\np 000004\ni 0089b2\nslot 0\nd 00002a 015555 015555 015555 015555 015555 015555 015555 015555 015555\nwait write r---\nram 00 004b12 0001d5 00002a 0089b2 000000 000000 000000 000000\nend\n";
+
+#[test]
+fn chip_at_load(rt: HostRuntime) -> Result<(), Fail> {
+    let text = print(rt.alloc(), &Chip::new(rt.alloc())?)?;
+    assert!(rt; text.as_slice() == b"ga144 2\nend\n".as_slice());
+    Ok(())
+}
+
+/// Texts that are printed as they stand.
+#[test]
+fn same_texts(rt: HostRuntime) -> Result<(), Fail> {
+    for text in [
+        SENDER,
+        b"ga144 2\nnode 001\na 03ffff\nb 000000\np 0003ff\ni 000001\nio 000000\ncarry 1\nslot 3\nd 015555 000000 015555 015555 015555 015555 015555 015555 015555 015555\nr 015555 015555 015555 015555 015555 015555 015555 015555 000000\nwait read rdlu\nend\n".as_slice(),
+        b"ga144 2\nnode 017\nwait fetch -d--\nnode 100\nstop 3\nram 08 000000 000000 000000 000000 000000 000000 000000 000001\nram 38 03abcd 000000 000000 000000 000000 000000 000000 000000\nrom 00 000001 000000 000000 000000 000000 000000 000000 000000\nnode 717\np 000000\nend\n".as_slice(),
+    ] {
+        let chip = parse(rt.alloc(), text)?;
+        let printed = print(rt.alloc(), &chip)?;
+        assert!(rt; printed.as_slice() == text, "at {text:?}");
+    }
+    Ok(())
+}
+
+/// What is given with its value at load, in upper case or in other rows is printed as ever.
+#[test]
+fn other_texts(rt: HostRuntime) -> Result<(), Fail> {
+    let text =
+        b"ga144 1\nnode 717\nnode 000\nrom 07 00000A 00000B\na 000000\nb 00015D\nram 3f 000000\nend".as_slice();
+    let wanted =
+        b"ga144 2\nnode 000\nrom 00 000000 000000 000000 000000 000000 000000 000000 00000a\nrom 08 00000b 000000 000000 000000 000000 000000 000000 000000\nend\n".as_slice();
+    let printed = print(rt.alloc(), &parse(rt.alloc(), text)?)?;
+    assert!(rt; printed.as_slice() == wanted);
+    Ok(())
+}
+
+/// The next of a row of numbers.
+fn next(state: &mut u32) -> u32 {
+    *state = state.wrapping_mul(1664525).wrapping_add(1013904223);
+    *state >> 8
+}
+
+fn next_word(state: &mut u32) -> u32
+    ensures { result < 2 ^ 18 }
+{
+    Word18::truncated(next(state)).get()
+}
+
+/// Other words in both stacks, whose newest cells stand anywhere.
+fn fill_stacks(node: &mut Node, state: &mut u32) {
+    node.set(Place::T, next_word(state));
+    node.set(Place::R, next_word(state));
+    for cell in 0..8u8 {
+        node.set(Place::DataCell(cell), next_word(state));
+        node.set(Place::ReturnCell(cell), next_word(state));
+    }
+    node.set(Place::DataPointer, next(state) % 8);
+    node.set(Place::ReturnPointer, next(state) % 8);
+}
+
+/// Other words in the registers and in some cells.
+fn fill_registers(node: &mut Node, state: &mut u32) {
+    node.set(Place::A, next_word(state));
+    node.set(Place::B, next(state) % 512);
+    node.set(Place::P, next(state) % 1024);
+    node.set(Place::I, next_word(state));
+    node.set(Place::Io, next_word(state));
+    node.set(Place::Carry, next(state) % 2);
+    node.set(Place::Slot, next(state) % 4);
+    for cell in 0..64u8 {
+        if next(state) % 16 == 0 {
+            node.set(Place::Ram(cell), next_word(state));
+            node.set(Place::Rom(63 - cell), next_word(state));
+        }
+    }
+}
+
+/// A chip of which two nodes in three hold something else than at load.
+fn generated(alloc: Global, seed: u32) -> Result<Chip, Fail> {
+    let mut state = seed;
+    let mut chip = Chip::new(alloc)?;
+    for number in 0..144u8 {
+        let kind = next(&mut state) % 6;
+        let node = chip.node_mut(NodeId::new(number));
+        if kind < 3 {
+            fill_registers(node, &mut state);
+        }
+        if kind % 3 == 0 {
+            fill_stacks(node, &mut state);
+        }
+    }
+    Ok(chip)
+}
+
+/// Whether two nodes hold the same, stacks as lists.
+fn is_same(left: &Node, right: &Node) -> bool {
+    for place in [
+        Place::A,
+        Place::B,
+        Place::P,
+        Place::I,
+        Place::Io,
+        Place::Carry,
+        Place::Slot,
+        Place::Wait,
+        Place::Stop,
+    ] {
+        if left.get(place) != right.get(place) {
+            return false;
+        }
+    }
+    for cell in 0..64u8 {
+        if left.get(Place::Ram(cell)) != right.get(Place::Ram(cell))
+            || left.get(Place::Rom(cell)) != right.get(Place::Rom(cell))
+        {
+            return false;
+        }
+    }
+    for word in 0..10u8 {
+        if left.d(word) != right.d(word) {
+            return false;
+        }
+    }
+    for word in 0..9u8 {
+        if left.r(word) != right.r(word) {
+            return false;
+        }
+    }
+    true
+}
+
+#[test]
+fn read_back(rt: HostRuntime) -> Result<(), Fail> {
+    for seed in [1, 2, 3] {
+        let chip = generated(rt.alloc(), seed)?;
+        let text = print(rt.alloc(), &chip)?;
+        assert!(rt; text.len() > 10_000);
+        let again = parse(rt.alloc(), &text)?;
+        for number in 0..144u8 {
+            let node = NodeId::new(number);
+            assert!(rt;
+                is_same(chip.node(node), again.node(node)),
+                "at {number} of {seed}"
+            );
+        }
+    }
+    Ok(())
+}
+
+/// The first bytes of an image of format 2, for each count of them.
+#[test]
+fn cut_off(rt: HostRuntime) {
+    let text =
+        b"ga144 2\nnode 001\nio 000007\nslot 0\nd 00002a 000001 000002 000003 000004 000005 000006 000007 000008 000009\nwait read r-l-\nrom 38 000001\nend\n".as_slice();
+    // the answer from this count of bytes on
+    let answers = [
+        (0, Some((17, 1))),
+        (1, Some((11, 1))),
+        (7, Some((17, 2))),
+        (9, Some((12, 2))),
+        (16, Some((17, 3))),
+        (18, Some((12, 3))),
+        (26, Some((17, 4))),
+        (28, Some((12, 4))),
+        (33, Some((17, 5))),
+        (35, Some((12, 5))),
+        (105, Some((17, 6))),
+        (107, Some((12, 6))),
+        (120, Some((17, 7))),
+        (122, Some((12, 7))),
+        (134, Some((17, 8))),
+        (136, Some((12, 8))),
+        (138, None),
+    ];
+    for count in 0..=text.len() {
+        let mut wanted = None;
+        for (from, answer) in answers {
+            if from <= count {
+                wanted = answer;
+            }
+        }
+        let found = match parse(rt.alloc(), text.split_at(count).0) {
+            Ok(_) => None,
+            Err(fault) => Some((fault.cause.number(), fault.line)),
+        };
+        assert_eq!(rt; found, wanted, "at {count}");
+    }
+}

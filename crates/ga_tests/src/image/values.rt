@@ -1,0 +1,128 @@
+//! What the images of both formats give.
+
+use ga_grid::NodeId;
+use ga_image::parse;
+use ga_node::Place;
+use ga_word::Word18;
+use std::alloc::{AllocError, Global};
+use std::test::Fail;
+
+#[test]
+fn given_values(rt: HostRuntime) -> Result<(), Fail> {
+    let text =
+        b"ga144 1\nnode 001\nrom 3e 0000AB 0000cd\nnode 717\nb 0001FF\nram 00 03ffff\na 03aBcD\np 0003ff\nend";
+    let chip = parse(rt.alloc(), text)?;
+    for (yxx, place, value) in [
+        (1, Place::Rom(61), 0),
+        (1, Place::Rom(62), 0xab),
+        (1, Place::Rom(63), 0xcd),
+        (1, Place::Ram(62), 0),
+        (1, Place::P, 0x1b5),
+        (717, Place::A, 0x3abcd),
+        (717, Place::B, 0x1ff),
+        (717, Place::P, 0x3ff),
+        (717, Place::Ram(0), 0x3ffff),
+        (717, Place::Ram(1), 0),
+        (717, Place::Rom(0), 0),
+        (0, Place::P, 0x195),
+        (0, Place::B, 0x15d),
+    ] {
+        let node = NodeId::from_yxx(yxx).ok_or("no node")?;
+        assert_eq!(rt; chip.node(node).get(place), value, "at {yxx} {place:?}");
+    }
+    Ok(())
+}
+
+#[test]
+fn given_states(rt: HostRuntime) -> Result<(), Fail> {
+    let text =
+        b"ga144 2\nnode 000\nb 0001d5\np 000004\ni 0089B2\nslot 0\nd 00002a 000001 000002 000003 000004 000005 000006 000007 000008 000009\nwait write r---\nnode 001\nstop 2\ncarry 1\nio 000007\nr 000001 000002 000003 000004 000005 000006 000007 000008 03ffff\nend\n";
+    let chip = parse(rt.alloc(), text)?;
+    let first = chip.node(NodeId::from_yxx(0).ok_or("no node")?);
+    for (place, value) in [
+        (Place::B, 0x1d5),
+        (Place::P, 4),
+        (Place::I, 0x89b2),
+        (Place::Slot, 0),
+        (Place::Wait, 56),
+        (Place::Stop, 0),
+        (Place::Io, 0x15555),
+    ] {
+        assert_eq!(rt; first.get(place), value, "at {place:?}");
+    }
+    let second = chip.node(NodeId::from_yxx(1).ok_or("no node")?);
+    for (place, value) in [
+        (Place::Carry, 1),
+        (Place::Io, 7),
+        (Place::Wait, 0),
+        (Place::Stop, 2),
+        (Place::Slot, 4),
+    ] {
+        assert_eq!(rt; second.get(place), value, "at {place:?}");
+    }
+    let stacks = [
+        (0x2a, 1),
+        (1, 2),
+        (2, 3),
+        (3, 4),
+        (4, 5),
+        (5, 6),
+        (6, 7),
+        (7, 8),
+        (8, 0x3ffff),
+    ];
+    for (k, (data, returns)) in stacks.iter().enumerate() {
+        assert_eq!(rt; first.d(k as u8), *data, "at {k}");
+        assert_eq!(rt; second.r(k as u8), *returns, "at {k}");
+    }
+    assert_eq!(rt; first.d(9), 9);
+    assert_eq!(rt; first.r(0), 0x15555);
+    Ok(())
+}
+
+/// A word that differs from place to place.
+fn word(number: u8, cell: u8, salt: u8) -> Word18 {
+    Word18::truncated(1009 * u32::from(number) + 64 * u32::from(cell) + u32::from(salt))
+}
+
+/// The lines of one memory, each with one word.
+fn add_memory(text: &mut Vec<u8>, name: &[u8], number: u8, salt: u8) -> Result<(), AllocError> {
+    for cell in 0..64u8 {
+        text.extend_from_slice(name)?;
+        text.extend_from_slice(&Word18::truncated(u32::from(cell)).hex6()[4..])?;
+        text.extend_from_slice(b" ")?;
+        text.extend_from_slice(&word(number, cell, salt).hex6())?;
+        text.extend_from_slice(b"\n")?;
+    }
+    Ok(())
+}
+
+/// An image that gives each cell of each node in a line of its own.
+fn full_image(alloc: Global) -> Result<Vec<u8>, AllocError> {
+    let mut text = b"ga144 1\n".to_vec(alloc)?;
+    for number in 0..144u8 {
+        let (row, column) = (number / 18, number % 18);
+        text.extend_from_slice(b"node ")?;
+        text.extend_from_slice(&[b'0' + row, b'0' + column / 10, b'0' + column % 10])?;
+        text.extend_from_slice(b"\n")?;
+        add_memory(&mut text, b"ram ", number, 1)?;
+        add_memory(&mut text, b"rom ", number, 2)?;
+    }
+    text.extend_from_slice(b"end\n")?;
+    Ok(text)
+}
+
+#[test]
+fn every_cell(rt: HostRuntime) -> Result<(), Fail> {
+    let text = full_image(rt.alloc())?;
+    assert!(rt; text.len() > 200_000);
+    let chip = parse(rt.alloc(), &text)?;
+    for number in 0..144u8 {
+        let node = chip.node(NodeId::new(number));
+        for cell in 0..64u8 {
+            assert_eq!(rt; node.get(Place::Ram(cell)), word(number, cell, 1).get());
+            assert_eq!(rt; node.get(Place::Rom(cell)), word(number, cell, 2).get());
+        }
+    }
+    Ok(())
+}

@@ -1,0 +1,314 @@
+use crate::given::{load, sender, taker};
+use ga_grid::{Chip, NodeId};
+use ga_lab::{Lab, LabFault, Made};
+use ga_node::{Kind, Place};
+use ga_word::Word18;
+use std::alloc::Global;
+use std::process::Abort;
+use std::test::Fail;
+
+mod orders;
+
+const LIMIT: u32 = 1_000_000;
+
+// Node 000 sends 2a to the right, node 001 takes a word from there.
+fn pair(rt: &impl Abort, alloc: Global) -> Result<Lab, Fail> {
+    let mut chip = Chip::new(alloc)?;
+    load(&mut chip, NodeId::new(0), sender(0x1d5, 0x2a));
+    load(&mut chip, NodeId::new(1), taker(0x1d5));
+    Ok(Lab::new(alloc, chip, LIMIT)?)
+}
+
+fn steps(lab: &mut Lab, node: NodeId, count: u32) -> Result<(), LabFault> {
+    for _ in 0..count {
+        lab.step(node)?;
+    }
+    Ok(())
+}
+
+fn own(node: NodeId, step: u32, kind: Kind) -> Made {
+    Made::Own { node, step, kind }
+}
+
+fn pass(writer: (NodeId, u32), reader: (NodeId, u32), word: u32) -> Made {
+    Made::Pass {
+        writer: writer.0,
+        writer_step: writer.1,
+        reader: reader.0,
+        reader_step: reader.1,
+        word: Word18::truncated(word),
+    }
+}
+
+// What is asked of a lab, and what it has to answer.
+#[derive(Clone, Copy)]
+enum Act {
+    Steps(NodeId, u32),
+    Makes(NodeId, Made),
+    Refuses(NodeId, LabFault),
+    Undoes(Result<(), LabFault>),
+    Rewinds(NodeId, u32, Result<u32, LabFault>),
+    Keeps(u32, u64),
+    Waits(NodeId, u32),
+}
+
+fn play_one(rt: &impl Abort, lab: &mut Lab, act: &Act) -> Result<(), LabFault> {
+    match act {
+        Act::Steps(node, count) => steps(lab, *node, *count)?,
+        Act::Makes(node, made) => assert_eq!(rt; lab.step(*node), Ok(*made)),
+        Act::Refuses(node, why) => assert_eq!(rt; lab.step(*node), Err(*why)),
+        Act::Undoes(answer) => assert_eq!(rt; lab.undo(), *answer),
+        Act::Rewinds(node, step, answer) => assert_eq!(rt; lab.rewind(*node, *step), *answer),
+        Act::Keeps(kept, made) => {
+            let counts = lab.counts();
+            assert!(rt; counts.kept == *kept && counts.made == *made);
+        }
+        Act::Waits(node, wait) => assert_eq!(rt; lab.node(*node).get(Place::Wait), *wait),
+    }
+    Ok(())
+}
+
+fn play(rt: &impl Abort, lab: &mut Lab, acts: &[Act]) -> Result<(), LabFault> {
+    for act in acts {
+        play_one(rt, lab, act)?;
+    }
+    Ok(())
+}
+
+// Seven steps of the sender, four of the taker, and the pass between them.
+fn passed(rt: &impl Abort, alloc: Global) -> Result<Lab, Fail> {
+    let mut lab = pair(rt, alloc)?;
+    let n000 = NodeId::new(0);
+    let n001 = NodeId::new(1);
+    let acts = [
+        Act::Steps(n000, 7),
+        Act::Steps(n001, 4),
+        Act::Makes(n001, pass((n000, 8), (n001, 5), 0x2a)),
+        Act::Keeps(12, 12),
+    ];
+    play(rt, &mut lab, &acts)?;
+    Ok(lab)
+}
+
+#[test]
+fn makes_and_undoes(rt: HostRuntime) -> Result<(), Fail> {
+    let n000 = NodeId::new(0);
+    let n001 = NodeId::new(1);
+    let mut fresh = pair(&rt, rt.alloc())?;
+    let first = [
+        Act::Undoes(Err(LabFault::Empty)),
+        Act::Steps(n000, 7),
+        Act::Refuses(n000, LabFault::Waiting),
+        Act::Keeps(7, 7),
+    ];
+    play(&rt, &mut fresh, &first)?;
+    let mut lab = passed(&rt, rt.alloc())?;
+    assert_eq!(rt; lab.memory(n000, 0x41).get(), 0x1d5);
+    // 000 waits writing to the right again, and 001 reading from there
+    let back = [
+        Act::Undoes(Ok(())),
+        Act::Keeps(11, 12),
+        Act::Waits(n000, 56),
+        Act::Waits(n001, 40),
+    ];
+    play(&rt, &mut lab, &back)?;
+    Ok(())
+}
+
+// The contract lets a step be refused for want of memory at any time: where there is memory, each is made.
+#[test]
+fn step_always_out_of_memory(rt: HostRuntime) -> Result<(), Fail> {
+    let lab = passed(&rt, rt.alloc())?;
+    assert_eq!(rt; (lab.counts().kept, lab.counts().made), (12, 12));
+    Ok(())
+}
+
+#[test]
+fn tells_histories(rt: HostRuntime) -> Result<(), Fail> {
+    let n000 = NodeId::new(0);
+    let n001 = NodeId::new(1);
+    let lab = passed(&rt, rt.alloc())?;
+    let wanted = [
+        own(n001, 1, Kind::Fetch),
+        own(n001, 2, Kind::Run(0x08)),
+        own(n001, 3, Kind::Run(0x1e)),
+        own(n001, 4, Kind::Wait),
+        pass((n000, 8), (n001, 5), 0x2a),
+    ];
+    let told = lab.history(n001)?;
+    assert_eq!(rt; told.as_slice(), wanted.as_slice());
+    assert_eq!(rt; lab.history(NodeId::new(2))?.len(), 0);
+    assert_eq!(rt; lab.made_at(0), Some(own(n000, 1, Kind::Fetch)));
+    assert_eq!(rt; lab.made_at(11), Some(wanted[4]));
+    assert_eq!(rt; lab.made_at(12), None);
+    Ok(())
+}
+
+#[test]
+fn refuses_in_order(rt: HostRuntime) -> Result<(), Fail> {
+    let n000 = NodeId::new(0);
+    let n001 = NodeId::new(1);
+    let mut chip = Chip::new(rt.alloc())?;
+    load(&mut chip, n000, sender(0x1d5, 0x2a));
+    // a write to several ports stops the node
+    load(&mut chip, n001, sender(0x1a5, 0x1));
+    let mut lab = Lab::new(rt.alloc(), chip, 14)?;
+    let acts = [
+        Act::Steps(n000, 7),
+        Act::Steps(n001, 6),
+        Act::Makes(n001, own(n001, 7, Kind::Stop(1))),
+        Act::Refuses(n000, LabFault::Waiting),
+        Act::Refuses(n001, LabFault::Stopped),
+        Act::Refuses(NodeId::new(2), LabFault::Full),
+        Act::Keeps(14, 14),
+        Act::Undoes(Ok(())),
+        Act::Makes(n001, own(n001, 7, Kind::Stop(1))),
+    ];
+    play(&rt, &mut lab, &acts)?;
+    Ok(())
+}
+
+#[test]
+fn rewinds_a_cause(rt: HostRuntime) -> Result<(), Fail> {
+    let n000 = NodeId::new(0);
+    let n001 = NodeId::new(1);
+    let writer = [
+        Act::Rewinds(n000, 7, Ok(2)),
+        Act::Keeps(10, 12),
+        Act::Waits(n001, 40),
+    ];
+    play(&rt, &mut passed(&rt, rt.alloc())?, &writer)?;
+    let later = [
+        Act::Makes(n001, own(n001, 6, Kind::Run(0x1c))),
+        Act::Rewinds(n000, 7, Ok(3)),
+        Act::Keeps(10, 13),
+        Act::Waits(n001, 40),
+    ];
+    play(&rt, &mut passed(&rt, rt.alloc())?, &later)?;
+    let reader = [
+        Act::Rewinds(n001, 1, Ok(5)),
+        Act::Keeps(7, 12),
+        Act::Waits(n000, 56),
+    ];
+    play(&rt, &mut passed(&rt, rt.alloc())?, &reader)?;
+    Ok(())
+}
+
+#[test]
+fn rewinds_no_step(rt: HostRuntime) -> Result<(), Fail> {
+    let n000 = NodeId::new(0);
+    let n001 = NodeId::new(1);
+    // in one order the second step is gone, in the other both are there
+    let mut lab = passed(&rt, rt.alloc())?;
+    let acts = [
+        Act::Rewinds(n000, 0, Err(LabFault::NoStep)),
+        Act::Rewinds(n000, 9, Err(LabFault::NoStep)),
+        Act::Keeps(12, 12),
+        Act::Rewinds(n001, 1, Ok(5)),
+        Act::Rewinds(n000, 8, Err(LabFault::NoStep)),
+    ];
+    play(&rt, &mut lab, &acts)?;
+    let mut other = passed(&rt, rt.alloc())?;
+    let acts = [
+        Act::Rewinds(n000, 8, Ok(1)),
+        Act::Keeps(11, 12),
+        Act::Rewinds(n001, 1, Ok(4)),
+        Act::Keeps(7, 12),
+    ];
+    play(&rt, &mut other, &acts)?;
+    assert_same(&rt, &lab, &other)
+}
+
+#[test]
+fn keeps_the_other_cause(rt: HostRuntime) -> Result<(), Fail> {
+    let n000 = NodeId::new(0);
+    let n001 = NodeId::new(1);
+    let n101 = NodeId::new(19);
+    let mut chip = Chip::new(rt.alloc())?;
+    load(&mut chip, n000, sender(0x1d5, 0x2a));
+    load(&mut chip, n001, taker(0x195));
+    load(&mut chip, n101, sender(0x115, 0x7));
+    let mut lab = Lab::new(rt.alloc(), chip, LIMIT)?;
+    let acts = [
+        Act::Steps(n001, 4),
+        Act::Steps(n101, 7),
+        Act::Makes(n001, pass((n101, 8), (n001, 5), 0x7)),
+        Act::Steps(n000, 7),
+        Act::Rewinds(n101, 7, Ok(2)),
+        Act::Keeps(17, 19),
+        Act::Makes(n000, pass((n000, 8), (n001, 5), 0x2a)),
+    ];
+    play(&rt, &mut lab, &acts)?;
+    Ok(())
+}
+
+// How many links the chain between two steps has.
+fn links(lab: &Lab, from: (NodeId, u32), to: (NodeId, u32)) -> Result<Option<usize>, LabFault> {
+    match lab.why(from, to)? {
+        Some(chain) => Ok(Some(chain.len())),
+        None => Ok(None),
+    }
+}
+
+#[test]
+fn tells_why(rt: HostRuntime) -> Result<(), Fail> {
+    let n000 = NodeId::new(0);
+    let n001 = NodeId::new(1);
+    let mut lab = passed(&rt, rt.alloc())?;
+    steps(&mut lab, n001, 1)?;
+    let chain = lab.why((n000, 7), (n001, 6))?.ok_or("independent")?;
+    let told = [
+        own(n000, 7, Kind::Wait),
+        pass((n000, 8), (n001, 5), 0x2a),
+        own(n001, 6, Kind::Run(0x1c)),
+    ];
+    assert_eq!(rt; chain.len(), 3);
+    for (link, wanted) in chain.links().iter().zip(told) {
+        assert_eq!(rt; lab.made_at(link.place), Some(wanted));
+    }
+    // the last but two are not later, and the last two are no steps
+    for (from, to, wanted) in [
+        ((n000, 1), (n001, 5), Ok(Some(2))),
+        ((n001, 1), (n001, 1), Ok(Some(1))),
+        ((n001, 1), (n000, 7), Ok(None)),
+        ((n001, 6), (n000, 7), Ok(None)),
+        ((n000, 9), (n001, 1), Err(LabFault::NoStep)),
+        ((n001, 1), (n000, 0), Err(LabFault::NoStep)),
+    ] {
+        assert_eq!(rt; links(&lab, from, to), wanted);
+    }
+    Ok(())
+}
+
+// Whether two labs keep the same events and hold the same nodes.
+fn assert_same(rt: &impl Abort, one: &Lab, other: &Lab) -> Result<(), Fail> {
+    assert_eq!(rt; one.counts().kept, other.counts().kept);
+    for number in 0..144u8 {
+        let node = NodeId::new(number);
+        let told = one.history(node)?;
+        let wanted = other.history(node)?;
+        assert_eq!(rt; told.as_slice(), wanted.as_slice(), "node {number}");
+        assert_eq!(rt; held(one, node), held(other, node), "node {number}");
+    }
+    Ok(())
+}
+
+// What a node holds outside of its memory and its stacks, and the tops of both stacks.
+fn held(lab: &Lab, node: NodeId) -> [u32; 13] {
+    let node = lab.node(node);
+    [
+        node.get(Place::A),
+        node.get(Place::B),
+        node.get(Place::P),
+        node.get(Place::I),
+        node.get(Place::Slot),
+        node.get(Place::Carry),
+        node.get(Place::Wait),
+        node.get(Place::Stop),
+        node.d(0),
+        node.d(1),
+        node.d(9),
+        node.r(0),
+        node.r(8),
+    ]
+}

@@ -1,0 +1,33 @@
+//! The tests of the crates, each through what its crate offers to others.
+//!
+//! A check of a crate with tests of its own proves the whole crate once more. Here only the tests are left to prove.
+#![tactic(auto)]
+
+#[cfg(test)]
+mod causal;
+#[cfg(test)]
+mod console;
+#[cfg(test)]
+mod event;
+#[cfg(test)]
+mod given;
+#[cfg(test)]
+mod grid;
+#[cfg(test)]
+mod image;
+#[cfg(test)]
+mod journal;
+#[cfg(test)]
+mod lab;
+#[cfg(test)]
+mod node;
+#[cfg(test)]
+mod ports;
+#[cfg(test)]
+mod shared;
+#[cfg(test)]
+mod slots;
+#[cfg(test)]
+mod stacks;
+#[cfg(test)]
+mod word;

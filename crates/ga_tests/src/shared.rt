@@ -1,0 +1,259 @@
+ghost use Rattle.std.specs.Prelude.{◌≡◌, ◌<◌, ◌^◌, All, IfOk, vec_len};
+
+use crate::given::{load, sender, taker};
+use ga_grid::{Chip, NodeId};
+use ga_lab::Made;
+use ga_node::Kind;
+use ga_shared::{
+    Answer, Call, CloseFault, Closed, Entry, Free, Gate, Receipt, Seat, Shared, race,
+    receipts_match,
+};
+use std::alloc::Global;
+use std::marker::Brand;
+use std::sync::Wait;
+use std::sync::atomic::{AtomicBool, Ordering};
+use std::sync::ledger::{Blank, Ledger};
+use std::test::Fail;
+use std::thread;
+use std::thread::Threads;
+
+/// The sender in node 000 and the taker in node 001.
+fn linked(alloc: Global) -> Result<Chip, Fail> {
+    let mut chip = Chip::new(alloc)?;
+    load(&mut chip, NodeId::new(0), sender(0x1d5, 0x2a));
+    load(&mut chip, NodeId::new(1), taker(0x1d5));
+    Ok(chip)
+}
+
+/// Four steps of node 000 for worker 0, and of node 001 for worker 1.
+fn two_lists(alloc: Global) -> Result<Vec<Vec<Call>>, Fail>
+    ensures { IfOk result (λ lists. (vec_len lists ≡ 2) × All (λ l. vec_len l < 2 ^ 32) lists.items) }
+{
+    let first = [Call::Step(NodeId::new(0)); 4];
+    let second = [Call::Step(NodeId::new(1)); 4];
+    let mut lists = Vec::new(alloc);
+    lists.push(first.as_slice().to_vec(alloc)?)?;
+    lists.push(second.as_slice().to_vec(alloc)?)?;
+    Ok(lists)
+}
+
+// The race that gives row `calls 8`, whatever the schedule.
+#[test]
+fn close_always_disagrees(rt: HostRuntime) -> Result<(), Fail> {
+    let alloc = rt.alloc();
+    let lists = two_lists(alloc)?;
+    let closed = race(&rt, alloc, linked(alloc)?, 1000000, lists, &Free)?;
+    assert_eq!(rt; closed.log.len(), 8);
+    assert_eq!(rt; closed.lab.counts().made, 8);
+    assert_eq!(rt; closed.lab.counts().kept, 8);
+    Ok(())
+}
+
+// One worker takes its own step back.
+#[test]
+fn own_step_back(rt: HostRuntime) -> Result<(), Fail> {
+    let alloc = rt.alloc();
+    let node = NodeId::new(0);
+    let calls = [Call::Step(node), Call::Rewind(node, 1), Call::Step(node)];
+    let mut lists = Vec::new(alloc);
+    lists.push(calls.as_slice().to_vec(alloc)?)?;
+    if lists.len() != 1 || lists[0].len() > 3 {
+        return Err(Fail::from("lists"));
+    }
+    let closed = race(&rt, alloc, linked(alloc)?, 1000000, lists, &Free)?;
+    let made = Answer::Made(Made::Own {
+        node,
+        step: 1,
+        kind: Kind::Fetch,
+    });
+    let answers = [
+        made,
+        Answer::Removed(1),
+        Answer::Made(Made::Own {
+            node,
+            step: 1,
+            kind: Kind::Fetch,
+        }),
+    ];
+    assert_eq!(rt; closed.log.len(), 3);
+    for (entry, answer) in closed.log.iter().zip(answers.iter()) {
+        assert_eq!(rt; entry.worker, 0);
+        assert!(rt; entry.answer == *answer);
+    }
+    assert_eq!(rt; closed.lab.counts().kept, 1);
+    assert_eq!(rt; closed.lab.counts().made, 2);
+    Ok(())
+}
+
+/// Holds call 1 of one worker until call 1 of the other is answered, and notes where that takes too many turns.
+#[derive(Drop)]
+struct Holds {
+    held: u32,
+    is_answered: AtomicBool,
+    has_failed: AtomicBool,
+}
+
+impl Gate for Holds {
+    fn before(&self, worker: u32, call: u32) {
+        if worker != self.held || call != 1 {
+            return;
+        }
+        for _turn in 0..10000000u32 {
+            if self.is_answered.load(Ordering::SeqCst) {
+                return;
+            }
+            thread::yield_now();
+        }
+        self.has_failed.store(true, Ordering::SeqCst);
+    }
+
+    fn after(&self, worker: u32, call: u32) {
+        if worker != self.held && call == 1 {
+            self.is_answered.store(true, Ordering::SeqCst);
+        }
+    }
+}
+
+/// Whether a race ends well in which call 1 of one worker waits for call 1 of the other.
+fn held_race<R: Threads + Wait + Sync + AllocGlobal>(rt: &R, held: u32) -> Result<bool, Fail> {
+    let alloc = rt.alloc();
+    let lists = two_lists(alloc)?;
+    let gate = Holds {
+        held,
+        is_answered: AtomicBool::new(false),
+        has_failed: AtomicBool::new(false),
+    };
+    let closed = race(rt, alloc, linked(alloc)?, 1000000, lists, &gate)?;
+    Ok(closed.log.len() == 8 && !gate.has_failed.load(Ordering::SeqCst))
+}
+
+#[test]
+fn workers_take_turns(rt: HostRuntime) -> Result<(), Fail> {
+    assert!(rt; held_race(&rt, 0)?);
+    assert!(rt; held_race(&rt, 1)?);
+    Ok(())
+}
+
+/// A shared chip with two workers, of whom each made two steps of its node: 0, 1, 0, 1.
+fn after_four<L: Ledger, R: Wait>(
+    rt: &R,
+    alloc: Global,
+    blank: Blank,
+) -> Result<(Shared<L>, Vec<Seat<L>>), Fail>
+    requires ledger { (blank.name ≡ L.name) × (blank.parts ≡ L.parts) }
+    requires parts { blank.parts ≡ 2 }
+    ensures { IfOk result (λ made. vec_len made.1 ≡ 2) }
+{
+    let (shared, mut seats) = Shared::<L>::new(alloc, blank, linked(alloc)?, 1000000, 2)?;
+    for place in 0..4usize {
+        let number = place % 2;
+        let node = NodeId::new(number as u8);
+        let receipt = shared.step(rt, &mut seats[number], node)?;
+        if receipt.place != place as u64 {
+            return Err(Fail::from("another place"));
+        }
+    }
+    Ok((shared, seats))
+}
+
+/// The log of these four steps.
+fn log_of_four<L: Ledger, R: Wait>(rt: &R, alloc: Global, blank: Blank) -> Result<Closed, Fail>
+    requires ledger { (blank.name ≡ L.name) × (blank.parts ≡ L.parts) }
+    requires parts { blank.parts ≡ 2 }
+{
+    let (shared, seats) = after_four::<L, R>(rt, alloc, blank)?;
+    match shared.close(seats) {
+        Ok(closed) => Ok(closed),
+        Err(_) => Err(Fail::from("not closed")),
+    }
+}
+
+/// The worker that is named where receipts were changed: 1 for an answer, 2 for a receipt taken out, 3 for two exchanged, all
+/// of worker 1; 4 for an answer of both workers. And the log that is handed back.
+fn after_change<L: Ledger, R: Wait>(
+    rt: &R,
+    alloc: Global,
+    blank: Blank,
+    change: u32,
+) -> Result<(Option<u32>, Closed), Fail>
+    requires ledger { (blank.name ≡ L.name) × (blank.parts ≡ L.parts) }
+    requires parts { blank.parts ≡ 2 }
+{
+    let (shared, mut seats) = after_four::<L, R>(rt, alloc, blank)?;
+    for (worker, seat) in seats.iter_mut().enumerate() {
+        if worker == 0 && change != 4 || seat.receipts.len() != 2 {
+            continue;
+        }
+        match change {
+            2 => {
+                let _last = seat.receipts.pop();
+            }
+            3 => seat.receipts.swap(0, 1),
+            _ => seat.receipts[1].answer = Answer::Refused(1),
+        }
+    }
+    match shared.close(seats) {
+        Err(CloseFault::Disagree { worker, closed }) => Ok((worker, closed)),
+        Ok(_) => Err(Fail::from("closed")),
+        Err(CloseFault::Missing { .. }) => Err(Fail::from("missing")),
+    }
+}
+
+#[test]
+fn changed_receipts(rt: HostRuntime) -> Result<(), Fail> {
+    let alloc = rt.alloc();
+    let whole = log_of_four::<Brand, HostRuntime>(&rt, alloc, Blank::new(2))?;
+    assert_eq!(rt; whole.log.len(), 4);
+    for (change, named) in [(1, 1), (2, 1), (3, 1), (4, 0)] {
+        let (worker, closed) = after_change::<Brand, HostRuntime>(
+            &rt,
+            alloc,
+            Blank::new(2),
+            change,
+        )?;
+        assert_eq!(rt; worker, Some(named), "at {change}");
+        assert!(rt; closed.log.as_slice() == whole.log.as_slice());
+        assert!(rt; closed.lab.counts() == whole.lab.counts());
+    }
+    Ok(())
+}
+
+/// Whether closing without a seat hands both back, and closing with it ends well.
+fn closes_with_both<L: Ledger, R: Wait>(rt: &R, alloc: Global, blank: Blank) -> Result<bool, Fail>
+    requires ledger { (blank.name ≡ L.name) × (blank.parts ≡ L.parts) }
+    requires parts { blank.parts ≡ 2 }
+{
+    let (shared, mut seats) = after_four::<L, R>(rt, alloc, blank)?;
+    let last = seats.pop().ok_or("no seat")?;
+    let (shared, mut seats) = match shared.close(seats) {
+        Err(CloseFault::Missing { shared, seats }) => (shared, seats),
+        Ok(_) => return Ok(false),
+        Err(CloseFault::Disagree { .. }) => return Ok(false),
+    };
+    if seats.len() != 1 {
+        return Ok(false);
+    }
+    seats.push(last)?;
+    Ok(shared.close(seats).is_ok())
+}
+
+#[test]
+fn missing_seat(rt: HostRuntime) -> Result<(), Fail> {
+    let alloc = rt.alloc();
+    assert!(rt; closes_with_both::<Brand, HostRuntime>(&rt, alloc, Blank::new(2))?);
+    Ok(())
+}
+
+#[test]
+fn no_receipts(rt: HostRuntime) {
+    let log = [Entry {
+        worker: 1,
+        call: Call::Step(NodeId::new(0)),
+        answer: Answer::Refused(1),
+    }];
+    let none: [Receipt; 0] = [];
+    assert!(rt; receipts_match(log.as_slice(), 0, none.as_slice()));
+    assert!(rt; !receipts_match(log.as_slice(), 1, none.as_slice()));
+    let empty: [Entry; 0] = [];
+    assert!(rt; receipts_match(empty.as_slice(), 1, none.as_slice()));
+}
