@@ -1,0 +1,54 @@
+-- The entries that a journal holds are the steps of its list.
+use Rattle.std.proofs.Common.{◌≡◌, ℕ, ◌+◌, ◌*◌, ◌<◌, ◌≤◌, List, [], length, Result, Ok, Err, refl, sym, ◌∙◌, ap, subst, arith, ext_get_or}
+use Rattle.std.specs.Prelude.{map, OnOk}
+use Rattle.std.specs.List.{sum, sum_by, range_with_len}
+use Rattle.std.proofs.lemmas.List.{length-map, get_or-map}
+use Rattle.std.proofs.lemmas.List.FromFn.{get_or-map-range_with_len, length-map-range_with_len}
+use Rattle.std.proofs.lemmas.List.Sums.{sum-map}
+use Rattle.ga_node.specs.State.{NodeState}
+use Rattle.ga_journal.specs.Histories.{Book, history}
+use Rattle.ga_journal.specs.Kept.{events_of, steps_of}
+use Rattle.ga_journal.specs.Marks.{entries}
+use Rattle.ga_journal.proofs.Logs.{length-built}
+use Rattle.ga_rollback.specs.Rewound.{IsTicked}
+use Rattle.ga_lab.specs.Bound.{IsBounded, steps_in}
+use Rattle.ga_lab.specs.Tied.{IsLab, state_of}
+use Rattle.ga_lab.proofs.Rewinding.{steps_lab, kept_state}
+
+-- the histories, and how long each of them is
+histories_steps : (chip : List NodeState) (book : Book) → IsLab chip book → map length book.histories ≡ map (λ n. steps_of n (events_of book)) (range_with_len 0 144)
+histories_steps chip book lab =
+    let size : length book.histories ≡ 144 = ap length lab.tied.records.histories ∙ length-built lab.tied.log in
+    let long : length (map length book.histories) ≡ 144 = length-map book.histories length ∙ size in
+    ext_get_or 0 (map length book.histories) (map (λ n. steps_of n (events_of book)) (range_with_len 0 144))
+    (long ∙ sym (length-map-range_with_len (λ n. steps_of n (events_of book)) 0 144))
+    (λ i l.
+      get_or-map length book.histories i [] 0 (omega arith)
+      ∙ steps_lab chip book i lab
+      ∙ sym (get_or-map-range_with_len (λ n. steps_of n (events_of book)) 0 144 i i 0 (omega arith) (omega arith)))
+
+pub entries_steps : (chip : List NodeState) (book : Book) → IsLab chip book → entries book ≡ steps_in (state_of chip book).kept
+entries_steps chip book lab =
+    sym (sum-map length book.histories)
+    ∙ ap sum (histories_steps chip book lab)
+    ∙ sum-map (λ n. steps_of n (events_of book)) (range_with_len 0 144)
+    ∙ ap steps_in (sym (kept_state chip book))
+
+most_of : (from to gone looks : ℕ) → looks ≤ gone → to ≤ from + 4 * gone + looks + 1 → to ≤ from + 5 * gone + 1
+most_of from to gone looks among most = omega arith
+
+-- what a rollback's ticks are bounded by, in the machine's terms
+pub bounded_by : (chip now : List NodeState) (old new : Book) (from to : ℕ) → IsLab chip old → IsLab now new → IsTicked old new from to
+  → IsBounded (state_of chip old).kept (state_of now new).kept from to
+bounded_by chip now old new from to before after ticked = record {
+  gone = ticked.gone;
+  left = ap (λ z. z + ticked.gone) (sym (entries_steps now new after)) ∙ ticked.entries_left ∙ entries_steps chip old before;
+  least = ticked.least;
+  most = most_of from to ticked.gone ticked.looks_gone ticked.among ticked.most;
+}
+
+pub on_ok : {T E : Type 0} (A : Type 0) (r : Result T E) (x : T) → r ≡ Ok x → A → OnOk r A
+on_ok A r x is a = subst (λ z. OnOk z A) (sym is) a
+
+pub on_err : {T E : Type 0} (A : Type 0) (r : Result T E) (e : E) → r ≡ Err e → OnOk r A
+on_err A r e is = subst (λ z. OnOk z A) (sym is) _
