@@ -27,7 +27,10 @@ pub record IsOldest (events : List Cause) (cause place before : ℕ) : Type 0 wh
 -- the chain from the cause to a place, made from its end
 pub data IsChainTo (events : List Cause) (cause : ℕ) : ℕ → List Link → Type 0 where
   alone : IsChainTo events cause cause (record { place = cause; rule = 0 } ∷ [])
-  longer : {place before : ℕ} {links : List Link} → place ≢ cause → IsOldest events cause place before → IsChainTo events cause before links → IsChainTo events cause place (links ++ record { place = place; rule = rule_between events before place } ∷ [])
+  longer : {place before : ℕ} {links : List Link} → place ≢ cause → IsOldest events cause place before
+      → IsChainTo events cause before links
+      → IsChainTo events cause place
+      (links ++ record { place = place; rule = rule_between events before place } ∷ [])
 
 -- a chain is answered exactly where the place depends on the cause, and it is the one from there
 abbrev pub IsFound : List Cause → ℕ → ℕ → Option (List Link) → Type 0

@@ -56,7 +56,7 @@ abbrev pub dependents_after : (ℕ → Bool) → List Cause → List Bool
 dependents_after marks [] = []
 dependents_after marks (e ∷ es) = meets marks e ∷ dependents_after (marked marks e) es
 
--- of each event, whether it depends on the one at this place
+-- of each event, whether it depends on the one at this place (exactly those that depend on it by DependsOn: law marks_exact)
 abbrev pub dependents : List Cause → ℕ → List Bool
 dependents [] i = []
 dependents (e ∷ es) zero = true ∷ dependents_after (touches e) es
@@ -68,7 +68,7 @@ without [] xs = xs
 without (flag ∷ flags) [] = []
 without (flag ∷ flags) (x ∷ xs) = if flag then without flags xs else x ∷ without flags xs
 
--- the events that do not depend on the one at this place
+-- the events that do not depend on the one at this place (exactly those that do not by DependsOn: law marks_exact)
 abbrev pub rest : List Cause → ℕ → List Cause
 rest events i = without (dependents events i) events
 

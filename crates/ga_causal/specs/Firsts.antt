@@ -27,4 +27,5 @@ pub record IsFirsts (events : List Cause) (cause limit none : ℕ) (first : ℕ 
   pub noted : (n : ℕ) → first n < none → first n < limit
   pub dependent : (n : ℕ) → first n < none → slice_index_or (dependents events cause) (first n) false ≡ true
   pub touched : (n : ℕ) → first n < none → touches (event_at events (first n)) n ≡ true
-  pub oldest : (n q : ℕ) → q < limit → slice_index_or (dependents events cause) q false ≡ true → touches (event_at events q) n ≡ true → first n ≤ q
+  pub oldest : (n q : ℕ) → q < limit → slice_index_or (dependents events cause) q false ≡ true
+      → touches (event_at events q) n ≡ true → first n ≤ q

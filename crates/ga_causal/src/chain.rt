@@ -12,9 +12,9 @@ use ga_grid::Memory;
 use std::alloc::Global;
 use std::marker::Model;
 
-/// A link of a chain: the place of its event in the list, and the rule by which that depends on the event of the link before,
-/// 0 for the first link. Rule 1 is that of two events of one node, rule 2 that of a pass and an event that touch a common node,
-/// and rule 3, where neither holds, that of a look at a node that the event before touches.
+/// A link of a chain: the place of its event in the list, from 0 on, and the rule by which that depends on the event of the
+/// link before, 0 for the first link. Rule 1 is that of two events of one node, rule 2 that of a pass and an event that touch a
+/// common node, and rule 3, where neither holds, that of a look at a node that the event before touches.
 #[derive(Clone, Copy, PartialEq, Eq, Debug)]
 pub struct Link {
     pub place: u32,
@@ -137,7 +137,7 @@ fn chain_alone(alloc: Global, place: u32) -> Result<Chain, Memory>
 
 /// The chain from one event to another, or none where that does not depend on it. It is made from its end: before each event
 /// other than the first stands the oldest of those on which it depends directly and which are the first or depend on it.
-/// Reads each event between the two once.
+/// Walks once over the events between the two, and then back over those of the chain. Places count from 0.
 pub fn find_chain(
     alloc: Global,
     events: &[Cause],

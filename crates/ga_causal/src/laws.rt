@@ -73,7 +73,7 @@ pub fn two_rollbacks()
         rewound_all events steps ≡ rewound_all events others }
 {}
 
-/// Lists that differ on a chip by the order of such neighbours lead to the same chip.
+/// Trace equivalence: lists that differ on a chip by swaps of independent neighbours lead to the same chip.
 pub fn equivalent()
     ensures { (chip : List NodeRecord) (events others : List Event) → AreEquivalent chip events others →
         replay chip events ≡ replay chip others }

@@ -103,7 +103,7 @@ impl Marks {
     }
 }
 
-/// Of each event of the list, whether it depends on the one at the place. Reads each event once.
+/// Of each event of the list, whether it depends on the one at the place, from 0 on. Reads each event once.
 pub fn closure(alloc: Global, events: &[Cause], place: u32) -> Result<Vec<bool>, Memory>
     requires { place < length events.now }
     ensures flags { IfOk result (λ flags. flags.items ≡ dependents events.now place) }
