@@ -23,9 +23,9 @@ histories_steps chip book lab =
     ext_get_or 0 (map length book.histories) (map (λ n. steps_of n (events_of book)) (range_with_len 0 144))
     (long ∙ sym (length-map-range_with_len (λ n. steps_of n (events_of book)) 0 144))
     (λ i l.
-      get_or-map length book.histories i [] 0 (omega arith)
-      ∙ steps_lab chip book i lab
-      ∙ sym (get_or-map-range_with_len (λ n. steps_of n (events_of book)) 0 144 i i 0 (omega arith) (omega arith)))
+    get_or-map length book.histories i [] 0 (omega arith)
+    ∙ steps_lab chip book i lab
+    ∙ sym (get_or-map-range_with_len (λ n. steps_of n (events_of book)) 0 144 i i 0 (omega arith) (omega arith)))
 
 pub entries_steps : (chip : List NodeState) (book : Book) → IsLab chip book → entries book ≡ steps_in (state_of chip book).kept
 entries_steps chip book lab =
@@ -39,7 +39,7 @@ most_of from to gone looks among most = omega arith
 
 -- what a rollback's ticks are bounded by, in the machine's terms
 pub bounded_by : (chip now : List NodeState) (old new : Book) (from to : ℕ) → IsLab chip old → IsLab now new → IsTicked old new from to
-  → IsBounded (state_of chip old).kept (state_of now new).kept from to
+    → IsBounded (state_of chip old).kept (state_of now new).kept from to
 bounded_by chip now old new from to before after ticked = record {
   gone = ticked.gone;
   left = ap (λ z. z + ticked.gone) (sym (entries_steps now new after)) ∙ ticked.entries_left ∙ entries_steps chip old before;
