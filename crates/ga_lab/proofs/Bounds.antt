@@ -1,12 +1,12 @@
 -- The entries that a journal holds are the steps of its list.
-use Rattle.std.proofs.Common.{◌≡◌, ℕ, ◌+◌, ◌*◌, ◌<◌, ◌≤◌, List, [], length, Result, Ok, Err, refl, sym, ◌∙◌, ap, subst, arith, ext_get_or}
+use Rattle.std.proofs.Common.{◌≡◌, ℕ, ◌+◌, ◌*◌, ◌≤◌, List, [], length, Result, Ok, Err, sym, ◌∙◌, ap, subst, arith, ext_get_or}
 use Rattle.std.specs.Prelude.{map, OnOk}
-use Rattle.std.specs.List.{sum, sum_by, range_with_len}
+use Rattle.std.specs.List.{sum, range_with_len}
 use Rattle.std.proofs.lemmas.List.{length-map, get_or-map}
 use Rattle.std.proofs.lemmas.List.FromFn.{get_or-map-range_with_len, length-map-range_with_len}
 use Rattle.std.proofs.lemmas.List.Sums.{sum-map}
 use Rattle.ga_node.specs.State.{NodeState}
-use Rattle.ga_journal.specs.Histories.{Book, history}
+use Rattle.ga_journal.specs.Histories.{Book}
 use Rattle.ga_journal.specs.Kept.{events_of, steps_of}
 use Rattle.ga_journal.specs.Marks.{entries}
 use Rattle.ga_journal.proofs.Logs.{length-built}
