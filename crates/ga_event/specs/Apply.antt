@@ -1,4 +1,5 @@
--- What an event does to a chip, and what the events of a list do one after another.
+-- What an event does to a chip, and what the events of a list do one after another (F18A Technology Reference DB001, ports;
+-- G144A12 Chip Reference DB002, links).
 use Rattle.std.specs.Prelude.{ℕ, ◌==◌, Bool, true, false, ◌&&◌, if◌then◌else◌, List, [], ◌∷◌, Option, Some, None, option_map, option_and_then, slice_set, Result, MatchResult, ◌≡◌}
 use Rattle.ga_ports.specs.declared.side.Side.{Side}
 use Rattle.ga_ports.specs.declared.side.Side.TheVariants.{Right, Down, Left, Up}
@@ -93,6 +94,7 @@ after chip (Own node) = after_own chip node.number (own (seen_from chip node.num
 after chip (Pass writer reader side) =
     after_pass chip writer.number reader.number (record_at chip writer.number) (record_at chip reader.number)
 
+-- what is done where nothing refuses it
 abbrev pub unless : {A : Type 0} → Option NotReady → A → Option A
 unless None done = Some done
 unless (Some why) done = None
@@ -117,5 +119,6 @@ run chip [] = Some (chip, [])
 run chip (event ∷ events) =
     option_and_then (λ first. option_map (λ rest. (rest.0, (cause_of chip event, first.1) ∷ rest.1)) (run first.0 events)) (apply chip event)
 
+-- the chip that the events of a list leave, made one after another; none where one cannot be
 abbrev pub replay : List NodeRecord → List Event → Option (List NodeRecord)
 replay chip events = option_map (λ done. done.0) (run chip events)

@@ -1,4 +1,5 @@
--- The event that a step of a node makes.
+-- The event that a step of a node makes (F18A Technology Reference DB001, ports; the order of the sides is this project's own,
+-- where the chip leaves several writers undefined).
 use Rattle.std.specs.Prelude.{ℕ, ◌==◌, if◌then◌else◌, List, [], ◌∷◌, Option, Some, None, Result, Ok, Err, option_map}
 use Rattle.ga_ports.specs.declared.side.Side.{Side}
 use Rattle.ga_ports.specs.declared.side.Side.TheVariants.{Right, Down, Left, Up}
@@ -54,6 +55,7 @@ abbrev pub or_waiting : Option Event → Result Event NotReady
 or_waiting (Some event) = Ok event
 or_waiting None = Err Waiting
 
+-- the event that a step of the node makes, by its stop and by what it waits for
 abbrev pub next_by : List NodeRecord → NodeId → ℕ → Wait → Result Event NotReady
 next_by chip node stop Nothing = if stop == 0 then Ok (Own node) else Err Stopped
 next_by chip node stop (Fetch sides) = or_waiting (first_pass chip node sides)

@@ -1,4 +1,5 @@
--- The nodes that an event touches, and those on which what it does can depend.
+-- The nodes that an event touches, and those on which what it does can depend (after Danos and Krivine, "Reversible Communicating
+-- Systems", 2004; looks are this project's own).
 use Rattle.std.specs.Prelude.{ℕ, Bool, if◌then◌else◌, List, [], ◌∷◌, ◌++◌, ◌==◌, Option, Some, None}
 use Rattle.std.specs.List.{list_any}
 use Rattle.ga_ports.specs.declared.side.Side.TheVariants.{Right, Down, Left, Up}

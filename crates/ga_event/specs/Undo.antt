@@ -1,4 +1,5 @@
--- An event taken back: the old values of the touched nodes are written back.
+-- An event taken back: the old values of the touched nodes are written back (after Danos and Krivine, "Reversible Communicating
+-- Systems", 2004).
 use Rattle.std.specs.Prelude.{◌≡◌, ◌≢◌, ℕ, Bool, true, false, if◌then◌else◌, List, length, Some}
 use Rattle.ga_node.specs.State.{NodeState, restored, AreFit, IsApart}
 use Rattle.ga_node.specs.declared.place.Place.{Place}

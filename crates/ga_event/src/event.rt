@@ -16,8 +16,11 @@ pub enum Event {
     Own(NodeId),
     /// A word that goes over the link on a side, between two nodes that wait for it.
     Pass {
+        /// The node that gives its T.
         writer: NodeId,
+        /// The node that takes the word.
         reader: NodeId,
+        /// The side of both on which the link is.
         side: Side,
     },
 }
@@ -26,14 +29,18 @@ pub enum Event {
 /// neighbours of its node wait for. It touches none of them. No pass is a look.
 #[derive(Clone, Copy, PartialEq, Eq, Debug)]
 pub struct Cause {
+    /// The event.
     pub event: Event,
+    /// Whether it is a look.
     pub look: bool,
 }
 
 /// What a node's own event was, and whether it looked at the neighbours: an [`Effect`] without the old values.
 #[derive(Clone, Copy, PartialEq, Eq, Debug)]
 pub struct Deed {
+    /// What the event was.
     pub kind: Kind,
+    /// Whether it looked.
     pub look: bool,
 }
 
@@ -46,8 +53,11 @@ pub enum Effect {
     Look(Kind, Saved),
     /// The word that went over, and what its two nodes held.
     Pass {
+        /// The word.
         word: Word18,
+        /// The old values of the writer.
         writer: Saved,
+        /// The old values of the reader.
         reader: Saved,
     },
 }

@@ -25,6 +25,6 @@ records_of chip = map record_of chip
 abbrev pub record_at : List NodeRecord → ℕ → NodeRecord
 record_at chip n = slice_index_or chip n (record_of nowhere)
 
--- the chip at load
+-- the chip at load (its values are this project's own choice)
 unfoldable pub default_chip : List NodeState
 default_chip = map (λ n. fresh_node (load_p_of n)) (range_with_len 0 144)

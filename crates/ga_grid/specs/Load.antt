@@ -1,4 +1,5 @@
--- What P holds in a node at load: the address that names the ports of all sides on which it has a neighbour.
+-- What P holds in a node at load: the address that names the ports of all sides on which it has a neighbour (this project's own
+-- choice).
 use Rattle.std.specs.Prelude.{ℕ, ◌+◌, ◌*◌, if◌then◌else◌, is_some, bit_xor}
 use Rattle.ga_ports.specs.declared.side.Side.{Side}
 use Rattle.ga_ports.specs.declared.side.Side.TheVariants.{Right, Down, Left, Up}

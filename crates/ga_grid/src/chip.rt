@@ -75,6 +75,9 @@ impl Chip {
     ghost use Rattle.ga_grid.specs.Lending.{LendsNode};
 
     /// The chip at load: each node at its defaults, with P the address of the ports of all sides on which it has a neighbour.
+    ///
+    /// # Errors
+    /// [`Memory`] alone, where memory was refused.
     pub fn new(alloc: Global) -> Result<Self, Memory>
         ensures { IfOk result (λ chip. chip ≡ default_chip) }
     {

@@ -41,7 +41,7 @@ fn number_beside(number: u8, side: Side) -> Option<u8>
 }
 
 /// The node at the other end of the link on this side, or none at the edge of the grid. Both ends of a link have the same
-/// side.
+/// side (DB002, links).
 pub fn neighbour(node: NodeId, side: Side) -> Option<NodeId>
     ensures value { number_in result ≡ neighbour_of node.number side }
     ensures node { result ≡ option_map node_id (neighbour_of node.number side) }

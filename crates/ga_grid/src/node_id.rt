@@ -8,6 +8,7 @@ pub const NODES: usize = 144;
 /// A node of the grid, by its number: 18 for each row before its own, and its column.
 #[derive(Clone, Copy, PartialEq, Eq, Debug)]
 pub struct NodeId {
+    /// 18 for each row before the node's own, plus its column: 0 to 143.
     pub number: u8,
     pub ghost in_range: { number < 144 },
 }

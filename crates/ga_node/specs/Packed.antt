@@ -24,6 +24,7 @@ code_of Carry = 960
 code_of Wait = 1024
 code_of Stop = 1088
 
+-- the place of a kind, with this cell where it has one
 abbrev pub place_by : ℕ → ℕ → Place
 place_by kind cell =
     if kind == 0 then T
@@ -45,9 +46,11 @@ place_by kind cell =
     else if kind == 16 then Wait
     else Stop
 
+-- the word of a place and a value
 abbrev pub packed : Place → ℕ → ℕ
 packed place value = code_of place * 2 ^ 18 + value
 
+-- the place and the value of a word
 abbrev pub unpacked : ℕ → Place × ℕ
 unpacked word = (place_by (word / 2 ^ 18 / 64) (word / 2 ^ 18 % 64), word % 2 ^ 18)
 

@@ -1,8 +1,9 @@
-//! What the next event of a node carries out.
+//! What comes next in a node.
 
 use ga_slots::Op;
 
-/// What the next event of a node's own carries out.
+/// What comes next in a node, by its slot. Where the node runs, its next own event carries this out; a node that waits or is
+/// stopped has none now.
 #[derive(Clone, Copy, PartialEq, Eq, Debug)]
 pub enum Due {
     /// The word at P becomes the instruction word.

@@ -21,9 +21,13 @@ pub enum Beside {
 /// What stands on each side of a node.
 #[derive(Clone, Copy, PartialEq, Eq, Debug)]
 pub struct Seen {
+    /// What stands on side right.
     pub right: Beside,
+    /// What stands on side down.
     pub down: Beside,
+    /// What stands on side left.
     pub left: Beside,
+    /// What stands on side up.
     pub up: Beside,
 }
 
@@ -61,7 +65,7 @@ impl Seen {
         }
     }
 
-    /// The word that a read of `io` gives (DB001, the `io` register; which bit shows what is this project's own choice). What
+    /// The word that a read of `io` gives (DB001, the `io` register; the whole table of bits is this project's own choice). What
     /// was written to `io` is no part of it.
     #[inline(always)]
     #[tactic(auto, unfolding(crate::specs::Io::io_word))]

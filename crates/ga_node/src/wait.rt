@@ -21,7 +21,9 @@ pub enum Wait {
 /// Who reads: a fetch, or an opcode for the stack.
 #[derive(Clone, Copy, PartialEq, Eq, Debug)]
 pub enum Reader {
+    /// A fetch, for the instruction word.
     Instruction,
+    /// An opcode, for the data stack.
     Stack,
 }
 

@@ -43,7 +43,8 @@ pub fn classify(address: u32) -> Target
     }
 }
 
-/// P after a word was read or written there: its low seven bits count up, unless it names a port.
+/// P after a word was read or written there: its low seven bits count up. An address with bit 8 set (a port, `io`, or
+/// nothing) stays.
 pub fn advance_p(p: u32) -> u32
     ensures value { result ≡ advanced p }
     ensures in_range { p < 2 ^ 10 → result < 2 ^ 10 }
@@ -55,7 +56,7 @@ pub fn advance_p(p: u32) -> u32
     }
 }
 
-/// A after a word was read or written there, by the rule for P on A's own bits.
+/// A after a word was read or written there, by the rule for P on A's own bits (this project's own choice).
 pub fn advance_a(a: Word18) -> Word18
     ensures { result ≡ advanced a }
 {

@@ -8,9 +8,13 @@ use std::marker::Model;
 /// A side of a node, by the name of its link.
 #[derive(Clone, Copy, PartialEq, Eq, Debug)]
 pub enum Side {
+    /// From an even column to the next, from an odd one to the one before (DB002).
     Right,
+    /// From an even row to the next, from an odd one to the one before (DB002).
     Down,
+    /// From an even column to the one before, from an odd one to the next (DB002).
     Left,
+    /// From an even row to the one before, from an odd one to the next (DB002).
     Up,
 }
 

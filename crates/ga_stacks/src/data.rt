@@ -10,7 +10,7 @@ use arrayvec::ArrayVec;
 use ga_word::Word18;
 use std::marker::Model;
 
-/// The data stack: T and S over a ring of eight cells.
+/// The data stack: T and S over a ring of eight cells (DB001, stacks).
 #[derive(Drop)]
 pub struct DataStack {
     top: Word18,

@@ -10,7 +10,7 @@ use arrayvec::ArrayVec;
 use ga_word::Word18;
 use std::marker::Model;
 
-/// The return stack: R over a ring of eight cells.
+/// The return stack: R over a ring of eight cells (DB001, stacks).
 #[derive(Drop)]
 pub struct ReturnStack {
     top: Word18,

@@ -53,6 +53,7 @@ impl Word18 {
         }
     }
 
+    /// The word as a number below 2^18.
     pub fn get(self) -> u32
         ensures value { result ≡ self }
         ensures in_range { result < words }
@@ -60,6 +61,7 @@ impl Word18 {
         self.bits
     }
 
+    /// The sum modulo 2^18.
     pub fn add(self, other: Self) -> Self
         ensures { result ≡ (self + other) % words }
     {
@@ -75,6 +77,7 @@ impl Word18 {
         (Word18::truncated(sum), sum >= WORDS)
     }
 
+    /// The number that the word stands for in two's complement: -2^17 to 2^17 - 1.
     pub fn signed(self) -> i32
         ensures { result ≡ signed_of self }
     {
@@ -101,7 +104,8 @@ impl Word18 {
         }
     }
 
-    /// T and A after a multiply step.
+    /// T and A after a multiply step, which is this project's own choice: T is half the sum of signed T and, where A is odd,
+    /// signed S, rounded down; A is shifted right by one, with the sum's lowest bit in front.
     pub fn mul_step(t: Self, s: Self, a: Self) -> (Self, Self)
         ensures high { result.0 ≡ step_high (step_sum t s a) }
         ensures low { result.1 ≡ step_low (step_sum t s a) a }

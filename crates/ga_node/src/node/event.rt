@@ -158,8 +158,9 @@ impl Node {
         }
     }
 
-    /// Whether the node's next event of its own is a look: it reads `io` or fetches from it (DB001, the `io` register), so
-    /// that it depends on what stands beside the node.
+    /// Whether what stands in the slot that comes next reads `io` or fetches from it (DB001, the `io` register). Where the node
+    /// runs, its next own event is then a look, which depends on what stands beside the node; a node that waits or is stopped
+    /// has none now.
     #[tactic(auto, unfolding(crate::specs::Table::looks))]
     pub fn looks(&self) -> bool
         ensures { result ≡ looks (record_of self.now) }
