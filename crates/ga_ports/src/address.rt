@@ -60,10 +60,5 @@ pub fn advance_p(p: u32) -> u32
 pub fn advance_a(a: Word18) -> Word18
     ensures { result ≡ advanced a }
 {
-    let address = a.get();
-    if address / 256 % 2 == 1 {
-        a
-    } else {
-        Word18::truncated(address / 128 * 128 + (address + 1) % 128)
-    }
+    Word18::truncated(advance_p(a.get()))
 }
