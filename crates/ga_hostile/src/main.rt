@@ -82,6 +82,7 @@ fn run_of<R: Threads + Wait + Sync>(rt: &R, alloc: Global, run: &str) -> Outcome
         "session" => sessions::session_with_lists(alloc),
         "session-readings" => sessions::session_with_readings(alloc),
         "session-looks" => sessions::session_with_looks(alloc),
+        "session-fetches" => sessions::session_with_fetches(alloc),
         "session-format-2" => sessions::session_of_second_format(alloc),
         "shared" => shared::calls_repeated(rt, alloc),
         "shared-broken-off" => shared::calls_broken_off(rt, alloc),

@@ -2,7 +2,7 @@
 
 ghost use Rattle.std.specs.Prelude.{◌≤◌, length};
 
-use crate::images::{SENDER_AND_LOOKER, SENDER_AND_TAKER, WAITING};
+use crate::images::{SENDER_AND_FETCHER, SENDER_AND_LOOKER, SENDER_AND_TAKER, WAITING};
 use crate::labs::LIMIT;
 use crate::outcome::Outcome;
 use arrayvec::ArrayVec;
@@ -154,6 +154,35 @@ static LOOKS: [Turn; 5] = [
     },
 ];
 
+/// The first event of node 001 is a look: it fetches what it sees of the sender that waits.
+static FETCHES: [Turn; 5] = [
+    Turn {
+        asks: "step 001",
+        counts: Some("kept 7 made 7 limit 1000000\n"),
+        answer: "001 1 fetch\n",
+    },
+    Turn {
+        asks: "why 000 7 001 1",
+        counts: Some("kept 8 made 8 limit 1000000\n"),
+        answer: "chain 2\n000 7 wait\n001 1 fetch\n",
+    },
+    Turn {
+        asks: "trace 001",
+        counts: Some("kept 8 made 8 limit 1000000\n"),
+        answer: "trace 001 1\n001 1 fetch\n",
+    },
+    Turn {
+        asks: "node 001",
+        counts: None,
+        answer: "node 001 run p 00015d a 000000 b 00015d i 01d555 slot 0 carry 0 io 015555 d 015555 015555 015555 015555 015555 015555 015555 015555 015555 015555 r 015555 015555 015555 015555 015555 015555 015555 015555 015555\n",
+    },
+    Turn {
+        asks: "rewind 000 7",
+        counts: None,
+        answer: "removed 2 kept 6\n",
+    },
+];
+
 /// The chip is written down, and node 001 takes a word that node 000 was waiting with.
 static TRANSFER: [Turn; 4] = [
     Turn {
@@ -178,16 +207,46 @@ static TRANSFER: [Turn; 4] = [
     },
 ];
 
-static TRANSFERRED: [Turn; 2] = [
+static TRANSFERRED: [Turn; 8] = [
+    Turn {
+        asks: "why 000 1 001 2",
+        counts: Some("kept 2 made 2 limit 1000000\n"),
+        answer: "chain 1\npass 000 1 001 2 00002a\n",
+    },
     Turn {
         asks: "trace 001",
         counts: Some("kept 2 made 2 limit 1000000\n"),
         answer: "trace 001 2\n001 1 wait\npass 000 1 001 2 00002a\n",
     },
     Turn {
+        asks: "node 001",
+        counts: None,
+        answer: "node 001 run p 0001b5 a 000000 b 00015d i 00002a slot 0 carry 0 io 015555 d 015555 015555 015555 015555 015555 015555 015555 015555 015555 015555 r 015555 015555 015555 015555 015555 015555 015555 015555 015555\n",
+    },
+    Turn {
+        asks: "mem 000 42",
+        counts: None,
+        answer: "mem 000 42 00002a\n",
+    },
+    Turn {
+        asks: "count",
+        counts: None,
+        answer: "kept 2 made 2 limit 1000000\n",
+    },
+    Turn {
         asks: "back",
         counts: None,
         answer: "removed 1 kept 1\n",
+    },
+    Turn {
+        asks: "rewind 001 1",
+        counts: None,
+        answer: "removed 1 kept 0\n",
+    },
+    Turn {
+        asks: "count",
+        counts: None,
+        answer: "kept 0 made 2 limit 1000000\n",
     },
 ];
 
@@ -301,7 +360,16 @@ pub fn session_with_looks(alloc: Global) -> Outcome {
     talked(alloc, SENDER_AND_LOOKER, turns)
 }
 
-/// On an image of format 2, a dump, a transfer and a history.
+/// The steps of the sender, a fetch that looks at it, a chain of causes, a history and a rollback.
+pub fn session_with_fetches(alloc: Global) -> Outcome {
+    let turns = Turns {
+        steps: &STEPS[..7],
+        last: &FETCHES,
+    };
+    talked(alloc, SENDER_AND_FETCHER, turns)
+}
+
+/// On an image of format 2, a dump, a transfer, a chain of causes, a history, and what takes no memory.
 pub fn session_of_second_format(alloc: Global) -> Outcome {
     let turns = Turns {
         steps: &TRANSFER,

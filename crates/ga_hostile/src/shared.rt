@@ -50,6 +50,9 @@ fn answers() -> [Answer; CALLS] {
 /// How many events are kept before the first call, and behind each.
 static KEPT: [u32; 10] = [0, 1, 2, 3, 4, 2, 3, 4, 4, 0];
 
+/// How many events were made by then.
+static MADE: [u64; 10] = [0, 1, 2, 3, 4, 4, 5, 6, 6, 6];
+
 fn made(step: u32, kind: Kind) -> Answer {
     let node = NodeId::new(0);
     Answer::Made(Made::Own { node, step, kind })
@@ -145,7 +148,10 @@ fn is_closed(closed: &Closed, count: usize) -> Outcome {
     {
         return Outcome::Wrong("another log");
     }
-    if KEPT.get(count).copied() == Some(closed.lab.counts().kept) {
+    let counts = closed.lab.counts();
+    if KEPT.get(count).copied() == Some(counts.kept)
+        && MADE.get(count).copied() == Some(counts.made)
+    {
         Outcome::Answered
     } else {
         Outcome::Wrong("another lab")

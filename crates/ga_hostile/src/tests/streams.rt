@@ -1,11 +1,19 @@
 //! Readers that fail, and writers that take one byte at a time and fail, at each of their calls.
 
-use crate::images::SENDER_AND_TAKER;
+use crate::images::{SENDER_AND_TAKER, WAITING};
 use crate::labs::LIMIT;
 use ga_console::{Status, session};
 use std::alloc::{AllocError, Global};
 use std::io::{Error, ErrorKind, Read, Result, Write};
+use std::process::Abort;
 use std::test::Fail;
+
+/// An image, and the commands behind it with their answers.
+#[derive(Clone, Copy)]
+struct Talk {
+    image: &'static [u8],
+    turns: &'static [(&'static str, &'static str)],
+}
 
 /// The commands behind an image, and their answers.
 static TURNS: [(&str, &str); 14] = [
@@ -27,6 +35,37 @@ static TURNS: [(&str, &str); 14] = [
     ),
     ("rewind 000 7\n", "removed 2 kept 10\n"),
 ];
+
+/// The chip of the image is dumped, and once more behind the pass.
+static DUMPS: [(&str, &str); 7] = [
+    ("dump\n", WAITING),
+    ("step 000\n", "no 1 waiting\n"),
+    ("step 001\n", "001 1 wait\n"),
+    ("step 001\n", "pass 000 1 001 2 00002a\n"),
+    ("trace 000\n", "trace 000 1\npass 000 1 001 2 00002a\n"),
+    ("dump\n", PASSED),
+    ("back\n", "removed 1 kept 1\n"),
+];
+
+/// The sender behind its pass, and node 001 with the word that it fetched.
+const PASSED: &str =
+    "ga144 2\nnode 000\nb 0001d5\np 000004\ni 0089b2\nslot 1\nram 00 004b12 0001d5 00002a 0089b2 000000 000000 000000 000000\nnode 001\ni 00002a\nslot 0\nend\n";
+
+/// On an image of format 1.
+fn first_format() -> Talk {
+    Talk {
+        image: SENDER_AND_TAKER,
+        turns: &TURNS,
+    }
+}
+
+/// On an image of format 2.
+fn second_format() -> Talk {
+    Talk {
+        image: WAITING.as_bytes(),
+        turns: &DUMPS,
+    }
+}
 
 /// Hands out one byte at a call, and fails at one of its calls.
 #[derive(Drop)]
@@ -83,23 +122,23 @@ impl Write for Narrow {
 }
 
 /// The image and the commands.
-fn input(alloc: Global) -> std::result::Result<Vec<u8>, AllocError> {
-    let mut input = SENDER_AND_TAKER.to_vec(alloc)?;
-    for (command, _) in &TURNS {
+fn input(alloc: Global, talk: &Talk) -> std::result::Result<Vec<u8>, AllocError> {
+    let mut input = talk.image.to_vec(alloc)?;
+    for (command, _) in talk.turns {
         input.extend_from_slice(command.as_bytes())?;
     }
     Ok(input)
 }
 
 /// What is answered where so many bytes were read.
-fn answers(alloc: Global, read: usize) -> std::result::Result<Vec<u8>, AllocError> {
+fn answers(alloc: Global, talk: &Talk, read: usize) -> std::result::Result<Vec<u8>, AllocError> {
     let mut text = Vec::new(alloc);
-    let mut lines = SENDER_AND_TAKER.len();
+    let mut lines = talk.image.len();
     if read < lines {
         return Ok(text);
     }
     text.extend_from_slice(b"ready\n")?;
-    for (command, answer) in &TURNS {
+    for (command, answer) in talk.turns {
         lines = lines.saturating_add(command.len());
         if read < lines {
             return Ok(text);
@@ -109,10 +148,9 @@ fn answers(alloc: Global, read: usize) -> std::result::Result<Vec<u8>, AllocErro
     Ok(text)
 }
 
-#[test]
-fn every_read_fails(rt: HostRuntime) -> std::result::Result<(), Fail> {
-    let alloc = rt.alloc();
-    let input = input(alloc)?;
+/// Lets a talk's reader fail at each of its calls.
+fn fail_reads(rt: &impl Abort, alloc: Global, talk: &Talk) -> std::result::Result<(), Fail> {
+    let input = input(alloc, talk)?;
     for read in 0..input.len().saturating_add(1) {
         let mut reader = Dripping {
             left: input.as_slice(),
@@ -123,17 +161,26 @@ fn every_read_fails(rt: HostRuntime) -> std::result::Result<(), Fail> {
         let status = session(alloc, &mut reader, &mut output, LIMIT);
         assert_eq!(rt; status, Status::StreamFault);
         assert_eq!(rt; reader.calls, reader.fails_at);
-        let wanted = answers(alloc, read)?;
+        let wanted = answers(alloc, talk, read)?;
         assert!(rt; output.as_slice() == wanted.as_slice(), "{read} bytes");
     }
     Ok(())
 }
 
 #[test]
-fn every_write_fails(rt: HostRuntime) -> std::result::Result<(), Fail> {
-    let alloc = rt.alloc();
-    let input = input(alloc)?;
-    let wanted = answers(alloc, input.len())?;
+fn every_read_fails(rt: HostRuntime) -> std::result::Result<(), Fail> {
+    fail_reads(&rt, rt.alloc(), &first_format())
+}
+
+#[test]
+fn every_read_fails_in_the_second_format(rt: HostRuntime) -> std::result::Result<(), Fail> {
+    fail_reads(&rt, rt.alloc(), &second_format())
+}
+
+/// Lets a talk's writer fail at each of its calls.
+fn fail_writes(rt: &impl Abort, alloc: Global, talk: &Talk) -> std::result::Result<(), Fail> {
+    let input = input(alloc, talk)?;
+    let wanted = answers(alloc, talk, input.len())?;
     let mut fails_at = 1usize;
     for _ in 0..10000u32 {
         let mut reader = input.as_slice();
@@ -157,4 +204,14 @@ fn every_write_fails(rt: HostRuntime) -> std::result::Result<(), Fail> {
         fails_at = fails_at.saturating_add(1);
     }
     Err(Fail::from("it fails at each call"))
+}
+
+#[test]
+fn every_write_fails(rt: HostRuntime) -> std::result::Result<(), Fail> {
+    fail_writes(&rt, rt.alloc(), &first_format())
+}
+
+#[test]
+fn every_write_fails_in_the_second_format(rt: HostRuntime) -> std::result::Result<(), Fail> {
+    fail_writes(&rt, rt.alloc(), &second_format())
 }
