@@ -2,9 +2,11 @@
 
 ghost use Rattle.std.specs.Prelude.{◌≤◌};
 
+use arrayvec::ArrayVec;
 use ga_console::{Status, race_report};
 use std::io::{Error, ErrorKind, Read, Result, Write};
 use std::sync::Wait;
+use std::test::Fail;
 use std::thread::Threads;
 
 const SENDER: &[u8] = b"ga144 1\nnode 000\np 000000\nram 00 004b12 0001d5 00002a 0089b2\nend\n";
@@ -71,20 +73,42 @@ impl Read for OneByOne {
     }
 }
 
-/// Fails at one call.
+/// Takes up to so many bytes at a call, and fails at one call: by an error, or by taking nothing.
 #[derive(Drop)]
 struct Failing {
+    text: ArrayVec<u8, 64>,
+    most: usize,
     calls: usize,
     fails_at: usize,
+    empty: bool,
+}
+
+impl Failing {
+    fn new(most: usize, fails_at: usize, empty: bool) -> Self {
+        Failing {
+            text: ArrayVec::new(),
+            most,
+            calls: 0,
+            fails_at,
+            empty,
+        }
+    }
 }
 
 impl Write for Failing {
     fn write(&mut self, buf: &[u8]) -> Result<usize> {
         self.calls = self.calls.saturating_add(1);
         if self.calls == self.fails_at {
+            if self.empty {
+                return Ok(0);
+            }
             return Err(Error::from(ErrorKind::BrokenPipe));
         }
-        Ok(buf.len())
+        let count = self.most.min(buf.len());
+        if self.text.try_extend_from_slice(&buf[..count]).is_err() {
+            return Ok(0);
+        }
+        Ok(count)
     }
 
     fn flush(&mut self) -> Result<()> {
@@ -124,13 +148,80 @@ fn reads_to_the_line_end(rt: HostRuntime) {
     }
 }
 
-#[test]
-fn a_report_is_not_written(rt: HostRuntime) {
-    for fails_at in [1, 2] {
-        let mut reader = SENDER;
-        let mut writer = Failing { calls: 0, fails_at };
-        let status = race_report(&rt, rt.alloc(), &mut reader, &mut writer, 1, 1, 1);
-        assert_eq!(rt; status, Status::StreamFault);
-        assert_eq!(rt; writer.calls, fails_at);
+/// A report, or a refusal of an image, for a writer that takes up to so many bytes at a call.
+struct Report {
+    image: &'static [u8],
+    status: Status,
+    text: &'static [u8],
+    most: usize,
+}
+
+static REPORTS: [Report; 4] = [
+    Report {
+        image: SENDER,
+        status: Status::Done,
+        text: b"calls 3\nmade 3\nkept 3\n",
+        most: 64,
+    },
+    Report {
+        image: SENDER,
+        status: Status::Done,
+        text: b"calls 3\nmade 3\nkept 3\n",
+        most: 5,
+    },
+    Report {
+        image: b"ga144 1\nnode 000\n",
+        status: Status::ImageRefused,
+        text: b"no 17 truncated line 3\n",
+        most: 64,
+    },
+    Report {
+        image: b"ga144 1\nnode 000\n",
+        status: Status::ImageRefused,
+        text: b"no 17 truncated line 3\n",
+        most: 5,
+    },
+];
+
+/// How many calls of its writer a report makes, where none fails and it is written whole.
+fn calls_of<R: Threads + Wait + Sync + AllocGlobal>(rt: &R, report: &Report) -> Option<usize> {
+    let mut reader = report.image;
+    let mut writer = Failing::new(report.most, 0, false);
+    let status = race_report(rt, rt.alloc(), &mut reader, &mut writer, 1, 3, 9);
+    if status == report.status && writer.text.as_slice() == report.text {
+        Some(writer.calls)
+    } else {
+        None
     }
+}
+
+/// Whether a report ends with the fault where a call of its writer fails: no call comes behind it, and what was written is a
+/// beginning of the text.
+fn is_broken_off<R: Threads + Wait + Sync + AllocGlobal>(
+    rt: &R,
+    report: &Report,
+    fails_at: usize,
+    empty: bool,
+) -> bool {
+    let mut reader = report.image;
+    let mut writer = Failing::new(report.most, fails_at, empty);
+    let status = race_report(rt, rt.alloc(), &mut reader, &mut writer, 1, 3, 9);
+    status == Status::StreamFault
+        && writer.calls == fails_at
+        && report.text.starts_with(writer.text.as_slice())
+}
+
+#[test]
+fn a_report_is_not_written(rt: HostRuntime) -> std::result::Result<(), Fail> {
+    for report in &REPORTS {
+        let calls = calls_of(&rt, report).ok_or("not written whole")?;
+        // At least the write and the flush.
+        assert!(rt; calls >= 2);
+        for before in 0..calls {
+            let fails_at = before + 1;
+            assert!(rt; is_broken_off(&rt, report, fails_at, false));
+            assert!(rt; is_broken_off(&rt, report, fails_at, true));
+        }
+    }
+    Ok(())
 }

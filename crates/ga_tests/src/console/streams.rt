@@ -6,6 +6,8 @@ use std::cell::Cell;
 use std::io::{Error, ErrorKind, Read, Result, Write};
 use std::test::Fail;
 
+mod large;
+
 const INPUT: &[u8] =
     b"ga144 1\nnode 000\np 000000\nram 00 004df2 000003\nend\nstep 000\nback\nback\nstep 000";
 
@@ -17,6 +19,13 @@ const LISTS: &[u8] =
 
 const LISTED: &[u8] =
     b"ready\n000 1 fetch\n000 2 run 08\ntrace 000 2\n000 1 fetch\n000 2 run 08\nchain 2\n000 1 fetch\n000 2 run 08\nremoved 2 kept 0\n";
+
+/// A chip that waits, in format 2, which is dumped before and after node 001 takes the word.
+const WAITING: &[u8] =
+    b"ga144 2\nnode 000\nb 0001d5\np 000004\nslot 0\ni 0089b2\nwait write r---\nend\ndump\nstep 001\nstep 001\ndump\nback";
+
+const DUMPED: &[u8] =
+    b"ready\nga144 2\nnode 000\nb 0001d5\np 000004\ni 0089b2\nslot 0\nwait write r---\nend\n001 1 wait\npass 000 1 001 2 015555\nga144 2\nnode 000\nb 0001d5\np 000004\ni 0089b2\nslot 1\nnode 001\ni 015555\nslot 0\nend\nremoved 1 kept 1\n";
 
 /// Hands out up to so many bytes at a call, and fails at one call.
 #[derive(Drop)]
@@ -89,12 +98,15 @@ impl Write for Narrow {
 
 #[test]
 fn one_byte_at_a_time(rt: HostRuntime) -> std::result::Result<(), Fail> {
-    for most in [1, 2, 7, 64] {
-        let mut reader = Dripping::new(INPUT, most, 0);
-        let mut output = Vec::new(rt.alloc());
-        let status = session(rt.alloc(), &mut reader, &mut output, 9);
-        assert_eq!(rt; status, Status::Done);
-        assert_eq!(rt; output.as_slice(), OUTPUT, "{most} bytes at a time");
+    let runs: [(&'static [u8], &[u8]); 2] = [(INPUT, OUTPUT), (WAITING, DUMPED)];
+    for (input, wanted) in runs {
+        for most in [1, 2, 7, 64, 4096] {
+            let mut reader = Dripping::new(input, most, 0);
+            let mut output = Vec::new(rt.alloc());
+            let status = session(rt.alloc(), &mut reader, &mut output, 9);
+            assert_eq!(rt; status, Status::Done);
+            assert_eq!(rt; output.as_slice(), wanted, "{most} bytes at a time");
+        }
     }
     Ok(())
 }
@@ -131,7 +143,7 @@ fn a_read_fails(rt: HostRuntime) -> std::result::Result<(), Fail> {
 
 #[test]
 fn a_write_fails(rt: HostRuntime) -> std::result::Result<(), Fail> {
-    let runs: [(&'static [u8], &[u8]); 2] = [(INPUT, OUTPUT), (LISTS, LISTED)];
+    let runs: [(&'static [u8], &[u8]); 3] = [(INPUT, OUTPUT), (LISTS, LISTED), (WAITING, DUMPED)];
     for (input, wanted) in runs {
         let mut reader = Dripping::new(input, 1, 0);
         let mut whole = failing_writer(rt.alloc(), 0, false);
@@ -166,18 +178,20 @@ fn failing_writer(alloc: std::alloc::Global, fails_at: u32, empty: bool) -> Narr
 /// A writer that holds what it takes until it is flushed.
 #[derive(Drop)]
 struct Flushed {
-    taken: usize,
+    taken: ArrayVec<u8, 256>,
     flushed: usize,
 }
 
 impl Write for Flushed {
     fn write(&mut self, buf: &[u8]) -> Result<usize> {
-        self.taken = self.taken.saturating_add(buf.len());
+        if self.taken.try_extend_from_slice(buf).is_err() {
+            return Ok(0);
+        }
         Ok(buf.len())
     }
 
     fn flush(&mut self) -> Result<()> {
-        self.flushed = self.taken;
+        self.flushed = self.taken.len();
         Ok(())
     }
 }
@@ -186,12 +200,12 @@ impl Write for Flushed {
 fn all_is_handed_on(rt: HostRuntime) -> std::result::Result<(), Fail> {
     let mut reader = INPUT;
     let mut writer = Flushed {
-        taken: 0,
+        taken: ArrayVec::new(),
         flushed: 0,
     };
     let status = session(rt.alloc(), &mut reader, &mut writer, 9);
     assert_eq!(rt; status, Status::Done);
-    assert_eq!(rt; writer.taken, OUTPUT.len());
+    assert_eq!(rt; writer.taken.as_slice(), OUTPUT);
     assert_eq!(rt; writer.flushed, OUTPUT.len());
     Ok(())
 }
@@ -206,7 +220,7 @@ fn nothing_is_read_behind_quit(rt: HostRuntime) -> std::result::Result<(), Fail>
     Ok(())
 }
 
-/// Hands out a line at each read, and notes how much was written before it.
+/// Hands out a line at each read, and notes how much was handed on before it.
 #[derive(Drop)]
 struct Watching<'a> {
     left: &'static [u8],
@@ -227,20 +241,21 @@ impl<'a> Read for Watching<'a> {
     }
 }
 
-/// Counts what it takes.
+/// Counts what it takes, and hands it on where it is flushed.
 #[derive(Drop)]
 struct Counting<'a> {
+    taken: usize,
     written: &'a Cell<usize>,
 }
 
 impl<'a> Write for Counting<'a> {
     fn write(&mut self, buf: &[u8]) -> Result<usize> {
-        self.written
-            .set(self.written.get().saturating_add(buf.len()));
+        self.taken = self.taken.saturating_add(buf.len());
         Ok(buf.len())
     }
 
     fn flush(&mut self) -> Result<()> {
+        self.written.set(self.taken);
         Ok(())
     }
 }
@@ -253,7 +268,10 @@ fn answers_are_written_before_more_is_read(rt: HostRuntime) -> std::result::Resu
         written: &written,
         seen: ArrayVec::new(),
     };
-    let mut writer = Counting { written: &written };
+    let mut writer = Counting {
+        taken: 0,
+        written: &written,
+    };
     let status = session(rt.alloc(), &mut reader, &mut writer, 9);
     assert_eq!(rt; status, Status::Done);
     // Two lines of the image, then `ready`, then an answer each time.
@@ -261,57 +279,160 @@ fn answers_are_written_before_more_is_read(rt: HostRuntime) -> std::result::Resu
     Ok(())
 }
 
-/// The empty image, then a line of so many bytes with its line feed.
+/// A text, then so many bytes `x`, then another text. Behind them the input ends or fails.
 #[derive(Drop)]
-struct LongLine {
-    image: &'static [u8],
+struct Filled {
+    head: &'static [u8],
     left: usize,
-    fed: bool,
+    tail: &'static [u8],
+    fails: bool,
 }
 
-impl Read for LongLine {
+impl Read for Filled {
     fn read(&mut self, buf: &mut [u8]) -> Result<usize> {
         if buf.is_empty() {
             return Ok(0);
         }
-        if let Some((first, rest)) = self.image.split_first() {
+        if let Some((first, rest)) = self.head.split_first() {
             buf[0] = *first;
-            self.image = rest;
+            self.head = rest;
             return Ok(1);
         }
-        if self.left == 0 {
-            if self.fed {
-                return Ok(0);
+        if self.left > 0 {
+            let count = self.left.min(buf.len());
+            for slot in &mut buf[..count] {
+                *slot = b'x';
             }
-            self.fed = true;
-            buf[0] = b'\n';
+            self.left -= count;
+            return Ok(count);
+        }
+        if let Some((first, rest)) = self.tail.split_first() {
+            buf[0] = *first;
+            self.tail = rest;
             return Ok(1);
         }
-        let count = self.left.min(buf.len());
-        for slot in &mut buf[..count] {
-            *slot = b'x';
+        if self.fails {
+            return Err(Error::from(ErrorKind::Interrupted));
         }
-        self.left -= count;
-        Ok(count)
+        Ok(0)
     }
 }
 
+/// An input near its bound of 16777216 bytes: its parts, whether it fails behind them, and what comes of it.
+struct Bound {
+    head: &'static [u8],
+    left: usize,
+    tail: &'static [u8],
+    fails: bool,
+    status: Status,
+    text: &'static [u8],
+}
+
+/// Twelve bytes.
+const EMPTY: &[u8] = b"ga144 1\nend\n";
+
+static BOUNDS: [Bound; 10] = [
+    // A line feed at the bound, and past it.
+    Bound {
+        head: EMPTY,
+        left: 16_777_203,
+        tail: b"\n",
+        fails: false,
+        status: Status::Done,
+        text: b"ready\nno 32 long\n",
+    },
+    Bound {
+        head: EMPTY,
+        left: 16_777_204,
+        tail: b"\n",
+        fails: false,
+        status: Status::StreamFault,
+        text: b"ready\nno 33 input\n",
+    },
+    // A last line up to the bound, which is carried out.
+    Bound {
+        head: EMPTY,
+        left: 16_777_204,
+        tail: b"",
+        fails: false,
+        status: Status::Done,
+        text: b"ready\nno 32 long\n",
+    },
+    Bound {
+        head: EMPTY,
+        left: 16_777_198,
+        tail: b"\ncount",
+        fails: false,
+        status: Status::Done,
+        text: b"ready\nno 32 long\nkept 0 made 0 limit 9\n",
+    },
+    // A line up to the bound where the read behind it fails: it is neither carried out nor told to be past.
+    Bound {
+        head: EMPTY,
+        left: 16_777_198,
+        tail: b"\ncount",
+        fails: true,
+        status: Status::StreamFault,
+        text: b"ready\nno 32 long\n",
+    },
+    // `quit` up to the bound, and across it.
+    Bound {
+        head: EMPTY,
+        left: 16_777_198,
+        tail: b"\nquit\n",
+        fails: true,
+        status: Status::Done,
+        text: b"ready\nno 32 long\n",
+    },
+    Bound {
+        head: EMPTY,
+        left: 16_777_199,
+        tail: b"\nquit\n",
+        fails: false,
+        status: Status::StreamFault,
+        text: b"ready\nno 32 long\nno 33 input\n",
+    },
+    // Images: up to the bound, past it, and up to it where the read behind it fails.
+    Bound {
+        head: b"",
+        left: 16_777_216,
+        tail: b"",
+        fails: false,
+        status: Status::ImageRefused,
+        text: b"no 18 long line 1\n",
+    },
+    Bound {
+        head: b"",
+        left: 16_777_217,
+        tail: b"\nend\n",
+        fails: false,
+        status: Status::ImageRefused,
+        text: b"no 18 long line 1\n",
+    },
+    Bound {
+        head: b"",
+        left: 16_777_216,
+        tail: b"",
+        fails: true,
+        status: Status::StreamFault,
+        text: b"",
+    },
+];
+
 #[test]
 fn the_bound_of_an_input(rt: HostRuntime) -> std::result::Result<(), Fail> {
-    let runs: [(usize, Status, &[u8]); 2] = [
-        (16_777_203, Status::Done, b"ready\nno 32 long\n"),
-        (16_777_204, Status::StreamFault, b"ready\nno 33 input\n"),
-    ];
-    for (left, wanted, text) in runs {
-        let mut reader = LongLine {
-            image: b"ga144 1\nend\n",
-            left,
-            fed: false,
+    for bound in &BOUNDS {
+        let mut reader = Filled {
+            head: bound.head,
+            left: bound.left,
+            tail: bound.tail,
+            fails: bound.fails,
         };
         let mut output = Vec::new(rt.alloc());
         let status = session(rt.alloc(), &mut reader, &mut output, 9);
-        assert_eq!(rt; status, wanted);
-        assert_eq!(rt; output.as_slice(), text);
+        let left = bound.left;
+        assert_eq!(rt; status, bound.status, "{left}");
+        assert_eq!(rt; output.as_slice(), bound.text, "{left}");
     }
     Ok(())
 }

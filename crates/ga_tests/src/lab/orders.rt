@@ -103,13 +103,14 @@ fn drops_one(rt: HostRuntime) -> Result<(), Fail> {
     assert_same(&rt, &lab, &undone)
 }
 
-// The ticks of a rollback of the pair, where node 700 keeps so many own events.
+// The ticks of a rollback of the pair that removes and keeps so many events, where node 700 keeps so many own events.
 fn ticks_of(
     rt: &impl Abort,
     alloc: Global,
     others: u16,
-    node: NodeId,
-    step: u32,
+    at: (NodeId, u32),
+    removed: u32,
+    kept: u32,
 ) -> Result<u64, Fail> {
     let n700 = NodeId::new(126);
     let mut chip = Chip::new(alloc)?;
@@ -122,12 +123,8 @@ fn ticks_of(
     steps(&mut lab, NodeId::new(0), 7)?;
     steps(&mut lab, NodeId::new(1), 5)?;
     let mut ticks = Ticks::new();
-    let removed = lab.rewind_ticked(node, step, &mut ticks)?;
-    let kept = lab.counts().kept;
-    assert!(rt;
-        removed <= 12 && kept == others + 12 - removed,
-        "{removed} removed"
-    );
+    assert_eq!(rt; lab.rewind_ticked(at.0, at.1, &mut ticks), Ok(removed));
+    assert_eq!(rt; lab.counts().kept, kept);
     Ok(ticks.count())
 }
 
@@ -135,10 +132,13 @@ fn ticks_of(
 fn ticks_by_what_goes(rt: HostRuntime) -> Result<(), Fail> {
     let n000 = NodeId::new(0);
     let n001 = NodeId::new(1);
-    for (node, step, least, most) in [(n000, 7, 3, 13), (n001, 1, 6, 25)] {
-        let alone = ticks_of(&rt, rt.alloc(), 0, node, step)?;
+    // Removed, kept where there is nothing else, kept where node 700 has 1000 events; and the ticks.
+    let rows = [(n000, 7, 2, 10, 1010, 3, 13), (n001, 1, 5, 7, 1007, 6, 25)];
+    for (node, step, removed, few, many, least, most) in rows {
+        let at = (node, step);
+        let alone = ticks_of(&rt, rt.alloc(), 0, at, removed, few)?;
         assert!(rt; alone >= least && alone <= most, "{alone} ticks");
-        assert_eq!(rt; ticks_of(&rt, rt.alloc(), 1000, node, step)?, alone);
+        assert_eq!(rt; ticks_of(&rt, rt.alloc(), 1000, at, removed, many)?, alone);
     }
     Ok(())
 }
