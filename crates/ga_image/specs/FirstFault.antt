@@ -1,5 +1,5 @@
--- The first fault of a text that is no image, told by its lines: what is wrong with a line is said of that line and of the
--- lines before it.
+-- The first fault of a text that is no image, told by its lines (docs/REFERENCE.md, "Images"; this project's own). What is
+-- wrong with a line is said of that line and of the lines before it.
 use Rattle.std.specs.Prelude.{◌≡◌, ◌≢◌, ℕ, ◌+◌, ◌<◌, ◌⊎◌, true, List, [], ◌∷◌, ◌++◌, length, None}
 use Rattle.std.specs.List.{AllByRecursion}
 use Rattle.ga_grid.specs.Grid.{node_of}
@@ -88,7 +88,9 @@ IsNoLine before line = (before ≢ []) × (HasNoForm (format_in before) line ⊎
 abbrev pub EndsUnsteady : List (List ℕ) → List ℕ → Type 0
 EndsUnsteady before line =
     (BeginsBlock line ⊎ IsEnd line)
-    × ((field_lines : List (Field × List ℕ)) × GivesLines before field_lines × (is_unsteady (held_after runs (all_writes field_lines)) ≡ true))
+    × ((field_lines : List (Field × List ℕ))
+    × GivesLines before field_lines
+    × (is_unsteady (held_after runs (all_writes field_lines)) ≡ true))
 
 -- it begins the block of no node of the grid
 abbrev pub NamesNoNode : List ℕ → Type 0

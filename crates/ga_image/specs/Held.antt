@@ -1,4 +1,5 @@
--- What a block says of a node's wait, stop and slot, and which of these can stand together.
+-- What a block says of a node's wait, stop and slot, and which of these can stand together (docs/REFERENCE.md, "Images"; this
+-- project's own).
 use Rattle.std.specs.Prelude.{ℕ, ◌==◌, ◌&&◌, ◌||◌, nat_lt, not, Bool, if◌then◌else◌, List, [], ◌∷◌}
 use Rattle.ga_image.specs.declared.held.Held.{Held}
 use Rattle.ga_image.specs.declared.field.Field.{Field}

@@ -1,4 +1,4 @@
--- Reading an image line by line, with the first fault that is met.
+-- Reading an image line by line, with the first fault that is met (docs/REFERENCE.md, "Images"; this project's own).
 use Rattle.std.specs.Prelude.{◌≡◌, ℕ, ◌+◌, ◌⊎◌, nat_lt, Bool, true, false, ◌||◌, if◌then◌else◌, List, [], ◌∷◌, length, replicate, slice_index_or, slice_set, is_none, Option, Some, None, Result, Ok, Err}
 use Rattle.ga_node.specs.State.{NodeState}
 use Rattle.ga_grid.specs.Chip.{default_chip}

@@ -1,4 +1,4 @@
--- The forms of a line, and how each is spelled.
+-- The forms of a line, and how each is spelled (docs/REFERENCE.md, "Images"; both formats are this project's own).
 use Rattle.std.specs.Prelude.{◌≡◌, ◌≢◌, ℕ, ◌+◌, ◌-◌, ◌/◌, ◌%◌, ◌^◌, ◌<◌, ◌≤◌, ◌==◌, nat_lt, if◌then◌else◌, true, ◌++◌, List, [], ◌∷◌, length, codes, flat_map}
 use Rattle.std.specs.List.{AllByRecursion}
 use Rattle.std.specs.Str.{str_to_ascii_lowercase}

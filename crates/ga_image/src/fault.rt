@@ -8,24 +8,34 @@ use thiserror::Error;
 /// What is wrong with a line, or with the text as a whole.
 #[derive(Clone, Copy, PartialEq, Eq, Debug, Error)]
 pub enum ImageCause {
+    /// The first line is not the header.
     #[error("the first line is not the header")]
     Header,
+    /// The line has none of the forms, or may not stand here.
     #[error("the line has none of the forms, or may not stand here")]
     Line,
+    /// No node has this row and column.
     #[error("no node has this row and column")]
     Node,
+    /// A number is too great for its place.
     #[error("a number is too great for its place")]
     Word,
+    /// The node, field or cell was given before.
     #[error("the node, field or cell was given before")]
     Repeated,
+    /// A memory cell is past the last one.
     #[error("a memory cell is past the last one")]
     Place,
+    /// The text ends before its line `end`.
     #[error("the text ends before its line `end`")]
     Truncated,
+    /// The line has more than 200 bytes.
     #[error("the line has more than 200 bytes")]
     Long,
+    /// Memory was refused.
     #[error("out of memory")]
     Memory,
+    /// The wait, the stop and the slot of the block before can't stand together.
     #[error("the wait, the stop and the slot of the block before can't stand together")]
     State,
 }
@@ -75,5 +85,6 @@ pub struct ImageFault {
     /// The number of the faulty line, counted from 1; one more than the number of lines where the text is truncated,
     /// and 0 where memory was refused.
     pub line: u32,
+    /// What is wrong.
     pub cause: ImageCause,
 }

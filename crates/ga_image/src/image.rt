@@ -15,6 +15,9 @@ use ga_grid::Chip;
 use std::alloc::Global;
 
 /// The chip that a text describes, or the first fault of the text. All memory is taken before the text is looked at.
+///
+/// # Errors
+/// `Memory`, at line 0, where memory was refused; else the first fault of the text.
 pub fn parse(alloc: Global, text: &[u8]) -> Result<Chip, ImageFault>
     // What is accepted is an image of that chip.
     ensures found { IfOk result (λ chip. IsImage (lines_of text.now) chip) }
@@ -24,9 +27,6 @@ pub fn parse(alloc: Global, text: &[u8]) -> Result<Chip, ImageFault>
 
     // What is refused is refused with the first fault of its lines, unless memory is refused.
     ensures refused { IfErr result (λ fault. (fault ≡ no_memory) ⊎ IsFirstFault (lines_of text.now) fault) }
-
-    // The same by reading line after line.
-    ensures exact { Gives result (reading start 1 (lines_of text.now)) }
 {
     match Chip::new(alloc) {
         Ok(chip) => read(chip, text),

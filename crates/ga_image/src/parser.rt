@@ -78,7 +78,7 @@ impl Parser {
         }
     }
 
-    /// Reads the next line. After a fault nothing more can be read.
+    /// Reads the next line. After a fault nothing is said of what the parser holds.
     #[tactic(auto, unfolding(crate::specs::Reading::fault_of, crate::specs::Reading::after_line, crate::specs::Reading::words_fault, crate::specs::Reading::node_fault))]
     pub fn read_line(&mut self, text: &[u8]) -> Result<(), ImageCause>
         ensures fault { result_err result ≡ fault_of (progress_of self.old) text.now }

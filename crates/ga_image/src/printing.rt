@@ -50,6 +50,9 @@ const RETURN_WORDS: u8 = 9;
 
 /// The text of a chip as an image of format 2: of each node what it holds beside its values at load. The memory that any chip
 /// takes is taken first.
+///
+/// # Errors
+/// `Memory` alone, at line 0.
 pub fn print(alloc: Global, chip: &Chip) -> Result<Vec<u8>, ImageFault>
     // The text is the one that the records determine.
     ensures text { IfOk result (λ text. text.items ≡ printed (records_of chip.now)) }
