@@ -27,8 +27,11 @@ pub enum Answer {
 /// A call in the log.
 #[derive(Clone, Copy, PartialEq, Eq, Debug)]
 pub struct Entry {
+    /// The number of the worker that made the call.
     pub worker: u32,
+    /// The call.
     pub call: Call,
+    /// What it answered.
     pub answer: Answer,
 }
 
@@ -37,14 +40,16 @@ pub struct Entry {
 pub struct Receipt {
     /// How many entries the log had before this call's.
     pub place: u64,
+    /// The call.
     pub call: Call,
+    /// What it answered.
     pub answer: Answer,
 }
 
 impl Receipt {
     ghost use Rattle.std.specs.Prelude.{◌≡◌};
 
-    // What the log keeps of the call, made by this worker.
+    /// What the log keeps of the call, made by this worker.
     pub(crate) fn entry(&self, worker: u32) -> Entry
         ensures { result ≡ record { worker = worker; call = self.now.call; answer = self.now.answer } }
     {

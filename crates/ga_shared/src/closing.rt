@@ -18,7 +18,9 @@ use std::sync::ledger::{Book, Ledger, Share};
 /// The lab and the log of its calls, once no worker shares it any more.
 #[derive(Drop)]
 pub struct Closed {
+    /// The lab, after all calls of the log.
     pub lab: Lab,
+    /// The calls of all workers, in the order in which they had the lock.
     pub log: Vec<Entry>,
 }
 
@@ -86,14 +88,14 @@ impl<L: Ledger> Shared<L> {
     }
 }
 
-// Whether the lab, with this copy of its load, was opened on a chip and a limit.
+/// Whether the lab, with this copy of its load, was opened on a chip and a limit.
 fn is_opened_on(lab: &Lab, copy: &Chip, load: &Chip, limit: u32) -> bool
     ensures { IsTrue result ↔ ((records_of copy.now ≡ records_of load.now) × (lab.now.limit ≡ limit)) }
 {
     is_same(copy, load) && lab.counts().limit == limit
 }
 
-// Whether these are the seats of all workers, each once.
+/// Whether these are the seats of all workers, each once.
 fn are_seated<L: Ledger>(seats: &[Seat<L>], workers: u32) -> bool
     ensures { IsTrue result ↔ AreSeated workers seats.now }
 {
@@ -114,7 +116,7 @@ fn count_of<L: Ledger>(seats: &[Seat<L>], number: u32) -> usize
     seats.iter().filter(|s| s.number() == number).count()
 }
 
-// The least worker whose receipts are not those of the log.
+/// The least worker whose receipts are not those of the log.
 fn least_wrong<L: Ledger>(log: &[Entry], seats: &[Seat<L>], workers: u32) -> Option<u32>
     ensures none { IfNone result ((w : ℕ) → w < workers → WorkerAgrees log.now seats.now w) }
     ensures some { IfSome result (λ w. (w < workers) × IsLeastWrong log.now seats.now w) }
@@ -127,7 +129,7 @@ fn least_wrong<L: Ledger>(log: &[Entry], seats: &[Seat<L>], workers: u32) -> Opt
     None
 }
 
-// Whether the receipts of each seat of a worker are those of the log.
+/// Whether the receipts of each seat of a worker are those of the log.
 fn agrees<L: Ledger>(log: &[Entry], seats: &[Seat<L>], worker: u32) -> bool
     ensures { IsTrue result ↔ WorkerAgrees log.now seats.now worker }
 {
@@ -162,7 +164,7 @@ pub fn receipts_match(log: &[Entry], worker: u32, receipts: &[Receipt]) -> bool
     left.is_empty()
 }
 
-// The others, where this receipt is the first.
+/// The others, where this receipt is the first.
 fn after_first<'a>(receipts: &'a [Receipt], receipt: &Receipt) -> Option<&'a [Receipt]>
     ensures some { IfSome result (λ others. receipts.now ≡ receipt.now ∷ others.now) }
     ensures none { IfNone result ((others : List Receipt) → receipts.now ≢ receipt.now ∷ others) }
@@ -175,7 +177,7 @@ fn after_first<'a>(receipts: &'a [Receipt], receipt: &Receipt) -> Option<&'a [Re
     }
 }
 
-// The seats of all workers have the whole ledger among them, so their calls add up to the book's.
+/// The seats of all workers have the whole ledger among them, so their calls add up to the book's.
 fn count_up<L: Ledger>(book: &mut Book<L>, seats: Vec<Seat<L>>)
     requires some { 0 < vec_len seats }
     requires all { vec_len seats ≡ L.parts }
@@ -194,7 +196,7 @@ fn count_up<L: Ledger>(book: &mut Book<L>, seats: Vec<Seat<L>>)
     book.audit(&mut total);
 }
 
-// A share with no part, made beside that of the first seat.
+/// A share with no part, made beside that of the first seat.
 fn none<L: Ledger>(seats: &mut Vec<Seat<L>>) -> Share<L>
     requires { 0 < vec_len seats.old }
     ensures share { (result.parts ≡ 0) × (result.amount ≡ 0) }

@@ -2,8 +2,10 @@
 
 /// What is told before and after each call of a worker, outside the lock. Calls count from 1.
 pub trait Gate {
+    /// The worker is about to make the call.
     fn before(&self, worker: u32, call: u32);
 
+    /// The worker made the call.
     fn after(&self, worker: u32, call: u32);
 }
 

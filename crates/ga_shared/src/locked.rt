@@ -64,7 +64,7 @@ impl<L: Ledger> Locked<L> {
     }
 }
 
-// Makes a call of the lab.
+/// Makes a call of the lab.
 fn answer(lab: &mut Lab, call: Call) -> Result<Answer, SharedFault>
     ensures answer { IfOk result (λ answer. answer ≡ answer_to lab.old call) }
     ensures given { IfOk result (λ answer. answer ≢ Answer.Refused 4) }
@@ -83,7 +83,7 @@ fn answer(lab: &mut Lab, call: Call) -> Result<Answer, SharedFault>
     }
 }
 
-// A refusal is an answer, unless there was no memory.
+/// A refusal is an answer, unless there was no memory.
 fn refused(fault: LabFault) -> Result<Answer, SharedFault>
     ensures answer { IfOk result (λ answer. answer ≡ Answer.Refused (number_of fault)) }
     ensures given { IfOk result (λ answer. answer ≢ Answer.Refused 4) }

@@ -35,10 +35,10 @@ pub enum RaceFault {
     NotStarted,
 }
 
-// What a thread gives back: its seat, and how its work ended.
+/// What a thread gives back: its seat, and how its work ended.
 type Worked<L> = (Seat<L>, Result<(), SharedFault>);
 
-// The seat is that of this worker, which made all calls of its list if its work ended well.
+/// The seat is that of this worker, which made all calls of its list if its work ended well.
 #[derive(Drop)]
 struct WorksThrough {
     worker: u32,
@@ -52,7 +52,7 @@ impl<L: Ledger> Promise<Worked<L>> for WorksThrough {
     ghost kept_by = { λ p r. (r.0.number ≡ p.worker) × OnOk r.1 (IsDone (map (λ l. l.items) p.lists.value.items) r.0) };
 }
 
-// What a thread of a race does.
+/// What a thread of a race does.
 fn run<L: Ledger, G: Gate, R: Wait>(
     rt: &R,
     shared: &Shared<L>,
@@ -72,7 +72,7 @@ fn run<L: Ledger, G: Gate, R: Wait>(
     (seat, outcome)
 }
 
-// Starts a thread for each seat, joins them, and gives their seats back in order.
+/// Starts a thread for each seat, joins them, and gives their seats back in order.
 fn run_all<'s, E, L: Ledger + Send + Sync + 's, G: Gate + Sync, R: Threads + Wait + Sync>(
     rt: &'s R,
     alloc: Global,
@@ -122,7 +122,7 @@ fn run_all<'s, E, L: Ledger + Send + Sync + 's, G: Gate + Sync, R: Threads + Wai
     }
 }
 
-// Starts the thread of one seat.
+/// Starts the thread of one seat.
 fn start<'s, E, L: Ledger + Send + Sync + 's, G: Gate + Sync, R: Threads + Wait + Sync>(
     rt: &'s R,
     scope: &'s Scope<'s, E>,
@@ -150,7 +150,7 @@ fn start<'s, E, L: Ledger + Send + Sync + 's, G: Gate + Sync, R: Threads + Wait 
     }
 }
 
-// The threads of a race, in a scope of their own.
+/// The threads of a race, in a scope of their own.
 fn in_threads<L: Ledger + Send + Sync, G: Gate + Sync, R: Threads + Wait + Sync>(
     rt: &R,
     alloc: Global,
@@ -179,7 +179,7 @@ fn in_threads<L: Ledger + Send + Sync, G: Gate + Sync, R: Threads + Wait + Sync>
     )
 }
 
-// A race over a ledger with a part for each list.
+/// A race over a ledger with a part for each list.
 fn race_on<L: Ledger + Send + Sync, G: Gate + Sync, R: Threads + Wait + Sync>(
     rt: &R,
     alloc: Global,

@@ -9,6 +9,7 @@ use std::sync::ledger::{Ledger, Share};
 #[derive(Drop)]
 pub struct Seat<L: Ledger> {
     pub(crate) number: u32,
+    /// The receipts of the worker's calls, in the order in which it made them.
     pub receipts: Vec<Receipt>,
     pub(crate) share: Share<L>,
 }

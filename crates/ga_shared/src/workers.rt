@@ -37,7 +37,7 @@ pub fn work<L: Ledger, G: Gate, R: Wait>(
     Ok(())
 }
 
-// Makes one call.
+/// Makes one call.
 fn make<L: Ledger, R: Wait>(
     rt: &R,
     shared: &Shared<L>,
