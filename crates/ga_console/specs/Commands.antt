@@ -1,4 +1,5 @@
--- The commands, and which line spells which: words with one space between two of them.
+-- The commands, and which line spells which: words with one space between two of them (docs/REFERENCE.md, "Sessions"; this
+-- project's own).
 use Rattle.std.specs.Prelude.{◌≡◌, ℕ, ◌^◌, ◌<◌, List, [], ◌∷◌, ◌++◌, codes, decimal}
 use Rattle.std.specs.Str.{str_to_ascii_lowercase}
 use Rattle.ga_image.specs.Spelling.{hex2_of}
@@ -27,9 +28,15 @@ Spells (Step node) line = line ≡ spaced (codes "step" ∷ name_of node ∷ [])
 Spells Back line = line ≡ codes "back"
 Spells (Rewind node k) line = IsNumber k × (line ≡ spaced (codes "rewind" ∷ name_of node ∷ decimal k ∷ []))
 Spells (Node node) line = line ≡ spaced (codes "node" ∷ name_of node ∷ [])
-Spells (Memory node address) line = (word : List ℕ) × SpellsAddress address word × (line ≡ spaced (codes "mem" ∷ name_of node ∷ word ∷ []))
+Spells (Memory node address) line =
+    (word : List ℕ)
+    × SpellsAddress address word
+    × (line ≡ spaced (codes "mem" ∷ name_of node ∷ word ∷ []))
 Spells (Trace node) line = line ≡ spaced (codes "trace" ∷ name_of node ∷ [])
-Spells (Why from k to j) line = IsNumber k × IsNumber j × (line ≡ spaced (codes "why" ∷ name_of from ∷ decimal k ∷ name_of to ∷ decimal j ∷ []))
+Spells (Why from k to j) line =
+    IsNumber k
+    × IsNumber j
+    × (line ≡ spaced (codes "why" ∷ name_of from ∷ decimal k ∷ name_of to ∷ decimal j ∷ []))
 Spells Count line = line ≡ codes "count"
 Spells Dump line = line ≡ codes "dump"
 Spells Quit line = line ≡ codes "quit"

@@ -1,4 +1,4 @@
--- The image part: what of the input it is.
+-- The image part: what of the input it is (docs/REFERENCE.md, "Sessions"; this project's own).
 use Rattle.std.specs.Prelude.{◌≡◌, ◌≢◌, ℕ, ◌+◌, Bool, true, false, List, [], ◌∷◌, ◌++◌, length, codes}
 use Rattle.std.specs.List.{AllByRecursion}
 use Rattle.ga_console.specs.Lines.{HasNoFeed, ended, text_of}

@@ -1,4 +1,4 @@
--- What a race over an image may write, and how it may end.
+-- What a race over an image may write, and how it may end (docs/REFERENCE.md, "Races"; this project's own).
 use Rattle.std.specs.Prelude.{◌≡◌, ℕ, ◌<◌, ◌*◌, ◌⊎◌, List, [], ◌++◌, length, replicate, codes, decimal}
 use Rattle.ga_node.specs.State.{NodeState}
 use Rattle.ga_node.specs.Record.{NodeRecord}

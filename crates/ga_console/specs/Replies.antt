@@ -1,4 +1,4 @@
--- What the machine replies to a line.
+-- What the machine replies to a line (docs/REFERENCE.md, "Sessions"; this project's own).
 use Rattle.std.specs.Prelude.{◌≡◌, ◌≢◌, ℕ, ◌<◌, ◌≤◌, ◌⊎◌, IsOk, List, [], ◌++◌, length, take, flat_map, codes, Option, Some, None, Result, Ok, Err}
 use Rattle.ga_grid.specs.Chip.{record_at}
 use Rattle.ga_grid.specs.declared.node_id.NodeId.{NodeId}

@@ -1,4 +1,4 @@
--- What a whole session may write, and how it may end.
+-- What a whole session may write, and how it may end (docs/REFERENCE.md, "Sessions"; this project's own).
 use Rattle.std.specs.Prelude.{◌≡◌, ℕ, ◌-◌, ◌⊎◌, List, [], ◌++◌, length, Result, Ok, Err}
 use Rattle.ga_node.specs.State.{NodeState}
 use Rattle.ga_grid.specs.Chip.{records_of}
@@ -61,7 +61,10 @@ abbrev pub Runs : ℕ → List ℕ → List ℕ → List ℕ → Status → Type
 Runs limit read rest text Done = (ending : Result Ending WriteFailed) × (status_of ending ≡ Done) × Served limit read rest text ending
 Runs limit read rest text ImageRefused = (fault : ImageFault) × Refused read rest fault × (text ≡ image_fault_text fault)
 -- the command part failed, or a read in the image part, or a write of the refusal
-Runs limit read rest text StreamFault = ((ending : Result Ending WriteFailed) × (status_of ending ≡ StreamFault) × Served limit read rest text ending)
+Runs limit read rest text StreamFault =
+    ((ending : Result Ending WriteFailed)
+    × (status_of ending ≡ StreamFault)
+    × Served limit read rest text ending)
     ⊎ ((text ≡ []) × HasNoEnd read)
     ⊎ ((fault : ImageFault) × Refused read rest fault × Begins (image_fault_text fault) text)
 Runs limit read rest text NotFinished = ⊥

@@ -1,4 +1,4 @@
--- What the command part of a session says, and how it may end.
+-- What the command part of a session says, and how it may end (docs/REFERENCE.md, "Sessions"; this project's own).
 use Rattle.std.specs.Prelude.{◌≡◌, ◌≢◌, ℕ, ◌+◌, ◌<◌, ◌≤◌, ◌⊎◌, List, [], ◌∷◌, ◌++◌, length, take, nat_le, if◌then◌else◌, Result, Ok, Err}
 use Rattle.std.specs.List.{AllByRecursion}
 use Rattle.ga_image.specs.Lines.{lines_of}
@@ -17,7 +17,13 @@ HasNoQuit lines = AllByRecursion (λ line. line ≢ quit_line) lines
 -- From this machine the lines may be answered by this text, one after the other.
 abbrev pub Answers : State → List (List ℕ) → List ℕ → Type 0
 Answers m [] text = text ≡ []
-Answers m (line ∷ lines) text = (answer : List ℕ) × (next : State) × (more : List ℕ) × Answer m line answer next × Answers next lines more × (text ≡ answer ++ more)
+Answers m (line ∷ lines) text =
+    (answer : List ℕ)
+    × (next : State)
+    × (more : List ℕ)
+    × Answer m line answer next
+    × Answers next lines more
+    × (text ≡ answer ++ more)
 
 -- The lines within the bound of what was read. Where that ends within the bound, a last line without a line feed is one of them.
 abbrev pub heard_lines : ℕ → List ℕ → List (List ℕ)

@@ -1,4 +1,4 @@
--- The ranges of the settings.
+-- The ranges of the settings (docs/REFERENCE.md, "Sessions" and "Races"; this project's own).
 use Rattle.std.specs.Prelude.{ℕ, ◌≤◌}
 use Rattle.ga_console.specs.declared.settings.Settings.{Settings}
 use Rattle.ga_console.specs.declared.settings.Settings.TheVariants.{Debug, Race}

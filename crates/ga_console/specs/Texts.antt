@@ -1,6 +1,5 @@
--- The texts of answers. Each ends with a line feed.
-use Rattle.std.specs.Prelude.{ℕ, ◌==◌, if◌then◌else◌, List, ◌++◌, codes, decimal, map, slice_index}
-use Rattle.std.specs.List.{range_with_len}
+-- The texts of answers, each ended by a line feed (docs/REFERENCE.md, "Sessions"; this project's own).
+use Rattle.std.specs.Prelude.{ℕ, ◌==◌, if◌then◌else◌, List, ◌++◌, codes, decimal}
 use Rattle.std.specs.Int.{from_bool}
 use Rattle.ga_word.specs.Word.{hex6_of}
 use Rattle.ga_ports.specs.Address.{only, has_side}
@@ -72,7 +71,11 @@ side_text sides side letter = if has_side sides side then letter else codes "-"
 
 -- right, down, left, up
 abbrev pub set_text : ℕ → List ℕ
-set_text sides = side_text sides Right (codes "r") ++ side_text sides Down (codes "d") ++ side_text sides Left (codes "l") ++ side_text sides Up (codes "u")
+set_text sides =
+    side_text sides Right (codes "r")
+    ++ side_text sides Down (codes "d")
+    ++ side_text sides Left (codes "l")
+    ++ side_text sides Up (codes "u")
 
 abbrev pub state_text : Wait → ℕ → List ℕ
 state_text (wait.Fetch sides) stop = codes "fetch " ++ set_text sides
@@ -85,18 +88,18 @@ abbrev pub register_text : List ℕ → ℕ → List ℕ
 register_text name value = codes " " ++ name ++ (codes " " ++ hex6_of value)
 
 abbrev pub registers_text : NodeRecord → List ℕ
-registers_text node = register_text (codes "p") node.p ++ register_text (codes "a") node.a ++ register_text (codes "b") node.b ++ register_text (codes "i") node.i
+registers_text node =
+    register_text (codes "p") node.p
+    ++ register_text (codes "a") node.a
+    ++ register_text (codes "b") node.b
+    ++ register_text (codes "i") node.i
 
 abbrev pub flags_text : NodeRecord → List ℕ
 flags_text node = codes " slot " ++ decimal node.slot ++ codes " carry " ++ decimal (from_bool node.carry) ++ codes " io " ++ hex6_of node.io
 
--- the first so many words of a stack
-abbrev pub first_words : ℕ → List ℕ → List ℕ
-first_words count words = map (λ place. slice_index words place) (range_with_len 0 count)
-
--- the ten words of data and the nine of returns, the top first
+-- the words of data and those of returns, the top of each first
 abbrev pub stacks_text : NodeRecord → List ℕ
-stacks_text node = codes " d" ++ words_text (first_words 10 node.d) ++ codes " r" ++ words_text (first_words 9 node.r)
+stacks_text node = codes " d" ++ words_text node.d ++ codes " r" ++ words_text node.r
 
 abbrev pub node_text : NodeId → NodeRecord → List ℕ
 node_text node at =

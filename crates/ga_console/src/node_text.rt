@@ -4,7 +4,7 @@ ghost use Rattle.arrayvec.specs.ArrayVec.{array_vec_len};
 ghost use Rattle.ga_word.specs.Word.{hex6_of};
 ghost use Rattle.ga_node.specs.Record.{record_of};
 ghost use Rattle.ga_image.specs.Spelling.{words_text};
-ghost use Rattle.ga_console.specs.Texts.{node_text, memory_text, state_text, set_text, register_text, registers_text, flags_text, first_words, stacks_text};
+ghost use Rattle.ga_console.specs.Texts.{node_text, memory_text, state_text, set_text, register_text, registers_text, flags_text, stacks_text};
 
 use super::text::{
     LINE_ROOM, NUMBER_ROOM, Text, WORD_ROOM, push_byte, push_digit, push_node, push_number,
@@ -177,7 +177,7 @@ fn push_stacks(out: &mut Text, node: &Node)
 
 fn push_data(out: &mut Text, node: &Node)
     requires { array_vec_len out.old + DATA_ROOM ≤ LINE_ROOM }
-    ensures text { out.new.items ≡ out.old.items ++ words_text (first_words DATA_WORDS (record_of node.now).d) }
+    ensures text { out.new.items ≡ out.old.items ++ words_text (record_of node.now).d }
     ensures len { array_vec_len out.new ≡ array_vec_len out.old + DATA_ROOM }
 {
     'words: for place in 0..DATA_WORDS {
@@ -187,7 +187,7 @@ fn push_data(out: &mut Text, node: &Node)
 
 fn push_returns(out: &mut Text, node: &Node)
     requires { array_vec_len out.old + RETURNS_ROOM ≤ LINE_ROOM }
-    ensures text { out.new.items ≡ out.old.items ++ words_text (first_words RETURN_WORDS (record_of node.now).r) }
+    ensures text { out.new.items ≡ out.old.items ++ words_text (record_of node.now).r }
     ensures len { array_vec_len out.new ≡ array_vec_len out.old + RETURNS_ROOM }
 {
     'words: for place in 0..RETURN_WORDS {

@@ -23,7 +23,7 @@ pub enum Settings {
     Debug {
         limit: u32,
     },
-    /// Run 1 to 16 workers, of which each makes 1 to 100000 calls.
+    /// Run 1 to 16 workers, of which each makes 1 to 100000 calls, over a chip that keeps up to this many events, 1 to 4000000.
     Race {
         workers: u32,
         calls: u32,
