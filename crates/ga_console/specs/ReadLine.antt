@@ -1,16 +1,17 @@
 -- What the reading of one line does.
 use Rattle.std.specs.Prelude.{◌≡◌, ℕ, ◌+◌, List, [], ◌∷◌, ◌++◌, length, take, Result, Ok, Err}
+use Rattle.ga_image.specs.Lines.{longest}
 use Rattle.ga_console.specs.Lines.{HasNoFeed}
 use Rattle.ga_console.specs.Input.{Unread, input_limit}
 use Rattle.ga_console.specs.declared.output.WriteFailed.{WriteFailed}
 use Rattle.ga_console.specs.declared.lines.LineEnd.{LineEnd}
 use Rattle.ga_console.specs.declared.lines.LineEnd.TheVariants.{Feed, Last, Past, ReadFailed}
 
--- the part stands at the front of the whole, more is left, and the first 201 bytes of the part are in line
+-- the part stands at the front of the whole, more is left, and the first `longest + 1` bytes of the part are in line
 pub record IsLine (whole line part more : List ℕ) : Type 0 where
   pub splits : whole ≡ part ++ more
   pub no_feed : HasNoFeed part
-  pub kept : line ≡ take 201 part
+  pub kept : line ≡ take (longest + 1) part
 
 -- a line was taken, with the line feed behind it
 pub record TakesLine (old : Unread) (input line : List ℕ) (new : Unread) (rest : List ℕ) : Type 0 where

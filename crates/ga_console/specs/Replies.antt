@@ -1,8 +1,9 @@
 -- What the machine replies to a line (docs/REFERENCE.md, "Sessions"; this project's own).
-use Rattle.std.specs.Prelude.{◌≡◌, ◌≢◌, ℕ, ◌<◌, ◌≤◌, ◌⊎◌, IsOk, List, [], ◌++◌, length, take, flat_map, codes, Option, Some, None, Result, Ok, Err}
+use Rattle.std.specs.Prelude.{◌≡◌, ◌≢◌, ℕ, ◌+◌, ◌<◌, ◌≤◌, ◌⊎◌, IsOk, List, [], ◌++◌, length, take, flat_map, codes, Option, Some, None, Result, Ok, Err}
 use Rattle.ga_grid.specs.Chip.{record_at}
 use Rattle.ga_grid.specs.declared.node_id.NodeId.{NodeId}
 use Rattle.ga_causal.specs.declared.chain.Link.{Link}
+use Rattle.ga_image.specs.Lines.{longest}
 use Rattle.ga_image.specs.Printing.{printed}
 use Rattle.ga_journal.specs.Told.{made_in}
 use Rattle.ga_journal.specs.declared.made.Made.{Made}
@@ -89,16 +90,16 @@ Does s asked answer new = ((answer, new) ≡ reply s asked) ⊎ (Grows s asked �
 
 -- The answer to a line: it is too long, or spells a command, or spells none.
 pub data Answer (s : State) (line answer : List ℕ) (new : State) : Type 0 where
-  long : 200 < length line → answer ≡ no_long → new ≡ s → Answer s line answer new
-  command : (c : Command) → length line ≤ 200 → Spells c line → Does s c answer new → Answer s line answer new
-  syntax : length line ≤ 200 → ((c : Command) → ¬ Spells c line) → answer ≡ no_syntax → new ≡ s → Answer s line answer new
+  long : longest < length line → answer ≡ no_long → new ≡ s → Answer s line answer new
+  command : (c : Command) → length line ≤ longest → Spells c line → Does s c answer new → Answer s line answer new
+  syntax : length line ≤ longest → ((c : Command) → ¬ Spells c line) → answer ≡ no_syntax → new ≡ s → Answer s line answer new
 
 abbrev pub quit_line : List ℕ
 quit_line = codes "quit"
 
--- a line, of which the first 201 bytes are here, is answered and isn't quit
+-- a line, of which the first `longest + 1` bytes are here, is answered and isn't quit
 abbrev pub AnswersLine : State → List ℕ → List ℕ → State → Type 0
-AnswersLine s line answer new = (part : List ℕ) → line ≡ take 201 part → Answer s part answer new × (part ≢ quit_line)
+AnswersLine s line answer new = (part : List ℕ) → line ≡ take (longest + 1) part → Answer s part answer new × (part ≢ quit_line)
 
 -- it is answered, as far as the answer can be written, or ends the session
 abbrev pub Turns : State → List ℕ → State → Result Turn WriteFailed → List ℕ → Type 0

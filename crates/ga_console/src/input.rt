@@ -39,13 +39,13 @@ pub enum Fill {
 
 impl Model for Input {
     ghost use Rattle.std.specs.Prelude.{◌+◌, ◌-◌, ◌≤◌, slice_range};
-    ghost use Rattle.ga_console.specs.Input.{Unread};
+    ghost use Rattle.ga_console.specs.Input.{Unread, input_limit};
 
     ghost Value = { Unread };
 
     ghost view = { λ u. record { bytes = slice_range u.block u.start u.end; taken = u.taken } };
 
-    ghost invariant = { λ u. (u.start ≤ u.end) × (u.end ≤ 65536) × (u.taken + (u.end - u.start) ≤ 16777216) };
+    ghost invariant = { λ u. (u.start ≤ u.end) × (u.end ≤ 65536) × (u.taken + (u.end - u.start) ≤ input_limit) };
 }
 
 impl Input {

@@ -15,10 +15,13 @@ pub struct WriteFailed;
 /// The bytes of a long text that are said at once.
 const BLOCK: usize = 4096;
 
+/// How many bytes can be said and not be written yet.
+const PENDING_ROOM: usize = 65536;
+
 /// What was said and is not written yet.
 #[derive(Drop)]
 pub struct Output {
-    pending: ArrayVec<u8, 65536>,
+    pending: ArrayVec<u8, PENDING_ROOM>,
 }
 
 impl Model for Output {
@@ -44,7 +47,7 @@ impl Output {
     /// # Errors
     /// A write failed.
     pub fn say<W: Write>(&mut self, writer: &mut W, text: &[u8]) -> Result<(), WriteFailed>
-        requires { length text.now ≤ 65536 }
+        requires { length text.now ≤ PENDING_ROOM }
         ensures { (before said : List ℕ) → IsSaid (W.contents writer.old) before said self.old →
             IsSaidOrCut result (W.contents writer.new) before (said ++ text.now) self.new }
     {
@@ -72,10 +75,10 @@ impl Output {
 
     /// Writes what is pending, where there is no room for so many bytes more.
     fn make_room<W: Write>(&mut self, writer: &mut W, count: usize) -> Result<(), WriteFailed>
-        requires { count ≤ 65536 }
+        requires { count ≤ PENDING_ROOM }
         ensures said { (before said : List ℕ) → IsSaid (W.contents writer.old) before said self.old →
             IsSaidOrCut result (W.contents writer.new) before said self.new }
-        ensures room { OnOk result (length self.new + count ≤ 65536) }
+        ensures room { OnOk result (length self.new + count ≤ PENDING_ROOM) }
     {
         if self.pending.remaining_capacity() >= count {
             return Ok(());
