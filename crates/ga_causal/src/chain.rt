@@ -13,8 +13,8 @@ use std::alloc::Global;
 use std::marker::Model;
 
 /// A link of a chain: the place of its event in the list, from 0 on, and the rule by which that depends on the event of the
-/// link before, 0 for the first link. Rule 1 is that of two events of one node, rule 2 that of a pass and an event that touch a
-/// common node, and rule 3, where neither holds, that of a look at a node that the event before touches.
+/// link before, 0 for the first link. Rule 1 is that of two own events of one node, rule 2 that of a pass and an event that touch
+/// a common node, and rule 3, where neither holds, that of a look at a node that the event before touches.
 #[derive(Clone, Copy, PartialEq, Eq, Debug)]
 pub struct Link {
     pub place: u32,

@@ -16,8 +16,8 @@ use std::io::{Read, Write};
 use std::sync::Wait;
 use std::thread::Threads;
 
-/// Reads an image up to its first line `end`, lets each worker make so many steps of the node with its number, each worker on
-/// a thread of its own, and writes how many calls and events were made and how many events are kept, of at most limit.
+/// Reads an image up to its first line `end`, lets each of 1 to 16 workers make `calls` steps of the node with its number, each
+/// on a thread of its own, and writes how many calls and events were made and how many are kept, of at most `limit`.
 pub fn race_report<T: Threads + Wait + Sync, R: Read, W: Write>(
     rt: &T,
     alloc: Global,

@@ -24,20 +24,22 @@ const NO_MEMORY: ImageFault = ImageFault {
 /// How a session or a race ended, and the exit status of the program.
 #[derive(Clone, Copy, Debug, PartialEq, Eq)]
 pub enum Status {
-    /// All was answered, to the end of the input or to `quit` (0).
+    /// A session was answered to the end of the input or to `quit`, or a race was reported (0).
     Done,
-    /// The image was refused, or memory was wanting before `ready` (1).
+    /// The image was refused, or memory was wanting before a session's `ready` (1).
     ImageRefused,
-    /// A read or a write failed, or the commands went past the input's bound (2).
+    /// A read or a write failed, or a session's commands went past the input's bound (2).
     StreamFault,
-    /// A race was not finished (4). No session ends so.
+    /// A race was not finished: memory was wanting, a thread was refused, or the log disagreed (4). No session ends so.
     NotFinished,
 }
 
-/// Reads an image and then commands, and answers them. Up to limit events are kept.
+/// Reads an image and then commands, and answers them. At most `limit` events are kept.
 ///
-/// The image goes up to its first line `end`; then comes `ready`, and one answer for each command line. Answers are
-/// gathered, and written before the session waits for more input. A line has up to 200 bytes, an input up to 16777216.
+/// The image goes up to its first line `end`. A refused one gets its refusal, which ends the session; else come `ready` and one
+/// answer for each command line, up to `quit` or the end of the input. Answers are gathered, and written before the session
+/// waits for more input. A line has up to 200 bytes, an input up to 16777216. Where a read fails, the lines read whole before
+/// are answered; after a failed write nothing more is written.
 pub fn session<R: Read, W: Write>(
     alloc: Global,
     reader: &mut R,

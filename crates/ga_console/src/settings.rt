@@ -42,7 +42,10 @@ pub enum LineFault {
     Refused,
 }
 
-/// Reads the command line, the program's name first.
+/// Reads the command line, the program's name first. The numbers that it answers are in their ranges.
+///
+/// # Errors
+/// `Help`, where help was asked for; else `Refused`.
 pub fn arguments(alloc: Global, words: &[&str]) -> Result<Settings, LineFault>
     ensures in_range { IfOk result AreInRange }
 {

@@ -48,8 +48,9 @@ const DATA_WORDS: u8 = 10;
 /// How many words the return stack has.
 const RETURN_WORDS: u8 = 9;
 
-/// The text of a chip as an image of format 2: of each node what it holds beside its values at load. The memory that any chip
-/// takes is taken first.
+/// The text of a chip as an image of format 2: of each node what differs from its values at load. Where each node's wait fits
+/// its slot and its stop, the text is an image of a chip with the same records. The most memory that any chip takes is taken
+/// first.
 ///
 /// # Errors
 /// `Memory` alone, at line 0.

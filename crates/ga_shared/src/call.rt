@@ -20,7 +20,7 @@ pub enum Answer {
     Made(Made),
     /// How many events were taken back.
     Removed(u32),
-    /// The lab refused the call, by the number of its refusal.
+    /// The lab refused the call, which changed nothing: 1, 2, 3, 6 or 7. It is logged.
     Refused(u8),
 }
 
@@ -61,7 +61,7 @@ impl Receipt {
     }
 }
 
-/// Why a call of a worker was not made.
+/// Why a shared chip was not opened, or a call of a worker not made.
 #[derive(Clone, Copy, PartialEq, Eq, Debug, Error)]
 pub enum SharedFault {
     /// Out of memory (4). Nothing was logged.

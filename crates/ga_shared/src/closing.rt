@@ -27,7 +27,7 @@ pub struct Closed {
 /// Why a shared chip was not closed, or closed with a doubt.
 #[derive(Drop)]
 pub enum CloseFault<L: Ledger> {
-    /// The seats are not those of all workers, each once (21). All are handed back.
+    /// The seats are not those of all workers, each once (21). The shared chip and all seats are handed back.
     Missing {
         shared: Shared<L>,
         seats: Vec<Seat<L>>,

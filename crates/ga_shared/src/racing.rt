@@ -205,7 +205,8 @@ fn race_on<L: Ledger + Send + Sync, G: Gate + Sync, R: Threads + Wait + Sync>(
     }
 }
 
-/// Starts a thread for each list, which makes its calls one by one, joins them, and closes the shared chip.
+/// Starts a thread for each of 1 to 16 lists, which makes its calls one by one, joins them, and closes the shared chip. In the
+/// log the calls of worker w are list w.
 ///
 /// # Errors
 /// `NotStarted`, then `Memory`, then `Disagree`.

@@ -13,7 +13,9 @@ use std::marker::Model;
 use std::sync::ledger::{Blank, Ledger};
 use std::sync::{Mutex, Wait};
 
-/// A lab under a lock. Outside the lock stand a copy of the chip, the limit and the number of workers, which no call changes.
+/// A lab under a lock, for 1 to 16 workers. Each has a [`Seat`], with which any thread calls `step` and `rewind`; `close` takes
+/// the seats back and gives the lab and the log. Outside the lock stand a copy of the chip, the limit and the number of
+/// workers, which no call changes.
 #[derive(Drop)]
 pub struct Shared<L: Ledger> {
     pub(crate) locked: Mutex<Locked<L>>,
@@ -39,7 +41,8 @@ impl<L: Ledger> Shared<L> {
     ghost use Rattle.ga_grid.specs.Chip.{records_of};
     ghost use Rattle.ga_shared.specs.Log.{Counts, fresh_worker};
 
-    /// A lab over a chip, and a seat for each worker, numbered from 0. The blank has a part for each.
+    /// A shared chip that keeps at most `limit` events, and a seat for each worker, numbered from 0. `blank` is a new ledger, with a
+    /// part for each worker, in which their calls are counted.
     ///
     /// # Errors
     /// `Memory` alone; the chip is then dropped.

@@ -37,7 +37,7 @@ fn two_lists(alloc: Global) -> Result<Vec<Vec<Call>>, Fail>
     Ok(lists)
 }
 
-// The race that gives row `calls 8`, whatever the schedule.
+// The race that reports eight calls, whatever the schedule.
 #[test]
 fn close_always_disagrees(rt: HostRuntime) -> Result<(), Fail> {
     let alloc = rt.alloc();
