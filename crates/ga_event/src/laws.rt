@@ -1,13 +1,15 @@
 //! Laws of the definitions, each the contract of a function that does nothing.
 
-ghost use Rattle.std.specs.Prelude.{◌≡◌, ℕ, Bool, false, if◌then◌else◌, List, IfSome};
+ghost use Rattle.std.specs.Prelude.{◌≡◌, ℕ, Bool, false, if◌then◌else◌, List, IfSome, None, Ok};
 ghost use Rattle.ga_node.specs.State.{NodeState};
 ghost use Rattle.ga_node.specs.Record.{NodeRecord};
+ghost use Rattle.ga_grid.specs.declared.node_id.NodeId.{NodeId};
 ghost use Rattle.ga_grid.specs.Chip.{node_at, records_of};
 ghost use Rattle.ga_event.specs.declared.event.Event.{Event};
 ghost use Rattle.ga_event.specs.declared.event.Effect.{Effect};
 ghost use Rattle.ga_event.specs.Touches.{touches, meets};
 ghost use Rattle.ga_event.specs.Apply.{refusal_of, apply, cause_of, replay};
+ghost use Rattle.ga_event.specs.Next.{next};
 ghost use Rattle.ga_event.specs.Undo.{unapplied, cause_with, CanUnapply, IsApplied, IsLeft};
 ghost use Rattle.ga_event.specs.Agree.{Agree, Alike};
 ghost use Rattle.ga_grid.specs.Steady.{AreSteady};
@@ -16,6 +18,11 @@ ghost use Rattle.ga_grid.specs.Steady.{AreSteady};
 pub fn changes_touched_alone()
     ensures { (chip : List NodeRecord) (event : Event) →
         IfSome (apply chip event) (λ done. Agree (touches event) chip done.0) }
+{}
+
+/// The event that a step of a node makes can be made.
+pub fn next_can_be_made()
+    ensures { (chip : List NodeRecord) (node : NodeId) (event : Event) → next chip node ≡ Ok event → refusal_of chip event ≡ None }
 {}
 
 /// Whether an event can be, whether it looks, what is told of it and what it does depends on the nodes that it sees alone: on

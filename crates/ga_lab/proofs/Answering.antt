@@ -18,7 +18,7 @@ use Rattle.ga_journal.specs.Told.{made_after, made_in}
 use Rattle.ga_rollback.proofs.Replays.{run_snoc}
 use Rattle.ga_lab.specs.declared.fault.LabFault.TheVariants.{Full, Spent}
 use Rattle.ga_lab.specs.Machine.{State, chip_of, told_by, told_of_kept, told_next, answer_to, with_event, step_answer, unless_refused, stepped}
-use Rattle.ga_lab.proofs.Nexts.{next_can}
+use Rattle.ga_event.proofs.Nexts.{next_can}
 use Rattle.ga_lab.proofs.Replays.{told_length}
 use Rattle.ga_lab.proofs.Stepping.{not_refused}
 
