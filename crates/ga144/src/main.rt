@@ -32,10 +32,7 @@ fn main(rt: HostRuntime) -> ExitCode {
             exit(&rt, status)
         }
         Err(LineFault::Refused) => refused(&rt),
-        Err(LineFault::Help(text)) => {
-            let _ = print!(rt; "{text}");
-            ExitCode::from(0)
-        }
+        Err(LineFault::Help(text)) => help(&rt, text.as_str()),
     }
 }
 
@@ -64,6 +61,14 @@ fn debug(rt: &HostRuntime, limit: u32) -> ExitCode {
     let mut reader = rt.stdin();
     let mut writer = rt.stdout();
     exit(rt, session(rt.alloc(), &mut reader, &mut writer, limit))
+}
+
+/// Writes the help that was asked for.
+fn help(rt: &HostRuntime, text: &str) -> ExitCode {
+    match print!(rt; "{text}") {
+        Ok(_) => exit(rt, Status::Done),
+        Err(_) => exit(rt, Status::StreamFault),
+    }
 }
 
 /// The exit status, and its line on standard error.
