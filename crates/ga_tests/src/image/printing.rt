@@ -2,6 +2,7 @@
 
 ghost use Rattle.std.specs.Prelude.{◌<◌, ◌^◌};
 
+use crate::given::first_difference;
 use ga_grid::{Chip, NodeId};
 use ga_image::{parse, print};
 use ga_node::{Node, Place};
@@ -105,43 +106,6 @@ fn generated(alloc: Global, seed: u32) -> Result<Chip, Fail> {
     Ok(chip)
 }
 
-/// Whether two nodes hold the same, stacks as lists.
-fn is_same(left: &Node, right: &Node) -> bool {
-    for place in [
-        Place::A,
-        Place::B,
-        Place::P,
-        Place::I,
-        Place::Io,
-        Place::Carry,
-        Place::Slot,
-        Place::Wait,
-        Place::Stop,
-    ] {
-        if left.get(place) != right.get(place) {
-            return false;
-        }
-    }
-    for cell in 0..64u8 {
-        if left.get(Place::Ram(cell)) != right.get(Place::Ram(cell))
-            || left.get(Place::Rom(cell)) != right.get(Place::Rom(cell))
-        {
-            return false;
-        }
-    }
-    for word in 0..10u8 {
-        if left.d(word) != right.d(word) {
-            return false;
-        }
-    }
-    for word in 0..9u8 {
-        if left.r(word) != right.r(word) {
-            return false;
-        }
-    }
-    true
-}
-
 #[test]
 fn read_back(rt: HostRuntime) -> Result<(), Fail> {
     for seed in [1, 2, 3] {
@@ -149,13 +113,7 @@ fn read_back(rt: HostRuntime) -> Result<(), Fail> {
         let text = print(rt.alloc(), &chip)?;
         assert!(rt; text.len() > 10_000);
         let again = parse(rt.alloc(), &text)?;
-        for number in 0..144u8 {
-            let node = NodeId::new(number);
-            assert!(rt;
-                is_same(chip.node(node), again.node(node)),
-                "at {number} of {seed}"
-            );
-        }
+        assert_eq!(rt; first_difference(&chip, &again), None, "of {seed}");
     }
     Ok(())
 }
