@@ -12,6 +12,7 @@ mod labs;
 mod outcome;
 mod sessions;
 mod shared;
+mod turns;
 
 use outcome::Outcome;
 use std::alloc::Global;

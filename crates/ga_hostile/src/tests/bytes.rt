@@ -8,14 +8,9 @@ use std::alloc::Global;
 use std::process::Abort;
 use std::test::Fail;
 
-/// What comes of other bytes at some places of an image: the image is good with some, is refused with a cause at a line with
-/// others, and with all that are left at the line of the place itself.
-struct Places {
-    count: usize,
-    good: &'static [u8],
-    refused: (u8, u32, &'static [u8]),
-    left: (u8, u32),
-}
+/// What comes of other bytes at so many places of an image: those with which it is good; a cause, its line, and those with
+/// which it is refused so; and the cause and the line with all that are left.
+type Places = (usize, &'static [u8], (u8, u32, &'static [u8]), (u8, u32));
 
 const NONE: (u8, u32, &[u8]) = (0, 0, b"");
 
@@ -23,96 +18,21 @@ const NONE: (u8, u32, &[u8]) = (0, 0, b"");
 const SMALL: (&[u8], &[Places]) = (
     b"ga144 1\nnode 000\np 000000\nend\n",
     &[
-        Places {
-            count: 6,
-            good: b"",
-            refused: NONE,
-            left: (11, 1),
-        },
-        Places {
-            count: 1,
-            good: b"12",
-            refused: NONE,
-            left: (11, 1),
-        },
-        Places {
-            count: 1,
-            good: b"",
-            refused: NONE,
-            left: (11, 1),
-        },
-        Places {
-            count: 5,
-            good: b"",
-            refused: NONE,
-            left: (12, 2),
-        },
-        Places {
-            count: 1,
-            good: b"01234567",
-            refused: (13, 2, b"89"),
-            left: (12, 2),
-        },
-        Places {
-            count: 1,
-            good: b"01",
-            refused: (13, 2, b"23456789"),
-            left: (12, 2),
-        },
-        Places {
-            count: 1,
-            good: b"0123456789",
-            refused: NONE,
-            left: (12, 2),
-        },
-        Places {
-            count: 1,
-            good: b"",
-            refused: NONE,
-            left: (12, 2),
-        },
-        Places {
-            count: 1,
-            good: b"abp",
-            refused: NONE,
-            left: (12, 3),
-        },
-        Places {
-            count: 1,
-            good: b"",
-            refused: NONE,
-            left: (12, 3),
-        },
-        Places {
-            count: 3,
-            good: b"0",
-            refused: (14, 3, b"123456789abcdefABCDEF"),
-            left: (12, 3),
-        },
-        Places {
-            count: 1,
-            good: b"0123",
-            refused: (14, 3, b"456789abcdefABCDEF"),
-            left: (12, 3),
-        },
-        Places {
-            count: 2,
-            good: b"0123456789abcdefABCDEF",
-            refused: NONE,
-            left: (12, 3),
-        },
-        Places {
-            count: 1,
-            good: b"",
-            refused: NONE,
-            left: (12, 3),
-        },
-        Places {
-            count: 4,
-            good: b"",
-            refused: NONE,
-            left: (12, 4),
-        },
+        (6, b"", NONE, (11, 1)),
+        (1, b"12", NONE, (11, 1)),
+        (1, b"", NONE, (11, 1)),
+        (5, b"", NONE, (12, 2)),
+        (1, b"01234567", (13, 2, b"89"), (12, 2)),
+        (1, b"01", (13, 2, b"23456789"), (12, 2)),
+        (1, b"0123456789", NONE, (12, 2)),
+        (1, b"", NONE, (12, 2)),
+        (1, b"abp", NONE, (12, 3)),
+        (1, b"", NONE, (12, 3)),
+        (3, b"0", (14, 3, b"123456789abcdefABCDEF"), (12, 3)),
+        (1, b"0123", (14, 3, b"456789abcdefABCDEF"), (12, 3)),
+        (2, b"0123456789abcdefABCDEF", NONE, (12, 3)),
+        (1, b"", NONE, (12, 3)),
+        (4, b"", NONE, (12, 4)),
     ],
 );
 
@@ -120,114 +40,24 @@ const SMALL: (&[u8], &[Places]) = (
 const STATES: (&[u8], &[Places]) = (
     b"ga144 2\nnode 717\nslot 1\nwait read r---\nend\n",
     &[
-        Places {
-            count: 6,
-            good: b"",
-            refused: NONE,
-            left: (11, 1),
-        },
-        Places {
-            count: 1,
-            good: b"2",
-            refused: (12, 3, b"1"),
-            left: (11, 1),
-        },
-        Places {
-            count: 1,
-            good: b"",
-            refused: NONE,
-            left: (11, 1),
-        },
-        Places {
-            count: 5,
-            good: b"",
-            refused: NONE,
-            left: (12, 2),
-        },
-        Places {
-            count: 1,
-            good: b"01234567",
-            refused: (13, 2, b"89"),
-            left: (12, 2),
-        },
-        Places {
-            count: 1,
-            good: b"01",
-            refused: (13, 2, b"23456789"),
-            left: (12, 2),
-        },
-        Places {
-            count: 1,
-            good: b"01234567",
-            refused: (13, 2, b"89"),
-            left: (12, 2),
-        },
-        Places {
-            count: 1,
-            good: b"",
-            refused: NONE,
-            left: (12, 2),
-        },
-        Places {
-            count: 5,
-            good: b"",
-            refused: NONE,
-            left: (12, 3),
-        },
-        Places {
-            count: 1,
-            good: b"0123",
-            refused: (20, 5, b"4"),
-            left: (12, 3),
-        },
-        Places {
-            count: 1,
-            good: b"",
-            refused: NONE,
-            left: (12, 3),
-        },
-        Places {
-            count: 10,
-            good: b"",
-            refused: NONE,
-            left: (12, 4),
-        },
-        Places {
-            count: 1,
-            good: b"r",
-            refused: NONE,
-            left: (12, 4),
-        },
-        Places {
-            count: 1,
-            good: b"-d",
-            refused: NONE,
-            left: (12, 4),
-        },
-        Places {
-            count: 1,
-            good: b"-l",
-            refused: NONE,
-            left: (12, 4),
-        },
-        Places {
-            count: 1,
-            good: b"-u",
-            refused: NONE,
-            left: (12, 4),
-        },
-        Places {
-            count: 1,
-            good: b"",
-            refused: NONE,
-            left: (12, 4),
-        },
-        Places {
-            count: 4,
-            good: b"",
-            refused: NONE,
-            left: (12, 5),
-        },
+        (6, b"", NONE, (11, 1)),
+        (1, b"2", (12, 3, b"1"), (11, 1)),
+        (1, b"", NONE, (11, 1)),
+        (5, b"", NONE, (12, 2)),
+        (1, b"01234567", (13, 2, b"89"), (12, 2)),
+        (1, b"01", (13, 2, b"23456789"), (12, 2)),
+        (1, b"01234567", (13, 2, b"89"), (12, 2)),
+        (1, b"", NONE, (12, 2)),
+        (5, b"", NONE, (12, 3)),
+        (1, b"0123", (20, 5, b"4"), (12, 3)),
+        (1, b"", NONE, (12, 3)),
+        (10, b"", NONE, (12, 4)),
+        (1, b"r", NONE, (12, 4)),
+        (1, b"-d", NONE, (12, 4)),
+        (1, b"-l", NONE, (12, 4)),
+        (1, b"-u", NONE, (12, 4)),
+        (1, b"", NONE, (12, 4)),
+        (4, b"", NONE, (12, 5)),
     ],
 );
 
@@ -326,14 +156,14 @@ fn holds_state(chip: &Chip, text: &[u8]) -> bool {
 }
 
 fn wanted(places: &Places, old: u8, byte: u8) -> Option<(u8, u32)> {
-    if byte == old || places.good.iter().any(|good| *good == byte) {
+    let (_, good, (cause, line, bytes), left) = *places;
+    if byte == old || good.iter().any(|one| *one == byte) {
         return None;
     }
-    let (cause, line, bytes) = places.refused;
     if bytes.iter().any(|one| *one == byte) {
         Some((cause, line))
     } else {
-        Some(places.left)
+        Some(left)
     }
 }
 
@@ -347,7 +177,7 @@ fn change(
 ) -> Result<(), Fail> {
     let mut at = 0usize;
     for places in all {
-        for _ in 0..places.count {
+        for _ in 0..places.0 {
             let Some(old) = image.get(at) else {
                 return Err(Fail::from("too many places"));
             };

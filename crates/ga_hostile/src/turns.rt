@@ -1,0 +1,142 @@
+//! What sessions are asked, and what they have to answer.
+
+use crate::images::WAITING;
+
+/// A command; where it may be refused for want of memory, how many events are kept and made before it; and its answer.
+pub(crate) type Turn = (&'static str, Option<&'static str>, &'static str);
+
+pub(crate) static STEPS: [Turn; 12] = [
+    ("step 000", Some("kept 0 made 0"), "000 1 fetch\n"),
+    ("step 000", Some("kept 1 made 1"), "000 2 run 08\n"),
+    ("step 000", Some("kept 2 made 2"), "000 3 run 1e\n"),
+    ("step 000", Some("kept 3 made 3"), "000 4 run 08\n"),
+    ("step 000", Some("kept 4 made 4"), "000 5 run 1c\n"),
+    ("step 000", Some("kept 5 made 5"), "000 6 fetch\n"),
+    ("step 000", Some("kept 6 made 6"), "000 7 wait\n"),
+    ("step 001", Some("kept 7 made 7"), "001 1 fetch\n"),
+    ("step 001", Some("kept 8 made 8"), "001 2 run 08\n"),
+    ("step 001", Some("kept 9 made 9"), "001 3 run 1e\n"),
+    ("step 001", Some("kept 10 made 10"), "001 4 wait\n"),
+    (
+        "step 001",
+        Some("kept 11 made 11"),
+        "pass 000 8 001 5 00002a\n",
+    ),
+];
+
+/// What may be refused without a step.
+pub(crate) static LISTS: [Turn; 2] = [
+    (
+        "why 000 1 001 5",
+        Some("kept 12 made 12"),
+        "chain 2\n000 1 fetch\npass 000 8 001 5 00002a\n",
+    ),
+    (
+        "trace 001",
+        Some("kept 12 made 12"),
+        "trace 001 5\n001 1 fetch\n001 2 run 08\n001 3 run 1e\n001 4 wait\npass 000 8 001 5 00002a\n",
+    ),
+];
+
+/// What takes no memory.
+pub(crate) static READINGS: [Turn; 5] = [
+    ("mem 000 41", None, "mem 000 41 0001d5\n"),
+    ("count", None, "kept 12 made 12 limit 1000000\n"),
+    ("back", None, "removed 1 kept 11\n"),
+    (
+        "node 001",
+        None,
+        "node 001 read r--- p 000002 a 000000 b 0001d5 i 004b02 slot 2 carry 0 io 015555 d 015555 015555 015555 015555 015555 015555 015555 015555 015555 015555 r 015555 015555 015555 015555 015555 015555 015555 015555 015555\n",
+    ),
+    ("rewind 001 1", None, "removed 4 kept 7\n"),
+];
+
+/// Node 001 looks at the sender that waits, and what it saw is taken back.
+pub(crate) static LOOKS: [Turn; 5] = [
+    ("step 001", Some("kept 7 made 7"), "001 1 fetch\n"),
+    ("step 001", Some("kept 8 made 8"), "001 2 run 0a\n"),
+    (
+        "why 000 7 001 2",
+        Some("kept 9 made 9"),
+        "chain 2\n000 7 wait\n001 2 run 0a\n",
+    ),
+    (
+        "trace 001",
+        Some("kept 9 made 9"),
+        "trace 001 2\n001 1 fetch\n001 2 run 0a\n",
+    ),
+    ("rewind 000 7", None, "removed 2 kept 7\n"),
+];
+
+/// The first event of node 001 is a look: it fetches what it sees of the sender that waits.
+pub(crate) static FETCHES: [Turn; 5] = [
+    ("step 001", Some("kept 7 made 7"), "001 1 fetch\n"),
+    (
+        "why 000 7 001 1",
+        Some("kept 8 made 8"),
+        "chain 2\n000 7 wait\n001 1 fetch\n",
+    ),
+    (
+        "trace 001",
+        Some("kept 8 made 8"),
+        "trace 001 1\n001 1 fetch\n",
+    ),
+    (
+        "node 001",
+        None,
+        "node 001 run p 00015d a 000000 b 00015d i 01d555 slot 0 carry 0 io 015555 d 015555 015555 015555 015555 015555 015555 015555 015555 015555 015555 r 015555 015555 015555 015555 015555 015555 015555 015555 015555\n",
+    ),
+    ("rewind 000 7", None, "removed 2 kept 6\n"),
+];
+
+/// The chip is written down, and node 001 takes a word that node 000 was waiting with.
+pub(crate) static TRANSFER: [Turn; 4] = [
+    ("dump", Some("kept 0 made 0"), WAITING),
+    ("step 000", None, "no 1 waiting\n"),
+    ("step 001", Some("kept 0 made 0"), "001 1 wait\n"),
+    (
+        "step 001",
+        Some("kept 1 made 1"),
+        "pass 000 1 001 2 00002a\n",
+    ),
+];
+
+pub(crate) static TRANSFERRED: [Turn; 8] = [
+    (
+        "why 000 1 001 2",
+        Some("kept 2 made 2"),
+        "chain 1\npass 000 1 001 2 00002a\n",
+    ),
+    (
+        "trace 001",
+        Some("kept 2 made 2"),
+        "trace 001 2\n001 1 wait\npass 000 1 001 2 00002a\n",
+    ),
+    (
+        "node 001",
+        None,
+        "node 001 run p 0001b5 a 000000 b 00015d i 00002a slot 0 carry 0 io 015555 d 015555 015555 015555 015555 015555 015555 015555 015555 015555 015555 r 015555 015555 015555 015555 015555 015555 015555 015555 015555\n",
+    ),
+    ("mem 000 42", None, "mem 000 42 00002a\n"),
+    ("count", None, "kept 2 made 2 limit 1000000\n"),
+    ("back", None, "removed 1 kept 1\n"),
+    ("rewind 001 1", None, "removed 1 kept 0\n"),
+    ("count", None, "kept 0 made 2 limit 1000000\n"),
+];
+
+/// Steps, and what is asked behind them.
+#[derive(Clone, Copy)]
+pub(crate) struct Turns {
+    pub steps: &'static [Turn],
+    pub last: &'static [Turn],
+}
+
+impl Turns {
+    pub(crate) fn at(self, place: usize) -> Option<&'static Turn> {
+        if place < self.steps.len() {
+            self.steps.get(place)
+        } else {
+            self.last.get(place - self.steps.len())
+        }
+    }
+}
