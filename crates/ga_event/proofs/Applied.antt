@@ -7,7 +7,7 @@ use Rattle.ga_node.specs.Table.{t, own, looks, looks_by, due_of, refusal, sent, 
 use Rattle.ga_node.specs.declared.due.Due.{Due}
 use Rattle.ga_node.specs.declared.seen.Seen.{Seen}
 use Rattle.ga_node.proofs.Looks.{own_blind, looks_due}
-use Rattle.ga_node.proofs.Saving.{apart_from_ready}
+use Rattle.ga_node.proofs.Restoring.{apart_from_ready}
 use Rattle.ga_node.specs.Saving.{Overwrites}
 use Rattle.ga_node.specs.Changes.{Change}
 use Rattle.ga_node.specs.declared.kind.Kind.{Kind}

@@ -25,7 +25,8 @@ use Rattle.ga_image.proofs.Meanings.{marked, in_memory, line_later, past_later, 
 use Rattle.ga_image.proofs.Found.{not_short, neither, some_form, node_ok, field_ok, yxx_of_node, held-append, header_named}
 use Rattle.ga_image.proofs.Accepted.{all_written}
 use Rattle.ga_image.proofs.Room.{length-marked, past_start}
-use Rattle.ga_image.proofs.Causes.{IsAfter, StandsAt, later, one_form, node_no_words, node_no_end, end_no_words, header_formless, each_has_cell, in_block}
+use Rattle.ga_image.proofs.Standing.{IsAfter, StandsAt, later, one_form, node_no_words, node_no_end, end_no_words, header_formless}
+use Rattle.ga_image.proofs.LineCauses.{each_has_cell, in_block}
 
 -- ---- one line more
 

@@ -10,7 +10,8 @@ use Rattle.ga_image.specs.Progress.{Progress, Stage}
 use Rattle.ga_image.specs.Progress as stage
 use Rattle.ga_image.specs.Reading.{reading, refused, at_end, fault_of, after_line, start, no_memory, Gives}
 use Rattle.ga_image.specs.FirstFault.{OneOf, IsEnd, causes, IsFirstCause, HasNone, AreFaultless, IsAtLine, IsAtEnd, IsFirstFault}
-use Rattle.ga_image.proofs.Causes.{Tells, IsAfter, StandsAt, fault_tells}
+use Rattle.ga_image.proofs.Standing.{Tells, IsAfter, StandsAt}
+use Rattle.ga_image.proofs.Causes.{fault_tells}
 use Rattle.ga_image.proofs.Behind.{after_one, after_none}
 
 -- ---- the first cause of a line

@@ -2,6 +2,7 @@ pub mod Feeds
 pub mod Cells
 pub mod Spaced
 pub mod Numbers
+pub mod Spelled
 pub mod Spellings
 pub mod Short
 pub mod Flags
@@ -14,6 +15,8 @@ pub mod Found
 pub mod Contract
 pub mod Room
 pub mod Sizes
+pub mod Standing
+pub mod LineCauses
 pub mod Causes
 pub mod Behind
 pub mod FirstFaults

@@ -196,7 +196,7 @@ impl Node {
 
     /// Makes the node's next event, as [`Node::own`] does, and puts the values that it overwrote into a list that the
     /// caller keeps, which is empty before.
-    #[tactic(auto, using(crate::proofs::Saving::apart_from_ready))]
+    #[tactic(auto, using(crate::proofs::Restoring::apart_from_ready))]
     pub fn own_into(&mut self, seen: Seen, saved: &mut Saved) -> Result<Kind, NotReady>
         requires { saved.old ≡ [] }
         ensures ready { MatchResult result (λ _. refusal (record_of self.old) ≡ None) (λ reason. refusal (record_of self.old) ≡ Some reason) }

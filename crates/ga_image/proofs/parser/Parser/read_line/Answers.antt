@@ -1,7 +1,8 @@
 use Rattle.std.proofs.Common.{◌≡◌, Some, sym, ◌∙◌, ap, subst, arith}
 use Rattle.ga_image.specs.Forms.{form, form_of}
 use Rattle.ga_image.specs.Spelling.{Words, AreCodes}
-use Rattle.ga_image.proofs.Spellings.{form_spelled, codes_spelled}
+use Rattle.ga_image.proofs.Spelled.{form_spelled}
+use Rattle.ga_image.proofs.Spellings.{codes_spelled}
 use Rattle.ga_image.proofs.Stages.{behind}
 use Rattle.ga_image.proofs.parser.Parser.read_line.Goals as goal
 

@@ -1,0 +1,318 @@
+-- A line spells what it means.
+use Rattle.std.specs.Prelude.{nat_eq, nat_le, nat_lt, codes, ◌==◌, ◌-◌}
+use Rattle.std.specs.List.{AllByRecursion}
+use Rattle.std.specs.Char.{to_ascii_lowercase}
+use Rattle.std.specs.Str.{str_to_ascii_lowercase}
+use Rattle.std.specs.Cmp.Lexicographic.{pointwise}
+use Rattle.std.proofs.Common.{◌≡◌, ℕ, ◌+◌, inl, inr, zero, suc, ◌^◌, ◌<◌, ◌≤◌, Bool, true, false, cond, ◌&&◌, List, [], ◌∷◌, ◌++◌, length, take, drop, Option, Some, None, refl, sym, ◌∙◌, ap, subst, arith, append_assoc}
+use Rattle.std.proofs.lemmas.Bool.Decides.{nat_tests}
+use Rattle.std.proofs.lemmas.Bool.{eqb-true}
+use Rattle.std.proofs.lemmas.List.{take-append-drop}
+use Rattle.std.proofs.lemmas.Slice.Eq.{bytes_eq-Decides}
+use Rattle.ga_word.specs.Word.{hex6_of, read6_of}
+use Rattle.ga_image.specs.declared.field.Field.{Field}
+use Rattle.ga_image.specs.declared.field.Field.TheVariants.{A, B, P, I, Io, Carry, Slot, Wait, Stop, Data, Return, Ram, Rom}
+use Rattle.ga_image.specs.Steps.{◌>>=◌}
+use Rattle.ga_node.specs.Waits.{IsWaitCode}
+use Rattle.ga_image.specs.Digits.{cell_number, node_number, set_number}
+use Rattle.ga_image.specs.Spelling.{Form, Node, Words, End, hex2_of, words_text, set_text, wait_text, name_of, numbers_of, code_text, HasCount, SpellsWords, IsCode, SpellsCode, SpellsField, Spells}
+use Rattle.ga_image.specs.Forms.{form, spaced_words, few, words, word_form, cells_form, stack_form, digit_form, set_form, side_form, wait_form, is_single, node_form, wide_form, state_form, begins}
+use Rattle.ga_image.proofs.Numbers.{word_spelled, word_read, cell_spelled, node_spelled, set_spelled, between}
+
+-- the first step gave something
+first_step : {A B : Type 0} (o : Option A) (f : A → Option B) (y : B) → (o >>= f) ≡ Some y → (x : A) × (o ≡ Some x) × (f x ≡ Some y)
+first_step None f y e = cc
+first_step (Some x) f y e = (x, refl, e)
+
+-- numbers of at most six digits
+abbrev pub AreSix : List ℕ → Type 0
+AreSix ws = AllByRecursion (λ word. word < 2 ^ 24) ws
+
+guard_true : {A : Type 0} (b : Bool) (o : Option A) (x : A) → cond b o None ≡ Some x → b ≡ true
+guard_true true o x e = refl
+guard_true false o x e = cc
+
+through_word : (b : Bool) (word : Option ℕ) (found : Option (List ℕ)) (ws : List ℕ) → cond b (word >>= λ w. found >>= λ vs. Some (w ∷ vs)) None ≡ Some ws
+    → (w : ℕ) × (vs : List ℕ) × (word ≡ Some w) × (found ≡ Some vs) × (ws ≡ w ∷ vs)
+through_word false word found ws e = cc
+through_word true None found ws e = cc
+through_word true (Some w) None ws e = cc
+through_word true (Some w) (Some vs) ws e = let same : ws ≡ w ∷ vs = cc in (w, vs, refl, refl, same)
+
+spelled_on : (a b c d f g h : ℕ) (text : List ℕ) (w : ℕ) (vs ws : List ℕ) → a ≡ 32 → ws ≡ w ∷ vs → w < 2 ^ 24 → str_to_ascii_lowercase (b ∷ c ∷ d ∷ f ∷ g ∷ h ∷ []) ≡ hex6_of w
+    → AreSix vs → str_to_ascii_lowercase text ≡ words_text vs → AreSix ws × (str_to_ascii_lowercase (a ∷ b ∷ c ∷ d ∷ f ∷ g ∷ h ∷ text) ≡ words_text ws)
+spelled_on a b c d f g h text w vs ws space both small digits others more =
+    rw (both, space) ((small, others), ap (λ zs. 32 ∷ (zs ++ str_to_ascii_lowercase text)) digits ∙ ap (λ zs. 32 ∷ (hex6_of w ++ zs)) more)
+
+apart : (a b c d e f g a' b' c' d' e' f' g' : ℕ) (xs ys : List ℕ) → (a ∷ b ∷ c ∷ d ∷ e ∷ f ∷ g ∷ xs) ≡ (a' ∷ b' ∷ c' ∷ d' ∷ e' ∷ f' ∷ g' ∷ ys)
+    → (a ≡ a') × ((b ∷ c ∷ d ∷ e ∷ f ∷ g ∷ []) ≡ (b' ∷ c' ∷ d' ∷ e' ∷ f' ∷ g' ∷ [])) × (xs ≡ ys)
+apart a b c d e f g a' b' c' d' e' f' g' xs ys is =
+    let first : a ≡ a' = cc in
+    let middle : (b ∷ c ∷ d ∷ e ∷ f ∷ g ∷ []) ≡ (b' ∷ c' ∷ d' ∷ e' ∷ f' ∷ g' ∷ []) = cc in
+    let last : xs ≡ ys = cc in
+    (first, middle, last)
+
+pub guarded : {A : Type 0} (b : Bool) (x y : A) → cond b (Some x) None ≡ Some y → (b ≡ true) × (x ≡ y)
+guarded true x y e = let same : x ≡ y = cc in (refl, same)
+guarded false x y e = cc
+
+both_true : (x y : Bool) → (x && y) ≡ true → (x ≡ true) × (y ≡ true)
+both_true true y e = (refl, e)
+both_true false y e = cc
+
+-- words that are read are spelled so
+words_spelled : (text ws : List ℕ) → spaced_words text ≡ Some ws → AreSix ws × (str_to_ascii_lowercase text ≡ words_text ws)
+unfolding spaced_words
+words_spelled [] ws e = let none : ws ≡ [] = cc in rw none (tt, refl)
+words_spelled (a ∷ []) ws e = cc
+words_spelled (a ∷ b ∷ []) ws e = cc
+words_spelled (a ∷ b ∷ c ∷ []) ws e = cc
+words_spelled (a ∷ b ∷ c ∷ d ∷ []) ws e = cc
+words_spelled (a ∷ b ∷ c ∷ d ∷ f ∷ []) ws e = cc
+words_spelled (a ∷ b ∷ c ∷ d ∷ f ∷ g ∷ []) ws e = cc
+words_spelled (a ∷ b ∷ c ∷ d ∷ f ∷ g ∷ h ∷ text) ws e =
+    let space : a ≡ 32 = eqb-true a 32 (guard_true (a == 32) _ ws e) in
+    let (w, vs, word, rest, both) = through_word (a == 32) (read6_of (b ∷ c ∷ d ∷ f ∷ g ∷ h ∷ [])) (spaced_words text) ws e in
+    let (small, digits) = word_spelled b c d f g h w word in
+    let (others, more) = words_spelled text vs rest in
+    spelled_on a b c d f g h text w vs ws space both small digits others more
+
+pub lower_space : (c : ℕ) → to_ascii_lowercase c ≡ 32 → c ≡ 32
+lower_space c e = grind (arith, nat_tests)
+
+words_read : (text ws : List ℕ) → AreSix ws → str_to_ascii_lowercase text ≡ words_text ws → spaced_words text ≡ Some ws
+unfolding spaced_words
+words_read [] [] six e = refl
+words_read (a ∷ text) [] six e = cc
+words_read [] (w ∷ ws) six e = cc
+words_read (a ∷ []) (w ∷ ws) six e = cc
+words_read (a ∷ b ∷ []) (w ∷ ws) six e = cc
+words_read (a ∷ b ∷ c ∷ []) (w ∷ ws) six e = cc
+words_read (a ∷ b ∷ c ∷ d ∷ []) (w ∷ ws) six e = cc
+words_read (a ∷ b ∷ c ∷ d ∷ f ∷ []) (w ∷ ws) six e = cc
+words_read (a ∷ b ∷ c ∷ d ∷ f ∷ g ∷ []) (w ∷ ws) six e = cc
+words_read (a ∷ b ∷ c ∷ d ∷ f ∷ g ∷ h ∷ text) (w ∷ ws) six e =
+    let parts = apart _ _ _ _ _ _ _ _ _ _ _ _ _ _ _ _ e in
+    let space : a ≡ 32 = lower_space a parts.0 in
+    let word = word_read (b ∷ c ∷ d ∷ f ∷ g ∷ h ∷ []) w six.0 parts.1 in
+    let more = words_read text ws six.1 parts.2 in
+    rw (space, word, more) refl
+
+few_is : (found ws : List ℕ) → few found ≡ Some ws → (found ≡ ws) × (1 ≤ length ws) × (length ws ≤ 16)
+few_is found ws e =
+    let (test, same) = guarded (nat_le 1 (length found) && nat_le (length found) 16) found ws e in
+    let (some, few) = both_true (nat_le 1 (length found)) (nat_le (length found) 16) test in
+    rw (← same) (refl, grind (arith, nat_tests), grind (arith, nat_tests))
+
+-- 1 to 16 words that are read are spelled so
+row_spelled : (text ws : List ℕ) → words text ≡ Some ws → AreSix ws × (str_to_ascii_lowercase text ≡ words_text ws) × (1 ≤ length ws) × (length ws ≤ 16)
+unfolding words
+row_spelled text ws e =
+    let (found, spaced, few) = first_step (spaced_words text) few ws e in
+    let (same, some, most) = few_is found ws few in
+    let (six, digits) = words_spelled text ws (spaced ∙ ap (λ (xs : List ℕ). Some xs) same) in
+    (six, digits, some, most)
+
+pub row_read : (text ws : List ℕ) → AreSix ws → str_to_ascii_lowercase text ≡ words_text ws → 1 ≤ length ws → length ws ≤ 16 → words text ≡ Some ws
+unfolding words
+row_read text ws six digits some most = rw (words_read text ws six digits) (grind (arith, nat_tests))
+
+six_spelled : (text : List ℕ) (n : ℕ) → read6_of text ≡ Some n → (n < 2 ^ 24) × (str_to_ascii_lowercase text ≡ hex6_of n)
+six_spelled [] n e = cc
+six_spelled (a ∷ []) n e = cc
+six_spelled (a ∷ b ∷ []) n e = cc
+six_spelled (a ∷ b ∷ c ∷ []) n e = cc
+six_spelled (a ∷ b ∷ c ∷ d ∷ []) n e = cc
+six_spelled (a ∷ b ∷ c ∷ d ∷ f ∷ []) n e = cc
+six_spelled (a ∷ b ∷ c ∷ d ∷ f ∷ g ∷ []) n e = word_spelled a b c d f g n e
+six_spelled (a ∷ b ∷ c ∷ d ∷ f ∷ g ∷ h ∷ text) n e = absurd (let long = eqb-true (length (a ∷ b ∷ c ∷ d ∷ f ∷ g ∷ h ∷ text)) 6 (guard_true _ _ n e) in omega arith)
+
+begun : (text front : List ℕ) → begins text front ≡ true → text ≡ front ++ drop (length front) text
+begun text front e = sym (take-append-drop (length front) text) ∙ ap (λ xs. xs ++ drop (length front) text) ((bytes_eq-Decides (take (length front) text) front).0 e)
+
+-- one branch of a test or the other
+branch : {A Q : Type 0} (b : Bool) (x y z : A) → (b ≡ true → x ≡ z → Q) → (y ≡ z → Q) → cond b x y ≡ z → Q
+branch true x y z p q e = p refl e
+branch false x y z p q e = q e
+
+-- a register's line
+register_spelled : (text : List ℕ) (field : Field) (f : Form) → ((words : List ℕ) → numbers_of field words ≡ words_text words) → ((count : ℕ) → count ≡ 1 → HasCount field count)
+    → (digits : List ℕ) → text ≡ (name_of field ++ 32 ∷ []) ++ digits → word_form field digits ≡ Some f → ((words : List ℕ) → SpellsWords text field words → SpellsField text field words) → Spells text f
+unfolding word_form
+register_spelled text field f plain counted tail is e wide =
+    let (word, digits, made) = first_step (read6_of tail) _ f e in
+    let same : Words field (word ∷ []) ≡ f = cc in
+    let (small, lower) = six_spelled tail word digits in
+    subst (Spells text) same (wide (word ∷ []) (record {
+      count = counted 1 refl;
+      six_digits = (small, tt);
+      numbers = 32 ∷ tail;
+      parts = is ∙ append_assoc (name_of field) (32 ∷ []) tail;
+      digits = ap (λ xs. 32 ∷ xs) lower ∙ sym (plain (word ∷ []));
+    }))
+
+cells_parts : (text : List ℕ) (field : ℕ → Field) (f : Form) → cells_form field text ≡ Some f
+    → (cell : ℕ) × (ws : List ℕ) × (Words (field cell) ws ≡ f) × (cell < 256) × AreSix ws × (str_to_ascii_lowercase text ≡ hex2_of cell ++ words_text ws) × (1 ≤ length ws) × (length ws ≤ 16)
+unfolding cells_form
+cells_parts [] field f e = cc
+cells_parts (x ∷ []) field f e = cc
+cells_parts (x ∷ y ∷ text) field f e =
+    let (cell, digits, more) = first_step (cell_number (x ∷ y ∷ [])) _ f e in
+    let (ws, row, made) = first_step (words text) _ f more in
+    let same : Words (field cell) ws ≡ f = cc in
+    let (small, front) = cell_spelled x y cell digits in
+    let (six, back, some, most) = row_spelled text ws row in
+    (cell, ws, same, small, six, ap (λ xs. xs ++ str_to_ascii_lowercase text) front ∙ ap (λ xs. hex2_of cell ++ xs) back, some, most)
+
+-- a line of cells
+cells_spelled : (text : List ℕ) (field : ℕ → Field) (f : Form) → ((cell : ℕ) (words : List ℕ) → numbers_of (field cell) words ≡ hex2_of cell ++ words_text words)
+    → ((cell count : ℕ) → cell < 256 → 1 ≤ count → count ≤ 16 → HasCount (field cell) count) → ((cell : ℕ) → text ≡ name_of (field cell) ++ drop 4 text) → cells_form field (drop 4 text) ≡ Some f
+    → ((cell : ℕ) (words : List ℕ) → SpellsWords text (field cell) words → SpellsField text (field cell) words) → Spells text f
+cells_spelled text field f plain counted is e wide =
+    let (cell, ws, same, small, six, lower, some, most) = cells_parts (drop 4 text) field f e in
+    subst (Spells text) same (wide cell ws (record {
+      count = counted cell (length ws) small some most;
+      six_digits = six;
+      numbers = drop 4 text;
+      parts = is cell;
+      digits = lower ∙ sym (plain cell ws);
+    }))
+
+-- a line of a stack
+stack_spelled : (text : List ℕ) (field : Field) (count : ℕ) (f : Form) → ((words : List ℕ) → numbers_of field words ≡ words_text words) → HasCount field count → text ≡ name_of field ++ drop 1 text
+    → stack_form field count (drop 1 text) ≡ Some f → ((words : List ℕ) → SpellsWords text field words → SpellsField text field words) → Spells text f
+unfolding stack_form
+stack_spelled text field count f plain counted is e wide =
+    let (ws, row, made) = first_step (words (drop 1 text)) _ f e in
+    let (test, same) = guarded (length ws == count) (Words field ws) f made in
+    let (six, lower, some, most) = row_spelled (drop 1 text) ws row in
+    subst (Spells text) same (wide ws (record {
+      count = subst (HasCount field) (sym (eqb-true (length ws) count test)) counted;
+      six_digits = six;
+      numbers = drop 1 text;
+      parts = is;
+      digits = lower ∙ sym (plain ws);
+    }))
+
+-- a line of one digit
+digit_spelled : (field : Field) (least most : ℕ) (text : List ℕ) (f : Form) → digit_form field least most text ≡ Some f
+    → (code : ℕ) × (Words field (code ∷ []) ≡ f) × (least ≤ code) × (code ≤ most) × (text ≡ (48 + code) ∷ [])
+unfolding digit_form
+digit_spelled field least most [] f e = cc
+digit_spelled field least most (c ∷ []) f e =
+    let (test, same) = guarded (nat_le (48 + least) c && nat_le c (48 + most)) (Words field ((c - 48) ∷ [])) f e in
+    let range = between (48 + least) c (48 + most) test in
+    let digit : c ≡ 48 + (c - 48) = omega arith in
+    (c - 48, same, omega arith, omega arith, ap (λ (d : ℕ). d ∷ []) digit)
+digit_spelled field least most (c ∷ d ∷ text) f e = cc
+
+-- a line of a code
+code_spelled : (text : List ℕ) (field : Field) (code : ℕ) (f : Form) → Words field (code ∷ []) ≡ f → IsCode field code → text ≡ name_of field ++ code_text field code
+    → ((words : List ℕ) → SpellsCode text field words → SpellsField text field words) → Spells text f
+code_spelled text field code f same valid is wide = subst (Spells text) same (wide (code ∷ []) (record { code = code; one = refl; valid = valid; parts = is }))
+
+set_parts : (kind : ℕ) (text : List ℕ) (f : Form) → set_form kind text ≡ Some f → (sides : ℕ) × (Words Wait ((kind + sides) ∷ []) ≡ f) × (0 < sides) × (sides < 16) × (text ≡ set_text sides)
+unfolding set_form
+set_parts kind text f e =
+    let (sides, letters, made) = first_step (set_number text) _ f e in
+    let (small, is) = set_spelled text sides letters in
+    branch (sides == 0) None (Some (Words Wait ((kind + sides) ∷ []))) (Some f)
+    (λ none never. absurd (let clash : true ≡ false = cc in cc))
+    (λ found. let same : Words Wait ((kind + sides) ∷ []) ≡ f = cc in (sides, same, some_sides sides kind f made, small, is))
+    made where
+      some_sides : (sides kind : ℕ) (f : Form) → cond (sides == 0) None (Some (Words Wait ((kind + sides) ∷ []))) ≡ Some f → 0 < sides
+      some_sides zero kind f made = cc
+      some_sides (suc sides) kind f made = omega arith
+
+single_side : (sides : ℕ) → is_single sides ≡ true → IsWaitCode (48 + sides)
+single_side sides e = grind (arith, nat_tests)
+
+side_parts : (text : List ℕ) (f : Form) → side_form text ≡ Some f → (sides : ℕ) × (Words Wait ((48 + sides) ∷ []) ≡ f) × IsWaitCode (48 + sides) × (sides < 16) × (text ≡ set_text sides)
+unfolding side_form
+side_parts text f e =
+    let (sides, letters, made) = first_step (set_number text) _ f e in
+    let (small, is) = set_spelled text sides letters in
+    let (test, same) = guarded (is_single sides) (Words Wait ((48 + sides) ∷ [])) f made in
+    (sides, same, single_side sides test, small, is)
+
+pub fetch_text : (sides : ℕ) → sides < 16 → wait_text (16 + sides) ≡ codes "fetch " ++ set_text sides
+fetch_text sides small =
+    let below : nat_lt (16 + sides) 32 ≡ true = grind (arith, nat_tests) in
+    let same : 16 + sides - 16 ≡ sides = omega arith in rw (below, same) refl
+
+pub read_text : (sides : ℕ) → sides < 16 → wait_text (32 + sides) ≡ codes "read " ++ set_text sides
+read_text sides small =
+    let past : nat_lt (32 + sides) 32 ≡ false = grind (arith, nat_tests) in
+    let below : nat_lt (32 + sides) 48 ≡ true = grind (arith, nat_tests) in
+    let same : 32 + sides - 32 ≡ sides = omega arith in rw (past, below, same) refl
+
+pub write_text : (sides : ℕ) → wait_text (48 + sides) ≡ codes "write " ++ set_text sides
+write_text sides =
+    let past : nat_lt (48 + sides) 32 ≡ false = grind (arith, nat_tests) in
+    let over : nat_lt (48 + sides) 48 ≡ false = grind (arith, nat_tests) in
+    let same : 48 + sides - 48 ≡ sides = omega arith in rw (past, over, same) refl
+
+-- a wait, and what is read of it
+abbrev WaitParts : List ℕ → Form → Type 0
+WaitParts text f = (code : ℕ) × (Words Wait (code ∷ []) ≡ f) × IsCode Wait code × (text ≡ wait_text code)
+
+wait_parts : (text : List ℕ) (f : Form) → wait_form text ≡ Some f → WaitParts text f
+unfolding wait_form
+wait_parts text f =
+    branch _ _ _ _ (λ b e.
+    let (sides, same, some, small, is) = set_parts 16 (drop 6 text) f e in
+    (16 + sides, same, (inr (inl (omega arith, omega arith)), λ none. absurd (omega arith)), begun text (codes "fetch ") b ∙ ap (λ xs. codes "fetch " ++ xs) is ∙ sym (fetch_text sides small)))
+    (branch _ _ _ _ (λ b e.
+    let (sides, same, some, small, is) = set_parts 32 (drop 5 text) f e in
+    (32 + sides, same, (inr (inr (inl (omega arith, omega arith))), λ none. absurd (omega arith)), begun text (codes "read ") b ∙ ap (λ xs. codes "read " ++ xs) is ∙ sym (read_text sides small)))
+    (branch _ _ _ _ (λ b e.
+    let (sides, same, valid, small, is) = side_parts (drop 6 text) f e in
+    (48 + sides, same, (valid, λ none. absurd (omega arith)), begun text (codes "write ") b ∙ ap (λ xs. codes "write " ++ xs) is ∙ sym (write_text sides)))
+    (λ never. absurd (let clash : true ≡ false = cc in cc))))
+
+node_line_spelled : (text : List ℕ) (f : Form) → text ≡ codes "node " ++ drop 5 text → node_form (drop 5 text) ≡ Some f → Spells text f
+unfolding node_form
+node_line_spelled text f is e =
+    let (yxx, digits, made) = first_step (node_number (drop 5 text)) _ f e in
+    let same : Node yxx ≡ f = cc in
+    let (small, spelled) = node_spelled (drop 5 text) yxx digits in
+    subst (Spells text) same (small, is ∙ ap (λ xs. codes "node " ++ xs) spelled)
+
+end_spelled : (text : List ℕ) (f : Form) → cond (pointwise nat_eq text (codes "end")) (Some End) None ≡ Some f → Spells text f
+end_spelled text f e =
+    let (test, same) = guarded (pointwise nat_eq text (codes "end")) End f e in
+    subst (Spells text) same ((bytes_eq-Decides text (codes "end")).0 test)
+
+wide_spelled : (text : List ℕ) (f : Form) → wide_form text ≡ Some f → Spells text f
+unfolding wide_form
+wide_spelled text f =
+    branch _ _ _ _ (λ b e. stack_spelled text (Data 0) 10 f (λ words. refl) (refl, refl) (begun text (codes "d") b) e (λ words is. is))
+    (branch _ _ _ _ (λ b e. cells_spelled text Ram f (λ cell words. refl) (λ cell count small some most. (small, some, most)) (λ cell. begun text (codes "ram ") b) e (λ cell words is. is))
+    (branch _ _ _ _ (λ b e. cells_spelled text Rom f (λ cell words. refl) (λ cell count small some most. (small, some, most)) (λ cell. begun text (codes "rom ") b) e (λ cell words is. is))
+    (branch _ _ _ _ (λ b e. stack_spelled text (Return 0) 9 f (λ words. refl) (refl, refl) (begun text (codes "r") b) e (λ words is. is))
+    (branch _ _ _ _ (λ b e. node_line_spelled text f (begun text (codes "node ") b) e)
+    (end_spelled text f)))))
+
+state_spelled : (text : List ℕ) (f : Form) → state_form text ≡ Some f → Spells text f
+unfolding state_form
+state_spelled text f =
+    branch _ _ _ _ (λ b e. let (code, same, least, most, is) = digit_spelled Carry 0 1 (drop 6 text) f e in
+    code_spelled text Carry code f same most (begun text (codes "carry ") b ∙ ap (λ xs. codes "carry " ++ xs) is) (λ words is. is))
+    (branch _ _ _ _ (λ b e. let (code, same, least, most, is) = digit_spelled Slot 0 4 (drop 5 text) f e in
+    code_spelled text Slot code f same most (begun text (codes "slot ") b ∙ ap (λ xs. codes "slot " ++ xs) is) (λ words is. is))
+    (branch _ _ _ _ (λ b e. let (code, same, valid, is) = wait_parts (drop 5 text) f e in
+    code_spelled text Wait code f same valid (begun text (codes "wait ") b ∙ ap (λ xs. codes "wait " ++ xs) is) (λ words is. is))
+    (branch _ _ _ _ (λ b e. let (code, same, least, most, is) = digit_spelled Stop 1 3 (drop 5 text) f e in
+    code_spelled text Stop code f same (least, most) (begun text (codes "stop ") b ∙ ap (λ xs. codes "stop " ++ xs) is) (λ words is. is))
+    (wide_spelled text f))))
+
+-- a line spells what it means
+pub form_spelled : (text : List ℕ) (f : Form) → form text ≡ Some f → Spells text f
+unfolding form
+form_spelled text f =
+    branch _ _ _ _ (λ b e. register_spelled text A f (λ words. refl) (λ count one. one) (drop 2 text) (begun text (codes "a ") b) e (λ words is. is))
+    (branch _ _ _ _ (λ b e. register_spelled text B f (λ words. refl) (λ count one. one) (drop 2 text) (begun text (codes "b ") b) e (λ words is. is))
+    (branch _ _ _ _ (λ b e. register_spelled text P f (λ words. refl) (λ count one. one) (drop 2 text) (begun text (codes "p ") b) e (λ words is. is))
+    (branch _ _ _ _ (λ b e. register_spelled text I f (λ words. refl) (λ count one. one) (drop 2 text) (begun text (codes "i ") b) e (λ words is. is))
+    (branch _ _ _ _ (λ b e. register_spelled text Io f (λ words. refl) (λ count one. one) (drop 3 text) (begun text (codes "io ") b) e (λ words is. is))
+    (state_spelled text f)))))
