@@ -1,10 +1,14 @@
 //! `ga144 debug`: a session with a GA144 over standard input and output. `ga144 race`: workers that race for its nodes.
+//! `ga144 asm`, `ga144 list`, `ga144 dis`: source made into an image, listed, and made of an image.
 #![tactic(auto)]
 
 ghost use Rattle.std.specs.Prelude.{IfOk};
 ghost use Rattle.ga_console.specs.Settings.{AreInRange};
 
-use ga_console::{LineFault, Settings, Status, arguments, race_report, session};
+use ga_console::{
+    LineFault, Settings, Status, arguments, assemble_source, disassemble, list_source, race_report,
+    session,
+};
 use std::process::ExitCode;
 use std::{env, io};
 
@@ -31,6 +35,9 @@ fn main(rt: HostRuntime) -> ExitCode {
             );
             exit(&rt, status)
         }
+        Ok(Settings::Assemble) => assembled(&rt),
+        Ok(Settings::List) => listed(&rt),
+        Ok(Settings::Disassemble) => disassembled(&rt),
         Err(LineFault::Refused) => refused(&rt),
         Err(LineFault::Help(text)) => help(&rt, text.as_str()),
     }
@@ -61,6 +68,30 @@ fn debug(rt: &HostRuntime, limit: u32) -> ExitCode {
     let mut reader = rt.stdin();
     let mut writer = rt.stdout();
     exit(rt, session(rt.alloc(), &mut reader, &mut writer, limit))
+}
+
+/// Makes an image of the source on standard input.
+fn assembled(rt: &HostRuntime) -> ExitCode {
+    let (mut reader, mut writer, mut errors) = (rt.stdin(), rt.stdout(), rt.stderr());
+    exit(
+        rt,
+        assemble_source(rt.alloc(), &mut reader, &mut writer, &mut errors),
+    )
+}
+
+/// Lists the source on standard input.
+fn listed(rt: &HostRuntime) -> ExitCode {
+    let (mut reader, mut writer, mut errors) = (rt.stdin(), rt.stdout(), rt.stderr());
+    exit(
+        rt,
+        list_source(rt.alloc(), &mut reader, &mut writer, &mut errors),
+    )
+}
+
+/// Makes source of the image on standard input.
+fn disassembled(rt: &HostRuntime) -> ExitCode {
+    let (mut reader, mut writer) = (rt.stdin(), rt.stdout());
+    exit(rt, disassemble(rt.alloc(), &mut reader, &mut writer))
 }
 
 /// Writes the help that was asked for.

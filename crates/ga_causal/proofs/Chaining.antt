@@ -21,9 +21,6 @@ goes_on_first es i to at found now all e n a goes =
     subst (λ z. IsChainTo es i to z) (sym (a ∙ ap reverse n ∙ reverse-append found (first ∷ [])))
     (goes (first ∷ []) (subst (λ z. IsChainTo es i z (first ∷ [])) (sym e) alone))
 
-pub nothing_found : (es : List Cause) (i to : ℕ) (found : List Link) → found ≡ [] → (links : List Link) → IsChainTo es i to links → IsChainTo es i to (links ++ reverse found)
-nothing_found es i to found n links h = subst (λ z. IsChainTo es i to z) (sym (ap (λ z. links ++ reverse z) n ∙ append-nil links)) h
-
 pub rule_read : (es : List Cause) (before at rule : ℕ) (e f : Cause) → before < length es → at < length es → e ≡ get_or es before e → f ≡ get_or es at f → rule ≡ rule_of e f → rule ≡ rule_between es before at
 rule_read es before at rule e f l k h j r =
     let p : event_at es before ≡ e = get_or_default es before no_cause e l ∙ sym h in

@@ -26,7 +26,7 @@ AgreeOn-kept marks s z e a n free = ap (λ (k : ℕ). cond (touches e n) (k + 1)
 abbrev AreSeen : (Cause → List ℕ) → Type 0
 AreSeen nodes = (marks : ℕ → Bool) (e : Cause) → meets marks e ≡ false → list_any marks (nodes e) ≡ false
 
-numbers_alike : (marks : ℕ → Bool) (s z : ℕ → ℕ) → AgreeOn marks s z → (ns : List ℕ) → list_any marks ns ≡ false → map (λ n. s n + 1) ns ≡ map (λ n. z n + 1) ns
+pub numbers_alike : (marks : ℕ → Bool) (s z : ℕ → ℕ) → AgreeOn marks s z → (ns : List ℕ) → list_any marks ns ≡ false → map (λ n. s n + 1) ns ≡ map (λ n. z n + 1) ns
 numbers_alike marks s z a [] free = refl
 numbers_alike marks s z a (n ∷ ns) free =
     let p : (marks n ≡ false) × (list_any marks ns ≡ false) = or_parts (marks n) (list_any marks ns) free in
@@ -39,7 +39,7 @@ numbered_kept nodes seen marks (e ∷ es) s z a = ⊎_elim
     (λ m. rw m (ap₂ (λ (x : List ℕ) (y : List (Cause × List ℕ)). (e, x) ∷ y) (numbers_alike marks s z a (nodes e) (seen marks e m)) (numbered_kept nodes seen marks es (counted s e) (counted z e) (AgreeOn-kept marks s z e a))))
     (cases_Bool (meets marks e))
 
-AgreeOn-first : (s : ℕ → ℕ) (e : Cause) → AgreeOn (touches e) s (counted s e)
+pub AgreeOn-first : (s : ℕ → ℕ) (e : Cause) → AgreeOn (touches e) s (counted s e)
 AgreeOn-first s e n free = sym (cond-false (touches e n) (s n + 1) (s n) free)
 
 numbered_rest : (nodes : Cause → List ℕ) → AreSeen nodes → (es : List Cause) (i : ℕ) (s : ℕ → ℕ) → numbered_by nodes s (rest es i) ≡ without (dependents es i) (numbered_by nodes s es)

@@ -13,3 +13,11 @@ pub mod Noting
 pub mod Looks
 pub mod ChainOf
 pub mod Places
+pub mod Later
+pub mod Shuffles
+pub mod Consistent
+pub mod Rolled
+pub mod Accounts
+pub mod Blind
+pub mod Taken
+pub mod Moved

@@ -11,6 +11,7 @@ use Rattle.ga_event.specs.declared.event.Event.{Event}
 use Rattle.ga_event.specs.declared.event.Cause.{Cause}
 use Rattle.ga_event.specs.Touches.{touches as event_touches}
 use Rattle.ga_causal.specs.Causes.{events_in, touches}
+use Rattle.ga_causal.specs.Dependence.{event_at}
 use Rattle.ga_causal.specs.Steps.{touching, place_of, IsStep}
 use Rattle.ga_causal.proofs.Refusals.{place-first, place-touched, place-other, some-shift, shifted_of}
 
@@ -58,7 +59,7 @@ pub on_end : (es : List Cause) (n i k : ℕ) → length es ≤ i → on_by i (pl
 on_end es n i k l = ap (λ z. on_by i (place_of z n k)) (drop_all i es l)
 
 -- one event more
-touching-cons : (n : ℕ) (e : Cause) (es : List Cause) → touching n (e ∷ es) ≡ cond (touches e n) 1 0 + touching n es
+pub touching-cons : (n : ℕ) (e : Cause) (es : List Cause) → touching n (e ∷ es) ≡ cond (touches e n) 1 0 + touching n es
 touching-cons n e es = sum_by-cons (λ (x : Cause). cond (touches x n) 1 0) e es
 
 -- whether an event looks is no matter
@@ -157,3 +158,14 @@ place_more n (suc j) (e ∷ es) ys l = ⊎_elim
     (λ yes. place-touched e (es ++ ys) n j yes ∙ ap (option_map suc) (place_more n j es ys (let a = touching_yes n e es yes in omega (arith, a, l))) ∙ sym (place-touched e es n j yes))
     (λ no. place-other e (es ++ ys) n (suc j) no ∙ ap (option_map suc) (place_more n (suc j) es ys (let a = touching_no n e es no in omega (arith, a, l))) ∙ sym (place-other e es n (suc j) no))
     (cases_Bool (touches e n))
+
+-- a step before a place counts there
+pub touching_before : (es : List Cause) (n q i : ℕ) → q < i → q < length es → touches (event_at es q) n ≡ true → touching n (take q es) + 1 ≤ touching n (take i es)
+touching_before [] n q i l inside t = absurd (omega arith)
+touching_before (x ∷ xs) n q zero l inside t = absurd (omega arith)
+touching_before (x ∷ xs) n zero (suc i) l inside t = let a = touching_yes n x (take i xs) t in omega (arith, a)
+touching_before (x ∷ xs) n (suc q) (suc i) l inside t =
+    let later = touching_before xs n q i (omega arith) (omega arith) t in
+    let a = touching-cons n x (take q xs) in
+    let b = touching-cons n x (take i xs) in
+    omega (arith, later, a, b)

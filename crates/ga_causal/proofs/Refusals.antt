@@ -98,9 +98,6 @@ stands_dropped : (now : List Cause) (b : Bool) (flags : List Bool) (n k q : ℕ)
 unfolding Stands
 stands_dropped now b flags n k q h = h
 
-stands_at : (now : List Cause) (flags : List Bool) (n k p q : ℕ) → p ≡ q → Stands now flags n k p → Stands now flags n k q
-stands_at now flags n k p q e h = subst (λ z. Stands now flags n k z) e h
-
 -- what a step of the list without its first event is, or the first itself
 pub data FoundAt (e : Cause) (es : List Cause) (n : ℕ) : ℕ → ℕ → Type 0 where
   at_first : touches e n ≡ true → FoundAt e es n 1 0

@@ -15,18 +15,18 @@ use Rattle.ga_causal.proofs.Exact.{any-mono, any-or, meets-mono, meets-or}
 use Rattle.ga_causal.proofs.Runs.{kept}
 
 -- one of the event's steps is among those to be taken back, after so many steps of each node
-abbrev is_cut : (ℕ → ℕ) → (ℕ → ℕ → Bool) → Cause → Bool
+abbrev pub is_cut : (ℕ → ℕ) → (ℕ → ℕ → Bool) → Cause → Bool
 is_cut c cut e = list_any (λ n. cut n (c n + 1)) (nodes_of e)
 
 -- the events that are left when all these steps are taken back at once, with what depends on them
-abbrev walk : (ℕ → Bool) → (ℕ → ℕ) → (ℕ → ℕ → Bool) → List Cause → List Cause
+abbrev pub walk : (ℕ → Bool) → (ℕ → ℕ) → (ℕ → ℕ → Bool) → List Cause → List Cause
 walk marks c cut [] = []
 walk marks c cut (e ∷ es) = cond (meets marks e || is_cut c cut e) (walk (λ n. marks n || touches e n) c cut es) (e ∷ walk marks (counted c e) cut es)
 
-walk-dropped : (marks : ℕ → Bool) (c : ℕ → ℕ) (cut : ℕ → ℕ → Bool) (e : Cause) (es : List Cause) → (meets marks e || is_cut c cut e) ≡ true → walk marks c cut (e ∷ es) ≡ walk (λ n. marks n || touches e n) c cut es
+pub walk-dropped : (marks : ℕ → Bool) (c : ℕ → ℕ) (cut : ℕ → ℕ → Bool) (e : Cause) (es : List Cause) → (meets marks e || is_cut c cut e) ≡ true → walk marks c cut (e ∷ es) ≡ walk (λ n. marks n || touches e n) c cut es
 walk-dropped marks c cut e es t = cond-true (meets marks e || is_cut c cut e) _ _ t
 
-walk-kept : (marks : ℕ → Bool) (c : ℕ → ℕ) (cut : ℕ → ℕ → Bool) (e : Cause) (es : List Cause) → (meets marks e || is_cut c cut e) ≡ false → walk marks c cut (e ∷ es) ≡ e ∷ walk marks (counted c e) cut es
+pub walk-kept : (marks : ℕ → Bool) (c : ℕ → ℕ) (cut : ℕ → ℕ → Bool) (e : Cause) (es : List Cause) → (meets marks e || is_cut c cut e) ≡ false → walk marks c cut (e ∷ es) ≡ e ∷ walk marks (counted c e) cut es
 walk-kept marks c cut e es f = cond-false (meets marks e || is_cut c cut e) _ _ f
 
 -- marks and counts of two walks, one over what the other leaves, and those of the one walk that does both
@@ -35,7 +35,7 @@ record Joins (m k j : ℕ → Bool) (c d b : ℕ → ℕ) : Type 0 where
   first : (n : ℕ) → j n ≡ false → c n ≡ b n
   second : (n : ℕ) → j n ≡ false → d n ≡ b n
 
-or-swap : (x y z : Bool) → ((x || y) || z) ≡ ((x || z) || y)
+pub or-swap : (x y z : Bool) → ((x || y) || z) ≡ ((x || z) || y)
 or-swap true y z = refl
 or-swap false true true = refl
 or-swap false true false = refl
@@ -125,10 +125,10 @@ walk_twice m k j c d b x y (e ∷ es) w = ⊎_elim
     (cases_Bool (meets k e || is_cut d y e))
 
 -- a step of one node
-abbrev single : ℕ → ℕ → ℕ → ℕ → Bool
+abbrev pub single : ℕ → ℕ → ℕ → ℕ → Bool
 single n k m i = (m == n) && (i == k)
 
-abbrev nowhere : ℕ → Bool
+abbrev pub nowhere : ℕ → Bool
 nowhere n = false
 
 nowhere-meets : (ns : List ℕ) → list_any nowhere ns ≡ false
@@ -198,24 +198,24 @@ rest_later : (e : Cause) (es : List Cause) (o : Option ℕ) → rest_from (e ∷
 rest_later e es None = refl
 rest_later e es (Some i) = refl
 
-rewound-first : (e : Cause) (es : List Cause) (n : ℕ) → touches e n ≡ true → rewound (e ∷ es) n 1 ≡ kept (touches e) es
+pub rewound-first : (e : Cause) (es : List Cause) (n : ℕ) → touches e n ≡ true → rewound (e ∷ es) n 1 ≡ kept (touches e) es
 rewound-first e es n t = ap (λ (o : Option ℕ). rest_from (e ∷ es) o) (cond-true (touches e n) (Some 0) (option_map suc (place_of es n 1)) t)
 
-rewound-touched : (e : Cause) (es : List Cause) (n i : ℕ) → touches e n ≡ true → rewound (e ∷ es) n (suc (suc i)) ≡ e ∷ rewound es n (suc i)
+pub rewound-touched : (e : Cause) (es : List Cause) (n i : ℕ) → touches e n ≡ true → rewound (e ∷ es) n (suc (suc i)) ≡ e ∷ rewound es n (suc i)
 rewound-touched e es n i t =
     ap (λ (o : Option ℕ). rest_from (e ∷ es) o)
     (cond-true (touches e n) (cond (suc i == 0) (Some 0) (option_map suc (place_of es n (suc i)))) (option_map suc (place_of es n (suc (suc i)))) t
     ∙ cond-false (suc i == 0) (Some 0) (option_map suc (place_of es n (suc i))) (ne_eqb (suc i) 0 (λ q. omega arith)))
     ∙ rest_later e es (place_of es n (suc i))
 
-rewound-other : (e : Cause) (es : List Cause) (n j : ℕ) → touches e n ≡ false → rewound (e ∷ es) n (suc j) ≡ e ∷ rewound es n (suc j)
+pub rewound-other : (e : Cause) (es : List Cause) (n j : ℕ) → touches e n ≡ false → rewound (e ∷ es) n (suc j) ≡ e ∷ rewound es n (suc j)
 rewound-other e es n j f = ap (λ (o : Option ℕ). rest_from (e ∷ es) o) (cond-false (touches e n) _ (option_map suc (place_of es n (suc j))) f) ∙ rest_later e es (place_of es n (suc j))
 
 counted-touched : (c : ℕ → ℕ) (e : Cause) (n : ℕ) → touches e n ≡ true → counted c e n ≡ c n + 1
 counted-touched c e n t = cond-true (touches e n) (c n + 1) (c n) t
 
 -- a rollback is a walk that cuts one step
-rewound_walk : (c : ℕ → ℕ) (n k : ℕ) (es : List Cause) (j : ℕ) → k ≡ c n + j → walk nowhere c (single n k) es ≡ rewound es n j
+pub rewound_walk : (c : ℕ → ℕ) (n k : ℕ) (es : List Cause) (j : ℕ) → k ≡ c n + j → walk nowhere c (single n k) es ≡ rewound es n j
 rewound_walk c n k [] j q = refl
 rewound_walk c n k (e ∷ es) zero q = walk_past c n k (e ∷ es) (omega arith)
 rewound_walk c n k (e ∷ es) (suc zero) q = ⊎_elim

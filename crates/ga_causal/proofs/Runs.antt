@@ -17,7 +17,7 @@ use Rattle.ga_event.proofs.Locality.{Agree-sym, apply_alike, cause_alike, apply_
 abbrev pub kept : (ℕ → Bool) → List Cause → List Cause
 kept marks es = without (dependents_after marks es) es
 
-abbrev causes : List (Cause × Told) → List Cause
+abbrev pub causes : List (Cause × Told) → List Cause
 causes steps = map (λ s. s.0) steps
 
 -- one event more
@@ -33,7 +33,7 @@ pub record FirstOf (c : List NodeRecord) (e : Event) (es : List Event) (last : L
   pub then : run mid es ≡ Some (last, others)
   pub all : ts ≡ (cause_of c e, told) ∷ others
 
-first_of_run : (c : List NodeRecord) (e : Event) (es : List Event) (last : List NodeRecord) (ts : List (Cause × Told)) → run c (e ∷ es) ≡ Some (last, ts) → FirstOf c e es last ts
+pub first_of_run : (c : List NodeRecord) (e : Event) (es : List Event) (last : List NodeRecord) (ts : List (Cause × Told)) → run c (e ∷ es) ≡ Some (last, ts) → FirstOf c e es last ts
 first_of_run c e es last ts = at_first (apply c e) refl
   where
     at_rest : (done : List NodeRecord × Told) → apply c e ≡ Some done → (r : Option (List NodeRecord × List (Cause × Told))) → run done.0 es ≡ r → option_map {U = List NodeRecord × List (Cause × Told)} (λ rest. (rest.0, (cause_of c e, done.1) ∷ rest.1)) r ≡ Some (last, ts) → FirstOf c e es last ts

@@ -19,7 +19,7 @@ any_none : (marks : ℕ → Bool) (ns : List ℕ) → ((n : ℕ) → list_any (�
 any_none marks [] h = refl
 any_none marks (n ∷ ns) h = or_from (marks n) (list_any marks ns) (h n (or_left _ (list_any (λ m. m == n) ns) (eq-eqb n n refl))) (any_none marks ns (λ k t. h k (or_right (n == k) (list_any (λ m. m == k) ns) t)))
 
-apart_meets : (e f : Cause) → ((n : ℕ) → touches e n ≡ true → sees f n ≡ true → ⊥) → meets (touches e) f ≡ false
+pub apart_meets : (e f : Cause) → ((n : ℕ) → touches e n ≡ true → sees f n ≡ true → ⊥) → meets (touches e) f ≡ false
 apart_meets e f h = any_none (touches e) (seen_by f) (λ n t. false_from_ne_true (touches e n) (λ u. h n u t))
 
 none_of : (marks : ℕ → Bool) (o : Option (List NodeRecord × Told)) → Alike marks None o → o ≡ None
@@ -32,7 +32,7 @@ refused_of e f c b t h r k =
     (subst (λ o. Alike (touches (cause_of c f)) o (apply b e)) r
     (apply_alike (touches (cause_of c f)) c b e (keeps_of c f b t k) h))
 
-same_chip : (e f : Event) (c d b p q : List NodeRecord) (te tf : Told) → AreApart (cause_of c e) (cause_of c f) → apply d f ≡ Some (p, tf) → apply b e ≡ Some (q, te) → cause_of c f ≡ cause_of d f → cause_of c e ≡ cause_of b e → Agree (touches (cause_of c e)) b p → Agree (touches (cause_of c f)) d q → p ≡ q
+pub same_chip : (e f : Event) (c d b p q : List NodeRecord) (te tf : Told) → AreApart (cause_of c e) (cause_of c f) → apply d f ≡ Some (p, tf) → apply b e ≡ Some (q, te) → cause_of c f ≡ cause_of d f → cause_of c e ≡ cause_of b e → Agree (touches (cause_of c e)) b p → Agree (touches (cause_of c f)) d q → p ≡ q
 same_chip e f c d b p q te tf h df be cf ce x y =
     let u : Agree (touches (cause_of c f)) d p = subst (λ z. Agree (touches z) d p) (sym cf) (keeps_of d f p tf df) in
     let v : Agree (touches (cause_of c e)) b q = subst (λ z. Agree (touches z) b q) (sym ce) (keeps_of b e q te be) in

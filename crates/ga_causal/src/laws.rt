@@ -1,16 +1,16 @@
 //! The laws of dependence, each the contract of a function that does nothing. They stand over the definitions alone.
 
-ghost use Rattle.std.specs.Prelude.{◌≡◌, ◌↔◌, ◌<◌, ◌≤◌, ℕ, Bool, false, List, [], ◌∷◌, IsTrue, IsSome, IsNone, Option, Some, map, option_map, reverse, length, count_by, slice_index_or, IsPermutation};
+ghost use Rattle.std.specs.Prelude.{◌≡◌, ◌↔◌, ◌<◌, ◌≤◌, ℕ, Bool, false, not, List, [], ◌∷◌, ◌++◌, ◌+◌, take, IsTrue, IsSome, IsNone, Option, Some, map, option_map, reverse, length, count_by, slice_index_or, IsPermutation};
 ghost use Rattle.ga_event.specs.declared.event.Event.{Event};
 ghost use Rattle.ga_event.specs.declared.event.Cause.{Cause};
 ghost use Rattle.ga_node.specs.Record.{NodeRecord};
 ghost use Rattle.ga_event.specs.Touches.{touches};
 ghost use Rattle.ga_event.specs.Apply.{Told, replay, run, cause_of};
 ghost use Rattle.ga_causal.specs.declared.chain.Link.{Link};
-ghost use Rattle.ga_causal.specs.Chains.{IsChain, IsChainTo, IsFound, chain_of};
+ghost use Rattle.ga_causal.specs.Chains.{IsChain, IsChainTo, IsFound, chain_of, named};
 ghost use Rattle.ga_causal.specs.Causes.{events_in};
 ghost use Rattle.ga_causal.specs.Dependence.{dependents, rest, without, DependsOn, NoneLooks};
-ghost use Rattle.ga_causal.specs.Equivalence.{AreApart, AreEquivalent};
+ghost use Rattle.ga_causal.specs.Equivalence.{AreApart, AreEquivalent, recorded, account, account_told};
 ghost use Rattle.ga_causal.specs.Steps.{numbered, numbered_seen, touching, place_of, IsStep, rewound, rewound_all};
 
 /// Two events can be swapped that touch no common node, and of which neither looks at a node that the other touches: in either
@@ -56,12 +56,15 @@ pub fn largest_rest()
         (j : ℕ) → DependsOn events i j → IsTrue (slice_index_or dropped j false) }
 {}
 
-/// A node has as many steps as events touch it, whether they look or not, and its k-th step is the k-th of them.
+/// A node has as many steps as events touch it, whether they look or not, and its k-th step is the k-th of them. Each step
+/// is a cause of the node's later ones.
 pub fn steps()
     ensures events { (events : List Cause) (n : ℕ) → touching n events ≡ count_by (λ e. touches e n) (events_in events) }
     ensures stands { (events : List Cause) (n k : ℕ) →
         (IsSome (place_of events n k) ↔ ((0 < k) × (k ≤ touching n events))) }
     ensures place { (events : List Cause) (n k place : ℕ) → place_of events n k ≡ Some place → IsStep events n k place }
+    ensures later { (events : List Cause) (n k j i q : ℕ) → place_of events n k ≡ Some i → place_of events n j ≡ Some q → k ≤ j →
+        DependsOn events i q }
 {}
 
 /// Rollbacks leave the same list in any order. Of two, the second is refused exactly where its step depends on the first.
@@ -73,10 +76,83 @@ pub fn two_rollbacks()
         rewound_all events steps ≡ rewound_all events others }
 {}
 
-/// Trace equivalence: lists that differ on a chip by swaps of independent neighbours lead to the same chip.
+/// Equivalent lists, which differ by swaps of independent neighbours, lead to the same chip.
 pub fn equivalent()
     ensures { (chip : List NodeRecord) (events others : List Event) → AreEquivalent chip events others →
         replay chip events ≡ replay chip others }
+{}
+
+/// Equivalent lists run alike: to the same chip, with the same numbered events, of each of which the same is told, and with the
+/// same account of each node. The first list must run: what can't run has no chip and no accounts to compare.
+pub fn equivalent_keeps()
+    ensures { (chip last : List NodeRecord) (events others : List Event) (steps : List (Cause × Told)) →
+        run chip events ≡ Some (last, steps) → AreEquivalent chip events others →
+        (made : List (Cause × Told)) × (run chip others ≡ Some (last, made)) × IsPermutation (recorded steps) (recorded made)
+        × ((n : ℕ) → account_told n steps ≡ account_told n made) }
+{}
+
+/// Causal consistency (Danos and Krivine): of two lists that run from one chip, one is made from the other by swaps of
+/// independent neighbours exactly where each node has the same account after both, and exactly where both have the same numbered
+/// events. Both must run, since nothing is swapped in a list that can't be made. Without looks the numbers of the steps are
+/// enough; a look also wants how far each neighbour was when it looked, which these numbers don't say.
+pub fn causal_consistency()
+    ensures accounts { (chip last now : List NodeRecord) (events others : List Event) (steps made : List (Cause × Told)) →
+        run chip events ≡ Some (last, steps) → run chip others ≡ Some (now, made) →
+        let causes = map (λ (s : Cause × Told). s.0) in
+        (AreEquivalent chip events others ↔ ((n : ℕ) → account n (causes steps) ≡ account n (causes made))) }
+    ensures events { (chip last now : List NodeRecord) (events others : List Event) (steps made : List (Cause × Told)) →
+        run chip events ≡ Some (last, steps) → run chip others ≡ Some (now, made) →
+        let causes = map (λ (s : Cause × Told). s.0) in
+        (AreEquivalent chip events others ↔ IsPermutation (numbered_seen (causes steps)) (numbered_seen (causes made))) }
+    ensures steps { (chip last now : List NodeRecord) (events others : List Event) (steps made : List (Cause × Told)) →
+        run chip events ≡ Some (last, steps) → run chip others ≡ Some (now, made) →
+        let causes = map (λ (s : Cause × Told). s.0) in
+        NoneLooks (causes steps) →
+        (AreEquivalent chip events others ↔ IsPermutation (numbered (causes steps)) (numbered (causes made))) }
+{}
+
+/// Rollbacks of equivalent lists, to the same steps, leave equivalent lists. Both must run, so that there are steps to roll back.
+pub fn equivalent_rollbacks()
+    ensures { (chip last now : List NodeRecord) (events others : List Event) (steps made : List (Cause × Told)) →
+        run chip events ≡ Some (last, steps) → run chip others ≡ Some (now, made) → AreEquivalent chip events others →
+        let causes = map (λ (s : Cause × Told). s.0) in
+        (rollbacks : List (ℕ × ℕ)) →
+        AreEquivalent chip (events_in (rewound_all (causes steps) rollbacks)) (events_in (rewound_all (causes made) rollbacks)) }
+{}
+
+/// After a rollback each account is the first part of what it was, of which the same is told; that of the node whose step is taken
+/// back ends just before the step. The step must stand: a rollback to another is refused, and takes nothing.
+pub fn account_kept()
+    ensures first { (events : List Cause) (n k m : ℕ) →
+        (later : List (Cause × List ℕ)) × (account m events ≡ account m (rewound events n k) ++ later) }
+    ensures own { (events : List Cause) (n k : ℕ) → IsSome (place_of events n (k + 1)) →
+        account n (rewound events n (k + 1)) ≡ take k (account n events) }
+    ensures told { (chip last : List NodeRecord) (events : List Event) (steps : List (Cause × Told)) (n k : ℕ) →
+        run chip events ≡ Some (last, steps) →
+        let causes = map (λ (s : Cause × Told). s.0) steps in
+        (now : List NodeRecord) × (left : List (Cause × Told)) × (run chip (events_in (rewound causes n k)) ≡ Some (now, left))
+        × ((m : ℕ) → (later : List ((Cause × List ℕ) × Told)) × (account_told m steps ≡ account_told m left ++ later)) }
+{}
+
+/// What a rollback takes can be brought to the end of the list by swaps of independent neighbours, where no look is among it: such
+/// a rollback is undos, after swaps. A look that is taken can stand before a step that is kept, of a node at which it looked, and
+/// isn't swapped with it.
+pub fn taken_last()
+    ensures { (chip last : List NodeRecord) (events : List Event) (steps : List (Cause × Told)) (i : ℕ) →
+        run chip events ≡ Some (last, steps) →
+        let causes = map (λ (s : Cause × Told). s.0) steps in
+        let taken = without (map not (dependents causes i)) causes in
+        NoneLooks taken → AreEquivalent chip events (events_in (rest causes i ++ taken)) }
+{}
+
+/// A chain in one of two equivalent lists is one in the other too: the same steps, each of which depends directly on the one before
+/// it by the same rule. Both lists must run, so that they have chains.
+pub fn equivalent_chains()
+    ensures { (chip last now : List NodeRecord) (events others : List Event) (steps made : List (Cause × Told)) (links : List Link) →
+        run chip events ≡ Some (last, steps) → run chip others ≡ Some (now, made) → AreEquivalent chip events others →
+        let causes = map (λ (s : Cause × Told). s.0) in
+        IsChain (causes steps) links →
+        (chain : List Link) × IsChain (causes made) chain × (named (causes steps) links ≡ named (causes made) chain) }
 {}
 
 /// There is one chain from a place to another, it is a chain, and `chain_of` tells whether there is one, and which.

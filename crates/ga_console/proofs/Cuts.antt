@@ -29,11 +29,6 @@ pub word_cut : (word rest : List ℕ) → IsWord word → cut (word ++ 32 ∷ re
 word_cut [] rest is = refl
 word_cut (b ∷ word) rest is = past_byte b (word ++ 32 ∷ rest) is.0 ∙ ap (in_front b) (word_cut word rest is.1)
 
--- a word alone is not cut
-pub word_whole : (word : List ℕ) → IsWord word → cut word ≡ None
-word_whole [] is = refl
-word_whole (b ∷ word) is = past_byte b word is.0 ∙ ap (in_front b) (word_whole word is.1)
-
 joined : (b : ℕ) (text : List ℕ) (found : Option (List ℕ × List ℕ)) (parts : List ℕ × List ℕ)
     → ((some : List ℕ × List ℕ) → found ≡ Some some → text ≡ some.0 ++ 32 ∷ some.1) → in_front b found ≡ Some parts → b ∷ text ≡ parts.0 ++ 32 ∷ parts.1
 joined b text None parts is e = cc

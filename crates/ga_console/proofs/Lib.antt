@@ -1,3 +1,6 @@
+pub mod AheadLemmas
+pub mod DigitLemmas
+pub mod TableLemmas
 pub mod KnownBytes
 pub mod SaidLemmas
 pub mod PartLemmas
@@ -14,3 +17,4 @@ pub mod Heard
 pub mod RunLemmas
 pub mod Races
 pub mod Reaching
+pub mod Sources

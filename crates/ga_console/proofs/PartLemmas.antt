@@ -59,3 +59,12 @@ take_feed bytes count below feed =
 pub where_err : {T E : Type 0} (r : Result T E) (P : Type 0) → P → OnErr r P
 where_err (Ok x) P h = tt
 where_err (Err e) P h = h
+
+-- what stands behind the first bytes of what stands from start to end, and one more
+pub range_behind : (block : List ℕ) (start stop count : ℕ) → count + 1 ≤ stop - start
+    → slice_range block (start + (count + 1)) stop ≡ drop (count + 1) (slice_range block start stop)
+range_behind block start stop count within =
+    let more : ℕ = stop - (start + (count + 1)) in
+    let size : stop - start ≡ (count + 1) + more = omega arith in
+    sym (ap (λ (n : ℕ). drop (count + 1) (take n (drop start block))) size ∙ drop-take (count + 1) more (drop start block)
+    ∙ ap (take more) (drop-drop (count + 1) start block ∙ ap (λ (n : ℕ). drop n block) (omega arith)))

@@ -20,7 +20,7 @@ use Rattle.ga_image.specs.declared.fault.ImageFault.{ImageFault}
 use Rattle.ga_image.specs.declared.fault.ImageCause.TheVariants.{Memory}
 use Rattle.ga_lab.specs.Machine.{State}
 use Rattle.ga_console.specs.Texts.{image_fault_text}
-use Rattle.ga_console.specs.Run.{IsImagePart, Refuses}
+use Rattle.ga_console.specs.Run.{IsReadAlone, Refuses}
 use Rattle.ga_console.specs.Race.{calls_by, IsRace, Writes, Races, Reports, report_text}
 use Rattle.ga_console.specs.declared.run.Status.{Status}
 use Rattle.ga_console.specs.declared.run.Status.TheVariants.{Done, ImageRefused, StreamFault, NotFinished}
@@ -89,7 +89,7 @@ first_fault image fault (inl e) other = absurd (other (ap (λ f. f.cause) e))
 first_fault image fault (inr first) other = first
 
 -- what is said of the image that was read
-pub reports : (limit workers calls : ℕ) (image ahead rest text : List ℕ) (status : Status) → IsImagePart image ahead rest → Races limit workers calls image text status → Reports limit workers calls (image ++ ahead) rest text status
+pub reports : (limit workers calls : ℕ) (image ahead rest text : List ℕ) (status : Status) → IsReadAlone image ahead rest → Races limit workers calls image text status → Reports limit workers calls (image ++ ahead) rest text status
 reports limit workers calls image ahead rest text Done part races = (image, ahead, refl, part, races)
 reports limit workers calls image ahead rest text ImageRefused part races = (image, ahead, refl, part, races)
 reports limit workers calls image ahead rest text StreamFault part races = inr (image, ahead, refl, part, races)

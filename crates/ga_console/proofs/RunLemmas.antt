@@ -8,7 +8,7 @@ use Rattle.ga_console.specs.Image.{HasNoEnd}
 use Rattle.ga_console.specs.Output.{IsSaid, ready}
 use Rattle.ga_lab.specs.Machine.{State}
 use Rattle.ga_console.specs.Session.{Serves, Written}
-use Rattle.ga_console.specs.Run.{Runs, Served, Refused, Refuses, Opens, IsFault, AfterImage, IsImagePart, status_of}
+use Rattle.ga_console.specs.Run.{Runs, Served, Refused, Refuses, Opens, IsFault, AfterImage, IsImagePart, IsReadAlone, status_of}
 use Rattle.ga_console.specs.declared.commands.Ending.{Ending}
 use Rattle.ga_console.specs.declared.commands.Ending.TheVariants.{Ended, Quit, Past, ReadFailed}
 use Rattle.ga_console.specs.declared.output.WriteFailed.{WriteFailed}
@@ -45,9 +45,9 @@ runs_refused limit read rest text fault ImageRefused r t = (fault, r, t)
 runs_refused limit read rest text fault StreamFault r t = inr (inr (fault, r, t))
 runs_refused limit read rest text fault NotFinished r t = absurd t
 
-refused_in : (image commands rest : List ℕ) (fault : ImageFault) → IsImagePart image commands rest → IsFault image fault → Refused (image ++ commands) rest fault
-refused_in image commands rest fault part (inl e) = inl e
-refused_in image commands rest fault part (inr e) = inr (record { image = image; commands = commands; splits = refl; part = part; faulty = e })
+refused_in : (image ahead rest : List ℕ) (fault : ImageFault) → IsReadAlone image ahead rest → IsFault image fault → Refused (image ++ ahead) rest fault
+refused_in image ahead rest fault part (inl e) = inl e
+refused_in image ahead rest fault part (inr e) = inr (record { image = image; ahead = ahead; splits = refl; part = part; faulty = e })
 
 served_in : (limit : ℕ) (image commands rest said text : List ℕ) (machine : State) (ending : Result Ending WriteFailed) → IsImagePart image commands rest
     → Opens image limit machine → Serves (input_limit - length image) machine commands rest said ending → Written ending (ready ++ said) text
@@ -67,22 +67,24 @@ served_in limit image commands rest said text machine ending part opens serves w
     }
 
 -- behind an image that was read whole
-pub runs_after : (limit taken : ℕ) (image commands rest text : List ℕ) (status : Status) → taken ≡ length image → IsImagePart image commands rest
-    → AfterImage limit image taken commands rest text status → Runs limit (image ++ commands) rest text status
-runs_after limit taken image commands rest text status e part (inl a) =
+pub runs_after : (limit taken : ℕ) (image ahead commands rest text : List ℕ) (status : Status) → taken ≡ length image → IsImagePart image commands rest
+    → (commands ≡ ahead → IsReadAlone image commands rest)
+    → AfterImage limit image taken ahead commands rest text status → Runs limit (image ++ commands) rest text status
+runs_after limit taken image ahead commands rest text status e part alone (inl a) =
     let Q : ℕ → Type 0 = λ n. Serves (input_limit - n) a.0 commands rest a.4 a.2 in
     runs_served limit (image ++ commands) rest text a.2 status a.3
     (served_in limit image commands rest a.4 text a.0 a.2 part a.1 (subst Q e a.5) a.6)
-runs_after limit taken image commands rest text status e part (inr a) =
-    runs_refused limit (image ++ commands) rest text a.0 status (refused_in image commands rest a.0 part a.1) a.2
+runs_after limit taken image ahead commands rest text status e part alone (inr a) =
+    runs_refused limit (image ++ commands) rest text a.0 status (refused_in image commands rest a.0 (alone a.3) a.1) a.2
 
 -- No image that is accepted reaches the bound of the input.
-pub runs_full : (limit taken : ℕ) (image read commands rest text : List ℕ) (status : Status) → length image ≡ input_limit → HasNoEnd image
-    → AfterImage limit image taken read rest text status → Runs limit (image ++ commands) rest text status
-runs_full limit taken image read commands rest text status full none (inl a) =
+pub runs_full : (limit taken byte : ℕ) (image read rest text : List ℕ) (status : Status) → length image ≡ input_limit → HasNoEnd image
+    → AfterImage limit image taken [] read rest text status → Runs limit (image ++ byte ∷ read) rest text status
+runs_full limit taken byte image read rest text status full none (inl a) =
     absurd (let short : length image < 16777216 = short_image image a.1.0 a.1.1 in omega arith)
-runs_full limit taken image read commands rest text status full none (inr a) =
-    runs_refused limit (image ++ commands) rest text a.0 status (refused_in image commands rest a.0 (inr (inr (full, none))) a.1) a.2
+runs_full limit taken byte image read rest text status full none (inr a) =
+    let one : length (byte ∷ read) ≡ 1 = ap (λ (l : List ℕ). length (byte ∷ l)) a.3 in
+    runs_refused limit (image ++ byte ∷ read) rest text a.0 status (refused_in image (byte ∷ read) rest a.0 (inr (inr (full, one, none))) a.1) a.2
 
 pub nothing_left : (xs ys : List ℕ) → [] ≡ xs ++ ys → (xs ≡ []) × (ys ≡ [])
 nothing_left [] ys e = (refl, sym e)

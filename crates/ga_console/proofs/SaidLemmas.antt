@@ -58,12 +58,6 @@ pub cut_here : {T : Type 0} (result : Result T WriteFailed) (contents : Option (
 cut_here (Ok done) contents before said pending is h = absurd (search rules)
 cut_here (Err why) contents before said pending is h = h
 
--- a text that is equal
-pub either_same : {T : Type 0} (result : Result T WriteFailed) (contents : Option (List ℕ)) (before said text other pending : List ℕ) → text ≡ other
-    → IsSaidOrCut result contents before (said ++ text) pending → IsSaidOrCut result contents before (said ++ other) pending
-either_same result contents before said text other pending e h =
-    let P : List ℕ → Type 0 = λ t. IsSaidOrCut result contents before (said ++ t) pending in subst P e h
-
 -- where the text is empty
 pub said_nothing : (contents : Option (List ℕ)) (before said text pending : List ℕ) → text ≡ [] → IsSaid contents before (said ++ text) pending
     → IsSaid contents before said pending

@@ -58,6 +58,13 @@ back_to n small =
     let whole : 18 * (n / 18) + n % 18 ≡ n = omega arith in
     grind (arith, nat_tests)
 
+-- the node of a row and a column
+pub numbered : (row column : ℕ) → row < 8 → column < 18 → node_of (100 * row + column) ≡ Some (18 * row + column)
+numbered row column r c =
+    let above : (100 * row + column) / 100 ≡ row = omega arith in
+    let below : (100 * row + column) % 100 ≡ column = omega arith in
+    grind (arith, nat_tests)
+
 pub name_node : (node : NodeId) → node_in (name_of node) ≡ Some node
 unfolding node_in
 name_node node =

@@ -1,9 +1,12 @@
 -- The lines of a text.
-use Rattle.std.proofs.Common.{◌≡◌, ℕ, ◌<◌, Bool, true, false, cond, List, [], ◌∷◌, ◌++◌, length, refl, ap, ◌∙◌, arith, append_assoc}
+use Rattle.std.proofs.Common.{◌≡◌, ℕ, ◌+◌, ◌/◌, ◌%◌, ◌<◌, Bool, true, false, cond, List, [], ◌∷◌, ◌++◌, length, refl, ap, ◌∙◌, arith, append_assoc}
 use Rattle.std.specs.List.{AllByRecursion}
 use Rattle.std.proofs.lemmas.List.{append-nil}
 use Rattle.std.proofs.lemmas.List.Elements.{recursion_from_All}
 use Rattle.ga_image.specs.Lines.{lines_of, with_byte}
+use Rattle.ga_grid.specs.Grid.{yxx_of}
+use Rattle.ga_grid.specs.declared.node_id.NodeId.{NodeId}
+use Rattle.ga_console.specs.Texts.{name_of, two_digits}
 use Rattle.ga_console.specs.Lines.{is_feed, HasNoFeed, ended, text_of, onto_first, ended_lines}
 
 -- no line feed, byte by byte
@@ -79,3 +82,14 @@ more_lines (b ∷ text) =
     let later = more_lines text in
     let found = more_by_byte b (is_feed b) (lines_of text) (ended_lines text) later.more later.same in
     record { more = found.0; same = found.1 }
+
+-- ---- a node's name
+
+-- its row, and two digits of its column
+pub name_spelled : (node : NodeId) → (48 + node.number / 18) ∷ two_digits (node.number % 18) ≡ name_of node
+name_spelled node =
+    let small : node.number < 144 = node.in_range in
+    let row : yxx_of node.number / 100 ≡ node.number / 18 = omega arith in
+    let tens : yxx_of node.number / 10 % 10 ≡ node.number % 18 / 10 = omega arith in
+    let ones : yxx_of node.number % 10 ≡ node.number % 18 % 10 = omega arith in
+    rw (row, tens, ones) refl

@@ -13,6 +13,10 @@ pub record Unread : Type 0 where
 abbrev pub input_limit : ℕ
 input_limit = 16777216
 
+-- the most bytes that one read brings
+abbrev pub block_size : ℕ
+block_size = 65536
+
 -- no byte past the bound was read
 abbrev pub IsWithin : Unread → Type 0
 IsWithin u = u.taken + length u.bytes ≤ input_limit

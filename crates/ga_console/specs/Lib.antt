@@ -5,6 +5,7 @@ pub mod ReadLine
 pub mod Image
 pub mod Texts
 pub mod Parsing
+pub mod Ahead
 pub mod Commands
 pub mod Replies
 pub mod Reached
@@ -12,3 +13,4 @@ pub mod Session
 pub mod Run
 pub mod Settings
 pub mod Race
+pub mod Source

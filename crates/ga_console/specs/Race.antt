@@ -16,7 +16,7 @@ use Rattle.ga_shared.specs.Log.{IsLegal}
 use Rattle.ga_shared.specs.Race.{calls_of}
 use Rattle.ga_console.specs.Output.{Begins}
 use Rattle.ga_console.specs.Image.{HasNoEnd}
-use Rattle.ga_console.specs.Run.{IsImagePart}
+use Rattle.ga_console.specs.Run.{IsReadAlone}
 use Rattle.ga_console.specs.Texts.{image_fault_text}
 use Rattle.ga_console.specs.declared.run.Status.{Status}
 use Rattle.ga_console.specs.declared.run.Status.TheVariants.{Done, ImageRefused, StreamFault, NotFinished}
@@ -72,9 +72,9 @@ Races limit workers calls image text StreamFault =
     IsCutShort (IsReport limit workers calls image) text ⊎ IsCutShort (IsRefusal image) text
 Races limit workers calls image text NotFinished = text ≡ []
 
--- P holds of the image that was read. Behind its line `end` stands what the last read brought
+-- P holds of the image that was read, and nothing was read behind it
 abbrev pub OfImage : List ℕ → List ℕ → (List ℕ → Type 0) → Type 0
-OfImage read rest P = (image : List ℕ) × (ahead : List ℕ) × (read ≡ image ++ ahead) × IsImagePart image ahead rest × P image
+OfImage read rest P = (image : List ℕ) × (ahead : List ℕ) × (read ≡ image ++ ahead) × IsReadAlone image ahead rest × P image
 
 -- What a race may have written, where read was read of its input and rest is left of it.
 abbrev pub Reports : ℕ → ℕ → ℕ → List ℕ → List ℕ → List ℕ → Status → Type 0

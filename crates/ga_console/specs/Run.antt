@@ -1,5 +1,5 @@
 -- What a whole session may write, and how it may end (docs/REFERENCE.md, "Sessions"; this project's own).
-use Rattle.std.specs.Prelude.{◌≡◌, ℕ, ◌-◌, ◌⊎◌, List, [], ◌++◌, length, Result, Ok, Err}
+use Rattle.std.specs.Prelude.{◌≡◌, ℕ, ◌-◌, ◌<◌, ◌⊎◌, List, [], ◌++◌, length, Result, Ok, Err}
 use Rattle.ga_node.specs.State.{NodeState}
 use Rattle.ga_grid.specs.Chip.{records_of}
 use Rattle.ga_image.specs.Lines.{lines_of}
@@ -7,7 +7,7 @@ use Rattle.ga_image.specs.Grammar.{IsImage}
 use Rattle.ga_image.specs.Reading.{no_memory}
 use Rattle.ga_image.specs.FirstFault.{IsFirstFault}
 use Rattle.ga_image.specs.declared.fault.ImageFault.{ImageFault}
-use Rattle.ga_console.specs.Input.{input_limit}
+use Rattle.ga_console.specs.Input.{input_limit, block_size}
 use Rattle.ga_console.specs.Output.{Begins, ready}
 use Rattle.ga_console.specs.Image.{EndsAtEnd, HasNoEnd}
 use Rattle.ga_lab.specs.Machine.{State, first}
@@ -25,6 +25,13 @@ IsImagePart image commands rest = EndsAtEnd image
     ⊎ ((commands ≡ []) × (rest ≡ []) × HasNoEnd image)
     ⊎ ((length image ≡ input_limit) × HasNoEnd image)
 
+-- Nothing is read that the image doesn't need: behind its line `end` only what the same read brought, behind all that is within
+-- the bound the byte that goes past it.
+abbrev pub IsReadAlone : List ℕ → List ℕ → List ℕ → Type 0
+IsReadAlone image ahead rest = (EndsAtEnd image × (length ahead < block_size))
+    ⊎ ((ahead ≡ []) × (rest ≡ []) × HasNoEnd image)
+    ⊎ ((length image ≡ input_limit) × (length ahead ≡ 1) × HasNoEnd image)
+
 -- the image was accepted, and the commands behind it were served to this ending
 pub record Served (limit : ℕ) (read rest text : List ℕ) (ending : Result Ending WriteFailed) : Type 0 where
   pub image : List ℕ
@@ -37,12 +44,12 @@ pub record Served (limit : ℕ) (read rest text : List ℕ) (ending : Result End
   pub serves : Serves (input_limit - length image) (first (records_of chip) limit) commands rest said ending
   pub written : Written ending (ready ++ said) text
 
--- the image was refused with its first fault
+-- the image was refused with its first fault, and nothing was read behind it
 pub record Faulty (read rest : List ℕ) (fault : ImageFault) : Type 0 where
   pub image : List ℕ
-  pub commands : List ℕ
-  pub splits : read ≡ image ++ commands
-  pub part : IsImagePart image commands rest
+  pub ahead : List ℕ
+  pub splits : read ≡ image ++ ahead
+  pub part : IsReadAlone image ahead rest
   pub faulty : IsFirstFault (lines_of image) fault
 
 -- or for want of memory
@@ -84,9 +91,10 @@ Opens image limit machine = (chip : List NodeState) × IsImage (lines_of image) 
 abbrev pub IsFault : List ℕ → ImageFault → Type 0
 IsFault image fault = (fault ≡ no_memory) ⊎ IsFirstFault (lines_of image) fault
 
--- What may be written after the image was read, of which so many bytes were taken.
-abbrev pub AfterImage : ℕ → List ℕ → ℕ → List ℕ → List ℕ → List ℕ → Status → Type 0
-AfterImage limit image taken read rest text status =
+-- What may be written after the image was read, of which so many bytes were taken: ahead is what was read with it. Where it is
+-- refused, no more is read.
+abbrev pub AfterImage : ℕ → List ℕ → ℕ → List ℕ → List ℕ → List ℕ → List ℕ → Status → Type 0
+AfterImage limit image taken ahead read rest text status =
     ((machine : State) × Opens image limit machine × (ending : Result Ending WriteFailed) × (status ≡ status_of ending)
     × (said : List ℕ) × Serves (input_limit - taken) machine read rest said ending × Written ending (ready ++ said) text)
-    ⊎ ((fault : ImageFault) × IsFault image fault × Refuses fault text status)
+    ⊎ ((fault : ImageFault) × IsFault image fault × Refuses fault text status × (read ≡ ahead))

@@ -1,7 +1,7 @@
 -- The ranges of the settings (docs/REFERENCE.md, "Sessions" and "Races"; this project's own).
 use Rattle.std.specs.Prelude.{ℕ, ◌≤◌}
 use Rattle.ga_console.specs.declared.settings.Settings.{Settings}
-use Rattle.ga_console.specs.declared.settings.Settings.TheVariants.{Debug, Race}
+use Rattle.ga_console.specs.declared.settings.Settings.TheVariants.{Debug, Race, Assemble, List, Disassemble}
 
 abbrev pub Within : ℕ → ℕ → ℕ → Type 0
 Within least greatest n = (least ≤ n) × (n ≤ greatest)
@@ -10,3 +10,6 @@ Within least greatest n = (least ≤ n) × (n ≤ greatest)
 abbrev pub AreInRange : Settings → Type 0
 AreInRange (Debug limit) = Within 1 4000000 limit
 AreInRange (Race workers calls limit) = Within 1 16 workers × Within 1 100000 calls × Within 1 4000000 limit
+AreInRange Assemble = Unit {0}
+AreInRange List = Unit {0}
+AreInRange Disassemble = Unit {0}

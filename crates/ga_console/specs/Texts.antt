@@ -1,5 +1,5 @@
 -- The texts of answers, each ended by a line feed (docs/REFERENCE.md, "Sessions"; this project's own).
-use Rattle.std.specs.Prelude.{ℕ, ◌==◌, if◌then◌else◌, List, ◌++◌, codes, decimal}
+use Rattle.std.specs.Prelude.{ℕ, ◌+◌, ◌/◌, ◌%◌, ◌==◌, if◌then◌else◌, List, [], ◌∷◌, ◌++◌, codes, decimal}
 use Rattle.std.specs.Int.{from_bool}
 use Rattle.ga_word.specs.Word.{hex6_of}
 use Rattle.ga_ports.specs.Address.{only, has_side}
@@ -23,6 +23,14 @@ use Rattle.ga_lab.specs.declared.fault.LabFault.TheVariants.{Waiting, Stopped, F
 -- a node's name: three decimal digits, of its row and its column
 abbrev pub name_of : NodeId → List ℕ
 name_of node = decimal3_of (yxx_of node.number)
+
+-- the two digits of a number below 100
+abbrev pub two_digits : ℕ → List ℕ
+two_digits n = (48 + n / 10) ∷ (48 + n % 10) ∷ []
+
+-- the last four digits of a number
+abbrev pub four_digits : ℕ → List ℕ
+four_digits n = (48 + n / 1000 % 10) ∷ (48 + n / 100 % 10) ∷ (48 + n / 10 % 10) ∷ (48 + n % 10) ∷ []
 
 -- ---- events
 

@@ -3,9 +3,8 @@ ghost use Rattle.ga_console.specs.Output.{Says};
 ghost use Rattle.ga_console.specs.Replies.{Does};
 ghost use Rattle.ga_console.specs.declared.command.Command.TheVariants.{Step, Back, Rewind};
 
-use super::event::{put_made, put_removed, refusal};
+use super::event::refusal;
 use super::output::{Output, WriteFailed};
-use super::text::Text;
 use ga_grid::NodeId;
 use ga_lab::Lab;
 use std::io::Write;
@@ -21,11 +20,7 @@ pub fn step<W: Write>(
         (W.contents writer.old) output.old (W.contents writer.new) output.new }
 {
     match lab.step(node) {
-        Ok(made) => {
-            let mut text = Text::new();
-            put_made(&mut text, made);
-            output.say(writer, text.as_slice())
-        }
+        Ok(made) => { output.say_made(writer, made) }
         Err(fault) => output.say(writer, refusal(fault)),
     }
 }
@@ -36,11 +31,7 @@ pub fn back<W: Write>(lab: &mut Lab, output: &mut Output, writer: &mut W) -> Res
         (W.contents writer.old) output.old (W.contents writer.new) output.new }
 {
     match lab.undo() {
-        Ok(()) => {
-            let mut text = Text::new();
-            put_removed(&mut text, 1, lab.counts().kept);
-            output.say(writer, text.as_slice())
-        }
+        Ok(()) => { output.say_removed(writer, 1, lab.counts().kept) }
         Err(fault) => output.say(writer, refusal(fault)),
     }
 }
@@ -57,11 +48,7 @@ pub fn rewind<W: Write>(
         (W.contents writer.old) output.old (W.contents writer.new) output.new }
 {
     match lab.rewind(node, step) {
-        Ok(removed) => {
-            let mut text = Text::new();
-            put_removed(&mut text, removed, lab.counts().kept);
-            output.say(writer, text.as_slice())
-        }
+        Ok(removed) => { output.say_removed(writer, removed, lab.counts().kept) }
         Err(fault) => output.say(writer, refusal(fault)),
     }
 }

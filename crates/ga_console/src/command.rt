@@ -1,7 +1,9 @@
 //! Commands, as lines spell them.
 
-ghost use Rattle.std.specs.Prelude.{◌≡◌, ◌<◌, IfSome, IfNone, option_map};
-ghost use Rattle.ga_image.specs.Digits.{decimal_digit, node_number};
+ghost use Rattle.std.specs.Prelude.{◌≡◌, ◌+◌, ◌*◌, ◌<◌, [], ◌∷◌, IfSome, IfNone, option_map};
+ghost use Rattle.ga_grid.specs.Grid.{node_of as node_numbered};
+ghost use Rattle.ga_grid.specs.NodeId.{node_id};
+ghost use Rattle.ga_image.specs.Digits.{decimal_digit};
 ghost use Rattle.ga_console.specs.Commands.{Spells};
 ghost use Rattle.ga_console.specs.Parsing.{cut, node_in, number_in, byte_in, with_digit, step_in, rewind_in, memory_in, why_in, alone, with_arguments};
 ghost use Rattle.ga_console.specs.declared.command.Command.{Command};
@@ -135,25 +137,38 @@ fn cut(text: &[u8]) -> Option<(&[u8], &[u8])>
 }
 
 /// The node that is named by three decimal digits: its row, and two of its column.
-#[tactic(auto, unfolding(crate::specs::Parsing::node_in))]
+#[tactic(auto, unfolding(crate::specs::Parsing::node_in, ga_image::specs::Digits::node_number))]
 fn node_of(word: &[u8]) -> Option<NodeId>
     ensures { result ≡ node_in word.now }
 {
-    NodeId::from_yxx(node_number(word)?)
+    match word {
+        [row, tens, ones] => node_named(*row, *tens, *ones),
+        _ => None,
+    }
 }
 
-#[tactic(auto, unfolding(ga_image::specs::Digits::node_number))]
-fn node_number(word: &[u8]) -> Option<u32>
-    ensures { result ≡ node_number word.now }
+/// The node of three such digits.
+#[tactic(auto, unfolding(crate::specs::Parsing::node_in, ga_image::specs::Digits::node_number))]
+#[inline(always)]
+pub fn node_named(row: u8, tens: u8, ones: u8) -> Option<NodeId>
+    ensures { result ≡ node_in (row ∷ tens ∷ ones ∷ []) }
 {
-    match word {
-        [row, tens, ones] => {
-            let row = digit_of(*row)?;
-            let tens = digit_of(*tens)?;
-            let ones = digit_of(*ones)?;
-            Some(100 * row + 10 * tens + ones)
-        }
-        _ => None,
+    let row = digit_of(row)?;
+    let tens = digit_of(tens)?;
+    let ones = digit_of(ones)?;
+    node_at(row, 10 * tens + ones)
+}
+
+/// The node of a row and a column, where there is one.
+#[inline(always)]
+fn node_at(row: u32, column: u32) -> Option<NodeId>
+    requires { column < 100 }
+    ensures { result ≡ option_map node_id (node_numbered (100 * row + column)) }
+{
+    if row < 8 && column < 18 {
+        Some(NodeId::new((18 * row + column) as u8))
+    } else {
+        None
     }
 }
 

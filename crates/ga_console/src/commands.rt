@@ -4,10 +4,11 @@ ghost use Rattle.ga_console.specs.Input.{IsWithin, input_limit};
 ghost use Rattle.ga_console.specs.Output.{IsSaid, IsSaidOrCut};
 ghost use Rattle.ga_console.specs.Session.{Serves, Written};
 
+use super::ahead::command_ahead;
 use super::input::Input;
 use super::lines::{Line, LineEnd, read_line};
 use super::output::{Output, WriteFailed};
-use super::reply::{Turn, answer};
+use super::reply::{Turn, answer, obey};
 use ga_lab::Lab;
 use std::alloc::Global;
 use std::io::{Read, Write};
@@ -70,6 +71,12 @@ fn answer_lines<R: Read, W: Write>(
 {
     let mut line = Line::new();
     'lines: loop {
+        if let Some(ahead) = command_ahead(input.unread()) {
+            let (command, count) = ahead;
+            input.skip(count);
+            obey(alloc, lab, command, output, writer)?;
+            continue 'lines;
+        }
         match read_line(input, reader, output, writer, &mut line)? {
             LineEnd::Feed => match answer(alloc, lab, &line, output, writer)? {
                 Turn::Quit => return Ok(Ending::Quit),

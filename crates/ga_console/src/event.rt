@@ -1,29 +1,31 @@
 //! The texts of events and of the list that keeps them.
-ghost use Rattle.std.specs.Prelude.{◌≡◌, ◌+◌, ◌≤◌, ◌++◌, length};
+ghost use Rattle.std.specs.Prelude.{◌≡◌, ◌+◌, ◌≤◌, ◌++◌, length, codes};
 ghost use Rattle.arrayvec.specs.ArrayVec.{array_vec_len};
+ghost use Rattle.ga_journal.specs.declared.made.Made.TheVariants.{Pass};
 ghost use Rattle.ga_console.specs.Texts.{made_text, kind_text, removed_text, counts_text, trace_text, chain_text, refusal_text};
 
 use super::text::{
-    LINE_ROOM, NUMBER_ROOM, Text, push_byte, push_node, push_number, push_step, push_text,
-    push_word,
+    LINE_ROOM, NUMBER_ROOM, hex2, push_node, push_number, push_spaced, push_step, push_text,
 };
+use arrayvec::ArrayVec;
 use ga_grid::NodeId;
 use ga_lab::{Counts, LabFault, Made};
 use ga_node::Kind;
+use ga_word::Word18;
 
-/// The most bytes of what an event of a node's own was.
-const KIND_ROOM: usize = b" stop ".len() + NUMBER_ROOM;
+/// The most bytes of what an event of a node's own was, with its line feed.
+const KIND_ROOM: usize = b" stop \n".len() + NUMBER_ROOM;
 
-/// Puts the text of an event.
-pub fn put_made(out: &mut Text, made: Made)
-    ensures { out.new.items ≡ made_text made }
+/// Adds the text of an event.
+#[inline(always)]
+pub fn push_made<const ROOM: usize>(out: &mut ArrayVec<u8, ROOM>, made: Made)
+    requires { array_vec_len out.old + LINE_ROOM ≤ ROOM }
+    ensures { out.new.items ≡ out.old.items ++ made_text made }
 {
-    out.clear();
     match made {
         Made::Own { node, step, kind } => {
             push_step(out, node, step);
             push_kind(out, kind);
-            push_text(out, b"\n");
         }
         Made::Pass {
             writer,
@@ -31,42 +33,54 @@ pub fn put_made(out: &mut Text, made: Made)
             reader,
             reader_step,
             word,
-        } => {
-            push_text(out, b"pass ");
-            push_step(out, writer, writer_step);
-            push_text(out, b" ");
-            push_step(out, reader, reader_step);
-            push_text(out, b" ");
-            push_word(out, word);
+        } => push_pass(out, (writer, writer_step), (reader, reader_step), word),
+    }
+}
+
+/// Adds the text of a pass, by both of its steps and the word.
+fn push_pass<const ROOM: usize>(
+    out: &mut ArrayVec<u8, ROOM>,
+    writer: (NodeId, u32),
+    reader: (NodeId, u32),
+    word: Word18,
+)
+    requires { array_vec_len out.old + LINE_ROOM ≤ ROOM }
+    ensures { out.new.items ≡ out.old.items ++ made_text (Pass writer.0 writer.1 reader.0 reader.1 word) }
+{
+    push_text(out, b"pass ");
+    push_step(out, writer.0, writer.1);
+    push_text(out, b" ");
+    push_step(out, reader.0, reader.1);
+    push_spaced(out, word);
+    push_text(out, b"\n");
+}
+
+/// Adds what an event of a node's own was, and the end of its line.
+#[inline(always)]
+fn push_kind<const ROOM: usize>(out: &mut ArrayVec<u8, ROOM>, kind: Kind)
+    requires { array_vec_len out.old + KIND_ROOM ≤ ROOM }
+    ensures text { out.new.items ≡ out.old.items ++ (kind_text kind ++ codes "\n") }
+{
+    match kind {
+        Kind::Fetch => push_text(out, b" fetch\n"),
+        Kind::Run(code) => {
+            let [high, low] = hex2(code);
+            push_text(out, &[b' ', b'r', b'u', b'n', b' ', high, low, b'\n']);
+        }
+        Kind::Wait => push_text(out, b" wait\n"),
+        Kind::Stop(number) => {
+            push_text(out, b" stop ");
+            push_number(out, u64::from(number));
             push_text(out, b"\n");
         }
     }
 }
 
-fn push_kind(out: &mut Text, kind: Kind)
-    requires { array_vec_len out.old + KIND_ROOM ≤ LINE_ROOM }
-    ensures text { out.new.items ≡ out.old.items ++ kind_text kind }
-    ensures len { array_vec_len out.new ≤ array_vec_len out.old + KIND_ROOM }
+/// Adds how many events were removed, and how many are kept.
+pub fn push_removed<const ROOM: usize>(out: &mut ArrayVec<u8, ROOM>, removed: u32, kept: u32)
+    requires { array_vec_len out.old + LINE_ROOM ≤ ROOM }
+    ensures { out.new.items ≡ out.old.items ++ removed_text removed kept }
 {
-    match kind {
-        Kind::Fetch => push_text(out, b" fetch"),
-        Kind::Run(code) => {
-            push_text(out, b" run ");
-            push_byte(out, code);
-        }
-        Kind::Wait => push_text(out, b" wait"),
-        Kind::Stop(number) => {
-            push_text(out, b" stop ");
-            push_number(out, u64::from(number));
-        }
-    }
-}
-
-/// Puts how many events were removed, and how many are kept.
-pub fn put_removed(out: &mut Text, removed: u32, kept: u32)
-    ensures { out.new.items ≡ removed_text removed kept }
-{
-    out.clear();
     push_text(out, b"removed ");
     push_number(out, u64::from(removed));
     push_text(out, b" kept ");
@@ -74,11 +88,11 @@ pub fn put_removed(out: &mut Text, removed: u32, kept: u32)
     push_text(out, b"\n");
 }
 
-/// Puts how many events are kept, how many were ever made, and how many may be kept.
-pub fn put_counts(out: &mut Text, counts: Counts)
-    ensures { out.new.items ≡ counts_text counts.kept counts.made counts.limit }
+/// Adds how many events are kept, how many were ever made, and how many may be kept.
+pub fn push_counts<const ROOM: usize>(out: &mut ArrayVec<u8, ROOM>, counts: Counts)
+    requires { array_vec_len out.old + LINE_ROOM ≤ ROOM }
+    ensures { out.new.items ≡ out.old.items ++ counts_text counts.kept counts.made counts.limit }
 {
-    out.clear();
     push_text(out, b"kept ");
     push_number(out, u64::from(counts.kept));
     push_text(out, b" made ");
@@ -88,11 +102,11 @@ pub fn put_counts(out: &mut Text, counts: Counts)
     push_text(out, b"\n");
 }
 
-/// Puts the line before so many steps of a node.
-pub fn put_trace(out: &mut Text, node: NodeId, count: usize)
-    ensures { out.new.items ≡ trace_text node count }
+/// Adds the line before so many steps of a node.
+pub fn push_trace<const ROOM: usize>(out: &mut ArrayVec<u8, ROOM>, node: NodeId, count: usize)
+    requires { array_vec_len out.old + LINE_ROOM ≤ ROOM }
+    ensures { out.new.items ≡ out.old.items ++ trace_text node count }
 {
-    out.clear();
     push_text(out, b"trace ");
     push_node(out, node);
     push_text(out, b" ");
@@ -100,11 +114,11 @@ pub fn put_trace(out: &mut Text, node: NodeId, count: usize)
     push_text(out, b"\n");
 }
 
-/// Puts the line before a chain of so many events.
-pub fn put_chain(out: &mut Text, count: usize)
-    ensures { out.new.items ≡ chain_text count }
+/// Adds the line before a chain of so many events.
+pub fn push_chain<const ROOM: usize>(out: &mut ArrayVec<u8, ROOM>, count: usize)
+    requires { array_vec_len out.old + LINE_ROOM ≤ ROOM }
+    ensures { out.new.items ≡ out.old.items ++ chain_text count }
 {
-    out.clear();
     push_text(out, b"chain ");
     push_number(out, count as u64);
     push_text(out, b"\n");

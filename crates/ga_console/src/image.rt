@@ -1,6 +1,6 @@
 //! The image part of a session.
-ghost use Rattle.std.specs.Prelude.{◌≡◌, ◌++◌, ℕ, List, [], Some, IfOk, OnErr, IsTrue, ◌↔◌};
-ghost use Rattle.ga_console.specs.Input.{IsWithin};
+ghost use Rattle.std.specs.Prelude.{◌≡◌, ◌<◌, ◌++◌, ℕ, List, [], length, Some, Ok, IfOk, OnErr, IsTrue, ◌↔◌};
+ghost use Rattle.ga_console.specs.Input.{IsWithin, block_size};
 ghost use Rattle.ga_console.specs.Lines.{ended};
 ghost use Rattle.ga_console.specs.Image.{ReadsImage, end_line};
 
@@ -35,6 +35,7 @@ pub fn read_image<R: Read>(
     ensures err { OnErr result ((left : List ℕ) → R.remaining reader.old ≡ Some left →
         (read : List ℕ) × (rest : List ℕ) × (R.remaining reader.new ≡ Some rest)
         × (input.old.bytes ++ left ≡ read ++ rest)) }
+    ensures behind { result ≡ Ok ImageEnd.EndLine → length input.new.bytes < block_size }
     ensures within { IsWithin input.new }
 {
     let mut start = 0;

@@ -1,6 +1,6 @@
 //! The input, block by block, up to its bound.
-ghost use Rattle.std.specs.Prelude.{◌≡◌, ◌+◌, ◌≤◌, ◌<◌, ◌++◌, ◌∷◌, ℕ, List, [], length, take, slice_index, Some, IfSome, IfNone, IfOk, OnErr};
-ghost use Rattle.ga_console.specs.Input.{Unread, IsWithin, Fills, HasFilled, TakesPart};
+ghost use Rattle.std.specs.Prelude.{◌≡◌, ◌+◌, ◌≤◌, ◌<◌, ◌++◌, ◌∷◌, ℕ, true, List, [], length, take, drop, slice_index, Some, IfSome, IfNone, IfOk, OnErr};
+ghost use Rattle.ga_console.specs.Input.{Unread, IsWithin, Fills, HasFilled, TakesPart, block_size};
 ghost use Rattle.ga_console.specs.Lines.{HasNoFeed};
 ghost use Rattle.ga_console.specs.Image.{with_feed};
 
@@ -92,6 +92,27 @@ impl Input {
         }
     }
 
+    /// What was read and is not taken yet.
+    #[inline(always)]
+    pub fn unread(&self) -> &[u8]
+        ensures { result.now ≡ self.now.bytes }
+    {
+        &self.block[self.start..self.end]
+    }
+
+    /// Takes so many bytes and the line feed behind them.
+    #[inline(always)]
+    pub fn skip(&mut self, count: usize)
+        requires within { count + 1 ≤ length self.old.bytes }
+        requires short { count ≤ 200 }
+        ensures bytes { self.new.bytes ≡ drop (count + 1) self.old.bytes }
+        ensures taken { self.new.taken ≡ self.old.taken + count + 1 }
+        ensures within { IsWithin self.new }
+    {
+        self.start += count + 1;
+        self.taken += count as u32 + 1;
+    }
+
     /// Takes what was read, up to a line feed, and keeps it as far as a line goes. True where a line feed was taken.
     pub fn take_line(&mut self, line: &mut Line) -> bool
         ensures takes { (part : List ℕ) × TakesPart self.old part self.new result
@@ -119,6 +140,7 @@ impl Input {
     pub fn take_text(&mut self, text: &mut Vec<u8>) -> Result<bool, AllocError>
         ensures takes { IfOk result (λ fed. (part : List ℕ) × TakesPart self.old part self.new fed
             × (text.new.items ≡ text.old.items ++ with_feed part fed)) }
+        ensures behind { IfOk result (λ fed. fed ≡ true → length self.new.bytes < block_size) }
         ensures err { OnErr result ((self.new ≡ self.old) × (text.new.items ≡ text.old.items)) }
         ensures within { IsWithin self.new }
     {
@@ -141,7 +163,7 @@ impl Input {
 }
 
 /// Where the first line feed stands.
-fn feed_at(bytes: &[u8]) -> Option<usize>
+pub fn feed_at(bytes: &[u8]) -> Option<usize>
     ensures found { IfSome result (λ count. (count < length bytes.now)
         × HasNoFeed (take count bytes.now) × (slice_index bytes.now count ≡ 10)) }
     ensures none { IfNone result (HasNoFeed bytes.now) }

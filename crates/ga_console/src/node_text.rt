@@ -7,9 +7,10 @@ ghost use Rattle.ga_image.specs.Spelling.{words_text};
 ghost use Rattle.ga_console.specs.Texts.{node_text, memory_text, state_text, set_text, register_text, registers_text, flags_text, stacks_text};
 
 use super::text::{
-    LINE_ROOM, NUMBER_ROOM, Text, WORD_ROOM, push_byte, push_digit, push_node, push_number,
+    LINE_ROOM, NUMBER_ROOM, WORD_ROOM, push_byte, push_digit, push_node, push_number, push_spaced,
     push_text, push_word,
 };
+use arrayvec::ArrayVec;
 use ga_grid::NodeId;
 use ga_node::{Node, Place, Wait};
 use ga_word::Word18;
@@ -43,11 +44,11 @@ const RETURNS_ROOM: usize = 9 * (1 + WORD_ROOM);
 /// The bytes of both stacks, each behind its name.
 const STACKS_ROOM: usize = b" d".len() + DATA_ROOM + b" r".len() + RETURNS_ROOM;
 
-/// Puts the text of a node.
-pub fn put_node(out: &mut Text, node: NodeId, at: &Node)
-    ensures { out.new.items ≡ node_text node (record_of at.now) }
+/// Adds the text of a node.
+pub fn push_node_line<const ROOM: usize>(out: &mut ArrayVec<u8, ROOM>, node: NodeId, at: &Node)
+    requires { array_vec_len out.old + LINE_ROOM ≤ ROOM }
+    ensures { out.new.items ≡ out.old.items ++ node_text node (record_of at.now) }
 {
-    out.clear();
     push_text(out, b"node ");
     push_node(out, node);
     push_text(out, b" ");
@@ -58,11 +59,16 @@ pub fn put_node(out: &mut Text, node: NodeId, at: &Node)
     push_text(out, b"\n");
 }
 
-/// Puts the word at an address of a node's memory.
-pub fn put_memory(out: &mut Text, node: NodeId, address: u8, word: Word18)
-    ensures { out.new.items ≡ memory_text node address word }
+/// Adds the word at an address of a node's memory.
+pub fn push_memory_line<const ROOM: usize>(
+    out: &mut ArrayVec<u8, ROOM>,
+    node: NodeId,
+    address: u8,
+    word: Word18,
+)
+    requires { array_vec_len out.old + LINE_ROOM ≤ ROOM }
+    ensures { out.new.items ≡ out.old.items ++ memory_text node address word }
 {
-    out.clear();
     push_text(out, b"mem ");
     push_node(out, node);
     push_text(out, b" ");
@@ -73,8 +79,8 @@ pub fn put_memory(out: &mut Text, node: NodeId, address: u8, word: Word18)
 }
 
 /// Adds whether the node runs, what it waits for, or how it is stopped.
-fn push_state(out: &mut Text, node: &Node)
-    requires { array_vec_len out.old + STATE_ROOM ≤ LINE_ROOM }
+fn push_state<const ROOM: usize>(out: &mut ArrayVec<u8, ROOM>, node: &Node)
+    requires { array_vec_len out.old + STATE_ROOM ≤ ROOM }
     ensures text { out.new.items ≡ out.old.items ++ state_text (record_of node.now).wait (record_of node.now).stop }
     ensures len { array_vec_len out.new ≤ array_vec_len out.old + STATE_ROOM }
 {
@@ -95,8 +101,8 @@ fn push_state(out: &mut Text, node: &Node)
     }
 }
 
-fn push_stop(out: &mut Text, stop: u8)
-    requires { array_vec_len out.old + STATE_ROOM ≤ LINE_ROOM }
+fn push_stop<const ROOM: usize>(out: &mut ArrayVec<u8, ROOM>, stop: u8)
+    requires { array_vec_len out.old + STATE_ROOM ≤ ROOM }
     ensures text { out.new.items ≡ out.old.items ++ state_text Wait.Nothing stop }
     ensures len { array_vec_len out.new ≤ array_vec_len out.old + STATE_ROOM }
 {
@@ -109,8 +115,8 @@ fn push_stop(out: &mut Text, stop: u8)
 }
 
 /// Adds a set of sides, given by its number.
-fn push_set(out: &mut Text, sides: u8)
-    requires { array_vec_len out.old + SET_ROOM ≤ LINE_ROOM }
+fn push_set<const ROOM: usize>(out: &mut ArrayVec<u8, ROOM>, sides: u8)
+    requires { array_vec_len out.old + SET_ROOM ≤ ROOM }
     ensures text { out.new.items ≡ out.old.items ++ set_text sides }
     ensures len { array_vec_len out.new ≡ array_vec_len out.old + SET_ROOM }
 {
@@ -125,8 +131,8 @@ fn push_set(out: &mut Text, sides: u8)
 
 /// Adds P, A, B and I.
 #[tactic(auto, unfolding(ga_node::specs::Record::record_of))]
-fn push_registers(out: &mut Text, node: &Node)
-    requires { array_vec_len out.old + REGISTERS_ROOM ≤ LINE_ROOM }
+fn push_registers<const ROOM: usize>(out: &mut ArrayVec<u8, ROOM>, node: &Node)
+    requires { array_vec_len out.old + REGISTERS_ROOM ≤ ROOM }
     ensures text { out.new.items ≡ out.old.items ++ registers_text (record_of node.now) }
     ensures len { array_vec_len out.new ≡ array_vec_len out.old + REGISTERS_ROOM }
 {
@@ -137,21 +143,20 @@ fn push_registers(out: &mut Text, node: &Node)
 }
 
 /// Adds a register: its name, and its value as a word.
-fn push_register(out: &mut Text, name: &[u8; 1], value: u32)
+fn push_register<const ROOM: usize>(out: &mut ArrayVec<u8, ROOM>, name: &[u8; 1], value: u32)
     requires small { value < 2 ^ 18 }
-    requires room { array_vec_len out.old + REGISTER_ROOM ≤ LINE_ROOM }
+    requires room { array_vec_len out.old + REGISTER_ROOM ≤ ROOM }
     ensures text { out.new.items ≡ out.old.items ++ register_text name.now value }
     ensures len { array_vec_len out.new ≡ array_vec_len out.old + REGISTER_ROOM }
 {
-    push_text(out, b" ");
-    push_text(out, name);
+    push_text(out, &[b' ', name[0]]);
     push_value(out, value);
 }
 
 /// Adds the slot, the carry and `io`.
 #[tactic(auto, unfolding(ga_node::specs::Record::record_of))]
-fn push_flags(out: &mut Text, node: &Node)
-    requires { array_vec_len out.old + FLAGS_ROOM ≤ LINE_ROOM }
+fn push_flags<const ROOM: usize>(out: &mut ArrayVec<u8, ROOM>, node: &Node)
+    requires { array_vec_len out.old + FLAGS_ROOM ≤ ROOM }
     ensures text { out.new.items ≡ out.old.items ++ flags_text (record_of node.now) }
     ensures len { array_vec_len out.new ≡ array_vec_len out.old + FLAGS_ROOM }
 {
@@ -164,8 +169,8 @@ fn push_flags(out: &mut Text, node: &Node)
 }
 
 /// Adds both stacks, the top of each first.
-fn push_stacks(out: &mut Text, node: &Node)
-    requires { array_vec_len out.old + STACKS_ROOM ≤ LINE_ROOM }
+fn push_stacks<const ROOM: usize>(out: &mut ArrayVec<u8, ROOM>, node: &Node)
+    requires { array_vec_len out.old + STACKS_ROOM ≤ ROOM }
     ensures text { out.new.items ≡ out.old.items ++ stacks_text (record_of node.now) }
     ensures len { array_vec_len out.new ≡ array_vec_len out.old + STACKS_ROOM }
 {
@@ -175,8 +180,8 @@ fn push_stacks(out: &mut Text, node: &Node)
     push_returns(out, node);
 }
 
-fn push_data(out: &mut Text, node: &Node)
-    requires { array_vec_len out.old + DATA_ROOM ≤ LINE_ROOM }
+fn push_data<const ROOM: usize>(out: &mut ArrayVec<u8, ROOM>, node: &Node)
+    requires { array_vec_len out.old + DATA_ROOM ≤ ROOM }
     ensures text { out.new.items ≡ out.old.items ++ words_text (record_of node.now).d }
     ensures len { array_vec_len out.new ≡ array_vec_len out.old + DATA_ROOM }
 {
@@ -185,8 +190,8 @@ fn push_data(out: &mut Text, node: &Node)
     }
 }
 
-fn push_returns(out: &mut Text, node: &Node)
-    requires { array_vec_len out.old + RETURNS_ROOM ≤ LINE_ROOM }
+fn push_returns<const ROOM: usize>(out: &mut ArrayVec<u8, ROOM>, node: &Node)
+    requires { array_vec_len out.old + RETURNS_ROOM ≤ ROOM }
     ensures text { out.new.items ≡ out.old.items ++ words_text (record_of node.now).r }
     ensures len { array_vec_len out.new ≡ array_vec_len out.old + RETURNS_ROOM }
 {
@@ -196,12 +201,11 @@ fn push_returns(out: &mut Text, node: &Node)
 }
 
 /// Adds a space, and a value of at most 18 bits as a word.
-fn push_value(out: &mut Text, value: u32)
+fn push_value<const ROOM: usize>(out: &mut ArrayVec<u8, ROOM>, value: u32)
     requires small { value < 2 ^ 18 }
-    requires room { array_vec_len out.old + 1 + WORD_ROOM ≤ LINE_ROOM }
+    requires room { array_vec_len out.old + 1 + WORD_ROOM ≤ ROOM }
     ensures text { out.new.items ≡ out.old.items ++ (codes " " ++ hex6_of value) }
     ensures len { array_vec_len out.new ≡ array_vec_len out.old + 1 + WORD_ROOM }
 {
-    push_text(out, b" ");
-    push_word(out, Word18::truncated(value));
+    push_spaced(out, Word18::truncated(value));
 }

@@ -1,8 +1,17 @@
 //! The output, gathered before it is written.
 ghost use Rattle.std.specs.Prelude.{◌≡◌, ◌++◌, ◌+◌, ◌≤◌, length, ℕ, List, [], OnOk};
 ghost use Rattle.ga_console.specs.Output.{IsSaid, IsSaidOrCut, ready};
+ghost use Rattle.ga_console.specs.Texts.{made_text, removed_text, node_text, memory_text, counts_text, trace_text, chain_text};
+ghost use Rattle.ga_node.specs.Record.{record_of};
 
+use super::event::{push_chain, push_counts, push_made, push_removed, push_trace};
+use super::node_text::{push_memory_line, push_node_line};
+use super::text::LINE_ROOM;
 use arrayvec::ArrayVec;
+use ga_grid::NodeId;
+use ga_lab::{Counts, Made};
+use ga_node::Node;
+use ga_word::Word18;
 use std::io::Write;
 use std::marker::Model;
 use thiserror::Error;
@@ -73,7 +82,125 @@ impl Output {
         Ok(())
     }
 
+    /// Says the text of an event, as `say` does.
+    ///
+    /// # Errors
+    /// A write failed.
+    #[inline(always)]
+    pub fn say_made<W: Write>(&mut self, writer: &mut W, made: Made) -> Result<(), WriteFailed>
+        ensures { (before said : List ℕ) → IsSaid (W.contents writer.old) before said self.old →
+            IsSaidOrCut result (W.contents writer.new) before (said ++ made_text made) self.new }
+    {
+        self.make_room(writer, LINE_ROOM)?;
+        push_made(&mut self.pending, made);
+        Ok(())
+    }
+
+    /// Says how many events were removed and how many are kept, as `say` does.
+    ///
+    /// # Errors
+    /// A write failed.
+    pub fn say_removed<W: Write>(
+        &mut self,
+        writer: &mut W,
+        removed: u32,
+        kept: u32,
+    ) -> Result<(), WriteFailed>
+        ensures { (before said : List ℕ) → IsSaid (W.contents writer.old) before said self.old →
+            IsSaidOrCut result (W.contents writer.new) before (said ++ removed_text removed kept) self.new }
+    {
+        self.make_room(writer, LINE_ROOM)?;
+        push_removed(&mut self.pending, removed, kept);
+        Ok(())
+    }
+
+    /// Says the text of a node, as `say` does.
+    ///
+    /// # Errors
+    /// A write failed.
+    pub fn say_node<W: Write>(
+        &mut self,
+        writer: &mut W,
+        node: NodeId,
+        at: &Node,
+    ) -> Result<(), WriteFailed>
+        ensures { (before said : List ℕ) → IsSaid (W.contents writer.old) before said self.old →
+            IsSaidOrCut result (W.contents writer.new) before (said ++ node_text node (record_of at.now)) self.new }
+    {
+        self.make_room(writer, LINE_ROOM)?;
+        push_node_line(&mut self.pending, node, at);
+        Ok(())
+    }
+
+    /// Says the word at an address of a node's memory, as `say` does.
+    ///
+    /// # Errors
+    /// A write failed.
+    pub fn say_memory<W: Write>(
+        &mut self,
+        writer: &mut W,
+        node: NodeId,
+        address: u8,
+        word: Word18,
+    ) -> Result<(), WriteFailed>
+        ensures { (before said : List ℕ) → IsSaid (W.contents writer.old) before said self.old →
+            IsSaidOrCut result (W.contents writer.new) before (said ++ memory_text node address word) self.new }
+    {
+        self.make_room(writer, LINE_ROOM)?;
+        push_memory_line(&mut self.pending, node, address, word);
+        Ok(())
+    }
+
+    /// Says how many events are kept, were ever made and may be kept, as `say` does.
+    ///
+    /// # Errors
+    /// A write failed.
+    pub fn say_counts<W: Write>(
+        &mut self,
+        writer: &mut W,
+        counts: Counts,
+    ) -> Result<(), WriteFailed>
+        ensures { (before said : List ℕ) → IsSaid (W.contents writer.old) before said self.old →
+            IsSaidOrCut result (W.contents writer.new) before (said ++ counts_text counts.kept counts.made counts.limit) self.new }
+    {
+        self.make_room(writer, LINE_ROOM)?;
+        push_counts(&mut self.pending, counts);
+        Ok(())
+    }
+
+    /// Says the line before so many steps of a node, as `say` does.
+    ///
+    /// # Errors
+    /// A write failed.
+    pub fn say_trace<W: Write>(
+        &mut self,
+        writer: &mut W,
+        node: NodeId,
+        count: usize,
+    ) -> Result<(), WriteFailed>
+        ensures { (before said : List ℕ) → IsSaid (W.contents writer.old) before said self.old →
+            IsSaidOrCut result (W.contents writer.new) before (said ++ trace_text node count) self.new }
+    {
+        self.make_room(writer, LINE_ROOM)?;
+        push_trace(&mut self.pending, node, count);
+        Ok(())
+    }
+
+    /// Says the line before a chain of so many events, as `say` does.
+    ///
+    /// # Errors
+    /// A write failed.
+    pub fn say_chain<W: Write>(&mut self, writer: &mut W, count: usize) -> Result<(), WriteFailed>
+        ensures { (before said : List ℕ) → IsSaid (W.contents writer.old) before said self.old →
+            IsSaidOrCut result (W.contents writer.new) before (said ++ chain_text count) self.new }
+    {
+        self.make_room(writer, LINE_ROOM)?;
+        push_chain(&mut self.pending, count);
+        Ok(())
+    }
+
     /// Writes what is pending, where there is no room for so many bytes more.
+    #[inline(always)]
     fn make_room<W: Write>(&mut self, writer: &mut W, count: usize) -> Result<(), WriteFailed>
         requires { count ≤ PENDING_ROOM }
         ensures said { (before said : List ℕ) → IsSaid (W.contents writer.old) before said self.old →

@@ -6,10 +6,8 @@ ghost use Rattle.ga_console.specs.Output.{Says};
 ghost use Rattle.ga_console.specs.Replies.{Does, steps_text, told_text, links_text};
 ghost use Rattle.ga_console.specs.declared.command.Command.TheVariants.{Node, Memory, Trace, Why, Count, Dump};
 
-use super::event::{put_chain, put_counts, put_made, put_trace, refusal};
-use super::node_text::{put_memory, put_node};
+use super::event::refusal;
 use super::output::{Output, WriteFailed};
-use super::text::Text;
 use ga_causal::Link;
 use ga_grid::NodeId;
 use ga_image::print;
@@ -27,9 +25,7 @@ pub fn node<W: Write>(
     ensures { Says result (λ text. Does lab.now (Node node) text lab.now)
         (W.contents writer.old) output.old (W.contents writer.new) output.new }
 {
-    let mut text = Text::new();
-    put_node(&mut text, node, lab.node(node));
-    output.say(writer, text.as_slice())
+    output.say_node(writer, node, lab.node(node))
 }
 
 /// `mem NNN HH`: shows the word at an address of the node's memory.
@@ -43,9 +39,7 @@ pub fn memory<W: Write>(
     ensures { Says result (λ text. Does lab.now (Memory node address) text lab.now)
         (W.contents writer.old) output.old (W.contents writer.new) output.new }
 {
-    let mut text = Text::new();
-    put_memory(&mut text, node, address, lab.memory(node, address));
-    output.say(writer, text.as_slice())
+    output.say_memory(writer, node, address, lab.memory(node, address))
 }
 
 /// `count`: shows how many events are kept, how many were made, and how many may be kept.
@@ -53,9 +47,7 @@ pub fn count<W: Write>(lab: &Lab, output: &mut Output, writer: &mut W) -> Result
     ensures { Says result (λ text. Does lab.now Count text lab.now)
         (W.contents writer.old) output.old (W.contents writer.new) output.new }
 {
-    let mut text = Text::new();
-    put_counts(&mut text, lab.counts());
-    output.say(writer, text.as_slice())
+    output.say_counts(writer, lab.counts())
 }
 
 /// `trace NNN`: shows the steps of the node, a line for each.
@@ -84,12 +76,9 @@ fn say_steps<W: Write>(
     ensures { Says result (λ text. text ≡ steps_text node steps.now)
         (W.contents writer.old) output.old (W.contents writer.new) output.new }
 {
-    let mut text = Text::new();
-    put_trace(&mut text, node, steps.len());
-    output.say(writer, text.as_slice())?;
+    output.say_trace(writer, node, steps.len())?;
     'steps: for made in steps {
-        put_made(&mut text, *made);
-        output.say(writer, text.as_slice())?;
+        output.say_made(writer, *made)?;
     }
     Ok(())
 }
@@ -122,9 +111,7 @@ fn say_links<W: Write>(
     ensures { Says result (λ text. text ≡ links_text lab.now links.now)
         (W.contents writer.old) output.old (W.contents writer.new) output.new }
 {
-    let mut text = Text::new();
-    put_chain(&mut text, links.len());
-    output.say(writer, text.as_slice())?;
+    output.say_chain(writer, links.len())?;
     'links: for link in links {
         say_link(lab, link.place, output, writer)?;
     }
@@ -142,11 +129,7 @@ fn say_link<W: Write>(
         (W.contents writer.old) output.old (W.contents writer.new) output.new }
 {
     match lab.made_at(place) {
-        Some(made) => {
-            let mut text = Text::new();
-            put_made(&mut text, made);
-            output.say(writer, text.as_slice())
-        }
+        Some(made) => output.say_made(writer, made),
         None => Ok(()),
     }
 }

@@ -7,12 +7,10 @@ use super::command::{Command, command_of};
 use super::lines::Line;
 use super::output::{Output, WriteFailed};
 use super::readings::{count, dump, memory, node, trace, why};
+use ga_image::LINE_LIMIT;
 use ga_lab::Lab;
 use std::alloc::Global;
 use std::io::Write;
-
-/// The most bytes that a line has before its line feed.
-const LINE_LIMIT: usize = 200;
 
 /// What a line asks for.
 #[derive(Clone, Copy, PartialEq, Eq)]
@@ -57,7 +55,11 @@ pub fn answer<W: Write>(
 }
 
 /// Carries a command out. `quit` asks for nothing here.
-fn obey<W: Write>(
+///
+/// # Errors
+/// A write failed.
+#[inline(always)]
+pub fn obey<W: Write>(
     alloc: Global,
     lab: &mut Lab,
     command: Command,

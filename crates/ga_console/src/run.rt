@@ -79,7 +79,7 @@ fn after_image<R: Read, W: Write>(
         (read rest text : List ℕ)
         × (input.old.bytes ++ left ≡ read ++ rest) × (R.remaining reader.new ≡ Some rest)
         × (W.contents writer.new ≡ Some (before ++ text))
-        × AfterImage limit image.items input.old.taken read rest text result }
+        × AfterImage limit image.items input.old.taken input.old.bytes read rest text result }
 {
     match open(alloc, image, limit) {
         Ok(mut lab) => {

@@ -7,6 +7,31 @@ use clap::{Arg, ArgMatches, Command};
 use std::alloc::{AllocError, Global};
 use thiserror::Error;
 
+/// What `ga144 debug --help` says behind the options.
+const COMMANDS: &str = "\
+Reads from standard input: an image (lines `ga144 1` to `end`), then commands, one a line, each answered on
+standard output. So a person at a terminal types: cat IMAGE - | ga144 debug
+
+Commands (NNN is a node, three decimal digits; K a step, counted from 1; HH two hexadecimal digits):
+  step NNN           make the node's next event
+  back               take the newest event back
+  rewind NNN K       take step K of the node back, with all that depends on it
+  node NNN           show the node
+  mem NNN HH         show a word of its memory
+  trace NNN          show its steps
+  why NNN K MMM J    show by which events step K of NNN led to step J of MMM
+  count              show how many events are kept and were made
+  dump               show the chip as an image
+  quit               end
+
+Exit status: 0 done, 1 image refused, 2 a stream failed, 3 command line refused.";
+
+/// What `ga144 race --help` says behind the options.
+const RACES: &str = "\
+Reads an image (lines `ga144 1` to `end`) from standard input. Worker w, from 0 on, steps the node with the number w.
+
+Exit status: 0 done, 1 image refused, 2 a stream failed, 3 command line refused, 4 race not finished.";
+
 /// How many events are kept where no limit is given.
 const DEFAULT_LIMIT: u32 = 1_000_000;
 
@@ -15,6 +40,21 @@ const GREATEST_LIMIT: u32 = 4_000_000;
 const MOST_WORKERS: u32 = 16;
 
 const MOST_CALLS: u32 = 100_000;
+
+/// The notation of source, as help shows it.
+const NOTATION: &str = "Source, words apart by blanks, tabs and line ends:
+  node YXX                    the program of a node begins
+  : NAME                      a label; NAME calls it, NAME ; jumps to it
+  12 -3 0x1f right r--- 'NAME literals: numbers, ports, addresses of labels
+  X ,                         a cell with a value
+  ..                          fill the cell
+  org N                       go on at the address N
+  /p X  /a X  /b X            registers at load
+  begin again until -until next unext while -while repeat for *next
+  if -if ahead else then      control words
+  +cy -cy                     bit 9 of the addresses of labels
+  \\ comment to the line's end   ( comment )
+  and the opcodes by their names";
 
 /// What the program is to do.
 #[derive(Clone, Copy, Debug, PartialEq, Eq)]
@@ -29,6 +69,12 @@ pub enum Settings {
         calls: u32,
         limit: u32,
     },
+    /// Assemble source into an image.
+    Assemble,
+    /// List the cells of source.
+    List,
+    /// Write source of an image.
+    Disassemble,
 }
 
 /// Why there are no settings.
@@ -69,10 +115,12 @@ pub fn arguments(alloc: Global, words: &[&str]) -> Result<Settings, LineFault>
 /// The command lines of the program, as clap has them.
 fn program<'a>(alloc: Global) -> Result<Command<'a>, AllocError> {
     let debug = Command::new(alloc, "debug")
-        .about("Load an image, then step a node and take its steps back, command by command")
+        .about("Load an image, step its nodes, and take any step back with all that depends on it")
+        .after_help(COMMANDS)
         .arg(limit_option(alloc))?;
     let race = Command::new(alloc, "race")
         .about("Let workers step the nodes at the same time")
+        .after_help(RACES)
         .arg(number_option(alloc, "workers", "How many workers there are, 1 to 16").required(true))?
         .arg(number_option(
             alloc,
@@ -81,9 +129,22 @@ fn program<'a>(alloc: Global) -> Result<Command<'a>, AllocError> {
         )
         .required(true))?
         .arg(limit_option(alloc))?;
+    let assembler = Command::new(alloc, "asm")
+        .about("Read source up to its end or to a line 'end', and write the image of its chip")
+        .after_help(NOTATION);
+    let list = Command::new(alloc, "list")
+        .about("Read source, and write each cell's address, word, opcodes and source line")
+        .after_help(NOTATION);
+    let disassembler = Command::new(alloc, "dis").about(
+        "Read an image, and write source of the same memories, A, B and P",
+    );
     Command::new(alloc, "ga144")
+        .about("Simulates the GreenArrays GA144, with a debugger that takes steps back")
         .subcommand(debug)?
-        .subcommand(race)
+        .subcommand(race)?
+        .subcommand(assembler)?
+        .subcommand(list)?
+        .subcommand(disassembler)
 }
 
 fn limit_option<'a>(alloc: Global) -> Arg<'a> {
@@ -114,6 +175,9 @@ fn chosen(matches: &ArgMatches<'_>) -> Result<Settings, LineFault>
                 limit: limit(race)?,
             })
         }
+        Some(("asm", _)) => Ok(Settings::Assemble),
+        Some(("list", _)) => Ok(Settings::List),
+        Some(("dis", _)) => Ok(Settings::Disassemble),
         _ => Err(LineFault::Refused),
     }
 }

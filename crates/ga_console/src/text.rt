@@ -1,13 +1,14 @@
 //! The text of a line as it is put together, in a buffer of fixed size.
-ghost use Rattle.std.specs.Prelude.{◌≡◌, ◌+◌, ◌≤◌, ◌<◌, ◌^◌, [], ◌++◌, length, decimal};
+ghost use Rattle.std.specs.Prelude.{◌≡◌, ◌+◌, ◌%◌, ◌≤◌, ◌<◌, [], ◌++◌, length, codes, decimal};
 ghost use Rattle.arrayvec.specs.ArrayVec.{array_vec_len};
-ghost use Rattle.ga_word.specs.Word.{hex6_of, hex_digit as digit_of};
+ghost use Rattle.ga_word.specs.Word.{hex6_of};
 ghost use Rattle.ga_image.specs.Spelling.{decimal3_of, hex2_of};
-ghost use Rattle.ga_console.specs.Texts.{name_of, step_text};
+ghost use Rattle.ga_console.specs.Texts.{name_of, step_text, two_digits, four_digits};
 
 use arrayvec::ArrayVec;
 use ga_grid::NodeId;
 use ga_word::Word18;
+use itoa::write_digits;
 
 /// The most bytes of an answer's line, its line feed included.
 pub const LINE_ROOM: usize = 256;
@@ -28,19 +29,10 @@ pub const STEP_ROOM: usize = NODE_ROOM + 1 + NUMBER_ROOM;
 /// The text of a line.
 pub type Text = ArrayVec<u8, LINE_ROOM>;
 
-/// Puts a text in place of what was there.
-pub fn put_text(out: &mut Text, text: &[u8])
-    requires { length text.now ≤ LINE_ROOM }
-    ensures { out.new.items ≡ text.now }
-{
-    out.clear();
-    push_text(out, text);
-}
-
 /// Adds a text.
 #[inline]
-pub fn push_text(out: &mut Text, text: &[u8])
-    requires { array_vec_len out.old + length text.now ≤ LINE_ROOM }
+pub fn push_text<const ROOM: usize>(out: &mut ArrayVec<u8, ROOM>, text: &[u8])
+    requires { array_vec_len out.old + length text.now ≤ ROOM }
     ensures text { out.new.items ≡ out.old.items ++ text.now }
     ensures len { array_vec_len out.new ≡ array_vec_len out.old + length text.now }
 {
@@ -48,88 +40,190 @@ pub fn push_text(out: &mut Text, text: &[u8])
 }
 
 /// Adds a number in decimal digits.
-pub fn push_number(out: &mut Text, number: u64)
-    requires { array_vec_len out.old + NUMBER_ROOM ≤ LINE_ROOM }
+#[inline(always)]
+pub fn push_number<const ROOM: usize>(out: &mut ArrayVec<u8, ROOM>, number: u64)
+    requires { array_vec_len out.old + NUMBER_ROOM ≤ ROOM }
     ensures text { out.new.items ≡ out.old.items ++ decimal number }
     ensures len { array_vec_len out.new ≤ array_vec_len out.old + NUMBER_ROOM }
 {
-    push_decimal(out, number);
+    if number < 100000000 {
+        push_eight(out, number);
+    } else {
+        push_long(out, number);
+    }
 }
 
-fn push_decimal(out: &mut Text, number: u64)
-    requires { array_vec_len out.old + length (decimal number) ≤ LINE_ROOM }
+/// The same for a number of any length.
+fn push_long<const ROOM: usize>(out: &mut ArrayVec<u8, ROOM>, number: u64)
+    requires { array_vec_len out.old + NUMBER_ROOM ≤ ROOM }
+    ensures text { out.new.items ≡ out.old.items ++ decimal number }
+    ensures len { array_vec_len out.new ≤ array_vec_len out.old + NUMBER_ROOM }
+{
+    let mut digits = [0; NUMBER_ROOM];
+    let start = write_digits(number, &mut digits, NUMBER_ROOM);
+    push_text(out, &digits[start..]);
+}
+
+/// The same for a number of at most eight digits, in pieces of fixed size.
+#[inline(always)]
+fn push_eight<const ROOM: usize>(out: &mut ArrayVec<u8, ROOM>, number: u64)
+    requires small { number < 100000000 }
+    requires room { array_vec_len out.old + length (decimal number) ≤ ROOM }
     ensures text { out.new.items ≡ out.old.items ++ decimal number }
 {
-    if number >= 10 {
-        push_decimal(out, number / 10);
+    if number < 10000 {
+        push_front(out, number as u32);
+    } else {
+        push_front(out, (number / 10000) as u32);
+        push_text(out, &four_of((number % 10000) as u32));
     }
-    out.push(b'0' + (number % 10) as u8);
+}
+
+/// The last four digits of a number, with zeros in front.
+#[inline(always)]
+fn four_of(number: u32) -> [u8; 4]
+    requires { number < 10000 }
+    ensures { result ≡ four_digits number }
+{
+    let [thousands, hundreds] = two_of(number / 100);
+    let [tens, ones] = two_of(number % 100);
+    [thousands, hundreds, tens, ones]
+}
+
+/// Two decimal digits of a number.
+#[inline(always)]
+fn two_of(number: u32) -> [u8; 2]
+    requires { number < 100 }
+    ensures { result ≡ two_digits number }
+{
+    let at = 2 * number as usize;
+    [DECIMAL[at], DECIMAL[at + 1]]
+}
+
+/// The last digit of a number.
+#[inline(always)]
+fn digit(number: u32) -> u8
+    ensures { result ≡ 48 + number % 10 }
+{
+    b'0' + (number % 10) as u8
+}
+
+/// Adds a number of at most four digits.
+#[inline(always)]
+fn push_front<const ROOM: usize>(out: &mut ArrayVec<u8, ROOM>, number: u32)
+    requires small { number < 10000 }
+    requires room { array_vec_len out.old + length (decimal number) ≤ ROOM }
+    ensures text { out.new.items ≡ out.old.items ++ decimal number }
+{
+    if number < 10 {
+        push_text(out, &[digit(number)]);
+    } else if number < 100 {
+        push_text(out, &[digit(number / 10), digit(number)]);
+    } else if number < 1000 {
+        push_text(
+            out,
+            &[digit(number / 100), digit(number / 10), digit(number)],
+        );
+    } else {
+        push_text(out, &four_of(number));
+    }
 }
 
 /// Adds a number of one digit.
 #[tactic(auto, using(std::proofs::lemmas::Fmt::decimal_digit))]
-pub fn push_digit(out: &mut Text, number: u8)
+pub fn push_digit<const ROOM: usize>(out: &mut ArrayVec<u8, ROOM>, number: u8)
     requires small { number < 10 }
-    requires room { array_vec_len out.old < LINE_ROOM }
+    requires room { array_vec_len out.old < ROOM }
     ensures text { out.new.items ≡ out.old.items ++ decimal number }
     ensures len { array_vec_len out.new ≡ array_vec_len out.old + 1 }
 {
     push_text(out, &[b'0' + number]);
 }
 
-/// Adds a node's name: three decimal digits, of its row and its column.
-pub fn push_node(out: &mut Text, node: NodeId)
-    requires { array_vec_len out.old + NODE_ROOM ≤ LINE_ROOM }
+/// Adds a node's name.
+pub fn push_node<const ROOM: usize>(out: &mut ArrayVec<u8, ROOM>, node: NodeId)
+    requires { array_vec_len out.old + NODE_ROOM ≤ ROOM }
     ensures text { out.new.items ≡ out.old.items ++ name_of node }
     ensures len { array_vec_len out.new ≡ array_vec_len out.old + NODE_ROOM }
 {
-    let number = node.yxx();
-    let digits = [
-        b'0' + (number / 100) as u8,
-        b'0' + (number / 10 % 10) as u8,
-        b'0' + (number % 10) as u8,
-    ];
-    push_text(out, &digits);
+    push_text(out, &name_digits(node));
+}
+
+/// The digits of a node's name: one of its row, and two of its column.
+#[inline(always)]
+fn name_digits(node: NodeId) -> [u8; NODE_ROOM]
+    ensures { result ≡ name_of node }
+{
+    let [tens, ones] = two_of((node.number % 18) as u32);
+    [b'0' + node.number / 18, tens, ones]
 }
 
 /// Adds a step: the name of its node and its number.
-pub fn push_step(out: &mut Text, node: NodeId, step: u32)
-    requires { array_vec_len out.old + STEP_ROOM ≤ LINE_ROOM }
+#[inline(always)]
+pub fn push_step<const ROOM: usize>(out: &mut ArrayVec<u8, ROOM>, node: NodeId, step: u32)
+    requires { array_vec_len out.old + STEP_ROOM ≤ ROOM }
     ensures text { out.new.items ≡ out.old.items ++ step_text node step }
     ensures len { array_vec_len out.new ≤ array_vec_len out.old + STEP_ROOM }
 {
-    push_node(out, node);
-    push_text(out, b" ");
+    let [row, tens, ones] = name_digits(node);
+    push_text(out, &[row, tens, ones, b' ']);
     push_number(out, u64::from(step));
 }
 
 /// Adds a word in six hexadecimal digits.
-pub fn push_word(out: &mut Text, word: Word18)
-    requires { array_vec_len out.old + WORD_ROOM ≤ LINE_ROOM }
+pub fn push_word<const ROOM: usize>(out: &mut ArrayVec<u8, ROOM>, word: Word18)
+    requires { array_vec_len out.old + WORD_ROOM ≤ ROOM }
     ensures text { out.new.items ≡ out.old.items ++ hex6_of word }
     ensures len { array_vec_len out.new ≡ array_vec_len out.old + WORD_ROOM }
 {
-    push_text(out, &word.hex6());
+    push_text(out, &hex6(word));
+}
+
+/// Adds a space and a word.
+#[inline(always)]
+pub fn push_spaced<const ROOM: usize>(out: &mut ArrayVec<u8, ROOM>, word: Word18)
+    requires { array_vec_len out.old + 1 + WORD_ROOM ≤ ROOM }
+    ensures text { out.new.items ≡ out.old.items ++ (codes " " ++ hex6_of word) }
+    ensures len { array_vec_len out.new ≡ array_vec_len out.old + 1 + WORD_ROOM }
+{
+    let [a, b, c, d, e, f] = hex6(word);
+    push_text(out, &[b' ', a, b, c, d, e, f]);
+}
+
+/// The six hexadecimal digits of a word.
+#[inline(always)]
+fn hex6(word: Word18) -> [u8; WORD_ROOM]
+    ensures { result ≡ hex6_of word }
+{
+    let bits = word.get();
+    let [a, b] = hex2((bits / 65536) as u8);
+    let [c, d] = hex2((bits / 256 % 256) as u8);
+    let [e, f] = hex2((bits % 256) as u8);
+    [a, b, c, d, e, f]
 }
 
 /// Adds a number in two hexadecimal digits.
-pub fn push_byte(out: &mut Text, number: u8)
-    requires { array_vec_len out.old + BYTE_ROOM ≤ LINE_ROOM }
+pub fn push_byte<const ROOM: usize>(out: &mut ArrayVec<u8, ROOM>, number: u8)
+    requires { array_vec_len out.old + BYTE_ROOM ≤ ROOM }
     ensures text { out.new.items ≡ out.old.items ++ hex2_of number }
     ensures len { array_vec_len out.new ≡ array_vec_len out.old + BYTE_ROOM }
 {
-    let digits = [hex_digit(number / 16), hex_digit(number % 16)];
-    push_text(out, &digits);
+    push_text(out, &hex2(number));
 }
 
-/// A hexadecimal digit in lower case.
-fn hex_digit(value: u8) -> u8
-    requires { value < 16 }
-    ensures { result ≡ digit_of value 0 }
+/// The two hexadecimal digits of a number, in lower case.
+#[inline(always)]
+pub fn hex2(number: u8) -> [u8; BYTE_ROOM]
+    ensures { result ≡ hex2_of number }
 {
-    if value < 10 {
-        b'0' + value
-    } else {
-        b'a' + (value - 10)
-    }
+    let at = 2 * number as usize;
+    [HEXADECIMAL[at], HEXADECIMAL[at + 1]]
 }
+
+/// The numbers below 100, in two decimal digits each.
+static DECIMAL: [u8; 200] =
+    *b"00010203040506070809101112131415161718192021222324252627282930313233343536373839404142434445464748495051525354555657585960616263646566676869707172737475767778798081828384858687888990919293949596979899";
+
+/// The numbers below 256, in two hexadecimal digits each.
+static HEXADECIMAL: [u8; 512] =
+    *b"000102030405060708090a0b0c0d0e0f101112131415161718191a1b1c1d1e1f202122232425262728292a2b2c2d2e2f303132333435363738393a3b3c3d3e3f404142434445464748494a4b4c4d4e4f505152535455565758595a5b5c5d5e5f606162636465666768696a6b6c6d6e6f707172737475767778797a7b7c7d7e7f808182838485868788898a8b8c8d8e8f909192939495969798999a9b9c9d9e9fa0a1a2a3a4a5a6a7a8a9aaabacadaeafb0b1b2b3b4b5b6b7b8b9babbbcbdbebfc0c1c2c3c4c5c6c7c8c9cacbcccdcecfd0d1d2d3d4d5d6d7d8d9dadbdcdddedfe0e1e2e3e4e5e6e7e8e9eaebecedeeeff0f1f2f3f4f5f6f7f8f9fafbfcfdfeff";

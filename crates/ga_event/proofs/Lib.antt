@@ -1,5 +1,6 @@
 pub mod Applied
 pub mod Passes
 pub mod Locality
+pub mod Sources
 pub mod Steadiness
 pub mod Nexts

@@ -2,4 +2,5 @@ pub mod Touches
 pub mod Apply
 pub mod Agree
 pub mod Next
+pub mod Sources
 pub mod Undo

@@ -10,13 +10,14 @@ use Rattle.std.proofs.lemmas.Bool.{eqb-true}
 use Rattle.std.proofs.lemmas.List.{take-append-drop}
 use Rattle.std.proofs.lemmas.Slice.Eq.{bytes_eq-Decides}
 use Rattle.ga_word.specs.Word.{hex6_of, read6_of}
+use Rattle.ga_ports.specs.Address.{is_single}
 use Rattle.ga_image.specs.declared.field.Field.{Field}
 use Rattle.ga_image.specs.declared.field.Field.TheVariants.{A, B, P, I, Io, Carry, Slot, Wait, Stop, Data, Return, Ram, Rom}
 use Rattle.ga_image.specs.Steps.{◌>>=◌}
 use Rattle.ga_node.specs.Waits.{IsWaitCode}
 use Rattle.ga_image.specs.Digits.{cell_number, node_number, set_number}
 use Rattle.ga_image.specs.Spelling.{Form, Node, Words, End, hex2_of, words_text, set_text, wait_text, name_of, numbers_of, code_text, HasCount, SpellsWords, IsCode, SpellsCode, SpellsField, Spells}
-use Rattle.ga_image.specs.Forms.{form, spaced_words, few, words, word_form, cells_form, stack_form, digit_form, set_form, side_form, wait_form, is_single, node_form, wide_form, state_form, begins}
+use Rattle.ga_image.specs.Forms.{form, spaced_words, few, words, word_form, cells_form, stack_form, digit_form, set_form, side_form, wait_form, node_form, wide_form, state_form, begins}
 use Rattle.ga_image.proofs.Numbers.{word_spelled, word_read, cell_spelled, node_spelled, set_spelled, between}
 
 -- the first step gave something

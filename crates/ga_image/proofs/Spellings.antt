@@ -5,13 +5,14 @@ use Rattle.std.specs.Str.{str_to_ascii_lowercase}
 use Rattle.std.proofs.Common.{◌≡◌, ◌≢◌, ℕ, ◌+◌, inl, inr, ◌<◌, ◌≤◌, true, false, ◌&&◌, List, [], ◌∷◌, ◌++◌, length, map, Option, Some, None, refl, sym, ◌∙◌, ap, subst, arith}
 use Rattle.std.proofs.lemmas.Bool.Decides.{nat_tests}
 use Rattle.ga_word.specs.Word.{hex_digit, hex6_of, read6_of}
+use Rattle.ga_ports.specs.Address.{is_single}
 use Rattle.ga_image.specs.declared.field.Field.{Field}
 use Rattle.ga_image.specs.declared.field.Field.TheVariants.{A, B, P, I, Io, Carry, Slot, Wait, Stop, Data, Return, Ram, Rom}
 use Rattle.ga_node.specs.Waits.{IsWaitCode}
 use Rattle.ga_image.specs.declared.field.Format.{Format}
 use Rattle.ga_image.specs.Fields.{has_field}
 use Rattle.ga_image.specs.Spelling.{Form, Node, Words, End, decimal3_of, hex2_of, words_text, set_text, wait_text, name_of, code_text, SpellsWords, SpellsCode, SpellsField, Spells, HoldsCode, AreCodes, IsFormOf, SpellsIn}
-use Rattle.ga_image.specs.Forms.{form, word_form, cells_form, stack_form, digit_form, set_form, side_form, wait_form, is_single, node_form, wide_form, state_form}
+use Rattle.ga_image.specs.Forms.{form, word_form, cells_form, stack_form, digit_form, set_form, side_form, wait_form, node_form, wide_form, state_form}
 use Rattle.ga_image.specs.Reading.{form_in, kept_in}
 use Rattle.ga_image.specs.Grammar.{Spell}
 use Rattle.ga_image.proofs.Numbers.{word_read, cell_read, node_read, set_read}

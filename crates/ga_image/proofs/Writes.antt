@@ -77,12 +77,6 @@ next_greatest (Return k) = return_greatest (k + 1) ∙ sym (return_greatest k)
 next_greatest (Ram cell) = refl
 next_greatest (Rom cell) = refl
 
--- no word is past its greatest
-pub each_small : (most : ℕ) (words : List ℕ) (i : ℕ) → i < length words → list_any (λ word. nat_lt most word) words ≡ false → get_or words i 0 ≤ most
-each_small most [] i within small = absurd (omega arith)
-each_small most (word ∷ words) zero within small = let first = (or_false (nat_lt most word) (list_any (λ w. nat_lt most w) words) small).0 in grind (arith, nat_tests)
-each_small most (word ∷ words) (suc i) within small = each_small most words i (omega arith) (or_false (nat_lt most word) (list_any (λ w. nat_lt most w) words) small).1
-
 -- the words from index i on are the word there and those behind it
 pub one_write : (field : Field) (words : List ℕ) (i : ℕ) → i < length words → writes field (drop i words) ≡ (field, get_or words i 0) ∷ writes (next_field field) (drop (i + 1) words)
 one_write field words i within = ap (writes field) (drop_more words i 0 within)
@@ -125,8 +119,3 @@ next_holds (Rom cell) word holds = tt
 pub next_codes : (field : Field) (words : List ℕ) → AreCodes field words → AreCodes (next_field field) words
 next_codes field [] codes = tt
 next_codes field (word ∷ words) codes = (next_holds field word codes.0, next_codes field words codes.1)
-
-pub code_at : (field : Field) (words : List ℕ) (i : ℕ) → i < length words → AreCodes field words → HoldsCode field (get_or words i 0)
-code_at field [] i within codes = absurd (omega arith)
-code_at field (word ∷ words) zero within codes = codes.0
-code_at field (word ∷ words) (suc i) within codes = code_at field words i (omega arith) codes.1

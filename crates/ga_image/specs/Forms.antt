@@ -1,7 +1,8 @@
 -- Reading a line: the form that it spells.
-use Rattle.std.specs.Prelude.{ℕ, ◌+◌, ◌-◌, ◌==◌, ◌&&◌, ◌||◌, nat_eq, nat_le, Bool, if◌then◌else◌, List, [], ◌∷◌, length, take, drop, codes, Option, Some, None}
+use Rattle.std.specs.Prelude.{ℕ, ◌+◌, ◌-◌, ◌==◌, ◌&&◌, nat_eq, nat_le, Bool, if◌then◌else◌, List, [], ◌∷◌, length, take, drop, codes, Option, Some, None}
 use Rattle.std.specs.Cmp.Lexicographic.{pointwise}
 use Rattle.ga_word.specs.Word.{read6_of}
+use Rattle.ga_ports.specs.Address.{is_single}
 use Rattle.ga_image.specs.declared.field.Field.{Field}
 use Rattle.ga_image.specs.declared.field.Field.TheVariants.{A, B, P, I, Io, Carry, Slot, Wait, Stop, Data, Return, Ram, Rom}
 use Rattle.ga_image.specs.declared.line.Line.{Line}
@@ -74,9 +75,6 @@ unfoldable pub set_form : ℕ → List ℕ → Option Form
 set_form kind text = do
   sides ← set_number text
   if sides == 0 then None else Some (Words Wait ((kind + sides) ∷ []))
-
-abbrev pub is_single : ℕ → Bool
-is_single sides = sides == 8 || sides == 4 || sides == 2 || sides == 1
 
 -- a wait that writes to one side
 unfoldable pub side_form : List ℕ → Option Form

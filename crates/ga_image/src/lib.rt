@@ -47,4 +47,5 @@ mod printing;
 
 pub use fault::{ImageCause, ImageFault};
 pub use image::parse;
+pub use parser::LINE_LIMIT;
 pub use printing::print;

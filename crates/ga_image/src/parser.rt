@@ -31,8 +31,8 @@ use super::line::Line;
 use ga_grid::{Chip, NODES, NodeId};
 use ga_node::Place;
 
-/// How many bytes a line may have.
-const LONGEST: usize = 200;
+/// The most bytes that a line has before its line feed.
+pub const LINE_LIMIT: usize = 200;
 
 /// What may come next.
 #[derive(Clone, Copy)]
@@ -84,7 +84,7 @@ impl Parser {
         ensures fault { result_err result ≡ fault_of (progress_of self.old) text.now }
         ensures read { OnOk result (progress_of self.new ≡ after_line (progress_of self.old) text.now) }
     {
-        if text.len() > LONGEST {
+        if text.len() > LINE_LIMIT {
             return Err(ImageCause::Long);
         }
         if let Stage::Header = self.stage {

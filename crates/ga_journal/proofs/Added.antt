@@ -26,13 +26,13 @@ made_over_is book (event.Own node) (Carried word) whole = refl
 made_over_is book (event.Pass w r side) (Did kind) whole = refl
 
 pub is_made : (v old : Book) (chip now : List NodeState) (e : Event) (told : Made) (gs : List (List Past)) (ready : List Room) → v ≡ old → IsWhole old.histories old.made → IsAdded v.histories chip v.made e told gs now
-    → IsMade old chip e told (record { histories = gs; limit = v.limit; made = v.made + 1; ready = ready; going = v.going; waiting = v.waiting }) now
+    → IsMade old chip e told (record { histories = gs; limit = v.limit; made = v.made + 1; ready = ready; going = v.going; waiting = v.waiting; ticks = v.ticks }) now
 is_made v old chip now e told gs ready same whole a =
-    let new : Book = record { histories = gs; limit = v.limit; made = v.made + 1; ready = ready; going = v.going; waiting = v.waiting } in
+    let new : Book = record { histories = gs; limit = v.limit; made = v.made + 1; ready = ready; going = v.going; waiting = v.waiting; ticks = v.ticks } in
     subst (λ (o : Book). IsMade o chip e told new now) same
     (record {
       effect = a.effect;
       applied = a.applied;
-      book = ap (λ z. let b : Book = record { histories = z; limit = v.limit; made = v.made + 1; ready = ready; going = v.going; waiting = v.waiting } in b) a.histories;
+      book = ap (λ z. let b : Book = record { histories = z; limit = v.limit; made = v.made + 1; ready = ready; going = v.going; waiting = v.waiting; ticks = v.ticks } in b) a.histories;
       told_is = made_over_is v e (told_of a.effect) (subst (λ (o : Book). IsWhole o.histories o.made) (sym same) whole) ∙ a.told_is;
     })

@@ -1,9 +1,10 @@
 -- Where the newest look stands.
-use Rattle.std.proofs.Common.{◌≡◌, ℕ, zero, suc, ◌+◌, ◌-◌, ◌<◌, ◌≤◌, Bool, true, false, List, [], ◌∷◌, ◌++◌, length, map, get_or, refl, sym, ◌∙◌, ap, subst, arith, ⊎_elim, add-one}
-use Rattle.std.specs.Prelude.{Some, slice_get}
+use Rattle.std.proofs.Common.{◌≡◌, ℕ, zero, suc, ◌+◌, ◌-◌, ◌<◌, ◌≤◌, Bool, true, false, not, nat_eq, List, [], ◌∷◌, ◌++◌, length, map, get_or, refl, sym, ◌∙◌, ap, subst, arith, ⊎_elim, add-one}
+use Rattle.std.specs.Prelude.{Option, None, Some, IfNone, slice_get}
+use Rattle.std.specs.Bool.{OnTrue, OnFalse}
 use Rattle.std.proofs.Math.ListN.{get_or-append}
 use Rattle.std.proofs.Math.Seq.{get_or-append_seam}
-use Rattle.std.proofs.lemmas.Bool.{cases_eq, cases_lt}
+use Rattle.std.proofs.lemmas.Bool.{cases_eq, cases_lt, both_ways, ne_eqb}
 use Rattle.std.proofs.lemmas.Option.{same_Some, slice_get_within}
 use Rattle.ga_node.specs.declared.kind.Kind.{Kind}
 use Rattle.ga_journal.specs.declared.entry.Role.{Role}
@@ -14,7 +15,7 @@ use Rattle.ga_journal.specs.declared.entry.Pass.{Pass}
 use Rattle.ga_journal.specs.declared.entry.Entry.{Entry}
 use Rattle.ga_journal.specs.Histories.{Past, Rises}
 use Rattle.ga_journal.specs.Kept.{has_looked_in}
-use Rattle.ga_journal.specs.Looks.{IsNewestLook, HasNoLook, IsPastNewest, IsLookAfter, HasNoLookAfter}
+use Rattle.ga_journal.specs.Looks.{HasLook, IsNewestLook, HasNoLook, IsPastNewest, IsLookAfter, HasNoLookAfter}
 use Rattle.ga_journal.specs.Stored.{own_part, no_pass, act_in, past_in, passes_in, IsBelow, IsDropped, AreNumbered, looked_in, looked_after, KeepLooks, IsHistory}
 use Rattle.ga_journal.proofs.Heads.{deed}
 use Rattle.ga_journal.proofs.Matches.{entries_ordered}
@@ -180,11 +181,19 @@ look_before h mark others place at stamp top e f rise k first is found l p x y b
     looks_blind : {b : Bool} → b ≡ false → b ≡ true → ⊥
     looks_blind q r = cc
 
-pub none_before : (h : List Past) (mark : ℕ) (others : List Past) (place : ℕ) → HasNoLook h mark → HasNoLookAfter h mark others place
-none_before h mark others place none p x y below there looked gone = absurd (both (none p x below there) looked)
-  where
-    both : {b : Bool} → b ≡ false → b ≡ true → ⊥
-    both q r = cc
+-- whether a history has a look at all
+pub some_looked : (items : List Past) (looked : ℕ) → IsPastNewest items (length items) looked → OnTrue (not (nat_eq looked 0)) (HasLook items)
+some_looked items zero h = tt
+some_looked items (suc at) h = subst (λ b. OnTrue (not b) (HasLook items)) (sym (ne_eqb (suc at) 0 (λ q. omega (arith, q)))) (at, h.entry, h.found, h.looked)
 
-pub past_end_none : (h : List Past) (mark : ℕ) (others : List Past) (place : ℕ) → length others ≤ place → HasNoLookAfter h mark others place
-past_end_none h mark others place long p x y below there looked gone = let q = slice_get_within others place y gone in omega (arith, q, long)
+pub none_looked : (items : List Past) (looked : ℕ) → IsPastNewest items (length items) looked → OnFalse (not (nat_eq looked 0)) (HasNoLook items (length items))
+none_looked items zero h = h
+none_looked items (suc at) h = subst (λ b. OnFalse (not b) (HasNoLook items (length items))) (sym (ne_eqb (suc at) 0 (λ q. omega (arith, q)))) tt
+
+-- where there is none, none came after anything
+pub none_after : (items : List Past) (mark : ℕ) (others : List Past) (place : ℕ) → HasNoLook items (length items) → HasNoLookAfter items mark others place
+none_after items mark others place none p e f below found looked first = absurd (both_ways (has_looked_in e.act) (none p e (slice_get_within items p e found) found) looked)
+
+pub on_none : {X : Type 0} {A B : Type 0} (o : Option X) → (A → B) → IfNone o A → IfNone o B
+on_none None f h = f h
+on_none (Some x) f h = h

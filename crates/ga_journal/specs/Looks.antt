@@ -1,8 +1,8 @@
 -- Looks that saw what is to go: an own event that looked saw of each neighbour just the entries with stamps below its own.
-use Rattle.std.specs.Prelude.{◌≡◌, ℕ, zero, suc, ◌<◌, ◌≤◌, true, false, List, Some, slice_get}
+use Rattle.std.specs.Prelude.{◌≡◌, ℕ, zero, suc, ◌<◌, ◌≤◌, true, false, List, length, Some, slice_get}
 use Rattle.ga_journal.specs.Histories.{Past, Book, history}
 use Rattle.ga_journal.specs.Kept.{has_looked_in}
-use Rattle.ga_journal.specs.Marks.{mark_of}
+use Rattle.ga_journal.specs.Marks.{mark_of, ticked}
 
 -- the newest look among the first entries of a history, as many as the mark says
 pub record IsNewestLook (entries : List Past) (mark at : ℕ) : Type 0 where
@@ -15,6 +15,10 @@ pub record IsNewestLook (entries : List Past) (mark at : ℕ) : Type 0 where
 -- none of them is a look
 abbrev pub HasNoLook : List Past → ℕ → Type 0
 HasNoLook entries mark = (p : ℕ) (e : Past) → p < mark → slice_get entries p ≡ Some e → has_looked_in e.act ≡ false
+
+-- some entry of a history is a look
+abbrev pub HasLook : List Past → Type 0
+HasLook entries = (p : ℕ) × (e : Past) × (slice_get entries p ≡ Some e) × (has_looked_in e.act ≡ true)
 
 -- one past the newest of them, or 0
 abbrev pub IsPastNewest : List Past → ℕ → ℕ → Type 0
@@ -43,3 +47,8 @@ IsLookToGo book node looker at =
 abbrev pub SawNoneToGo : Book → ℕ → ℕ → Type 0
 SawNoneToGo book node looker =
     HasNoLookAfter (history book.histories looker) (mark_of book looker) (history book.histories node) (mark_of book node)
+
+-- looking for it reads entries, and so is a tick, where the looker has a look at all
+pub data IsSought (old : Book) (looker : ℕ) (new : Book) : Type 0 where
+  Never : HasNoLook (history old.histories looker) (length (history old.histories looker)) → new ≡ old → IsSought old looker new
+  Once : HasLook (history old.histories looker) → new ≡ ticked old → IsSought old looker new

@@ -1,9 +1,11 @@
 //! Events that are added to the histories, and taken out of them.
 
 ghost use Rattle.std.specs.Prelude.{◌≡◌, ◌≢◌, ◌+◌, ◌<◌, ◌^◌, List, ◌∷◌, [], ◌++◌, ℕ, length, slice_set};
-ghost use Rattle.std.specs.Prelude.{IfOk, OnErr};
-ghost use Rattle.ga_grid.specs.Chip.{records_of};
-ghost use Rattle.ga_event.specs.Apply.{refusal_of, IsRefusedBy};
+ghost use Rattle.std.specs.Prelude.{true, None};
+ghost use Rattle.ga_node.specs.Record.{record_of};
+ghost use Rattle.ga_node.specs.Table.{refusal};
+ghost use Rattle.ga_grid.specs.Chip.{records_of, record_at, node_at};
+ghost use Rattle.ga_event.specs.Apply.{refusal_of, is_open};
 ghost use Rattle.ga_event.specs.Undo.{IsOfKind};
 ghost use Rattle.ga_journal.specs.Histories.{past, past_of, lists_of, room_of, has_room, has_pass_room, HasRoom};
 ghost use Rattle.ga_journal.specs.Histories.{history, bound_of, pushed, appended};
@@ -20,7 +22,7 @@ use crate::history::History;
 use crate::made::Made;
 use ga_event::{Deed, Effect, Event, apply_pass};
 use ga_grid::{Chip, NodeId};
-use ga_node::{NotReady, Saved};
+use ga_node::Saved;
 use ga_ports::Side;
 use ga_word::Word18;
 
@@ -255,26 +257,22 @@ fn make_own(
     node: NodeId,
     stamp: u64,
     before: NodeId,
-) -> Result<Made, NotReady>
+) -> Made
+    requires ready { refusal (record_of (node_at chip.old node.number)) ≡ None }
     requires size { length histories.old.items ≡ 144 }
     requires room { has_room (room_of histories.old.items) node.number }
     requires fits { length (history (lists_of histories.old.items) node.number) + 1 < 2 ^ 32 }
-    ensures ok { IfOk result (λ made. IsAdded (lists_of histories.old.items) chip.old stamp (Event.Own node) made
-        (lists_of histories.new.items) chip.new) }
-    ensures refused { IsRefusedBy result (refusal_of (records_of chip.old) (Event.Own node)) }
-    ensures chip { OnErr result (chip.new ≡ chip.old) }
-    ensures same { OnErr result (lists_of histories.new.items ≡ lists_of histories.old.items) }
+    ensures added { IsAdded (lists_of histories.old.items) chip.old stamp (Event.Own node) result
+        (lists_of histories.new.items) chip.new }
     ensures size { length histories.new.items ≡ 144 }
 {
     let step = count(histories, node) + 1;
     let history = &mut histories[node.index()];
-    match history.make_own(chip, node, stamp, before) {
-        Ok(deed) => Ok(Made::Own {
-            node,
-            step,
-            kind: deed.kind,
-        }),
-        Err(why) => Err(why),
+    let deed = history.make_own(chip, node, stamp, before);
+    Made::Own {
+        node,
+        step,
+        kind: deed.kind,
     }
 }
 
@@ -286,15 +284,15 @@ fn make_pass(
     side: Side,
     stamp: u64,
     before: NodeId,
-) -> Result<Made, NotReady>
+) -> Made
+    requires open { is_open ends.0.number ends.1.number side
+        (record_at (records_of chip.old) ends.0.number).wait
+        (record_at (records_of chip.old) ends.1.number).wait ≡ true }
     requires size { length histories.old.items ≡ 144 }
     requires room { HasRoom (room_of histories.old.items) (Event.Pass ends.0 ends.1 side) }
     requires fits { (n : ℕ) → length (history (lists_of histories.old.items) n) + 1 < 2 ^ 32 }
-    ensures ok { IfOk result (λ made. IsAdded (lists_of histories.old.items) chip.old stamp
-        (Event.Pass ends.0 ends.1 side) made (lists_of histories.new.items) chip.new) }
-    ensures refused { IsRefusedBy result (refusal_of (records_of chip.old) (Event.Pass ends.0 ends.1 side)) }
-    ensures chip { OnErr result (chip.new ≡ chip.old) }
-    ensures same { OnErr result (lists_of histories.new.items ≡ lists_of histories.old.items) }
+    ensures added { IsAdded (lists_of histories.old.items) chip.old stamp
+        (Event.Pass ends.0 ends.1 side) result (lists_of histories.new.items) chip.new }
     ensures size { length histories.new.items ≡ 144 }
 {
     let (writer, reader) = ends;
@@ -302,18 +300,14 @@ fn make_pass(
     let reader_step = count(histories, reader) + 1;
     let mut sent = Saved::new();
     let mut taken = Saved::new();
-    match apply_pass(chip, writer, reader, side, &mut sent, &mut taken) {
-        Ok(word) => {
-            push_pass(histories, stamp, ends, side, word, (sent, taken), before);
-            Ok(Made::Pass {
-                writer,
-                writer_step,
-                reader,
-                reader_step,
-                word,
-            })
-        }
-        Err(why) => Err(why),
+    let word = apply_pass(chip, writer, reader, side, &mut sent, &mut taken);
+    push_pass(histories, stamp, ends, side, word, (sent, taken), before);
+    Made::Pass {
+        writer,
+        writer_step,
+        reader,
+        reader_step,
+        word,
     }
 }
 
@@ -325,15 +319,13 @@ pub(crate) fn make_event(
     event: Event,
     stamp: u64,
     before: NodeId,
-) -> Result<Made, NotReady>
+) -> Made
+    requires can { refusal_of (records_of chip.old) event ≡ None }
     requires size { length histories.old.items ≡ 144 }
     requires room { HasRoom (room_of histories.old.items) event }
     requires fits { (n : ℕ) → length (history (lists_of histories.old.items) n) + 1 < 2 ^ 32 }
-    ensures ok { IfOk result (λ made. IsAdded (lists_of histories.old.items) chip.old stamp event made
-        (lists_of histories.new.items) chip.new) }
-    ensures refused { IsRefusedBy result (refusal_of (records_of chip.old) event) }
-    ensures chip { OnErr result (chip.new ≡ chip.old) }
-    ensures same { OnErr result (lists_of histories.new.items ≡ lists_of histories.old.items) }
+    ensures added { IsAdded (lists_of histories.old.items) chip.old stamp event result
+        (lists_of histories.new.items) chip.new }
     ensures size { length histories.new.items ≡ 144 }
 {
     match event {

@@ -7,7 +7,7 @@ use crate::entry::{Act, Entry, Head, Part, Pass, Role, Taken};
 use crate::fault::JournalFault;
 use ga_event::{Deed, apply_own, restore};
 use ga_grid::{Chip, NodeId};
-use ga_node::{Kind, NotReady, Saved};
+use ga_node::{Kind, Node, Saved};
 use std::alloc::Global;
 use std::marker::Model;
 
@@ -123,14 +123,16 @@ fn drop_pass(passes: &mut Vec<Pass>, part: Part)
 
 impl History {
     ghost use Rattle.std.specs.Prelude.{◌≡◌, ◌+◌, ◌<◌, ◌^◌, ◌++◌, ◌∷◌, [], length, IsTrue};
-    ghost use Rattle.std.specs.Prelude.{IfOk, OnOk, OnErr, IfErr, IfSome, IfNone};
-    ghost use Rattle.ga_grid.specs.Chip.{records_of};
-    ghost use Rattle.ga_event.specs.declared.event.Event.TheVariants as event;
-    ghost use Rattle.ga_event.specs.Apply.{refusal_of, IsRefusedBy};
+    ghost use Rattle.std.specs.Prelude.{OnOk, OnErr, IfErr, IfSome, IfNone, None, take, drop};
+    ghost use Rattle.std.specs.Bool.{OnTrue, OnFalse};
+    ghost use Rattle.ga_journal.specs.Walked.{walked, CanWalk};
+    ghost use Rattle.ga_node.specs.Record.{record_of};
+    ghost use Rattle.ga_node.specs.Table.{refusal};
+    ghost use Rattle.ga_grid.specs.Chip.{node_at};
     ghost use Rattle.ga_journal.specs.Histories.{past, past_of, bound_of};
     ghost use Rattle.ga_journal.specs.Stored.{act_with};
     ghost use Rattle.ga_journal.specs.Ends.{TellsOf, own_act, IsMadeAlone, CanGoBack, IsGoneBack};
-    ghost use Rattle.ga_journal.specs.Looks.{IsNewestLook, HasNoLook, IsPastNewest};
+    ghost use Rattle.ga_journal.specs.Looks.{HasLook, HasNoLook, IsNewestLook, IsPastNewest};
 
     /// A history without an entry.
     #[inline(always)]
@@ -178,6 +180,15 @@ impl History {
         }
     }
 
+    /// Whether some entry is a look.
+    #[inline(always)]
+    pub fn has_looked(&self) -> bool
+        ensures yes { OnTrue result (HasLook self.now.items) }
+        ensures no { OnFalse result (HasNoLook self.now.items (length self.now.items)) }
+    {
+        self.looked != 0
+    }
+
     /// One past the position of the newest look among the first entries, 0 where none is a look.
     fn looked_by(&self, mark: u32) -> u32
         requires { mark ≤ length self.now.items }
@@ -205,6 +216,7 @@ impl History {
     pub fn grow(&mut self) -> Result<(), JournalFault>
         ensures same { self.new.items ≡ self.old.items }
         ensures room { OnOk result (IsTrue self.new.room.entry) }
+        ensures full { OnErr result (¬ IsTrue self.old.room.entry) }
         ensures err { IfErr result (λ fault. fault ≡ JournalFault.Memory) }
     {
         match self.entries.reserve(1) {
@@ -218,6 +230,7 @@ impl History {
         ensures same { self.new.items ≡ self.old.items }
         ensures room { OnOk result (IsTrue self.new.room.entry) }
         ensures pass { OnOk result (IsTrue self.new.room.pass) }
+        ensures full { OnErr result (¬ (IsTrue self.old.room.entry × IsTrue self.old.room.pass)) }
         ensures err { IfErr result (λ fault. fault ≡ JournalFault.Memory) }
     {
         if self.entries.reserve(1).is_err() || self.passes.reserve(1).is_err() {
@@ -268,20 +281,11 @@ impl History {
 
     /// Makes an own event of the node on the chip, whose overwritten values go straight into its entry.
     #[inline(always)]
-    pub fn make_own(
-        &mut self,
-        chip: &mut Chip,
-        node: NodeId,
-        stamp: u64,
-        before: NodeId,
-    ) -> Result<Deed, NotReady>
+    pub fn make_own(&mut self, chip: &mut Chip, node: NodeId, stamp: u64, before: NodeId) -> Deed
+        requires ready { refusal (record_of (node_at chip.old node.number)) ≡ None }
         requires room { IsTrue self.old.room.entry }
         requires fits { length self.old.items + 1 < 2 ^ 32 }
-        ensures ok { IfOk result (λ deed.
-            IsMadeAlone self.old.items chip.old node stamp deed self.new.items chip.new) }
-        ensures refused { IsRefusedBy result (refusal_of (records_of chip.old) (event.Own node)) }
-        ensures chip { OnErr result (chip.new ≡ chip.old) }
-        ensures same { OnErr result (self.new.items ≡ self.old.items) }
+        ensures { IsMadeAlone self.old.items chip.old node stamp result self.new.items chip.new }
     {
         self.entries.push_reserved(Entry {
             stamp,
@@ -292,18 +296,11 @@ impl History {
         });
         let last = self.entries.as_slice().len() - 1;
         let entry = &mut self.entries[last];
-        match apply_own(chip, node, &mut entry.saved) {
-            Ok(deed) => {
-                let part = part_of(deed);
-                entry.part = part;
-                self.looked = looked_with(self.looked, last, part);
-                Ok(deed)
-            }
-            Err(why) => {
-                let _ = self.entries.pop();
-                Err(why)
-            }
-        }
+        let deed = apply_own(chip, node, &mut entry.saved);
+        let part = part_of(deed);
+        entry.part = part;
+        self.looked = looked_with(self.looked, last, part);
+        deed
     }
 
     /// Takes the last entry out.
@@ -346,5 +343,19 @@ impl History {
         drop_pass(&mut self.passes, part);
         let _ = self.entries.pop();
         act
+    }
+
+    /// Writes the values of the entries from the position `to` on and below `from` back to a node, those of the last entry
+    /// first.
+    pub fn walk_back(&self, node: &mut Node, from: usize, to: usize)
+        requires order { to ≤ from }
+        requires within { from ≤ length self.now.items }
+        requires can { CanWalk node.old (drop to (take from self.now.items)) }
+        ensures { node.new ≡ walked node.old (drop to (take from self.now.items)) }
+    {
+        for k in 0..from - to {
+            let entry = &self.entries[from - 1 - k];
+            node.restore(&entry.saved);
+        }
     }
 }

@@ -1,11 +1,23 @@
 //! Looks that saw what is to go.
 
 ghost use Rattle.std.specs.Prelude.{◌≡◌, ◌<◌, ◌≤◌, ◌^◌, ℕ, length, IfSome, IfNone};
+ghost use Rattle.std.specs.Bool.{OnTrue, OnFalse};
 ghost use Rattle.ga_journal.specs.Histories.{lists_of, history, AllRise};
-ghost use Rattle.ga_journal.specs.Looks.{IsLookAfter, HasNoLookAfter};
+ghost use Rattle.ga_journal.specs.Looks.{HasLook, HasNoLook, IsLookAfter, HasNoLookAfter};
 
 use crate::history::History;
 use ga_grid::NodeId;
+
+/// Whether some entry of a node is a look.
+pub(crate) fn has_looked(histories: &Vec<History>, node: NodeId) -> bool
+    requires { length histories.now.items ≡ 144 }
+    ensures yes { OnTrue result (HasLook (history (lists_of histories.now.items) node.number)) }
+    ensures no { OnFalse result (
+        let entries = history (lists_of histories.now.items) node.number in HasNoLook entries (length entries)) }
+{
+    let history = &histories[node.index()];
+    history.has_looked()
+}
 
 /// The position of the newest look among the first entries of the looker, where it came after the entry at a position of
 /// another node.

@@ -23,7 +23,7 @@ use Rattle.ga_lab.proofs.Replays.{told_length}
 use Rattle.ga_lab.proofs.Stepping.{not_refused}
 
 -- a run tells of its events
-run_events : (c last : List NodeRecord) (es : List Event) (ts : List (Cause × Told)) → run c es ≡ Some (last, ts) → events_told ts ≡ es
+pub run_events : (c last : List NodeRecord) (es : List Event) (ts : List (Cause × Told)) → run c es ≡ Some (last, ts) → events_told ts ≡ es
 run_events c last [] ts h = let p : (c, []) ≡ (last, ts) = same_Some _ _ h in ap events_told (sym (ap (λ z. z.1) p))
 run_events c last (e ∷ es) ts h = at_first (apply c e) h (λ first ts2 g. run_events first.0 last es ts2 g)
   where
@@ -42,19 +42,19 @@ run_events c last (e ∷ es) ts h = at_first (apply c e) h (λ first ts2 g. run_
     at_first (Some first) g ih = at_rest first (run first.0 es) (ih first) g
 
 -- where the kept events can be replayed
-record Ran (s : State) : Type 0 where
+pub record Ran (s : State) : Type 0 where
   pub last : List NodeRecord
   pub told : List (Cause × Told)
   pub run_is : run s.load s.kept ≡ Some (last, told)
 
-ran : (s : State) → IsSome (replay s.load s.kept) → Ran s
+pub ran : (s : State) → IsSome (replay s.load s.kept) → Ran s
 ran s h = go (run s.load s.kept) refl h
   where
     go : (o : Option (List NodeRecord × List (Cause × Told))) → run s.load s.kept ≡ o → IsSome (option_map {U = List NodeRecord} (λ done. done.0) o) → Ran s
     go None is k = absurd (cc)
     go (Some done) is k = record { last = done.0; told = done.1; run_is = is }
 
-chip_is : (s : State) (r : Ran s) → chip_of s ≡ r.last
+pub chip_is : (s : State) (r : Ran s) → chip_of s ≡ r.last
 chip_is s r = ap (λ (o : Option (List NodeRecord × List (Cause × Told))). unwrap_or (option_map (λ (x : List NodeRecord × List (Cause × Told)). x.0) o) []) r.run_is
 
 -- what is told of the last of a list

@@ -1,5 +1,5 @@
 -- The entries that a journal holds are the steps of its list.
-use Rattle.std.proofs.Common.{◌≡◌, ℕ, ◌+◌, ◌*◌, ◌≤◌, List, [], length, Result, Ok, Err, sym, ◌∙◌, ap, subst, arith, ext_get_or}
+use Rattle.std.proofs.Common.{◌≡◌, ℕ, ◌+◌, ◌*◌, ◌^◌, ◌<◌, List, [], length, Result, Ok, Err, sym, ◌∙◌, ap, subst, arith, ext_get_or}
 use Rattle.std.specs.Prelude.{map, OnOk}
 use Rattle.std.specs.List.{sum, range_with_len}
 use Rattle.std.proofs.lemmas.List.{length-map, get_or-map}
@@ -34,18 +34,19 @@ entries_steps chip book lab =
     ∙ sum-map (λ n. steps_of n (events_of book)) (range_with_len 0 144)
     ∙ ap steps_in (sym (kept_state chip book))
 
-most_of : (from to gone looks : ℕ) → looks ≤ gone → to ≤ from + 4 * gone + looks + 1 → to ≤ from + 5 * gone + 1
-most_of from to gone looks among most = omega arith
-
 -- what a rollback's ticks are bounded by, in the machine's terms
-pub bounded_by : (chip now : List NodeState) (old new : Book) (from to : ℕ) → IsLab chip old → IsLab now new → IsTicked old new from to
+pub bounded_by : (chip now : List NodeState) (old new : Book) (from to : ℕ) → IsLab chip old → IsLab now new → IsTicked old new → old.ticks ≡ 0 → to ≡ from + new.ticks
     → IsBounded (state_of chip old).kept (state_of now new).kept from to
-bounded_by chip now old new from to before after ticked = record {
+bounded_by chip now old new from to before after ticked anew rise = record {
   gone = ticked.gone;
   left = ap (λ z. z + ticked.gone) (sym (entries_steps now new after)) ∙ ticked.entries_left ∙ entries_steps chip old before;
-  least = ticked.least;
-  most = most_of from to ticked.gone ticked.looks_gone ticked.among ticked.most;
+  least = let a = ticked.least in omega arith;
+  most = let a = ticked.most in let b = ticked.among in omega arith;
 }
+
+-- and they fit
+pub ticks_within : (old new : Book) → IsTicked old new → old.ticks ≡ 0 → 40 * entries old + 8 < 2 ^ 63 → new.ticks < 2 ^ 63
+ticks_within old new ticked anew short = let a = ticked.most in let b = ticked.among in let c = ticked.entries_left in omega arith
 
 pub on_ok : {T E : Type 0} (A : Type 0) (r : Result T E) (x : T) → r ≡ Ok x → A → OnOk r A
 on_ok A r x is a = subst (λ z. OnOk z A) (sym is) a

@@ -1,12 +1,24 @@
 //! Laws over the machine, each the contract of a function that does no work.
 
-ghost use Rattle.std.specs.Prelude.{◌≡◌, length, Some, Ok, IsSome};
+ghost use Rattle.std.specs.Prelude.{◌≡◌, ◌<◌, ◌≤◌, ◌^◌, ◌↔◌, ℕ, true, List, [], ◌∷◌, ◌++◌, ◌+◌, ◌-◌, length, map, Some, None, Ok, IsSome};
+ghost use Rattle.ga_event.specs.declared.event.Event.{Event};
+ghost use Rattle.ga_event.specs.Touches.{touches};
 ghost use Rattle.ga_event.specs.Apply.{replay};
+ghost use Rattle.ga_journal.specs.Kept.{steps_of};
 ghost use Rattle.ga_grid.specs.declared.node_id.NodeId.{NodeId};
 ghost use Rattle.ga_grid.specs.Steady.{AreSteady};
 ghost use Rattle.ga_journal.specs.Told.{made_in};
 ghost use Rattle.ga_journal.specs.declared.made.Made.{Made};
-ghost use Rattle.ga_lab.specs.Machine.{State, chip_of, told_of_kept, step_answer, stepped};
+ghost use Rattle.ga_lab.specs.Machine.{State, first, chip_of, told_of_kept, causes_of, step_answer, stepped, stands, undone, rewind_answer, rewound, why_answer, history_of};
+ghost use Rattle.ga_lab.specs.Forward.{actor_of, stepped_all};
+ghost use Rattle.ga_grid.specs.Chip.{record_at};
+ghost use Rattle.ga_node.specs.Record.{NodeRecord};
+ghost use Rattle.ga_lab.specs.Calls.{Call, called_all, AreAlike};
+ghost use Rattle.ga_lab.specs.Sequences.{AreCausal, TakesNoLook};
+ghost use Rattle.ga_causal.specs.Equivalence.{AreEquivalent, account};
+ghost use Rattle.ga_causal.specs.Dependence.{NoneLooks};
+ghost use Rattle.ga_causal.specs.declared.chain.Link.{Link};
+ghost use Rattle.ga_causal.specs.Chains.{IsChain, named};
 
 use ga_event::laws;
 
@@ -22,4 +34,127 @@ pub fn stays_steady()
 pub fn told_later()
     ensures { (s : State) (n : NodeId) (told : Made) → IsSome (replay s.load s.kept) →
         step_answer s n ≡ Ok told → made_in (told_of_kept (stepped s n)) (length s.kept) ≡ Some told }
+{}
+
+/// Whatever is called, the kept events can be replayed from the load.
+pub fn reached()
+    ensures { (load : List NodeRecord) (limit : ℕ) (calls : List Call) →
+        let s = called_all (first load limit) calls in
+        (s.load ≡ load) × IsSome (replay s.load s.kept) }
+{}
+
+/// Whatever is called, no more events are kept than the limit, nor than were made.
+pub fn kept_fits()
+    ensures { (load : List NodeRecord) (limit : ℕ) (calls : List Call) →
+        let s = called_all (first load limit) calls in
+        (length s.kept ≤ s.limit) × (length s.kept ≤ s.made) }
+{}
+
+/// After a rollback the history of each node is the first part of what it was. (Here and below, that the kept events can be
+/// replayed is asked of a machine: by `reached` each that calls lead to meets it. Others have no chip.)
+pub fn history_kept()
+    ensures { (s : State) (n k m : ℕ) → IsSome (replay s.load s.kept) →
+        (later : List Made) × (history_of s m ≡ history_of (rewound s n k) m ++ later) }
+{}
+
+/// To undo the newest event is to roll back the last step of any of its nodes.
+pub fn undone_rewound()
+    ensures { (s : State) (events : List Event) (event : Event) (n : ℕ) → IsSome (replay s.load s.kept) →
+        s.kept ≡ events ++ event ∷ [] → touches event n ≡ true → undone s ≡ rewound s n (steps_of n s.kept) }
+{}
+
+/// Causal consistency of the machine (Danos and Krivine): whatever steps, undos and rollbacks led to two machines from
+/// one load, if each node has the same account in both, then they keep the same events but for the order of independent ones, their
+/// chips are the same, and so is each history. `order_unseen` says the other direction.
+pub fn same_accounts()
+    ensures { (load : List NodeRecord) (limit bound : ℕ) (calls others : List Call) →
+        let s = called_all (first load limit) calls in
+        let z = called_all (first load bound) others in
+        ((n : ℕ) → account n (causes_of s) ≡ account n (causes_of z)) →
+        AreEquivalent load s.kept z.kept × (chip_of s ≡ chip_of z) × ((n : ℕ) → history_of s n ≡ history_of z n) }
+{}
+
+/// Causal consistency of sequences of calls (Danos and Krivine): two sequences from one load are causally equivalent, which is that
+/// a step followed by its undo is nothing and independent steps swap, exactly where they end alike. That they end alike holds of
+/// all; the other direction wants that no rollback takes a look, since a step that the look read may stay, and then the rollback is
+/// no undos. It goes over as many steps and undos again, which have to be counted: so less than half of 2^64 calls.
+pub fn causal_calls()
+    ensures ends { (load : List NodeRecord) (limit : ℕ) (calls others : List Call) →
+        AreCausal (first load limit) calls others →
+        AreEquivalent load (called_all (first load limit) calls).kept (called_all (first load limit) others).kept }
+    ensures related { (load : List NodeRecord) (limit : ℕ) (calls others : List Call) →
+        length calls + length calls < 2 ^ 64 → length others + length others < 2 ^ 64 →
+        TakesNoLook (first load limit) calls → TakesNoLook (first load limit) others →
+        AreEquivalent load (called_all (first load limit) calls).kept (called_all (first load limit) others).kept →
+        AreCausal (first load limit) calls others }
+{}
+
+/// The order of independent events shows in no chip, in no account or history, and in no answer to a step or a rollback, nor later.
+/// (An undo shows it: it drops the newest event.)
+pub fn order_unseen()
+    ensures chip { (s z : State) → AreAlike s z → chip_of s ≡ chip_of z }
+    ensures account { (s z : State) (n : ℕ) → IsSome (replay s.load s.kept) → AreAlike s z →
+        account n (causes_of s) ≡ account n (causes_of z) }
+    ensures history { (s z : State) (n : ℕ) → IsSome (replay s.load s.kept) → AreAlike s z → history_of s n ≡ history_of z n }
+    ensures step { (s z : State) (n : NodeId) → AreAlike s z →
+        (step_answer s n ≡ step_answer z n) × AreAlike (stepped s n) (stepped z n) }
+    ensures rollback { (s z : State) (n k : ℕ) → IsSome (replay s.load s.kept) → AreAlike s z →
+        (rewind_answer s n k ≡ rewind_answer z n k) × AreAlike (rewound s n k) (rewound z n k) }
+{}
+
+/// `why` finds a chain in both of two machines that differ by the order of independent events, or in neither, and each chain that it
+/// tells of the one is a chain of the other: the same steps, each of which depends directly on the one before by the same rule. (It
+/// need not be the one that is told there: where several of the events on which a step depends directly lead back to the first, the
+/// one that was made first is told.)
+pub fn why_unseen()
+    ensures none { (s z : State) (n k m j : ℕ) → IsSome (replay s.load s.kept) → AreAlike s z →
+        ((why_answer s n k m j ≡ Ok None) ↔ (why_answer z n k m j ≡ Ok None)) }
+    ensures chain { (s z : State) (n k m j : ℕ) (links : List Link) → IsSome (replay s.load s.kept) → AreAlike s z →
+        why_answer s n k m j ≡ Ok (Some links) →
+        (chain : List Link) × IsChain (causes_of z) chain × (named (causes_of s) links ≡ named (causes_of z) chain) }
+{}
+
+/// Where no kept event looks, the histories of the nodes, which are what `trace` prints, tell the kept events but for the order of
+/// independent ones, and with them the chip. (Where one looks they don't: it reads another word where a neighbour made a step
+/// before it, and is told alike.)
+pub fn traces_tell()
+    ensures { (load : List NodeRecord) (limit bound : ℕ) (calls others : List Call) →
+        let s = called_all (first load limit) calls in
+        let z = called_all (first load bound) others in
+        NoneLooks (causes_of s) → NoneLooks (causes_of z) → ((n : ℕ) → history_of s n ≡ history_of z n) →
+        AreEquivalent load s.kept z.kept × (chip_of s ≡ chip_of z) }
+{}
+
+/// Whatever was taken back, the machine stands where steps alone lead from the load: one step for each kept event, in their order,
+/// of a pass one of its writer. No more may be kept than the limit and the count of made events let steps make, as is so after any
+/// calls.
+pub fn reached_forward()
+    ensures { (s : State) → IsSome (replay s.load s.kept) → length s.kept ≤ s.limit → length s.kept < 2 ^ 64 →
+        stepped_all (first s.load s.limit) (map actor_of s.kept) ≡ record s { made = length s.kept } }
+{}
+
+/// `why` finds no chain from a step to another exactly where a rollback of the first leaves the other standing. Both must stand:
+/// `why` refuses a step that doesn't.
+pub fn takes_what_it_explains()
+    ensures { (s : State) (n k m j : ℕ) → IsSome (replay s.load s.kept) → stands s n k ≡ true → stands s m j ≡ true →
+        ((why_answer s n k m j ≡ Ok None) ↔ (stands (rewound s n k) m j ≡ true)) }
+{}
+
+/// Two rollbacks leave the same machine in either order.
+pub fn either_order()
+    ensures { (s : State) (n k m j : ℕ) → IsSome (replay s.load s.kept) →
+        rewound (rewound s n k) m j ≡ rewound (rewound s m j) n k }
+{}
+
+/// What was undone is made again by a step of its node, of a pass by one of its writer. The limit and the count of made events must
+/// leave room for it, or the step is refused.
+pub fn redone()
+    ensures { (s : State) (xs : List Event) (e : Event) → IsSome (replay s.load s.kept) → s.kept ≡ xs ++ e ∷ [] →
+        length s.kept ≤ s.limit → s.made < 2 ^ 64 - 1 → stepped (undone s) (actor_of e) ≡ record s { made = s.made + 1 } }
+{}
+
+/// A node that keeps all its steps stands after a rollback as it stood before. Another stands where its first steps left it.
+pub fn stays_elsewhere()
+    ensures { (s : State) (n k m : ℕ) → IsSome (replay s.load s.kept) → steps_of m (rewound s n k).kept ≡ steps_of m s.kept →
+        record_at (chip_of (rewound s n k)) m ≡ record_at (chip_of s) m }
 {}

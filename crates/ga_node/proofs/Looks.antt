@@ -1,9 +1,10 @@
--- An event that doesn't look is the same whatever stands beside the node.
-use Rattle.std.proofs.Common.{◌≡◌, Bool, true, false, refl, ap}
+-- An event that doesn't look is the same whatever stands beside the node, and one that looks is not.
+use Rattle.std.proofs.Common.{◌≡◌, ◌≢◌, ◌∙◌, ◌∷◌, ◌/◌, ℕ, Bool, true, false, List, slice_index, length, refl, sym, ap, arith, get_or-take}
 use Rattle.std.proofs.lemmas.Bool.{both_ways}
 use Rattle.ga_slots.specs.Codes.{code_of}
 use Rattle.ga_slots.specs.declared.op.Op.{Op}
-use Rattle.ga_slots.specs.declared.op.Op.TheVariants.{Return, Execute, Jump, Call, Unext, Next, If, MinusIf, FetchP, FetchPlus, FetchB, Fetch, StoreP, StorePlus, StoreB, Store, MultiplyStep, TwoStar, TwoSlash, Invert, Plus, And, Or, Drop, Dup, Pop, Over, A, Nop, Push, BStore, AStore}
+use Rattle.ga_slots.specs.declared.op.Op.TheVariants as op
+use Rattle.ga_stacks.specs.Ring.{pushed}
 use Rattle.ga_ports.specs.Address.{classified}
 use Rattle.ga_ports.specs.declared.address.Target.{Target}
 use Rattle.ga_ports.specs.declared.address.Target.TheVariants.{Ram, Rom, Io, Ports, Bad}
@@ -12,10 +13,13 @@ use Rattle.ga_node.specs.declared.wait.Reader.TheVariants.{Instruction, Stack}
 use Rattle.ga_node.specs.declared.seen.Seen.{Seen}
 use Rattle.ga_node.specs.declared.due.Due.{Due}
 use Rattle.ga_node.specs.declared.due.Due.TheVariants as due
+use Rattle.ga_node.specs.declared.kind.Kind.{Kind}
 use Rattle.ga_node.specs.declared.kind.Kind.TheVariants as kind
+use Rattle.ga_node.specs.Flow.{HasSizes}
+use Rattle.ga_node.specs.Io.{io_word}
 use Rattle.ga_node.specs.Record.{NodeRecord}
-use Rattle.ga_node.specs.Changes.{after}
-use Rattle.ga_node.specs.Table.{named, found, effect, fetched, due_of, done_by, own_event, own, is_io, reads_io, looks_by, looks}
+use Rattle.ga_node.specs.Changes.{Change, after}
+use Rattle.ga_node.specs.Table.{Access, Plain, Reads, Writes, named, found, followed, carried_out, does, fetches, reads_io_in, reads_io, due_of, done_by, own_event, own, is_io, looks_by, looks}
 
 found_blind : (target : Target) (reader : Reader) (seen other : Seen) (n : NodeRecord) → is_io target ≡ false → found target reader seen n ≡ found target reader other n
 unfolding found
@@ -25,46 +29,14 @@ found_blind Io reader seen other n blind = absurd (both_ways true blind refl)
 found_blind (Ports sides) reader seen other n blind = refl
 found_blind Bad reader seen other n blind = refl
 
-effect_blind : (op : Op) (seen other : Seen) (n : NodeRecord) → reads_io op n ≡ false → effect op seen n ≡ effect op other n
-effect_blind Return seen other n blind = refl
-effect_blind Execute seen other n blind = refl
-effect_blind Jump seen other n blind = refl
-effect_blind Call seen other n blind = refl
-effect_blind Unext seen other n blind = refl
-effect_blind Next seen other n blind = refl
-effect_blind If seen other n blind = refl
-effect_blind MinusIf seen other n blind = refl
-effect_blind FetchP seen other n blind = rw (found_blind (classified n.p) Stack seen other n blind) refl
-effect_blind FetchPlus seen other n blind = rw (found_blind (classified n.a) Stack seen other n blind) refl
-effect_blind FetchB seen other n blind = rw (found_blind (classified n.b) Stack seen other n blind) refl
-effect_blind Fetch seen other n blind = rw (found_blind (classified n.a) Stack seen other n blind) refl
-effect_blind StoreP seen other n blind = refl
-effect_blind StorePlus seen other n blind = refl
-effect_blind StoreB seen other n blind = refl
-effect_blind Store seen other n blind = refl
-effect_blind MultiplyStep seen other n blind = refl
-effect_blind TwoStar seen other n blind = refl
-effect_blind TwoSlash seen other n blind = refl
-effect_blind Invert seen other n blind = refl
-effect_blind Plus seen other n blind = refl
-effect_blind And seen other n blind = refl
-effect_blind Or seen other n blind = refl
-effect_blind Drop seen other n blind = refl
-effect_blind Dup seen other n blind = refl
-effect_blind Pop seen other n blind = refl
-effect_blind Over seen other n blind = refl
-effect_blind A seen other n blind = refl
-effect_blind Nop seen other n blind = refl
-effect_blind Push seen other n blind = refl
-effect_blind BStore seen other n blind = refl
-effect_blind AStore seen other n blind = refl
-
-fetched_blind : (seen other : Seen) (n : NodeRecord) → is_io (classified n.p) ≡ false → fetched seen n ≡ fetched other n
-fetched_blind seen other n blind = rw (found_blind (classified n.p) Instruction seen other n blind) refl
+access_blind : (reader : Reader) (access : Access) (seen other : Seen) (n : NodeRecord) → reads_io_in access ≡ false → carried_out reader access seen n ≡ carried_out reader access other n
+access_blind reader (Plain changes) seen other n blind = refl
+access_blind reader (Reads address more) seen other n blind = ap (λ found. followed found more) (found_blind (classified address) reader seen other n blind)
+access_blind reader (Writes address more) seen other n blind = refl
 
 done_blind : (due : Due) (seen other : Seen) (n : NodeRecord) → looks_by due n ≡ false → done_by due seen n ≡ done_by due other n
-done_blind due.Fetch seen other n blind = ap (named kind.Fetch) (fetched_blind seen other n blind)
-done_blind (due.Run op) seen other n blind = ap (named (kind.Run (code_of op))) (effect_blind op seen other n blind)
+done_blind due.Fetch seen other n blind = ap (named kind.Fetch) (access_blind Instruction (fetches n) seen other n blind)
+done_blind (due.Run op) seen other n blind = ap (named (kind.Run (code_of op))) (access_blind Stack (does op n) seen other n blind)
 
 pub event_blind : (seen other : Seen) (n : NodeRecord) → looks n ≡ false → own_event seen n ≡ own_event other n
 unfolding own_event looks
@@ -78,3 +50,113 @@ own_blind seen other n blind = ap (λ event. (event.0, after event.1 n)) (event_
 pub looks_due : (due : Due) (n : NodeRecord) (look : Bool) → due ≡ due_of n → looks_by due n ≡ look → looks n ≡ look
 unfolding looks
 looks_due due n look is by = rw (← is) by
+
+-- ---- a look sees
+
+-- the node after what is read tells the word
+abbrev IsTelling : Access → NodeRecord → Type 0
+IsTelling (Plain changes) n = Unit {0}
+IsTelling (Reads address more) n = (word other : ℕ) → after (more word) n ≡ after (more other) n → word ≡ other
+IsTelling (Writes address more) n = Unit {0}
+
+-- a word that was pushed is the top
+top_tells : (word other : ℕ) (xs : List ℕ) → length xs ≡ 10 → pushed word xs ≡ pushed other xs → word ≡ other
+top_tells word other xs size same = sym (top word) ∙ ap (λ ys. slice_index ys 0) same ∙ top other
+  where
+    top : (w : ℕ) → slice_index (pushed w xs) 0 ≡ w
+    top w = get_or-take (length xs) (w ∷ xs) 0 0 (omega (arith, size))
+
+op_tells : (op : Op) (n : NodeRecord) → HasSizes n → IsTelling (does op n) n
+op_tells op.Return n sizes = tt
+op_tells op.Execute n sizes = tt
+op_tells op.Jump n sizes = tt
+op_tells op.Call n sizes = tt
+op_tells op.Unext n sizes = tt
+op_tells op.Next n sizes = tt
+op_tells op.If n sizes = tt
+op_tells op.MinusIf n sizes = tt
+op_tells op.FetchP n sizes = λ word other same. top_tells word other n.d sizes.d (ap (λ (m : NodeRecord). m.d) same)
+op_tells op.FetchPlus n sizes = λ word other same. top_tells word other n.d sizes.d (ap (λ (m : NodeRecord). m.d) same)
+op_tells op.FetchB n sizes = λ word other same. top_tells word other n.d sizes.d (ap (λ (m : NodeRecord). m.d) same)
+op_tells op.Fetch n sizes = λ word other same. top_tells word other n.d sizes.d (ap (λ (m : NodeRecord). m.d) same)
+op_tells op.StoreP n sizes = tt
+op_tells op.StorePlus n sizes = tt
+op_tells op.StoreB n sizes = tt
+op_tells op.Store n sizes = tt
+op_tells op.MultiplyStep n sizes = tt
+op_tells op.TwoStar n sizes = tt
+op_tells op.TwoSlash n sizes = tt
+op_tells op.Invert n sizes = tt
+op_tells op.Plus n sizes = tt
+op_tells op.And n sizes = tt
+op_tells op.Or n sizes = tt
+op_tells op.Drop n sizes = tt
+op_tells op.Dup n sizes = tt
+op_tells op.Pop n sizes = tt
+op_tells op.Over n sizes = tt
+op_tells op.A n sizes = tt
+op_tells op.Nop n sizes = tt
+op_tells op.Push n sizes = tt
+op_tells op.BStore n sizes = tt
+op_tells op.AStore n sizes = tt
+
+read_tells : (target : Target) (reader : Reader) (more : ℕ → List Change) (k : Kind) (seen other : Seen) (n : NodeRecord) → is_io target ≡ true
+    → ((word else_word : ℕ) → after (more word) n ≡ after (more else_word) n → word ≡ else_word)
+    → after (named k (followed (found target reader seen n) more)).1 n ≡ after (named k (followed (found target reader other n) more)).1 n → io_word seen ≡ io_word other
+unfolding found followed
+read_tells (Ram k) reader more kind seen other n look tells same = cc
+read_tells (Rom k) reader more kind seen other n look tells same = cc
+read_tells Io reader more kind seen other n look tells same = tells (io_word seen) (io_word other) same
+read_tells (Ports sides) reader more kind seen other n look tells same = cc
+read_tells Bad reader more kind seen other n look tells same = cc
+
+access_tells : (reader : Reader) (access : Access) (k : Kind) (seen other : Seen) (n : NodeRecord) → reads_io_in access ≡ true → IsTelling access n
+    → after (named k (carried_out reader access seen n)).1 n ≡ after (named k (carried_out reader access other n)).1 n → io_word seen ≡ io_word other
+access_tells reader (Plain changes) kind seen other n look tells same = cc
+access_tells reader (Reads address more) kind seen other n look tells same = read_tells (classified address) reader more kind seen other n look tells same
+access_tells reader (Writes address more) kind seen other n look tells same = cc
+
+done_tells : (due : Due) (seen other : Seen) (n : NodeRecord) → HasSizes n → looks_by due n ≡ true → after (done_by due seen n).1 n ≡ after (done_by due other n).1 n → io_word seen ≡ io_word other
+done_tells due.Fetch seen other n sizes look same = access_tells Instruction (fetches n) kind.Fetch seen other n look (λ word else_word e. ap (λ (m : NodeRecord). m.i) e) same
+done_tells (due.Run op) seen other n sizes look same = access_tells Stack (does op n) (kind.Run (code_of op)) seen other n look (op_tells op n sizes) same
+
+pub look_sees : (seen other : Seen) (n : NodeRecord) → HasSizes n → looks n ≡ true → own seen n ≡ own other n → io_word seen ≡ io_word other
+unfolding own own_event looks
+look_sees seen other n sizes look same = done_tells (due_of n) seen other n sizes look (ap (λ (z : Kind × NodeRecord). z.1) same)
+
+-- ---- the opcodes that read
+
+-- all opcodes that read have a code from 08 to 0b
+pub reads_not : (op : Op) (n : NodeRecord) → code_of op / 4 ≢ 2 → reads_io op n ≡ false
+reads_not op.Return n other = refl
+reads_not op.Execute n other = refl
+reads_not op.Jump n other = refl
+reads_not op.Call n other = refl
+reads_not op.Unext n other = refl
+reads_not op.Next n other = refl
+reads_not op.If n other = refl
+reads_not op.MinusIf n other = refl
+reads_not op.FetchP n other = absurd (other refl)
+reads_not op.FetchPlus n other = absurd (other refl)
+reads_not op.FetchB n other = absurd (other refl)
+reads_not op.Fetch n other = absurd (other refl)
+reads_not op.StoreP n other = refl
+reads_not op.StorePlus n other = refl
+reads_not op.StoreB n other = refl
+reads_not op.Store n other = refl
+reads_not op.MultiplyStep n other = refl
+reads_not op.TwoStar n other = refl
+reads_not op.TwoSlash n other = refl
+reads_not op.Invert n other = refl
+reads_not op.Plus n other = refl
+reads_not op.And n other = refl
+reads_not op.Or n other = refl
+reads_not op.Drop n other = refl
+reads_not op.Dup n other = refl
+reads_not op.Pop n other = refl
+reads_not op.Over n other = refl
+reads_not op.A n other = refl
+reads_not op.Nop n other = refl
+reads_not op.Push n other = refl
+reads_not op.BStore n other = refl
+reads_not op.AStore n other = refl

@@ -160,7 +160,7 @@ run_steady seen n idle going = elim (cases_eq n.slot 4) [ inl due ↦ fetches du
         subst (λ event. IsSteady (after event.1 n)) (sym (own_ran seen n other))
         (named_steady n (kind.Run (code_of op)) (effect op seen n) idle going (effect_lands op seen n other))
 
-idle_when : (w : Wait) (stop : ℕ) → refused_by w stop ≡ None → (w ≡ wait.Nothing) × (stop ≡ 0)
+pub idle_when : (w : Wait) (stop : ℕ) → refused_by w stop ≡ None → (w ≡ wait.Nothing) × (stop ≡ 0)
 idle_when wait.Nothing stop e = (refl, by_test (stop == 0) (eqb-true stop 0) e)
   where
     by_test : (b : Bool) → (b ≡ true → stop ≡ 0) → cond b None (Some Stopped) ≡ None → stop ≡ 0

@@ -1,5 +1,5 @@
 -- The marks of a node's neighbours, as they are lowered from look to look.
-use Rattle.std.proofs.Common.{◌≡◌, ◌≢◌, ℕ, ◌+◌, ◌*◌, ◌<◌, ◌≤◌, true, List, get_or, Some, refl, sym, ◌∙◌, subst, arith, ⊎_elim}
+use Rattle.std.proofs.Common.{◌≡◌, ◌≢◌, ℕ, ◌+◌, ◌*◌, ◌<◌, ◌≤◌, true, List, get_or, Some, refl, sym, ◌∙◌, ap, subst, arith, ⊎_elim}
 use Rattle.std.proofs.lemmas.Bool.{cases_eq}
 use Rattle.std.proofs.lemmas.Option.{same_Some}
 use Rattle.ga_ports.specs.declared.side.Side.{Side}
@@ -8,50 +8,82 @@ use Rattle.ga_grid.specs.Grid.{neighbour_of}
 use Rattle.ga_grid.proofs.Links.{neighbour_of-other}
 use Rattle.ga_journal.specs.Histories.{Past, Book}
 use Rattle.ga_journal.specs.Kept.{has_looked_in}
-use Rattle.ga_journal.specs.Marks.{entry_at, mark_of, going_of, to_go, entries, lowered, AreMarks}
-use Rattle.ga_journal.specs.Looks.{IsLookToGo, SawNoneToGo}
-use Rattle.ga_rollback.specs.Marked.{stamp_at, IsDue, Saw, AreLowered, Same, Further, IsMarking, IsUnseen, IsDone}
-use Rattle.ga_rollback.proofs.Marking.{lowered_sound, lowered_other, lowered_go, lowered_line, one_lowered, go_under, marking_lowered, saw_lowered, done_lowered}
+use Rattle.ga_journal.specs.Marks.{entry_at, mark_of, going_of, to_go, entries, ticked, lowered, AreMarks}
+use Rattle.ga_journal.specs.Looks.{IsLookToGo, SawNoneToGo, IsSought, Never, Once}
+use Rattle.ga_rollback.specs.Marked.{stamp_at, IsDue, Saw, AreLowered, Same, Further, Vain, AreLoweredBy, IsMarking, IsUnseen, IsDone}
+use Rattle.ga_rollback.proofs.Marking.{lowered_sound, lowered_other, lowered_go, lowered_line, line_grows, one_lowered, go_under, ticked_sound, marked_ticked, marking_fewer, marking_vain, marking_lowered, saw_lowered, done_lowered}
 
 -- what such marks leave as it was
-pub record AreAfter (old : Book) (node ticks : ℕ) (new : Book) (later : ℕ) : Type 0 where
+pub record AreAfter (old : Book) (node vain : ℕ) (new : Book) : Type 0 where
   pub sound : AreMarks new
-  pub rise : ticks ≤ later
-  pub bound : later + 2 * to_go old ≤ ticks + 2 * to_go new
+  pub rise : old.ticks ≤ new.ticks
+  pub bound : new.ticks + 2 * to_go old ≤ old.ticks + 2 * to_go new + vain
   pub size : entries new ≡ entries old
   pub going : going_of new node ≡ going_of old node
 
-further : (old : Book) (node ticks : ℕ) (book : Book) (before m p : ℕ) → AreAfter old node ticks book before → p < mark_of book m → node ≢ m → AreAfter old node ticks (lowered book m p) (before + 2)
-further old node ticks book before m p after below apart = record {
-  sound = lowered_sound book m p after.sound below;
+further : (old : Book) (node vain : ℕ) (book : Book) (m p : ℕ) → AreAfter old node vain book → p < mark_of book m → node ≢ m → AreAfter old node vain (lowered (ticked book) m p)
+further old node vain book m p after below apart = record {
+  sound = lowered_sound (ticked book) m p (ticked_sound book after.sound) below;
   rise = let a = after.rise in omega arith;
   bound = let a = after.bound in let b = lowered_go book m p after.sound below in omega arith;
   size = after.size;
   going = (lowered_other book m p node apart).0 ∙ after.going;
 }
 
-pub after_lowered : (old : Book) (node ticks : ℕ) (new : Book) (later : ℕ) → AreMarks old → AreLowered old node ticks new later → AreAfter old node ticks new later
-after_lowered old node ticks new later sound (Same same ticked) =
-    subst (λ z. AreAfter old node ticks z later) (sym same)
-    (subst (λ z. AreAfter old node ticks old z) (sym ticked) (record { sound = sound; rise = omega arith; bound = omega arith; size = refl; going = refl }))
-after_lowered old node ticks new later sound (Further book before m p side chain beside look same ticked) =
-    subst (λ z. AreAfter old node ticks z later) (sym same)
-    (subst (λ z. AreAfter old node ticks (lowered book m p) z) (sym ticked)
-    (further old node ticks book before m p (after_lowered old node ticks book before sound chain) look.look.below (neighbour_of-other m node side beside)))
+one_vain : (old : Book) (node before : ℕ) (book : Book) → AreAfter old node before book → AreAfter old node (before + 1) (ticked book)
+one_vain old node before book after = record {
+  sound = ticked_sound book after.sound;
+  rise = let a = after.rise in omega arith;
+  bound = let a = after.bound in omega arith;
+  size = after.size;
+  going = after.going;
+}
+
+pub after_lowered : (old : Book) (node vain : ℕ) (new : Book) → AreMarks old → AreLowered old node vain new → AreAfter old node vain new
+after_lowered old node vain new sound (Same none same) =
+    subst (λ z. AreAfter old node vain z) (sym same) (record { sound = sound; rise = omega arith; bound = omega arith; size = refl; going = refl })
+after_lowered old node vain new sound (Further book m p side chain beside look same) =
+    subst (λ z. AreAfter old node vain z) (sym same)
+    (further old node vain book m p (after_lowered old node vain book sound chain) look.look.below (neighbour_of-other m node side beside))
+after_lowered old node vain new sound (Vain book before m chain look more same) =
+    subst (λ z. AreAfter old node vain z) (sym same)
+    (subst (λ z. AreAfter old node z (ticked book)) (sym more) (one_vain old node before book (after_lowered old node before book sound chain)))
 
 -- one after the other
-pub then_lowered : (old : Book) (node ticks : ℕ) (mid : Book) (between : ℕ) (new : Book) (later : ℕ) → AreLowered old node ticks mid between → AreLowered mid node between new later → AreLowered old node ticks new later
-then_lowered old node ticks mid between new later chain (Same same ticked) =
-    subst (λ z. AreLowered old node ticks z later) (sym same) (subst (λ z. AreLowered old node ticks mid z) (sym ticked) chain)
-then_lowered old node ticks mid between new later chain (Further book before m p side more beside look same ticked) =
-    Further book before m p side (then_lowered old node ticks mid between book before chain more) beside look same ticked
+then_chain : (old : Book) (node first : ℕ) (mid : Book) (then all : ℕ) (new : Book) → AreLowered old node first mid → AreLowered mid node then new → all ≡ first + then → AreLowered old node all new
+then_chain old node first mid then all new chain (Same none same) sum =
+    subst (λ z. AreLowered old node all z) (sym same) (subst (λ z. AreLowered old node z mid) (let q : first ≡ all = omega arith in q) chain)
+then_chain old node first mid then all new chain (Further book m p side more beside look same) sum =
+    Further book m p side (then_chain old node first mid then all book chain more sum) beside look same
+then_chain old node first mid then all new chain (Vain book before m more look one same) sum =
+    Vain book (first + before) m (then_chain old node first mid before (first + before) book chain more refl) look (omega arith) same
+
+pub then_lowered : (first : ℕ) (old : Book) (node : ℕ) (mid new : Book) → AreLoweredBy first old node mid → AreLoweredBy 1 mid node new → AreLoweredBy (first + 1) old node new
+then_lowered first old node mid new a b = record {
+  vain = a.vain + b.vain;
+  few = let x = a.few in let y = b.few in omega arith;
+  chain = then_chain old node a.vain mid b.vain (a.vain + b.vain) new a.chain b.chain refl;
+}
+
+-- a last search
+pub searched : (old : Book) (node looker : ℕ) (book new : Book) → AreLowered old node 0 book → IsSought book looker new → AreLoweredBy 1 old node new
+searched old node looker book new chain (Never none same) = record { vain = 0; few = omega arith; chain = subst (λ z. AreLowered old node 0 z) (sym same) chain }
+searched old node looker book new chain (Once look same) = record { vain = 1; few = omega arith; chain = Vain book 0 looker chain look refl same }
+
+pub still_saw : (looker : ℕ) (book new : Book) (node m : ℕ) → IsSought book looker new → SawNoneToGo book node m → SawNoneToGo new node m
+still_saw looker book new node m (Never none same) saw = subst (λ z. SawNoneToGo z node m) (sym same) saw
+still_saw looker book new node m (Once look same) saw = subst (λ z. SawNoneToGo z node m) (sym same) saw
 
 -- what saw nothing still did
-pub saw_after : (old : Book) (node ticks : ℕ) (new : Book) (later m : ℕ) → AreMarks old → AreLowered old node ticks new later → SawNoneToGo old node m → SawNoneToGo new node m
-saw_after old node ticks new later m sound (Same same ticked) saw = subst (λ z. SawNoneToGo z node m) (sym same) saw
-saw_after old node ticks new later m sound (Further book before j p side chain beside look same ticked) saw =
+saw_chain : (old : Book) (node vain : ℕ) (new : Book) (m : ℕ) → AreMarks old → AreLowered old node vain new → SawNoneToGo old node m → SawNoneToGo new node m
+saw_chain old node vain new m sound (Same none same) saw = subst (λ z. SawNoneToGo z node m) (sym same) saw
+saw_chain old node vain new m sound (Further book j p side chain beside look same) saw =
     subst (λ z. SawNoneToGo z node m) (sym same)
-    (saw_lowered book j p node m ((after_lowered old node ticks book before sound chain).sound) look.look.below (neighbour_of-other j node side beside) (saw_after old node ticks book before m sound chain saw))
+    (saw_lowered book j p node m ((after_lowered old node vain book sound chain).sound) look.look.below (neighbour_of-other j node side beside) (saw_chain old node vain book m sound chain saw))
+saw_chain old node vain new m sound (Vain book before j chain look more same) saw = subst (λ z. SawNoneToGo z node m) (sym same) (saw_chain old node before book m sound chain saw)
+
+pub saw_after : (most : ℕ) (old : Book) (node : ℕ) (new : Book) (m : ℕ) → AreMarks old → AreLoweredBy most old node new → SawNoneToGo old node m → SawNoneToGo new node m
+saw_after most old node new m sound by saw = saw_chain old node by.vain new m sound by.chain saw
 
 -- the neighbours on all sides
 pub all_sides : (book : Book) (node : ℕ) → ((m : ℕ) → neighbour_of node Right ≡ Some m → SawNoneToGo book node m) → ((m : ℕ) → neighbour_of node Down ≡ Some m → SawNoneToGo book node m)
@@ -69,54 +101,73 @@ due_look book s node m p side f beside look found =
     Saw node (mark_of book node) side look.gone (subst (λ (z : Past). has_looked_in z.act ≡ true) same look.look.looked) beside look.first (omega arith)
     (subst (λ (z : Past). look.gone.stamp < z.stamp) same look.after)
 
-look_found : (first : Book) (from n k : ℕ) (book : Book) (seen : List ℕ) (ticks node m p : ℕ) (side : Side) → IsMarking first from n k book seen ticks → neighbour_of m side ≡ Some node → IsLookToGo book node m p
-    → IsMarking first from n k (lowered book m p) seen (ticks + 2)
-look_found first from n k book seen ticks node m p side marking beside look =
+look_found : (first : Book) (n k : ℕ) (book : Book) (seen : List ℕ) (more node m p : ℕ) (side : Side) → IsMarking first n k book seen more → neighbour_of m side ≡ Some node → IsLookToGo book node m p
+    → IsMarking first n k (lowered (ticked book) m p) seen more
+look_found first n k book seen more node m p side marking beside look =
     let sound : AreMarks book = marking.marked.sound in
     let low : p < mark_of book m = look.look.below in
-    let next : IsMarking first from n k (lowered book m p) seen (ticks + 1) =
-    marking_lowered first from n k book seen ticks m p marking low (λ f found. due_look book (stamp_at book n k) node m p side f beside look found) in
+    let next : IsMarking first n k (lowered book m p) seen more =
+    marking_lowered first n k book seen more m p marking low (λ f found. due_look book (stamp_at book n k) node m p side f beside look found) in
+    let line = lowered_line book m p sound low in
+    let grows = line_grows book m p sound low in
+    let go = lowered_go book m p sound low in
     record {
-      marked = next.marked;
-      others = next.others;
+      marked = marked_ticked (lowered book m p) seen n k next.marked;
+      others = ap (λ (b : Book). record b { ticks = book.ticks + 1 + 1 }) next.others;
       size = next.size;
       fits = next.fits;
-      rise = let a = next.rise in omega arith;
       found = marking.found + 1;
+      vain = marking.vain;
       looks = let a = marking.looks in let b = one_lowered book m p look.look.entry sound low look.look.found look.look.looked in omega arith;
-      bound = let a = marking.bound in let b = lowered_line book m p sound low in let c = lowered_go book m p sound low in omega arith;
+      searches = let a = marking.searches in omega arith;
+      blind = marking.blind;
+      least = let a = marking.least in omega arith;
+      bound = let a = marking.bound in omega arith;
     }
 
-pub marking_after : (first : Book) (from n k : ℕ) (old : Book) (seen : List ℕ) (ticks node : ℕ) (new : Book) (later : ℕ) → IsMarking first from n k old seen ticks → AreLowered old node ticks new later → IsMarking first from n k new seen later
-marking_after first from n k old seen ticks node new later marking (Same same ticked) =
-    subst (λ z. IsMarking first from n k z seen later) (sym same) (subst (λ z. IsMarking first from n k old seen z) (sym ticked) marking)
-marking_after first from n k old seen ticks node new later marking (Further book before m p side chain beside look same ticked) =
-    subst (λ z. IsMarking first from n k z seen later) (sym same)
-    (subst (λ z. IsMarking first from n k (lowered book m p) seen z) (sym ticked)
-    (look_found first from n k book seen before node m p side (marking_after first from n k old seen ticks node book before marking chain) beside look))
+marking_chain : (first : Book) (n k : ℕ) (old : Book) (seen : List ℕ) (node more all vain : ℕ) (new : Book) → all ≡ more + vain → IsMarking first n k old seen all → AreLowered old node vain new → IsMarking first n k new seen more
+marking_chain first n k old seen node more all vain new sum marking (Same none same) =
+    subst (λ z. IsMarking first n k z seen more) (sym same) (marking_fewer first n k old seen all more (omega arith) marking)
+marking_chain first n k old seen node more all vain new sum marking (Further book m p side chain beside look same) =
+    subst (λ z. IsMarking first n k z seen more) (sym same)
+    (look_found first n k book seen more node m p side (marking_chain first n k old seen node more all vain book sum marking chain) beside look)
+marking_chain first n k old seen node more all vain new sum marking (Vain book before m chain look one same) =
+    subst (λ z. IsMarking first n k z seen more) (sym same)
+    (marking_vain first n k book seen more m (marking_chain first n k old seen node (more + 1) all before book (omega arith) marking chain) look)
+
+pub marking_after : (first : Book) (n k : ℕ) (old : Book) (seen : List ℕ) (node : ℕ) (new : Book) → IsMarking first n k old seen 4 → AreLoweredBy 4 old node new → IsMarking first n k new seen 0
+marking_after first n k old seen node new marking by =
+    marking_chain first n k old seen node 0 by.vain by.vain new (omega arith) (marking_fewer first n k old seen 4 by.vain by.few marking) by.chain
 
 -- the nodes that do not wait are done
-still_done : (old : Book) (node ticks : ℕ) (new : Book) (later : ℕ) (seen : List ℕ) (x : ℕ) → AreMarks old → AreLowered old node ticks new later → IsDone old seen x → IsDone new seen x
-still_done old node ticks new later seen x sound (Same same ticked) done = subst (λ z. IsDone z seen x) (sym same) done
-still_done old node ticks new later seen x sound (Further book before m p side chain beside look same ticked) done =
+still_done : (old : Book) (node vain : ℕ) (new : Book) (seen : List ℕ) (x : ℕ) → AreMarks old → AreLowered old node vain new → IsDone old seen x → IsDone new seen x
+still_done old node vain new seen x sound (Same none same) done = subst (λ z. IsDone z seen x) (sym same) done
+still_done old node vain new seen x sound (Further book m p side chain beside look same) done =
     subst (λ z. IsDone z seen x) (sym same)
-    (done_lowered book seen m p x ((after_lowered old node ticks book before sound chain).sound) look.look.below (still_done old node ticks book before seen x sound chain done))
+    (done_lowered book seen m p x ((after_lowered old node vain book sound chain).sound) look.look.below (still_done old node vain book seen x sound chain done))
+still_done old node vain new seen x sound (Vain book before m chain look one same) done = subst (λ z. IsDone z seen x) (sym same) (still_done old node before book seen x sound chain done)
 
-pub all_done : (old : Book) (node ticks : ℕ) (new : Book) (later : ℕ) (seen : List ℕ) → AreMarks old → AreLowered old node ticks new later → going_of old node ≤ get_or seen node 0 → IsUnseen new node → ((x : ℕ) → x ≢ node → IsDone old seen x)
+pub all_done : (most : ℕ) (old : Book) (node : ℕ) (new : Book) (seen : List ℕ) → AreMarks old → AreLoweredBy most old node new → going_of old node ≤ get_or seen node 0 → IsUnseen new node → ((x : ℕ) → x ≢ node → IsDone old seen x)
     → (x : ℕ) → IsDone new seen x
-all_done old node ticks new later seen sound chain all unseen done x = ⊎_elim
-    (λ same. subst (λ z. IsDone new seen z) (sym same) (λ idle. ((let a = (after_lowered old node ticks new later sound chain).going in omega arith), unseen)))
-    (λ ne. still_done old node ticks new later seen x sound chain (done x ne))
+all_done most old node new seen sound by all unseen done x = ⊎_elim
+    (λ same. subst (λ z. IsDone new seen z) (sym same) (λ idle. ((let a = (after_lowered old node by.vain new sound by.chain).going in omega arith), unseen)))
+    (λ ne. still_done old node by.vain new seen x sound by.chain (done x ne))
     (cases_eq x node)
 
 -- and the ticks fit, for more of them too
-pub room_after : (old : Book) (node ticks : ℕ) (new : Book) (later room : ℕ) → AreMarks old → AreLowered old node ticks new later → ticks + 2 * entries old + 2 < room + 2 * to_go old → later + 2 * entries new + 2 < room + 2 * to_go new
-room_after old node ticks new later room sound chain fits =
-    let after = after_lowered old node ticks new later sound chain in let a = after.bound in let b = after.size in omega arith
+pub rise_after : (most : ℕ) (old : Book) (node : ℕ) (new : Book) → AreMarks old → AreLoweredBy most old node new → old.ticks ≤ new.ticks
+rise_after most old node new sound by = (after_lowered old node by.vain new sound by.chain).rise
 
-pub ticks_fit : (old : Book) (node ticks : ℕ) (new : Book) (later : ℕ) → AreMarks old → AreLowered old node ticks new later → later + 2 * to_go old ≤ ticks + 2 * entries old
-ticks_fit old node ticks new later sound chain =
-    let after = after_lowered old node ticks new later sound chain in
+pub sound_after : (most : ℕ) (old : Book) (node : ℕ) (new : Book) → AreMarks old → AreLoweredBy most old node new → AreMarks new
+sound_after most old node new sound by = (after_lowered old node by.vain new sound by.chain).sound
+
+pub room_after : (most slack : ℕ) (old : Book) (node : ℕ) (new : Book) (room : ℕ) → AreMarks old → AreLoweredBy most old node new → old.ticks + 2 * entries old + (slack + most) < room + 2 * to_go old → new.ticks + 2 * entries new + slack < room + 2 * to_go new
+room_after most slack old node new room sound by fits =
+    let after = after_lowered old node by.vain new sound by.chain in let a = after.bound in let b = after.size in let c = by.few in omega arith
+
+pub ticks_fit : (old : Book) (node : ℕ) (new : Book) → AreMarks old → AreLowered old node 0 new → new.ticks + 2 * to_go old ≤ old.ticks + 2 * entries old
+ticks_fit old node new sound chain =
+    let after = after_lowered old node 0 new sound chain in
     let a = after.bound in
     let b = go_under new after.sound in
     let c = after.size in

@@ -6,15 +6,16 @@ use Rattle.std.proofs.lemmas.List.Sums.{sum_by-cons}
 use Rattle.std.proofs.lemmas.Option.{same_Some}
 use Rattle.ga_journal.specs.Histories.{Past, history}
 use Rattle.ga_journal.specs.Kept.{has_looked_in}
+use Rattle.ga_journal.specs.Looks.{HasLook}
 use Rattle.ga_rollback.specs.Marked.{looks_in, looks_of, staying}
 
 none_some : {A : Type 0} {x : A} → None ≡ Some x → ⊥
 none_some h = cc
 
-abbrev one_if : Bool → ℕ
+abbrev pub one_if : Bool → ℕ
 one_if b = cond b 1 0
 
-one_most : (b : Bool) → one_if b ≤ 1
+pub one_most : (b : Bool) → one_if b ≤ 1
 one_most true = omega arith
 one_most false = omega arith
 
@@ -58,6 +59,15 @@ pub looks_under : (hs : List (List Past)) → looks_of hs ≤ sum_by length hs
 looks_under [] = omega arith
 looks_under (h ∷ hs) =
     let a = looks_under hs in let b = looks_within h in let c = sum_by-cons looks_in h hs in let d = sum_by-cons length h hs in omega arith
+
+-- a history with a look counts
+some_in : (h : List Past) (p : ℕ) (e : Past) → slice_get h p ≡ Some e → has_looked_in e.act ≡ true → 0 < looks_in h
+some_in h p e found looked = let a = looks_one p (p + 1) h e found looked (omega arith) in let b = looks_front (p + 1) h in omega arith
+
+pub some_looks : (hs : List (List Past)) (m : ℕ) → HasLook (history hs m) → 0 < looks_of hs
+some_looks [] m look = absurd (none_some look.2)
+some_looks (h ∷ hs) zero look = let a = some_in h look.0 look.1 look.2 look.3 in let b = sum_by-cons looks_in h hs in omega arith
+some_looks (h ∷ hs) (suc m) look = let a = some_looks hs m look in let b = sum_by-cons looks_in h hs in omega arith
 
 -- among those that stay
 staying-cons : (h : List Past) (hs : List (List Past)) (k : ℕ) (going : List ℕ) → looks_of (staying (h ∷ hs) (k ∷ going)) ≡ looks_in (take (length h - k) h) + looks_of (staying hs going)

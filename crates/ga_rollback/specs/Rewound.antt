@@ -8,8 +8,8 @@ use Rattle.ga_causal.specs.Steps.{rewound}
 use Rattle.ga_journal.specs.Histories.{Book}
 use Rattle.ga_journal.specs.Kept.{causes_of, events_of, steps_of}
 use Rattle.ga_journal.specs.Walked.{walked_chip}
-use Rattle.ga_journal.specs.Marks.{entries, IsAtRest}
-use Rattle.ga_rollback.specs.Marked.{looks_of}
+use Rattle.ga_journal.specs.Marks.{entries, to_go, IsAtRest}
+use Rattle.ga_rollback.specs.Marked.{looks_of, staying}
 use Rattle.ga_rollback.specs.Tied.{IsTied}
 
 -- Node n was rolled back to its step k, which removed so many events. The events that are left are those that do not depend on
@@ -26,13 +26,24 @@ pub record IsRolledBack (old : Book) (chip : List NodeState) (n k : ℕ) (new : 
   pub tied : IsTied now new
   pub settled : IsAtRest new
 
--- How much a rollback did: at least one tick for each entry that it removed, and at most four for each, one for each look among
--- them and one more, whatever else is kept.
-pub record IsTicked (old new : Book) (from to : ℕ) : Type 0 where
+-- How much lowering the marks did, where the entries that are to go are known.
+pub record AreCounted (old new : Book) : Type 0 where
+  pub found : ℕ
+  pub vain : ℕ
+  pub looks : looks_of (staying new.histories new.going) + found ≤ looks_of new.histories
+  pub searches : vain ≤ 4 * to_go new
+  pub blind : looks_of new.histories ≡ 0 → vain ≡ 0
+  pub least : old.ticks + to_go new + 2 ≤ new.ticks
+  pub most : new.ticks ≤ old.ticks + 3 * to_go new + found + vain
+
+-- How much a rollback did: at least two ticks for each entry that it removed and two more, and at most eight for each and one
+-- for each look among them, whatever else is kept; at most four for each where no kept entry was a look.
+pub record IsTicked (old new : Book) : Type 0 where
   pub gone : ℕ
   pub looks_gone : ℕ
   pub entries_left : entries new + gone ≡ entries old
   pub looks_left : looks_of new.histories + looks_gone ≡ looks_of old.histories
   pub among : looks_gone ≤ gone
-  pub least : from + gone ≤ to
-  pub most : to ≤ from + 4 * gone + looks_gone + 1
+  pub least : old.ticks + 2 * gone + 2 ≤ new.ticks
+  pub most : new.ticks ≤ old.ticks + 8 * gone + looks_gone
+  pub blind : looks_of old.histories ≡ 0 → new.ticks ≤ old.ticks + 4 * gone

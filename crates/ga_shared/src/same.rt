@@ -12,13 +12,9 @@ use ga_word::Word18;
 pub(crate) fn is_same_receipt(one: &Receipt, other: &Receipt) -> bool
     ensures { IsTrue result ↔ (one.now ≡ other.now) }
 {
-    if one.place != other.place {
-        return false;
-    }
-    if !is_same_call(&one.call, &other.call) {
-        return false;
-    }
-    is_same_answer(&one.answer, &other.answer)
+    one.place == other.place
+        && is_same_call(&one.call, &other.call)
+        && is_same_answer(&one.answer, &other.answer)
 }
 
 fn is_same_call(one: &Call, other: &Call) -> bool
@@ -27,16 +23,13 @@ fn is_same_call(one: &Call, other: &Call) -> bool
     match one {
         Call::Step(node) => match other {
             Call::Step(other_node) => is_same_node(node, other_node),
-            Call::Rewind(..) => false,
+            _ => false,
         },
         Call::Rewind(node, step) => match other {
-            Call::Step(_) => false,
             Call::Rewind(other_node, other_step) => {
-                if !is_same_node(node, other_node) {
-                    return false;
-                }
-                *step == *other_step
+                is_same_node(node, other_node) && *step == *other_step
             }
+            _ => false,
         },
     }
 }
@@ -47,18 +40,15 @@ fn is_same_answer(one: &Answer, other: &Answer) -> bool
     match one {
         Answer::Made(made) => match other {
             Answer::Made(other_made) => is_same_made(made, other_made),
-            Answer::Removed(_) => false,
-            Answer::Refused(_) => false,
+            _ => false,
         },
         Answer::Removed(removed) => match other {
-            Answer::Made(_) => false,
             Answer::Removed(other_removed) => *removed == *other_removed,
-            Answer::Refused(_) => false,
+            _ => false,
         },
         Answer::Refused(number) => match other {
-            Answer::Made(_) => false,
-            Answer::Removed(_) => false,
             Answer::Refused(other_number) => *number == *other_number,
+            _ => false,
         },
     }
 }
@@ -73,15 +63,11 @@ fn is_same_made(one: &Made, other: &Made) -> bool
                 step: other_step,
                 kind: other_kind,
             } => {
-                if !is_same_node(node, other_node) {
-                    return false;
-                }
-                if *step != *other_step {
-                    return false;
-                }
-                is_same_kind(kind, other_kind)
+                is_same_node(node, other_node)
+                    && *step == *other_step
+                    && is_same_kind(kind, other_kind)
             }
-            Made::Pass { .. } => false,
+            _ => false,
         },
         Made::Pass {
             writer,
@@ -90,7 +76,6 @@ fn is_same_made(one: &Made, other: &Made) -> bool
             reader_step,
             word,
         } => match other {
-            Made::Own { .. } => false,
             Made::Pass {
                 writer: other_writer,
                 writer_step: other_writer_step,
@@ -98,20 +83,13 @@ fn is_same_made(one: &Made, other: &Made) -> bool
                 reader_step: other_reader_step,
                 word: other_word,
             } => {
-                if !is_same_node(writer, other_writer) {
-                    return false;
-                }
-                if *writer_step != *other_writer_step {
-                    return false;
-                }
-                if !is_same_node(reader, other_reader) {
-                    return false;
-                }
-                if *reader_step != *other_reader_step {
-                    return false;
-                }
-                is_same_word(word, other_word)
+                is_same_node(writer, other_writer)
+                    && *writer_step == *other_writer_step
+                    && is_same_node(reader, other_reader)
+                    && *reader_step == *other_reader_step
+                    && is_same_word(word, other_word)
             }
+            _ => false,
         },
     }
 }

@@ -44,6 +44,18 @@ impl DataStack {
         }
     }
 
+    /// The same stack once more.
+    pub fn copy(&self) -> Self
+        ensures { result ≡ self.now }
+    {
+        DataStack {
+            top: self.top,
+            second: self.second,
+            cells: self.cells,
+            pointer: self.pointer,
+        }
+    }
+
     /// The stack that is this list of words, the top first.
     pub fn of(words: [Word18; 10]) -> Self
         ensures { listed result ≡ words }
@@ -137,9 +149,9 @@ impl DataStack {
         ensures once { IsOnce result.items }
         ensures count { length result.items ≤ 1 }
     {
+        let old = std::mem::replace(&mut self.top, word);
         let mut saved = ArrayVec::new();
-        saved.push((StackPlace::Top, self.top.get()));
-        self.top = word;
+        saved.push((StackPlace::Top, old.get()));
         saved
     }
 

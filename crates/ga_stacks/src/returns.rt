@@ -42,6 +42,17 @@ impl ReturnStack {
         }
     }
 
+    /// The same stack once more.
+    pub fn copy(&self) -> Self
+        ensures { result ≡ self.now }
+    {
+        ReturnStack {
+            top: self.top,
+            cells: self.cells,
+            pointer: self.pointer,
+        }
+    }
+
     /// The stack that is this list of words, the top first.
     pub fn of(words: [Word18; 9]) -> Self
         ensures { listed result ≡ words }
@@ -122,9 +133,9 @@ impl ReturnStack {
         ensures once { IsOnce result.items }
         ensures count { length result.items ≤ 1 }
     {
+        let old = std::mem::replace(&mut self.top, word);
         let mut saved = ArrayVec::new();
-        saved.push((StackPlace::Top, self.top.get()));
-        self.top = word;
+        saved.push((StackPlace::Top, old.get()));
         saved
     }
 

@@ -1,4 +1,4 @@
+mod library;
 mod races;
-mod runs;
 mod settings;
 mod streams;

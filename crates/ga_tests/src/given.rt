@@ -31,7 +31,7 @@ pub(crate) fn load(chip: &mut Chip, node: NodeId, words: [u32; 5]) {
 }
 
 /// Whether two nodes hold the same, stacks as lists.
-fn is_same(left: &Node, right: &Node) -> bool {
+pub(crate) fn is_same(left: &Node, right: &Node) -> bool {
     for place in [
         Place::A,
         Place::B,

@@ -1,14 +1,15 @@
 //! What a journal keeps, call by call.
 
-ghost use Rattle.std.specs.Prelude.{IfOk};
+ghost use Rattle.std.specs.Prelude.{IfOk, OnOk};
 ghost use Rattle.ga_event.specs.Undo.{IsOfKind};
 ghost use Rattle.ga_journal.specs.Logs.{IsWhole};
 ghost use Rattle.ga_journal.specs.Marks.{IsAtRest};
+ghost use Rattle.ga_journal.specs.Popped.{TakesBack};
 
-use ga_event::{Cause, Effect, Event};
+use ga_event::{Cause, Effect, Event, next_event};
 use ga_grid::{Chip, NodeId};
-use ga_journal::{Journal, JournalFault, Made, Ticks};
-use ga_node::{Kind, NotReady, Place, Saved};
+use ga_journal::{Chronicle, Journal, JournalFault, Made};
+use ga_node::{Kind, Place, Saved};
 use ga_ports::Side;
 use ga_word::Word18;
 use std::alloc::Global;
@@ -109,11 +110,12 @@ fn tells_events(rt: HostRuntime) -> Result<(), Fail> {
         (journal.kept(), journal.made(), journal.limit()),
         (2, 2, 2)
     );
+    let chronicle = Chronicle { journal };
     for (place, event) in [(0, Some(own)), (1, Some(passed())), (2, None)] {
-        assert_eq!(rt; journal.event_at(place), event, "at {place}");
+        assert_eq!(rt; chronicle.event_at(place), event, "at {place}");
     }
     let causes = [cause(own, false), cause(passed(), false)];
-    assert_eq!(rt; journal.causes()?.as_slice(), causes.as_slice());
+    assert_eq!(rt; chronicle.causes()?.as_slice(), causes.as_slice());
     Ok(())
 }
 
@@ -130,9 +132,10 @@ fn tells_steps(rt: HostRuntime) -> Result<(), Fail> {
         word: Word18::truncated(0x2a),
     };
     assert_eq!(rt; (journal.steps_of(n000), journal.steps_of(n001)), (2, 1));
-    assert_eq!(rt; journal.history(n001)?.as_slice(), [pass].as_slice());
+    let chronicle = Chronicle { journal };
+    assert_eq!(rt; chronicle.history(n001)?.as_slice(), [pass].as_slice());
     assert_eq!(rt;
-        (journal.made_at(1), journal.made_at(2)),
+        (chronicle.made_at(1), chronicle.made_at(2)),
         (Some(pass), None)
     );
     Ok(())
@@ -154,6 +157,23 @@ fn pops_the_newest(rt: HostRuntime) -> Result<(), Fail> {
     Ok(())
 }
 
+// Makes and keeps the next event of a node.
+fn make_next(journal: &mut Journal, chip: &mut Chip, node: NodeId) -> Result<Made, Fail>
+    requires whole { IsWhole journal.old.histories journal.old.made }
+    requires rest { IsAtRest journal.old }
+    ensures whole { OnOk result (IsWhole journal.new.histories journal.new.made) }
+    ensures rest { OnOk result (IsAtRest journal.new) }
+    ensures back { OnOk result (TakesBack chip.new journal.new.histories journal.new.made) }
+{
+    match next_event(chip, node) {
+        Ok(event) => {
+            journal.room(event)?;
+            Ok(journal.make(chip, event))
+        }
+        Err(_) => Err("no event".into()),
+    }
+}
+
 // A node at load posts a wait for an instruction from its neighbours, and has no event of its own then.
 #[test]
 fn makes_and_undoes(rt: HostRuntime) -> Result<(), Fail> {
@@ -166,15 +186,11 @@ fn makes_and_undoes(rt: HostRuntime) -> Result<(), Fail> {
         step: 1,
         kind: Kind::Wait,
     };
-    journal.room(own)?;
-    assert_eq!(rt; journal.make(&mut chip, own)?, wanted);
+    assert_eq!(rt; make_next(&mut journal, &mut chip, n001)?, wanted);
     assert_eq!(rt; chip.node(n001).get(Place::Wait), 30);
     assert_eq!(rt; journal.undo(&mut chip), Some(own));
     assert_eq!(rt; chip.node(n001).get(Place::Wait), 0);
-    journal.room(own)?;
-    assert_eq!(rt; journal.make(&mut chip, own), Ok(wanted));
-    journal.room(own)?;
-    assert_eq!(rt; journal.make(&mut chip, own), Err(NotReady::Waiting));
+    assert_eq!(rt; make_next(&mut journal, &mut chip, n001)?, wanted);
     assert_eq!(rt; (journal.kept(), journal.made()), (1, 2));
     Ok(())
 }
@@ -186,34 +202,22 @@ fn looks_and_lowers(rt: HostRuntime) -> Result<(), Fail> {
     let n000 = NodeId::new(0);
     let n001 = NodeId::new(1);
     let mut journal = linked(rt.alloc())?;
-    let mut ticks = Ticks::new();
     assert_eq!(rt; (journal.steps_of(n000), journal.steps_of(n001)), (2, 1));
-    assert_eq!(rt; journal.look(n000, 0, &mut ticks), None);
-    assert_eq!(rt; journal.look(n000, 1, &mut ticks), Some((n001, 0)));
-    assert_eq!(rt; journal.look(n001, 0, &mut ticks), Some((n000, 1)));
+    assert_eq!(rt; journal.ticks(), 0);
+    assert_eq!(rt; journal.look(n000, 0), None);
+    assert_eq!(rt; journal.ticks(), 1);
+    assert_eq!(rt; journal.look(n000, 1), Some((n001, 0)));
+    assert_eq!(rt; journal.ticks(), 2);
+    assert_eq!(rt; journal.look(n001, 0), Some((n000, 1)));
     assert_eq!(rt; (journal.mark_of(n000), journal.mark_of(n001)), (2, 1));
-    journal.lower(n001, 0, &mut ticks);
+    assert_eq!(rt; journal.ticks(), 3);
+    journal.lower(n001, 0);
     assert_eq!(rt; (journal.mark_of(n000), journal.mark_of(n001)), (2, 0));
-    assert_eq!(rt; journal.take_up(&mut ticks), Some(n001));
-    assert_eq!(rt; journal.take_up(&mut ticks), None);
-    assert_eq!(rt; ticks.count(), 5);
-    Ok(())
-}
-
-#[test]
-fn restores_an_end(rt: HostRuntime) -> Result<(), Fail> {
-    let n001 = NodeId::new(1);
-    let own = Event::Own(n001);
-    let mut chip = Chip::new(rt.alloc())?;
-    let mut journal = Journal::new(rt.alloc(), 1)?;
-    journal.room(own)?;
-    let _made = journal.make(&mut chip, own)?;
-    let mut ticks = Ticks::new();
-    assert_eq!(rt; journal.mark_of(n001), 1);
-    journal.lower(n001, 0, &mut ticks);
-    journal.restore_last(&mut chip, n001, &mut ticks);
-    assert_eq!(rt; (journal.kept(), journal.made(), ticks.count()), (0, 1, 2));
-    assert_eq!(rt; chip.node(n001).get(Place::Wait), 0);
+    assert_eq!(rt; journal.ticks(), 4);
+    assert_eq!(rt; journal.take_up(), Some(n001));
+    assert_eq!(rt; journal.ticks(), 5);
+    assert_eq!(rt; journal.take_up(), None);
+    assert_eq!(rt; journal.ticks(), 5);
     Ok(())
 }
 
@@ -248,54 +252,65 @@ fn looked(alloc: Global) -> Result<Journal, JournalFault>
 fn tells_looks(rt: HostRuntime) -> Result<(), Fail> {
     let n001 = NodeId::new(1);
     let look = Event::Own(n001);
-    let mut journal = looked(rt.alloc())?;
+    let journal = looked(rt.alloc())?;
     let causes = [
         cause(Event::Own(NodeId::new(0)), false),
         cause(look, true),
         cause(passed(), false),
         cause(look, true),
     ];
-    assert_eq!(rt; journal.causes()?.as_slice(), causes.as_slice());
-    assert_eq!(rt; journal.event_at(3), Some(look));
+    let mut chronicle = Chronicle { journal };
+    assert_eq!(rt; chronicle.causes()?.as_slice(), causes.as_slice());
+    assert_eq!(rt; chronicle.event_at(3), Some(look));
     let made = Made::Own {
         node: n001,
         step: 3,
         kind: Kind::Fetch,
     };
-    assert_eq!(rt; journal.made_at(3), Some(made));
-    let (event, effect) = journal.pop().ok_or("none")?;
+    assert_eq!(rt; chronicle.made_at(3), Some(made));
+    let (event, effect) = chronicle.journal.pop().ok_or("none")?;
     assert!(rt; event == look && is_look(&effect, Kind::Fetch, 4));
-    assert_eq!(rt; journal.causes()?.as_slice(), &causes[..3]);
+    assert_eq!(rt; chronicle.causes()?.as_slice(), &causes[..3]);
     Ok(())
 }
 
-// The newest look that is to stay is found where it came after what is to go of the other node. A find is a tick.
+// The newest look that is to stay is found where it came after what is to go of the other node. A search is a tick where the
+// looker has a look.
 #[test]
 fn finds_looks_to_go(rt: HostRuntime) -> Result<(), Fail> {
     let n000 = NodeId::new(0);
     let n001 = NodeId::new(1);
     let mut journal = looked(rt.alloc())?;
-    let mut ticks = Ticks::new();
     assert_eq!(rt; (journal.mark_of(n000), journal.mark_of(n001)), (2, 3));
-    assert_eq!(rt; journal.look_to_go(n000, n001, &mut ticks), None);
-    journal.lower(n000, 1, &mut ticks);
-    assert_eq!(rt; journal.look_to_go(n001, n000, &mut ticks), None);
-    assert_eq!(rt; ticks.count(), 1);
-    assert_eq!(rt; journal.look_to_go(n000, n001, &mut ticks), Some(2));
-    assert_eq!(rt; ticks.count(), 2);
+    assert_eq!(rt; journal.ticks(), 0);
+    assert_eq!(rt; journal.look_to_go(n000, n001), None);
+    assert_eq!(rt; journal.ticks(), 1);
+    journal.lower(n000, 1);
+    assert_eq!(rt; journal.ticks(), 2);
+    assert_eq!(rt; journal.look_to_go(n001, n000), None);
+    assert_eq!(rt; journal.ticks(), 2);
+    assert_eq!(rt; journal.look_to_go(n000, n001), Some(2));
     assert_eq!(rt; (journal.mark_of(n000), journal.mark_of(n001)), (1, 3));
-    journal.lower(n001, 2, &mut ticks);
-    assert_eq!(rt; journal.look_to_go(n000, n001, &mut ticks), None);
+    assert_eq!(rt; journal.ticks(), 3);
+    journal.lower(n001, 2);
+    assert_eq!(rt; journal.ticks(), 4);
+    assert_eq!(rt; journal.look_to_go(n000, n001), None);
     assert_eq!(rt; (journal.mark_of(n000), journal.mark_of(n001)), (1, 2));
-    journal.lower(n000, 0, &mut ticks);
-    assert_eq!(rt; journal.look_to_go(n000, n001, &mut ticks), Some(0));
+    assert_eq!(rt; journal.ticks(), 5);
+    journal.lower(n000, 0);
+    assert_eq!(rt; journal.ticks(), 6);
+    assert_eq!(rt; journal.look_to_go(n000, n001), Some(0));
     assert_eq!(rt; (journal.mark_of(n000), journal.mark_of(n001)), (0, 2));
-    journal.lower(n001, 1, &mut ticks);
-    assert_eq!(rt; journal.look_to_go(n000, n001, &mut ticks), Some(0));
+    assert_eq!(rt; journal.ticks(), 7);
+    journal.lower(n001, 1);
+    assert_eq!(rt; journal.ticks(), 8);
+    assert_eq!(rt; journal.look_to_go(n000, n001), Some(0));
     assert_eq!(rt; (journal.mark_of(n000), journal.mark_of(n001)), (0, 1));
-    journal.lower(n001, 0, &mut ticks);
-    assert_eq!(rt; journal.look_to_go(n000, n001, &mut ticks), None);
-    assert_eq!(rt; ticks.count(), 8);
+    assert_eq!(rt; journal.ticks(), 9);
+    journal.lower(n001, 0);
+    assert_eq!(rt; journal.ticks(), 10);
+    assert_eq!(rt; journal.look_to_go(n000, n001), None);
+    assert_eq!(rt; journal.ticks(), 11);
     Ok(())
 }
 
@@ -306,13 +321,16 @@ fn forgets_a_popped_look(rt: HostRuntime) -> Result<(), Fail> {
     let n001 = NodeId::new(1);
     let mut journal = looked(rt.alloc())?;
     let _last = journal.pop().ok_or("none")?;
-    let mut ticks = Ticks::new();
     assert_eq!(rt; (journal.mark_of(n000), journal.mark_of(n001)), (2, 2));
-    journal.lower(n000, 1, &mut ticks);
-    assert_eq!(rt; journal.look_to_go(n000, n001, &mut ticks), None);
+    assert_eq!(rt; journal.ticks(), 0);
+    journal.lower(n000, 1);
+    assert_eq!(rt; journal.ticks(), 1);
+    assert_eq!(rt; journal.look_to_go(n000, n001), None);
     assert_eq!(rt; (journal.mark_of(n000), journal.mark_of(n001)), (1, 2));
-    journal.lower(n000, 0, &mut ticks);
-    assert_eq!(rt; journal.look_to_go(n000, n001, &mut ticks), Some(0));
+    assert_eq!(rt; journal.ticks(), 2);
+    journal.lower(n000, 0);
+    assert_eq!(rt; journal.ticks(), 3);
+    assert_eq!(rt; journal.look_to_go(n000, n001), Some(0));
     Ok(())
 }
 
@@ -326,23 +344,24 @@ fn makes_and_undoes_a_look(rt: HostRuntime) -> Result<(), Fail> {
     chip.node_mut(n001).set(Place::P, 0);
     chip.node_mut(n001).set(Place::Ram(0), 0x009b2);
     let mut journal = Journal::new(rt.alloc(), 3)?;
-    journal.room(Event::Own(n000))?;
-    let _waits = journal.make(&mut chip, Event::Own(n000))?;
-    journal.room(own)?;
-    let _fetches = journal.make(&mut chip, own)?;
-    journal.room(own)?;
-    let _looks = journal.make(&mut chip, own)?;
+    let _waits = make_next(&mut journal, &mut chip, n000)?;
+    let _fetches = make_next(&mut journal, &mut chip, n001)?;
+    let _looks = make_next(&mut journal, &mut chip, n001)?;
+    let mut chronicle = Chronicle { journal };
     let causes = [
         cause(Event::Own(n000), false),
         cause(own, false),
         cause(own, true),
     ];
-    assert_eq!(rt; journal.causes()?.as_slice(), causes.as_slice());
-    assert_eq!(rt; journal.undo(&mut chip), Some(own));
-    assert_eq!(rt; journal.causes()?.as_slice(), &causes[..2]);
-    let mut ticks = Ticks::new();
+    assert_eq!(rt; chronicle.causes()?.as_slice(), causes.as_slice());
+    assert_eq!(rt; chronicle.journal.undo(&mut chip), Some(own));
+    assert_eq!(rt; chronicle.causes()?.as_slice(), &causes[..2]);
+    let Chronicle { mut journal } = chronicle;
     assert_eq!(rt; (journal.mark_of(n000), journal.mark_of(n001)), (1, 1));
-    journal.lower(n000, 0, &mut ticks);
-    assert_eq!(rt; journal.look_to_go(n000, n001, &mut ticks), None);
+    assert_eq!(rt; journal.ticks(), 0);
+    journal.lower(n000, 0);
+    assert_eq!(rt; journal.ticks(), 1);
+    assert_eq!(rt; journal.look_to_go(n000, n001), None);
+    assert_eq!(rt; journal.ticks(), 1);
     Ok(())
 }

@@ -1,4 +1,4 @@
-use crate::given::{first_difference, load, sender, taker};
+use crate::given::{first_difference, is_same, load, sender, taker};
 use ga_grid::{Chip, NodeId};
 use ga_lab::{Lab, LabFault, Made};
 use ga_node::{Kind, Place};
@@ -7,6 +7,7 @@ use std::alloc::Global;
 use std::process::Abort;
 use std::test::Fail;
 
+mod faults;
 mod orders;
 
 const LIMIT: u32 = 1_000_000;
@@ -119,6 +120,40 @@ fn makes_and_undoes(rt: HostRuntime) -> Result<(), Fail> {
 #[test]
 fn step_always_out_of_memory(rt: HostRuntime) -> Result<(), Fail> {
     let lab = passed(&rt, rt.alloc())?;
+    assert_eq!(rt; (lab.counts().kept, lab.counts().made), (12, 12));
+    Ok(())
+}
+
+// A node as it was after a step is that of a lab in which the next step was taken back, and at the last step as it stands.
+fn peeks_at(
+    rt: &impl Abort,
+    alloc: Global,
+    lab: &Lab,
+    node: NodeId,
+    steps: u32,
+) -> Result<(), Fail> {
+    for step in 0..steps {
+        let mut other = passed(rt, alloc)?;
+        other.rewind(node, step + 1)?;
+        match lab.peek(node, step) {
+            Some(then) => assert!(rt; is_same(&then, other.node(node))),
+            None => assert!(rt; false),
+        }
+    }
+    match lab.peek(node, steps) {
+        Some(then) => assert!(rt; is_same(&then, lab.node(node))),
+        None => assert!(rt; false),
+    }
+    assert!(rt; lab.peek(node, steps + 1).is_none());
+    Ok(())
+}
+
+#[test]
+fn peeks(rt: HostRuntime) -> Result<(), Fail> {
+    let lab = passed(&rt, rt.alloc())?;
+    peeks_at(&rt, rt.alloc(), &lab, NodeId::new(0), 8)?;
+    peeks_at(&rt, rt.alloc(), &lab, NodeId::new(1), 5)?;
+    peeks_at(&rt, rt.alloc(), &lab, NodeId::new(2), 0)?;
     assert_eq!(rt; (lab.counts().kept, lab.counts().made), (12, 12));
     Ok(())
 }

@@ -10,6 +10,8 @@ mod console;
 #[cfg(test)]
 mod event;
 #[cfg(test)]
+mod flow;
+#[cfg(test)]
 mod given;
 #[cfg(test)]
 mod grid;
@@ -27,6 +29,8 @@ mod ports;
 mod shared;
 #[cfg(test)]
 mod slots;
+#[cfg(test)]
+mod source;
 #[cfg(test)]
 mod stacks;
 #[cfg(test)]

@@ -11,7 +11,7 @@ use ga_shared::{
 use std::alloc::Global;
 use std::marker::Brand;
 use std::sync::Wait;
-use std::sync::atomic::{AtomicBool, Ordering};
+use std::sync::atomic::{AtomicBool, AtomicU32, Ordering};
 use std::sync::ledger::{Blank, Ledger};
 use std::test::Fail;
 use std::thread;
@@ -131,6 +131,130 @@ fn held_race<R: Threads + Wait + Sync + AllocGlobal>(rt: &R, held: u32) -> Resul
 fn workers_take_turns(rt: HostRuntime) -> Result<(), Fail> {
     assert!(rt; held_race(&rt, 0)?);
     assert!(rt; held_race(&rt, 1)?);
+    Ok(())
+}
+
+/// Counts what each of two workers tells: 2k behind call k, and 2k - 1 before its answer. Notes any other order.
+#[derive(Drop)]
+struct Told {
+    first: AtomicU32,
+    second: AtomicU32,
+    has_failed: AtomicBool,
+}
+
+impl Told {
+    fn tell(&self, worker: u32, call: u32, is_after: bool) {
+        let told = if worker == 0 {
+            &self.first
+        } else {
+            &self.second
+        };
+        let was = told.load(Ordering::SeqCst);
+        let is_due = if is_after {
+            call >= 1 && was == call.saturating_mul(2).saturating_sub(1)
+        } else {
+            call >= 1 && was == (call.saturating_sub(1)).saturating_mul(2)
+        };
+        if !is_due {
+            self.has_failed.store(true, Ordering::SeqCst);
+        }
+        told.store(was.saturating_add(1), Ordering::SeqCst);
+    }
+}
+
+impl Gate for Told {
+    fn before(&self, worker: u32, call: u32) {
+        self.tell(worker, call, false);
+    }
+
+    fn after(&self, worker: u32, call: u32) {
+        self.tell(worker, call, true);
+    }
+}
+
+#[test]
+fn gates_are_told_of_each_call(rt: HostRuntime) -> Result<(), Fail> {
+    let alloc = rt.alloc();
+    let gate = Told {
+        first: AtomicU32::new(0),
+        second: AtomicU32::new(0),
+        has_failed: AtomicBool::new(false),
+    };
+    let _closed = race(
+        &rt,
+        alloc,
+        linked(alloc)?,
+        1000000,
+        two_lists(alloc)?,
+        &gate,
+    )?;
+    assert!(rt; !gate.has_failed.load(Ordering::SeqCst));
+    assert_eq!(rt; gate.first.load(Ordering::SeqCst), 8);
+    assert_eq!(rt; gate.second.load(Ordering::SeqCst), 8);
+    Ok(())
+}
+
+/// Holds worker 1 until call 1 of worker 0 is told as made, and worker 0 there until worker 1 made its four calls.
+#[derive(Drop)]
+struct OneFirst {
+    is_told: AtomicBool,
+    is_done: AtomicBool,
+    has_failed: AtomicBool,
+}
+
+impl OneFirst {
+    fn hold(&self, flag: &AtomicBool) {
+        for _turn in 0..10000000u32 {
+            if flag.load(Ordering::SeqCst) {
+                return;
+            }
+            thread::yield_now();
+        }
+        self.has_failed.store(true, Ordering::SeqCst);
+    }
+}
+
+impl Gate for OneFirst {
+    fn before(&self, worker: u32, call: u32) {
+        if worker == 1 && call == 1 {
+            self.hold(&self.is_told);
+        }
+    }
+
+    fn after(&self, worker: u32, call: u32) {
+        if worker == 0 && call == 1 {
+            self.is_told.store(true, Ordering::SeqCst);
+            self.hold(&self.is_done);
+        }
+        if worker == 1 && call == 4 {
+            self.is_done.store(true, Ordering::SeqCst);
+        }
+    }
+}
+
+#[test]
+fn gates_are_told_after_the_call(rt: HostRuntime) -> Result<(), Fail> {
+    let alloc = rt.alloc();
+    let gate = OneFirst {
+        is_told: AtomicBool::new(false),
+        is_done: AtomicBool::new(false),
+        has_failed: AtomicBool::new(false),
+    };
+    let closed = race(
+        &rt,
+        alloc,
+        linked(alloc)?,
+        1000000,
+        two_lists(alloc)?,
+        &gate,
+    )?;
+    assert!(rt; !gate.has_failed.load(Ordering::SeqCst));
+    let workers = closed
+        .log
+        .iter()
+        .map(|entry| entry.worker)
+        .collect::<Vec<u32>>(alloc)?;
+    assert_eq!(rt; workers.as_slice(), [0, 1, 1, 1, 1, 0, 0, 0].as_slice());
     Ok(())
 }
 

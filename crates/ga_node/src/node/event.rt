@@ -80,7 +80,7 @@ impl Node {
 
     /// Why the node has no event of its own.
     #[tactic(auto, unfolding(crate::specs::Record::record_of))]
-    pub(super) fn not_ready(&self) -> Option<NotReady>
+    pub fn not_ready(&self) -> Option<NotReady>
         ensures reason { result ≡ refusal (record_of self.now) }
         ensures running { IfNone result (IsRunning (record_of self.now)) }
     {
@@ -114,9 +114,14 @@ impl Node {
 
     /// Whether the opcode reads `io`.
     #[inline(always)]
+    #[tactic(auto, using(crate::proofs::Looks::reads_not))]
     fn reads_io(&self, op: Op) -> bool
         ensures { result ≡ reads_io op (record_of self.now) }
     {
+        // the four that read have the codes 08 to 0b: most others are told here, with no jump by opcode
+        if op.code() / 4 != 2 {
+            return false;
+        }
         let address = match op {
             Op::FetchP => self.p(),
             Op::FetchPlus => self.a().get(),
@@ -128,23 +133,17 @@ impl Node {
     }
 
     /// What the node's next event of its own carries out, for [`Node::looks_by`] and [`Node::do_into`].
-    ///
-    /// # Errors
-    /// `Waiting` or `Stopped`, where the node waits or is stopped.
     #[inline(always)]
-    pub fn due(&self) -> Result<Due, NotReady>
-        ensures ready { MatchResult result (λ _. refusal (record_of self.now) ≡ None) (λ reason. refusal (record_of self.now) ≡ Some reason) }
-        ensures due { IfOk result (λ due. due ≡ due_of (record_of self.now)) }
-        ensures can { IfOk result (λ due. CanDo due (record_of self.now)) }
+    pub fn due(&self) -> Due
+        requires { refusal (record_of self.now) ≡ None }
+        ensures due { result ≡ due_of (record_of self.now) }
+        ensures can { CanDo result (record_of self.now) }
     {
-        if let Some(reason) = self.not_ready() {
-            return Err(reason);
-        }
         let slot = self.slot();
         if slot == 4 {
-            return Ok(Due::Fetch);
+            return Due::Fetch;
         }
-        Ok(Due::Run(opcode(self.i(), slot)))
+        Due::Run(opcode(self.i(), slot))
     }
 
     /// Whether an event that carries this out is a look ([`Node::looks`]).
@@ -206,7 +205,10 @@ impl Node {
         ensures same { OnErr result (self.new ≡ self.old) }
         ensures unsaved { OnErr result (saved.new ≡ []) }
     {
-        let due = self.due()?;
+        if let Some(reason) = self.not_ready() {
+            return Err(reason);
+        }
+        let due = self.due();
         Ok(self.do_into(due, seen, saved))
     }
 

@@ -11,9 +11,8 @@ use ga_slots::Op;
 impl Node {
     ghost use Rattle.std.specs.Prelude.{◌≡◌, [], IfErr, OnOk};
     ghost use Rattle.ga_node.specs.Record.{record_of};
-    ghost use Rattle.ga_node.specs.Io.{nobody};
-    ghost use Rattle.ga_node.specs.Saving.{IsDone, IsEnded};
-    ghost use Rattle.ga_node.specs.Table.{effect, IsRunning};
+    ghost use Rattle.ga_node.specs.Saving.{IsDone, IsDoneBy, IsEnded, IsEndedBy};
+    ghost use Rattle.ga_node.specs.Table.{does, effect, IsRunning};
 
     /// `@p`, fetch p: the word at P is pushed, and P advances.
     pub(super) fn run_fetch_p(&mut self, seen: Seen, saved: &mut Saved) -> Result<(), Kind>
@@ -77,8 +76,8 @@ impl Node {
     pub(super) fn run_store_p(&mut self, saved: &mut Saved) -> Result<(), Kind>
         requires running { IsRunning (record_of self.old) }
         requires empty { saved.old ≡ [] }
-        ensures done { OnOk result (IsDone (effect Op.StoreP nobody (record_of self.old)) self.old self.new saved.new) }
-        ensures ended { IfErr result (λ kind. IsEnded (effect Op.StoreP nobody (record_of self.old)) kind self.old self.new saved.new) }
+        ensures done { OnOk result (IsDoneBy (does Op.StoreP (record_of self.old)) self.old self.new saved.new) }
+        ensures ended { IfErr result (λ kind. IsEndedBy (does Op.StoreP (record_of self.old)) kind self.old self.new saved.new) }
     {
         let p = self.p();
         self.write(saved, p)?;
@@ -92,8 +91,8 @@ impl Node {
     pub(super) fn run_store_plus(&mut self, saved: &mut Saved) -> Result<(), Kind>
         requires running { IsRunning (record_of self.old) }
         requires empty { saved.old ≡ [] }
-        ensures done { OnOk result (IsDone (effect Op.StorePlus nobody (record_of self.old)) self.old self.new saved.new) }
-        ensures ended { IfErr result (λ kind. IsEnded (effect Op.StorePlus nobody (record_of self.old)) kind self.old self.new saved.new) }
+        ensures done { OnOk result (IsDoneBy (does Op.StorePlus (record_of self.old)) self.old self.new saved.new) }
+        ensures ended { IfErr result (λ kind. IsEndedBy (does Op.StorePlus (record_of self.old)) kind self.old self.new saved.new) }
     {
         let a = self.a();
         self.write(saved, a.get())?;
@@ -107,8 +106,8 @@ impl Node {
     pub(super) fn run_store_b(&mut self, saved: &mut Saved) -> Result<(), Kind>
         requires running { IsRunning (record_of self.old) }
         requires empty { saved.old ≡ [] }
-        ensures done { OnOk result (IsDone (effect Op.StoreB nobody (record_of self.old)) self.old self.new saved.new) }
-        ensures ended { IfErr result (λ kind. IsEnded (effect Op.StoreB nobody (record_of self.old)) kind self.old self.new saved.new) }
+        ensures done { OnOk result (IsDoneBy (does Op.StoreB (record_of self.old)) self.old self.new saved.new) }
+        ensures ended { IfErr result (λ kind. IsEndedBy (does Op.StoreB (record_of self.old)) kind self.old self.new saved.new) }
     {
         let b = self.b();
         self.write(saved, b)?;
@@ -121,8 +120,8 @@ impl Node {
     pub(super) fn run_store(&mut self, saved: &mut Saved) -> Result<(), Kind>
         requires running { IsRunning (record_of self.old) }
         requires empty { saved.old ≡ [] }
-        ensures done { OnOk result (IsDone (effect Op.Store nobody (record_of self.old)) self.old self.new saved.new) }
-        ensures ended { IfErr result (λ kind. IsEnded (effect Op.Store nobody (record_of self.old)) kind self.old self.new saved.new) }
+        ensures done { OnOk result (IsDoneBy (does Op.Store (record_of self.old)) self.old self.new saved.new) }
+        ensures ended { IfErr result (λ kind. IsEndedBy (does Op.Store (record_of self.old)) kind self.old self.new saved.new) }
     {
         let a = self.a();
         self.write(saved, a.get())?;

@@ -7,14 +7,13 @@ use ga_slots::Op;
 impl Node {
     ghost use Rattle.std.specs.Prelude.{◌≡◌, []};
     ghost use Rattle.ga_node.specs.Record.{record_of};
-    ghost use Rattle.ga_node.specs.Io.{nobody};
-    ghost use Rattle.ga_node.specs.Saving.{IsDone};
-    ghost use Rattle.ga_node.specs.Table.{effect};
+    ghost use Rattle.ga_node.specs.Saving.{IsDoneBy};
+    ghost use Rattle.ga_node.specs.Table.{does};
 
     /// `drop`: the data stack is popped.
     pub(super) fn run_drop(&mut self, saved: &mut Saved)
         requires { saved.old ≡ [] }
-        ensures { IsDone (effect Op.Drop nobody (record_of self.old)) self.old self.new saved.new }
+        ensures { IsDoneBy (does Op.Drop (record_of self.old)) self.old self.new saved.new }
     {
         self.pop_data(saved);
         self.go_on(saved);
@@ -23,7 +22,7 @@ impl Node {
     /// `dup`: T is pushed on the data stack.
     pub(super) fn run_dup(&mut self, saved: &mut Saved)
         requires { saved.old ≡ [] }
-        ensures { IsDone (effect Op.Dup nobody (record_of self.old)) self.old self.new saved.new }
+        ensures { IsDoneBy (does Op.Dup (record_of self.old)) self.old self.new saved.new }
     {
         let top = self.top();
         self.push_data(saved, top);
@@ -33,7 +32,7 @@ impl Node {
     /// `pop`: R is pushed on the data stack, and popped.
     pub(super) fn run_pop(&mut self, saved: &mut Saved)
         requires { saved.old ≡ [] }
-        ensures { IsDone (effect Op.Pop nobody (record_of self.old)) self.old self.new saved.new }
+        ensures { IsDoneBy (does Op.Pop (record_of self.old)) self.old self.new saved.new }
     {
         let top = self.top_return();
         self.push_data(saved, top);
@@ -44,7 +43,7 @@ impl Node {
     /// `over`: S is pushed on the data stack.
     pub(super) fn run_over(&mut self, saved: &mut Saved)
         requires { saved.old ≡ [] }
-        ensures { IsDone (effect Op.Over nobody (record_of self.old)) self.old self.new saved.new }
+        ensures { IsDoneBy (does Op.Over (record_of self.old)) self.old self.new saved.new }
     {
         let second = self.second();
         self.push_data(saved, second);
@@ -54,7 +53,7 @@ impl Node {
     /// `a`: A is pushed on the data stack.
     pub(super) fn run_a(&mut self, saved: &mut Saved)
         requires { saved.old ≡ [] }
-        ensures { IsDone (effect Op.A nobody (record_of self.old)) self.old self.new saved.new }
+        ensures { IsDoneBy (does Op.A (record_of self.old)) self.old self.new saved.new }
     {
         let a = self.a();
         self.push_data(saved, a);
@@ -64,7 +63,7 @@ impl Node {
     /// `.`, nop: nothing but the next slot.
     pub(super) fn run_nop(&mut self, saved: &mut Saved)
         requires { saved.old ≡ [] }
-        ensures { IsDone (effect Op.Nop nobody (record_of self.old)) self.old self.new saved.new }
+        ensures { IsDoneBy (does Op.Nop (record_of self.old)) self.old self.new saved.new }
     {
         self.go_on(saved);
     }
@@ -72,7 +71,7 @@ impl Node {
     /// `push`: T is pushed on the return stack, and popped.
     pub(super) fn run_push(&mut self, saved: &mut Saved)
         requires { saved.old ≡ [] }
-        ensures { IsDone (effect Op.Push nobody (record_of self.old)) self.old self.new saved.new }
+        ensures { IsDoneBy (does Op.Push (record_of self.old)) self.old self.new saved.new }
     {
         let top = self.top();
         self.push_return(saved, top);
@@ -83,7 +82,7 @@ impl Node {
     /// `b!`, b store: B := the low nine bits of T, which is popped.
     pub(super) fn run_b_store(&mut self, saved: &mut Saved)
         requires { saved.old ≡ [] }
-        ensures { IsDone (effect Op.BStore nobody (record_of self.old)) self.old self.new saved.new }
+        ensures { IsDoneBy (does Op.BStore (record_of self.old)) self.old self.new saved.new }
     {
         let top = self.top();
         let word = top.get();
@@ -95,7 +94,7 @@ impl Node {
     /// `a!`, a store: A := T, which is popped.
     pub(super) fn run_a_store(&mut self, saved: &mut Saved)
         requires { saved.old ≡ [] }
-        ensures { IsDone (effect Op.AStore nobody (record_of self.old)) self.old self.new saved.new }
+        ensures { IsDoneBy (does Op.AStore (record_of self.old)) self.old self.new saved.new }
     {
         let top = self.top();
         self.set_a(saved, top);

@@ -135,6 +135,15 @@ fn reads_to_the_line_end(rt: HostRuntime) {
     assert_eq!(rt; status, Status::Done);
     assert_eq!(rt; reader.calls, image.len());
     assert_eq!(rt; reader.left, b"end\n".as_slice());
+    let mut reader = OneByOne {
+        left: b"ga144 9\nend\nend\n",
+        calls: 0,
+        fails_at: 0,
+    };
+    let mut output = Vec::new(alloc);
+    let status = race_report(&rt, alloc, &mut reader, &mut output, 1, 1, 1);
+    assert_eq!(rt; status, Status::ImageRefused);
+    assert_eq!(rt; reader.left, b"end\n".as_slice());
     for before in 0..image.len() {
         let mut reader = OneByOne {
             left: image,

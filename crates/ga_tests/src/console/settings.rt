@@ -8,7 +8,7 @@ struct CommandLine {
     settings: Option<Settings>,
 }
 
-static LINES: [CommandLine; 18] = [
+static LINES: [CommandLine; 23] = [
     CommandLine {
         words: &["ga144", "debug"],
         settings: Some(Settings::Debug { limit: 1_000_000 }),
@@ -98,6 +98,26 @@ static LINES: [CommandLine; 18] = [
         words: &["ga144", "race", "--workers", "1"],
         settings: None,
     },
+    CommandLine {
+        words: &["ga144", "asm"],
+        settings: Some(Settings::Assemble),
+    },
+    CommandLine {
+        words: &["ga144", "list"],
+        settings: Some(Settings::List),
+    },
+    CommandLine {
+        words: &["ga144", "dis"],
+        settings: Some(Settings::Disassemble),
+    },
+    CommandLine {
+        words: &["ga144", "asm", "first.f18"],
+        settings: None,
+    },
+    CommandLine {
+        words: &["ga144", "dis", "--limit", "3"],
+        settings: None,
+    },
 ];
 
 #[test]
@@ -128,4 +148,19 @@ fn help_is_text(rt: HostRuntime) -> Result<(), Fail> {
         }
     }
     Ok(())
+}
+
+#[test]
+fn help_shows_the_notation(rt: HostRuntime) {
+    let asked: [&[&str]; 2] = [&["ga144", "asm", "--help"], &["ga144", "list", "-h"]];
+    for words in asked {
+        match arguments(rt.alloc(), words) {
+            Err(LineFault::Help(text)) => {
+                for form in ["node YXX", ": NAME", "X ,", "org N", "+cy", "unext"] {
+                    assert!(rt; text.as_str().contains(form), "{form}");
+                }
+            }
+            _ => assert!(rt; false, "{words:?}"),
+        }
+    }
 }

@@ -221,6 +221,28 @@ fn nothing_is_read_behind_quit(rt: HostRuntime) -> std::result::Result<(), Fail>
     Ok(())
 }
 
+// A person at a terminal is told of a fault once `end` is typed, not at the next line.
+#[test]
+fn nothing_is_read_behind_a_refused_image(rt: HostRuntime) -> std::result::Result<(), Fail> {
+    let images: [(&'static [u8], &'static [u8]); 3] = [
+        (b"ga144 9\nend\nback\n", b"no 11 header line 1\n"),
+        (b"ga144 1\nnode 018\nend\nback\n", b"no 13 node line 2\n"),
+        (
+            b"ga144 2\nnode 000\nwait read r---\nend\nback\n",
+            b"no 20 state line 4\n",
+        ),
+    ];
+    for (input, wanted) in images {
+        let mut reader = Dripping::new(input, 1, 0);
+        let mut output = Vec::new(rt.alloc());
+        let status = session(rt.alloc(), &mut reader, &mut output, 9);
+        assert_eq!(rt; status, Status::ImageRefused);
+        assert_eq!(rt; output.as_slice(), wanted);
+        assert_eq!(rt; reader.left, b"back\n".as_slice());
+    }
+    Ok(())
+}
+
 /// Hands out a line at each read, and notes how much was handed on before it.
 #[derive(Drop)]
 struct Watching<'a> {

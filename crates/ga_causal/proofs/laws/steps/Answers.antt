@@ -1,4 +1,5 @@
 use Rattle.ga_causal.proofs.Places.{touching_in, stands_exact, place_step}
+use Rattle.ga_causal.proofs.Later.{older_step}
 use Rattle.ga_causal.proofs.laws.steps.Goals as goal
 
 pub returns-clause-events : goal.returns-clause-events
@@ -9,3 +10,6 @@ returns-clause-stands c = stands_exact
 
 pub returns-clause-place : goal.returns-clause-place
 returns-clause-place c = place_step
+
+pub returns-clause-later : goal.returns-clause-later
+returns-clause-later c = older_step

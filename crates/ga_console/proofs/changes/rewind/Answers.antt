@@ -1,18 +1,19 @@
-use Rattle.ga_console.proofs.SaidLemmas.{either_same}
+use Rattle.std.proofs.Common.{refl}
+use Rattle.ga_console.specs.Texts.{removed_text}
 use Rattle.ga_console.proofs.ReplyLemmas.{rewind_done, rewind_refused}
 use Rattle.ga_console.proofs.changes.rewind.Goals as goal
 
 pub returns-in-Ok : goal.returns-in-Ok
 returns-in-Ok g c = λ before said h. (
-  c.put_removed.new.out.items,
+  removed_text c.in-Ok.removed c.counts.result.kept,
   rewind_done c.args.lab.now c.args.node c.args.step c.in-Ok.removed c.counts.result.kept _ c.rewind.new.self c.in-Ok.ensures.answer c.in-Ok.ensures.state
-      c.counts.ensures.kept c.put_removed.ensures,
-  either_same c.say.result _ before said _ _ _ c.as_slice.ensures.value (c.say.ensures before said h),
+      c.counts.ensures.kept refl,
+  c.say_removed.ensures before said h,
 )
 
 pub returns-in-Err : goal.returns-in-Err
 returns-in-Err g c = λ before said h. (
   c.refusal.result.now,
   rewind_refused c.args.lab.now c.args.node c.args.step c.in-Err.fault _ c.rewind.new.self c.in-Err.ensures.answer c.in-Err.ensures.same c.refusal.ensures.text,
-  c.say-in-Err.ensures before said h,
+  c.say.ensures before said h,
 )

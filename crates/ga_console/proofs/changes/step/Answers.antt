@@ -1,17 +1,18 @@
-use Rattle.ga_console.proofs.SaidLemmas.{either_same}
+use Rattle.std.proofs.Common.{refl}
+use Rattle.ga_console.specs.Texts.{made_text}
 use Rattle.ga_console.proofs.ReplyLemmas.{step_made, step_refused}
 use Rattle.ga_console.proofs.changes.step.Goals as goal
 
 pub returns-in-Ok : goal.returns-in-Ok
 returns-in-Ok g c = λ before said h. (
-  c.put_made.new.out.items,
-  step_made c.args.lab.now c.args.node c.in-Ok.made _ c.step.new.self c.in-Ok.ensures.answer c.in-Ok.ensures.ok c.put_made.ensures,
-  either_same c.say.result _ before said _ _ _ c.as_slice.ensures.value (c.say.ensures before said h),
+  made_text c.in-Ok.made,
+  step_made c.args.lab.now c.args.node c.in-Ok.made _ c.step.new.self c.in-Ok.ensures.answer c.in-Ok.ensures.ok refl,
+  c.say_made.ensures before said h,
 )
 
 pub returns-in-Err : goal.returns-in-Err
 returns-in-Err g c = λ before said h. (
   c.refusal.result.now,
   step_refused c.args.lab.now c.args.node c.in-Err.fault _ c.step.new.self c.in-Err.ensures.answer c.in-Err.ensures.err c.refusal.ensures.text,
-  c.say-in-Err.ensures before said h,
+  c.say.ensures before said h,
 )

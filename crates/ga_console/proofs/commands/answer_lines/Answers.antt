@@ -1,6 +1,7 @@
-use Rattle.std.proofs.Common.{ℕ, ◌-◌, ◌++◌, [], List, refl, sym, ap, ◌∙◌, arith}
+use Rattle.std.proofs.Common.{ℕ, ◌-◌, ◌++◌, [], List, refl, sym, ap, subst, ◌∙◌, arith}
 use Rattle.std.specs.Prelude.{Result, Ok}
 use Rattle.std.specs.Result.{IsErr}
+use Rattle.ga_console.specs.Ahead.{IsAhead}
 use Rattle.ga_console.specs.Session.{Serves, ServesCut}
 use Rattle.ga_console.specs.Texts.{no_input}
 use Rattle.ga_lab.specs.Machine.{State}
@@ -8,6 +9,8 @@ use Rattle.ga_console.specs.declared.output.WriteFailed.{WriteFailed}
 use Rattle.ga_console.specs.declared.commands.Ending.{Ending}
 use Rattle.ga_console.specs.declared.commands.Ending.TheVariants.{Ended, Past}
 use Rattle.ga_console.proofs.SaidLemmas.{at_err, cut_here, said_assoc, cut_assoc, said_pending, said_nothing}
+use Rattle.ga_console.specs.Replies.Answer.{command}
+use Rattle.ga_console.proofs.AheadLemmas.{ahead_whole}
 use Rattle.ga_console.proofs.LineLemmas.{quit_part, empty_part, some_part}
 use Rattle.ga_console.proofs.Heard.{heard_none, heard_push, heard_cut, heard_failed, heard_ended, heard_last, heard_quit, heard_quit_last, heard_past, cut_short, read_to, read_past, read_over, split_at, split_past, split_over}
 use Rattle.ga_console.proofs.commands.answer_lines.Goals as goal
@@ -36,9 +39,9 @@ returns-in_err-read_line g c = λ left before said known held.
       inv.1,
       split_at heard part got.0 got.2.is_line.splits,
       got.1,
-      serves_cut _ _ _ _ _ c.from_residual.result c.from_residual.ensures.0
+      serves_cut _ _ _ _ _ c.from_residual-in_err-read_line.result c.from_residual-in_err-read_line.ensures.0
           (heard_cut heard part got.0 (omega (arith, got.2.counts, got.2.none_left, c.in_err-read_line.ensures.within))),
-      cut_here c.from_residual.result _ before (said ++ inv.1) _ c.from_residual.ensures.0 told,
+      cut_here c.from_residual-in_err-read_line.result _ before (said ++ inv.1) _ c.from_residual-in_err-read_line.ensures.0 told,
     )
 
 pub returns-in_err-answer-in-Feed : goal.returns-in_err-answer-in-Feed
@@ -227,3 +230,39 @@ returns-in-ReadFailed g c = λ left before said known held.
       heard_failed heard part got.0 got.2.is_line.no_feed (omega (arith, got.2.counts, c.in_ok-read_line.ensures.within)),
       told,
     )
+
+pub returns-in_err-obey : goal.returns-in_err-obey
+returns-in_err-obey g c = λ left before said known held.
+    let inv = c.lines.invariant.heard left before said known held in
+    let ahead = subst (λ (t : List ℕ). IsAhead t c.in-Some.ahead.0 c.in-Some.ahead.1) c.unread.ensures c.in-Some.ensures in
+    let done = c.in_err-obey.ensures before (said ++ inv.1) inv.3 in
+    let whole = ahead_whole c.lines.input.bytes c.skip.new.self.bytes inv.0 c.in-Some.ahead.0 c.in-Some.ahead.1 ahead c.skip.ensures.bytes in
+    let more = heard_push inv.4 ahead.line (c.skip.new.self.bytes ++ inv.0) c.skip.new.self.taken done.0 c.obey.new.lab
+    whole ahead.no_feed (omega (arith, c.skip.ensures.taken, ahead.counts))
+    (command c.in-Some.ahead.0 (omega (arith, ahead.counts, ahead.short)) ahead.spelled done.1) ahead.not_quit in (
+      read_to more c.skip.new.self.bytes,
+      inv.0,
+      inv.1 ++ done.0,
+      split_at more c.skip.new.self.bytes inv.0 refl,
+      inv.2,
+      serves_cut _ _ _ _ _ c.from_residual.result c.from_residual.ensures.0 (heard_cut more c.skip.new.self.bytes inv.0 c.skip.ensures.within),
+      cut_here c.from_residual.result _ before (said ++ (inv.1 ++ done.0)) _ c.from_residual.ensures.0 (cut_assoc _ before said inv.1 done.0 done.2),
+    )
+
+pub lines-preserved-in-Some : goal.lines-preserved-in-Some
+lines-preserved-in-Some g c = record {
+  within = c.skip.ensures.within;
+  heard = λ left before said known held.
+      let inv = c.lines.invariant.heard left before said known held in
+      let ahead = subst (λ (t : List ℕ). IsAhead t c.in-Some.ahead.0 c.in-Some.ahead.1) c.unread.ensures c.in-Some.ensures in
+      let done = c.in_ok-obey.ensures before (said ++ inv.1) inv.3 in (
+        inv.0,
+        inv.1 ++ done.0,
+        inv.2,
+        said_assoc _ before said inv.1 done.0 _ done.2,
+        heard_push inv.4 ahead.line (c.skip.new.self.bytes ++ inv.0) c.skip.new.self.taken done.0 c.obey.new.lab
+            (ahead_whole c.lines.input.bytes c.skip.new.self.bytes inv.0 c.in-Some.ahead.0 c.in-Some.ahead.1 ahead c.skip.ensures.bytes)
+            ahead.no_feed (omega (arith, c.skip.ensures.taken, ahead.counts))
+            (command c.in-Some.ahead.0 (omega (arith, ahead.counts, ahead.short)) ahead.spelled done.1) ahead.not_quit,
+      );
+}

@@ -6,7 +6,7 @@ use Rattle.ga_console.proofs.node_text.push_flags.Goals as goal
 
 pub returns-clause-text : goal.returns-clause-text
 unfolding record_of
-returns-clause-text c =
+returns-clause-text g c =
     let number : List ℕ → ℕ → List ℕ = λ text n. text ++ decimal n in
     let word : List ℕ → ℕ → List ℕ = λ text n. text ++ hex6_of n in
     let same : c.truncated.result ≡ c.get-3.result = omega (arith, c.truncated.ensures, c.get-3.ensures.in_range) in

@@ -7,7 +7,7 @@ use Rattle.ga_console.proofs.node_text.push_registers.Goals as goal
 
 pub returns-clause-text : goal.returns-clause-text
 unfolding record_of
-returns-clause-text c =
+returns-clause-text g c =
     let register : List ℕ → List ℕ → ℕ → List ℕ = λ text name n. text ++ register_text name n in
     four_pieces c.args.out.now.items c.push_register.new.out.items c.push_register-2.new.out.items c.push_register-3.new.out.items c.push_register-4.new.out.items
     _ _ _ _

@@ -6,7 +6,7 @@ use Rattle.ga_console.proofs.Pieces.{first_words, piece_more, words_more, words_
 use Rattle.ga_console.proofs.node_text.push_returns.Goals as goal
 
 pub words-preserved : goal.words-preserved
-words-preserved c =
+words-preserved g c =
     let old : List ℕ = c.args.out.now.items in
     let words = (record_of c.args.node.now).r in
     let place = c.words.place in
@@ -19,7 +19,7 @@ words-preserved c =
     }
 
 pub returns-clause-text : goal.returns-clause-text
-returns-clause-text c =
+returns-clause-text g c =
     let old : List ℕ = c.args.out.now.items in
     let words = (record_of c.args.node.now).r in
     let size : length words ≡ 9 = c.words.invariant.size (omega arith) in

@@ -1,4 +1,4 @@
-use Rattle.std.proofs.Common.{◌≡◌, ℕ, List, [], ◌∷◌, ◌++◌, Some, inl, inr, refl, sym, ap, ◌∙◌, append_assoc, arith}
+use Rattle.std.proofs.Common.{◌≡◌, ℕ, List, [], ◌∷◌, ◌++◌, Some, inl, inr, refl, sym, ap, ◌∙◌, append_assoc, arith, Ok}
 use Rattle.std.proofs.lemmas.List.{append-nil}
 use Rattle.ga_console.specs.Input.{Unread}
 use Rattle.ga_console.proofs.Races.{reports}
@@ -39,7 +39,7 @@ returns-in-Ok-Past g c = λ left before known held.
       got.1,
       done.1,
       reports c.args.limit c.args.workers c.args.calls text ahead got.0 done.0 c.run_image.result
-          (inr (inr (omega (arith, got.2.1.takes.counts, got.2.1.full, taken_none c.new-input.result c.new-input.ensures), got.2.0))) done.2,
+          (inr (inr (omega (arith, got.2.1.takes.counts, got.2.1.full, taken_none c.new-input.result c.new-input.ensures), refl, got.2.0))) done.2,
     )
 
 pub returns-in-Ok-Ended : goal.returns-in-Ok-Ended
@@ -70,5 +70,6 @@ returns-in-Ok-EndLine g c = λ left before known held.
       from_start c.new-input.result left (text ++ (ahead ++ got.0)) c.new-input.ensures got.2.1.splits ∙ sym (append_assoc text ahead got.0),
       got.1,
       done.1,
-      reports c.args.limit c.args.workers c.args.calls text ahead got.0 done.0 c.run_image-in-Ok-EndLine.result (inl got.2.0) done.2,
+      reports c.args.limit c.args.workers c.args.calls text ahead got.0 done.0 c.run_image-in-Ok-EndLine.result
+          (inl (got.2.0, c.in-Ok-EndLine.ensures.behind (ap Ok c.in-Ok-EndLine.field-0-is))) done.2,
     )

@@ -1,6 +1,5 @@
 use Rattle.std.proofs.Common.{ℕ, length, ◌∙◌, ap, inl, refl}
 use Rattle.ga_console.specs.Texts.{counts_text}
-use Rattle.ga_console.proofs.SaidLemmas.{either_same}
 use Rattle.ga_console.proofs.ReplyLemmas.{replies}
 use Rattle.ga_console.proofs.readings.count.Goals as goal
 
@@ -9,7 +8,7 @@ returns g c = λ before said h.
     let by_kept = ap (λ (n : ℕ). counts_text n c.counts.result.made c.counts.result.limit) c.counts.ensures.kept in
     let by_made = ap (λ (n : ℕ). counts_text (length c.args.lab.now.kept) n c.counts.result.limit) c.counts.ensures.made in
     let by_limit = ap (counts_text (length c.args.lab.now.kept) c.args.lab.now.made) c.counts.ensures.limit in (
-      c.put_counts.new.out.items,
-      inl (replies _ _ c.args.lab.now c.args.lab.now (c.put_counts.ensures ∙ by_kept ∙ by_made ∙ by_limit) refl),
-      either_same c.say.result _ before said _ _ _ c.as_slice.ensures.value (c.say.ensures before said h),
+      counts_text c.counts.result.kept c.counts.result.made c.counts.result.limit,
+      inl (replies _ _ c.args.lab.now c.args.lab.now (by_kept ∙ by_made ∙ by_limit) refl),
+      c.say_counts.ensures before said h,
     )

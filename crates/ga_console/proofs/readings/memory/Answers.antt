@@ -1,12 +1,11 @@
-use Rattle.std.proofs.Common.{◌∙◌, ap, inl, refl}
+use Rattle.std.proofs.Common.{ap, inl, refl}
 use Rattle.ga_console.specs.Texts.{memory_text}
-use Rattle.ga_console.proofs.SaidLemmas.{either_same}
 use Rattle.ga_console.proofs.ReplyLemmas.{replies}
 use Rattle.ga_console.proofs.readings.memory.Goals as goal
 
 pub returns : goal.returns
 returns g c = λ before said h. (
-  c.put_memory.new.out.items,
-  inl (replies _ _ c.args.lab.now c.args.lab.now (c.put_memory.ensures ∙ ap (memory_text c.args.node c.args.address) c.memory.ensures) refl),
-  either_same c.say.result _ before said _ _ _ c.as_slice.ensures.value (c.say.ensures before said h),
+  memory_text c.args.node c.args.address c.memory.result,
+  inl (replies _ _ c.args.lab.now c.args.lab.now (ap (memory_text c.args.node c.args.address) c.memory.ensures) refl),
+  c.say_memory.ensures before said h,
 )

@@ -1,4 +1,4 @@
-use Rattle.std.proofs.Common.{ℕ, ◌≡◌, ◌+◌, List, ◌++◌, length, drop, take, refl, ap, ◌∙◌, arith}
+use Rattle.std.proofs.Common.{ℕ, ◌+◌, List, ◌++◌, length, drop, take, refl, ap, ◌∙◌, arith}
 use Rattle.std.specs.Prelude.{flat_map}
 use Rattle.ga_console.specs.Texts.{chain_text}
 use Rattle.ga_console.specs.Replies.{link_text, links_text}
@@ -6,23 +6,22 @@ use Rattle.ga_console.proofs.SaidLemmas.{cut_here, cut_within, cut_assoc, said_a
 use Rattle.ga_console.proofs.ListedLemmas.{listed_none, listed_more, listed_front, listed_all}
 use Rattle.ga_console.proofs.readings.say_links.Goals as goal
 
-pub returns-in_err-say : goal.returns-in_err-say
-returns-in_err-say g c = λ before said h.
+pub returns-in_err-say_chain : goal.returns-in_err-say_chain
+returns-in_err-say_chain g c = λ before said h.
     let links = c.args.links.now in
     let whole : List ℕ = links_text c.args.lab.now links in
-    let head : c.as_slice.result.now ≡ chain_text (length links) = c.as_slice.ensures.value ∙ c.put_chain.ensures in (
+    let head : List ℕ = chain_text (length links) in (
       whole,
       refl,
       cut_here c.from_residual.result _ before (said ++ whole) _ c.from_residual.ensures.0
-          (cut_within _ before said c.as_slice.result.now (flat_map (link_text c.args.lab.now) links) whole
-          (ap (λ (t : List ℕ). t ++ flat_map (link_text c.args.lab.now) links) head) (c.in_err-say.ensures before said h)),
+          (cut_within _ before said head (flat_map (link_text c.args.lab.now) links) whole refl (c.in_err-say_chain.ensures before said h)),
     )
 
 pub links-init : goal.links-init
 links-init g c = λ before said h.
     let links = c.args.links.now in
-    let head : c.as_slice.result.now ≡ chain_text (length links) = c.as_slice.ensures.value ∙ c.put_chain.ensures in
-    said_as _ before said c.as_slice.result.now _ _ (head ∙ listed_none (link_text c.args.lab.now) (chain_text (length links)) links) (c.in_ok-say.ensures before said h)
+    let head : List ℕ = chain_text (length links) in
+    said_as _ before said head _ _ (listed_none (link_text c.args.lab.now) head links) (c.in_ok-say_chain.ensures before said h)
 
 pub returns-in_err-say_link : goal.returns-in_err-say_link
 returns-in_err-say_link g c = λ before said h.

@@ -1,4 +1,4 @@
-use Rattle.std.proofs.Common.{ℕ, ◌≡◌, ◌+◌, List, ◌++◌, length, drop, take, refl, ap, ◌∙◌, arith}
+use Rattle.std.proofs.Common.{ℕ, ◌+◌, List, ◌++◌, length, drop, take, refl, ap, ◌∙◌, arith}
 use Rattle.std.specs.Prelude.{flat_map}
 use Rattle.ga_console.specs.Texts.{made_text, trace_text}
 use Rattle.ga_console.specs.Replies.{steps_text}
@@ -6,38 +6,37 @@ use Rattle.ga_console.proofs.SaidLemmas.{cut_here, cut_within, cut_assoc, said_a
 use Rattle.ga_console.proofs.ListedLemmas.{listed_none, listed_more, listed_front, listed_all}
 use Rattle.ga_console.proofs.readings.say_steps.Goals as goal
 
-pub returns-in_err-say : goal.returns-in_err-say
-returns-in_err-say g c = λ before said h.
+pub returns-in_err-say_trace : goal.returns-in_err-say_trace
+returns-in_err-say_trace g c = λ before said h.
     let steps = c.args.steps.now in
-    let head : c.as_slice.result.now ≡ trace_text c.args.node (length steps) = c.as_slice.ensures.value ∙ c.put_trace.ensures in (
-      steps_text c.args.node steps,
+    let whole : List ℕ = steps_text c.args.node steps in
+    let head : List ℕ = trace_text c.args.node (length steps) in (
+      whole,
       refl,
-      cut_here c.from_residual.result _ before (said ++ steps_text c.args.node steps) _ c.from_residual.ensures.0
-          (cut_within _ before said c.as_slice.result.now (flat_map made_text steps) (steps_text c.args.node steps)
-          (ap (λ (t : List ℕ). t ++ flat_map made_text steps) head) (c.in_err-say.ensures before said h)),
+      cut_here c.from_residual.result _ before (said ++ whole) _ c.from_residual.ensures.0
+          (cut_within _ before said head (flat_map made_text steps) whole refl (c.in_err-say_trace.ensures before said h)),
     )
 
 pub steps-init : goal.steps-init
 steps-init g c = λ before said h.
     let steps = c.args.steps.now in
-    let head : c.as_slice.result.now ≡ trace_text c.args.node (length steps) = c.as_slice.ensures.value ∙ c.put_trace.ensures in
-    said_as _ before said c.as_slice.result.now _ _ (head ∙ listed_none made_text (trace_text c.args.node (length steps)) steps) (c.in_ok-say.ensures before said h)
+    let head : List ℕ = trace_text c.args.node (length steps) in
+    said_as _ before said head _ _ (listed_none made_text head steps) (c.in_ok-say_trace.ensures before said h)
 
-pub returns-in_err-say-2 : goal.returns-in_err-say-2
-returns-in_err-say-2 g c = λ before said h.
+pub returns-in_err-say_made : goal.returns-in_err-say_made
+returns-in_err-say_made g c = λ before said h.
     let steps = c.args.steps.now in
     let head : List ℕ = trace_text c.args.node (length steps) in
     let i : ℕ = c.steps.made-index in
     let front : List ℕ = head ++ flat_map made_text (take i steps) in
-    let text = c.as_slice-in-steps.result.now in
-    let line : text ≡ made_text c.made-item.result = c.as_slice-in-steps.ensures.value ∙ c.put_made.ensures in
-    let more = listed_more made_text head steps i c.made-item.result text (omega arith) (line ∙ ap made_text c.made-item.is) in (
+    let text = made_text c.made-item.result in
+    let more = listed_more made_text head steps i c.made-item.result text (omega arith) (ap made_text c.made-item.is) in (
       steps_text c.args.node steps,
       refl,
-      cut_here c.from_residual-in_err-say-2.result _ before (said ++ steps_text c.args.node steps) _ c.from_residual-in_err-say-2.ensures.0
+      cut_here c.from_residual-in_err-say_made.result _ before (said ++ steps_text c.args.node steps) _ c.from_residual-in_err-say_made.ensures.0
           (cut_within _ before said (front ++ text) (flat_map made_text (drop (i + 1) steps)) (steps_text c.args.node steps)
           (ap (λ (t : List ℕ). t ++ flat_map made_text (drop (i + 1) steps)) more ∙ listed_front made_text head steps (i + 1))
-          (cut_assoc _ before said front text (c.in_err-say-2.ensures before (said ++ front) (c.steps.invariant before said h)))),
+          (cut_assoc _ before said front text (c.in_err-say_made.ensures before (said ++ front) (c.steps.invariant before said h)))),
     )
 
 pub steps-preserved : goal.steps-preserved
@@ -46,10 +45,9 @@ steps-preserved g c = λ before said h.
     let head : List ℕ = trace_text c.args.node (length steps) in
     let i : ℕ = c.steps.made-index in
     let front : List ℕ = head ++ flat_map made_text (take i steps) in
-    let text = c.as_slice-in-steps.result.now in
-    let line : text ≡ made_text c.made-item.result = c.as_slice-in-steps.ensures.value ∙ c.put_made.ensures in
-    said_as _ before said (front ++ text) _ _ (listed_more made_text head steps i c.made-item.result text (omega arith) (line ∙ ap made_text c.made-item.is))
-    (said_assoc _ before said front text _ (c.in_ok-say-2.ensures before (said ++ front) (c.steps.invariant before said h)))
+    let text = made_text c.made-item.result in
+    said_as _ before said (front ++ text) _ _ (listed_more made_text head steps i c.made-item.result text (omega arith) (ap made_text c.made-item.is))
+    (said_assoc _ before said front text _ (c.in_ok-say_made.ensures before (said ++ front) (c.steps.invariant before said h)))
 
 pub returns : goal.returns
 returns g c = λ before said h.

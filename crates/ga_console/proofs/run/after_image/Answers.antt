@@ -18,4 +18,4 @@ returns-in-Ok g c = λ left before known held.
 pub returns-in-Err : goal.returns-in-Err
 returns-in-Err g c = λ left before known held.
     let sent = c.refuse.ensures before held in
-    (c.args.input.now.bytes, left, sent.0, refl, known, sent.1, inr (c.in-Err.fault, c.in-Err.ensures.err, sent.2))
+    (c.args.input.now.bytes, left, sent.0, refl, known, sent.1, inr (c.in-Err.fault, c.in-Err.ensures.err, sent.2, refl))

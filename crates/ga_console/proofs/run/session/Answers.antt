@@ -1,7 +1,8 @@
-use Rattle.std.proofs.Common.{◌≡◌, ℕ, List, [], ◌∷◌, ◌++◌, Some, inl, inr, refl, sym, ap, ◌∙◌, append_assoc, arith}
+use Rattle.std.proofs.Common.{◌≡◌, ℕ, List, [], ◌∷◌, ◌++◌, Some, inl, inr, refl, sym, ap, subst, ◌∙◌, append_assoc, arith, length, ◌<◌, Ok}
 use Rattle.std.proofs.lemmas.List.{append-nil}
 use Rattle.ga_image.specs.Reading.{no_memory}
 use Rattle.ga_console.specs.Input.{Unread}
+use Rattle.ga_console.specs.Run.{AfterImage}
 use Rattle.ga_console.proofs.RunLemmas.{runs_refused, runs_full, runs_after, nothing_left}
 use Rattle.ga_console.proofs.run.session.Goals as goal
 
@@ -53,8 +54,9 @@ returns-in-Ok-Past g c = λ left before known held.
           ∙ ap (λ (l : List ℕ). text ++ b ∷ l) (ap (λ (l : List ℕ). l ++ got.0) (sym got.2.2) ∙ done.3) ∙ sym (append_assoc text (b ∷ done.0) done.1),
       done.4,
       done.5,
-      runs_full c.args.limit c.read_image.new.input.taken text done.0 (b ∷ done.0) done.1 done.2 c.after_image.result
-          (omega (arith, got.2.1.takes.counts, got.2.1.full, taken_none c.new-input.result c.new-input.ensures)) got.2.0 done.6,
+      runs_full c.args.limit c.read_image.new.input.taken b text done.0 done.1 done.2 c.after_image.result
+          (omega (arith, got.2.1.takes.counts, got.2.1.full, taken_none c.new-input.result c.new-input.ensures)) got.2.0
+          (subst (λ (l : List ℕ). AfterImage c.args.limit text c.read_image.new.input.taken l done.0 done.1 done.2 c.after_image.result) got.2.2 done.6),
     )
 
 pub returns-in-Ok-Ended : goal.returns-in-Ok-Ended
@@ -72,8 +74,9 @@ returns-in-Ok-Ended g c = λ left before known held.
           ∙ sym (append_assoc text done.0 done.1 ∙ ap (λ (l : List ℕ). text ++ l) (sym done.3 ∙ empty) ∙ append-nil text),
       done.4,
       done.5,
-      runs_after c.args.limit c.read_image.new.input.taken text done.0 done.1 done.2 c.after_image-in-Ok-Ended.result
-          (omega (arith, got.2.1.counts, taken_none c.new-input.result c.new-input.ensures)) (inr (inl (nil.0, nil.1, got.2.0))) done.6,
+      runs_after c.args.limit c.read_image.new.input.taken text c.read_image.new.input.bytes done.0 done.1 done.2 c.after_image-in-Ok-Ended.result
+          (omega (arith, got.2.1.counts, taken_none c.new-input.result c.new-input.ensures)) (inr (inl (nil.0, nil.1, got.2.0)))
+          (λ e. inr (inl (nil.0, nil.1, got.2.0))) done.6,
     )
 
 pub returns-in-Ok-EndLine : goal.returns-in-Ok-EndLine
@@ -89,6 +92,7 @@ returns-in-Ok-EndLine g c = λ left before known held.
           ∙ ap (λ (l : List ℕ). text ++ l) done.3 ∙ sym (append_assoc text done.0 done.1),
       done.4,
       done.5,
-      runs_after c.args.limit c.read_image.new.input.taken text done.0 done.1 done.2 c.after_image-in-Ok-EndLine.result
-          (omega (arith, got.2.1.counts, taken_none c.new-input.result c.new-input.ensures)) (inl got.2.0) done.6,
+      runs_after c.args.limit c.read_image.new.input.taken text c.read_image.new.input.bytes done.0 done.1 done.2 c.after_image-in-Ok-EndLine.result
+          (omega (arith, got.2.1.counts, taken_none c.new-input.result c.new-input.ensures)) (inl got.2.0)
+          (λ e. inl (got.2.0, subst (λ (l : List ℕ). length l < 65536) (sym e) (c.in-Ok-EndLine.ensures.behind (ap Ok c.in-Ok-EndLine.field-0-is)))) done.6,
     )

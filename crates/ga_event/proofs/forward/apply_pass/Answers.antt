@@ -9,14 +9,14 @@ use Rattle.ga_event.specs.Apply.{is_open}
 use Rattle.ga_event.proofs.Applied.{pass_applied, open_apart}
 use Rattle.ga_event.proofs.forward.apply_pass.Goals as goal
 
-pub returns-clause-ok : goal.returns-clause-ok
-returns-clause-ok c =
+pub returns : goal.returns
+returns c =
     let w = c.args.writer.number in
     let r = c.args.reader.number in
     let size : length c.args.chip.now ≡ 144 = c.node_mut.ensures.size in
     let lw : w < length c.args.chip.now = omega arith in
     let lr : r < length c.args.chip.now = omega arith in
-    let open_ : is_open w r c.args.side (record_at (records_of c.args.chip.now) w).wait (record_at (records_of c.args.chip.now) r).wait ≡ true = sym c.if-not-is_matched.ensures in
+    let open_ : is_open w r c.args.side (record_at (records_of c.args.chip.now) w).wait (record_at (records_of c.args.chip.now) r).wait ≡ true = c.requires.open in
     let other : w ≢ r = open_apart w r c.args.side _ _ open_ in
     let at_w : c.node_mut.result.now ≡ node_at c.args.chip.now w = c.node_mut.ensures.value in
     let at_r : c.node_mut-2.result.now ≡ node_at c.args.chip.now r =

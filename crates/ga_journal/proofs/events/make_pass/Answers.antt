@@ -7,11 +7,11 @@ use Rattle.ga_journal.specs.Histories.{lists_of, history}
 use Rattle.std.specs.Prelude.{length}
 use Rattle.ga_journal.proofs.events.make_pass.Goals as goal
 
-pub returns-in-Ok-clause-ok : goal.returns-in-Ok-clause-ok
-returns-in-Ok-clause-ok c = record {
-  effect = effect.Pass c.in-Ok.word c.apply_pass.new.sent c.apply_pass.new.taken;
-  applied = c.in-Ok.ensures.ok;
+pub returns-clause-added : goal.returns-clause-added
+returns-clause-added c = record {
+  effect = effect.Pass c.apply_pass-word.result c.apply_pass-word.new.sent c.apply_pass-word.new.taken;
+  applied = c.apply_pass-word.ensures;
   histories = c.push_pass.ensures.after;
-  told_is = ap (λ n. let o : Option Made = Some (made.Pass c.args.ends.0 (n + 1) c.args.ends.1 (length (history (lists_of c.args.histories.now.items) c.args.ends.1.number) + 1) c.in-Ok.word) in o) (sym c.count-writer_step.ensures)
-      ∙ ap (λ n. let o : Option Made = Some (made.Pass c.args.ends.0 (c.count-writer_step.result + 1) c.args.ends.1 (n + 1) c.in-Ok.word) in o) (sym c.count-reader_step.ensures);
+  told_is = ap (λ n. let o : Option Made = Some (made.Pass c.args.ends.0 (n + 1) c.args.ends.1 (length (history (lists_of c.args.histories.now.items) c.args.ends.1.number) + 1) c.apply_pass-word.result) in o) (sym c.count-writer_step.ensures)
+      ∙ ap (λ n. let o : Option Made = Some (made.Pass c.args.ends.0 (c.count-writer_step.result + 1) c.args.ends.1 (n + 1) c.apply_pass-word.result) in o) (sym c.count-reader_step.ensures);
 }

@@ -1,6 +1,6 @@
-use Rattle.std.proofs.Common.{◌∙◌, ap, Result, Ok, Err, OnOk}
+use Rattle.std.proofs.Common.{◌∙◌, ap, sym, Result, Ok, Err, OnOk, OnErr}
 use Rattle.ga_journal.specs.Histories.{Room}
-use Rattle.ga_journal.proofs.Rooms.{on_ok, lists_same, room_grown, pass_rooms}
+use Rattle.ga_journal.proofs.Rooms.{on_ok, lists_same, room_grown, room_read, pass_rooms}
 use Rattle.ga_journal.proofs.histories.grow_for_pass.Goals as goal
 
 both_ok : {T E : Type 0} (A B : Type 0) (r : Result T E) → OnOk r A → OnOk r B → OnOk r (A × B)
@@ -23,3 +23,12 @@ returns-clause-others c =
     (λ h. pass_rooms c.args.histories.now.items c.index.result c.args.node.number c.grow_for_pass.new.self (rw c.requires c.index.ensures.in_range) c.index.ensures.value
     (ap (λ (r : Room). r.entry) grown ∙ h.0, ap (λ (r : Room). r.pass) grown ∙ h.1))
     (both_ok _ _ c.grow_for_pass.result c.grow_for_pass.ensures.room c.grow_for_pass.ensures.pass)
+
+on_err : {T E A B : Type 0} → (r : Result T E) → (A → B) → OnErr r A → OnErr r B
+on_err (Ok x) f h = h
+on_err (Err e) f h = f h
+
+pub returns-clause-full : goal.returns-clause-full
+returns-clause-full c =
+    let read = room_read c.args.histories.now.items c.index.result c.args.node.number c.index_mut-history.result.now (rw c.requires c.index.ensures.in_range) c.index.ensures.value c.index_mut-history.ensures.value in
+    on_err c.grow_for_pass.result (λ no h. no (sym (ap (λ (r : Room). r.entry) read) ∙ h.0, sym (ap (λ (r : Room). r.pass) read) ∙ h.1)) c.grow_for_pass.ensures.full

@@ -3,7 +3,7 @@ use Rattle.ga_rollback.specs.Marked.{AreLowered}
 use Rattle.ga_rollback.proofs.rollback.lower_looker.Given as goal
 
 abbrev pub invariant-finding : goal.invariant-finding
-invariant-finding l = AreLowered l.fn.journal l.fn.node.number l.fn.ticks l.journal l.ticks
+invariant-finding l = AreLowered l.fn.journal l.fn.node.number 0 l.journal
 
 abbrev pub decreases-finding : goal.decreases-finding
 decreases-finding l = mark_of l.journal l.looker.number

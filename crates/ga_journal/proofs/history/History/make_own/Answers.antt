@@ -12,7 +12,7 @@ invariant_of-self c =
     let es = c.self.inside.entries.items in
     let ps = c.self.inside.passes.items in
     let first = c.index_mut-entry.result.now in
-    let e : Entry = record { stamp = first.stamp; place = first.place; part = c.part_of-part.result; before = first.before; saved = c.apply_own.new.saved } in
+    let e : Entry = record { stamp = first.stamp; place = first.place; part = c.part_of-part.result; before = first.before; saved = c.apply_own-deed.new.saved } in
     let here : length c.as_slice.result.now ≡ length c.push_reserved.new.self.items = ap length c.as_slice.ensures.value in
     let more : length c.push_reserved.new.self.items ≡ length es + 1 = ap length c.push_reserved.ensures.items ∙ length-append es _ in
     let read = read_last es c.push_reserved.new.self.items _ first (length c.as_slice.result.now - 1) c.push_reserved.ensures.items (omega (arith, here, more)) c.index_mut-entry.ensures.value in
@@ -22,22 +22,22 @@ invariant_of-self c =
     (sym (c.looked_with-self-inside.ensures
     ∙ ap (λ z. looked_after c.self.inside.looked z c.part_of-part.result) (let q : length c.as_slice.result.now - 1 ≡ length es = omega (arith, here, more) in q)
     ∙ ap (looked_after c.self.inside.looked (length es)) c.part_of-part.ensures))
-    (own_more es ps c.self.inside.looked e c.in-Ok.deed.kind c.in-Ok.deed.look c.self.invariant c.part_of-part.ensures (ap (λ (z : Entry). z.place) read)))
+    (own_more es ps c.self.inside.looked e c.apply_own-deed.result.kind c.apply_own-deed.result.look c.self.invariant c.part_of-part.ensures (ap (λ (z : Entry). z.place) read)))
 
-pub returns-in-Ok-clause-ok : goal.returns-in-Ok-clause-ok
-returns-in-Ok-clause-ok c =
+pub returns : goal.returns
+returns c =
     let es = c.self.inside.entries.items in
     let ps = c.self.inside.passes.items in
     let first = c.index_mut-entry.result.now in
-    let e : Entry = record { stamp = first.stamp; place = first.place; part = c.part_of-part.result; before = first.before; saved = c.apply_own.new.saved } in
+    let e : Entry = record { stamp = first.stamp; place = first.place; part = c.part_of-part.result; before = first.before; saved = c.apply_own-deed.new.saved } in
     let here : length c.as_slice.result.now ≡ length c.push_reserved.new.self.items = ap length c.as_slice.ensures.value in
     let more : length c.push_reserved.new.self.items ≡ length es + 1 = ap length c.push_reserved.ensures.items ∙ length-append es _ in
     let read = read_last es c.push_reserved.new.self.items _ first (length c.as_slice.result.now - 1) c.push_reserved.ensures.items (omega (arith, here, more)) c.index_mut-entry.ensures.value in
     record {
-      saved = c.apply_own.new.saved;
-      applied = c.in-Ok.ensures.ok;
+      saved = c.apply_own-deed.new.saved;
+      applied = c.apply_own-deed.ensures;
       added = ap (λ z. map (past_in ps) z) (set_last es c.push_reserved.new.self.items _ e (length c.as_slice.result.now - 1) c.push_reserved.ensures.items (omega (arith, here, more)))
-          ∙ pasts_deed ps es e c.in-Ok.deed.kind c.in-Ok.deed.look c.part_of-part.ensures
-          ∙ ap (λ (h : Held). h.items ++ past first.stamp (own_act c.in-Ok.deed) c.apply_own.new.saved ∷ []) c.self.view_is
-          ∙ ap (λ (z : Entry). c.args.self.now.items ++ past z.stamp (own_act c.in-Ok.deed) c.apply_own.new.saved ∷ []) read;
+          ∙ pasts_deed ps es e c.apply_own-deed.result.kind c.apply_own-deed.result.look c.part_of-part.ensures
+          ∙ ap (λ (h : Held). h.items ++ past first.stamp (own_act c.apply_own-deed.result) c.apply_own-deed.new.saved ∷ []) c.self.view_is
+          ∙ ap (λ (z : Entry). c.args.self.now.items ++ past z.stamp (own_act c.apply_own-deed.result) c.apply_own-deed.new.saved ∷ []) read;
     }

@@ -1,18 +1,30 @@
-use Rattle.std.proofs.Common.{◌≡◌, refl, sym, subst}
-use Rattle.std.specs.Prelude.{IfNone}
-use Rattle.ga_journal.specs.Histories.{Book, lists_of, history}
-use Rattle.ga_journal.specs.Marks.{mark_of}
-use Rattle.ga_journal.specs.Looks.{HasNoLookAfter, SawNoneToGo}
+use Rattle.std.proofs.Common.{◌∙◌, length, refl, ap, subst}
+use Rattle.ga_journal.specs.Histories.{Book, lists_of, room_of, history}
+use Rattle.ga_journal.specs.Marks.{mark_of, ticked}
+use Rattle.ga_journal.specs.Looks.{HasLook, HasNoLook, HasNoLookAfter, Never, Once}
+use Rattle.ga_journal.proofs.Looking.{none_after, on_none}
 use Rattle.ga_journal.proofs.journal.Journal.look_to_go.Goals as goal
 
-pub returns-in_err-at-clause-none : goal.returns-in_err-at-clause-none
-returns-in_err-at-clause-none c =
+pub returns-then-not-has_looked-clause-none : goal.returns-then-not-has_looked-clause-none
+returns-then-not-has_looked-clause-none c =
+    let now = c.args.self.now in
+    let looker = c.args.looker.number in
+    let none : HasNoLook (history now.histories looker) (length (history now.histories looker)) =
+    subst (λ (b : Book). HasNoLook (history b.histories looker) (length (history b.histories looker))) c.self.view_is c.if-not-has_looked.ensures.no in
+    (none_after (history now.histories looker) (mark_of now looker) (history now.histories c.args.node.number) (mark_of now c.args.node.number) none, Never none refl)
+
+pub returns-clause-none : goal.returns-clause-none
+returns-clause-none c =
     let hs = lists_of c.self.inside.histories.items in
     let now = c.args.self.now in
     let node = c.args.node.number in
     let looker = c.args.looker.number in
-    let none : SawNoneToGo now node looker =
-    subst (λ (b : Book). HasNoLookAfter (history b.histories looker) (mark_of now looker) (history b.histories node) (mark_of now node)) c.self.view_is
-    (subst (λ z. HasNoLookAfter (history hs looker) z (history hs node) (mark_of now node)) c.mark_of-stay.ensures.value
-    (subst (λ z. HasNoLookAfter (history hs looker) c.mark_of-stay.result (history hs node) z) c.mark_of-gone.ensures.value c.in_err-at.ensures.none)) in
-    subst (λ o. IfNone o (SawNoneToGo now node looker × (c.args.ticks.now ≡ c.args.ticks.now))) (sym c.from_residual.ensures) (none, refl)
+    let some : HasLook (history now.histories looker) = subst (λ (b : Book). HasLook (history b.histories looker)) c.self.view_is c.if-not-has_looked.ensures.yes in
+    on_none c.look_after.result
+    (λ h. (
+      subst (λ (b : Book). HasNoLookAfter (history b.histories looker) (mark_of now looker) (history b.histories node) (mark_of now node)) c.self.view_is
+          (subst (λ z. HasNoLookAfter (history hs looker) z (history hs node) (mark_of now node)) c.mark_of-stay.ensures.value
+          (subst (λ z. HasNoLookAfter (history hs looker) c.mark_of-stay.result (history hs node) z) c.mark_of-gone.ensures.value h)),
+      Once some (ap (λ z. let b : Book = record { histories = hs; limit = c.self.inside.limit; made = c.self.inside.made; ready = room_of c.self.inside.histories.items; going = c.self.inside.going; waiting = c.self.inside.waiting; ticks = z } in b) c.raise.ensures ∙ ap ticked c.self.view_is),
+    ))
+    c.look_after.ensures.none

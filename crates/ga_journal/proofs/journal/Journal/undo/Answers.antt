@@ -43,7 +43,7 @@ returns-in-Some-clause-some c =
       effect = out.effect;
       popped = popped_by c.args.self.now _ c.undo_event.result out.effect whole
           (λ log made r. out.newest log made (subst (λ (b : Book). Records log b.histories made) (sym c.self.view_is) r))
-          (ap (λ (b : Book). let n : Book = record { histories = lists_of c.undo_event.new.histories.items; limit = b.limit; made = b.made; ready = room_of c.undo_event.new.histories.items; going = b.going; waiting = b.waiting } in n) c.self.view_is);
+          (ap (λ (b : Book). let n : Book = record { histories = lists_of c.undo_event.new.histories.items; limit = b.limit; made = b.made; ready = room_of c.undo_event.new.histories.items; going = b.going; waiting = b.waiting; ticks = b.ticks } in n) c.self.view_is);
       chip_is = out.chip_is;
     }
 

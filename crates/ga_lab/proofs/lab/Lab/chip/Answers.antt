@@ -6,8 +6,8 @@ use Rattle.ga_lab.proofs.Replays.{chip_of_tied, replays_tied}
 use Rattle.ga_lab.proofs.lab.Lab.chip.Goals as goal
 
 pub returns-clause-value : goal.returns-clause-value
-returns-clause-value c = sym (chip_of_tied c.self.inside.chip c.self.inside.journal c.self.invariant.tied) ∙ ap chip_of c.self.view_is
+returns-clause-value c = sym (chip_of_tied c.self.inside.chip c.self.inside.chronicle.journal c.self.invariant.tied) ∙ ap chip_of c.self.view_is
 
 pub returns-clause-replays : goal.returns-clause-replays
 returns-clause-replays c =
-    subst (λ (s : State). replay s.load s.kept ≡ Some (chip_of s)) c.self.view_is (replays_tied c.self.inside.chip c.self.inside.journal c.self.invariant.tied)
+    subst (λ (s : State). replay s.load s.kept ≡ Some (chip_of s)) c.self.view_is (replays_tied c.self.inside.chip c.self.inside.chronicle.journal c.self.invariant.tied)

@@ -7,14 +7,14 @@ use Rattle.ga_lab.proofs.lab.Lab.stands.Goals as goal
 
 pub returns-then-step-ge1-clause-value : goal.returns-then-step-ge1-clause-value
 returns-then-step-ge1-clause-value c =
-    stands_read c.self.inside.chip c.self.inside.journal c.args.step.0.number c.args.step.1 c.steps_of.result c.if-step-ge1.true
-    (c.steps_of.ensures.steps (whole_of c.self.inside.chip c.self.inside.journal c.self.invariant.tied))
+    stands_read c.self.inside.chip c.self.inside.chronicle.journal c.args.step.0.number c.args.step.1 c.steps_of.result c.if-step-ge1.true
+    (c.steps_of.ensures.steps (whole_of c.self.inside.chip c.self.inside.chronicle.journal c.self.invariant.tied))
     ∙ ap (λ (s : State). stands s c.args.step.0.number c.args.step.1) c.self.view_is
 
 pub returns-then-step-ge1-clause-caused : goal.returns-then-step-ge1-clause-caused
 returns-then-step-ge1-clause-caused c =
-    subst IsReplayed c.self.view_is (replayed_tied c.self.inside.chip c.self.inside.journal c.self.invariant.tied)
+    subst IsReplayed c.self.view_is (replayed_tied c.self.inside.chip c.self.inside.chronicle.journal c.self.invariant.tied)
 
 pub returns-else-step-ge1-clause-caused : goal.returns-else-step-ge1-clause-caused
 returns-else-step-ge1-clause-caused c =
-    subst IsReplayed c.self.view_is (replayed_tied c.self.inside.chip c.self.inside.journal c.self.invariant.tied)
+    subst IsReplayed c.self.view_is (replayed_tied c.self.inside.chip c.self.inside.chronicle.journal c.self.invariant.tied)

@@ -1,0 +1,206 @@
+-- The account of a node after a rollback.
+use Rattle.std.proofs.Common.{◌≡◌, ℕ, zero, suc, ◌+◌, ◌==◌, Bool, true, false, ◌||◌, cond, List, [], ◌∷◌, ◌++◌, map, take, Option, Some, None, refl, sym, ◌∙◌, ap, subst, ⊎_elim, arith, eqb-true, append-nil}
+use Rattle.std.specs.Prelude.{IsSome, is_some}
+use Rattle.std.specs.List.{filter, zip}
+use Rattle.std.proofs.lemmas.Bool.{cases_Bool, or_left, or_right, both_ways, cond-true, cond-false, false_from_ne_true}
+use Rattle.ga_event.specs.declared.event.Event.{Event}
+use Rattle.ga_event.specs.declared.event.Cause.{Cause}
+use Rattle.ga_event.specs.Touches.{meets}
+use Rattle.ga_event.specs.Apply.{Told, run}
+use Rattle.ga_node.specs.Record.{NodeRecord}
+use Rattle.ga_event.proofs.Locality.{meets-touched}
+use Rattle.ga_causal.specs.Causes.{nodes_of, events_in, touches}
+use Rattle.ga_causal.specs.Dependence.{marked, dependents_after, dependents, without, rest}
+use Rattle.ga_causal.specs.Equivalence.{recorded, account, account_told}
+use Rattle.ga_causal.specs.Steps.{counted, numbered_seen, place_of, rest_from, rewound}
+use Rattle.ga_causal.proofs.Exact.{any-mono}
+use Rattle.ga_causal.proofs.Runs.{causes, kept, run_rest}
+use Rattle.ga_causal.proofs.Counts.{seen_rest}
+use Rattle.ga_causal.proofs.Refusals.{place-touched, place-other, some-shift}
+use Rattle.ga_causal.proofs.Rollbacks.{kept-dropped, kept-kept, rewound-first, rewound-touched, rewound-other}
+use Rattle.ga_causal.proofs.Shuffles.{numbers, entries}
+use Rattle.ga_causal.proofs.Consistent.{causes_without, made_of}
+
+-- what touches a node, of things that are of causes
+abbrev at_node : {X : Type 0} → (X → Cause) → ℕ → List X → List X
+at_node f m xs = filter (λ x. touches (f x) m) xs
+
+pub marked-stays : (marks : ℕ → Bool) (e : Cause) (m : ℕ) → marks m ≡ true → marked marks e m ≡ true
+marked-stays marks e m h = go (meets marks e)
+  where
+    go : (b : Bool) → cond b (λ n. marks n || touches e n) marks m ≡ true
+    go true = or_left (marks m) (touches e m) h
+    go false = h
+
+pub marked-touched : (marks : ℕ → Bool) (e : Cause) (m : ℕ) → meets marks e ≡ true → touches e m ≡ true → marked marks e m ≡ true
+marked-touched marks e m t h = subst (λ b. cond b (λ n. marks n || touches e n) marks m ≡ true) (sym t) (or_right (marks m) (touches e m) h)
+
+touched-marked : (marks : ℕ → Bool) (e : Cause) (m : ℕ) → marks m ≡ true → touches e m ≡ true → meets marks e ≡ true
+touched-marked marks e m h t = meets-touched marks e (any-mono (λ k. k == m) marks (λ k q. subst (λ z. marks z ≡ true) (sym (eqb-true k m q)) h) (nodes_of e) t)
+
+-- the things that are left of one and more, by whether it is dropped
+abbrev pick : {X : Type 0} → (X → Cause) → ℕ → X → List X → Bool → List X
+pick f m x left b = at_node f m (cond b left (x ∷ left))
+
+none_step : {X : Type 0} (f : X → Cause) (m : ℕ) (marks : ℕ → Bool) (x : X) (left : List X) → marks m ≡ true → at_node f m left ≡ [] → pick f m x left (meets marks (f x)) ≡ []
+none_step f m marks x left h later = ⊎_elim
+    (λ t. ap (pick f m x left) t ∙ later)
+    (λ g. ap (pick f m x left) g
+    ∙ cond-false (touches (f x) m) (x ∷ at_node f m left) (at_node f m left) (false_from_ne_true (touches (f x) m) (λ t. both_ways (meets marks (f x)) g (touched-marked marks (f x) m h t))) ∙ later)
+    (cases_Bool (meets marks (f x)))
+
+-- of a marked node nothing is left
+none_left : {X : Type 0} (f : X → Cause) (m : ℕ) (marks : ℕ → Bool) (xs : List X) → marks m ≡ true → at_node f m (without (dependents_after marks (map f xs)) xs) ≡ []
+none_left f m marks [] h = refl
+none_left f m marks (x ∷ xs) h =
+    none_step f m marks x (without (dependents_after (marked marks (f x)) (map f xs)) xs) h (none_left f m (marked marks (f x)) xs (marked-stays marks (f x) m h))
+
+-- a list begins with another
+abbrev Begins : {X : Type 0} → List X → List X → Type 0
+Begins {X} xs ys = (more : List X) × (xs ≡ ys ++ more)
+
+Begins-both : {X : Type 0} (b : Bool) (x : X) (xs ys : List X) → Begins xs ys → Begins (cond b (x ∷ xs) xs) (cond b (x ∷ ys) ys)
+Begins-both true x xs ys (more, q) = (more, ap (λ z. x ∷ z) q)
+Begins-both false x xs ys (more, q) = (more, q)
+
+Begins-none : {X : Type 0} (xs ys : List X) → ys ≡ [] → Begins xs ys
+Begins-none xs ys q = (xs, ap (λ z. z ++ xs) (sym q))
+
+begins_skip : {X : Type 0} (f : X → Cause) (m : ℕ) (x : X) (xs ys : List X) → touches (f x) m ≡ false → Begins (at_node f m xs) ys → Begins (at_node f m (x ∷ xs)) ys
+begins_skip f m x xs ys g h = subst (λ z. Begins z ys) (sym (cond-false (touches (f x) m) (x ∷ at_node f m xs) (at_node f m xs) g)) h
+
+begins_step : {X : Type 0} (f : X → Cause) (m : ℕ) (marks : ℕ → Bool) (x : X) (xs left : List X) → (touches (f x) m ≡ true → meets marks (f x) ≡ true → at_node f m left ≡ []) → Begins (at_node f m xs) (at_node f m left)
+    → Begins (at_node f m (x ∷ xs)) (pick f m x left (meets marks (f x)))
+begins_step f m marks x xs left none ih = ⊎_elim
+    (λ t. subst (Begins (at_node f m (x ∷ xs))) (sym (ap (pick f m x left) t))
+    (⊎_elim
+    (λ u. Begins-none (at_node f m (x ∷ xs)) (at_node f m left) (none u t))
+    (λ g. begins_skip f m x xs (at_node f m left) g ih)
+    (cases_Bool (touches (f x) m))))
+    (λ t. subst (Begins (at_node f m (x ∷ xs))) (sym (ap (pick f m x left) t)) (Begins-both (touches (f x) m) x (at_node f m xs) (at_node f m left) ih))
+    (cases_Bool (meets marks (f x)))
+
+begins_kept : {X : Type 0} (f : X → Cause) (m : ℕ) (marks : ℕ → Bool) (xs : List X) → Begins (at_node f m xs) (at_node f m (without (dependents_after marks (map f xs)) xs))
+begins_kept f m marks [] = ([], refl)
+begins_kept f m marks (x ∷ xs) =
+    begins_step f m marks x xs (without (dependents_after (marked marks (f x)) (map f xs)) xs)
+    (λ u t. none_left f m (marked marks (f x)) xs (marked-touched marks (f x) m t u))
+    (begins_kept f m (marked marks (f x)) xs)
+
+begins_rest : {X : Type 0} (f : X → Cause) (m i : ℕ) (xs : List X) → Begins (at_node f m xs) (at_node f m (without (dependents (map f xs) i) xs))
+begins_rest f m i [] = ([], refl)
+begins_rest f m zero (x ∷ xs) = ⊎_elim
+    (λ u. Begins-none (at_node f m (x ∷ xs)) _ (none_left f m (touches (f x)) xs u))
+    (λ g. begins_skip f m x xs _ g (begins_kept f m (touches (f x)) xs))
+    (cases_Bool (touches (f x) m))
+begins_rest f m (suc i) (x ∷ xs) = Begins-both (touches (f x) m) x (at_node f m xs) _ (begins_rest f m i xs)
+
+causes_entries : (s : ℕ → ℕ) (es : List Cause) → map (λ x. x.0) (entries s es) ≡ es
+causes_entries s [] = refl
+causes_entries s (e ∷ es) = ap (λ z. e ∷ z) (causes_entries (counted s e) es)
+
+causes_zipped : (s : ℕ → ℕ) (ts : List (Cause × Told)) → map (λ x. x.0.0) (zip (entries s (causes ts)) (map (λ x. x.1) ts)) ≡ causes ts
+causes_zipped s [] = refl
+causes_zipped s (t ∷ ts) = ap (λ z. t.0 ∷ z) (causes_zipped (counted s t.0) ts)
+
+account_from : (es : List Cause) (o : Option ℕ) (m : ℕ) → Begins (account m es) (account m (rest_from es o))
+account_from es None m = ([], sym (append-nil (account m es)))
+account_from es (Some i) m =
+    subst (λ z. Begins (account m es) (at_node (λ (x : Cause × List ℕ). x.0) m z))
+    (ap (λ z. without (dependents z i) (numbered_seen es)) (causes_entries (λ n. 0) es) ∙ sym (seen_rest es i))
+    (begins_rest (λ (x : Cause × List ℕ). x.0) m i (numbered_seen es))
+
+-- the account of a node after a rollback is the first part of what it was
+pub first_part : (events : List Cause) (n k m : ℕ) → (later : List (Cause × List ℕ)) × (account m events ≡ account m (rewound events n k) ++ later)
+first_part events n k m = account_from events (place_of events n k) m
+
+zip_nil : {X Y : Type 0} (xs : List X) → zip xs (let ys : List Y = [] in ys) ≡ []
+zip_nil [] = refl
+zip_nil (x ∷ xs) = refl
+
+without_nil : {X : Type 0} (flags : List Bool) → without flags (let xs : List X = [] in xs) ≡ []
+without_nil [] = refl
+without_nil (b ∷ flags) = refl
+
+zip_without : {X Y : Type 0} (flags : List Bool) (xs : List X) (ys : List Y) → zip (without flags xs) (without flags ys) ≡ without flags (zip xs ys)
+zip_without [] xs ys = refl
+zip_without (b ∷ flags) [] ys = refl
+zip_without (b ∷ flags) (x ∷ xs) [] = zip_nil (without (b ∷ flags) (x ∷ xs))
+zip_without (true ∷ flags) (x ∷ xs) (y ∷ ys) = zip_without flags xs ys
+zip_without (false ∷ flags) (x ∷ xs) (y ∷ ys) = ap (λ z. (x, y) ∷ z) (zip_without flags xs ys)
+
+tolds_without : (flags : List Bool) (ts : List (Cause × Told)) → map (λ x. x.1) (without flags ts) ≡ without flags (map (λ x. x.1) ts)
+tolds_without [] ts = refl
+tolds_without (true ∷ flags) [] = refl
+tolds_without (false ∷ flags) [] = refl
+tolds_without (true ∷ flags) (x ∷ ts) = tolds_without flags ts
+tolds_without (false ∷ flags) (x ∷ ts) = ap (λ z. x.1 ∷ z) (tolds_without flags ts)
+
+recorded_rest : (ts : List (Cause × Told)) (i : ℕ) → recorded (without (dependents (causes ts) i) ts) ≡ without (dependents (causes ts) i) (recorded ts)
+recorded_rest ts i =
+    ap (λ z. zip (numbered_seen z) (map (λ x. x.1) (without (dependents (causes ts) i) ts))) (causes_without (dependents (causes ts) i) ts)
+    ∙ ap (λ z. zip (numbered_seen (rest (causes ts) i)) z) (tolds_without (dependents (causes ts) i) ts)
+    ∙ ap (λ z. zip z (without (dependents (causes ts) i) (map (λ x. x.1) ts))) (seen_rest (causes ts) i)
+    ∙ zip_without (dependents (causes ts) i) (numbered_seen (causes ts)) (map (λ x. x.1) ts)
+
+told_rest : (ts : List (Cause × Told)) (i m : ℕ) → Begins (account_told m ts) (account_told m (without (dependents (causes ts) i) ts))
+told_rest ts i m =
+    subst (λ z. Begins (account_told m ts) (at_node (λ (x : (Cause × List ℕ) × Told). x.0.0) m z))
+    (ap (λ z. without (dependents z i) (recorded ts)) (causes_zipped (λ n. 0) ts) ∙ sym (recorded_rest ts i))
+    (begins_rest (λ (x : (Cause × List ℕ) × Told). x.0.0) m i (recorded ts))
+
+-- what is left runs, and of each node the first part of what was told is told
+abbrev Leaves : List NodeRecord → List (Cause × Told) → List Event → Type 0
+Leaves chip ts es = (now : List NodeRecord) × (left : List (Cause × Told)) × (run chip es ≡ Some (now, left)) × ((m : ℕ) → Begins (account_told m ts) (account_told m left))
+
+leaves_from : (chip last : List NodeRecord) (es : List Event) (ts : List (Cause × Told)) (o : Option ℕ) → run chip es ≡ Some (last, ts) → events_in (causes ts) ≡ es → Leaves chip ts (events_in (rest_from (causes ts) o))
+leaves_from chip last es ts None is same = (last, ts, subst (λ z. run chip z ≡ Some (last, ts)) (sym same) is, λ m. ([], sym (append-nil (account_told m ts))))
+leaves_from chip last es ts (Some i) is same =
+    let r = run_rest chip es i last ts is in
+    (r.0, without (dependents (causes ts) i) ts, r.1, λ m. told_rest ts i m)
+
+pub first_part_told : (chip last : List NodeRecord) (events : List Event) (steps : List (Cause × Told)) (n k : ℕ) → run chip events ≡ Some (last, steps)
+    → (now : List NodeRecord) × (left : List (Cause × Told)) × (run chip (events_in (rewound (causes steps) n k)) ≡ Some (now, left))
+    × ((m : ℕ) → (later : List ((Cause × List ℕ) × Told)) × (account_told m steps ≡ account_told m left ++ later))
+first_part_told chip last events steps n k is =
+    leaves_from chip last events steps (place_of (causes steps) n k) is ((made_of chip last events steps is).1)
+
+-- the account of the node itself ends before the step that is taken back
+abbrev entries_at : ℕ → (ℕ → ℕ) → List Cause → List (Cause × List ℕ)
+entries_at n s es = filter (λ x. touches x.0 n) (entries s es)
+
+none_kept : (s : ℕ → ℕ) (marks : ℕ → Bool) (n : ℕ) (es : List Cause) → marks n ≡ true → entries_at n s (kept marks es) ≡ []
+none_kept s marks n [] h = refl
+none_kept s marks n (e ∷ es) h = ⊎_elim
+    (λ t. ap (entries_at n s) (kept-dropped marks e es t) ∙ none_kept s (λ m. marks m || touches e m) n es (or_left (marks n) (touches e n) h))
+    (λ g. ap (entries_at n s) (kept-kept marks e es g)
+    ∙ cond-false (touches e n) ((e, numbers s e) ∷ entries_at n (counted s e) (kept marks es)) (entries_at n (counted s e) (kept marks es)) (false_from_ne_true (touches e n) (λ t. both_ways (meets marks e) g (touched-marked marks e n h t)))
+    ∙ none_kept (counted s e) marks n es h)
+    (cases_Bool (meets marks e))
+
+entries-skipped : (s : ℕ → ℕ) (n : ℕ) (e : Cause) (es : List Cause) → touches e n ≡ false → entries_at n s (e ∷ es) ≡ entries_at n (counted s e) es
+entries-skipped s n e es f = cond-false (touches e n) ((e, numbers s e) ∷ entries_at n (counted s e) es) (entries_at n (counted s e) es) f
+
+entries-more : (s : ℕ → ℕ) (n : ℕ) (e : Cause) (es : List Cause) → touches e n ≡ true → entries_at n s (e ∷ es) ≡ (e, numbers s e) ∷ entries_at n (counted s e) es
+entries-more s n e es t = cond-true (touches e n) ((e, numbers s e) ∷ entries_at n (counted s e) es) (entries_at n (counted s e) es) t
+
+own_part : (s : ℕ → ℕ) (es : List Cause) (n k : ℕ) → is_some (place_of es n (suc k)) ≡ true → entries_at n s (rewound es n (suc k)) ≡ take k (entries_at n s es)
+own_part s [] n k h = absurd (cc)
+own_part s (e ∷ es) n zero h = ⊎_elim
+    (λ t. ap (entries_at n s) (rewound-first e es n t) ∙ none_kept s (touches e) n es t)
+    (λ f. ap (entries_at n s) (rewound-other e es n zero f) ∙ entries-skipped s n e (rewound es n 1) f
+    ∙ own_part (counted s e) es n zero (sym (some-shift (place_of es n 1)) ∙ sym (ap is_some (place-other e es n zero f)) ∙ h))
+    (cases_Bool (touches e n))
+own_part s (e ∷ es) n (suc k) h = ⊎_elim
+    (λ t. ap (entries_at n s) (rewound-touched e es n k t) ∙ entries-more s n e (rewound es n (suc k)) t
+    ∙ ap (λ z. (e, numbers s e) ∷ z) (own_part (counted s e) es n k (sym (some-shift (place_of es n (suc k))) ∙ sym (ap is_some (place-touched e es n k t)) ∙ h))
+    ∙ sym (ap (take (suc k)) (entries-more s n e es t)))
+    (λ f. ap (entries_at n s) (rewound-other e es n (suc k) f) ∙ entries-skipped s n e (rewound es n (suc (suc k))) f
+    ∙ own_part (counted s e) es n (suc k) (sym (some-shift (place_of es n (suc (suc k)))) ∙ sym (ap is_some (place-other e es n (suc k) f)) ∙ h)
+    ∙ sym (ap (take (suc k)) (entries-skipped s n e es f)))
+    (cases_Bool (touches e n))
+
+pub own_part_of : (events : List Cause) (n k : ℕ) → IsSome (place_of events n (k + 1)) → account n (rewound events n (k + 1)) ≡ take k (account n events)
+own_part_of events n k h =
+    let q : k + 1 ≡ suc k = omega arith in
+    ap (λ (z : ℕ). account n (rewound events n z)) q ∙ own_part (λ i. 0) events n k (sym (ap (λ (z : ℕ). is_some (place_of events n z)) q) ∙ h)

@@ -1,0 +1,83 @@
+-- A command in front of a text.
+use Rattle.std.proofs.Common.{◌≡◌, ◌≢◌, ◌<◌, ℕ, ◌+◌, ◌≤◌, false, List, [], ◌∷◌, ◌++◌, length, take, drop, suc, drop-cons, length-take, take-append-drop, get_or, Some, refl, sym, ap, ◌∙◌, arith, append_assoc}
+use Rattle.std.proofs.lemmas.List.Elements.{All-from_recursion}
+use Rattle.ga_grid.specs.declared.node_id.NodeId.{NodeId}
+use Rattle.ga_console.specs.Texts.{name_of}
+use Rattle.ga_console.specs.Lines.{HasNoFeed, is_feed}
+use Rattle.ga_console.specs.Commands.{Spells}
+use Rattle.ga_console.specs.Parsing.{node_in}
+use Rattle.ga_console.specs.Ahead.{IsAhead}
+use Rattle.ga_console.specs.declared.command.Command.{Command}
+use Rattle.ga_console.specs.declared.command.Command.TheVariants.{Step, Quit}
+use Rattle.std.proofs.Math.Seq.{drop-append-add}
+use Rattle.ga_console.proofs.PartLemmas.{not_feed}
+use Rattle.ga_console.proofs.Taking.{node_name}
+
+-- the first nine of some bytes
+nine : (text : List ℕ) → 9 ≤ length text
+    → text ≡ get_or text 0 0 ∷ get_or text 1 0 ∷ get_or text 2 0 ∷ get_or text 3 0 ∷ get_or text 4 0 ∷ get_or text 5 0 ∷ get_or text 6 0 ∷ get_or text 7 0 ∷ get_or text 8 0 ∷ drop 9 text
+nine [] h = absurd (omega arith)
+nine (a ∷ []) h = absurd (omega arith)
+nine (a ∷ b ∷ []) h = absurd (omega arith)
+nine (a ∷ b ∷ c ∷ []) h = absurd (omega arith)
+nine (a ∷ b ∷ c ∷ d ∷ []) h = absurd (omega arith)
+nine (a ∷ b ∷ c ∷ d ∷ e ∷ []) h = absurd (omega arith)
+nine (a ∷ b ∷ c ∷ d ∷ e ∷ f ∷ []) h = absurd (omega arith)
+nine (a ∷ b ∷ c ∷ d ∷ e ∷ f ∷ g ∷ []) h = absurd (omega arith)
+nine (a ∷ b ∷ c ∷ d ∷ e ∷ f ∷ g ∷ i ∷ []) h = absurd (omega arith)
+nine (a ∷ b ∷ c ∷ d ∷ e ∷ f ∷ g ∷ i ∷ j ∷ text) h = refl
+
+step_line : NodeId → List ℕ
+step_line node = 115 ∷ 116 ∷ 101 ∷ 112 ∷ 32 ∷ name_of node
+
+-- no byte of it is a line feed
+step_feeds : (node : NodeId) → HasNoFeed (step_line node)
+unfolding step_line
+step_feeds node = All-from_recursion (λ b. is_feed b ≡ false) (step_line node)
+    (refl, (refl, (refl, (refl, (refl, (not_feed _ (omega arith), (not_feed _ (omega arith), (not_feed _ (omega arith), tt))))))))
+
+pub step_front : (text : List ℕ) (node : NodeId) → 9 ≤ length text
+    → (get_or text 0 0 ≡ 115) → (get_or text 1 0 ≡ 116) → (get_or text 2 0 ≡ 101) → (get_or text 3 0 ≡ 112) → (get_or text 4 0 ≡ 32) → (get_or text 8 0 ≡ 10)
+    → Some node ≡ node_in (get_or text 5 0 ∷ get_or text 6 0 ∷ get_or text 7 0 ∷ []) → IsAhead text (Step node) 8
+unfolding step_line
+step_front text node long b0 b1 b2 b3 b4 b8 found =
+    let name = node_name (get_or text 5 0 ∷ get_or text 6 0 ∷ get_or text 7 0 ∷ []) node (sym found) in
+    record {
+      line = step_line node;
+      more = drop 9 text;
+      splits = nine text long ∙ rw (b0, b1, b2, b3, b4, b8) (ap (λ (t : List ℕ). 115 ∷ 116 ∷ 101 ∷ 112 ∷ 32 ∷ (t ++ 10 ∷ drop 9 text)) name);
+      no_feed = step_feeds node;
+      counts = refl;
+      short = omega arith;
+      spelled = refl;
+      not_quit = λ q. absurd (let bad = q in cc);
+    }
+
+-- a whole line in front of a text, with the line feed behind it
+pub line_front : (text : List ℕ) (asked : Command) (count : ℕ) → count < length text → HasNoFeed (take count text) → get_or text count 0 ≡ 10 → count ≤ 200
+    → Spells asked (take count text) → ((other : Command) → Spells other (take count text) → other ≡ asked) → asked ≢ Quit → IsAhead text asked count
+line_front text asked count below no_feed feed short spelled only not_quit =
+    let next : suc count ≡ count + 1 = omega arith in
+    record {
+      line = take count text;
+      more = drop (count + 1) text;
+      splits = sym (take-append-drop count text)
+          ∙ ap (λ (t : List ℕ). take count text ++ t)
+          (drop-cons text count 0 below ∙ ap (λ (b : ℕ). b ∷ drop (suc count) text) feed ∙ ap (λ (n : ℕ). 10 ∷ drop n text) next);
+      no_feed = no_feed;
+      counts = omega (arith, length-take count text);
+      short = short;
+      spelled = spelled;
+      not_quit = λ q. not_quit (sym (only Quit q));
+    }
+
+behind : (bytes line more now : List ℕ) (count : ℕ) → bytes ≡ line ++ 10 ∷ more → length line ≡ count → now ≡ drop (count + 1) bytes → now ≡ more
+behind bytes line more now count splits counts e =
+    e ∙ ap (drop (count + 1)) splits ∙ ap (λ (n : ℕ). drop (n + 1) (line ++ 10 ∷ more)) (sym counts) ∙ drop-append-add line (10 ∷ more) 1
+
+-- what is there and what may still come, where the line ahead is taken
+pub ahead_whole : (bytes now rest : List ℕ) (asked : Command) (count : ℕ) (h : IsAhead bytes asked count) → now ≡ drop (count + 1) bytes
+    → bytes ++ rest ≡ h.line ++ 10 ∷ (now ++ rest)
+ahead_whole bytes now rest asked count h e =
+    ap (λ (t : List ℕ). t ++ rest) h.splits ∙ append_assoc h.line (10 ∷ h.more) rest
+    ∙ ap (λ (t : List ℕ). h.line ++ 10 ∷ (t ++ rest)) (sym (behind bytes h.line h.more now count h.splits h.counts e))

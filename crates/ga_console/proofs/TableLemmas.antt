@@ -1,0 +1,58 @@
+-- What stands in the tables of digits.
+use Rattle.std.specs.Prelude.{◌==◌, ◌&&◌}
+use Rattle.std.proofs.Common.{◌≡◌, ℕ, zero, suc, ◌+◌, ◌*◌, ◌/◌, ◌%◌, ◌^◌, ◌<◌, Bool, true, false, List, ◌++◌, get_or, refl, arith, inl, inr, eq-zero-or-pos, ◌-◌}
+use Rattle.std.proofs.lemmas.Bool.Decides.{nat_tests}
+use Rattle.ga_word.specs.Word.{hex_digit, hex6_of}
+use Rattle.ga_image.specs.Spelling.{hex2_of}
+use Rattle.ga_console.specs.Texts.{two_digits, four_digits}
+use Rattle.ga_console.specs.declared.text.TheConstants.{DECIMAL, HEXADECIMAL}
+
+-- so many pairs of a table are these
+abbrev pairs : List ℕ → (ℕ → ℕ) → (ℕ → ℕ) → ℕ → Bool
+pairs table first second zero = true
+pairs table first second (suc n) = (get_or table (2 * n) 0 == first n && get_or table (2 * n + 1) 0 == second n) && pairs table first second n
+
+both : (a b : Bool) → (a && b) ≡ true → (a ≡ true) × (b ≡ true)
+both true b e = (refl, e)
+both false b e = cc
+
+same : (m n : ℕ) → (m == n) ≡ true → m ≡ n
+same m n e = grind (arith, nat_tests)
+
+pair_at : (table : List ℕ) (first second : ℕ → ℕ) (count n : ℕ) → pairs table first second count ≡ true → n < count
+    → (get_or table (2 * n) 0 ≡ first n) × (get_or table (2 * n + 1) 0 ≡ second n)
+pair_at table first second zero n all below = absurd (omega arith)
+pair_at table first second (suc count) n all below =
+    let (here, rest) = both (get_or table (2 * count) 0 == first count && get_or table (2 * count + 1) 0 == second count) (pairs table first second count) all in
+    elim (eq-zero-or-pos (count - n)) [
+      | inl z ↦ let e : n ≡ count = omega arith in
+          let (one, two) = both (get_or table (2 * count) 0 == first count) (get_or table (2 * count + 1) 0 == second count) here in
+          rw e (same _ _ one, same _ _ two)
+      | inr g ↦ pair_at table first second count n rest (omega arith)
+    ]
+
+pub decimal_pair : (n : ℕ) → n < 100 → (get_or DECIMAL (2 * n) 0 ≡ 48 + n / 10) × (get_or DECIMAL (2 * n + 1) 0 ≡ 48 + n % 10)
+decimal_pair n below = pair_at DECIMAL (λ m. 48 + m / 10) (λ m. 48 + m % 10) 100 n refl below
+
+pub hexadecimal_pair : (n : ℕ) → n < 256 → (get_or HEXADECIMAL (2 * n) 0 ≡ hex_digit n 1) × (get_or HEXADECIMAL (2 * n + 1) 0 ≡ hex_digit n 0)
+hexadecimal_pair n below = pair_at HEXADECIMAL (λ m. hex_digit m 1) (λ m. hex_digit m 0) 256 n refl below
+
+-- four digits are two and two
+pub two_and_two : (n : ℕ) → n < 10000 → two_digits (n / 100) ++ two_digits (n % 100) ≡ four_digits n
+two_and_two n below =
+    let a : n / 100 / 10 ≡ n / 1000 % 10 = omega arith in
+    let b : n / 100 % 10 ≡ n / 100 % 10 = refl in
+    let c : n % 100 / 10 ≡ n / 10 % 10 = omega arith in
+    let d : n % 100 % 10 ≡ n % 10 = omega arith in
+    rw (a, c, d) refl
+
+-- six digits of a word are those of its three bytes
+pub three_bytes : (n : ℕ) → n < 2 ^ 18 → hex2_of (n / 65536) ++ hex2_of (n / 256 % 256) ++ hex2_of (n % 256) ≡ hex6_of n
+three_bytes n below =
+    let a : n / 65536 / 16 ^ 1 % 16 ≡ n / 16 ^ 5 % 16 = omega arith in
+    let b : n / 65536 / 16 ^ 0 % 16 ≡ n / 16 ^ 4 % 16 = omega arith in
+    let c : n / 256 % 256 / 16 ^ 1 % 16 ≡ n / 16 ^ 3 % 16 = omega arith in
+    let d : n / 256 % 256 / 16 ^ 0 % 16 ≡ n / 16 ^ 2 % 16 = omega arith in
+    let e : n % 256 / 16 ^ 1 % 16 ≡ n / 16 ^ 1 % 16 = omega arith in
+    let f : n % 256 / 16 ^ 0 % 16 ≡ n / 16 ^ 0 % 16 = omega arith in
+    rw (a, b, c, d, e, f) refl

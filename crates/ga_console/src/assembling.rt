@@ -1,0 +1,112 @@
+//! Source in, the image of its chip out.
+ghost use Rattle.std.specs.Prelude.{◌≡◌, ◌++◌, ℕ, List, Some, IfSome};
+ghost use Rattle.ga_console.specs.Race.{Writes};
+ghost use Rattle.ga_console.specs.Source.{IsAssembly, Assembly, Assembles};
+
+use super::faults::{tell_fault, tell_long, tell_memory, tell_store};
+use super::image::{ImageEnd, read_image};
+use super::input::Input;
+use super::output::{WriteFailed, write_all};
+use super::run::Status;
+use ga_image::print;
+use ga_source::{Assembled, assemble, stores_over_code};
+use std::alloc::Global;
+use std::io::{Read, Write};
+
+/// Reads source up to its end or to its first line `end`, and writes the image of its chip, in format 2. Source that has a fault
+/// gets a line on `errors` and no image; so does source of more than 16777216 bytes, and want of memory. Stores over code get a
+/// line there too, and come with the image.
+pub fn assemble_source<R: Read, W: Write, E: Write>(
+    alloc: Global,
+    reader: &mut R,
+    writer: &mut W,
+    errors: &mut E,
+) -> Status
+    // Where the streams tell their bytes: what was read, and what was written for it by the status.
+    ensures { (left before : List ℕ) →
+        R.remaining reader.old ≡ Some left → W.contents writer.old ≡ Some before →
+        (read rest text : List ℕ) × (left ≡ read ++ rest) × (R.remaining reader.new ≡ Some rest)
+        × (W.contents writer.new ≡ Some (before ++ text)) × Assembles read rest text result }
+{
+    let mut input = Input::new();
+    let mut source = Vec::new(alloc);
+    match read_image(&mut input, reader, &mut source) {
+        Err(_) => {
+            tell_memory(errors);
+            Status::ImageRefused
+        }
+        Ok(ImageEnd::Failed) => Status::StreamFault,
+        Ok(ImageEnd::Past) => {
+            tell_long(errors);
+            Status::ImageRefused
+        }
+        Ok(ImageEnd::Ended) => assemble_text(alloc, writer, errors, source),
+        Ok(ImageEnd::EndLine) => assemble_text(alloc, writer, errors, source),
+    }
+}
+
+/// Writes the image of a source, or tells the source's fault.
+fn assemble_text<W: Write, E: Write>(
+    alloc: Global,
+    writer: &mut W,
+    errors: &mut E,
+    source: Vec<u8>,
+) -> Status
+    ensures { (before : List ℕ) → W.contents writer.old ≡ Some before →
+        (text : List ℕ) × (W.contents writer.new ≡ Some (before ++ text)) × Assembly text result }
+{
+    match image_of(alloc, errors, source) {
+        Some(image) => write_text(writer, image),
+        None => Status::ImageRefused,
+    }
+}
+
+/// Writes a text.
+pub fn write_text<W: Write>(writer: &mut W, text: Vec<u8>) -> Status
+    ensures { (before : List ℕ) → W.contents writer.old ≡ Some before →
+        (sent : List ℕ) × (W.contents writer.new ≡ Some (before ++ sent)) × Writes text.items sent result }
+{
+    match write_all(writer, text.as_slice()) {
+        Ok(()) => Status::Done,
+        Err(WriteFailed) => Status::StreamFault,
+    }
+}
+
+/// The image of a source, and on `errors` its stores over code; or none, where a fault is told there.
+fn image_of<E: Write>(alloc: Global, errors: &mut E, source: Vec<u8>) -> Option<Vec<u8>>
+    ensures { IfSome result (λ image. IsAssembly image.items) }
+{
+    match assemble(alloc, source.as_slice()) {
+        Ok(assembled) => match print(alloc, &assembled.chip) {
+            Ok(image) => {
+                if tell_stores(alloc, errors, &assembled) {
+                    Some(image)
+                } else {
+                    None
+                }
+            }
+            Err(_) => {
+                tell_memory(errors);
+                None
+            }
+        },
+        Err(fault) => {
+            tell_fault(errors, fault);
+            None
+        }
+    }
+}
+
+/// Tells the stores over code of all programs, or that memory was refused, and then it is false.
+fn tell_stores<E: Write>(alloc: Global, errors: &mut E, assembled: &Assembled<'_>) -> bool {
+    for program in &assembled.programs {
+        let Ok(stores) = stores_over_code(alloc, program) else {
+            tell_memory(errors);
+            return false;
+        };
+        for store in &stores {
+            tell_store(errors, *store);
+        }
+    }
+    true
+}

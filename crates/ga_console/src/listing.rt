@@ -1,0 +1,253 @@
+//! Source in, a listing of its cells out.
+
+use super::assembling::write_text;
+use super::faults::{tell_fault, tell_long, tell_memory};
+use super::image::{ImageEnd, read_image};
+use super::input::Input;
+use super::run::Status;
+use ga_grid::{Chip, NodeId};
+use ga_node::Place;
+use ga_ports::{Target, advance_p, classify};
+use ga_source::{Assembled, Group, Item, Program, Request, Value, assemble};
+use std::alloc::{AllocError, Global};
+use std::io::{Read, Write};
+
+/// Reads source up to its end or to its first line `end`, and writes for each cell its address, its word, what it holds, and
+/// the line that asks for it. Source that has a fault gets a line on `errors` and no listing.
+pub fn list_source<R: Read, W: Write, E: Write>(
+    alloc: Global,
+    reader: &mut R,
+    writer: &mut W,
+    errors: &mut E,
+) -> Status {
+    let mut input = Input::new();
+    let mut source = Vec::new(alloc);
+    match read_image(&mut input, reader, &mut source) {
+        Err(_) => {
+            tell_memory(errors);
+            Status::ImageRefused
+        }
+        Ok(ImageEnd::Failed) => Status::StreamFault,
+        Ok(ImageEnd::Past) => {
+            tell_long(errors);
+            Status::ImageRefused
+        }
+        Ok(ImageEnd::Ended) => list_text(alloc, writer, errors, source),
+        Ok(ImageEnd::EndLine) => list_text(alloc, writer, errors, source),
+    }
+}
+
+/// Writes the listing of a source, or tells the source's fault.
+fn list_text<W: Write, E: Write>(
+    alloc: Global,
+    writer: &mut W,
+    errors: &mut E,
+    source: Vec<u8>,
+) -> Status {
+    match assemble(alloc, source.as_slice()) {
+        Ok(assembled) => match listing(alloc, &assembled, source.as_slice()) {
+            Ok(text) => write_text(writer, text),
+            Err(_) => {
+                tell_memory(errors);
+                Status::ImageRefused
+            }
+        },
+        Err(fault) => {
+            tell_fault(errors, fault);
+            Status::ImageRefused
+        }
+    }
+}
+
+/// The lines of a source, from the line that was asked for last.
+#[derive(Drop)]
+struct Lines<'s> {
+    number: u32,
+    rest: &'s [u8],
+}
+
+impl<'s> Lines<'s> {
+    /// A line that isn't before the one that was asked for last, without blanks around it.
+    fn line(&mut self, number: u32) -> &'s [u8] {
+        while self.number < number {
+            let Some(end) = self.rest.iter().position(|byte| *byte == b'\n') else {
+                return &[];
+            };
+            self.rest = &self.rest[end + 1..];
+            self.number += 1;
+        }
+        let end = self
+            .rest
+            .iter()
+            .position(|byte| *byte == b'\n')
+            .unwrap_or(self.rest.len());
+        self.rest[..end].trim_ascii()
+    }
+}
+
+/// The listing of a source's chip.
+fn listing(alloc: Global, assembled: &Assembled<'_>, source: &[u8]) -> Result<Vec<u8>, AllocError> {
+    let mut text = Vec::new(alloc);
+    let mut lines = Lines {
+        number: 1,
+        rest: source,
+    };
+    for program in &assembled.programs {
+        push_node(&mut text, program.node)?;
+        push_program(&mut text, &assembled.chip, program, &mut lines)?;
+    }
+    Ok(text)
+}
+
+/// Adds `node` and the node's name.
+pub fn push_node(text: &mut Vec<u8>, node: NodeId) -> Result<(), AllocError> {
+    let name = node.yxx();
+    text.extend_from_slice(b"node ")?;
+    text.extend_from_slice(&[
+        b'0' + (name / 100 % 10) as u8,
+        b'0' + (name / 10 % 10) as u8,
+        b'0' + (name % 10) as u8,
+        b'\n',
+    ])
+}
+
+/// Adds a number in so many hexadecimal digits.
+pub fn push_hex(text: &mut Vec<u8>, number: u32, digits: u32) -> Result<(), AllocError> {
+    let mut left = digits.min(8);
+    while left > 0 {
+        left -= 1;
+        let digit = (number >> (4 * left) & 15) as u8;
+        text.push(if digit < 10 {
+            b'0' + digit
+        } else {
+            b'a' - 10 + digit
+        })?;
+    }
+    Ok(())
+}
+
+/// Adds the labels and the cells of a program, in the order of the source.
+fn push_program(
+    text: &mut Vec<u8>,
+    chip: &Chip,
+    program: &Program<'_>,
+    lines: &mut Lines<'_>,
+) -> Result<(), AllocError> {
+    let mut groups = program.groups.iter();
+    let mut left = 0usize;
+    for asked in &program.asked {
+        match asked.request {
+            Request::Mark(label) => push_label(text, program, label)?,
+            Request::Put(_) | Request::Unext(_) => {
+                if left == 0 {
+                    let Some(group) = groups.next() else {
+                        return Ok(());
+                    };
+                    push_group(text, chip, program, group, lines)?;
+                    left = group.items.len();
+                }
+                left = left.saturating_sub(1);
+            }
+            _ => {}
+        }
+    }
+    Ok(())
+}
+
+/// Adds the name of a label that has one.
+fn push_label(text: &mut Vec<u8>, program: &Program<'_>, label: usize) -> Result<(), AllocError> {
+    if let Some(found) = program.names.get(label) {
+        if !found.name.is_empty() {
+            text.extend_from_slice(found.name)?;
+            text.extend_from_slice(b":\n")?;
+        }
+    }
+    Ok(())
+}
+
+/// Adds the instruction word and the literals of a group, or its cell of data.
+fn push_group(
+    text: &mut Vec<u8>,
+    chip: &Chip,
+    program: &Program<'_>,
+    group: &Group,
+    lines: &mut Lines<'_>,
+) -> Result<(), AllocError> {
+    push_cell(text, chip, program.node, group.address)?;
+    for item in &group.items {
+        text.push(b' ')?;
+        push_item(text, program, *item)?;
+    }
+    text.extend_from_slice(b" \\ ")?;
+    text.extend_from_slice(lines.line(group.line()))?;
+    text.push(b'\n')?;
+    let mut p = advance_p(group.address);
+    for item in &group.items {
+        if let Item::Literal(value) = item {
+            push_cell(text, chip, program.node, p)?;
+            text.push(b' ')?;
+            push_value(text, program, *value)?;
+            text.push(b'\n')?;
+            p = advance_p(p);
+        }
+    }
+    Ok(())
+}
+
+/// Adds the address and the word of a cell.
+fn push_cell(
+    text: &mut Vec<u8>,
+    chip: &Chip,
+    node: NodeId,
+    address: u32,
+) -> Result<(), AllocError> {
+    let place = match classify(address) {
+        Target::Rom(cell) => Place::Rom(cell),
+        Target::Ram(cell) => Place::Ram(cell),
+        _ => return Ok(()),
+    };
+    push_hex(text, address, 3)?;
+    text.push(b' ')?;
+    push_hex(text, chip.node(node).get(place), 6)
+}
+
+/// Adds an opcode, with the label that it leads to.
+fn push_item(text: &mut Vec<u8>, program: &Program<'_>, item: Item) -> Result<(), AllocError> {
+    match item {
+        Item::Opcode(op) => text.extend_from_slice(op.name().as_bytes()),
+        Item::Literal(_) => text.extend_from_slice(b"@p"),
+        Item::Back(op, label) | Item::Ahead(op, label) => {
+            text.extend_from_slice(op.name().as_bytes())?;
+            text.push(b' ')?;
+            push_target(text, program, label)
+        }
+        Item::Cell(value) => push_value(text, program, value),
+    }
+}
+
+/// Adds a number in decimal and hexadecimal digits, or a label's name behind an apostrophe.
+fn push_value(text: &mut Vec<u8>, program: &Program<'_>, value: Value) -> Result<(), AllocError> {
+    match value {
+        Value::Number(number) => {
+            text.extend_from_slice(b"0x")?;
+            push_hex(text, number, 5)
+        }
+        Value::Label(label) => {
+            text.push(b'\'')?;
+            push_target(text, program, label)
+        }
+    }
+}
+
+/// Adds the name of a label, or its address where it has none.
+fn push_target(text: &mut Vec<u8>, program: &Program<'_>, label: usize) -> Result<(), AllocError> {
+    if let Some(found) = program.names.get(label) {
+        if !found.name.is_empty() {
+            return text.extend_from_slice(found.name);
+        }
+    }
+    match program.labels.get(label) {
+        Some(Some(address)) => push_hex(text, *address, 3),
+        _ => Ok(()),
+    }
+}

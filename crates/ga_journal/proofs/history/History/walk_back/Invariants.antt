@@ -1,0 +1,6 @@
+use Rattle.std.proofs.Common.{◌≡◌, ◌-◌, take, drop}
+use Rattle.ga_journal.specs.Walked.{walked}
+use Rattle.ga_journal.proofs.history.History.walk_back.Given as goal
+
+abbrev pub invariant-loop-k : goal.invariant-loop-k
+invariant-loop-k l = l.node ≡ walked l.fn.node (drop (l.from - l.k) (take l.from l.fn.self.items))

@@ -1,0 +1,86 @@
+//! A journal that is told as a list.
+
+use crate::fault::JournalFault;
+use crate::journal::Journal;
+use crate::made::Made;
+use ga_event::{Cause, Event};
+use ga_grid::NodeId;
+use ga_node::Node;
+
+/// A journal whose events are also told as a list. These calls read entries that no tick counts, so whoever is lent the journal
+/// alone, as a rollback is, can't make them, nor set its count back.
+#[derive(Drop)]
+pub struct Chronicle {
+    pub journal: Journal,
+}
+
+impl Chronicle {
+    ghost use Rattle.std.specs.Prelude.{◌≡◌, ◌≤◌, ◌↔◌, length, take, drop, IfOk, IfErr, IsNone};
+    ghost use Rattle.std.specs.List.{slice_get};
+    ghost use Rattle.ga_journal.specs.Histories.{history};
+    ghost use Rattle.ga_journal.specs.Walked.{walked, CanWalk};
+    ghost use Rattle.ga_journal.specs.Kept.{kept_of, causes_of, events_of};
+    ghost use Rattle.ga_journal.specs.Told.{mades_of, made_in};
+    ghost use Rattle.ga_journal.specs.Logs.{IsWhole};
+
+    /// What is told of the kept events that touch a node, in order.
+    ///
+    /// # Errors
+    /// `Memory` alone.
+    pub fn history(&self, node: NodeId) -> Result<Vec<Made>, JournalFault>
+        requires { IsWhole self.now.journal.histories self.now.journal.made }
+        ensures ok { IfOk result (λ list. list.items ≡ mades_of (kept_of self.now.journal) node.number) }
+        ensures err { IfErr result (λ fault. fault ≡ JournalFault.Memory) }
+    {
+        self.journal.history(node)
+    }
+
+    /// Writes back to a node what its entries from the position `to` on and below `from` overwrote, those of the last entry
+    /// first: to the node as it was after `from` of its steps, so that it is as it was after `to` of them.
+    pub fn walk_back(&self, node: NodeId, now: &mut Node, from: u32, to: u32)
+        requires order { to ≤ from }
+        requires within { from ≤ length (history self.now.journal.histories node.number) }
+        requires can { CanWalk now.old (drop to (take from (history self.now.journal.histories node.number))) }
+        ensures { now.new ≡ walked now.old (drop to (take from (history self.now.journal.histories node.number))) }
+    {
+        self.journal.walk_back(node, now, from, to);
+    }
+
+    /// The kept event at a place of their list, from 0 on; none past its end. It walks back from the newest.
+    pub fn event_at(&self, place: u32) -> Option<Event>
+        requires { IsWhole self.now.journal.histories self.now.journal.made }
+        ensures value { result ≡ slice_get (events_of self.now.journal) place }
+        ensures past { IsNone result ↔ (length (kept_of self.now.journal) ≤ place) }
+    {
+        self.journal.event_at(place)
+    }
+
+    /// What is told of the kept event at a place of their list, from 0 on; none past its end. It walks back from the
+    /// newest.
+    pub fn made_at(&self, place: u32) -> Option<Made>
+        requires { IsWhole self.now.journal.histories self.now.journal.made }
+        ensures value { result ≡ made_in (kept_of self.now.journal) place }
+        ensures past { IsNone result ↔ (length (kept_of self.now.journal) ≤ place) }
+    {
+        self.journal.made_at(place)
+    }
+
+    /// The kept events in order, each with whether it looked.
+    ///
+    /// # Errors
+    /// `Memory` alone.
+    pub fn causes(&self) -> Result<Vec<Cause>, JournalFault>
+        requires { IsWhole self.now.journal.histories self.now.journal.made }
+        ensures ok { IfOk result (λ list. list.items ≡ causes_of self.now.journal) }
+        ensures err { IfErr result (λ fault. fault ≡ JournalFault.Memory) }
+    {
+        self.journal.causes()
+    }
+
+    /// Counts ticks from 0 on again.
+    pub fn count_anew(&mut self)
+        ensures { self.new.journal ≡ record self.old.journal { ticks = 0 } }
+    {
+        self.journal.count_anew();
+    }
+}

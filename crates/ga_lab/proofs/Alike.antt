@@ -1,0 +1,194 @@
+-- Machines that differ in the order of independent events alone.
+use Rattle.std.proofs.Common.{◌≡◌, ℕ, suc, ◌+◌, ◌-◌, ◌^◌, cond, List, [], ◌∷◌, length, Some, None, Ok, Err, refl, sym, ◌∙◌, ap, subst, arith}
+use Rattle.std.specs.Prelude.{Option, Result, unwrap_or, is_some, IsSome, nat_le}
+use Rattle.std.specs.List.{flat_map}
+use Rattle.std.proofs.lemmas.List.Sums.{sum_by-cons}
+use Rattle.ga_node.specs.declared.kind.NotReady.{NotReady}
+use Rattle.ga_node.specs.Record.{NodeRecord}
+use Rattle.ga_node.specs.Table.{t, own}
+use Rattle.ga_grid.specs.Chip.{record_at}
+use Rattle.ga_grid.specs.declared.node_id.NodeId.{NodeId}
+use Rattle.ga_event.specs.declared.event.Event.{Event}
+use Rattle.ga_event.specs.declared.event.Event.TheVariants as event
+use Rattle.ga_event.specs.declared.event.Cause.{Cause}
+use Rattle.ga_event.specs.Touches.{touches as event_touches}
+use Rattle.ga_event.specs.Apply.{seen_from, run, replay}
+use Rattle.ga_event.specs.Next.{next}
+use Rattle.ga_causal.specs.Causes.{events_in}
+use Rattle.ga_causal.specs.Dependence.{rest}
+use Rattle.ga_causal.specs.Equivalence.{AreEquivalent, same, swapped, later, joined, account}
+use Rattle.ga_causal.specs.Steps.{place_of, rest_from}
+use Rattle.ga_causal.specs.Steps.{rewound as rewound_list}
+use Rattle.ga_causal.proofs.Runs.{causes}
+use Rattle.ga_causal.proofs.Swaps.{replay_equivalent}
+use Rattle.ga_causal.proofs.Shuffles.{Shuffled}
+use Rattle.ga_causal.proofs.Consistent.{kept_alike, same_accounts, shuffled_by, equivalent-append}
+use Rattle.ga_causal.proofs.Rolled.{rolled_back, rewound_shuffled, length_shuffled, place_shuffled}
+use Rattle.ga_journal.specs.declared.made.Made.{Made}
+use Rattle.ga_journal.specs.declared.made.Made.TheVariants as made
+use Rattle.ga_journal.specs.Kept.{steps_of}
+use Rattle.ga_journal.specs.Told.{mades_of}
+use Rattle.ga_lab.specs.declared.fault.LabFault.{LabFault}
+use Rattle.ga_lab.specs.declared.fault.LabFault.TheVariants.{Full, Spent}
+use Rattle.ga_lab.specs.Machine.{State, first, chip_of, told_by, causes_of, told_next, answer_to, with_event, step_answer, unless_refused, stepped, rest_answer, rewind_answer, rewound, history_of}
+use Rattle.ga_lab.specs.Calls.{Call, called_all, AreAlike}
+use Rattle.ga_lab.proofs.Stepping.{same_state}
+use Rattle.ga_lab.proofs.Told.{made_of, history_accounted}
+use Rattle.ga_lab.proofs.Called.{Runs, runs_of, with_kept, told_is, causes_is, first_runs, calls_load}
+
+-- what equivalent lists count
+pub equivalent_length : (c : List NodeRecord) (xs ys : List Event) → AreEquivalent c xs ys → length xs ≡ length ys
+equivalent_length c xs ys same = refl
+equivalent_length c xs ys (swapped {e} {f} {xs = zs} h) = refl
+equivalent_length c xs ys (later {now} {e} {xs = us} {ys = vs} h k) = ap suc (equivalent_length now us vs k)
+equivalent_length c xs ys (joined {ys = zs} h k) = equivalent_length c xs zs h ∙ equivalent_length c zs ys k
+
+steps-cons : (n : ℕ) (e : Event) (es : List Event) → steps_of n (e ∷ es) ≡ cond (event_touches e n) 1 0 + steps_of n es
+steps-cons n e es = sum_by-cons (λ (x : Event). cond (event_touches x n) 1 0) e es
+
+pub equivalent_steps : (n : ℕ) (c : List NodeRecord) (xs ys : List Event) → AreEquivalent c xs ys → steps_of n xs ≡ steps_of n ys
+equivalent_steps n c xs ys same = refl
+equivalent_steps n c xs ys (swapped {e} {f} {xs = zs} h) = two _ _ _ _ _ _ _ (steps-cons n e (f ∷ zs)) (steps-cons n f zs) (steps-cons n f (e ∷ zs)) (steps-cons n e zs)
+  where
+    two : (a b c d e f g : ℕ) → a ≡ b + c → c ≡ d + e → f ≡ d + g → g ≡ b + e → a ≡ f
+    two a b c d e f g p q r s = omega arith
+equivalent_steps n c xs ys (later {now} {e} {xs = us} {ys = vs} h k) =
+    steps-cons n e us ∙ ap (λ (z : ℕ). cond (event_touches e n) 1 0 + z) (equivalent_steps n now us vs k) ∙ sym (steps-cons n e vs)
+equivalent_steps n c xs ys (joined {ys = zs} h k) = equivalent_steps n c xs zs h ∙ equivalent_steps n c zs ys k
+
+-- the chip
+alike_chip : (s : State) (ys : List Event) → AreEquivalent s.load s.kept ys → chip_of s ≡ chip_of (with_kept s ys)
+alike_chip s ys h = ap (λ o. unwrap_or o []) (replay_equivalent s.load s.kept ys h)
+
+-- what is told
+alike_history : (s : State) (ys : List Event) → IsSome (replay s.load s.kept) → AreEquivalent s.load s.kept ys → (n : ℕ) → history_of s n ≡ history_of (with_kept s ys) n
+alike_history s ys some h n =
+    let r = runs_of s some in
+    let k = kept_alike s.load r.last s.kept ys r.told r.run_is h in
+    ap (λ z. mades_of z n) (told_is s r) ∙ history_accounted r.told n ∙ ap (flat_map made_of) (k.3 n) ∙ sym (history_accounted k.0 n) ∙ sym (ap (λ o. mades_of (told_by o) n) k.1)
+
+-- what a step answers
+told_alike : (s : State) (ys : List Event) → AreEquivalent s.load s.kept ys → (e : Event) → told_next s e ≡ told_next (with_kept s ys) e
+told_alike s ys h (event.Own n) =
+    ap (λ (z : ℕ). made.Own n (z + 1) ((own (seen_from (chip_of s) n.number) (record_at (chip_of s) n.number)).0)) (equivalent_steps n.number s.load s.kept ys h)
+    ∙ ap (λ z. made.Own n (steps_of n.number ys + 1) ((own (seen_from z n.number) (record_at z n.number)).0)) (alike_chip s ys h)
+told_alike s ys h (event.Pass w r side) =
+    ap (λ (z : ℕ). made.Pass w (z + 1) r (steps_of r.number s.kept + 1) (t (record_at (chip_of s) w.number))) (equivalent_steps w.number s.load s.kept ys h)
+    ∙ ap (λ (z : ℕ). made.Pass w (steps_of w.number ys + 1) r (z + 1) (t (record_at (chip_of s) w.number))) (equivalent_steps r.number s.load s.kept ys h)
+    ∙ ap (λ z. made.Pass w (steps_of w.number ys + 1) r (steps_of r.number ys + 1) (t (record_at z w.number))) (alike_chip s ys h)
+
+answer_alike : (s : State) (ys : List Event) → AreEquivalent s.load s.kept ys → (o : Result Event NotReady) → answer_to s o ≡ answer_to (with_kept s ys) o
+answer_alike s ys h (Err why) = refl
+answer_alike s ys h (Ok e) =
+    ap (λ (z : ℕ). cond (nat_le s.limit z) (Err Full) (cond (nat_le (2 ^ 64 - 1) s.made) (Err Spent) (Ok (told_next s e)))) (equivalent_length s.load s.kept ys h)
+    ∙ ap (λ z. cond (nat_le s.limit (length ys)) (Err Full) (cond (nat_le (2 ^ 64 - 1) s.made) (Err Spent) (Ok z))) (told_alike s ys h e)
+
+step_alike : (s : State) (ys : List Event) (n : NodeId) → AreEquivalent s.load s.kept ys → step_answer s n ≡ step_answer (with_kept s ys) n
+step_alike s ys n h = ap (λ c. answer_to s (next c n)) (alike_chip s ys h) ∙ answer_alike s ys h (next (chip_of (with_kept s ys)) n)
+
+-- and leaves
+left_alike : (s : State) (ys : List Event) → AreEquivalent s.load s.kept ys → (o : Result Event NotReady) (a : Result Made LabFault) → AreAlike (unless_refused s a (with_event s o)) (unless_refused (with_kept s ys) a (with_event (with_kept s ys) o))
+left_alike s ys h (Err why) (Ok told) = record { load = refl; limit = refl; made = refl; kept = h }
+left_alike s ys h (Err why) (Err fault) = record { load = refl; limit = refl; made = refl; kept = h }
+left_alike s ys h (Ok e) (Err fault) = record { load = refl; limit = refl; made = refl; kept = h }
+left_alike s ys h (Ok e) (Ok told) = record { load = refl; limit = refl; made = refl; kept = equivalent-append s.load s.kept ys (e ∷ []) h }
+
+stepped_alike : (s : State) (ys : List Event) (n : NodeId) → AreEquivalent s.load s.kept ys → AreAlike (stepped s n) (stepped (with_kept s ys) n)
+stepped_alike s ys n h =
+    let z = with_kept s ys in
+    subst (λ a. AreAlike (stepped s n) (unless_refused z a (with_event z (next (chip_of z) n)))) (step_alike s ys n h)
+    (subst (λ c. AreAlike (stepped s n) (unless_refused z (step_answer s n) (with_event z (next c n)))) (alike_chip s ys h)
+    (left_alike s ys h (next (chip_of s) n) (step_answer s n)))
+
+-- what a rollback answers, and leaves
+rest_alike : (xs ys : List Cause) (n k : ℕ) → Shuffled xs ys → rest_answer xs (place_of xs n k) ≡ rest_answer ys (place_of ys n k)
+rest_alike xs ys n k h = go (place_of xs n k) (place_of ys n k) (place_shuffled n k xs ys h) (length_shuffled (rewound_list xs n k) (rewound_list ys n k) (rewound_shuffled xs ys n k h))
+  where
+    go : (o p : Option ℕ) → is_some o ≡ is_some p → length (rest_from xs o) ≡ length (rest_from ys p) → rest_answer xs o ≡ rest_answer ys p
+    go None None q l = refl
+    go None (Some j) q l = absurd (cc)
+    go (Some i) None q l = absurd (cc)
+    go (Some i) (Some j) q l = ap (λ (z : ℕ). Ok (z - length (rest xs i))) (length_shuffled xs ys h) ∙ ap (λ (z : ℕ). Ok (length ys - z)) l
+
+pub record Both (s : State) (ys : List Event) : Type 0 where
+  pub here : Runs s
+  pub there : Runs (with_kept s ys)
+
+pub both_run : (s : State) (ys : List Event) → IsSome (replay s.load s.kept) → AreEquivalent s.load s.kept ys → Both s ys
+both_run s ys some h =
+    let r = runs_of s some in
+    let k = kept_alike s.load r.last s.kept ys r.told r.run_is h in
+    record { here = r; there = record { last = r.last; told = k.0; run_is = k.1 } }
+
+rewind_alike : (s : State) (ys : List Event) (n k : ℕ) → IsSome (replay s.load s.kept) → AreEquivalent s.load s.kept ys → rewind_answer s n k ≡ rewind_answer (with_kept s ys) n k
+rewind_alike s ys n k some h =
+    let b = both_run s ys some h in
+    ap (λ z. rest_answer z (place_of z n k)) (causes_is s b.here)
+    ∙ rest_alike (causes b.here.told) (causes b.there.told) n k (shuffled_by s.load b.here.last b.there.last s.kept ys b.here.told b.there.told b.here.run_is b.there.run_is h)
+    ∙ sym (ap (λ z. rest_answer z (place_of z n k)) (causes_is (with_kept s ys) b.there))
+
+rewound_alike : (s : State) (ys : List Event) (n k : ℕ) → IsSome (replay s.load s.kept) → AreEquivalent s.load s.kept ys → AreAlike (rewound s n k) (rewound (with_kept s ys) n k)
+rewound_alike s ys n k some h =
+    let b = both_run s ys some h in
+    let e : AreEquivalent s.load (events_in (rewound_list (causes b.here.told) n k)) (events_in (rewound_list (causes b.there.told) n k)) =
+    rolled_back s.load b.here.last b.there.last s.kept ys b.here.told b.there.told b.here.run_is b.there.run_is h ((n, k) ∷ []) in
+    record {
+      load = refl;
+      limit = refl;
+      made = refl;
+      kept = subst (λ z. AreEquivalent s.load (events_in (rewound_list z n k)) (rewound (with_kept s ys) n k).kept) (sym (causes_is s b.here))
+          (subst (λ z. AreEquivalent s.load (events_in (rewound_list (causes b.here.told) n k)) (events_in (rewound_list z n k))) (sym (causes_is (with_kept s ys) b.there)) e);
+    }
+
+-- one machine is the other with an equivalent list
+pub alike_is : (s z : State) → AreAlike s z → with_kept s z.kept ≡ z
+alike_is s z a = same_state s.load z.load s.limit z.limit z.kept z.kept s.made z.made a.load a.limit refl a.made
+
+pub same_chip : (s z : State) → AreAlike s z → chip_of s ≡ chip_of z
+same_chip s z a = subst (λ x. chip_of s ≡ chip_of x) (alike_is s z a) (alike_chip s z.kept a.kept)
+
+pub same_history : (s z : State) (n : ℕ) → IsSome (replay s.load s.kept) → AreAlike s z → history_of s n ≡ history_of z n
+same_history s z n some a = subst (λ x. history_of s n ≡ history_of x n) (alike_is s z a) (alike_history s z.kept some a.kept n)
+
+alike_account : (s : State) (ys : List Event) → IsSome (replay s.load s.kept) → AreEquivalent s.load s.kept ys → (n : ℕ) → account n (causes_of s) ≡ account n (causes_of (with_kept s ys))
+alike_account s ys some h n =
+    let b = both_run s ys some h in
+    ap (account n) (causes_is s b.here)
+    ∙ (same_accounts s.load b.here.last b.there.last s.kept ys b.here.told b.there.told b.here.run_is b.there.run_is).0 h n
+    ∙ sym (ap (account n) (causes_is (with_kept s ys) b.there))
+
+pub same_account : (s z : State) (n : ℕ) → IsSome (replay s.load s.kept) → AreAlike s z → account n (causes_of s) ≡ account n (causes_of z)
+same_account s z n some a = subst (λ x. account n (causes_of s) ≡ account n (causes_of x)) (alike_is s z a) (alike_account s z.kept some a.kept n)
+
+pub same_step : (s z : State) (n : NodeId) → AreAlike s z → (step_answer s n ≡ step_answer z n) × AreAlike (stepped s n) (stepped z n)
+same_step s z n a = subst (λ x. (step_answer s n ≡ step_answer x n) × AreAlike (stepped s n) (stepped x n)) (alike_is s z a) (step_alike s z.kept n a.kept, stepped_alike s z.kept n a.kept)
+
+pub same_rewind : (s z : State) (n k : ℕ) → IsSome (replay s.load s.kept) → AreAlike s z → (rewind_answer s n k ≡ rewind_answer z n k) × AreAlike (rewound s n k) (rewound z n k)
+same_rewind s z n k some a =
+    subst (λ x. (rewind_answer s n k ≡ rewind_answer x n k) × AreAlike (rewound s n k) (rewound x n k)) (alike_is s z a)
+    (rewind_alike s z.kept n k some a.kept, rewound_alike s z.kept n k some a.kept)
+
+-- Whatever led to two machines with one load, where each node has the same account, they keep the same but for the order.
+abbrev pub KeepTheSame : List NodeRecord → State → State → Type 0
+KeepTheSame load s z = AreEquivalent load s.kept z.kept × (chip_of s ≡ chip_of z) × ((n : ℕ) → history_of s n ≡ history_of z n)
+
+pub kept_same : (s z : State) → s.load ≡ z.load → Runs s → Runs z → ((n : ℕ) → account n (causes_of s) ≡ account n (causes_of z)) → KeepTheSame s.load s z
+kept_same s z load r q h =
+    let there : run s.load z.kept ≡ Some (q.last, q.told) = ap (λ c. run c z.kept) load ∙ q.run_is in
+    let e : AreEquivalent s.load s.kept z.kept =
+    (same_accounts s.load r.last q.last s.kept z.kept r.told q.told r.run_is there).1 (λ n. ap (account n) (sym (causes_is s r)) ∙ h n ∙ ap (account n) (causes_is z q)) in
+    let k = kept_alike s.load r.last s.kept z.kept r.told r.run_is e in (
+      e,
+      alike_chip s z.kept e ∙ ap (λ c. unwrap_or (replay c z.kept) []) load,
+      λ n. ap (λ x. mades_of x n) (told_is s r) ∙ history_accounted r.told n ∙ ap (flat_map made_of) (k.3 n) ∙ sym (history_accounted k.0 n)
+          ∙ sym (ap (λ o. mades_of (told_by o) n) k.1) ∙ ap (λ c. mades_of (told_by (run c z.kept)) n) load,
+    )
+
+pub consistent : (load : List NodeRecord) (limit bound : ℕ) (calls others : List Call)
+    → ((n : ℕ) → account n (causes_of (called_all (first load limit) calls)) ≡ account n (causes_of (called_all (first load bound) others)))
+    → KeepTheSame load (called_all (first load limit) calls) (called_all (first load bound) others)
+consistent load limit bound calls others h =
+    let s = called_all (first load limit) calls in
+    let z = called_all (first load bound) others in
+    let at : s.load ≡ load = calls_load (first load limit) calls in
+    subst (λ c. KeepTheSame c s z) at (kept_same s z (at ∙ sym (calls_load (first load bound) others)) (first_runs load limit calls) (first_runs load bound others) h)

@@ -1,0 +1,182 @@
+-- Machines that calls lead to, and machines that differ in the order of independent events alone.
+use Rattle.std.proofs.Common.{◌≡◌, ℕ, suc, ◌+◌, ◌-◌, Bool, true, false, cond, List, [], ◌∷◌, ◌++◌, length, take, drop, Some, None, Ok, Err, refl, sym, ◌∙◌, ap, arith, take-append-drop, take_all}
+use Rattle.std.specs.Prelude.{Option, Result, option_map, unwrap_or, is_some, IsSome}
+use Rattle.std.proofs.lemmas.List.{length_push, take-append-le}
+use Rattle.std.proofs.lemmas.List.Sums.{sum_by-append}
+use Rattle.ga_node.specs.declared.kind.NotReady.{NotReady}
+use Rattle.ga_node.specs.Record.{NodeRecord}
+use Rattle.ga_node.specs.Table.{t}
+use Rattle.ga_grid.specs.declared.node_id.NodeId.{NodeId}
+use Rattle.ga_event.specs.declared.event.Event.{Event}
+use Rattle.ga_event.specs.declared.event.Cause.{Cause}
+use Rattle.ga_event.specs.Touches.{touches as event_touches}
+use Rattle.ga_event.specs.Apply.{Told, apply, after, unless, cause_of, run, replay}
+use Rattle.ga_event.specs.Next.{next}
+use Rattle.ga_event.proofs.Nexts.{next_can}
+use Rattle.ga_causal.specs.Causes.{events_in, touches}
+use Rattle.ga_causal.specs.Dependence.{rest}
+use Rattle.ga_causal.specs.Steps.{rest_from, touching}
+use Rattle.ga_causal.specs.Steps.{rewound as rewound_list}
+use Rattle.ga_causal.proofs.Runs.{causes, run_more, first_of_run}
+use Rattle.ga_causal.proofs.Consistent.{made_of}
+use Rattle.ga_causal.proofs.Places.{place_split, touching_in}
+use Rattle.ga_causal.proofs.Accounts.{first_part_told}
+use Rattle.ga_lab.proofs.Told.{history_begins}
+use Rattle.ga_journal.specs.declared.made.Made.{Made}
+use Rattle.ga_journal.specs.Kept.{steps_of}
+use Rattle.ga_journal.specs.Told.{mades_of}
+use Rattle.ga_rollback.proofs.Replays.{run_snoc}
+use Rattle.ga_lab.specs.declared.fault.LabFault.{LabFault}
+use Rattle.ga_lab.specs.Machine.{State, first, chip_of, told_by, told_of_kept, causes_of, answer_to, with_event, unless_refused, stepped, undone, rewound, history_of}
+use Rattle.ga_lab.specs.Calls.{Call, step, undo, rewind, called, called_all}
+
+-- a machine whose list runs
+pub record Runs (s : State) : Type 0 where
+  pub last : List NodeRecord
+  pub told : List (Cause × Told)
+  pub run_is : run s.load s.kept ≡ Some (last, told)
+
+pub runs_of : (s : State) → IsSome (replay s.load s.kept) → Runs s
+runs_of s h = go (run s.load s.kept) refl h
+  where
+    go : (o : Option (List NodeRecord × List (Cause × Told))) → run s.load s.kept ≡ o → IsSome (option_map {U = List NodeRecord} (λ done. done.0) o) → Runs s
+    go None is k = absurd (cc)
+    go (Some done) is k = record { last = done.0; told = done.1; run_is = is }
+
+-- the machine with another list
+abbrev pub with_kept : State → List Event → State
+with_kept s xs = record s { kept = xs }
+
+pub runs_some : (s : State) → Runs s → IsSome (replay s.load s.kept)
+runs_some s r = ap (λ (o : Option (List NodeRecord × List (Cause × Told))). is_some (option_map {U = List NodeRecord} (λ x. x.0) o)) r.run_is
+
+pub told_is : (s : State) (r : Runs s) → told_of_kept s ≡ r.told
+told_is s r = ap told_by r.run_is
+
+pub causes_is : (s : State) (r : Runs s) → causes_of s ≡ causes r.told
+causes_is s r = ap causes (told_is s r)
+
+pub chip_is : (s : State) (r : Runs s) → chip_of s ≡ r.last
+chip_is s r = ap (λ (o : Option (List NodeRecord × List (Cause × Told))). unwrap_or (option_map (λ (x : List NodeRecord × List (Cause × Told)). x.0) o) []) r.run_is
+
+-- Every call leaves a machine whose list runs.
+
+step_runs : (s : State) (n : NodeId) → Runs s → Runs (stepped s n)
+step_runs s n r = go (next (chip_of s) n) refl (answer_to s (next (chip_of s) n))
+  where
+    go : (o : Result Event NotReady) → next (chip_of s) n ≡ o → (a : Result Made LabFault) → Runs (unless_refused s a (with_event s o))
+    go (Err why) is (Ok told) = r
+    go (Err why) is (Err fault) = r
+    go (Ok e) is (Err fault) = r
+    go (Ok e) is (Ok told) =
+        let made : apply r.last e ≡ Some ((after r.last e).0, (after r.last e).1) = ap (λ o. unless o (after r.last e)) (next_can r.last n e (ap (λ z. next z n) (sym (chip_is s r)) ∙ is)) in
+        record { last = (after r.last e).0; told = _; run_is = run_snoc s.load r.last (after r.last e).0 s.kept r.told e (after r.last e).1 r.run_is made }
+
+-- the first part of a list runs
+front_runs : (c last : List NodeRecord) (xs ys : List Event) (ts : List (Cause × Told)) → run c (xs ++ ys) ≡ Some (last, ts) → (d : List NodeRecord) × (us : List (Cause × Told)) × (run c xs ≡ Some (d, us))
+front_runs c last [] ys ts h = (c, [], refl)
+front_runs c last (x ∷ xs) ys ts h =
+    let m = first_of_run c x (xs ++ ys) last ts h in
+    let r = front_runs m.mid last xs ys m.others m.then in
+    (r.0, (cause_of c x, m.told) ∷ r.1, run_more c x xs m.mid r.0 m.told r.1 m.first r.2)
+
+undo_runs : (s : State) → Runs s → Runs (undone s)
+undo_runs s r =
+    let i : ℕ = length s.kept - 1 in
+    let f = front_runs s.load r.last (take i s.kept) (drop i s.kept) r.told (ap (run s.load) (take-append-drop i s.kept) ∙ r.run_is) in
+    record { last = f.0; told = f.1; run_is = f.2 }
+
+rewind_runs : (s : State) (n k : ℕ) → Runs s → Runs (rewound s n k)
+rewind_runs s n k r =
+    let f = first_part_told s.load r.last s.kept r.told n k r.run_is in
+    record { last = f.0; told = f.1; run_is = ap (λ z. run s.load (events_in (rewound_list z n k))) (causes_is s r) ∙ f.2 }
+
+pub call_runs : (s : State) (call : Call) → Runs s → Runs (called s call)
+call_runs s (step n) r = step_runs s n r
+call_runs s undo r = undo_runs s r
+call_runs s (rewind n k) r = rewind_runs s n k r
+
+step_load : (s : State) (o : Result Event NotReady) (a : Result Made LabFault) → (unless_refused s a (with_event s o)).load ≡ s.load
+step_load s (Err why) (Ok told) = refl
+step_load s (Err why) (Err fault) = refl
+step_load s (Ok e) (Ok told) = refl
+step_load s (Ok e) (Err fault) = refl
+
+pub call_load : (s : State) (call : Call) → (called s call).load ≡ s.load
+call_load s (step n) = step_load s (next (chip_of s) n) (answer_to s (next (chip_of s) n))
+call_load s undo = refl
+call_load s (rewind n k) = refl
+
+pub calls_run : (s : State) (calls : List Call) → Runs s → Runs (called_all s calls)
+calls_run s [] r = r
+calls_run s (call ∷ calls) r = calls_run (called s call) calls (call_runs s call r)
+
+pub calls_load : (s : State) (calls : List Call) → (called_all s calls).load ≡ s.load
+calls_load s [] = refl
+calls_load s (call ∷ calls) = calls_load (called s call) calls ∙ call_load s call
+
+pub first_runs : (load : List NodeRecord) (limit : ℕ) (calls : List Call) → Runs (called_all (first load limit) calls)
+first_runs load limit calls = calls_run (first load limit) calls (record { last = load; told = []; run_is = refl })
+
+pub reached : (load : List NodeRecord) (limit : ℕ) (calls : List Call) → ((called_all (first load limit) calls).load ≡ load) × IsSome (replay (called_all (first load limit) calls).load (called_all (first load limit) calls).kept)
+reached load limit calls = (calls_load (first load limit) calls, runs_some _ (first_runs load limit calls))
+
+-- After a rollback the history of each node is the first part of what it was.
+pub history_kept : (s : State) (n k m : ℕ) → IsSome (replay s.load s.kept) → (later : List Made) × (history_of s m ≡ history_of (rewound s n k) m ++ later)
+history_kept s n k m some =
+    let r = runs_of s some in
+    let f = first_part_told s.load r.last s.kept r.told n k r.run_is in
+    let left : told_of_kept (rewound s n k) ≡ f.1 = ap (λ z. told_by (run s.load (events_in (rewound_list z n k)))) (causes_is s r) ∙ ap told_by f.2 in
+    let b = history_begins r.told f.1 m (f.3 m) in
+    (b.0, ap (λ z. mades_of z m) (told_is s r) ∙ b.1 ∙ ap (λ z. mades_of z m ++ b.0) (sym left))
+
+-- The newest event is a step of each of its nodes on which nothing depends: to undo it is to roll it back.
+events_run : (c last : List NodeRecord) (es : List Event) (ts : List (Cause × Told)) → run c es ≡ Some (last, ts) → events_in (causes ts) ≡ es
+events_run c last es ts h = (made_of c last es ts h).1
+
+-- the last of a list of causes, of a list of events
+record LastOf (cs : List Cause) (xs : List Event) (e : Event) : Type 0 where
+  pub front : List Cause
+  pub cause : Cause
+  pub is : cs ≡ front ++ cause ∷ []
+  pub events : events_in front ≡ xs
+  pub event : cause.event ≡ e
+
+last_of : (cs : List Cause) (xs : List Event) (e : Event) → events_in cs ≡ xs ++ e ∷ [] → LastOf cs xs e
+last_of [] [] e h = absurd (cc)
+last_of [] (x ∷ xs) e h = absurd (cc)
+last_of (c ∷ []) [] e h = record { front = []; cause = c; is = refl; events = refl; event = cc }
+last_of (c ∷ d ∷ cs) [] e h = absurd (cc)
+last_of (c ∷ cs) (x ∷ xs) e h =
+    let r = last_of cs xs e (let q : events_in cs ≡ xs ++ e ∷ [] = cc in q) in
+    let q : c.event ≡ x = cc in
+    record { front = c ∷ r.front; cause = r.cause; is = ap (λ z. c ∷ z) r.is; events = ap (λ z. z ∷ events_in r.front) q ∙ ap (λ z. x ∷ z) r.events; event = r.event }
+
+rest_last : (xs : List Cause) (c : Cause) → rest (xs ++ c ∷ []) (length xs) ≡ xs
+rest_last [] c = refl
+rest_last (x ∷ xs) c = ap (λ z. x ∷ z) (rest_last xs c)
+
+rewound_last : (xs : List Cause) (c : Cause) (n : ℕ) → touches c n ≡ true → rewound_list (xs ++ c ∷ []) n (touching n xs + 1) ≡ xs
+rewound_last xs c n t =
+    let q : touching n xs + 1 ≡ suc (touching n xs) = omega arith in
+    ap (λ (z : ℕ). rewound_list (xs ++ c ∷ []) n z) q ∙ ap (rest_from (xs ++ c ∷ [])) (place_split n (touching n xs) xs c [] refl t) ∙ rest_last xs c
+
+pub undone_rewound : (s : State) (xs : List Event) (e : Event) (n : ℕ) → IsSome (replay s.load s.kept) → s.kept ≡ xs ++ e ∷ [] → event_touches e n ≡ true → undone s ≡ rewound s n (steps_of n s.kept)
+undone_rewound s xs e n some is t =
+    let r = runs_of s some in
+    let l = last_of (causes r.told) xs e (events_run s.load r.last s.kept r.told r.run_is ∙ is) in
+    let here : touches l.cause n ≡ true = ap (λ z. event_touches z n) l.event ∙ t in
+    let steps : steps_of n s.kept ≡ touching n l.front + 1 =
+    ap (steps_of n) is ∙ sum_by-append (λ (z : Event). cond (event_touches z n) 1 0) xs (e ∷ []) ∙ one (event_touches e n) t ∙ ap (λ (z : ℕ). z + 1) (ap (steps_of n) (sym l.events) ∙ sym (touching_in n l.front)) in
+    let long : length (xs ++ e ∷ []) ≡ length xs + 1 = length_push xs e in
+    let less : length s.kept - 1 ≡ length xs = let size : length s.kept ≡ length xs + 1 = ap length is ∙ long in omega arith in
+    let front : take (length s.kept - 1) s.kept ≡ xs =
+    ap (λ z. take z s.kept) less ∙ ap (take (length xs)) is ∙ take-append-le (length xs) xs (e ∷ []) (omega arith) ∙ take_all (length xs) xs (omega arith) in
+    ap (λ z. with_kept s z)
+    (front ∙ sym (ap (λ z. events_in (rewound_list z n (steps_of n s.kept))) (causes_is s r ∙ l.is)
+    ∙ ap (λ z. events_in (rewound_list (l.front ++ l.cause ∷ []) n z)) steps
+    ∙ ap events_in (rewound_last l.front l.cause n here) ∙ l.events))
+  where
+    one : (b : Bool) → b ≡ true → steps_of n xs + (0 + cond b 1 0) ≡ steps_of n xs + 1
+    one true h = omega arith
+    one false h = absurd (cc)

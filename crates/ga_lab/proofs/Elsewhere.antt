@@ -1,0 +1,159 @@
+-- Nodes of which a rollback takes no step.
+use Rattle.std.proofs.Common.{◌≡◌, ℕ, zero, suc, ◌+◌, ◌≤◌, cond, Bool, true, false, ◌||◌, List, [], ◌∷◌, Option, Some, None, refl, sym, ◌∙◌, ap, subst, arith, ◌⊎◌, inl, inr}
+use Rattle.std.specs.Prelude.{option_map, option_and_then, unwrap_or, IsSome}
+use Rattle.std.proofs.lemmas.Bool.{or_parts, or_from, cases_Bool}
+use Rattle.std.proofs.lemmas.Option.{same_Some}
+use Rattle.ga_node.specs.Record.{NodeRecord}
+use Rattle.ga_grid.specs.Chip.{record_at}
+use Rattle.ga_event.specs.declared.event.Event.{Event}
+use Rattle.ga_event.specs.declared.event.Cause.{Cause}
+use Rattle.ga_event.specs.Touches.{meets}
+use Rattle.ga_event.specs.Apply.{Told, apply, cause_of, run, replay}
+use Rattle.ga_event.specs.Agree.{Agree}
+use Rattle.ga_event.proofs.Locality.{Agree-sym}
+use Rattle.ga_causal.specs.Causes.{events_in, touches}
+use Rattle.ga_causal.specs.Dependence.{dependents_after, without, rest}
+use Rattle.ga_causal.specs.Steps.{touching, place_of, rest_from}
+use Rattle.ga_causal.proofs.Runs.{kept, run_more, FirstOf, keeps_of, Same, same_of}
+use Rattle.ga_causal.proofs.Places.{touching_in}
+use Rattle.ga_journal.specs.Kept.{steps_of}
+use Rattle.ga_lab.specs.Machine.{State, chip_of, told_by, causes_of, rewound}
+use Rattle.ga_lab.proofs.Answering.{Ran, ran, chip_is}
+use Rattle.ga_lab.proofs.Reasoned.{causes, replayed}
+
+first_of_run : (c : List NodeRecord) (e : Event) (es : List Event) (last : List NodeRecord) (ts : List (Cause × Told)) → run c (e ∷ es) ≡ Some (last, ts) → FirstOf c e es last ts
+first_of_run c e es last ts = at_first (apply c e) refl
+  where
+    at_rest : (done : List NodeRecord × Told) → apply c e ≡ Some done → (r : Option (List NodeRecord × List (Cause × Told))) → run done.0 es ≡ r → option_map {U = List NodeRecord × List (Cause × Told)} (λ rest. (rest.0, (cause_of c e, done.1) ∷ rest.1)) r ≡ Some (last, ts) → FirstOf c e es last ts
+    at_rest done h None k g = absurd (cc)
+    at_rest done h (Some r) k g =
+        let p : (r.0, (cause_of c e, done.1) ∷ r.1) ≡ (last, ts) = same_Some _ _ g in
+        record {
+          mid = done.0;
+          told = done.1;
+          others = r.1;
+          first = h;
+          then = subst (λ z. run done.0 es ≡ Some (z, r.1)) (ap (λ z. z.0) p) k;
+          all = sym (ap (λ z. z.1) p);
+        }
+
+    at_first : (o : Option (List NodeRecord × Told)) → apply c e ≡ o → option_and_then {U = List NodeRecord × List (Cause × Told)} (λ first. option_map {U = List NodeRecord × List (Cause × Told)} (λ rest. (rest.0, (cause_of c e, first.1) ∷ rest.1)) (run first.0 es)) o ≡ Some (last, ts) → FirstOf c e es last ts
+    at_first None h g = absurd (cc)
+    at_first (Some done) h g = at_rest done h (run done.0 es) refl g
+
+Agree-marked : (marks : ℕ → Bool) (e : Event) (c d b : List NodeRecord) (t : Told) → Agree marks c b → apply c e ≡ Some (d, t) → Agree (λ n. marks n || touches (cause_of c e) n) d b
+Agree-marked marks e c d b t a h =
+    let k : Agree (touches (cause_of c e)) c d = keeps_of c e d t h in
+    record {
+      size = sym k.size ∙ a.size;
+      same = λ n free. let p : (marks n ≡ false) × (touches (cause_of c e) n ≡ false) = or_parts (marks n) (touches (cause_of c e) n) free in sym (k.same n p.1) ∙ a.same n p.0;
+    }
+
+one : Bool → ℕ
+one b = cond b 1 0
+
+touching-cons : (n : ℕ) (e : Cause) (es : List Cause) → touching n (e ∷ es) ≡ cond (touches e n) 1 0 + touching n es
+touching-cons n e es = Rattle.std.proofs.lemmas.List.Sums.sum_by-cons (λ (x : Cause). cond (touches x n) 1 0) e es
+
+-- leaving events out adds no step
+fewer : (n : ℕ) (flags : List Bool) (es : List Cause) → touching n (without flags es) ≤ touching n es
+fewer n [] es = omega arith
+fewer n (true ∷ flags) [] = omega arith
+fewer n (false ∷ flags) [] = omega arith
+fewer n (true ∷ flags) (e ∷ es) = let a = fewer n flags es in let b = touching-cons n e es in omega arith
+fewer n (false ∷ flags) (e ∷ es) =
+    let a = fewer n flags es in let b = touching-cons n e es in let c = touching-cons n e (without flags es) in omega arith
+
+not_it : (b : Bool) (x y : ℕ) → x ≤ y → x ≡ cond b 1 0 + y → b ≡ false
+not_it true x y l h = absurd (omega arith)
+not_it false x y l h = refl
+
+same_count : (b : Bool) (x y : ℕ) → b ≡ false → x ≡ cond b 1 0 + y → x ≡ y
+same_count true x y f h = absurd (cc)
+same_count false x y f h = omega arith
+
+-- the events that are left run, and where no step of node m is left out, it stands at the end as it stood
+record Elsewhere (b last : List NodeRecord) (m : ℕ) (es : List Event) : Type 0 where
+  pub now : List NodeRecord
+  pub told : List (Cause × Told)
+  pub run_is : run b es ≡ Some (now, told)
+  pub same : record_at last m ≡ record_at now m
+
+kept_elsewhere : (marks : ℕ → Bool) (es : List Event) (c b last : List NodeRecord) (ts : List (Cause × Told)) (m : ℕ) → Agree marks c b → marks m ≡ false
+    → run c es ≡ Some (last, ts) → touching m (kept marks (causes ts)) ≡ touching m (causes ts) → Elsewhere b last m (events_in (kept marks (causes ts)))
+kept_elsewhere marks [] c b last ts m a free h count =
+    let p : (c, []) ≡ (last, ts) = same_Some _ _ h in
+    subst (λ z. Elsewhere b last m (events_in (kept marks (causes z)))) (ap (λ (z : List NodeRecord × List (Cause × Told)). z.1) p)
+    (record { now = b; told = []; run_is = refl; same = ap (λ (z : List NodeRecord × List (Cause × Told)). record_at z.0 m) (sym p) ∙ a.same m free })
+kept_elsewhere marks (e ∷ es) c b last ts m a free h count =
+    let f = first_of_run c e es last ts h in
+    subst (λ z. Elsewhere b last m (events_in (kept marks (causes z)))) (sym f.all)
+    (go f
+    (λ no k. kept_elsewhere (λ n. marks n || touches (cause_of c e) n) es f.mid b last f.others m (Agree-marked marks e c f.mid b f.told a f.first) (or_from (marks m) (touches (cause_of c e) m) free no) f.then k)
+    (λ s k. kept_elsewhere marks es f.mid s.mid last f.others m s.agree free f.then k)
+    (subst (λ z. touching m (kept marks (causes z)) ≡ touching m (causes z)) f.all count) (cases_Bool (meets marks (cause_of c e))))
+  where
+    go : (f : FirstOf c e es last ts)
+        → (touches (cause_of c e) m ≡ false → touching m (kept (λ n. marks n || touches (cause_of c e) n) (causes f.others)) ≡ touching m (causes f.others)
+        → Elsewhere b last m (events_in (kept (λ n. marks n || touches (cause_of c e) n) (causes f.others))))
+        → ((s : Same marks e c f.mid b f.told) → touching m (kept marks (causes f.others)) ≡ touching m (causes f.others) → Elsewhere s.mid last m (events_in (kept marks (causes f.others))))
+        → touching m (kept marks (cause_of c e ∷ causes f.others)) ≡ touching m (cause_of c e ∷ causes f.others)
+        → (meets marks (cause_of c e) ≡ true) ⊎ (meets marks (cause_of c e) ≡ false) → Elsewhere b last m (events_in (kept marks (cause_of c e ∷ causes f.others)))
+    go f ih1 ih2 k (inl t) =
+        let k2 : touching m (kept (λ n. marks n || touches (cause_of c e) n) (causes f.others)) ≡ touching m (cause_of c e ∷ causes f.others) = rw t at k in
+        let less = fewer m (dependents_after (λ n. marks n || touches (cause_of c e) n) (causes f.others)) (causes f.others) in
+        let cons = touching-cons m (cause_of c e) (causes f.others) in
+        let no : touches (cause_of c e) m ≡ false = not_it (touches (cause_of c e) m) _ _ less (k2 ∙ cons) in
+        let k3 : touching m (kept (λ n. marks n || touches (cause_of c e) n) (causes f.others)) ≡ touching m (causes f.others) = same_count (touches (cause_of c e) m) _ _ no (k2 ∙ cons) in
+        rw t (ih1 no k3)
+    go f ih1 ih2 k (inr t) =
+        let k2 : touching m (cause_of c e ∷ kept marks (causes f.others)) ≡ touching m (cause_of c e ∷ causes f.others) = rw t at k in
+        let cons = touching-cons m (cause_of c e) (causes f.others) in
+        let cons2 = touching-cons m (cause_of c e) (kept marks (causes f.others)) in
+        let s = same_of marks e c f.mid b f.told a t f.first in
+        let g = ih2 s (omega arith) in
+        rw t (record { now = g.now; told = _; run_is = run_more b e (events_in (kept marks (causes f.others))) s.mid g.now f.told g.told s.done g.run_is; same = g.same })
+
+rest_elsewhere : (chip : List NodeRecord) (es : List Event) (i : ℕ) (last : List NodeRecord) (ts : List (Cause × Told)) (m : ℕ) → run chip es ≡ Some (last, ts)
+    → touching m (rest (causes ts) i) ≡ touching m (causes ts) → Elsewhere chip last m (events_in (rest (causes ts) i))
+rest_elsewhere chip [] i last ts m h count =
+    let p : (chip, []) ≡ (last, ts) = same_Some _ _ h in
+    subst (λ z. Elsewhere chip last m (events_in (rest (causes z) i))) (ap (λ (z : List NodeRecord × List (Cause × Told)). z.1) p)
+    (record { now = chip; told = []; run_is = refl; same = ap (λ (z : List NodeRecord × List (Cause × Told)). record_at z.0 m) (sym p) })
+rest_elsewhere chip (e ∷ es) zero last ts m h count =
+    let f = first_of_run chip e es last ts h in
+    let k : touching m (kept (touches (cause_of chip e)) (causes f.others)) ≡ touching m (cause_of chip e ∷ causes f.others) = subst (λ z. touching m (rest (causes z) zero) ≡ touching m (causes z)) f.all count in
+    let less = fewer m (dependents_after (touches (cause_of chip e)) (causes f.others)) (causes f.others) in
+    let cons = touching-cons m (cause_of chip e) (causes f.others) in
+    let no : touches (cause_of chip e) m ≡ false = not_it (touches (cause_of chip e) m) _ _ less (k ∙ cons) in
+    subst (λ z. Elsewhere chip last m (events_in (rest (causes z) zero))) (sym f.all)
+    (kept_elsewhere (touches (cause_of chip e)) es f.mid chip last f.others m (Agree-sym (touches (cause_of chip e)) chip f.mid (keeps_of chip e f.mid f.told f.first)) no f.then
+    (same_count (touches (cause_of chip e) m) _ _ no (k ∙ cons)))
+rest_elsewhere chip (e ∷ es) (suc i) last ts m h count =
+    let f = first_of_run chip e es last ts h in
+    let k : touching m (cause_of chip e ∷ rest (causes f.others) i) ≡ touching m (cause_of chip e ∷ causes f.others) = subst (λ z. touching m (rest (causes z) (suc i)) ≡ touching m (causes z)) f.all count in
+    let cons = touching-cons m (cause_of chip e) (causes f.others) in
+    let cons2 = touching-cons m (cause_of chip e) (rest (causes f.others) i) in
+    let g = rest_elsewhere f.mid es i last f.others m f.then (omega arith) in
+    subst (λ z. Elsewhere chip last m (events_in (rest (causes z) (suc i)))) (sym f.all)
+    (record { now = g.now; told = _; run_is = run_more chip e (events_in (rest (causes f.others) i)) f.mid g.now f.told g.told f.first g.run_is; same = g.same })
+
+-- in the machine
+pub stays_elsewhere : (s : State) (n k m : ℕ) → IsSome (replay s.load s.kept) → steps_of m (rewound s n k).kept ≡ steps_of m s.kept
+    → record_at (chip_of (rewound s n k)) m ≡ record_at (chip_of s) m
+stays_elsewhere s n k m some count = go (place_of (causes_of s) n k) refl
+  where
+    go : (o : Option ℕ) → place_of (causes_of s) n k ≡ o → record_at (chip_of (rewound s n k)) m ≡ record_at (chip_of s) m
+    go None is = ap (λ (o : Option ℕ). record_at (unwrap_or (replay s.load (events_in (rest_from (causes_of s) o))) []) m) is
+        ∙ ap (λ z. record_at (unwrap_or (replay s.load z) []) m) (replayed s some)
+    go (Some i) is =
+        let r : Ran s = ran s some in
+        let told : causes_of s ≡ causes r.told = ap (λ o. causes (told_by o)) r.run_is in
+        let here : (rewound s n k).kept ≡ events_in (rest (causes r.told) i) = ap (λ (o : Option ℕ). events_in (rest_from (causes_of s) o)) is ∙ ap (λ z. events_in (rest z i)) told in
+        let there : s.kept ≡ events_in (causes r.told) = sym (replayed s some) ∙ ap events_in told in
+        let c : touching m (rest (causes r.told) i) ≡ touching m (causes r.told) =
+        touching_in m (rest (causes r.told) i) ∙ ap (steps_of m) (sym here) ∙ count ∙ ap (steps_of m) there ∙ sym (touching_in m (causes r.told)) in
+        let e = rest_elsewhere s.load s.kept i r.last r.told m r.run_is c in
+        ap (λ z. record_at (unwrap_or (replay s.load z) []) m) here
+        ∙ ap (λ (o : Option (List NodeRecord × List (Cause × Told))). record_at (unwrap_or (option_map (λ (x : List NodeRecord × List (Cause × Told)). x.0) o) []) m) e.run_is
+        ∙ sym e.same ∙ ap (λ z. record_at z m) (sym (chip_is s r))

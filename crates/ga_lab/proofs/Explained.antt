@@ -1,0 +1,96 @@
+-- What `why` finds in machines that differ in the order of independent events alone.
+use Rattle.std.proofs.Common.{◌≡◌, ℕ, ◌↔◌, Bool, true, false, ◌&&◌, List, Some, None, Ok, Err, refl, sym, ◌∙◌, ap, ap₂, subst, ⊎_elim}
+use Rattle.std.specs.Prelude.{Option, Result, IsSome, nat_le}
+use Rattle.std.proofs.lemmas.Bool.{cases_Bool, and_parts}
+use Rattle.ga_event.specs.declared.event.Event.{Event}
+use Rattle.ga_event.specs.declared.event.Cause.{Cause}
+use Rattle.ga_event.specs.Apply.{replay}
+use Rattle.ga_causal.specs.declared.chain.Link.{Link}
+use Rattle.ga_causal.specs.Chains.{IsChain, IsChainTo, IsFound, chain_of, named}
+use Rattle.ga_causal.specs.Equivalence.{AreEquivalent}
+use Rattle.ga_causal.specs.Steps.{place_of}
+use Rattle.ga_causal.proofs.ChainLaws.{chain_chain}
+use Rattle.ga_causal.proofs.ChainOf.{chain_found}
+use Rattle.ga_causal.proofs.Consistent.{shuffled_by}
+use Rattle.ga_causal.proofs.Moved.{Again, chain_again}
+use Rattle.ga_causal.proofs.Refusals.{touching}
+use Rattle.ga_causal.proofs.Runs.{causes}
+use Rattle.ga_journal.specs.Kept.{steps_of}
+use Rattle.ga_lab.specs.declared.fault.LabFault.{LabFault}
+use Rattle.ga_lab.specs.declared.fault.LabFault.TheVariants.{NoStep}
+use Rattle.ga_lab.specs.Machine.{State, causes_of, stands, rewound, why_between, why_answer}
+use Rattle.ga_lab.specs.Calls.{AreAlike}
+use Rattle.ga_lab.proofs.Alike.{Both, both_run, alike_is, equivalent_steps, same_rewind}
+use Rattle.ga_lab.proofs.Called.{with_kept, causes_is, runs_some}
+use Rattle.ga_lab.proofs.Reasoned.{replayed, takes_what_it_explains}
+use Rattle.ga_lab.proofs.Reasons.{no_cause, no_effect}
+
+-- a step stands in both or in neither
+stands_alike : (s z : State) (n k : ℕ) → AreAlike s z → stands s n k ≡ stands z n k
+stands_alike s z n k a = ap (λ (x : ℕ). nat_le 1 k && nat_le k x) (equivalent_steps n s.load s.kept z.kept a.kept)
+
+alike_runs : (s z : State) → IsSome (replay s.load s.kept) → AreAlike s z → IsSome (replay z.load z.kept)
+alike_runs s z some a =
+    subst (λ (x : State). IsSome (replay x.load x.kept)) (alike_is s z a) (runs_some (with_kept s z.kept) ((both_run s z.kept some a.kept).there))
+
+-- `why` refuses where one of the two steps doesn't stand
+abbrev why : Bool → Bool → Result (Option (List Link)) LabFault → Type 0
+why a b answer = ((a && b) ≡ false) → answer ≡ Err NoStep
+
+refuses : (s : State) (n k m j : ℕ) → IsSome (replay s.load s.kept) → why (stands s n k) (stands s m j) (why_answer s n k m j)
+refuses s n k m j some h = ⊎_elim
+    (λ t. no_effect s n k m j (replayed s some) (subst (λ z. (z && stands s m j) ≡ false) t h))
+    (λ f. no_cause s n k m j (replayed s some) f)
+    (cases_Bool (stands s n k))
+
+no_link : (answer : Result (Option (List Link)) LabFault) → answer ≡ Err NoStep → answer ≡ Ok None → ⊥
+no_link answer h k = let q : Err NoStep ≡ Ok None = sym h ∙ k in absurd (cc)
+
+pub same_none : (s z : State) (n k m j : ℕ) → IsSome (replay s.load s.kept) → AreAlike s z → (why_answer s n k m j ≡ Ok None) ↔ (why_answer z n k m j ≡ Ok None)
+same_none s z n k m j some a = ⊎_elim
+    (λ t. let p = and_parts (stands s n k) (stands s m j) t in
+    let x = takes_what_it_explains s n k m j some p.0 p.1 in
+    let y = takes_what_it_explains z n k m j there (sym cause ∙ p.0) (sym effect ∙ p.1) in
+    (λ h. y.1 (sym left ∙ x.0 h), λ h. x.1 (left ∙ y.0 h)))
+    (λ f. (
+      λ h. absurd (no_link (why_answer s n k m j) (refuses s n k m j some f) h),
+      λ h. absurd (no_link (why_answer z n k m j) (refuses z n k m j there (ap₂ (λ (u v : Bool). u && v) (sym cause) (sym effect) ∙ f)) h),
+    ))
+    (cases_Bool (stands s n k && stands s m j))
+  where
+    there : IsSome (replay z.load z.kept)
+    there = alike_runs s z some a
+
+    cause : stands s n k ≡ stands z n k
+    cause = stands_alike s z n k a
+
+    effect : stands s m j ≡ stands z m j
+    effect = stands_alike s z m j a
+
+    left : stands (rewound s n k) m j ≡ stands (rewound z n k) m j
+    left = stands_alike (rewound s n k) (rewound z n k) m j ((same_rewind s z n k some a).1)
+
+-- a chain that is told is one
+chain_told : (es : List Cause) (n k m j : ℕ) (links : List Link) → why_between es (place_of es n k) (place_of es m j) ≡ Ok (Some links) → IsChain es links
+chain_told es n k m j links h = go (place_of es n k) (place_of es m j) (λ i is. (touching es n k i is).0) (λ q is. (touching es m j q is).0) h
+  where
+    go : (o p : Option ℕ) → ((i : ℕ) → o ≡ Some i → Rattle.std.specs.Prelude.◌<◌ i (Rattle.std.specs.Prelude.length es)) → ((q : ℕ) → p ≡ Some q → Rattle.std.specs.Prelude.◌<◌ q (Rattle.std.specs.Prelude.length es))
+        → why_between es o p ≡ Ok (Some links) → IsChain es links
+    go None p x y k = absurd (cc)
+    go (Some i) None x y k = absurd (cc)
+    go (Some i) (Some q) x y k =
+        let is : chain_of es i q ≡ Some links = cc in
+        chain_chain es i q links (x i refl) (subst (IsFound es i q) is (chain_found es i q (x i refl) (y q refl)))
+
+chain_alike : (s : State) (ys : List Event) (n k m j : ℕ) (links : List Link) → IsSome (replay s.load s.kept) → AreEquivalent s.load s.kept ys
+    → why_answer s n k m j ≡ Ok (Some links) → Again (causes_of s) (causes_of (with_kept s ys)) links
+chain_alike s ys n k m j links some e h =
+    let b : Both s ys = both_run s ys some e in
+    let c : IsChain (causes b.here.told) links = subst (λ z. IsChain z links) (causes_is s b.here) (chain_told (causes_of s) n k m j links h) in
+    subst (λ z. Again z (causes_of (with_kept s ys)) links) (sym (causes_is s b.here))
+    (subst (λ z. Again (causes b.here.told) z links) (sym (causes_is (with_kept s ys) b.there))
+    (chain_again (causes b.here.told) (causes b.there.told) links
+    (shuffled_by s.load b.here.last b.there.last s.kept ys b.here.told b.there.told b.here.run_is b.there.run_is e) c))
+
+pub same_chain : (s z : State) (n k m j : ℕ) (links : List Link) → IsSome (replay s.load s.kept) → AreAlike s z → why_answer s n k m j ≡ Ok (Some links) → Again (causes_of s) (causes_of z) links
+same_chain s z n k m j links some a h = subst (λ (x : State). Again (causes_of s) (causes_of x) links) (alike_is s z a) (chain_alike s z.kept n k m j links some a.kept h)

@@ -1,0 +1,199 @@
+-- Each machine's list can be made by steps alone.
+use Rattle.std.proofs.Common.{◌≡◌, ℕ, ◌+◌, ◌-◌, ◌^◌, ◌<◌, ◌≤◌, ◌==◌, Bool, true, false, ◌&&◌, List, [], ◌∷◌, ◌++◌, length, Some, None, Ok, Err, refl, sym, ◌∙◌, ap, subst, arith, ⊎_elim, append_assoc, append-nil}
+use Rattle.std.specs.Prelude.{Option, Result, map, take, option_map, option_and_then, unwrap_or, IsSome, nat_le}
+use Rattle.std.proofs.lemmas.Bool.{cases_Bool, cond-true, cond-false, lt-leb, eqb-true}
+use Rattle.std.proofs.lemmas.List.{length_push, take_all, take-append-le}
+use Rattle.ga_ports.specs.declared.side.Side.{Side}
+use Rattle.ga_ports.specs.declared.side.Side.TheVariants.{Right, Down, Left, Up}
+use Rattle.ga_ports.specs.Address.{is_side}
+use Rattle.ga_node.specs.declared.kind.NotReady.{NotReady}
+use Rattle.ga_node.specs.declared.kind.NotReady.TheVariants.{Stopped}
+use Rattle.ga_node.specs.declared.wait.Wait.{Wait}
+use Rattle.ga_node.specs.declared.wait.Wait.TheVariants.{Nothing, Fetch, Read, Write}
+use Rattle.ga_node.specs.Record.{NodeRecord}
+use Rattle.ga_node.specs.Table.{refused_by}
+use Rattle.ga_grid.specs.declared.node_id.NodeId.{NodeId}
+use Rattle.ga_grid.specs.NodeId.{node_id}
+use Rattle.ga_grid.specs.Grid.{neighbour_of}
+use Rattle.ga_grid.specs.Chip.{record_at}
+use Rattle.ga_grid.proofs.NodeIds.{node_id-number}
+use Rattle.ga_event.specs.declared.event.Event.{Event}
+use Rattle.ga_event.specs.declared.event.Event.TheVariants as event
+use Rattle.ga_event.specs.declared.event.Cause.{Cause}
+use Rattle.ga_event.specs.Apply.{Told, writes_to, reads_from, is_number, is_open, unmatched, refusal_of, apply, after, unless, run, replay}
+use Rattle.ga_event.specs.Next.{next, next_by, pass_to, or_waiting}
+use Rattle.ga_journal.specs.declared.made.Made.{Made}
+use Rattle.ga_rollback.proofs.Replays.{run_snoc}
+use Rattle.ga_lab.specs.declared.fault.LabFault.TheVariants.{Full, Spent}
+use Rattle.ga_lab.specs.Machine.{State, first, chip_of, told_next, answer_to, with_event, unless_refused, stepped, undone}
+use Rattle.ga_causal.proofs.Runs.{run_more}
+use Rattle.ga_event.specs.Apply.{cause_of}
+use Rattle.ga_lab.specs.Forward.{actor_of, stepped_all}
+
+-- An event that can be made is the next of its node, a pass that of its writer.
+
+same_side : (a b : Side) → is_side a b ≡ true → a ≡ b
+same_side Right Right h = refl
+same_side Down Down h = refl
+same_side Left Left h = refl
+same_side Up Up h = refl
+same_side Right Down h = absurd (cc)
+same_side Right Left h = absurd (cc)
+same_side Right Up h = absurd (cc)
+same_side Down Right h = absurd (cc)
+same_side Down Left h = absurd (cc)
+same_side Down Up h = absurd (cc)
+same_side Left Right h = absurd (cc)
+same_side Left Down h = absurd (cc)
+same_side Left Up h = absurd (cc)
+same_side Up Right h = absurd (cc)
+same_side Up Down h = absurd (cc)
+same_side Up Left h = absurd (cc)
+
+both : (x y : Bool) → (x && y) ≡ true → (x ≡ true) × (y ≡ true)
+both true y h = (refl, h)
+both false y h = absurd (cc)
+
+matched_is : (b : Bool) → unmatched b ≡ None → b ≡ true
+matched_is true h = refl
+matched_is false h = absurd (cc)
+
+number_is : (o : Option ℕ) (m : ℕ) → is_number o m ≡ true → o ≡ Some m
+number_is None m h = absurd (cc)
+number_is (Some k) m h = ap Some (eqb-true k m h)
+
+own_next : (chip : List NodeRecord) (n : NodeId) (stop : ℕ) (w : Wait) → refused_by w stop ≡ None → next_by chip n stop w ≡ Ok (event.Own n)
+own_next chip n stop Nothing h = ⊎_elim
+    (λ t. cond-true (stop == 0) (Ok (event.Own n)) (Err Stopped) t)
+    (λ f. let q : Some Stopped ≡ None = sym (cond-false (stop == 0) None (Some Stopped) f) ∙ h in absurd (cc))
+    (cases_Bool (stop == 0))
+own_next chip n stop (Fetch sides) h = absurd (cc)
+own_next chip n stop (Read sides) h = absurd (cc)
+own_next chip n stop (Write side) h = absurd (cc)
+
+to_it : (chip : List NodeRecord) (w r : NodeId) (side : Side) (o : Option ℕ) → o ≡ Some r.number → reads_from (record_at chip r.number).wait side ≡ true
+    → pass_to chip w side (option_map node_id o) ≡ Some (event.Pass w r side)
+to_it chip w r side o near reads =
+    ap (λ z. pass_to chip w side (option_map node_id z)) near
+    ∙ ap (λ z. pass_to chip w side (Some z)) (node_id-number r)
+    ∙ cond-true (reads_from (record_at chip r.number).wait side) (Some (event.Pass w r side)) None reads
+
+pass_next : (chip : List NodeRecord) (w r : NodeId) (side : Side) (stop : ℕ) (p : Wait) → neighbour_of w.number side ≡ Some r.number → writes_to p side ≡ true
+    → reads_from (record_at chip r.number).wait side ≡ true → next_by chip w stop p ≡ Ok (event.Pass w r side)
+pass_next chip w r side stop Nothing near out in_ = absurd (cc)
+pass_next chip w r side stop (Fetch sides) near out in_ = absurd (cc)
+pass_next chip w r side stop (Read sides) near out in_ = absurd (cc)
+pass_next chip w r side stop (Write posted) near out in_ =
+    subst (λ z. next_by chip w stop (Write z) ≡ Ok (event.Pass w r side)) (sym (same_side posted side out))
+    (ap or_waiting (to_it chip w r side (neighbour_of w.number side) near in_))
+
+pub made_is_next : (chip : List NodeRecord) (e : Event) → refusal_of chip e ≡ None → next chip (actor_of e) ≡ Ok e
+made_is_next chip (event.Own n) h = own_next chip n (record_at chip n.number).stop (record_at chip n.number).wait h
+made_is_next chip (event.Pass w r side) h =
+    let p : Wait = (record_at chip w.number).wait in
+    let q : Wait = (record_at chip r.number).wait in
+    let opened : is_open w.number r.number side p q ≡ true = matched_is (is_open w.number r.number side p q) h in
+    let parts : ((is_number (neighbour_of w.number side) r.number && writes_to p side) ≡ true) × (reads_from q side ≡ true) = both _ _ opened in
+    let front : (is_number (neighbour_of w.number side) r.number ≡ true) × (writes_to p side ≡ true) = both _ _ parts.0 in
+    pass_next chip w r side (record_at chip w.number).stop p (number_is _ _ front.0) front.1 parts.1
+
+-- The machine with a list that steps alone made.
+
+abbrev pub at : List NodeRecord → ℕ → List Event → State
+at load limit xs = record { load = load; limit = limit; kept = xs; made = length xs }
+
+pub record Applied (chip : List NodeRecord) (e : Event) (es : List Event) : Type 0 where
+  pub can : refusal_of chip e ≡ None
+  pub others : IsSome (replay (after chip e).0 es)
+
+pub applied : (chip : List NodeRecord) (e : Event) (es : List Event) → IsSome (replay chip (e ∷ es)) → Applied chip e es
+applied chip e es h = go (refusal_of chip e) refl h
+  where
+    go2 : (r : Option (List NodeRecord × List (Cause × Told))) (c : Cause) (t : Told)
+        → IsSome (option_map {U = List NodeRecord} (λ done. done.0) (option_map {U = List NodeRecord × List (Cause × Told)} (λ rest. (rest.0, (c, t) ∷ rest.1)) r)) → IsSome (option_map {U = List NodeRecord} (λ done. done.0) r)
+    go2 None c t g = g
+    go2 (Some r) c t g = refl
+
+    go : (o : Option NotReady) → refusal_of chip e ≡ o
+        → IsSome (option_map {U = List NodeRecord} (λ done. done.0) (option_and_then {U = List NodeRecord × List (Cause × Told)} (λ first. option_map {U = List NodeRecord × List (Cause × Told)} (λ rest. (rest.0, (Rattle.ga_event.specs.Apply.cause_of chip e, first.1) ∷ rest.1)) (run first.0 es)) (unless o (after chip e))))
+        → Applied chip e es
+    go None is g = record { can = is; others = go2 (run (after chip e).0 es) (Rattle.ga_event.specs.Apply.cause_of chip e) (after chip e).1 g }
+    go (Some why) is g = absurd (cc)
+
+steps_on : (load c : List NodeRecord) (limit : ℕ) (xs : List Event) (ts : List (Cause × Told)) (e : Event) → run load xs ≡ Some (c, ts) → refusal_of c e ≡ None
+    → length xs < limit → length xs < 2 ^ 64 - 1 → stepped (at load limit xs) (actor_of e) ≡ at load limit (xs ++ e ∷ [])
+steps_on load c limit xs ts e ran can room count =
+    let s : State = at load limit xs in
+    let chip : chip_of s ≡ c = ap (λ (o : Option (List NodeRecord × List (Cause × Told))). unwrap_or (option_map (λ (x : List NodeRecord × List (Cause × Told)). x.0) o) []) ran in
+    let is : next (chip_of s) (actor_of e) ≡ Ok e = ap (λ z. next z (actor_of e)) chip ∙ made_is_next c e can in
+    let answer : answer_to s (Ok e) ≡ Ok (told_next s e) =
+    cond-false (nat_le limit (length xs)) (Err Full) _ (lt-leb limit (length xs) room)
+    ∙ cond-false (nat_le (2 ^ 64 - 1) (length xs)) (Err Spent) _ (lt-leb (2 ^ 64 - 1) (length xs) count) in
+    ap (λ z. unless_refused s (answer_to s z) (with_event s z)) is
+    ∙ ap (λ (z : Result Made Rattle.ga_lab.specs.declared.fault.LabFault.LabFault). unless_refused s z (with_event s (Ok e))) answer
+    ∙ ap (λ z. let a : State = record { load = load; limit = limit; kept = xs ++ e ∷ []; made = z } in a) (sym (length_push xs e))
+
+reach : (load c : List NodeRecord) (limit : ℕ) (xs : List Event) (ts : List (Cause × Told)) (ys : List Event) → run load xs ≡ Some (c, ts) → IsSome (replay c ys)
+    → length xs + length ys ≤ limit → length xs + length ys < 2 ^ 64 → stepped_all (at load limit xs) (map actor_of ys) ≡ at load limit (xs ++ ys)
+reach load c limit xs ts [] ran some room count = ap (at load limit) (sym (append-nil xs))
+reach load c limit xs ts (y ∷ ys) ran some room count =
+    let a : Applied c y ys = applied c y ys some in
+    let made : apply c y ≡ Some ((after c y).0, (after c y).1) = ap (λ o. unless o (after c y)) a.can in
+    let more : length (xs ++ y ∷ []) ≡ length xs + 1 = length_push xs y in
+    ap (λ z. stepped_all z (map actor_of ys)) (steps_on load c limit xs ts y ran a.can (omega arith) (omega arith))
+    ∙ reach load (after c y).0 limit (xs ++ y ∷ []) _ ys (run_snoc load c (after c y).0 xs ts y (after c y).1 ran made) a.others (omega arith) (omega arith)
+    ∙ ap (at load limit) (append_assoc xs (y ∷ []) ys)
+
+pub reached_forward : (s : State) → IsSome (replay s.load s.kept) → length s.kept ≤ s.limit → length s.kept < 2 ^ 64
+    → stepped_all (first s.load s.limit) (map actor_of s.kept) ≡ record s { made = length s.kept }
+reached_forward s some room count = reach s.load s.load s.limit [] [] s.kept refl some (omega arith) (omega arith)
+
+-- A step of the newest event's node makes it again, where it was undone.
+
+pub record Before (load : List NodeRecord) (xs : List Event) (e : Event) : Type 0 where
+  pub last : List NodeRecord
+  pub told : List (Cause × Told)
+  pub ran : run load xs ≡ Some (last, told)
+  pub can : refusal_of last e ≡ None
+
+pub before : (load : List NodeRecord) (xs : List Event) (e : Event) → IsSome (replay load (xs ++ e ∷ [])) → Before load xs e
+before load [] e h = record { last = load; told = []; ran = refl; can = (applied load e [] h).can }
+before load (x ∷ xs) e h =
+    let a : Applied load x (xs ++ e ∷ []) = applied load x (xs ++ e ∷ []) h in
+    let b : Before (after load x).0 xs e = before (after load x).0 xs e a.others in
+    record {
+      last = b.last;
+      told = (cause_of load x, (after load x).1) ∷ b.told;
+      ran = run_more load x xs (after load x).0 b.last (after load x).1 b.told (ap (λ o. unless o (after load x)) a.can) b.ran;
+      can = b.can;
+    }
+
+with_kept : State → List Event → ℕ → State
+with_kept s xs made = record s { kept = xs; made = made }
+
+steps_at : (s : State) (c : List NodeRecord) (xs : List Event) (ts : List (Cause × Told)) (e : Event) → run s.load xs ≡ Some (c, ts) → refusal_of c e ≡ None
+    → length xs < s.limit → s.made < 2 ^ 64 - 1 → stepped (with_kept s xs s.made) (actor_of e) ≡ with_kept s (xs ++ e ∷ []) (s.made + 1)
+unfolding with_kept
+steps_at s c xs ts e ran can room count =
+    let t : State = record s { kept = xs; made = s.made } in
+    let chip : chip_of t ≡ c = ap (λ (o : Option (List NodeRecord × List (Cause × Told))). unwrap_or (option_map (λ (x : List NodeRecord × List (Cause × Told)). x.0) o) []) ran in
+    let is : next (chip_of t) (actor_of e) ≡ Ok e = ap (λ z. next z (actor_of e)) chip ∙ made_is_next c e can in
+    let answer : answer_to t (Ok e) ≡ Ok (told_next t e) =
+    cond-false (nat_le s.limit (length xs)) (Err Full) _ (lt-leb s.limit (length xs) room)
+    ∙ cond-false (nat_le (2 ^ 64 - 1) s.made) (Err Spent) _ (lt-leb (2 ^ 64 - 1) s.made count) in
+    ap (λ z. unless_refused t (answer_to t z) (with_event t z)) is
+    ∙ ap (λ (z : Result Made Rattle.ga_lab.specs.declared.fault.LabFault.LabFault). unless_refused t z (with_event t (Ok e))) answer
+
+pub redone : (s : State) (xs : List Event) (e : Event) → IsSome (replay s.load s.kept) → s.kept ≡ xs ++ e ∷ [] → length s.kept ≤ s.limit → s.made < 2 ^ 64 - 1
+    → stepped (undone s) (actor_of e) ≡ record s { made = s.made + 1 }
+unfolding with_kept
+redone s xs e some is room count =
+    let b : Before s.load xs e = before s.load xs e (subst (λ z. IsSome (replay s.load z)) is some) in
+    let long : length (xs ++ e ∷ []) ≡ length xs + 1 = length_push xs e in
+    let size : length s.kept ≡ length xs + 1 = ap length is ∙ long in
+    let less : length s.kept - 1 ≡ length xs = omega arith in
+    let front : take (length s.kept - 1) s.kept ≡ xs =
+    ap (λ z. take z s.kept) less ∙ ap (take (length xs)) is ∙ take-append-le (length xs) xs (e ∷ []) (omega arith) ∙ take_all (length xs) xs (omega arith) in
+    ap (λ z. stepped (with_kept s z s.made) (actor_of e)) front
+    ∙ steps_at s b.last xs b.told e b.ran b.can (omega arith) count
+    ∙ ap (λ z. with_kept s z (s.made + 1)) (sym is)

@@ -1,0 +1,267 @@
+-- Each sequence of calls, no rollback of which takes a look, is causally equivalent to the steps that make what it keeps.
+use Rattle.std.proofs.Common.{◌≡◌, ℕ, zero, suc, ◌+◌, ◌-◌, ◌^◌, ◌<◌, ◌≤◌, Bool, true, false, not, cond, List, [], ◌∷◌, ◌++◌, length, map, Some, None, Ok, Err, refl, sym, ◌∙◌, ap, ap₂, subst, arith, append_assoc, append-nil, length-append}
+use Rattle.std.specs.Prelude.{Option, Result, IsOk, IsSome, nat_le, is_ok, is_some, option_map}
+use Rattle.std.proofs.lemmas.List.{length_push}
+use Rattle.std.proofs.lemmas.Bool.{cond-true}
+use Rattle.ga_node.specs.declared.kind.NotReady.{NotReady}
+use Rattle.ga_node.specs.Record.{NodeRecord}
+use Rattle.ga_grid.specs.declared.node_id.NodeId.{NodeId}
+use Rattle.ga_event.specs.declared.event.Event.{Event}
+use Rattle.ga_event.specs.declared.event.Cause.{Cause}
+use Rattle.ga_event.specs.Apply.{Told, refusal_of, apply, after, unless, cause_of, run, replay}
+use Rattle.ga_event.specs.Next.{next}
+use Rattle.ga_event.proofs.Nexts.{next_can}
+use Rattle.ga_causal.specs.Causes.{events_in}
+use Rattle.ga_causal.specs.Dependence.{dependents, without, rest, NoneLooks}
+use Rattle.ga_causal.specs.Equivalence.{AreApart, AreEquivalent, same, swapped, later, joined}
+use Rattle.ga_causal.specs.Steps.{place_of, rest_from}
+use Rattle.ga_causal.specs.Steps.{rewound as rewound_list}
+use Rattle.ga_causal.proofs.Runs.{causes}
+use Rattle.ga_causal.proofs.Swaps.{replay_equivalent}
+use Rattle.ga_causal.proofs.Taken.{taken_last}
+use Rattle.ga_lab.specs.declared.fault.LabFault.{LabFault}
+use Rattle.ga_lab.specs.Machine.{State, first, chip_of, causes_of, told_next, answer_to, with_event, step_answer, unless_refused, stepped, undone, rewound}
+use Rattle.ga_lab.specs.Calls.{Call, step, undo, rewind, called, called_all, AreAlike}
+use Rattle.ga_lab.specs.Forward.{actor_of, stepped_all}
+use Rattle.ga_lab.specs.Sequences.{AllNamed, undos, HasRoom, CanBe, AreCausal, itself, back, chained, before, more, onward, refused, either, cancelled, turned, rolled, taken_from, TakesNoLook}
+use Rattle.ga_lab.proofs.Alike.{equivalent_length, same_rewind}
+use Rattle.ga_lab.proofs.Called.{Runs, runs_of, with_kept, causes_is, chip_is, call_runs, runs_some, call_load}
+use Rattle.ga_lab.proofs.Forward.{made_is_next, Applied, applied, reached_forward}
+use Rattle.ga_lab.proofs.Reasoned.{replayed}
+use Rattle.ga_lab.proofs.Sequences.{counting, call_made, calls_counted, call_limit, called_append, ended, answered, step_made_is, runs_more, undone_last, equivalent_back, sound}
+
+-- a step for each event
+abbrev pub steps_for : List Event → List Call
+steps_for events = map (λ e. step (actor_of e)) events
+
+-- the machine with a list that steps alone made
+abbrev pub at : State → List Event → State
+at s xs = record { load = s.load; limit = s.limit; kept = xs; made = length xs }
+
+abbrev pub load_of : State → State
+load_of s = first s.load s.limit
+
+called_steps : (s : State) (xs : List Event) → called_all s (steps_for xs) ≡ stepped_all s (map actor_of xs)
+called_steps s [] = refl
+called_steps s (e ∷ xs) = called_steps (stepped s (actor_of e)) xs
+
+steps_reach : (s : State) (xs : List Event) → IsSome (replay s.load xs) → length xs ≤ s.limit → length xs < 2 ^ 64 → called_all (load_of s) (steps_for xs) ≡ at s xs
+steps_reach s xs some room count = called_steps (load_of s) xs ∙ reached_forward (at s xs) some room count
+
+steps_named : (xs : List Event) → AllNamed (steps_for xs)
+steps_named [] = tt
+steps_named (e ∷ xs) = steps_named xs
+
+pub steps_length : (xs : List Event) → length (steps_for xs) ≡ length xs
+steps_length [] = refl
+steps_length (e ∷ xs) = ap suc (steps_length xs)
+
+-- the same calls before both
+prefixed : (s : State) (ws xs ys : List Call) → AreCausal (called_all s ws) xs ys → AreCausal s (ws ++ xs) (ws ++ ys)
+prefixed s [] xs ys h = h
+prefixed s (call ∷ ws) xs ys h = before (prefixed (called s call) ws xs ys h)
+
+-- Steps for equivalent lists are causally equivalent.
+swaps : (s : State) (r : Runs s) (c : List NodeRecord) (xs ys : List Event) → r.last ≡ c → AreEquivalent c xs ys → IsSome (replay c xs) → length s.kept + length xs ≤ s.limit → s.made + length xs < 2 ^ 64 → AreCausal s (steps_for xs) (steps_for ys)
+unfolding runs_more
+swaps s r c xs ys q same some l k = itself
+swaps s r c xs ys q (swapped {e} {f} {xs = zs} h) some l k =
+    let size : length s.kept + suc (suc (length zs)) ≤ s.limit = l in
+    let count : s.made + suc (suc (length zs)) < 2 ^ 64 = k in
+    let chip : chip_of s ≡ c = chip_is s r ∙ q in
+    let ce : refusal_of c e ≡ None = (applied c e (f ∷ zs) some).can in
+    let cf : refusal_of c f ≡ None = (applied c f (e ∷ zs) (subst IsSome (replay_equivalent c (e ∷ f ∷ zs) (f ∷ e ∷ zs) (swapped h)) some)).can in
+    let many : length (steps_for zs) ≡ length zs = steps_length zs in
+    let room : s.made + suc (suc (length (steps_for zs))) < 2 ^ 64 = omega (arith, count, many) in
+    more (step (actor_of e) ∷ step (actor_of f) ∷ []) (step (actor_of f) ∷ step (actor_of e) ∷ []) (steps_for zs) (steps_named zs) room room
+    (turned {e = e} {f = f} (omega (arith, size)) (omega (arith, count)) (ap (λ z. refusal_of z e) chip ∙ ce) (ap (λ z. refusal_of z f) chip ∙ cf) (subst (λ z. AreApart (cause_of z e) (cause_of z f)) (sym chip) h))
+swaps s r c xs ys q (later {now} {e} {told} {xs = us} {ys = vs} h w) some l k =
+    let size : length s.kept + suc (length us) ≤ s.limit = l in
+    let count : s.made + suc (length us) < 2 ^ 64 = k in
+    let a : Applied c e us = applied c e us some in
+    let can : refusal_of r.last e ≡ None = ap (λ z. refusal_of z e) q ∙ a.can in
+    let there : (after c e).0 ≡ now = ap (λ (z : List NodeRecord × Told). z.0) (Rattle.std.proofs.lemmas.Option.same_Some (after c e) (now, told) (sym (ap (λ o. unless o (after c e)) a.can) ∙ h)) in
+    let long : length (s.kept ++ e ∷ []) ≡ length s.kept + 1 = length_push s.kept e in
+    let made : stepped s (actor_of e) ≡ with_event s (Ok e) = step_made_is s r.last e (chip_is s r) can (omega (arith, size)) (omega (arith, count)) in
+    before (subst (λ z. AreCausal z (steps_for us) (steps_for vs)) (sym made)
+    (swaps (with_event s (Ok e)) (runs_more s r e can) now us vs (ap (λ z. (after z e).0) q ∙ there) w (subst (λ z. IsSome (replay z us)) there a.others) (omega (arith, size, long)) (omega (arith, count))))
+swaps s r c xs ys q (joined {ys = zs} h w) some l k =
+    let n : length xs ≡ length zs = equivalent_length c xs zs h in
+    chained (swaps s r c xs zs q h some l k)
+    (swaps s r c zs ys q w (subst IsSome (replay_equivalent c xs zs h) some) (omega (arith, l, n)) (omega (arith, k, n)))
+
+abbrev load_runs : (s : State) → Runs (load_of s)
+load_runs s = record { last = s.load; told = []; run_is = refl }
+
+pub swaps_all : (s : State) (xs ys : List Event) → AreEquivalent s.load xs ys → IsSome (replay s.load xs) → length xs ≤ s.limit → length xs < 2 ^ 64 → AreCausal (load_of s) (steps_for xs) (steps_for ys)
+swaps_all s xs ys h some l k = swaps (load_of s) (load_runs s) s.load xs ys refl h some (omega (arith, l)) (omega (arith, k))
+
+-- What one call does to a list of steps.
+
+pub steps_join : (xs ys : List Event) → steps_for (xs ++ ys) ≡ steps_for xs ++ steps_for ys
+steps_join [] ys = refl
+steps_join (x ∷ xs) ys = ap (λ z. step (actor_of x) ∷ z) (steps_join xs ys)
+
+-- the last of a list
+pub record Last (xs : List Event) : Type 0 where
+  pub front : List Event
+  pub event : Event
+  pub is : xs ≡ front ++ event ∷ []
+
+pub last_of : (x : Event) (xs : List Event) → Last (x ∷ xs)
+last_of x [] = record { front = []; event = x; is = refl }
+last_of x (y ∷ xs) = let r = last_of y xs in record { front = x ∷ r.front; event = r.event; is = ap (λ z. x ∷ z) r.is }
+
+-- a machine whose list runs and fits
+pub record Fits (s : State) : Type 0 where
+  pub some : IsSome (replay s.load s.kept)
+  pub room : length s.kept ≤ s.limit
+  pub count : length s.kept < 2 ^ 64
+
+-- the first part of a list runs
+front_some : (load : List NodeRecord) (xs ys : List Event) → IsSome (replay load (xs ++ ys)) → IsSome (replay load xs)
+front_some load [] ys h = refl
+front_some load (x ∷ xs) ys h =
+    let a : Applied load x (xs ++ ys) = applied load x (xs ++ ys) h in
+    let b : IsSome (replay (after load x).0 xs) = front_some (after load x).0 xs ys a.others in
+    let c : apply load x ≡ Some (after load x) = ap (λ o. unless o (after load x)) a.can in
+    ap is_some (Rattle.ga_causal.proofs.Swaps.replay-cons load x xs) ∙ ap (λ (o : Option (List NodeRecord × Told)). is_some (Rattle.std.specs.Prelude.option_and_then (λ (first : List NodeRecord × Told). replay first.0 xs) o)) c ∙ b
+
+Fits-front : (s : State) (xs : List Event) (e : Event) → s.kept ≡ xs ++ e ∷ [] → Fits s → Fits (with_kept s xs)
+Fits-front s xs e is f =
+    let a : length s.kept ≤ s.limit = f.room in
+    let b : length s.kept < 2 ^ 64 = f.count in
+    let n : length s.kept ≡ length xs + 1 = ap length is ∙ length_push xs e in
+    record { some = front_some s.load xs (e ∷ []) (subst (λ z. IsSome (replay s.load z)) is f.some); room = omega (arith, a, n); count = omega (arith, b, n) }
+
+pub reach : (s : State) → Fits s → called_all (load_of s) (steps_for s.kept) ≡ at s s.kept
+reach s f = steps_reach s s.kept f.some f.room f.count
+
+-- from the machine with the list on, a call is these
+pub behind : (s : State) (xs ys : List Call) → Fits s → AreCausal (at s s.kept) xs ys → AreCausal (load_of s) (steps_for s.kept ++ xs) (steps_for s.kept ++ ys)
+behind s xs ys f h = prefixed (load_of s) (steps_for s.kept) xs ys (subst (λ z. AreCausal z xs ys) (sym (reach s f)) h)
+
+-- a call that is refused
+pub one_refused : (s : State) (call : Call) → Fits s → called (at s s.kept) call ≡ at s s.kept → AreCausal (load_of s) (steps_for s.kept ++ call ∷ []) (steps_for s.kept)
+one_refused s call f q = subst (λ z. AreCausal (load_of s) (steps_for s.kept ++ call ∷ []) z) (append-nil (steps_for s.kept)) (behind s (call ∷ []) [] f (refused q))
+
+pub one_undo : (s : State) (xs : List Event) (e : Event) → s.kept ≡ xs ++ e ∷ [] → Fits s → AreCausal (load_of s) (steps_for s.kept ++ undo ∷ []) (steps_for xs)
+one_undo s xs e is f =
+    let g : Fits (with_kept s xs) = Fits-front s xs e is f in
+    let b = Rattle.ga_lab.proofs.Forward.before s.load xs e (subst (λ z. IsSome (replay s.load z)) is f.some) in
+    let r : Runs (at s xs) = record { last = b.last; told = b.told; run_is = b.ran } in
+    let n : length s.kept ≡ length xs + 1 = ap length is ∙ length_push xs e in
+    let room : length s.kept ≤ s.limit = f.room in
+    let count : length s.kept < 2 ^ 64 = f.count in
+    let ok : IsOk (step_answer (at s xs) (actor_of e)) = ap is_ok (answered (at s xs) b.last e (chip_is (at s xs) r) b.can (omega (arith, room, n)) (omega (arith, count, n))) in
+    subst (λ z. AreCausal (load_of s) z (steps_for xs)) (sym (ap (λ z. steps_for z ++ undo ∷ []) is ∙ ap (λ z. z ++ undo ∷ []) (steps_join xs (e ∷ [])) ∙ append_assoc (steps_for xs) (step (actor_of e) ∷ []) (undo ∷ [])))
+    (subst (λ z. AreCausal (load_of s) (steps_for xs ++ step (actor_of e) ∷ undo ∷ []) z) (append-nil (steps_for xs))
+    (behind (with_kept s xs) (step (actor_of e) ∷ undo ∷ []) [] g (cancelled {n = actor_of e} ok)))
+
+-- undos from a list on
+pub ends_at : (s : State) (ws : List Call) → Fits s → ended (load_of s) (steps_for s.kept ++ ws) ≡ ended (at s s.kept) ws
+ends_at s ws f = ap (λ (z : State). z.kept) (called_append (load_of s) (steps_for s.kept) ws) ∙ ap (λ (z : State). ended z ws) (reach s f)
+
+undo_all : (s : State) (xs ys : List Event) (m : ℕ) → length ys ≡ m → s.kept ≡ xs ++ ys → called_all s (undos m) ≡ with_kept s xs
+undo_all s xs [] zero n is = ap (with_kept s) (is ∙ append-nil xs)
+undo_all s xs [] (suc m) n is = absurd (omega (arith, n))
+undo_all s xs (y ∷ ys) zero n is = absurd (omega (arith, n))
+undo_all s xs (y ∷ ys) (suc m) n is =
+    let l = last_of y ys in
+    let q : s.kept ≡ (xs ++ l.front) ++ l.event ∷ [] = is ∙ ap (λ z. xs ++ z) l.is ∙ sym (append_assoc xs l.front (l.event ∷ [])) in
+    let k : suc (length ys) ≡ length l.front + 1 = ap length l.is ∙ length_push l.front l.event in
+    let n2 : suc (length ys) ≡ suc m = n in
+    ap (λ z. called_all z (undos m)) (undone_last s (xs ++ l.front) l.event q)
+    ∙ undo_all (with_kept s (xs ++ l.front)) xs l.front m (omega (arith, k, n2)) refl
+
+undos_length : (m : ℕ) → length (undos m) ≡ m
+undos_length zero = refl
+undos_length (suc m) = ap suc (undos_length m)
+
+one_undos : (s : State) (xs ys : List Event) (m : ℕ) → length ys ≡ m → s.kept ≡ xs ++ ys → Fits s → length s.kept + m < 2 ^ 64 → AreCausal (load_of s) (steps_for s.kept ++ undos m) (steps_for xs)
+one_undos s xs [] zero n is f l = subst (λ z. AreCausal (load_of s) z (steps_for xs)) (sym (append-nil (steps_for s.kept) ∙ ap steps_for (is ∙ append-nil xs))) itself
+one_undos s xs [] (suc m) n is f l = absurd (omega (arith, n))
+one_undos s xs (y ∷ ys) zero n is f l = absurd (omega (arith, n))
+one_undos s xs (y ∷ ys) (suc m) n is f l =
+    let w = last_of y ys in
+    let front : List Event = xs ++ w.front in
+    let q : s.kept ≡ (xs ++ w.front) ++ w.event ∷ [] = is ∙ ap (λ z. xs ++ z) w.is ∙ sym (append_assoc xs w.front (w.event ∷ [])) in
+    let k : suc (length ys) ≡ length w.front + 1 = ap length w.is ∙ length_push w.front w.event in
+    let n2 : suc (length ys) ≡ suc m = n in
+    let long : length s.kept ≡ length (xs ++ w.front) + 1 = ap length q ∙ length_push (xs ++ w.front) w.event in
+    let g : Fits (with_kept s (xs ++ w.front)) = Fits-front s (xs ++ w.front) w.event q f in
+    let one : AreCausal (load_of s) (steps_for s.kept ++ undo ∷ []) (steps_for (xs ++ w.front)) = one_undo s (xs ++ w.front) w.event q f in
+    let alike : ended (load_of s) (steps_for s.kept ++ undo ∷ []) ≡ ended (load_of s) (steps_for (xs ++ w.front)) =
+    ends_at s (undo ∷ []) f ∙ ap (λ (z : State). z.kept) (undone_last (at s s.kept) (xs ++ w.front) w.event q) ∙ ap (λ (z : State). z.kept) (sym (reach (with_kept s (xs ++ w.front)) g)) in
+    let a : length ((steps_for s.kept ++ undo ∷ []) ++ undos m) ≡ length s.kept + 1 + m =
+    length-append (steps_for s.kept ++ undo ∷ []) (undos m) ∙ ap₂ (λ (u v : ℕ). u + v) (length_push (steps_for s.kept) undo ∙ ap (λ (z : ℕ). z + 1) (steps_length s.kept)) (undos_length m) in
+    let b : length (steps_for (xs ++ w.front) ++ undos m) ≡ length (xs ++ w.front) + m =
+    length-append (steps_for (xs ++ w.front)) (undos m) ∙ ap₂ (λ (u v : ℕ). u + v) (steps_length (xs ++ w.front)) (undos_length m) in
+    subst (λ z. AreCausal (load_of s) z (steps_for xs)) (append_assoc (steps_for s.kept) (undo ∷ []) (undos m))
+    (chained (onward (steps_for s.kept ++ undo ∷ []) (steps_for (xs ++ w.front)) (undos m) alike (omega (arith, l, a)) (omega (arith, l, b, long)) one)
+    (one_undos (with_kept s (xs ++ w.front)) xs w.front m (omega (arith, k, n2)) refl g (omega (arith, l, long))))
+
+-- A rollback that takes no look.
+
+-- the list with what is taken at its end
+abbrev parted : State → ℕ → List Cause
+parted s i = rest (causes_of s) i ++ without (map not (dependents (causes_of s) i)) (causes_of s)
+
+parted_alike : (s : State) (r : Runs s) (i : ℕ) → NoneLooks (without (map not (dependents (causes_of s) i)) (causes_of s)) → AreEquivalent s.load s.kept (events_in (parted s i))
+parted_alike s r i none =
+    subst (λ (z : List Cause). AreEquivalent s.load s.kept (events_in (rest z i ++ without (map not (dependents z i)) z))) (sym (causes_is s r))
+    (taken_last s.load r.last s.kept r.told i r.run_is (subst (λ z. NoneLooks (without (map not (dependents z i)) z)) (causes_is s r) none))
+
+events_join : (xs ys : List Cause) → events_in (xs ++ ys) ≡ events_in xs ++ events_in ys
+events_join [] ys = refl
+events_join (x ∷ xs) ys = ap (λ z. x.event ∷ z) (events_join xs ys)
+
+-- from the list with what is taken at its end, the rollback is undos
+parted_undos : (s z : State) (n k : ℕ) (left gone : List Event) → IsSome (replay s.load s.kept) → AreAlike s z → z.kept ≡ left ++ gone → (rewound s n k).kept ≡ left → AreAlike (rewound z n k) (called_all z (undos (length gone)))
+parted_undos s z n k left gone some a is q =
+    let b : AreAlike (rewound s n k) (rewound z n k) = (same_rewind s z n k some a).1 in
+    subst (λ x. AreAlike (rewound z n k) x) (sym (undo_all z left gone (length gone) refl is))
+    (record {
+      load = refl;
+      limit = refl;
+      made = refl;
+      kept = equivalent_back z.load left (rewound z n k).kept (subst (λ c. AreEquivalent c left (rewound z n k).kept) a.load (subst (λ x. AreEquivalent s.load x (rewound z n k).kept) q b.kept));
+    })
+
+one_parted : (s : State) (n k : ℕ) (left gone : List Event) → Fits s → length s.kept + length s.kept < 2 ^ 64 → AreEquivalent s.load s.kept (left ++ gone) → (rewound s n k).kept ≡ left
+    → AreCausal (load_of s) (steps_for s.kept ++ rewind n k ∷ []) (steps_for left)
+one_parted s n k left gone f l e q =
+    let ys : List Event = left ++ gone in
+    let same_length : length s.kept ≡ length ys = equivalent_length s.load s.kept ys e in
+    let parts : length ys ≡ length left + length gone = length-append left gone in
+    let room : length s.kept ≤ s.limit = f.room in
+    let count : length s.kept < 2 ^ 64 = f.count in
+    let g : Fits (with_kept s ys) = record { some = subst IsSome (replay_equivalent s.load s.kept ys e) f.some; room = omega (arith, room, same_length); count = omega (arith, count, same_length) } in
+    let here : AreAlike (counting s (length ys)) (at s ys) = record { load = refl; limit = refl; made = refl; kept = e } in
+    let undone_to : AreCausal (at s ys) (rewind n k ∷ []) (undos (length gone)) =
+    rolled (length gone) (parted_undos (counting s (length ys)) (at s ys) n k left gone f.some here refl q) in
+    let a : length (steps_for s.kept ++ rewind n k ∷ []) ≡ length s.kept + 1 = length_push (steps_for s.kept) (rewind n k) ∙ ap (λ (z : ℕ). z + 1) (steps_length s.kept) in
+    let b : length (steps_for ys ++ rewind n k ∷ []) ≡ length ys + 1 = length_push (steps_for ys) (rewind n k) ∙ ap (λ (z : ℕ). z + 1) (steps_length ys) in
+    chained (more (steps_for s.kept) (steps_for ys) (rewind n k ∷ []) tt (big a) (big2 b same_length) (swaps_all s s.kept ys e f.some f.room f.count))
+    (chained (behind (with_kept s ys) (rewind n k ∷ []) (undos (length gone)) g undone_to)
+    (one_undos (with_kept s ys) left gone (length gone) refl refl g (omega (arith, l, same_length, parts))))
+  where
+    big : length (steps_for s.kept ++ rewind n k ∷ []) ≡ length s.kept + 1 → 0 + length (steps_for s.kept ++ rewind n k ∷ []) < 2 ^ 64
+    big a = let c : length s.kept + length s.kept < 2 ^ 64 = l in omega (arith, a, c)
+
+    big2 : length (steps_for (left ++ gone) ++ rewind n k ∷ []) ≡ length (left ++ gone) + 1 → length s.kept ≡ length (left ++ gone) → 0 + length (steps_for (left ++ gone) ++ rewind n k ∷ []) < 2 ^ 64
+    big2 b c = let d : length s.kept + length s.kept < 2 ^ 64 = l in omega (arith, b, c, d)
+
+pub one_rewind : (s : State) (n k : ℕ) → Fits s → length s.kept + length s.kept < 2 ^ 64 → NoneLooks (taken_from (causes_of s) (place_of (causes_of s) n k)) → AreCausal (load_of s) (steps_for s.kept ++ rewind n k ∷ []) (steps_for (rewound s n k).kept)
+one_rewind s n k f l none = go (place_of (causes_of s) n k) refl none
+  where
+    go : (o : Option ℕ) → place_of (causes_of s) n k ≡ o → NoneLooks (taken_from (causes_of s) o) → AreCausal (load_of s) (steps_for s.kept ++ rewind n k ∷ []) (steps_for (rewound s n k).kept)
+    go None is blind =
+        let stays : (rewound s n k).kept ≡ s.kept = ap (λ (o : Option ℕ). events_in (rest_from (causes_of s) o)) is ∙ replayed s f.some in
+        subst (λ z. AreCausal (load_of s) (steps_for s.kept ++ rewind n k ∷ []) (steps_for z)) (sym stays) (one_refused s (rewind n k) f (ap (with_kept (at s s.kept)) stays))
+    go (Some i) is blind =
+        let left : (rewound s n k).kept ≡ events_in (rest (causes_of s) i) = ap (λ (o : Option ℕ). events_in (rest_from (causes_of s) o)) is in
+        let e : AreEquivalent s.load s.kept (events_in (rest (causes_of s) i) ++ events_in (without (map not (dependents (causes_of s) i)) (causes_of s))) =
+        subst (AreEquivalent s.load s.kept) (events_join (rest (causes_of s) i) (without (map not (dependents (causes_of s) i)) (causes_of s))) (parted_alike s (runs_of s f.some) i blind) in
+        subst (λ z. AreCausal (load_of s) (steps_for s.kept ++ rewind n k ∷ []) (steps_for z)) (sym left)
+        (one_parted s n k (events_in (rest (causes_of s) i)) (events_in (without (map not (dependents (causes_of s) i)) (causes_of s))) f l e left)

@@ -1,0 +1,71 @@
+-- A node's history is told by its account.
+use Rattle.std.proofs.Common.{◌≡◌, ℕ, ◌+◌, Bool, true, false, cond, List, [], ◌∷◌, ◌++◌, map, Some, None, refl, sym, ◌∙◌, ap, arith, get_or}
+use Rattle.std.specs.Prelude.{Option, option_to_list}
+use Rattle.std.specs.List.{filter, flat_map}
+use Rattle.std.proofs.lemmas.List.Sums.{sum_by-append}
+use Rattle.std.proofs.lemmas.List.Concat.{flat_map-append}
+use Rattle.ga_event.specs.declared.event.Event.{Event}
+use Rattle.ga_event.specs.declared.event.Event.TheVariants as event
+use Rattle.ga_event.specs.declared.event.Cause.{Cause}
+use Rattle.ga_event.specs.Touches.{nodes_of, looked_at, seen_by}
+use Rattle.ga_event.specs.Touches.{touches as event_touches}
+use Rattle.ga_event.specs.Apply.{Told, Did, Carried}
+use Rattle.ga_causal.specs.Causes.{touches}
+use Rattle.ga_causal.specs.Equivalence.{account_told}
+use Rattle.ga_causal.specs.Steps.{counted}
+use Rattle.ga_causal.proofs.Shuffles.{numbers}
+use Rattle.ga_causal.proofs.Consistent.{told_after}
+use Rattle.ga_journal.specs.declared.made.Made.{Made}
+use Rattle.ga_journal.specs.declared.made.Made.TheVariants as made
+use Rattle.ga_journal.specs.Kept.{steps_of}
+use Rattle.ga_journal.specs.Told.{made_after, mades_after, mades_of}
+
+-- what is told of an event, by its numbers
+abbrev made_by : Event → List ℕ → Told → Option Made
+made_by (event.Own node) ns (Did kind) = Some (made.Own node (get_or ns 0 0) kind)
+made_by (event.Pass w r side) ns (Carried word) = Some (made.Pass w (get_or ns 0 0) r (get_or ns 1 0) word)
+made_by (event.Own node) ns (Carried word) = None
+made_by (event.Pass w r side) ns (Did kind) = None
+
+abbrev pub made_of : (Cause × List ℕ) × Told → List Made
+made_of x = option_to_list (made_by x.0.0.event x.0.1 x.1)
+
+made_here : (before : List Event) (s : ℕ → ℕ) → ((m : ℕ) → s m ≡ steps_of m before) → (e : Event) (others : List ℕ) (told : Told) → made_after before e told ≡ made_by e (map (λ m. s m + 1) (nodes_of e ++ others)) told
+made_here before s h (event.Own node) others (Did kind) = ap (λ (z : ℕ). Some (made.Own node (z + 1) kind)) (sym (h node.number))
+made_here before s h (event.Pass w r side) others (Carried word) =
+    ap (λ (z : ℕ). Some (made.Pass w (z + 1) r (steps_of r.number before + 1) word)) (sym (h w.number))
+    ∙ ap (λ (z : ℕ). Some (made.Pass w (s w.number + 1) r (z + 1) word)) (sym (h r.number))
+made_here before s h (event.Own node) others (Carried word) = refl
+made_here before s h (event.Pass w r side) others (Did kind) = refl
+
+made_numbered : (before : List Event) (s : ℕ → ℕ) → ((m : ℕ) → s m ≡ steps_of m before) → (c : Cause) (told : Told) → made_after before c.event told ≡ made_by c.event (numbers s c) told
+unfolding seen_by
+made_numbered before s h c told = made_here before s h c.event (looked_at c.event c.look) told
+
+one_more : (before : List Event) (s : ℕ → ℕ) → ((m : ℕ) → s m ≡ steps_of m before) → (c : Cause) (m : ℕ) → counted s c m ≡ steps_of m (before ++ c.event ∷ [])
+one_more before s h c m = go (touches c m) (sum_by-append (λ (e : Event). cond (event_touches e m) 1 0) before (c.event ∷ []))
+  where
+    go : (b : Bool) → steps_of m (before ++ c.event ∷ []) ≡ steps_of m before + (0 + cond b 1 0) → cond b (s m + 1) (s m) ≡ steps_of m (before ++ c.event ∷ [])
+    go true q = let p = h m in omega arith
+    go false q = let p = h m in omega arith
+
+joined : (b : Bool) (x : (Cause × List ℕ) × Told) (xs : List ((Cause × List ℕ) × Told)) (front back : List Made) → front ≡ made_of x → back ≡ flat_map made_of xs → cond b front [] ++ back ≡ flat_map made_of (cond b (x ∷ xs) xs)
+joined true x xs front back p q = ap (λ z. z ++ back) p ∙ ap (λ z. made_of x ++ z) q
+joined false x xs front back p q = q
+
+mades_accounted : (n : ℕ) (before : List Event) (s : ℕ → ℕ) (xs : List (Cause × Told)) → ((m : ℕ) → s m ≡ steps_of m before) → mades_after before xs n ≡ flat_map made_of (filter (λ x. touches x.0.0 n) (told_after s xs))
+mades_accounted n before s [] h = refl
+mades_accounted n before s (x ∷ xs) h =
+    joined (touches x.0 n) ((x.0, numbers s x.0), x.1) (filter (λ y. touches y.0.0 n) (told_after (counted s x.0) xs)) (option_to_list (made_after before x.0.event x.1)) (mades_after (before ++ x.0.event ∷ []) xs n)
+    (ap option_to_list (made_numbered before s h x.0 x.1))
+    (mades_accounted n (before ++ x.0.event ∷ []) (counted s x.0) xs (one_more before s h x.0))
+
+-- the history of a node is told by its account
+pub history_accounted : (told : List (Cause × Told)) (n : ℕ) → mades_of told n ≡ flat_map made_of (account_told n told)
+history_accounted told n = mades_accounted n [] (λ m. 0) told (λ m. refl)
+
+pub history_begins : (told left : List (Cause × Told)) (n : ℕ) → (later : List ((Cause × List ℕ) × Told)) × (account_told n told ≡ account_told n left ++ later) → (later : List Made) × (mades_of told n ≡ mades_of left n ++ later)
+history_begins told left n (later, q) = (
+  flat_map made_of later,
+  history_accounted told n ∙ ap (flat_map made_of) q ∙ flat_map-append made_of (account_told n left) later ∙ ap (λ z. z ++ flat_map made_of later) (sym (history_accounted left n)),
+)

@@ -1,0 +1,208 @@
+-- Where no kept event looks, the histories tell the kept events.
+use Rattle.std.proofs.Common.{◌≡◌, ℕ, ◌+◌, Bool, true, false, cond, List, [], ◌∷◌, ◌++◌, map, Some, None, refl, sym, ◌∙◌, ap, subst, arith, append-nil, eqb-true}
+use Rattle.std.specs.Prelude.{Option}
+use Rattle.std.specs.List.{filter, flat_map}
+use Rattle.std.proofs.lemmas.Bool.{cond-true, cond-false, and_parts, false_from_ne_true}
+use Rattle.std.proofs.lemmas.Option.{same_Some}
+use Rattle.ga_ports.specs.declared.side.Side.{Side}
+use Rattle.ga_ports.specs.declared.side.Side.TheVariants.{Right, Down, Left, Up}
+use Rattle.ga_node.specs.declared.kind.NotReady.{NotReady}
+use Rattle.ga_node.specs.Record.{NodeRecord}
+use Rattle.ga_node.specs.declared.wait.Wait.{Wait}
+use Rattle.ga_node.specs.Table.{t, own}
+use Rattle.ga_grid.specs.Chip.{record_at}
+use Rattle.ga_grid.specs.Grid.{neighbour_of}
+use Rattle.ga_grid.specs.declared.node_id.NodeId.{NodeId}
+use Rattle.ga_event.specs.declared.event.Event.{Event}
+use Rattle.ga_event.specs.declared.event.Event.TheVariants as event
+use Rattle.ga_event.specs.declared.event.Cause.{Cause}
+use Rattle.ga_event.specs.Touches.{looked_at, seen_by}
+use Rattle.ga_event.specs.Touches.{nodes_of as nodes_of_event}
+use Rattle.ga_event.specs.Apply.{Told, Did, Carried, seen_from, is_number, is_open, reads_from, unmatched, refusal_of, apply, after, unless, cause_of, run}
+use Rattle.ga_causal.specs.Causes.{touches}
+use Rattle.ga_causal.specs.Dependence.{NoneLooks}
+use Rattle.ga_causal.specs.Equivalence.{AreEquivalent, account, account_told}
+use Rattle.ga_causal.specs.Steps.{counted}
+use Rattle.ga_causal.proofs.Runs.{causes, first_of_run}
+use Rattle.ga_causal.proofs.Shuffles.{numbers, entries}
+use Rattle.ga_causal.proofs.Consistent.{told_after}
+use Rattle.ga_journal.specs.declared.made.Made.{Made}
+use Rattle.ga_journal.specs.declared.made.Made.TheVariants as made
+use Rattle.ga_journal.specs.Told.{mades_of}
+use Rattle.ga_lab.specs.Machine.{State, first, chip_of, causes_of, history_of}
+use Rattle.ga_lab.specs.Calls.{Call, called_all}
+use Rattle.ga_lab.proofs.Told.{made_of, history_accounted}
+use Rattle.ga_lab.proofs.Called.{Runs, told_is, causes_is, first_runs}
+use Rattle.ga_lab.proofs.Alike.{consistent}
+
+-- the side on which a neighbour stands
+side_of : ℕ → ℕ → Side
+side_of w r = cond (is_number (neighbour_of w Right) r) Right (cond (is_number (neighbour_of w Down) r) Down (cond (is_number (neighbour_of w Left) r) Left Up))
+
+number_is : (o : Option ℕ) (r : ℕ) → is_number o r ≡ true → o ≡ Some r
+number_is None r h = absurd (cc)
+number_is (Some m) r h = ap Some (eqb-true m r h)
+
+right_down : (w r : ℕ) → neighbour_of w Right ≡ Some r → neighbour_of w Down ≡ Some r → ⊥
+right_down w r h k = grind arith
+
+right_left : (w r : ℕ) → neighbour_of w Right ≡ Some r → neighbour_of w Left ≡ Some r → ⊥
+right_left w r h k = grind arith
+
+right_up : (w r : ℕ) → neighbour_of w Right ≡ Some r → neighbour_of w Up ≡ Some r → ⊥
+right_up w r h k = grind arith
+
+down_left : (w r : ℕ) → neighbour_of w Down ≡ Some r → neighbour_of w Left ≡ Some r → ⊥
+down_left w r h k = grind arith
+
+down_up : (w r : ℕ) → neighbour_of w Down ≡ Some r → neighbour_of w Up ≡ Some r → ⊥
+down_up w r h k = grind arith
+
+left_up : (w r : ℕ) → neighbour_of w Left ≡ Some r → neighbour_of w Up ≡ Some r → ⊥
+left_up w r h k = grind arith
+
+no_number : (o p : Option ℕ) (r : ℕ) → (o ≡ Some r → p ≡ Some r → ⊥) → is_number p r ≡ true → is_number o r ≡ false
+no_number o p r h t = false_from_ne_true (is_number o r) (λ u. h (number_is o r u) (number_is p r t))
+
+side_is : (w r : ℕ) (side : Side) → is_number (neighbour_of w side) r ≡ true → side_of w r ≡ side
+unfolding side_of
+side_is w r Right h = cond-true (is_number (neighbour_of w Right) r) Right _ h
+side_is w r Down h =
+    cond-false (is_number (neighbour_of w Right) r) Right _ (no_number (neighbour_of w Right) (neighbour_of w Down) r (right_down w r) h)
+    ∙ cond-true (is_number (neighbour_of w Down) r) Down _ h
+side_is w r Left h =
+    cond-false (is_number (neighbour_of w Right) r) Right _ (no_number (neighbour_of w Right) (neighbour_of w Left) r (right_left w r) h)
+    ∙ cond-false (is_number (neighbour_of w Down) r) Down _ (no_number (neighbour_of w Down) (neighbour_of w Left) r (down_left w r) h)
+    ∙ cond-true (is_number (neighbour_of w Left) r) Left Up h
+side_is w r Up h =
+    cond-false (is_number (neighbour_of w Right) r) Right _ (no_number (neighbour_of w Right) (neighbour_of w Up) r (right_up w r) h)
+    ∙ cond-false (is_number (neighbour_of w Down) r) Down _ (no_number (neighbour_of w Down) (neighbour_of w Up) r (down_up w r) h)
+    ∙ cond-false (is_number (neighbour_of w Left) r) Left Up (no_number (neighbour_of w Left) (neighbour_of w Up) r (left_up w r) h)
+
+-- an event that doesn't look
+blind : Event → Cause
+blind e = record { event = e; look = false }
+
+-- the event of which this is told
+decoded : Made → (Cause × List ℕ) × Told
+decoded (made.Own node k kind) = ((blind (event.Own node), k ∷ []), Did kind)
+decoded (made.Pass w k r j word) = ((blind (event.Pass w r (side_of w.number r.number)), k ∷ j ∷ []), Carried word)
+
+-- what is told of it tells it
+IsTellable : (Cause × List ℕ) × Told → Type 0
+IsTellable x = (m : Made) × (made_of x ≡ m ∷ []) × (decoded m ≡ x)
+
+abbrev AreTellable : List ((Cause × List ℕ) × Told) → Type 0
+AreTellable [] = Unit {0}
+AreTellable (x ∷ xs) = IsTellable x × AreTellable xs
+
+seen_blind : (e : Event) → seen_by (blind e) ≡ nodes_of_event e
+unfolding seen_by blind
+seen_blind e = ap (λ z. nodes_of_event e ++ z) (none e) ∙ append-nil (nodes_of_event e)
+  where
+    none : (e : Event) → looked_at e false ≡ []
+    none (event.Own node) = refl
+    none (event.Pass w r side) = refl
+
+own_tellable : (s : ℕ → ℕ) (node : NodeId) (kind : _) → IsTellable ((blind (event.Own node), (s node.number + 1) ∷ []), Did kind)
+unfolding IsTellable decoded blind
+own_tellable s node kind = (made.Own node (s node.number + 1) kind, refl, refl)
+
+pass_tellable : (s : ℕ → ℕ) (w r : NodeId) (side : Side) (word : ℕ) → is_number (neighbour_of w.number side) r.number ≡ true → IsTellable ((blind (event.Pass w r side), (s w.number + 1) ∷ (s r.number + 1) ∷ []), Carried word)
+unfolding IsTellable decoded blind
+pass_tellable s w r side word h =
+    (made.Pass w (s w.number + 1) r (s r.number + 1) word, refl, ap (λ z. ((blind (event.Pass w r z), (s w.number + 1) ∷ (s r.number + 1) ∷ []), Carried word)) (side_is w.number r.number side h))
+
+-- an event that was made
+record CanBe (c : List NodeRecord) (e : Event) (told : Told) : Type 0 where
+  free : refusal_of c e ≡ None
+  is : (after c e).1 ≡ told
+
+can_be : (c d : List NodeRecord) (e : Event) (told : Told) → apply c e ≡ Some (d, told) → CanBe c e told
+can_be c d e told h = go (refusal_of c e) refl h
+  where
+    go : (o : Option NotReady) → refusal_of c e ≡ o → unless o (after c e) ≡ Some (d, told) → CanBe c e told
+    go None q k = record { free = q; is = ap (λ (z : List NodeRecord × Told). z.1) (same_Some (after c e) (d, told) k) }
+    go (Some why) q k = absurd (cc)
+
+number_open : (w r : ℕ) (side : Side) (posted awaited : Wait) → is_open w r side posted awaited ≡ true → is_number (neighbour_of w side) r ≡ true
+number_open w r side posted awaited h = (and_parts (is_number (neighbour_of w side) r) _ ((and_parts _ (reads_from awaited side) h).0)).0
+
+open_from : (b : Bool) → unmatched b ≡ None → b ≡ true
+open_from true h = refl
+open_from false h = absurd (cc)
+
+numbers_blind : (s : ℕ → ℕ) (e : Event) → numbers s (blind e) ≡ map (λ n. s n + 1) (nodes_of_event e)
+numbers_blind s e = ap (map (λ n. s n + 1)) (seen_blind e)
+
+made_tellable : (c : List NodeRecord) (e : Event) (told : Told) (s : ℕ → ℕ) → CanBe c e told → IsTellable ((blind e, numbers s (blind e)), told)
+made_tellable c (event.Own node) told s h =
+    subst (λ z. IsTellable ((blind (event.Own node), numbers s (blind (event.Own node))), z)) h.is
+    (subst (λ z. IsTellable ((blind (event.Own node), z), (after c (event.Own node)).1)) (sym (numbers_blind s (event.Own node)))
+    (own_tellable s node (own (seen_from c node.number) (record_at c node.number)).0))
+made_tellable c (event.Pass w r side) told s h =
+    let here : is_open w.number r.number side (record_at c w.number).wait (record_at c r.number).wait ≡ true = open_from (is_open w.number r.number side (record_at c w.number).wait (record_at c r.number).wait) h.free in
+    subst (λ z. IsTellable ((blind (event.Pass w r side), numbers s (blind (event.Pass w r side))), z)) h.is
+    (subst (λ z. IsTellable ((blind (event.Pass w r side), z), (after c (event.Pass w r side)).1)) (sym (numbers_blind s (event.Pass w r side)))
+    (pass_tellable s w r side (t (record_at c w.number)) (number_open w.number r.number side (record_at c w.number).wait (record_at c r.number).wait here)))
+
+cause_blind : (c : List NodeRecord) (e : Event) → (cause_of c e).look ≡ false → blind e ≡ cause_of c e
+unfolding blind
+cause_blind c e h = ap (named e) (sym h)
+  where
+    named : Event → Bool → Cause
+    named x b = record { event = x; look = b }
+
+all_tellable : (c last : List NodeRecord) (es : List Event) (ts : List (Cause × Told)) (s : ℕ → ℕ) → run c es ≡ Some (last, ts) → NoneLooks (causes ts) → AreTellable (told_after s ts)
+all_tellable c last [] ts s is none = subst (λ (z : List NodeRecord × List (Cause × Told)). AreTellable (told_after s z.1)) (same_Some (c, []) (last, ts) is) tt
+all_tellable c last (e ∷ es) ts s is none =
+    let m = first_of_run c e es last ts is in
+    let look : NoneLooks (cause_of c e ∷ causes m.others) = subst (λ (z : List (Cause × Told)). NoneLooks (causes z)) m.all none in
+    subst (λ (z : List (Cause × Told)). AreTellable (told_after s z)) (sym m.all) (
+      subst (λ z. IsTellable ((z, numbers s z), m.told)) (cause_blind c e look.0) (made_tellable c e m.told s (can_be c m.mid e m.told m.first)),
+      all_tellable m.mid last es m.others (counted s (cause_of c e)) m.then look.1,
+    )
+
+some_tellable : (test : (Cause × List ℕ) × Told → Bool) (xs : List ((Cause × List ℕ) × Told)) → AreTellable xs → AreTellable (filter test xs)
+some_tellable test [] h = tt
+some_tellable test (x ∷ xs) h = go (test x) (some_tellable test xs h.1)
+  where
+    go : (b : Bool) → AreTellable (filter test xs) → AreTellable (cond b (x ∷ filter test xs) (filter test xs))
+    go true k = (h.0, k)
+    go false k = k
+
+told_back : (xs : List ((Cause × List ℕ) × Told)) → AreTellable xs → map decoded (flat_map made_of xs) ≡ xs
+unfolding IsTellable
+told_back [] h = refl
+told_back (x ∷ xs) h = one h.0 (told_back xs h.1)
+  where
+    one : IsTellable x → map decoded (flat_map made_of xs) ≡ xs → map decoded (made_of x ++ flat_map made_of xs) ≡ x ∷ xs
+    one (m, p, q) k = ap (λ z. map decoded (z ++ flat_map made_of xs)) p ∙ ap (λ z. z ∷ map decoded (flat_map made_of xs)) q ∙ ap (λ z. x ∷ z) k
+
+-- the account of a node, out of the account with what was told
+untold : (n : ℕ) (s : ℕ → ℕ) (ts : List (Cause × Told)) → filter (λ (x : Cause × List ℕ). touches x.0 n) (entries s (causes ts)) ≡ map (λ x. x.0) (filter (λ (x : (Cause × List ℕ) × Told). touches x.0.0 n) (told_after s ts))
+untold n s [] = refl
+untold n s (x ∷ ts) = go (touches x.0 n) _ _ (untold n (counted s x.0) ts)
+  where
+    go : (b : Bool) (xs : List (Cause × List ℕ)) (ys : List ((Cause × List ℕ) × Told)) → xs ≡ map (λ x. x.0) ys → cond b ((x.0, numbers s x.0) ∷ xs) xs ≡ map (λ x. x.0) (cond b (((x.0, numbers s x.0), x.1) ∷ ys) ys)
+    go true xs ys k = ap (λ z. (x.0, numbers s x.0) ∷ z) k
+    go false xs ys k = k
+
+account_told_back : (s : State) (n : ℕ) (r : Runs s) → NoneLooks (causes_of s) → account n (causes_of s) ≡ map (λ x. x.0) (map decoded (history_of s n))
+account_told_back s n r none =
+    let all : AreTellable (told_after (λ i. 0) r.told) = all_tellable s.load r.last s.kept r.told (λ i. 0) r.run_is (subst NoneLooks (causes_is s r) none) in
+    ap (account n) (causes_is s r) ∙ untold n (λ i. 0) r.told
+    ∙ ap (map (λ x. x.0)) (sym (told_back (account_told n r.told) (some_tellable (λ x. touches x.0.0 n) (told_after (λ i. 0) r.told) all)))
+    ∙ ap (λ z. map (λ x. x.0) (map decoded z)) (sym (ap (λ z. mades_of z n) (told_is s r) ∙ history_accounted r.told n))
+
+pub traces_tell : (load : List NodeRecord) (limit bound : ℕ) (calls others : List Call)
+    → NoneLooks (causes_of (called_all (first load limit) calls)) → NoneLooks (causes_of (called_all (first load bound) others))
+    → ((n : ℕ) → history_of (called_all (first load limit) calls) n ≡ history_of (called_all (first load bound) others) n)
+    → AreEquivalent load (called_all (first load limit) calls).kept (called_all (first load bound) others).kept × (chip_of (called_all (first load limit) calls) ≡ chip_of (called_all (first load bound) others))
+traces_tell load limit bound calls others none nor h =
+    let s = called_all (first load limit) calls in
+    let z = called_all (first load bound) others in
+    let r = first_runs load limit calls in
+    let q = first_runs load bound others in
+    let k = consistent load limit bound calls others (λ n. account_told_back s n r none ∙ ap (λ x. map (λ y. y.0) (map decoded x)) (h n) ∙ sym (account_told_back z n q nor)) in
+    (k.0, k.1)

@@ -1,0 +1,54 @@
+use Rattle.std.proofs.Common.{◌≡◌, ◌<◌, ℕ, ◌∙◌, Some, None, take, sym, ap, subst, arith}
+use Rattle.std.proofs.lemmas.List.{take_all}
+use Rattle.std.specs.Prelude.{◌↔◌, IsNone, drop}
+use Rattle.ga_node.specs.declared.node.Node.{Node}
+use Rattle.ga_node.specs.State.{NodeState}
+use Rattle.ga_node.specs.Record.{record_of}
+use Rattle.ga_grid.specs.Chip.{record_at}
+use Rattle.ga_event.specs.Apply.{replay}
+use Rattle.ga_journal.specs.Histories.{history}
+use Rattle.ga_journal.specs.Kept.{steps_of}
+use Rattle.ga_journal.specs.Walked.{walked, CanWalk}
+use Rattle.ga_lab.specs.Machine.{State, chip_of, earlier}
+use Rattle.ga_lab.specs.Tied.{state_of}
+use Rattle.ga_lab.proofs.Stepping.{whole_of}
+use Rattle.ga_lab.proofs.Peeking.{can_peek, replays_earlier, peeked, kept_steps, none_past, some_within}
+use Rattle.ga_lab.proofs.lab.Lab.peek.Goals as goal
+
+pub walk_back-requires-clause-can : goal.walk_back-requires-clause-can
+walk_back-requires-clause-can c =
+    subst (λ h. CanWalk c.copy-then.result (drop c.args.step h)) (sym (take_all c.steps_of-steps.result (history c.self.inside.chronicle.journal.histories c.args.node.number) (omega (arith, c.steps_of-steps.ensures.value))))
+    (subst (λ (z : NodeState). CanWalk z (drop c.args.step (history c.self.inside.chronicle.journal.histories c.args.node.number))) (sym (c.copy-then.ensures ∙ c.node.ensures.value))
+    (can_peek c.self.inside.chip c.self.inside.chronicle.journal c.args.node.number c.args.step c.self.invariant.tied))
+
+pub returns-clause-value : goal.returns-clause-value
+returns-clause-value c =
+    subst (λ (s : State). (place : ℕ) → steps_of c.args.node.number (take place s.kept) ≡ c.args.step → record_of c.walk_back.new.now ≡ record_at (chip_of (earlier s place)) c.args.node.number) c.self.view_is
+    (λ place so_many. peeked c.self.inside.chip c.self.inside.chronicle.journal c.args.node.number place c.args.step c.walk_back.new.now c.self.invariant.tied so_many
+    (c.walk_back.ensures
+    ∙ ap (λ h. walked c.copy-then.result (drop c.args.step h)) (take_all c.steps_of-steps.result (history c.self.inside.chronicle.journal.histories c.args.node.number) (omega (arith, c.steps_of-steps.ensures.value)))
+    ∙ ap (λ (z : NodeState). walked z (drop c.args.step (history c.self.inside.chronicle.journal.histories c.args.node.number))) (c.copy-then.ensures ∙ c.node.ensures.value)))
+
+pub returns-clause-replays : goal.returns-clause-replays
+returns-clause-replays c =
+    subst (λ (s : State). (place : ℕ) → replay s.load (take place s.kept) ≡ Some (chip_of (earlier s place))) c.self.view_is
+    (λ place. replays_earlier c.self.inside.chip c.self.inside.chronicle.journal place c.self.invariant.tied)
+
+pub returns-then-step-steps-clause-replays : goal.returns-then-step-steps-clause-replays
+returns-then-step-steps-clause-replays c =
+    subst (λ (s : State). (place : ℕ) → replay s.load (take place s.kept) ≡ Some (chip_of (earlier s place))) c.self.view_is
+    (λ place. replays_earlier c.self.inside.chip c.self.inside.chronicle.journal place c.self.invariant.tied)
+
+pub returns-then-step-steps-clause-past : goal.returns-then-step-steps-clause-past
+returns-then-step-steps-clause-past c =
+    subst (λ (s : State). IsNone {T = Node} None ↔ (steps_of c.args.node.number s.kept < c.args.step)) c.self.view_is
+    (let many : c.steps_of-steps.result ≡ steps_of c.args.node.number (state_of c.self.inside.chip c.self.inside.chronicle.journal).kept =
+    c.steps_of-steps.ensures.steps (whole_of c.self.inside.chip c.self.inside.chronicle.journal c.self.invariant.tied) ∙ kept_steps c.self.inside.chip c.self.inside.chronicle.journal c.args.node.number in
+    none_past Node _ _ _ many c.if-step-steps.true)
+
+pub returns-clause-past : goal.returns-clause-past
+returns-clause-past c =
+    subst (λ (s : State). IsNone (Some c.walk_back.new.now) ↔ (steps_of c.args.node.number s.kept < c.args.step)) c.self.view_is
+    (let many : c.steps_of-steps.result ≡ steps_of c.args.node.number (state_of c.self.inside.chip c.self.inside.chronicle.journal).kept =
+    c.steps_of-steps.ensures.steps (whole_of c.self.inside.chip c.self.inside.chronicle.journal c.self.invariant.tied) ∙ kept_steps c.self.inside.chip c.self.inside.chronicle.journal c.args.node.number in
+    some_within c.walk_back.new.now _ _ _ many c.if-step-steps.false)

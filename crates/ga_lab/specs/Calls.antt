@@ -1,0 +1,28 @@
+-- Machines that calls lead to, and machines that differ in the order of independent events alone.
+use Rattle.std.specs.Prelude.{◌≡◌, ℕ, List, [], ◌∷◌}
+use Rattle.ga_grid.specs.declared.node_id.NodeId.{NodeId}
+use Rattle.ga_causal.specs.Equivalence.{AreEquivalent}
+use Rattle.ga_lab.specs.Machine.{State, stepped, undone, rewound}
+
+pub data Call : Type 0 where
+  step : NodeId → Call
+  undo : Call
+  rewind : ℕ → ℕ → Call
+
+-- the machine after a call
+abbrev pub called : State → Call → State
+called s (step n) = stepped s n
+called s undo = undone s
+called s (rewind n k) = rewound s n k
+
+-- and after these, one after another
+abbrev pub called_all : State → List Call → State
+called_all s [] = s
+called_all s (call ∷ calls) = called_all (called s call) calls
+
+-- one keeps what the other keeps, but for the order of independent events
+pub record AreAlike (s z : State) : Type 0 where
+  pub load : s.load ≡ z.load
+  pub limit : s.limit ≡ z.limit
+  pub made : s.made ≡ z.made
+  pub kept : AreEquivalent s.load s.kept z.kept

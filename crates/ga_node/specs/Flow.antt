@@ -1,0 +1,334 @@
+-- Where the values come from that an event leaves in a node: the table of Table.antt once more, with the sources of each word in the
+-- place of the word.
+use Rattle.std.specs.Prelude.{ℕ, ◌+◌, ◌-◌, ◌/◌, ◌^◌, ◌==◌, ◌≡◌, ◌<◌, Bool, ◌&&◌, if◌then◌else◌, List, [], ◌∷◌, slice_index, length}
+use Rattle.ga_word.specs.Word.{carry_value}
+use Rattle.ga_slots.specs.declared.op.Op.{Op}
+use Rattle.ga_slots.specs.declared.op.Op.TheVariants.{Return, Execute, Jump, Call, Unext, Next, If, MinusIf, FetchP, FetchPlus, FetchB, Fetch, StoreP, StorePlus, StoreB, Store, MultiplyStep, TwoStar, TwoSlash, Invert, Plus, And, Or, Drop, Dup, Pop, Over, A, Nop, Push, BStore, AStore}
+use Rattle.ga_ports.specs.Address.{classified, is_single}
+use Rattle.ga_ports.specs.declared.address.Target.{Target}
+use Rattle.ga_ports.specs.declared.address.Target.TheVariants.{Ram, Rom, Io, Ports, Bad}
+use Rattle.ga_node.specs.Record.{NodeRecord}
+use Rattle.ga_node.specs.Waits.{wait_code}
+use Rattle.ga_node.specs.Table.{t, r, is_extended, due_of}
+use Rattle.ga_node.specs.declared.part.Part.{Part}
+use Rattle.ga_node.specs.declared.part.Part.TheVariants.{Data as OfD, Return as OfR, Ram as OfRam, Rom as OfRom, A as OfA, B as OfB, P as OfP, I as OfI, Io as OfIo, Carry as OfCarry, Slot as OfSlot, Wait as OfWait, Stop as OfStop, Outside}
+use Rattle.ga_node.specs.declared.due.Due.{Due}
+use Rattle.ga_node.specs.declared.due.Due.TheVariants as due
+use Rattle.ga_node.specs.declared.wait.Wait.{Wait}
+use Rattle.ga_node.specs.declared.wait.Wait.TheVariants as wait
+
+-- ---- the parts of a node
+
+-- T, S and R
+abbrev pub top : Part
+top = OfD 0
+
+abbrev pub second : Part
+second = OfD 1
+
+abbrev pub top_return : Part
+top_return = OfR 0
+
+-- what stands there, where this word comes from outside
+abbrev pub part_of : ℕ → NodeRecord → Part → ℕ
+part_of word n (OfD k) = slice_index n.d k
+part_of word n (OfR k) = slice_index n.r k
+part_of word n (OfRam k) = slice_index n.ram k
+part_of word n (OfRom k) = slice_index n.rom k
+part_of word n OfA = n.a
+part_of word n OfB = n.b
+part_of word n OfP = n.p
+part_of word n OfI = n.i
+part_of word n OfIo = n.io
+part_of word n OfCarry = carry_value n.carry
+part_of word n OfSlot = n.slot
+part_of word n OfWait = wait_code n.wait
+part_of word n OfStop = n.stop
+part_of word n Outside = word
+
+-- a part that each node has
+abbrev pub IsPart : Part → Type 0
+IsPart (OfD k) = k < 10
+IsPart (OfR k) = k < 9
+IsPart (OfRam k) = k < 64
+IsPart (OfRom k) = k < 64
+IsPart Outside = ⊥
+IsPart _ = Unit {0}
+
+-- Where a value comes from: it is that of a part before, or it is computed from these parts alone, given what decides the event.
+pub data Flow : Type 0 where
+  Same : Part → Flow
+  From : List Part → Flow
+
+-- ---- the changes of Changes.antt, each with the flow of its word
+
+pub data Move : Type 0 where
+  PushData : Flow → Move
+  PopData : Move
+  SetTop : Flow → Move
+  PopTo : Flow → Move
+  PushReturn : Flow → Move
+  PopReturn : Move
+  SetTopReturn : Flow → Move
+  SetP : Flow → Move
+  SetA : Flow → Move
+  SetB : Flow → Move
+  SetI : Flow → Move
+  SetIo : Flow → Move
+  SetCarry : Flow → Move
+  SetRam : ℕ → Flow → Move
+  GoOn : Move
+  Skip : Move
+  StartAgain : Move
+  SetWait : Move
+  SetStop : Move
+
+-- where the value of each part comes from
+abbrev pub Flows : Type 0
+Flows = Part → Flow
+
+-- the number of a kind of part, and the place or the cell
+abbrev pub kind_of : Part → ℕ
+kind_of (OfD k) = 0
+kind_of (OfR k) = 1
+kind_of (OfRam k) = 2
+kind_of (OfRom k) = 3
+kind_of OfA = 4
+kind_of OfB = 5
+kind_of OfP = 6
+kind_of OfI = 7
+kind_of OfIo = 8
+kind_of OfCarry = 9
+kind_of OfSlot = 10
+kind_of OfWait = 11
+kind_of OfStop = 12
+kind_of Outside = 13
+
+abbrev pub index_of : Part → ℕ
+index_of (OfD k) = k
+index_of (OfR k) = k
+index_of (OfRam k) = k
+index_of (OfRom k) = k
+index_of _ = 0
+
+abbrev pub is_same : Part → Part → Bool
+is_same part other = kind_of part == kind_of other && index_of part == index_of other
+
+-- another flow at a part; and each stack's words after a push, and after a pop, which copies the third word of data and the second
+-- return to the last place
+abbrev pub with_flow : Part → Flow → Flows → Flows
+with_flow at flow f part = if is_same part at then flow else f part
+
+abbrev pub pushed_data : Flow → Flows → Flows
+pushed_data flow f (OfD k) = if k == 0 then flow else f (OfD (k - 1))
+pushed_data flow f part = f part
+
+abbrev pub popped_data : Flows → Flows
+popped_data f (OfD k) = if k == 9 then f (OfD 2) else f (OfD (k + 1))
+popped_data f part = f part
+
+abbrev pub pushed_return : Flow → Flows → Flows
+pushed_return flow f (OfR k) = if k == 0 then flow else f (OfR (k - 1))
+pushed_return flow f part = f part
+
+abbrev pub popped_return : Flows → Flows
+popped_return f (OfR k) = if k == 8 then f (OfR 1) else f (OfR (k + 1))
+popped_return f part = f part
+
+-- computed from a value that comes from there
+abbrev pub by : Flow → Flow
+by (Same part) = From (part ∷ [])
+by (From parts) = From parts
+
+abbrev pub moved : Move → Flows → Flows
+moved (PushData flow) f = pushed_data flow f
+moved PopData f = popped_data f
+moved (SetTop flow) f = with_flow top flow f
+moved (PopTo flow) f = with_flow top flow (popped_data f)
+moved (PushReturn flow) f = pushed_return flow f
+moved PopReturn f = popped_return f
+moved (SetTopReturn flow) f = with_flow top_return flow f
+moved (SetP flow) f = with_flow OfP flow f
+moved (SetA flow) f = with_flow OfA flow f
+moved (SetB flow) f = with_flow OfB flow f
+moved (SetI flow) f = with_flow OfI flow f
+moved (SetIo flow) f = with_flow OfIo flow f
+moved (SetCarry flow) f = with_flow OfCarry flow f
+moved (SetRam cell flow) f = with_flow (OfRam cell) flow f
+moved GoOn f = with_flow OfSlot (by (f OfSlot)) f
+moved Skip f = with_flow OfSlot (From []) f
+moved StartAgain f = with_flow OfSlot (From []) f
+moved SetWait f = with_flow OfWait (From []) f
+moved SetStop f = with_flow OfStop (From []) f
+
+abbrev pub moved_all : List Move → Flows → Flows
+moved_all [] f = f
+moved_all (move ∷ rest) f = moved_all rest (moved move f)
+
+-- ---- the table
+
+-- what a read gives, and what comes after it
+abbrev pub read_moves : Target → (Flow → List Move) → List Move
+read_moves (Ram k) more = more (Same (OfRam k))
+read_moves (Rom k) more = more (Same (OfRom k))
+read_moves Io more = more (Same Outside)
+read_moves (Ports sides) more = SetWait ∷ []
+read_moves Bad more = SetStop ∷ []
+
+-- what a write of T changes, and what comes after it
+abbrev pub write_moves : Target → List Move → List Move
+write_moves (Ram k) more = SetRam k (Same top) ∷ more
+write_moves (Rom k) more = more
+write_moves Io more = SetIo (Same top) ∷ more
+write_moves (Ports sides) more = if is_single sides then SetWait ∷ [] else SetStop ∷ []
+write_moves Bad more = SetStop ∷ []
+
+abbrev pub from : Part → Flow
+from part = From (part ∷ [])
+
+abbrev pub from_t_and_s : Flow
+from_t_and_s = From (top ∷ second ∷ [])
+
+abbrev pub execute_moves : List Move
+execute_moves = SetP (from top_return) ∷ SetTopReturn (Same OfP) ∷ Skip ∷ []
+
+abbrev pub jump_moves : List Move
+jump_moves = SetP (From (OfP ∷ OfI ∷ OfSlot ∷ [])) ∷ Skip ∷ []
+
+abbrev pub add_moves : Bool → List Move
+add_moves extended =
+    let sum = From (top ∷ second ∷ OfCarry ∷ []) in
+    if extended then SetCarry sum ∷ PopTo sum ∷ GoOn ∷ [] else PopTo from_t_and_s ∷ GoOn ∷ []
+
+abbrev pub multiply_moves : List Move
+multiply_moves = let sum = From (top ∷ second ∷ OfA ∷ []) in SetA sum ∷ SetTop sum ∷ GoOn ∷ []
+
+-- the moves of each opcode in their order
+abbrev pub moves : Op → NodeRecord → List Move
+moves Return n = SetP (from top_return) ∷ PopReturn ∷ Skip ∷ []
+moves Execute n = execute_moves
+moves Jump n = jump_moves
+moves Call n = PushReturn (Same OfP) ∷ jump_moves
+moves Unext n = if r n == 0 then PopReturn ∷ GoOn ∷ [] else SetTopReturn (from top_return) ∷ StartAgain ∷ []
+moves Next n = if r n == 0 then PopReturn ∷ Skip ∷ [] else SetTopReturn (from top_return) ∷ jump_moves
+moves If n = if t n == 0 then jump_moves else Skip ∷ []
+moves MinusIf n = if t n / 2 ^ 17 == 0 then jump_moves else Skip ∷ []
+moves FetchP n = read_moves (classified n.p) (λ word. PushData word ∷ SetP (from OfP) ∷ GoOn ∷ [])
+moves FetchPlus n = read_moves (classified n.a) (λ word. PushData word ∷ SetA (from OfA) ∷ GoOn ∷ [])
+moves FetchB n = read_moves (classified n.b) (λ word. PushData word ∷ GoOn ∷ [])
+moves Fetch n = read_moves (classified n.a) (λ word. PushData word ∷ GoOn ∷ [])
+moves StoreP n = write_moves (classified n.p) (PopData ∷ SetP (from OfP) ∷ GoOn ∷ [])
+moves StorePlus n = write_moves (classified n.a) (PopData ∷ SetA (from OfA) ∷ GoOn ∷ [])
+moves StoreB n = write_moves (classified n.b) (PopData ∷ GoOn ∷ [])
+moves Store n = write_moves (classified n.a) (PopData ∷ GoOn ∷ [])
+moves MultiplyStep n = multiply_moves
+moves TwoStar n = SetTop (from top) ∷ GoOn ∷ []
+moves TwoSlash n = SetTop (from top) ∷ GoOn ∷ []
+moves Invert n = SetTop (from top) ∷ GoOn ∷ []
+moves Plus n = add_moves (is_extended n)
+moves And n = PopTo from_t_and_s ∷ GoOn ∷ []
+moves Or n = PopTo from_t_and_s ∷ GoOn ∷ []
+moves Drop n = PopData ∷ GoOn ∷ []
+moves Dup n = PushData (Same top) ∷ GoOn ∷ []
+moves Pop n = PushData (Same top_return) ∷ PopReturn ∷ GoOn ∷ []
+moves Over n = PushData (Same second) ∷ GoOn ∷ []
+moves A n = PushData (Same OfA) ∷ GoOn ∷ []
+moves Nop n = GoOn ∷ []
+moves Push n = PushReturn (Same top) ∷ PopData ∷ GoOn ∷ []
+moves BStore n = SetB (from top) ∷ PopData ∷ GoOn ∷ []
+moves AStore n = SetA (Same top) ∷ PopData ∷ GoOn ∷ []
+
+-- the moves of a fetch, by what P names, and of what comes next in a node
+abbrev pub fetch_moves : Target → List Move
+fetch_moves target = read_moves target (λ word. SetI word ∷ SetP (from OfP) ∷ StartAgain ∷ [])
+
+abbrev pub moves_by : Due → NodeRecord → List Move
+moves_by due.Fetch n = fetch_moves (classified n.p)
+moves_by (due.Run op) n = moves op n
+
+-- the moves of the two halves of a transfer
+abbrev pub send_moves : List Move
+send_moves = SetWait ∷ PopData ∷ GoOn ∷ []
+
+abbrev pub take_moves : Wait → List Move
+take_moves (wait.Fetch sides) = SetWait ∷ SetI (Same Outside) ∷ StartAgain ∷ []
+take_moves (wait.Read sides) = SetWait ∷ PushData (Same Outside) ∷ GoOn ∷ []
+take_moves wait.Nothing = []
+take_moves (wait.Write side) = []
+
+-- where the value of a part comes from after a node's own event, after it sent a word, and after it took one
+unfoldable pub own_flow : NodeRecord → Part → Flow
+own_flow n = moved_all (moves_by (due_of n) n) Same
+
+unfoldable pub send_flow : Part → Flow
+send_flow = moved_all send_moves Same
+
+unfoldable pub take_flow : Wait → Part → Flow
+take_flow wait = moved_all (take_moves wait) Same
+
+-- ---- what decides an event
+
+-- beside the opcode: a test, or the target of an address
+pub data Choice : Type 0 where
+  Plain : Choice
+  Test : Bool → Choice
+  At : Target → Choice
+
+abbrev pub choice : Due → NodeRecord → Choice
+choice due.Fetch n = At (classified n.p)
+choice (due.Run Unext) n = Test (r n == 0)
+choice (due.Run Next) n = Test (r n == 0)
+choice (due.Run If) n = Test (t n == 0)
+choice (due.Run MinusIf) n = Test (t n / 2 ^ 17 == 0)
+choice (due.Run Plus) n = Test (is_extended n)
+choice (due.Run FetchP) n = At (classified n.p)
+choice (due.Run FetchPlus) n = At (classified n.a)
+choice (due.Run FetchB) n = At (classified n.b)
+choice (due.Run Fetch) n = At (classified n.a)
+choice (due.Run StoreP) n = At (classified n.p)
+choice (due.Run StorePlus) n = At (classified n.a)
+choice (due.Run StoreB) n = At (classified n.b)
+choice (due.Run Store) n = At (classified n.a)
+choice (due.Run _) n = Plain
+
+-- and the parts from which it comes
+abbrev pub chosen_by : Due → List Part
+chosen_by due.Fetch = OfP ∷ []
+chosen_by (due.Run Unext) = top_return ∷ []
+chosen_by (due.Run Next) = top_return ∷ []
+chosen_by (due.Run If) = top ∷ []
+chosen_by (due.Run MinusIf) = top ∷ []
+chosen_by (due.Run Plus) = OfP ∷ []
+chosen_by (due.Run FetchP) = OfP ∷ []
+chosen_by (due.Run FetchPlus) = OfA ∷ []
+chosen_by (due.Run FetchB) = OfB ∷ []
+chosen_by (due.Run Fetch) = OfA ∷ []
+chosen_by (due.Run StoreP) = OfP ∷ []
+chosen_by (due.Run StorePlus) = OfA ∷ []
+chosen_by (due.Run StoreB) = OfB ∷ []
+chosen_by (due.Run Store) = OfA ∷ []
+chosen_by (due.Run _) = []
+
+-- ---- two runs
+
+-- the same is decided in both nodes
+pub record AreAlike (n m : NodeRecord) : Type 0 where
+  pub due : due_of n ≡ due_of m
+  pub choice : choice (due_of n) n ≡ choice (due_of m) m
+
+-- the lists of a node
+pub record HasSizes (n : NodeRecord) : Type 0 where
+  pub d : length n.d ≡ 10
+  pub r : length n.r ≡ 9
+  pub ram : length n.ram ≡ 64
+  pub rom : length n.rom ≡ 64
+
+-- the same stands in both at these parts, where these words come from outside
+abbrev pub Agree : ℕ → NodeRecord → ℕ → NodeRecord → List Part → Type 0
+Agree word n other m [] = Unit {0}
+Agree word n other m (part ∷ rest) = (part_of word n part ≡ part_of other m part) × Agree word n other m rest
+
+-- Two values come from there, in two nodes before an event: each is that of a part, or they are the same where the nodes agree.
+abbrev pub Comes : ℕ → NodeRecord → ℕ → NodeRecord → Flow → ℕ → ℕ → Type 0
+Comes word n other m (Same part) x y = (x ≡ part_of word n part) × (y ≡ part_of other m part)
+Comes word n other m (From parts) x y = Agree word n other m parts → x ≡ y

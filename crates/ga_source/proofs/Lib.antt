@@ -1,0 +1,3 @@
+pub mod Targets
+pub mod Loaded
+pub mod Steady

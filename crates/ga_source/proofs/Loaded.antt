@@ -1,0 +1,83 @@
+-- One more node with its program.
+use Rattle.std.proofs.Common.{◌≡◌, ◌≢◌, ◌∙◌, ℕ, ◌<◌, refl, subst, inl, inr, Bool, true, false, List, [], ◌∷◌, ◌++◌, Some, length, set, slice_index_or, ap, sym}
+use Rattle.std.specs.List.{All}
+use Rattle.std.proofs.lemmas.List.{get_or-set_same, get_or-set_other}
+use Rattle.std.proofs.lemmas.List.Elements.{All-push, All-pop, All-weaker}
+use Rattle.ga_node.specs.State.{NodeState}
+use Rattle.ga_grid.specs.Chip.{nowhere, node_at, with_node, default_chip}
+use Rattle.ga_source.specs.declared.item.Program.{Program}
+use Rattle.std.proofs.lemmas.Bool.{cases_eq}
+use Rattle.ga_source.specs.Programs.{given_of, value_or, KeepsState, HasProgram, IsLoaded, IsUnnamed, HasBegun, AreLoaded}
+
+-- a program marked as begun stands in another node than one that isn't
+apart : (begun : List Bool) (n : ℕ) (program : Program) → slice_index_or begun n false ≡ false → HasBegun begun program → program.node.number ≢ n
+apart begun n program fresh h = λ e. let two = ap (λ k. slice_index_or begun k false) e in cc
+
+-- its mark stays where another node begins
+stays_marked : (begun : List Bool) (n : ℕ) (program : Program) → slice_index_or begun n false ≡ false → HasBegun begun program → HasBegun (set begun n true) program
+stays_marked begun n program fresh h = get_or-set_other begun n program.node.number true false (apart begun n program fresh h) ∙ h
+
+-- a node stays where another changes
+stays : (chip : List NodeState) (n k : ℕ) (node : NodeState) → k ≢ n → node_at (with_node chip n node) k ≡ node_at chip k
+stays chip n k node other = get_or-set_other chip n k node nowhere other
+
+-- a program stays loaded where another node changes
+stays_loaded : (chip : List NodeState) (n : ℕ) (node : NodeState) (program : Program) → program.node.number ≢ n → IsLoaded chip program → IsLoaded (with_node chip n node) program
+stays_loaded chip n node program other h = subst (λ found. HasProgram (node_at default_chip program.node.number) found program) (sym (stays chip n program.node.number node other)) h
+
+both : (chip : List NodeState) (begun : List Bool) (n : ℕ) (node : NodeState) (programs : List Program) → slice_index_or begun n false ≡ false → All (HasBegun begun) programs → All (IsLoaded chip) programs → All (IsLoaded (with_node chip n node)) programs
+both chip begun n node programs fresh marked each = λ k d in_list. stays_loaded chip n node (slice_index_or programs k d) (apart begun n (slice_index_or programs k d) fresh (marked k d in_list)) (each k d in_list)
+
+-- the program is loaded into its node
+loaded_here : (chip : List NodeState) (n : ℕ) (node : NodeState) (program : Program) → n < length chip → program.node.number ≡ n → node_at chip n ≡ node_at default_chip n → HasProgram (node_at chip n) node program → IsLoaded (with_node chip n node) program
+loaded_here chip n node program in_chip is_n at_load has =
+    subst (λ k. HasProgram (node_at default_chip k) (node_at (with_node chip n node) k) program) (sym is_n)
+    (subst (λ found. HasProgram (node_at default_chip n) found program) (sym (get_or-set_same chip n node nowhere in_chip))
+    (subst (λ before. HasProgram before node program) at_load has))
+
+-- a node whose memories and registers were written keeps all else
+kept_of : (before after : NodeState) (ram rom : List ℕ) (p a b : ℕ) → after ≡ record before { ram = ram; rom = rom; p = p; a = a; b = b } → KeepsState before after
+kept_of before after ram rom p a b e = subst (λ node. KeepsState before node) (sym e) refl
+
+kept_by : (before after : NodeState) (program : Program) → HasProgram before after program → KeepsState before after
+kept_by before after program has =
+    let labels = program.labels.items in
+    let registers = program.registers in
+    kept_of before after after.ram after.rom (value_or (given_of labels registers.p) before.p) (value_or (given_of labels registers.a) before.a)
+    (value_or (given_of labels registers.b) before.b) has.rest
+
+kept_here : (chip : List NodeState) (n : ℕ) (node : NodeState) (program : Program) → n < length chip → node_at chip n ≡ node_at default_chip n → HasProgram (node_at chip n) node program → KeepsState (node_at default_chip n) (node_at (with_node chip n node) n)
+kept_here chip n node program in_chip at_load has =
+    subst (λ found. KeepsState (node_at default_chip n) found) (sym (get_or-set_same chip n node nowhere in_chip))
+    (kept_by (node_at default_chip n) node program (subst (λ before. HasProgram before node program) at_load has))
+
+-- each program, and the one that is loaded into a node where none was
+pub one_more : (chip : List NodeState) (begun : List Bool) (programs : List Program) (n : ℕ) (node : NodeState) (program : Program) → n < length chip → n < length begun → slice_index_or begun n false ≡ false → AreLoaded chip begun programs → program.node.number ≡ n → HasProgram (node_at chip n) node program → AreLoaded (with_node chip n node) (set begun n true) (programs ++ program ∷ [])
+one_more chip begun programs n node program in_chip in_begun fresh all is_n has =
+    let others : IsUnnamed programs n = All-weaker (HasBegun begun) (λ p. p.node.number ≢ n) (λ p h. apart begun n p fresh h) programs all.marked in
+    let at_load : node_at chip n ≡ node_at default_chip n = all.assembled.rest n others in
+    record {
+      marked = All-push (HasBegun (set begun n true)) programs program
+          (All-weaker (HasBegun begun) (HasBegun (set begun n true)) (λ p h. stays_marked begun n p fresh h) programs all.marked)
+          (ap (λ k. slice_index_or (set begun n true) k false) is_n ∙ get_or-set_same begun n true false in_begun);
+      assembled = record {
+        each = All-push (IsLoaded (with_node chip n node)) programs program
+            (both chip begun n node programs fresh all.marked all.assembled.each)
+            (loaded_here chip n node program in_chip is_n at_load has);
+        rest = λ k unnamed.
+            let parts = All-pop (λ p. p.node.number ≢ k) (programs ++ program ∷ []) programs (Some program) refl unnamed in
+            stays chip n k node (λ e. parts.1 (is_n ∙ sym e)) ∙ all.assembled.rest k parts.0;
+        state = λ k. elim (cases_eq k n) [
+          | inl e ↦ subst (λ j. KeepsState (node_at default_chip j) (node_at (with_node chip n node) j)) (sym e)
+              (kept_here chip n node program in_chip at_load has)
+          | inr other ↦ subst (λ found. KeepsState (node_at default_chip k) found) (sym (stays chip n k node other)) (all.assembled.state k)
+        ];
+      };
+    }
+
+-- the same with the node's number as an index, and the programs as they are then
+pub one_more_at : (chip : List NodeState) (begun : List Bool) (programs after : List Program) (n i : ℕ) (node : NodeState) (program : Program) → n < length chip → n < length begun → i ≡ n → after ≡ programs ++ program ∷ [] → slice_index_or begun n false ≡ false → AreLoaded chip begun programs → program.node.number ≡ n → HasProgram (node_at chip n) node program → AreLoaded (with_node chip n node) (set begun i true) after
+one_more_at chip begun programs after n i node program in_chip in_begun is_n pushed fresh all named has =
+    subst (λ j. AreLoaded (with_node chip n node) (set begun j true) after) (sym is_n)
+    (subst (λ list. AreLoaded (with_node chip n node) (set begun n true) list) (sym pushed)
+    (one_more chip begun programs n node program in_chip in_begun fresh all named has))

@@ -1,0 +1,6 @@
+use Rattle.std.proofs.Common.{◌≡◌, take}
+use Rattle.ga_source.specs.Packing.{asked_items, so_far}
+use Rattle.ga_source.proofs.packing.pack.Given as goal
+
+abbrev pub invariant-loop-one : goal.invariant-loop-one
+invariant-loop-one l = so_far l.packer.groups.items l.packer.filling.items ≡ asked_items (take l.one-index l.asked)

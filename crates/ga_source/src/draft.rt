@@ -1,0 +1,260 @@
+//! The words of one node as requests.
+
+ghost use Rattle.std.specs.Prelude.{◌≡◌, ◌≢◌, codes};
+ghost use Rattle.ga_slots.specs.declared.op.Op.TheVariants.{Jump, Call};
+
+use super::controls::Open;
+use super::fault::{Cause, Fault, at};
+use super::item::{Asked, Given, Item, Registers, Request, Value};
+use super::labels::Labels;
+use super::reading::carried;
+use super::scan::Token;
+use super::vocabulary::{
+    Directive, Number, Register, control_named, directive_named, is_taken, number_of, opcode_named,
+};
+use ga_slots::Op;
+use std::alloc::Global;
+use std::mem;
+
+/// What the next word is.
+#[derive(Clone, Copy, PartialEq, Eq)]
+enum Expect {
+    Word,
+    Address,
+    Name,
+    Register(Register),
+    /// A word that the one before took with it.
+    Nothing,
+}
+
+/// What the words so far ask for.
+#[derive(Drop)]
+pub(crate) struct Draft<'s> {
+    pub asked: Vec<Asked>,
+    pub labels: Labels<'s>,
+    pub registers: Registers,
+    pub open: Vec<Open>,
+    /// Bit 9 of the addresses from here on.
+    carries: bool,
+    expect: Expect,
+}
+
+impl<'s> Draft<'s> {
+    fn new(alloc: Global) -> Self {
+        Draft {
+            asked: Vec::new(alloc),
+            labels: Labels::new(alloc),
+            registers: Registers {
+                p: None,
+                a: None,
+                b: None,
+            },
+            open: Vec::new(alloc),
+            carries: false,
+            expect: Expect::Word,
+        }
+    }
+
+    pub fn ask(&mut self, line: u32, request: Request) -> Result<(), Fault<'s>> {
+        self.asked.push(Asked { line, request })?;
+        Ok(())
+    }
+
+    /// Asks for an opcode with the address of a label.
+    pub fn jump(&mut self, line: u32, op: Op, label: usize) -> Result<(), Fault<'s>> {
+        let item = if self.labels.is_marked(label) {
+            Item::Back(op, label)
+        } else {
+            Item::Ahead(op, label)
+        };
+        self.ask(line, Request::Put(item))
+    }
+
+    /// The label stands here.
+    pub fn mark(&mut self, line: u32, label: usize) -> Result<(), Fault<'s>> {
+        if !self.labels.mark(label) {
+            return Err(at(line, Cause::LabelTwice));
+        }
+        self.ask(line, Request::Mark(label))
+    }
+
+    /// A number, a port, or the address of a label behind an apostrophe.
+    fn value(&mut self, line: u32, text: &'s [u8]) -> Result<Option<Value>, Fault<'s>> {
+        if let [b'\'', name @ ..] = text {
+            if name.is_empty() {
+                return Err(at(line, Cause::Missing));
+            }
+            let label = self.labels.named(line, name)?;
+            return Ok(Some(Value::Label(label)));
+        }
+        match number_of(text) {
+            Number::Of(number) => Ok(Some(Value::Number(number))),
+            Number::OutOfRange => Err(at(line, Cause::Number)),
+            Number::Nothing => Ok(None),
+        }
+    }
+
+    fn name(&mut self, line: u32, name: &'s [u8]) -> Result<(), Fault<'s>> {
+        if is_taken(name) {
+            return Err(at(line, Cause::Taken));
+        }
+        let label = self.labels.named(line, name)?;
+        self.mark(line, label)
+    }
+
+    /// A number, a port or a label, as a register's value at load.
+    fn register(&mut self, line: u32, register: Register, text: &'s [u8]) -> Result<(), Fault<'s>> {
+        let value = match number_of(text) {
+            Number::Of(number) => {
+                if number >= register.bound() {
+                    return Err(at(line, Cause::Number));
+                }
+                Value::Number(number)
+            }
+            Number::OutOfRange => return Err(at(line, Cause::Number)),
+            Number::Nothing => {
+                if is_taken(text) {
+                    return Err(at(line, Cause::Missing));
+                }
+                Value::Label(self.labels.named(line, text)?)
+            }
+        };
+        let given = Some(Given { line, value });
+        let before = match register {
+            Register::P => mem::replace(&mut self.registers.p, given),
+            Register::A => mem::replace(&mut self.registers.a, given),
+            Register::B => mem::replace(&mut self.registers.b, given),
+        };
+        if before.is_some() {
+            return Err(at(line, Cause::RegisterTwice));
+        }
+        Ok(())
+    }
+
+    fn directive(&mut self, line: u32, directive: Directive) -> Result<(), Fault<'s>> {
+        match directive {
+            Directive::Label => self.expect = Expect::Name,
+            Directive::Address => self.expect = Expect::Address,
+            Directive::Register(register) => self.expect = Expect::Register(register),
+            Directive::Fill => self.ask(line, Request::Fill)?,
+            Directive::Carry(is_set) => {
+                self.carries = is_set;
+                self.ask(line, Request::Carry(is_set))?;
+            }
+        }
+        Ok(())
+    }
+
+    fn address(&mut self, line: u32, text: &[u8]) -> Result<(), Fault<'s>> {
+        match number_of(text) {
+            Number::Of(found) => {
+                if found < 0x40 || 0x80 <= found && found < 0xc0 {
+                    self.ask(line, Request::Go(carried(self.carries, found)))
+                } else {
+                    Err(at(line, Cause::Number))
+                }
+            }
+            Number::OutOfRange => Err(at(line, Cause::Number)),
+            Number::Nothing => Err(at(line, Cause::Missing)),
+        }
+    }
+
+    /// A cell with a value.
+    fn cell(&mut self, line: u32, text: &'s [u8]) -> Result<(), Fault<'s>> {
+        let Some(value) = self.value(line, text)? else {
+            return Err(at(line, Cause::Missing));
+        };
+        self.expect = Expect::Nothing;
+        self.ask(line, Request::Put(Item::Cell(value)))
+    }
+
+    /// A call of a label, or a jump there where `;` is next.
+    fn call(&mut self, line: u32, name: &'s [u8], next: &[u8]) -> Result<(), Fault<'s>> {
+        if is_taken(name) {
+            return Err(at(line, Cause::Unknown(name)));
+        }
+        let label = self.labels.named(line, name)?;
+        let op = calling_op(next);
+        if op == Op::Jump {
+            self.expect = Expect::Nothing;
+        }
+        self.jump(line, op, label)
+    }
+
+    /// A word that stands for itself. The next word decides whether it is a cell, and whether a call is a jump.
+    fn word(&mut self, line: u32, text: &'s [u8], next: &[u8]) -> Result<(), Fault<'s>> {
+        if next == b",".as_slice() {
+            return self.cell(line, text);
+        }
+        if let Some(directive) = directive_named(text) {
+            return self.directive(line, directive);
+        }
+        if let Some(op) = opcode_named(text) {
+            return self.ask(line, Request::Put(Item::Opcode(op)));
+        }
+        if let Some(control) = control_named(text) {
+            return self.control(line, control);
+        }
+        if let Some(value) = self.value(line, text)? {
+            return self.ask(line, Request::Put(Item::Literal(value)));
+        }
+        self.call(line, text, next)
+    }
+
+    fn take(&mut self, token: Token<'s>, next: &[u8]) -> Result<(), Fault<'s>> {
+        let text = token.word()?;
+        let expect = self.expect;
+        self.expect = Expect::Word;
+        match expect {
+            Expect::Word => self.word(token.line, text, next),
+            Expect::Address => self.address(token.line, text),
+            Expect::Name => self.name(token.line, text),
+            Expect::Register(register) => self.register(token.line, register, text),
+            Expect::Nothing => Ok(()),
+        }
+    }
+
+    /// What is missing or still open behind the last word, and a name that is no label's.
+    fn finish(&self, line: u32) -> Result<(), Fault<'s>> {
+        match self.expect {
+            Expect::Word | Expect::Nothing => {}
+            _ => return Err(at(line, Cause::Missing)),
+        }
+        if let Some(open) = self.open.first() {
+            return Err(at(open.line(), Cause::Open));
+        }
+        self.labels.check()
+    }
+}
+
+/// The opcode of a label's name: a call, or a jump where `;` is the next word.
+fn calling_op(next: &[u8]) -> Op
+    ensures tail { next.now ≡ codes ";" → result ≡ Jump }
+    ensures call { next.now ≢ codes ";" → result ≡ Call }
+{
+    if next == b";".as_slice() {
+        Op::Jump
+    } else {
+        Op::Call
+    }
+}
+
+/// What the words of a node ask for.
+pub(crate) fn read_node<'s>(
+    alloc: Global,
+    line: u32,
+    tokens: &[Token<'s>],
+) -> Result<Draft<'s>, Fault<'s>> {
+    let mut draft = Draft::new(alloc);
+    let mut last = line;
+    for (i, token) in tokens.iter().enumerate() {
+        let next = match tokens.get(i + 1) {
+            Some(next) => next.text,
+            None => &[],
+        };
+        draft.take(*token, next)?;
+        last = token.line;
+    }
+    draft.finish(last)?;
+    Ok(draft)
+}

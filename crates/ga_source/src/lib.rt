@@ -1,0 +1,29 @@
+//! Programs as texts: arrayForth's opcode names and control words, assembled into a chip.
+//!
+//! A text is scanned into words, the words of each node become a list of requests, requests are packed into groups (an
+//! instruction word and the literals behind it), and groups are loaded into the node's memory, each read back at once.
+#![tactic(auto)]
+
+mod controls;
+mod draft;
+mod fault;
+mod item;
+mod labels;
+mod loading;
+mod packing;
+mod program;
+mod reading;
+mod scan;
+mod spot;
+mod stores;
+mod vocabulary;
+
+pub use fault::{Cause, Fault};
+pub use item::{Asked, Given, Group, Item, Program, Registers, Request, Value};
+pub use labels::Label;
+pub use loading::load;
+pub use packing::{Packed, pack};
+pub use program::{Assembled, assemble};
+pub use reading::follows;
+pub use spot::Spot;
+pub use stores::{Store, stores_over_code};

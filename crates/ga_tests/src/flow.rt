@@ -1,0 +1,50 @@
+use ga_node::{Flow, Node, Part, Place, Seen, Wait};
+use ga_ports::PortSet;
+
+/// Whether a value is that of this part before.
+fn is_moved(flow: &Flow, part: Part) -> bool {
+    match flow {
+        Flow::Same(from) => *from == part,
+        Flow::From(_) => false,
+    }
+}
+
+/// Whether a value is computed from just these parts.
+fn is_computed(flow: &Flow, sources: &[Part]) -> bool {
+    match flow {
+        Flow::Same(_) => false,
+        Flow::From(parts) => parts.as_slice() == sources,
+    }
+}
+
+// `dup + . .`, where bit 9 of P isn't set.
+#[test]
+fn own_events(rt: HostRuntime) {
+    let mut node = Node::new(0);
+    node.set(Place::Ram(0), 0x241b2);
+    assert!(rt; is_moved(&node.own_flow(Part::I), Part::Ram(0)));
+    assert!(rt; is_computed(&node.own_flow(Part::P), &[Part::P]));
+    assert!(rt; is_computed(&node.own_flow(Part::Slot), &[]));
+    assert!(rt; node.own(Seen::nobody()).is_ok());
+    assert!(rt; is_moved(&node.own_flow(Part::T), Part::T));
+    assert!(rt; is_moved(&node.own_flow(Part::S), Part::T));
+    assert!(rt; is_moved(&node.own_flow(Part::Data(9)), Part::Data(8)));
+    assert!(rt; node.own(Seen::nobody()).is_ok());
+    assert!(rt; is_computed(&node.own_flow(Part::T), &[Part::T, Part::S]));
+    assert!(rt; is_moved(&node.own_flow(Part::S), Part::Data(2)));
+    assert!(rt; is_moved(&node.own_flow(Part::Data(9)), Part::Data(2)));
+    assert!(rt; is_moved(&node.own_flow(Part::Carry), Part::Carry));
+    assert!(rt; is_computed(&node.own_flow(Part::Slot), &[Part::Slot]));
+}
+
+#[test]
+fn halves_of_a_transfer(rt: HostRuntime) {
+    assert!(rt; is_moved(&Node::send_flow(Part::T), Part::S));
+    assert!(rt; is_computed(&Node::send_flow(Part::Wait), &[]));
+    let right = PortSet::of(8);
+    assert!(rt; is_moved(&Node::take_flow(Wait::Read(right), Part::T), Part::Outside));
+    assert!(rt; is_moved(&Node::take_flow(Wait::Read(right), Part::S), Part::T));
+    assert!(rt; is_moved(&Node::take_flow(Wait::Fetch(right), Part::I), Part::Outside));
+    assert!(rt; is_moved(&Node::take_flow(Wait::Fetch(right), Part::T), Part::T));
+    assert!(rt; is_moved(&Node::take_flow(Wait::Nothing, Part::P), Part::P));
+}

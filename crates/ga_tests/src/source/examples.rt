@@ -1,0 +1,188 @@
+//! The examples' images from source, word for word, and what listings and sources of images look like.
+
+use crate::given::is_same;
+use ga_console::{Status, assemble_source, disassemble, list_source};
+use ga_grid::{Chip, NODES, NodeId};
+use ga_image::{parse, print};
+use ga_node::Place;
+use ga_source::assemble;
+use std::alloc::Global;
+use std::test::Fail;
+
+const FIRST: &[u8] = b"\\ doubles 3\nnode 000\n: main 3 dup +\n";
+
+const TRANSFER: &[u8] = b"node 000\n: main right b! 42 !b\nnode 001\n: main right b! @b\n";
+
+const FAULT: &[u8] =
+    b"node 000\n: main right b! 0xa8 2* !b\nnode 001\n: main right b! @b a! 7 !\nnode 200\n: main 3 dup +\n";
+
+/// The images of the examples, as they stand in their files.
+const IMAGES: [(&[u8], &[u8]); 3] = [
+    (
+        FIRST,
+        b"ga144 1\nnode 000\np 000000\nram 00 004df2 000003\nend\n",
+    ),
+    (
+        TRANSFER,
+        b"ga144 1\nnode 000\np 000000\nram 00 004b12 0001d5 00002a 0089b2\nnode 001\np 000000\nram 00 004b02 0001d5\nend\n",
+    ),
+    (
+        FAULT,
+        b"ga144 1\nnode 000\np 000000\nram 00 004b12 0001d5 0000a8 037bb2\nnode 001\np 000000\nram 00 004b02 0001d5 02bd2a 000007\nnode 200\np 000000\nram 00 004df2 000003\nend\n",
+    ),
+];
+
+fn chip_of(alloc: Global, image: &[u8]) -> Result<Chip, Fail> {
+    match parse(alloc, image) {
+        Ok(chip) => Ok(chip),
+        Err(_) => Err("an image is refused".into()),
+    }
+}
+
+/// The image of a source.
+fn image_of(alloc: Global, source: &[u8]) -> Result<Vec<u8>, Fail> {
+    let mut reader = source;
+    let mut image = Vec::new(alloc);
+    let mut errors = Vec::new(alloc);
+    match assemble_source(alloc, &mut reader, &mut image, &mut errors) {
+        Status::Done => Ok(image),
+        _ => Err("a source is refused".into()),
+    }
+}
+
+#[test]
+fn images_of_the_examples(rt: HostRuntime) -> Result<(), Fail> {
+    for (source, image) in IMAGES {
+        let wanted = chip_of(rt.alloc(), image)?;
+        let found = image_of(rt.alloc(), source)?;
+        let chip = chip_of(rt.alloc(), found.as_slice())?;
+        for number in 0..NODES as u8 {
+            let node = NodeId::new(number);
+            assert!(rt; is_same(chip.node(node), wanted.node(node)));
+        }
+        match print(rt.alloc(), &wanted) {
+            Ok(text) => assert_eq!(rt; found.as_slice(), text.as_slice()),
+            Err(_) => return Err("no memory".into()),
+        }
+    }
+    Ok(())
+}
+
+#[test]
+fn assemble_builds_what_the_image_says(rt: HostRuntime) -> Result<(), Fail> {
+    let Ok(assembled) = assemble(rt.alloc(), FAULT) else {
+        return Err("refused".into());
+    };
+    assert_eq!(rt; assembled.programs.len(), 3);
+    let node = assembled.chip.node(NodeId::new(36));
+    assert_eq!(rt; node.get(Place::Ram(0)), 0x4df2);
+    assert_eq!(rt; node.get(Place::Ram(1)), 3);
+    Ok(())
+}
+
+#[test]
+fn listed(rt: HostRuntime) -> Result<(), Fail> {
+    let mut source: &[u8] =
+        b"node 001\n: main right b! @b go\n  \\ nothing\n: go 'go go ;\n12 ,\nend\nx";
+    let wanted: &[u8] = b"node 001
+main:
+000 004b02 @p b! @b \\ : main right b! @b go
+001 0001d5 0x001d5
+002 012003 call go \\ : main right b! @b go
+go:
+003 005703 @p jump go \\ : go 'go go ;
+004 000003 'go
+005 00000c 0x0000c \\ 12 ,
+";
+    let mut output = Vec::new(rt.alloc());
+    let mut errors = Vec::new(rt.alloc());
+    let status = list_source(rt.alloc(), &mut source, &mut output, &mut errors);
+    assert_eq!(rt; status, Status::Done);
+    assert_eq!(rt; output.as_slice(), wanted);
+    assert!(rt; errors.is_empty());
+    Ok(())
+}
+
+#[test]
+fn source_of_an_image(rt: HostRuntime) -> Result<(), Fail> {
+    let mut image: &[u8] =
+        b"ga144 2\nnode 001\na 000005\np 000003\nram 00 004b02 0001d5 000000 005703 000003\nrom 3f 012003\nnode 002\nb 0001d5\nend\n";
+    let wanted: &[u8] = b"node 001
+/p 0x00003
+/a 0x00005
+0x004b02 , \\ @p b! @b .
+0x0001d5 , \\ @b + +* ;
+org 0x03
+0x005703 , \\ @p jump 003
+0x000003 , \\ @b and @b dup
+org 0xbf
+0x012003 , \\ call 003
+node 002
+/b 0x001d5
+";
+    let mut output = Vec::new(rt.alloc());
+    let status = disassemble(rt.alloc(), &mut image, &mut output);
+    assert_eq!(rt; status, Status::Done);
+    assert_eq!(rt; output.as_slice(), wanted);
+    Ok(())
+}
+
+/// The source of an image, assembled again.
+fn again(alloc: Global, image: &[u8]) -> Result<Vec<u8>, Fail> {
+    let mut reader = image;
+    let mut source = Vec::new(alloc);
+    match disassemble(alloc, &mut reader, &mut source) {
+        Status::Done => image_of(alloc, source.as_slice()),
+        _ => Err("an image is refused".into()),
+    }
+}
+
+#[test]
+fn there_and_back(rt: HostRuntime) -> Result<(), Fail> {
+    for (source, _) in IMAGES {
+        let image = image_of(rt.alloc(), source)?;
+        let other = again(rt.alloc(), image.as_slice())?;
+        assert_eq!(rt; other.as_slice(), image.as_slice());
+    }
+    Ok(())
+}
+
+/// A number from a generator (x to 1664525 x + 1013904223).
+fn next(seed: &mut u32) -> u32 {
+    *seed = seed.wrapping_mul(1_664_525).wrapping_add(1_013_904_223);
+    *seed / 0x4000
+}
+
+#[test]
+fn generated_chips_there_and_back(rt: HostRuntime) -> Result<(), Fail> {
+    let mut seed = 26u32;
+    for round in 0..12u32 {
+        let Ok(mut chip) = Chip::new(rt.alloc()) else {
+            return Err("no memory".into());
+        };
+        for number in 0..NODES as u8 {
+            let node = chip.node_mut(NodeId::new(number));
+            if next(&mut seed) % 3 == 0 {
+                node.set(Place::A, next(&mut seed) % 0x4_0000);
+                node.set(Place::B, next(&mut seed) % 0x200);
+            }
+            if next(&mut seed) % 3 == 0 {
+                node.set(Place::P, next(&mut seed) % 0x400);
+            }
+            if next(&mut seed) % 3 == 0 {
+                for cell in 0..64u8 {
+                    if next(&mut seed) % (1 + round) == 0 {
+                        node.set(Place::Ram(cell), next(&mut seed) % 0x4_0000);
+                        node.set(Place::Rom(cell), next(&mut seed) % 0x4_0000);
+                    }
+                }
+            }
+        }
+        let Ok(image) = print(rt.alloc(), &chip) else {
+            return Err("no memory".into());
+        };
+        let other = again(rt.alloc(), image.as_slice())?;
+        assert_eq!(rt; other.as_slice(), image.as_slice(), "round {round}");
+    }
+    Ok(())
+}
