@@ -99,6 +99,11 @@ class Machine:
         places = [at for at, event in enumerate(self.events) if node in event]
         return places[step - 1] if 1 <= step <= len(places) else None
 
+    def step_at(self, place):
+        """A node of the event at this place, and the number of that step of it."""
+        node = self.events[place][-1]
+        return node, sum(node in event for event in self.events[: place + 1])
+
     # Commands.
 
     def step(self, node):

@@ -1,0 +1,140 @@
+#!/usr/bin/env python3
+"""Answers sessions that stand in files by the replay machine.
+
+files.py FILE..: prints what the machine answers to each.
+files.py --compare FILE..: compares that with FILE.stdout. A file is skipped where FILE.stdout says that its image is refused or
+that one of its lines is no command; just such a file may not be read here.
+The limit is N for a file in a folder limit-N.
+"""
+
+import os
+import re
+import sys
+from itertools import zip_longest
+
+from machine import Machine, NODES, name
+from node import Node, SIDES, WORD
+from sessions import DEFAULT_LIMIT
+
+NODE, W, HH = "[0-7](?:0[0-9]|1[0-7])", "[0-9a-fA-F]{6}", "[0-9a-fA-F]{2}"
+STEP = "(?:0|[1-9][0-9]{0,9})"
+FIELDS = {"ga144 1": rf"[abp] {W}|(?:ram|rom) {HH}(?: {W}){{1,16}}"}
+FIELDS["ga144 2"] = FIELDS["ga144 1"] + (
+    rf"|(?:i|io) {W}|carry [01]|slot [0-4]|d(?: {W}){{10}}|r(?: {W}){{9}}|wait (?:fetch|read|write) [r-][d-][l-][u-]|stop [1-3]"
+)
+GREATEST = {"b": 0x1FF, "p": 0x3FF}
+COMMAND = rf"back|count|dump|quit|(?:step|node|trace) {NODE}|mem {NODE} {HH}|rewind {NODE} {STEP}|why {NODE} {STEP} {NODE} {STEP}"
+NO_COMMANDS = ("no 31 syntax", "no 32 long")
+NUMBERS = {name(node): node for node in range(NODES)}
+
+
+class Unread(Exception):
+    """An image that is refused, or a line that is no command."""
+
+
+def demand(holds, line):
+    if not holds:
+        raise Unread(line)
+
+
+def put(node, given, line):
+    """Puts what a field line gives into a node; `given` are the fields and cells that it has so far."""
+    field, *words = line.split(" ")
+    values = [int(word, 16) for word in words] if field != "wait" else []
+    demand(all(value <= GREATEST.get(field, WORD) for value in values), line)
+    places = [field]
+    if field in ("ram", "rom"):
+        first, *values = values
+        places = [(field, first + at) for at in range(len(values))]
+        demand(first + len(values) <= 64, line)
+        getattr(node, field)[first : first + len(values)] = values
+    elif field == "wait":
+        sides = words[1].replace("-", "")
+        demand(sides and (words[0] != "write" or len(sides) == 1), line)
+        node.wait = (words[0], sides)
+    else:
+        setattr(node, field, values if field in ("d", "r") else values[0])
+    demand(not given & {*places}, line)
+    given.update(places)
+
+
+def load_of(lines):
+    """The nodes that an image gives."""
+    load, blocks, node = [Node(number) for number in range(NODES)], {}, None
+    demand(len(lines) > 1 and lines[0] in FIELDS and lines[-1] == "end", "header or end")
+    for line in lines[1:-1]:
+        if re.fullmatch(f"node {NODE}", line):
+            node = NUMBERS[line[5:]]
+            demand(node not in blocks, line)
+            blocks[node] = set()
+        else:
+            demand(node is not None and re.fullmatch(FIELDS[lines[0]], line), line)
+            put(load[node], blocks[node], line)
+    for it in load:
+        demand(not (it.wait and it.stop), "wait and stop")
+        demand(not it.wait or (it.wait[0] == "fetch") == (it.slot == 4), "wait and slot")
+    return load
+
+
+def answer(machine, line):
+    demand(re.fullmatch(COMMAND, line), line)
+    command, *words = line.split(" ")
+    if command == "mem":
+        return machine.mem(NUMBERS[words[0]], int(words[1], 16))
+    # a node, or nodes with a step behind each
+    arguments = [int(it) if at % 2 else NUMBERS[it] for at, it in enumerate(words)]
+    demand(all(it < 1 << 32 for it in arguments), line)
+    return getattr(machine, command)(*arguments)
+
+
+def answers_of(path):
+    """What is answered to a session, or Unread."""
+    folder = os.path.basename(os.path.dirname(path))
+    limit = int(folder[6:]) if folder.startswith("limit-") else DEFAULT_LIMIT
+    with open(path, encoding="latin-1", newline="") as file:
+        lines = file.read().removesuffix("\n").split("\n")
+    past = lines.index("end") + 1 if "end" in lines else len(lines)
+    machine = Machine(load_of(lines[:past]), limit)
+    commands = lines[past:]
+    if "quit" in commands:
+        commands = commands[: commands.index("quit")]
+    return "".join(line + "\n" for line in ["ready"] + [answer(machine, it) for it in commands])
+
+
+def difference(path):
+    """Whether a file is skipped, and what the machine answers otherwise than its output says, or None."""
+    with open(f"{path}.stdout", encoding="latin-1", newline="") as file:
+        wanted = file.read()
+    skipped = not wanted.startswith("ready\n") or any(it in wanted.split("\n") for it in NO_COMMANDS)
+    try:
+        got = answers_of(path)
+    except Unread as error:
+        return skipped, None if skipped else f"not read: {error}"
+    if skipped:
+        return skipped, "read, and its output refuses it"
+    for line, (ours, its) in enumerate(zip_longest(got.split("\n"), wanted.split("\n")), 1):
+        if ours != its:
+            return skipped, f"line {line}: the machine answers '{ours}', the file says '{its}'"
+    return skipped, None
+
+
+def main():
+    if len(sys.argv) == 1 or sys.argv[1:] == ["--compare"]:
+        sys.exit("usage: files.py FILE.. or files.py --compare FILE..")
+    if sys.argv[1] != "--compare":
+        for path in sys.argv[1:]:
+            try:
+                sys.stdout.write(answers_of(path))
+            except Unread as error:
+                sys.exit(f"{path}: not read: {error}")
+        return
+    found = {path: difference(path) for path in sys.argv[2:]}
+    wrong = [f"{path}: {what}" for path, (_, what) in found.items() if what]
+    if wrong:
+        sys.exit("\n".join(wrong))
+    count = sum(skipped for skipped, _ in found.values())
+    print(f"{len(found) - count} files: all answers agree; {count} skipped, with refused images or lines that are no commands")
+
+
+if __name__ == "__main__":
+    main()

@@ -1,0 +1,227 @@
+#!/usr/bin/env python3
+"""Plants wrong definitions into the second reading and sees that generated sessions tell each of them.
+
+wrong.py PROGRAM COUNT: each wrong definition has to be told within so many sessions, by an answer that differs or by a
+replay that can't go on. A definition is wrong in one place: its file, a text that stands there once, and what takes its place.
+"""
+
+import os
+import shutil
+import subprocess
+import sys
+import tempfile
+from concurrent.futures import ThreadPoolExecutor
+
+NODE, MACHINE = "node.py", "machine.py"
+WRONG = (
+    # the grid
+    (NODE, '(column % 2 == 0) == (side == "r")', '(column % 2 == 0) == (side == "l")'),
+    (NODE, '(row % 2 == 0) == (side == "d")', '(row % 2 == 0) == (side == "u")'),
+    (NODE, "0 <= row < 8 and", "0 <= row < 7 and"),
+    (NODE, "0 <= column < 18 else", "0 <= column < 17 else"),
+    (NODE, "self.p = port([side for side in SIDES if neighbour(number, side) is not None])", "self.p = port(SIDES)"),
+    (NODE, "self.a, self.b, self.i, self.io, self.carry = 0, 0x15D, 0, EMPTY, 0", "self.a, self.b, self.i, self.io, self.carry = 0, 0x15D, 0, 0, 0"),
+    (NODE, "self.a, self.b, self.i, self.io, self.carry = 0, 0x15D, 0, EMPTY, 0", "self.a, self.b, self.i, self.io, self.carry = 0, 0x1D5, 0, EMPTY, 0"),
+    (NODE, "self.d, self.r = [EMPTY] * 10, [EMPTY] * 9", "self.d, self.r = [0] * 10, [EMPTY] * 9"),
+    (NODE, "self.d, self.r = [EMPTY] * 10, [EMPTY] * 9", "self.d, self.r = [EMPTY] * 10, [0] * 9"),
+    # addresses
+    (NODE, "address &= 0x1FF", "address &= 0x3FF"),
+    (NODE, '"ram" if address < 0x80 else "rom"', '"ram" if address < 0x40 else "rom"'),
+    (NODE, "address & 0x3F)", "address & 0x1F)"),
+    (NODE, "if named == 8:", "if named == 8 or named == 0:"),
+    (NODE, "if named == 8:", "if named == 4:"),
+    (NODE, "if named and not named & 0xF:", "if named and not named & 7:"),
+    (NODE, "if named and not named & 0xF:", "if named & 0xF0:"),
+    (NODE, "if named & (0x80 >> SIDES.index(side))", "if named & (0x10 << SIDES.index(side))"),
+    (NODE, "return address if address & 0x100 else address & ~0x7F | (address + 1) & 0x7F", "return address & ~0x7F | (address + 1) & 0x7F"),
+    (NODE, "return address if address & 0x100 else address & ~0x7F | (address + 1) & 0x7F", "return address if address & 0x100 else address & ~0xFF | (address + 1) & 0xFF"),
+    (NODE, "return address if address & 0x100 else address & ~0x7F | (address + 1) & 0x7F", "return address if address & 0x100 else address & ~0x3F | (address + 1) & 0x3F"),
+    (NODE, "return address if address & 0x100 else address & ~0x7F | (address + 1) & 0x7F", "return address if address & 0x100 or address & 0x7F == 0x7F else address + 1"),
+    (NODE, "return address if address & 0x100 else address & ~0x7F | (address + 1) & 0x7F", "return address if address & 0x100 else address + 1"),
+    # the stacks
+    (NODE, "stack.append(stack[len(stack) - 8])", "stack.append(0)"),
+    (NODE, "stack.append(stack[len(stack) - 8])", "stack.append(stack[-1])"),
+    (NODE, "stack.append(stack[len(stack) - 8])", "stack.append(stack[len(stack) - 7])"),
+    (NODE, "    stack.insert(0, word)\n    stack.pop()", "    stack.insert(0, word)\n    stack.pop(-2)"),
+    # accesses
+    (NODE, '        if what == "io":\n            return seen()', '        if what == "io":\n            return self.io'),
+    (NODE, "            self.wait = (kind, where)", '            self.wait = ("read", where)'),
+    (NODE, "            self.wait = (kind, where)", "            self.wait = (kind, where[0])"),
+    (NODE, '            self.stop = 2\n            raise Halt("stop 2")', '            self.stop = 1\n            raise Halt("stop 1")'),
+    (NODE, 'if what == "ports" and len(where) == 1:', 'if what == "ports":'),
+    (NODE, 'self.stop = 1 if what == "ports" else 2', "self.stop = 1"),
+    (NODE, 'self.stop = 1 if what == "ports" else 2', "self.stop = 2"),
+    (NODE, 'self.stop = 1 if what == "ports" else 2', "self.stop = 3"),
+    (NODE, "        word = pop(self.d)\n        if what", "        word = self.d[0]\n        if what"),
+    (NODE, '        elif what == "io":\n            self.io = word', '        elif what == "io":\n            self.io = word & 0x3FFFE'),
+    (NODE, '        elif what == "io":\n            self.io = word', '        elif what in ("io", "rom"):\n            self.io = word'),
+    (NODE, '        if what == "ram":\n            self.ram[where] = word', '        if what in ("ram", "rom"):\n            self.ram[where] = word'),
+    # a fetch, and which opcode is due
+    (NODE, 'self.p, self.slot = advanced(self.p), 0\n                return "fetch"', 'self.p, self.slot = self.p, 0\n                return "fetch"'),
+    (NODE, "bits = self.i ^ EMPTY", "bits = self.i"),
+    (NODE, "(bits & 7) << 2", "(bits & 7) << 2 ^ 4"),
+    (NODE, "bits >> (13 - 5 * self.slot) & 0x1F", "bits >> (12 - 5 * self.slot) & 0x1F"),
+    (NODE, "self.slot = min(self.slot + 1, FETCH_DUE)", "self.slot = (self.slot + 1) % FETCH_DUE"),
+    (NODE, "field = (0x3FF, 0xFF, 7)[self.slot]", "field = (0x1FF, 0xFF, 7)[self.slot]"),
+    (NODE, "field = (0x3FF, 0xFF, 7)[self.slot]", "field = (0x3FF, 0x7F, 7)[self.slot]"),
+    (NODE, "field = (0x3FF, 0xFF, 7)[self.slot]", "field = (0x3FF, 0xFF, 3)[self.slot]"),
+    (NODE, "field = (0x3FF, 0xFF, 7)[self.slot]", "field = (0x3FF, 0x1FF, 7)[self.slot]"),
+    (NODE, "self.p = self.p & ~field | self.i & field", "self.p = self.i & field"),
+    (NODE, "self.p = self.p & ~field | self.i & field", "self.p = self.p & ~field | (self.i ^ EMPTY) & field"),
+    # control
+    (NODE, "self.r[0] -= 1\n                self.slot = 0", "self.slot = 0"),
+    (NODE, "self.r[0] -= 1\n                self.slot = 0", "self.r[0] -= 1\n                self.slot = FETCH_DUE"),
+    (NODE, "                self.slot = 0\n            else:\n                pop(self.r)", "                self.slot = 0\n            else:\n                pass"),
+    (NODE, "                pop(self.r)\n                self.goes_on()", "                pop(self.r)\n                self.slot = FETCH_DUE"),
+    (NODE, "self.p = pop(self.r) & 0x3FF", "self.p = self.r[0] & 0x3FF"),
+    (NODE, "self.p = pop(self.r) & 0x3FF", "self.p = pop(self.r) & 0x1FF"),
+    (NODE, "self.p = pop(self.r) & 0x3FF", "self.p = advanced(pop(self.r) & 0x3FF)"),
+    (NODE, "self.p, self.r[0] = self.r[0] & 0x3FF, self.p", "self.p, self.r[0] = self.r[0] & 0x1FF, self.p"),
+    (NODE, "self.p, self.r[0] = self.r[0] & 0x3FF, self.p", "self.p, self.r[0] = self.r[0] & 0x3FF, self.p & 0x1FF"),
+    (NODE, "self.p, self.r[0] = self.r[0] & 0x3FF, self.p", "self.p = self.r[0] & 0x3FF"),
+    (NODE, "            push(self.r, self.p)\n", "            push(self.r, self.p & 0x1FF)\n"),
+    (NODE, "            push(self.r, self.p)\n", "            push(self.r, advanced(self.p))\n"),
+    (NODE, "            push(self.r, self.p)\n", "            self.r[0] = self.p\n"),
+    (NODE, "                self.r[0] -= 1\n                self.jump()", "                self.jump()"),
+    (NODE, "                self.r[0] -= 1\n                self.jump()\n            else:\n                pop(self.r)", "                self.r[0] -= 1\n                self.jump()\n            else:\n                pass"),
+    (NODE, "            if self.r[0]:\n                self.r[0] -= 1\n                self.jump()", "            if self.r[0] > 1:\n                self.r[0] -= 1\n                self.jump()"),
+    (NODE, "            if self.r[0]:\n                self.r[0] -= 1\n                self.slot = 0", "            if self.r[0] > 1:\n                self.r[0] -= 1\n                self.slot = 0"),
+    (NODE, "code == 6 and not self.d[0] or", "code == 6 and self.d[0] or"),
+    (NODE, "code == 6 and not self.d[0] or", "code == 6 and not self.d[0] & 0x1FFFF or"),
+    (NODE, "code == 6 and not self.d[0] or", ""),
+    (NODE, "code == 7 and not self.d[0] >> 17:", "code == 7 and self.d[0] >> 17:"),
+    (NODE, "code == 7 and not self.d[0] >> 17:", "code == 7 and not self.d[0] >> 16:"),
+    (NODE, "            self.jump()\n        self.slot = FETCH_DUE", "            pop(self.d)\n            self.jump()\n        self.slot = FETCH_DUE"),
+    # memory
+    (NODE, 'register = ("p", "a", "b", "a")[code % 4]', 'register = ("p", "b", "a", "a")[code % 4]'),
+    (NODE, 'register = ("p", "a", "b", "a")[code % 4]', 'register = ("a", "a", "b", "a")[code % 4]'),
+    (NODE, 'register = ("p", "a", "b", "a")[code % 4]', 'register = ("p", "a", "b", "b")[code % 4]'),
+    (NODE, "        if code % 4 < 2:\n", "        if code % 4 < 1:\n"),
+    (NODE, "        if code % 4 < 2:\n", "        if code % 4 < 2 and code < 12:\n"),
+    (NODE, "        if code % 4 < 2:\n", "        if code % 4 != 2:\n"),
+    (NODE, "setattr(self, register, advanced(address))", "setattr(self, register, advanced(address) & 0x1FF)"),
+    # arithmetic and logic
+    (NODE, "total = signed(d[0]) + (signed(d[1]) if self.a & 1 else 0)", "total = signed(d[0]) + (signed(d[1]) if not self.a & 1 else 0)"),
+    (NODE, "total = signed(d[0]) + (signed(d[1]) if self.a & 1 else 0)", "total = d[0] + (d[1] if self.a & 1 else 0)"),
+    (NODE, "self.a >> 1 | total % 2 << 17", "self.a >> 1"),
+    (NODE, "self.a >> 1 | total % 2 << 17", "self.a >> 1 | total % 2 << 16"),
+    (NODE, "d[0], self.a = total // 2 & WORD", "d[0], self.a = total & WORD"),
+    (NODE, "d[0] = 2 * d[0] & WORD", "d[0] = 2 * d[0] & WORD | d[0] >> 17"),
+    (NODE, "d[0] = d[0] >> 1 | d[0] & 0x20000", "d[0] = d[0] >> 1"),
+    (NODE, "d[0] = WORD - d[0]", "d[0] = -d[0] & WORD"),
+    (NODE, "elif code in (0x14, 0x15, 0x16):  # +, and, or\n            top = pop(d)", "elif code in (0x14, 0x15, 0x16):  # +, and, or\n            top = d[0]"),
+    (NODE, "top & d[0] if code == 0x15", "top | d[0] if code == 0x15"),
+    (NODE, "else top ^ d[0]", "else top | d[0]"),
+    (NODE, "        elif code == 0x17:  # drop\n            pop(d)", "        elif code == 0x17:  # drop\n            pass"),
+    (NODE, "push(d, (d[0], None, d[1], self.a)[code - 0x18])", "push(d, (d[1], None, d[1], self.a)[code - 0x18])"),
+    (NODE, "push(d, (d[0], None, d[1], self.a)[code - 0x18])", "push(d, (d[0], None, d[2], self.a)[code - 0x18])"),
+    (NODE, "push(d, (d[0], None, d[1], self.a)[code - 0x18])", "push(d, (d[0], None, d[1], self.a & 0x1FF)[code - 0x18])"),
+    (NODE, "            push(d, pop(r))", "            push(d, r[0])"),
+    (NODE, "            push(r, pop(d))", "            push(r, d[0])"),
+    (NODE, "self.b = pop(d) & 0x1FF", "self.b = pop(d) & 0x3FF"),
+    (NODE, "self.b = pop(d) & 0x1FF", "self.b = d[0] & 0x1FF"),
+    (NODE, "            self.a = pop(d)\n", "            self.a = pop(d) & 0x1FF\n"),
+    (NODE, "if not self.p & 0x200:", "if not self.p & 0x100:"),
+    (NODE, "if not self.p & 0x200:", "if self.p & 0x200:"),
+    (NODE, "total = top + second + self.carry", "total = top + second"),
+    (NODE, "        self.carry = total >> 18\n", ""),
+    (NODE, "            return top + second & WORD\n", "            self.carry = top + second >> 18\n            return top + second & WORD\n"),
+    # the two halves of a transfer
+    (NODE, "        self.goes_on()\n        return pop(self.d)", "        return pop(self.d)"),
+    (NODE, "        self.goes_on()\n        return pop(self.d)", "        self.goes_on()\n        return self.d[0]"),
+    (NODE, "self.i, self.slot = word, 0", "self.i, self.slot, self.p = word, 0, advanced(self.p)"),
+    (NODE, "self.i, self.slot = word, 0", "self.i, self.slot = word, 1"),
+    (NODE, "            push(self.d, word)\n            self.goes_on()", "            self.d[0] = word\n            self.goes_on()"),
+    (NODE, "            push(self.d, word)\n            self.goes_on()", "            push(self.d, word)"),
+    # what `io` shows
+    (MACHINE, "word &= ~(1 << 16 - 2 * place)", "word &= ~(1 << 15 - 2 * place)"),
+    (MACHINE, "word |= 1 << 15 - 2 * place", "word |= 1 << 16 - 2 * place"),
+    (MACHINE, "            if self.chip[beside].waits(READS, side):\n                word", '            if self.chip[beside].waits(("read",), side):\n                word'),
+    (MACHINE, "            if beside is None:\n                continue", "            if beside is None:\n                word &= ~(1 << 16 - 2 * place)\n                continue"),
+    (MACHINE, "        word = 0x15555\n", "        word = 0x05555\n"),
+    (MACHINE, "        word = 0x15555\n", "        word = self.chip[node].io\n"),
+    (MACHINE, "            if self.chip[beside].waits((\"write\",), side):\n                word", "            if self.chip[beside].wait and self.chip[beside].wait[0] == \"write\":\n                word"),
+    # the next event
+    (MACHINE, "        for side in wait[1]:\n", "        for side in reversed(wait[1]):\n"),
+    (MACHINE, "        for side in wait[1]:\n", '        for side in sorted(wait[1], key="rldu".index):\n'),
+    (MACHINE, "        for side in wait[1]:\n", '        for side in sorted(wait[1], key="drlu".index):\n'),
+    (MACHINE, "        for side in wait[1]:\n", '        for side in sorted(wait[1], key="rdul".index):\n'),
+    (MACHINE, 'if wait[0] == "write" and self.chip[other].waits(READS, side):', 'if wait[0] == "write" and self.chip[other].waits(("read",), side):'),
+    (MACHINE, 'if wait[0] in READS and self.chip[other].waits(("write",), side):', 'if wait[0] == "read" and self.chip[other].waits(("write",), side):'),
+    (MACHINE, "        if wait is None:\n            return (node,)", "        if wait is None or wait[1] == SIDES:\n            return (node,) if wait is None else None"),
+    # dependence
+    (MACHINE, "        if set(after) & set(before):\n            return True\n", "        if after[0] in before:\n            return True\n"),
+    (MACHINE, "        if set(after) & set(before):\n            return True\n", "        if after[-1] in before:\n            return True\n"),
+    (MACHINE, "        if set(after) & set(before):\n            return True\n", "        if before[0] in after:\n            return True\n"),
+    (MACHINE, "        if set(after) & set(before):\n            return True\n", "        if before[-1] in after:\n            return True\n"),
+    (MACHINE, "return self.looked[later] and any(neighbour(after[0], side) in before for side in SIDES)", "return False"),
+    (MACHINE, "return self.looked[later] and any(neighbour(after[0], side) in before for side in SIDES)", "return self.looked[later] and any(neighbour(after[0], side) in before[:1] for side in SIDES)"),
+    (MACHINE, "return self.looked[later] and any(neighbour(after[0], side) in before for side in SIDES)", 'return self.looked[later] and any(neighbour(after[0], side) in before for side in "rdl")'),
+    (MACHINE, "return self.looked[later] and any(neighbour(after[0], side) in before for side in SIDES)", "return (self.looked[later] or self.looked[earlier]) and any(neighbour(after[0], side) in before for side in SIDES)"),
+    (MACHINE, "for at in range(place, later))", "for at in (place, later - 1))"),
+    (MACHINE, "for at in range(place, later))", "for at in range(max(place, later - 20), later))"),
+    # the commands
+    (MACHINE, 'return "no 2 stopped" if self.chip[node].stop else "no 1 waiting"', 'return "no 1 waiting"'),
+    (MACHINE, 'return "no 2 stopped" if self.chip[node].stop else "no 1 waiting"', 'return "no 2 stopped"'),
+    (MACHINE, "        if event is None:\n            return", '        if len(self.events) == self.limit:\n            return "no 3 full"\n        if event is None:\n            return'),
+    (MACHINE, "if len(self.events) == self.limit:", "if len(self.events) > self.limit:"),
+    (MACHINE, "if len(self.events) == self.limit:", "if self.made >= self.limit:"),
+    (MACHINE, "        self.made += 1\n", "        self.made = len(self.events)\n"),
+    (MACHINE, "        if not self.events:\n", "        if len(self.events) < 2:\n"),
+    (MACHINE, "        self.events.pop()\n", "        self.events.pop()\n        self.made -= 1\n"),
+    (MACHINE, "        self.events.pop()\n", "        self.events.pop(0)\n"),
+    (MACHINE, "        goes = self.dependents(place)\n", "        goes = [at >= place for at in range(len(self.events))]\n"),
+    (MACHINE, "        goes = self.dependents(place)\n", "        goes = [at >= place and node in event for at, event in enumerate(self.events)]\n"),
+    (MACHINE, "zip(self.events, goes) if not gone]", "zip(self.events, goes) if not gone][: len(self.events)]\n        self.made -= sum(goes)"),
+    (MACHINE, 'return f"removed {sum(goes)} kept {len(self.events)}"', 'return f"removed {sum(goes[place:place + 8])} kept {len(self.events)}"'),
+    (MACHINE, "return places[step - 1] if 1 <= step <= len(places) else None", "return places[step - 1] if 1 <= step < len(places) else None"),
+    (MACHINE, "return places[step - 1] if 1 <= step <= len(places) else None", "return places[step - 1] if step <= len(places) and places else None"),
+    (MACHINE, "        if first is None or last is None:\n            return", '        if last is not None and first is None:\n            return "independent"\n        if first is None or last is None:\n            return'),
+    (MACHINE, "if last < first or not marked[last]:", "if last <= first or not marked[last]:"),
+    (MACHINE, "if last < first or not marked[last]:", "if last < first:"),
+    (MACHINE, "oldest = next(at for at in range(first, chain[0])", "oldest = next(at for at in reversed(range(first, chain[0]))"),
+    (MACHINE, "for text, event in zip(self.told, self.events) if node in event]", "for text, event in zip(self.told, self.events) if node == event[0]]"),
+    (MACHINE, "for text, event in zip(self.told, self.events) if node in event]", "for text, event in zip(self.told, self.events) if node == event[-1]]"),
+    (MACHINE, "memory = self.chip[node].ram if address < 0x80 else self.chip[node].rom", "memory = self.chip[node].ram if address < 0x40 else self.chip[node].rom"),
+    (MACHINE, "{memory[address & 0x3F]:06x}", "{memory[address & 0x3F & ~1]:06x}"),
+    (MACHINE, 'f"kept {len(self.events)} made {self.made} limit {self.limit}"', 'f"kept {len(self.events)} made {self.made} limit {max(self.limit, self.made)}"'),
+    (MACHINE, '("a", "b", "p", "i", "io") if it in differs]', '("a", "b", "p", "io", "i") if it in differs]'),
+    (MACHINE, '("carry", "slot") if it in differs]', '("slot", "carry") if it in differs]'),
+    (MACHINE, "if any(cells[at : at + 8])]", "if any(cells)]"),
+    (MACHINE, "if len(block) > 1 for line", "for line"),
+)
+
+
+def told(room, number, program, count):
+    """How the sessions tell a wrong definition ('answer' or 'replay'), or why they don't."""
+    file, old, new = WRONG[number]
+    here = os.path.dirname(os.path.abspath(__file__))
+    folder = f"{room}/{number}"
+    shutil.copytree(here, folder, ignore=shutil.ignore_patterns("__pycache__"))
+    with open(f"{folder}/{file}", encoding="utf-8") as text:
+        right = text.read()
+    if right.count(old) != 1:
+        return f"its text stands {right.count(old)} times, and not once"
+    with open(f"{folder}/{file}", "w", encoding="utf-8") as text:
+        text.write(right.replace(old, new))
+    ran = subprocess.run([sys.executable, "-B", f"{folder}/sessions.py", program, "0", str(count)], capture_output=True, text=True)
+    shutil.rmtree(folder)
+    said = (ran.stdout + ran.stderr).strip().split("\n")[-1]
+    if ran.returncode == 1:
+        return "answer" if said.startswith("session ") else "replay"
+    return f"not told: {said}"
+
+
+def main():
+    if len(sys.argv) != 3 or not sys.argv[2].isdecimal() or int(sys.argv[2]) == 0:
+        sys.exit("usage: wrong.py PROGRAM COUNT, with COUNT at least 1")
+    with tempfile.TemporaryDirectory() as room, ThreadPoolExecutor(len(os.sched_getaffinity(0))) as lanes:
+        answers = [*lanes.map(lambda number: told(room, number, sys.argv[1], int(sys.argv[2])), range(len(WRONG)))]
+    left = [f"{wrong}: {what}" for wrong, what in zip(WRONG, answers) if what not in ("answer", "replay")]
+    if left:
+        sys.exit("\n".join(left))
+    print(f"{len(WRONG)} wrong definitions: each is told, {answers.count('replay')} of them by a replay that can't go on")
+
+
+if __name__ == "__main__":
+    main()
