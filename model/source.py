@@ -426,8 +426,10 @@ SMALL = "node 000\n: x for dup unext ( c ) x ;\n/a left 'x 5 ,\nnode 001 +cy\nbe
 PLAIN = "dup drop over + - and or @ ! @b !b a b! a! push pop . 2* 2/ +* @+ !+ ; ex".split()
 RARE = "@p !p inv invert xor nop .. .. +cy -cy right io r--- rdlu --l- 'x 'y x y z foo 'z".split()
 SHAPES = ["begin {} again", "begin {} until", "begin {} -until", "begin {} while {} repeat", "begin {} -while {} repeat", "for {} next", "begin dup unext", "for over . dup unext"]
-SHAPES += ["if {} then", "-if {} else {} then", "ahead {} then", "begin {} begin {} *next {} again", "for {} for {} *next {} next"]
+SHAPES += ["if {} then", "-if {} else {} then", "ahead {} then", "begin {} begin {} *next {} again", "for {} for {} *next {} next", "@p {} 5", "!p {} x"]
 STRANGE = "again then else repeat next unext *next if begin for , : : org /p /a /b node ( ) \\ jump call 262144 -131073 -131072 0x3ffff ' end".split()
+STRANGE += ["org 0x60", "if\nbegin", "begin unext", "begin 5 unext", "for unext", ".. dup ahead +cy then -cy"]
+STORES = ["b! !b", "a! !", "a! !+ !+", "b! dup !b", "a! 5 !+ !", "a! ; !", "b! ex !b", "a! @+ !"]
 
 
 class Generator:
@@ -449,14 +451,17 @@ class Generator:
             return self.random.choice(STRANGE)
         if draw < 0.86:
             return f"{self.random.choice(['7', 'io', chr(39) + 'x', '0x3ffff'])} ,"
-        if draw < 0.88:
+        if draw < 0.875:
             return f"org {self.random.choice(['0x80', '0xa0', '0x30', '0x3d', str(self.random.randrange(0, 64))])}"
-        if draw < 0.90:
-            return f"{self.random.randrange(0, 70)} {self.random.choice(['b! !b', 'a! !', 'a! !+ !+', 'b! dup !b', 'a! 5 !+ !'])}"
+        if draw < 0.91:
+            return f"{self.address()} {self.random.choice(STORES)}"
         if depth == 0:
             return self.random.choice(PLAIN)
         shape = self.random.choice(SHAPES)
         return shape.format(*(self.some(self.random.choice([0, 1, 2, 3, 6]), depth - 1) for _ in range(shape.count("{}"))))
+
+    def address(self):
+        return self.random.randrange(0, 70) + self.random.choice([0, 0, 0, 0x80, 0x100])
 
     def some(self, count, depth):
         return " ".join(self.one(depth) for _ in range(count))
@@ -468,16 +473,24 @@ class Generator:
             lines.append(f"node {node}")
             lines += [f"/{it} {self.random.choice(['x', '3', 'left', '0x155', '0x1ff'])}" for it in "pab" if self.random.random() < 0.15]
             for label in self.random.sample(["x", "y", "z", "foo", "main"], self.random.choice([4, 5, 5, 5, 5])):
+                if self.random.random() < 0.2:
+                    lines += [f"{self.address()} b!", f": {label} !b"]
+                    continue
                 lines += [f": {label} {self.some(self.random.randrange(0, 5), 2)}", self.some(self.random.randrange(0, 7), 2) + self.random.choice(["", " ;", f" {label} ;"])]
         return "\n".join(self.random.choice(["", "", "\\ why ", "( so ) "]) + it if it.startswith("/") else it for it in lines) + "\n"
 
 
 def changed(seed):
-    """A small source that is cut, or has another byte somewhere."""
+    """A small source that is cut, has another byte somewhere, or a word more."""
     draw = random.Random(seed)
     place = draw.randrange(len(SMALL))
-    if draw.random() < 0.2:
+    how = draw.random()
+    if how < 0.15:
         return SMALL[:place]
+    if how < 0.55:
+        words = SMALL.split(" ")
+        words.insert(draw.randrange(len(words)), draw.choice(STRANGE))
+        return " ".join(words)
     return SMALL[:place] + draw.choice([chr(draw.randrange(256)), draw.choice(" \n\t;,:'()"), ""]) + SMALL[place + 1 :]
 
 
@@ -490,7 +503,7 @@ def main():
             got = ran.stdout.decode("latin-1"), ran.stderr.decode("latin-1"), ran.returncode
             wanted = asm(source)
             if got != wanted:
-                sys.exit(f"source {seed}:\n{source}\nthe program: {got}\nthis reading: {wanted}")
+                sys.exit(f"{source}\nthe program: {got}\nthis reading: {wanted}\nsource {seed}: not alike")
             images += wanted[2] == 0
             warned += wanted[2] == 0 and wanted[1] != ""
     print(f"{2 * count} sources: all alike, {images} images, {warned} of them with warnings")

@@ -1,8 +1,8 @@
 #!/usr/bin/env python3
-"""Plants wrong definitions into the second reading and sees that generated sessions tell each of them.
+"""Plants wrong definitions into the second reading and sees that generated sessions, or sources, tell each of them.
 
 wrong.py PROGRAM COUNT: each wrong definition has to be told within so many sessions, by an answer that differs or by a
-replay that can't go on. A definition is wrong in one place: its file, a text that stands there once, and what takes its place.
+replay that can't go on; one of source within so many sources and as many that are cut or changed. A definition is wrong in one place: its file, a text that stands there once, and what takes its place.
 """
 
 import os
@@ -12,7 +12,7 @@ import sys
 import tempfile
 from concurrent.futures import ThreadPoolExecutor
 
-NODE, MACHINE = "node.py", "machine.py"
+NODE, MACHINE, SOURCE = "node.py", "machine.py", "source.py"
 WRONG = (
     # the grid
     (NODE, '(column % 2 == 0) == (side == "r")', '(column % 2 == 0) == (side == "l")'),
@@ -189,6 +189,55 @@ WRONG = (
     (MACHINE, '("carry", "slot") if it in differs]', '("slot", "carry") if it in differs]'),
     (MACHINE, "if any(cells[at : at + 8])]", "if any(cells)]"),
     (MACHINE, "if len(block) > 1 for line", "for line"),
+    # words of source
+    (SOURCE, "return 0x155 ^ sum(", "return 0x155 | sum("),
+    (SOURCE, "return (-size if found[1] else size) % 0x40000", "return size"),
+    (SOURCE, "size <= 262143, line", "size <= 131071, line"),
+    (SOURCE, '"/b": 0x200}', '"/b": 0x100}'),
+    (SOURCE, '"jump" if self.comes(";") else "call"', '"jump" if self.words and self.words[0][1] == ";" else "call"'),
+    (SOURCE, '"jump" if self.comes(";") else "call"', '"call"'),
+    (SOURCE, "self.lines.setdefault(word, line)", "self.lines[word] = line"),
+    (SOURCE, "address < 0x40 or 0x80 <= address < 0xC0, line", "address < 0xC0, line"),
+    (SOURCE, 'self.ask(line, "org", address + self.bit)', 'self.ask(line, "org", address)'),
+    (SOURCE, 'self.bit = 0x200 if word == "+cy" else 0', "self.bit = 0x200"),
+    (SOURCE, '"until": "if", "-until": "-if"', '"until": "-if", "-until": "if"'),
+    (SOURCE, 'word.replace("while", "if")', '"if"'),
+    (SOURCE, 'self.ask(line, "op", CODE["push"])', "pass"),
+    (SOURCE, 'label = self.close(line, "ahead")\n            self.ahead(line, "jump")\n            self.mark(line, label)', 'label = self.close(line, "ahead")\n            self.mark(line, label)\n            self.ahead(line, "jump")'),
+    (SOURCE, 'self.jump(line, "next", self.close(line, "loop"))\n            self.open.append(innermost)', 'self.jump(line, "next", innermost[1])\n            self.open.append(innermost)'),
+    (SOURCE, "raise fault(self.open[0][2]", "raise fault(self.open[-1][2]"),
+    # the packing rule
+    (SOURCE, "FIELDS = {0: 10, 1: 8, 2: 3}", "FIELDS = {0: 10, 1: 8, 2: 4}"),
+    (SOURCE, "FIELDS = {0: 10, 1: 8, 2: 3}", "FIELDS = {0: 10, 1: 8}"),
+    (SOURCE, "FIELDS = {0: 10, 1: 8, 2: 3}", "FIELDS = {0: 10, 1: 10, 2: 3}"),
+    (SOURCE, "        for _ in self.literals:\n            p = advanced(p)\n", ""),
+    (SOURCE, "return slot < 3 or what[0] % 4 == 0", "return slot < 3"),
+    (SOURCE, "return slot < 3 or what[0] % 4 == 0", "return slot < 3 or what[0] % 2 == 0"),
+    (SOURCE, "slot < 2 if kind", "slot < 3 if kind"),
+    (SOURCE, "slot < 2 if kind", "slot < 1 if kind"),
+    (SOURCE, "        if self.is_moved:\n            return False\n", ""),
+    (SOURCE, 'what[0] in (CODE["@p"], CODE["!p"])', 'what[0] == CODE["@p"]'),
+    (SOURCE, 'what[0] in (CODE["@p"], CODE["!p"])', 'what[0] == CODE["!p"]'),
+    (SOURCE, 'what[0] in (CODE[";"], CODE["ex"])', 'what[0] == CODE[";"]'),
+    (SOURCE, 'what[0] in (CODE[";"], CODE["ex"])', 'what[0] == CODE["ex"]'),
+    (SOURCE, "if kind in (\"mark\", \"fill\", \"org\", \"bit\"):\n                self.end()", "if kind in (\"mark\", \"fill\", \"org\", \"bit\"):\n                self.end() if kind != \"fill\" else None"),
+    (SOURCE, "self.cell = Cell(here % 0x200 + what[0])", "self.cell = Cell(here + what[0])"),
+    (SOURCE, "is_short = cell.slots and", "is_short ="),
+    (SOURCE, "not cell.literals and cell.address", "cell.address"),
+    (SOURCE, "word >> shift << shift |", "word |"),
+    # the cells of source
+    (SOURCE, 'demand(cell.loop is None, cell.loop, "the loop of unext is longer than its cell")', "pass"),
+    (SOURCE, 'demand(low not in given, line, f"cell given before on line {given.get(low)}")', "pass"),
+    (SOURCE, "low < 0x40 or 0x80 <= low < 0xC0, line", "low < 0x80 or 0x80 <= low < 0xC0, line"),
+    (SOURCE, "demand(label is None or", "demand(True or label is None or"),
+    (SOURCE, '"main" if "main" in layout.labels else 0', "0"),
+    (SOURCE, 'if "/p" not in given and layout.cells:', 'if "/p" not in given:'),
+    # stores over code
+    (SOURCE, 'if kind == "op" and stored is not None and stored % 0x200 < 0x100:', 'if kind == "op" and stored is not None:'),
+    (SOURCE, "        if not cell.data:\n            lines", "        if cell.slots:\n            lines"),
+    (SOURCE, 'elif op in ("!+", "@+") and a is not None:', 'elif op == "@+" and a is not None:'),
+    (SOURCE, '    elif kind == "mark" or op in (";", "ex", "jump", "call"):', '    elif op in (";", "ex", "jump", "call"):'),
+    (SOURCE, '    elif kind == "mark" or op in (";", "ex", "jump", "call"):', '    elif kind == "mark" or op in ("ex", "jump", "call"):'),
 )
 
 
@@ -204,11 +253,11 @@ def told(room, number, program, count):
         return f"its text stands {right.count(old)} times, and not once"
     with open(f"{folder}/{file}", "w", encoding="utf-8") as text:
         text.write(right.replace(old, new))
-    ran = subprocess.run([sys.executable, "-B", f"{folder}/sessions.py", program, "0", str(count)], capture_output=True, text=True)
+    ran = subprocess.run([sys.executable, "-B", f"{folder}/{'source' if file == SOURCE else 'sessions'}.py", program, "0", str(count)], capture_output=True, text=True)
     shutil.rmtree(folder)
     said = (ran.stdout + ran.stderr).strip().split("\n")[-1]
     if ran.returncode == 1:
-        return "answer" if said.startswith("session ") else "replay"
+        return "answer" if said.startswith(("session ", "source ")) else "replay"
     return f"not told: {said}"
 
 
