@@ -253,7 +253,7 @@ def told(room, number, program, count):
         return f"its text stands {right.count(old)} times, and not once"
     with open(f"{folder}/{file}", "w", encoding="utf-8") as text:
         text.write(right.replace(old, new))
-    ran = subprocess.run([sys.executable, "-B", f"{folder}/{'source' if file == SOURCE else 'sessions'}.py", program, "0", str(count)], capture_output=True, text=True)
+    ran = subprocess.run([sys.executable, "-B", f"{folder}/{'sources' if file == SOURCE else 'sessions'}.py", program, "0", str(count)], capture_output=True, text=True)
     shutil.rmtree(folder)
     said = (ran.stdout + ran.stderr).strip().split("\n")[-1]
     if ran.returncode == 1:

@@ -1,0 +1,102 @@
+#!/usr/bin/env python3
+"""Generates sources and compares what `ga144 asm` writes and tells for them with what the second reading does.
+
+sources.py PROGRAM FIRST COUNT: so many generated sources, from the one of this number on, and as many of a small one that is cut,
+changed or has a word more, through PROGRAM asm and through the second reading, which have to agree byte for byte.
+"""
+
+import random
+import subprocess
+import sys
+
+from source import NODE_NAMES, asm
+
+SMALL = "node 000\n: x for dup unext ( c ) x ;\n/a left 'x 5 ,\nnode 001 +cy\nbegin @ while if else then\nrepeat !b ..\n"
+PLAIN = "dup drop over + - and or @ ! @b !b a b! a! push pop . 2* 2/ +* @+ !+ ; ex".split()
+RARE = "@p !p inv invert xor nop .. .. +cy -cy right io r--- rdlu --l- 'x 'y x y z foo 'z".split()
+SHAPES = ["begin {} again", "begin {} until", "begin {} -until", "begin {} while {} repeat", "begin {} -while {} repeat", "for {} next", "begin dup unext", "for over . dup unext"]
+SHAPES += ["if {} then", "-if {} else {} then", "ahead {} then", "begin {} begin {} *next {} again", "for {} for {} *next {} next", "@p {} 5", "!p {} x"]
+STRANGE = "again then else repeat next unext *next if begin for , : : org /p /a /b node ( ) \\ jump call 262144 -131073 -131072 0x3ffff ' end".split()
+STRANGE += ["org 0x60", "if\nbegin", "begin unext", "begin 5 unext", "for unext", ".. dup ahead +cy then -cy"]
+STORES = ["b! !b", "a! !", "a! !+ !+", "b! dup !b", "a! 5 !+ !", "a! ; !", "b! ex !b", "a! @+ !"]
+
+
+class Generator:
+    """Sources by a seed: most are right, some have a fault."""
+
+    def __init__(self, seed):
+        self.random = random.Random(seed)
+        self.is_wild = self.random.random() < 0.2
+
+    def one(self, depth):
+        draw = self.random.random()
+        if draw < 0.62:
+            return self.random.choice(PLAIN)
+        if draw < 0.72:
+            return str(self.random.choice([0, 1, 5, -1, self.random.randrange(-131072, 262144)]))
+        if draw < 0.80:
+            return self.random.choice(RARE)
+        if draw < 0.83 and self.is_wild:
+            return self.random.choice(STRANGE)
+        if draw < 0.86:
+            return f"{self.random.choice(['7', 'io', chr(39) + 'x', '0x3ffff'])} ,"
+        if draw < 0.875:
+            return f"org {self.random.choice(['0x80', '0xa0', '0x30', '0x3d', str(self.random.randrange(0, 64))])}"
+        if draw < 0.91:
+            return f"{self.address()} {self.random.choice(STORES)}"
+        if depth == 0:
+            return self.random.choice(PLAIN)
+        shape = self.random.choice(SHAPES)
+        return shape.format(*(self.some(self.random.choice([0, 1, 2, 3, 6]), depth - 1) for _ in range(shape.count("{}"))))
+
+    def address(self):
+        return self.random.randrange(0, 70) + self.random.choice([0, 0, 0, 0x80, 0x100])
+
+    def some(self, count, depth):
+        return " ".join(self.one(depth) for _ in range(count))
+
+    def source(self):
+        names = self.random.sample(sorted(NODE_NAMES), self.random.choice([1, 1, 2, 3])) + (["018"] if self.random.random() < 0.02 else [])
+        lines = []
+        for node in names:
+            lines.append(f"node {node}")
+            lines += [f"/{it} {self.random.choice(['x', '3', 'left', '0x155', '0x1ff'])}" for it in "pab" if self.random.random() < 0.15]
+            for label in self.random.sample(["x", "y", "z", "foo", "main"], self.random.choice([4, 5, 5, 5, 5])):
+                if self.random.random() < 0.2:
+                    lines += [f"{self.address()} b!", f": {label} !b"]
+                    continue
+                lines += [f": {label} {self.some(self.random.randrange(0, 5), 2)}", self.some(self.random.randrange(0, 7), 2) + self.random.choice(["", " ;", f" {label} ;"])]
+        return "\n".join(self.random.choice(["", "", "\\ why ", "( so ) "]) + it if it.startswith("/") else it for it in lines) + "\n"
+
+
+def changed(seed):
+    """A small source that is cut, has another byte somewhere, or a word more."""
+    draw = random.Random(seed)
+    place = draw.randrange(len(SMALL))
+    how = draw.random()
+    if how < 0.15:
+        return SMALL[:place]
+    if how < 0.55:
+        words = SMALL.split(" ")
+        words.insert(draw.randrange(len(words)), draw.choice(STRANGE))
+        return " ".join(words)
+    return SMALL[:place] + draw.choice([chr(draw.randrange(256)), draw.choice(" \n\t;,:'()"), ""]) + SMALL[place + 1 :]
+
+
+def main():
+    program, first, count = sys.argv[1], int(sys.argv[2]), int(sys.argv[3])
+    images = warned = 0
+    for seed in range(first, first + count):
+        for source in (Generator(seed).source(), changed(seed)):
+            ran = subprocess.run([program, "asm"], input=source.encode("latin-1"), capture_output=True, timeout=20)
+            got = ran.stdout.decode("latin-1"), ran.stderr.decode("latin-1"), ran.returncode
+            wanted = asm(source)
+            if got != wanted:
+                sys.exit(f"{source}\nthe program: {got}\nthis reading: {wanted}\nsource {seed}: not alike")
+            images += wanted[2] == 0
+            warned += wanted[2] == 0 and wanted[1] != ""
+    print(f"{2 * count} sources: all alike, {images} images, {warned} of them with warnings")
+
+
+if __name__ == "__main__":
+    main()
