@@ -259,13 +259,14 @@ class Layout:
     """The cells of a node, and the addresses of its labels."""
 
     def __init__(self, asked):
-        self.cells, self.labels, self.cell = [], {}, Cell(0)
+        self.cells, self.labels, self.cell, self.order = [], {}, Cell(0), []
         for line, kind, *what in asked:
             if kind in ("mark", "fill", "org", "bit"):
                 self.end()
                 here = self.cell.address
                 if kind == "mark":
                     self.labels[what[0]] = here
+                    self.order.append(what[0])
                 elif kind == "org":
                     self.cell = Cell(what[0])
                 elif kind == "bit":
@@ -277,6 +278,7 @@ class Layout:
     def end(self):
         if self.cell.slots:
             self.cells.append(self.cell)
+            self.order.append(self.cell)
             self.cell = Cell(self.cell.p())
 
     def put(self, line, kind, what):
@@ -370,35 +372,41 @@ def warnings(words, layout):
             a = None
 
 
+def programs_of(source):
+    """The nodes that a source names, with their words and layouts, in its order; or a Fault."""
+    nodes = {}
+    words = list(words_of(source))
+    while words:
+        line, first = words.pop(0)
+        if isinstance(first, Fault):
+            raise first
+        demand(first == "node", line, "no node has begun")
+        demand(words, line, "a name or a value is missing")
+        line, second = words.pop(0)
+        if isinstance(second, Fault):
+            raise second
+        demand(second in NODE_NAMES, line, "no such node")
+        demand(second not in nodes, line, "the node has a program already")
+        count = next((at for at, (_, it) in enumerate(words) if it == "node"), len(words))
+        body, words = words[:count], words[count:]
+        nodes[second] = node_of(Node(NODE_NAMES[second]), line, body)
+    return nodes
+
+
 def asm(source):
     """Standard output, standard error and the status."""
-    nodes, told = {}, []
-    words = list(words_of(source))
     try:
-        while words:
-            line, first = words.pop(0)
-            if isinstance(first, Fault):
-                raise first
-            demand(first == "node", line, "no node has begun")
-            demand(words, line, "a name or a value is missing")
-            line, second = words.pop(0)
-            if isinstance(second, Fault):
-                raise second
-            demand(second in NODE_NAMES, line, "no such node")
-            demand(second not in nodes, line, "the node has a program already")
-            nodes[second] = Node(NODE_NAMES[second])
-            count = next((at for at, (_, it) in enumerate(words) if it == "node"), len(words))
-            body, words = words[:count], words[count:]
-            told += node_of(nodes[second], line, body)
+        nodes = programs_of(source)
     except Fault as error:
         return "", f"ga144: {error}\n", 1
-    blocks = [block_of(nodes[it]) for it in sorted(nodes)]
+    told = [it for _, words, layout in nodes.values() for it in warnings(words, layout)]
+    blocks = [block_of(nodes[it][0]) for it in sorted(nodes)]
     image = ["ga144 2"] + [line for block in blocks if len(block) > 1 for line in block] + ["end"]
     return "".join(f"{it}\n" for it in image), "".join(f"ga144: {it}\n" for it in told), 0
 
 
 def node_of(node, line, body):
-    """Gives a node its program, and answers its warnings."""
+    """The node with its program, its words and their layout."""
     words = Words(line, body)
     layout = Layout(words.asked)
     given = dict(words.registers)
@@ -411,4 +419,4 @@ def node_of(node, line, body):
             demand(value < BOUNDS[register], at, "number out of range")
             setattr(node, register[1], value)
     layout.load(node, {})
-    return list(warnings(words, layout))
+    return node, words, layout

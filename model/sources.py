@@ -1,14 +1,16 @@
 #!/usr/bin/env python3
-"""Generates sources and compares what `ga144 asm` writes and tells for them with what the second reading does.
+"""Generates sources and compares what `ga144 asm`, `list` and `dis` write and tell for them with what the second reading does.
 
 sources.py PROGRAM FIRST COUNT: so many generated sources, from the one of this number on, and as many of a small one that is cut,
-changed or has a word more, through PROGRAM asm and through the second reading, which have to agree byte for byte.
+changed or has a word more, and their images, through PROGRAM and through the second reading, which have to agree byte for byte.
 """
 
 import random
 import subprocess
 import sys
 
+from files import load_of
+from listing import disassembled, listed
 from source import NODE_NAMES, asm
 
 SMALL = "node 000\n: x for dup unext ( c ) x ;\n/a left 'x 5 ,\nnode 001 +cy\nbegin @ while if else then\nrepeat !b ..\n"
@@ -83,18 +85,33 @@ def changed(seed):
     return SMALL[:place] + draw.choice([chr(draw.randrange(256)), draw.choice(" \n\t;,:'()"), ""]) + SMALL[place + 1 :]
 
 
+def run(program, mode, text):
+    ran = subprocess.run([program, mode], input=text.encode("latin-1"), capture_output=True, timeout=20)
+    return ran.stdout.decode("latin-1"), ran.stderr.decode("latin-1"), ran.returncode
+
+
+def compare(program, seed, source):
+    """Compares all three commands on a source and its image. Answers what `asm` comes to."""
+    made = asm(source)
+    wanted = {("asm", source): made, ("list", source): listed(source)}
+    if made[2] == 0:
+        back = disassembled(load_of(made[0].splitlines()))
+        wanted |= {("dis", made[0]): (back, "", 0), ("asm", back): (made[0], "", 0)}
+    for (mode, text), reading in wanted.items():
+        got = run(program, mode, text)
+        if got != reading:
+            sys.exit(f"{source}\nthe program: {got}\nthis reading: {reading}\nsource {seed}: {mode} not alike")
+    return made
+
+
 def main():
     program, first, count = sys.argv[1], int(sys.argv[2]), int(sys.argv[3])
     images = warned = 0
     for seed in range(first, first + count):
         for source in (Generator(seed).source(), changed(seed)):
-            ran = subprocess.run([program, "asm"], input=source.encode("latin-1"), capture_output=True, timeout=20)
-            got = ran.stdout.decode("latin-1"), ran.stderr.decode("latin-1"), ran.returncode
-            wanted = asm(source)
-            if got != wanted:
-                sys.exit(f"{source}\nthe program: {got}\nthis reading: {wanted}\nsource {seed}: not alike")
-            images += wanted[2] == 0
-            warned += wanted[2] == 0 and wanted[1] != ""
+            _, told, status = compare(program, seed, source)
+            images += status == 0
+            warned += status == 0 and told != ""
     print(f"{2 * count} sources: all alike, {images} images, {warned} of them with warnings")
 
 

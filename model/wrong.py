@@ -12,7 +12,7 @@ import sys
 import tempfile
 from concurrent.futures import ThreadPoolExecutor
 
-NODE, MACHINE, SOURCE = "node.py", "machine.py", "source.py"
+NODE, MACHINE, SOURCE, LISTING = "node.py", "machine.py", "source.py", "listing.py"
 WRONG = (
     # the grid
     (NODE, '(column % 2 == 0) == (side == "r")', '(column % 2 == 0) == (side == "l")'),
@@ -238,6 +238,18 @@ WRONG = (
     (SOURCE, 'elif op in ("!+", "@+") and a is not None:', 'elif op == "@+" and a is not None:'),
     (SOURCE, '    elif kind == "mark" or op in (";", "ex", "jump", "call"):', '    elif op in (";", "ex", "jump", "call"):'),
     (SOURCE, '    elif kind == "mark" or op in (";", "ex", "jump", "call"):', '    elif kind == "mark" or op in ("ex", "jump", "call"):'),
+    # listings, and source of images
+    (LISTING, 'f"{layout.labels[label]:03x}"', 'f"{layout.labels[label] % 0x200:03x}"'),
+    (LISTING, "lines[cell.slots[0][0] - 1]", "lines[cell.slots[-1][0] - 1]"),
+    (LISTING, "        address = advanced(address)\n        yield", "        yield"),
+    (LISTING, "layout.value(value):06x", "layout.word(cell):06x"),
+    (LISTING, "if isinstance(it, str):", "if it == 0:"),
+    (LISTING, 'if code in (CODE[";"], CODE["ex"]):', 'if code == CODE[";"]:'),
+    (LISTING, 'if code in (CODE[";"], CODE["ex"]):', 'if code == CODE["ex"]:'),
+    (LISTING, "advanced(address) >> bits << bits |", "address >> bits << bits |"),
+    (LISTING, '("p", 0 if cells else load.p)', '("p", load.p)'),
+    (LISTING, '("a", load.a), ("b", load.b)):', '("a", load.a)):'),
+    (LISTING, "if address != following:", "if address > following + 1:"),
 )
 
 
@@ -253,7 +265,7 @@ def told(room, number, program, count):
         return f"its text stands {right.count(old)} times, and not once"
     with open(f"{folder}/{file}", "w", encoding="utf-8") as text:
         text.write(right.replace(old, new))
-    ran = subprocess.run([sys.executable, "-B", f"{folder}/{'sources' if file == SOURCE else 'sessions'}.py", program, "0", str(count)], capture_output=True, text=True)
+    ran = subprocess.run([sys.executable, "-B", f"{folder}/{'sources' if file in (SOURCE, LISTING) else 'sessions'}.py", program, "0", str(count)], capture_output=True, text=True)
     shutil.rmtree(folder)
     said = (ran.stdout + ran.stderr).strip().split("\n")[-1]
     if ran.returncode == 1:
