@@ -184,23 +184,24 @@ entries-skipped s n e es f = cond-false (touches e n) ((e, numbers s e) ∷ entr
 entries-more : (s : ℕ → ℕ) (n : ℕ) (e : Cause) (es : List Cause) → touches e n ≡ true → entries_at n s (e ∷ es) ≡ (e, numbers s e) ∷ entries_at n (counted s e) es
 entries-more s n e es t = cond-true (touches e n) ((e, numbers s e) ∷ entries_at n (counted s e) es) (entries_at n (counted s e) es) t
 
-own_part : (s : ℕ → ℕ) (es : List Cause) (n k : ℕ) → is_some (place_of es n (suc k)) ≡ true → entries_at n s (rewound es n (suc k)) ≡ take k (entries_at n s es)
-own_part s [] n k h = absurd (cc)
-own_part s (e ∷ es) n zero h = ⊎_elim
+own_part : (s : ℕ → ℕ) (es : List Cause) (n k : ℕ) → entries_at n s (rewound es n (suc k)) ≡ take k (entries_at n s es)
+own_part s [] n zero = refl
+own_part s [] n (suc k) = refl
+own_part s (e ∷ es) n zero = ⊎_elim
     (λ t. ap (entries_at n s) (rewound-first e es n t) ∙ none_kept s (touches e) n es t)
     (λ f. ap (entries_at n s) (rewound-other e es n zero f) ∙ entries-skipped s n e (rewound es n 1) f
-    ∙ own_part (counted s e) es n zero (sym (some-shift (place_of es n 1)) ∙ sym (ap is_some (place-other e es n zero f)) ∙ h))
+    ∙ own_part (counted s e) es n zero)
     (cases_Bool (touches e n))
-own_part s (e ∷ es) n (suc k) h = ⊎_elim
+own_part s (e ∷ es) n (suc k) = ⊎_elim
     (λ t. ap (entries_at n s) (rewound-touched e es n k t) ∙ entries-more s n e (rewound es n (suc k)) t
-    ∙ ap (λ z. (e, numbers s e) ∷ z) (own_part (counted s e) es n k (sym (some-shift (place_of es n (suc k))) ∙ sym (ap is_some (place-touched e es n k t)) ∙ h))
+    ∙ ap (λ z. (e, numbers s e) ∷ z) (own_part (counted s e) es n k)
     ∙ sym (ap (take (suc k)) (entries-more s n e es t)))
     (λ f. ap (entries_at n s) (rewound-other e es n (suc k) f) ∙ entries-skipped s n e (rewound es n (suc (suc k))) f
-    ∙ own_part (counted s e) es n (suc k) (sym (some-shift (place_of es n (suc (suc k)))) ∙ sym (ap is_some (place-other e es n (suc k) f)) ∙ h)
+    ∙ own_part (counted s e) es n (suc k)
     ∙ sym (ap (take (suc k)) (entries-skipped s n e es f)))
     (cases_Bool (touches e n))
 
-pub own_part_of : (events : List Cause) (n k : ℕ) → IsSome (place_of events n (k + 1)) → account n (rewound events n (k + 1)) ≡ take k (account n events)
-own_part_of events n k h =
+pub own_part_of : (events : List Cause) (n k : ℕ) → account n (rewound events n (k + 1)) ≡ take k (account n events)
+own_part_of events n k =
     let q : k + 1 ≡ suc k = omega arith in
-    ap (λ (z : ℕ). account n (rewound events n z)) q ∙ own_part (λ i. 0) events n k (sym (ap (λ (z : ℕ). is_some (place_of events n z)) q) ∙ h)
+    ap (λ (z : ℕ). account n (rewound events n z)) q ∙ own_part (λ i. 0) events n k

@@ -6,7 +6,7 @@ use Rattle.ga_event.specs.declared.event.Cause.{Cause}
 use Rattle.ga_causal.specs.declared.chain.Link.{Link}
 use Rattle.ga_causal.specs.Dependence.{rule_between, event_at, dependents, DependsOn, itself, through}
 use Rattle.ga_causal.specs.Chains.{IsOldest, IsChainTo, alone, longer, IsFound, leads_to, least_below, oldest_cause, links_to, chain_of}
-use Rattle.ga_causal.proofs.Exact.{meets_rule, why_dependent, DependsOn_from_flag, flag_from_DependsOn, Earlier}
+use Rattle.ga_causal.proofs.Exact.{meets_rule, why_dependent, DependsOn_from_flag, flag_from_DependsOn, flagged_within, Earlier}
 use Rattle.ga_causal.proofs.ChainLaws.{chain_one}
 
 -- the least number below a bound that passes a test
@@ -83,10 +83,10 @@ links_chain (suc most) es i q u k l f = ⊎_elim
     (longer ne o (links_chain most es i (oldest_cause es i q) (omega arith) k (omega arith) (flag_from_DependsOn es i (oldest_cause es i q) k o.dependent))))
     (cases_eq q i)
 
-pub chain_found : (es : List Cause) (i q : ℕ) → i < length es → q < length es → IsFound es i q (chain_of es i q)
+pub chain_found : (es : List Cause) (i q : ℕ) → i < length es → IsFound es i q (chain_of es i q)
 unfolding chain_of
-chain_found es i q k l = ⊎_elim
-    (λ f. subst (λ z. IsFound es i q z) (sym (cond-true (slice_index_or (dependents es i) q false) (Some (links_to (suc q) es i q)) None f)) (links_chain (suc q) es i q (omega arith) k l f))
+chain_found es i q k = ⊎_elim
+    (λ f. subst (λ z. IsFound es i q z) (sym (cond-true (slice_index_or (dependents es i) q false) (Some (links_to (suc q) es i q)) None f)) (links_chain (suc q) es i q (omega arith) k (flagged_within es i q f) f))
     (λ f. subst (λ z. IsFound es i q z) (sym (cond-false (slice_index_or (dependents es i) q false) (Some (links_to (suc q) es i q)) None f))
     (λ d. both_ways (slice_index_or (dependents es i) q false) f (flag_from_DependsOn es i q k d)))
     (cases_Bool (slice_index_or (dependents es i) q false))
@@ -102,5 +102,5 @@ found_one es i q None (Some ys) f g = absurd (f (chained es i q ys g))
 found_one es i q (Some xs) None f g = absurd (g (chained es i q xs f))
 found_one es i q (Some xs) (Some ys) f g = ap Some (chain_one es i q xs ys f g)
 
-pub chain_is : (es : List Cause) (i q : ℕ) (answer : Option (List Link)) → i < length es → q < length es → IsFound es i q answer → answer ≡ chain_of es i q
-chain_is es i q answer k l f = found_one es i q answer (chain_of es i q) f (chain_found es i q k l)
+pub chain_is : (es : List Cause) (i q : ℕ) (answer : Option (List Link)) → i < length es → IsFound es i q answer → answer ≡ chain_of es i q
+chain_is es i q answer k f = found_one es i q answer (chain_of es i q) f (chain_found es i q k)

@@ -18,14 +18,14 @@ use Rattle.ga_causal.proofs.Swaps.{same_chip}
 use Rattle.ga_causal.proofs.Shuffles.{Shuffled, stays, flipped, after, chained, AreApart-sym, apart_free, numbers, entries, entries_flipped, sees_touched, In, shuffled_of, touched_of}
 
 -- the same two events in the other order
-record Turned (c d p : List NodeRecord) (e f : Event) (t u : Told) : Type 0 where
-  mid : List NodeRecord
-  first : apply c f ≡ Some (mid, u)
-  second : apply mid e ≡ Some (p, t)
-  cause : cause_of c f ≡ cause_of d f
-  other : cause_of mid e ≡ cause_of c e
+pub record Turned (c d p : List NodeRecord) (e f : Event) (t u : Told) : Type 0 where
+  pub mid : List NodeRecord
+  pub first : apply c f ≡ Some (mid, u)
+  pub second : apply mid e ≡ Some (p, t)
+  pub cause : cause_of c f ≡ cause_of d f
+  pub other : cause_of mid e ≡ cause_of c e
 
-turned : (c d p : List NodeRecord) (e f : Event) (t u : Told) → apply c e ≡ Some (d, t) → apply d f ≡ Some (p, u) → AreApart (cause_of c e) (cause_of d f) → Turned c d p e f t u
+pub turned : (c d p : List NodeRecord) (e f : Event) (t u : Told) → apply c e ≡ Some (d, t) → apply d f ≡ Some (p, u) → AreApart (cause_of c e) (cause_of d f) → Turned c d p e f t u
 turned c d p e f t u h k a =
     let s = same_of (touches (cause_of c e)) f d p c u (Agree-sym (touches (cause_of c e)) c d (keeps_of c e d t h)) (apart_free (cause_of c e) (cause_of d f) a) k in
     let b : AreApart (cause_of c e) (cause_of c f) = subst (AreApart (cause_of c e)) s.cause a in
@@ -51,7 +51,7 @@ record Follows (c last : List NodeRecord) (ys : List Event) (ts : List (Cause ×
   pub nodes : (s : ℕ → ℕ) (n : ℕ) → filter (λ x. touches x.0.0 n) (told_after s ts) ≡ filter (λ x. touches x.0.0 n) (told_after s told)
 
 -- two of which not both pass a test can be swapped
-swap_filter : {X : Type 0} (test : X → Bool) (a b : X) (xs : List X) → (test a ≡ true → test b ≡ true → ⊥) → filter test (a ∷ b ∷ xs) ≡ filter test (b ∷ a ∷ xs)
+pub swap_filter : {X : Type 0} (test : X → Bool) (a b : X) (xs : List X) → (test a ≡ true → test b ≡ true → ⊥) → filter test (a ∷ b ∷ xs) ≡ filter test (b ∷ a ∷ xs)
 swap_filter test a b xs h = go (test a) (test b) h
   where
     go : (p q : Bool) → (p ≡ true → q ≡ true → ⊥) → cond p (a ∷ cond q (b ∷ filter test xs) (filter test xs)) (cond q (b ∷ filter test xs) (filter test xs)) ≡ cond q (b ∷ cond p (a ∷ filter test xs) (filter test xs)) (cond p (a ∷ filter test xs) (filter test xs))
@@ -60,7 +60,7 @@ swap_filter test a b xs h = go (test a) (test b) h
     go false true h = refl
     go false false h = refl
 
-not_both : (e f : Cause) (n : ℕ) → AreApart e f → touches e n ≡ true → touches f n ≡ true → ⊥
+pub not_both : (e f : Cause) (n : ℕ) → AreApart e f → touches e n ≡ true → touches f n ≡ true → ⊥
 not_both e f n h t u = h.first n t (sees_touched f n u)
 
 filtered : (s : ℕ → ℕ) (n : ℕ) (xs ys : List Cause) → Shuffled xs ys → filter (λ (x : Cause × List ℕ). touches x.0 n) (entries s xs) ≡ filter (λ (x : Cause × List ℕ). touches x.0 n) (entries s ys)

@@ -1,5 +1,5 @@
 -- The flags of the marks are exactly the events that depend on a place.
-use Rattle.std.proofs.Common.{◌≡◌, ℕ, zero, suc, ◌<◌, ◌≢◌, ◌⊎◌, ◌↔◌, Bool, true, false, ◌||◌, cond, List, [], ◌∷◌, length, refl, sym, ◌∙◌, ap, subst, inl, inr, ⊎_elim, arith, IsTrue}
+use Rattle.std.proofs.Common.{◌≡◌, ℕ, zero, suc, ◌<◌, ◌≤◌, ◌≢◌, ◌⊎◌, ◌↔◌, Bool, true, false, ◌||◌, cond, List, [], ◌∷◌, length, refl, sym, ◌∙◌, ap, subst, inl, inr, ⊎_elim, arith, IsTrue}
 use Rattle.std.specs.Prelude.{slice_index_or}
 use Rattle.std.specs.List.{list_any}
 use Rattle.std.proofs.lemmas.Bool.{or_left, or_right, or_cases, cases_Bool, both_ways, cond-true, cond-false, false_from_ne_true}
@@ -123,10 +123,6 @@ DependsOn_within (suc fuel) es i q u l f = ⊎_elim
 pub DependsOn_from_flag : (es : List Cause) (i q : ℕ) → q < length es → slice_index_or (dependents es i) q false ≡ true → DependsOn es i q
 DependsOn_from_flag es i q l f = DependsOn_within (suc q) es i q (omega arith) l f
 
--- the flags are the dependent places
-pub dependents_exact : (es : List Cause) (i j : ℕ) → i < length es → j < length es → IsTrue (slice_index_or (dependents es i) j false) ↔ DependsOn es i j
-dependents_exact es i j k l = (DependsOn_from_flag es i j l, flag_from_DependsOn es i j k)
-
 length-dependents_after : (marks : ℕ → Bool) (es : List Cause) → length (dependents_after marks es) ≡ length es
 length-dependents_after marks [] = refl
 length-dependents_after marks (e ∷ es) = ap suc (length-dependents_after (marked marks e) es)
@@ -135,3 +131,25 @@ pub length-dependents : (es : List Cause) (i : ℕ) → length (dependents es i)
 length-dependents [] i = refl
 length-dependents (e ∷ es) zero = ap suc (length-dependents_after (touches e) es)
 length-dependents (e ∷ es) (suc i) = ap suc (length-dependents es i)
+
+-- past its end nothing is flagged
+pub within_of : (fs : List Bool) (i : ℕ) → slice_index_or fs i false ≡ true → i < length fs
+within_of [] i d = absurd (both_ways false refl d)
+within_of (b ∷ fs) zero d = omega arith
+within_of (b ∷ fs) (suc i) d = let h : i < length fs = within_of fs i d in omega arith
+
+pub flagged_within : (es : List Cause) (i q : ℕ) → slice_index_or (dependents es i) q false ≡ true → q < length es
+flagged_within es i q f = let h : q < length (dependents es i) = within_of (dependents es i) q f in let k : length (dependents es i) ≡ length es = length-dependents es i in omega (arith, h, k)
+
+-- the flags are the dependent places
+pub dependents_exact : (es : List Cause) (i j : ℕ) → i < length es → IsTrue (slice_index_or (dependents es i) j false) ↔ DependsOn es i j
+dependents_exact es i j k = (λ f. DependsOn_from_flag es i j (flagged_within es i j f) f, flag_from_DependsOn es i j k)
+
+-- past the end of the list a place depends on itself alone, by definition
+pub past_alone : (es : List Cause) (i j : ℕ) → length es ≤ i → DependsOn es i j → j ≡ i
+past_alone es i j l itself = refl
+past_alone es i j l (through {middle} d s) =
+    let e : middle ≡ i = past_alone es i middle l d in
+    let b : middle < j = s.before in
+    let w : j < length es = s.within in
+    absurd (omega (arith, l, e, b, w))

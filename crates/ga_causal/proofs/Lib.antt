@@ -21,3 +21,5 @@ pub mod Accounts
 pub mod Blind
 pub mod Taken
 pub mod Moved
+pub mod Words
+pub mod Received

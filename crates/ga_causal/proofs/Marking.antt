@@ -31,4 +31,4 @@ pub closure_end : (es items : List Cause) (i k : ℕ) (flags : List Bool) (marks
 closure_end es items i k flags marks l h = sym (append-nil flags) ∙ ap (λ z. flags ++ dependents_after marks z) (sym (drop_of_length-le items l)) ∙ h
 
 pub closure_exact : (es : List Cause) (i : ℕ) (flags : List Bool) → i < length es → flags ≡ dependents es i → (j : ℕ) → j < length es → IsTrue (slice_index_or flags j false) ↔ DependsOn es i j
-closure_exact es i flags l h j k = subst (λ z. IsTrue (slice_index_or z j false) ↔ DependsOn es i j) (sym h) (dependents_exact es i j l k)
+closure_exact es i flags l h j k = subst (λ z. IsTrue (slice_index_or z j false) ↔ DependsOn es i j) (sym h) (dependents_exact es i j l)

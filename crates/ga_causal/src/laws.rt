@@ -4,6 +4,7 @@ ghost use Rattle.std.specs.Prelude.{◌≡◌, ◌↔◌, ◌<◌, ◌≤◌, �
 ghost use Rattle.ga_event.specs.declared.event.Event.{Event};
 ghost use Rattle.ga_event.specs.declared.event.Cause.{Cause};
 ghost use Rattle.ga_node.specs.Record.{NodeRecord};
+ghost use Rattle.ga_grid.specs.Chip.{record_at};
 ghost use Rattle.ga_event.specs.Touches.{touches};
 ghost use Rattle.ga_event.specs.Apply.{Told, replay, run, cause_of};
 ghost use Rattle.ga_causal.specs.declared.chain.Link.{Link};
@@ -11,6 +12,7 @@ ghost use Rattle.ga_causal.specs.Chains.{IsChain, IsChainTo, IsFound, chain_of, 
 ghost use Rattle.ga_causal.specs.Causes.{events_in};
 ghost use Rattle.ga_causal.specs.Dependence.{dependents, rest, without, DependsOn, NoneLooks};
 ghost use Rattle.ga_causal.specs.Equivalence.{AreApart, AreEquivalent, recorded, account, account_told};
+ghost use Rattle.ga_causal.specs.Words.{account_read};
 ghost use Rattle.ga_causal.specs.Steps.{numbered, numbered_seen, touching, place_of, IsStep, rewound, rewound_all};
 
 /// Two events can be swapped that touch no common node, and of which neither looks at a node that the other touches: in either
@@ -35,9 +37,10 @@ pub fn rest_replays()
         numbered_seen (rest events i) ≡ without (dependents events i) (numbered_seen events) }
 {}
 
-/// The flags of `dependents` are the places of the events that depend on the one at the place `i`.
+/// The flags of `dependents` are the places of the events that depend on the one at the place `i`. There must be one: past the end
+/// nothing is flagged, while by definition each place depends on itself.
 pub fn marks_exact()
-    ensures { (events : List Cause) (i j : ℕ) → i < length events → j < length events →
+    ensures { (events : List Cause) (i j : ℕ) → i < length events →
         (IsTrue (slice_index_or (dependents events i) j false) ↔ DependsOn events i j) }
 {}
 
@@ -47,10 +50,10 @@ pub fn marks_exact()
 /// it looks.
 pub fn largest_rest()
     ensures steps { (events : List Cause) → NoneLooks events →
-        (i : ℕ) (dropped : List Bool) → length dropped ≡ length events → IsTrue (slice_index_or dropped i false) →
+        (i : ℕ) (dropped : List Bool) → IsTrue (slice_index_or dropped i false) →
         numbered (without dropped events) ≡ without dropped (numbered events) →
         (j : ℕ) → DependsOn events i j → IsTrue (slice_index_or dropped j false) }
-    ensures seen { (events : List Cause) (i : ℕ) (dropped : List Bool) → length dropped ≡ length events →
+    ensures seen { (events : List Cause) (i : ℕ) (dropped : List Bool) →
         IsTrue (slice_index_or dropped i false) →
         numbered_seen (without dropped events) ≡ without dropped (numbered_seen events) →
         (j : ℕ) → DependsOn events i j → IsTrue (slice_index_or dropped j false) }
@@ -111,6 +114,24 @@ pub fn causal_consistency()
         (AreEquivalent chip events others ↔ IsPermutation (numbered (causes steps)) (numbered (causes made))) }
 {}
 
+/// A node is what its account with the words makes of it (after the monitored processes of Danos and Krivine): on chips of one size
+/// that hold the same in a node, lists in which it has the same account with the same words leave the same in it, whatever else they
+/// do. So lists that run from one chip leave the same chip where each node has the same account with the same words. They need not
+/// be equivalent: a look can read the same word before and after a step of a neighbour. Lists that are equivalent have the same.
+/// Both lists must run, since what can't be made leaves no chip.
+pub fn accounts_determine()
+    ensures node { (chip other last now : List NodeRecord) (events others : List Event) (n : ℕ) →
+        replay chip events ≡ Some last → replay other others ≡ Some now → length chip ≡ length other →
+        record_at chip n ≡ record_at other n → account_read n chip events ≡ account_read n other others →
+        record_at last n ≡ record_at now n }
+    ensures chip { (chip last now : List NodeRecord) (events others : List Event) →
+        replay chip events ≡ Some last → replay chip others ≡ Some now →
+        ((n : ℕ) → account_read n chip events ≡ account_read n chip others) → last ≡ now }
+    ensures equivalent { (chip last : List NodeRecord) (events others : List Event) (n : ℕ) →
+        replay chip events ≡ Some last → AreEquivalent chip events others →
+        account_read n chip events ≡ account_read n chip others }
+{}
+
 /// Rollbacks of equivalent lists, to the same steps, leave equivalent lists. Both must run, so that there are steps to roll back.
 pub fn equivalent_rollbacks()
     ensures { (chip last now : List NodeRecord) (events others : List Event) (steps made : List (Cause × Told)) →
@@ -121,11 +142,11 @@ pub fn equivalent_rollbacks()
 {}
 
 /// After a rollback each account is the first part of what it was, of which the same is told; that of the node whose step is taken
-/// back ends just before the step. The step must stand: a rollback to another is refused, and takes nothing.
+/// back ends just before the step, also where the step doesn't stand, so that nothing is taken.
 pub fn account_kept()
     ensures first { (events : List Cause) (n k m : ℕ) →
         (later : List (Cause × List ℕ)) × (account m events ≡ account m (rewound events n k) ++ later) }
-    ensures own { (events : List Cause) (n k : ℕ) → IsSome (place_of events n (k + 1)) →
+    ensures own { (events : List Cause) (n k : ℕ) →
         account n (rewound events n (k + 1)) ≡ take k (account n events) }
     ensures told { (chip last : List NodeRecord) (events : List Event) (steps : List (Cause × Told)) (n k : ℕ) →
         run chip events ≡ Some (last, steps) →
@@ -161,9 +182,9 @@ pub fn chains()
         IsChainTo events cause place links → IsChainTo events cause place others → links ≡ others }
     ensures chain { (events : List Cause) (cause place : ℕ) (links : List Link) → cause < length events →
         IsChainTo events cause place links → IsChain events links }
-    ensures found { (events : List Cause) (cause place : ℕ) → cause < length events → place < length events →
+    ensures found { (events : List Cause) (cause place : ℕ) → cause < length events →
         IsFound events cause place (chain_of events cause place) }
     ensures only { (events : List Cause) (cause place : ℕ) (answer : Option (List Link)) →
-        cause < length events → place < length events →
+        cause < length events →
         IsFound events cause place answer → answer ≡ chain_of events cause place }
 {}

@@ -72,15 +72,15 @@ same_none s z n k m j some a = ⊎_elim
 
 -- a chain that is told is one
 chain_told : (es : List Cause) (n k m j : ℕ) (links : List Link) → why_between es (place_of es n k) (place_of es m j) ≡ Ok (Some links) → IsChain es links
-chain_told es n k m j links h = go (place_of es n k) (place_of es m j) (λ i is. (touching es n k i is).0) (λ q is. (touching es m j q is).0) h
+chain_told es n k m j links h = go (place_of es n k) (place_of es m j) (λ i is. (touching es n k i is).0) h
   where
-    go : (o p : Option ℕ) → ((i : ℕ) → o ≡ Some i → Rattle.std.specs.Prelude.◌<◌ i (Rattle.std.specs.Prelude.length es)) → ((q : ℕ) → p ≡ Some q → Rattle.std.specs.Prelude.◌<◌ q (Rattle.std.specs.Prelude.length es))
+    go : (o p : Option ℕ) → ((i : ℕ) → o ≡ Some i → Rattle.std.specs.Prelude.◌<◌ i (Rattle.std.specs.Prelude.length es))
         → why_between es o p ≡ Ok (Some links) → IsChain es links
-    go None p x y k = absurd (cc)
-    go (Some i) None x y k = absurd (cc)
-    go (Some i) (Some q) x y k =
+    go None p x k = absurd (cc)
+    go (Some i) None x k = absurd (cc)
+    go (Some i) (Some q) x k =
         let is : chain_of es i q ≡ Some links = cc in
-        chain_chain es i q links (x i refl) (subst (IsFound es i q) is (chain_found es i q (x i refl) (y q refl)))
+        chain_chain es i q links (x i refl) (subst (IsFound es i q) is (chain_found es i q (x i refl)))
 
 chain_alike : (s : State) (ys : List Event) (n k m j : ℕ) (links : List Link) → IsSome (replay s.load s.kept) → AreEquivalent s.load s.kept ys
     → why_answer s n k m j ≡ Ok (Some links) → Again (causes_of s) (causes_of (with_kept s ys)) links

@@ -17,7 +17,7 @@ rest_exact s new n k place is there = (
   record {
     gone = dependents (causes_of s) place;
     size = length-dependents (causes_of s) place;
-    exact = λ j l. dependents_exact (causes_of s) place j (place_step (causes_of s) n k place there).within l;
+    exact = λ j l. dependents_exact (causes_of s) place j (place_step (causes_of s) n k place there).within;
     kept = refl;
   },
   ap (λ (z : State). z.kept) is ∙ ap (λ o. events_in (rest_from (causes_of s) o)) there,

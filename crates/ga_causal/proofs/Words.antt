@@ -1,0 +1,185 @@
+-- A node is what its account with the words makes of it.
+use Rattle.std.proofs.Common.{◌≡◌, ℕ, ◌<◌, ◌≤◌, ◌==◌, Bool, true, false, ◌||◌, cond, inl, inr, List, [], ◌∷◌, length, set, Option, Some, None, refl, sym, ◌∙◌, ap, subst, arith, length-set, get_or-set_other, get_or-set_same, eqb-true, eq-eqb, ext_get_or}
+use Rattle.std.specs.Prelude.{unwrap_or, option_map, IsSome, is_some}
+use Rattle.std.proofs.lemmas.Bool.{cases_eq, cases_lt, cases_Bool, or_cases, or_parts, both_ways, cond-true, cond-false, ne_eqb}
+use Rattle.std.proofs.lemmas.List.{get_or_past}
+use Rattle.std.proofs.lemmas.Option.{same_Some}
+use Rattle.ga_ports.specs.Address.{classified}
+use Rattle.ga_ports.specs.declared.address.Target.{Target}
+use Rattle.ga_ports.specs.declared.address.Target.TheVariants.{Ram, Rom, Io, Ports, Bad}
+use Rattle.ga_ports.specs.declared.side.Side.{Side}
+use Rattle.ga_node.specs.declared.wait.Reader.{Reader}
+use Rattle.ga_node.specs.declared.wait.Reader.TheVariants.{Instruction, Stack}
+use Rattle.ga_node.specs.declared.seen.Seen.{Seen}
+use Rattle.ga_node.specs.declared.due.Due.{Due}
+use Rattle.ga_node.specs.declared.due.Due.TheVariants as due
+use Rattle.ga_node.specs.declared.kind.Kind.TheVariants as kind
+use Rattle.ga_node.specs.declared.kind.NotReady.{NotReady}
+use Rattle.ga_node.specs.Io.{io_word}
+use Rattle.ga_node.specs.Record.{NodeRecord, record_of}
+use Rattle.ga_node.specs.Changes.{after as changed_by}
+use Rattle.ga_node.specs.Table.{Access, Plain, Reads, Writes, named, found, followed, carried_out, does, fetches, due_of, done_by, own_event, own, looks, t, sent, taken}
+use Rattle.ga_node.proofs.Looks.{own_blind}
+use Rattle.ga_grid.specs.Chip.{nowhere, record_at}
+use Rattle.ga_grid.specs.declared.node_id.NodeId.{NodeId}
+use Rattle.ga_event.specs.declared.event.Event.{Event}
+use Rattle.ga_event.specs.declared.event.Event.TheVariants.{Own, Pass}
+use Rattle.ga_event.specs.declared.event.Cause.{Cause}
+use Rattle.ga_event.specs.Apply.{Told, seen_from, refusal_of, unless, after, apply, cause_of, run, replay}
+use Rattle.ga_causal.specs.Causes.{touches}
+use Rattle.ga_causal.specs.Words.{word_of, account_read}
+use Rattle.ga_causal.proofs.Runs.{first_of_run, keeps_of}
+
+-- A node's own event depends on the word of `io` alone, whatever shows that word.
+
+found_same : (target : Target) (reader : Reader) (seen other : Seen) (n : NodeRecord) → io_word seen ≡ io_word other → found target reader seen n ≡ found target reader other n
+unfolding found
+found_same (Ram k) reader seen other n h = refl
+found_same (Rom k) reader seen other n h = refl
+found_same Io reader seen other n h = rw h refl
+found_same (Ports sides) reader seen other n h = refl
+found_same Bad reader seen other n h = refl
+
+access_same : (reader : Reader) (access : Access) (seen other : Seen) (n : NodeRecord) → io_word seen ≡ io_word other → carried_out reader access seen n ≡ carried_out reader access other n
+access_same reader (Plain changes) seen other n h = refl
+access_same reader (Reads address more) seen other n h = ap (λ found. followed found more) (found_same (classified address) reader seen other n h)
+access_same reader (Writes address more) seen other n h = refl
+
+done_same : (due : Due) (seen other : Seen) (n : NodeRecord) → io_word seen ≡ io_word other → done_by due seen n ≡ done_by due other n
+done_same due.Fetch seen other n h = ap (named kind.Fetch) (access_same Instruction (fetches n) seen other n h)
+done_same (due.Run op) seen other n h = ap (named _) (access_same Stack (does op n) seen other n h)
+
+own_same : (seen other : Seen) (n : NodeRecord) → io_word seen ≡ io_word other → own seen n ≡ own other n
+unfolding own own_event
+own_same seen other n h = ap (λ event. (event.0, changed_by event.1 n)) (done_same (due_of n) seen other n h)
+
+-- what an event with this word makes of a node that it touches
+abbrev pub Becomes : ℕ → NodeRecord → Event → Option ℕ → NodeRecord → Type 0
+Becomes n x (Own node) word y = (seen : Seen) × (y ≡ (own seen x).1) × (word ≡ cond (looks x) (Some (io_word seen)) None)
+Becomes n x (Pass writer reader side) word y = y ≡ cond (n == reader.number) (taken (unwrap_or word 0) x) (sent x)
+
+pub own_once : (x : NodeRecord) (seen other : Seen) → ◌≡◌ {A = Option ℕ} (cond (looks x) (Some (io_word seen)) None) (cond (looks x) (Some (io_word other)) None) → own seen x ≡ own other x
+own_once x seen other = go (looks x) refl
+  where
+    go : (b : Bool) → looks x ≡ b → ◌≡◌ {A = Option ℕ} (cond b (Some (io_word seen)) None) (cond b (Some (io_word other)) None) → own seen x ≡ own other x
+    go true is h = own_same seen other x (same_Some (io_word seen) (io_word other) h)
+    go false is h = own_blind seen other x is
+
+-- it makes one thing of it
+pub becomes_one : (n : ℕ) (x : NodeRecord) (e : Event) (word : Option ℕ) (y z : NodeRecord) → Becomes n x e word y → Becomes n x e word z → y ≡ z
+becomes_one n x (Own node) word y z (seen, p, q) (other, u, v) = p ∙ ap (λ d. d.1) (own_once x seen other (sym q ∙ v)) ∙ sym u
+becomes_one n x (Pass writer reader side) word y z p q = p ∙ sym q
+
+pub after_is : (c d : List NodeRecord) (e : Event) (told : Told) → apply c e ≡ Some (d, told) → after c e ≡ (d, told)
+after_is c d e told h = go (refusal_of c e) h
+  where
+    go : (o : Option NotReady) → unless o (after c e) ≡ Some (d, told) → after c e ≡ (d, told)
+    go None k = same_Some (after c e) (d, told) k
+    go (Some why) k = absurd (cc)
+
+own_becomes : (c : List NodeRecord) (node : NodeId) → node.number < length c → Becomes node.number (record_at c node.number) (Own node) (word_of c (Own node)) (record_at (after c (Own node)).0 node.number)
+own_becomes c node l = (seen_from c node.number, get_or-set_same c node.number _ (record_of nowhere) l, refl)
+
+pass_becomes : (c : List NodeRecord) (w r : NodeId) (side : Side) (n : ℕ) → n < length c → (((w.number == n) || ((r.number == n) || false)) ≡ true) → Becomes n (record_at c n) (Pass w r side) (word_of c (Pass w r side)) (record_at (after c (Pass w r side)).0 n)
+pass_becomes c w r side n l touched = elim (cases_eq n r.number) [ | inl e ↦ as_reader e | inr ne ↦ as_writer ne ]
+  where
+    from : NodeRecord
+    from = record_at c w.number
+
+    mid : List NodeRecord
+    mid = set c w.number (sent from)
+
+    word : ℕ
+    word = t from
+
+    as_reader : n ≡ r.number → record_at (set mid r.number (taken word (record_at c r.number))) n ≡ cond (n == r.number) (taken word (record_at c n)) (sent (record_at c n))
+    as_reader e =
+        let size : length mid ≡ length c = length-set c w.number (sent from) in
+        ap (λ (z : ℕ). record_at (set mid r.number (taken word (record_at c r.number))) z) e
+        ∙ get_or-set_same mid r.number (taken word (record_at c r.number)) (record_of nowhere) (omega (arith, e, l, size))
+        ∙ ap (λ (z : ℕ). taken word (record_at c z)) (sym e)
+        ∙ sym (cond-true (n == r.number) (taken word (record_at c n)) (sent (record_at c n)) (eq-eqb n r.number e))
+
+    is_writer : (n ≡ r.number → ⊥) → n ≡ w.number
+    is_writer ne = elim (or_cases (w.number == n) ((r.number == n) || false) touched) [
+      | inl q ↦ sym (eqb-true w.number n q)
+      | inr q ↦ elim (or_cases (r.number == n) false q) [ | inl k ↦ absurd (ne (sym (eqb-true r.number n k))) | inr k ↦ absurd (both_ways false refl k) ]
+    ]
+
+    as_writer : (n ≡ r.number → ⊥) → record_at (set mid r.number (taken word (record_at c r.number))) n ≡ cond (n == r.number) (taken word (record_at c n)) (sent (record_at c n))
+    as_writer ne =
+        let e : n ≡ w.number = is_writer ne in
+        get_or-set_other mid r.number n (taken word (record_at c r.number)) (record_of nowhere) ne
+        ∙ ap (λ (z : ℕ). record_at mid z) e
+        ∙ get_or-set_same c w.number (sent from) (record_of nowhere) (omega (arith, e, l))
+        ∙ ap (λ (z : ℕ). sent (record_at c z)) (sym e)
+        ∙ sym (cond-false (n == r.number) (taken word (record_at c n)) (sent (record_at c n)) (ne_eqb n r.number ne))
+
+after_becomes : (n : ℕ) (c : List NodeRecord) (e : Event) → n < length c → touches (cause_of c e) n ≡ true → Becomes n (record_at c n) e (word_of c e) (record_at (after c e).0 n)
+after_becomes n c (Own node) l touched =
+    let at : node.number ≡ n = elim (or_cases (node.number == n) false touched) [ | inl q ↦ eqb-true node.number n q | inr q ↦ absurd (both_ways false refl q) ] in
+    subst (λ z. Becomes z (record_at c z) (Own node) (word_of c (Own node)) (record_at (after c (Own node)).0 z)) at (own_becomes c node (omega (arith, at, l)))
+after_becomes n c (Pass w r side) l touched = pass_becomes c w r side n l touched
+
+-- what an event that was made makes of a node that it touches
+pub becomes_of : (n : ℕ) (c d : List NodeRecord) (e : Event) (told : Told) → n < length c → apply c e ≡ Some (d, told) → touches (cause_of c e) n ≡ true → Becomes n (record_at c n) e (word_of c e) (record_at d n)
+becomes_of n c d e told l h touched =
+    subst (λ z. Becomes n (record_at c n) e (word_of c e) (record_at z n)) (ap (λ z. z.0) (after_is c d e told h)) (after_becomes n c e l touched)
+
+-- what an account makes of a node
+abbrev Lives : ℕ → NodeRecord → List (Event × Option ℕ) → NodeRecord → Type 0
+Lives n x [] y = x ≡ y
+Lives n x (a ∷ xs) y = (z : NodeRecord) × Becomes n x a.0 a.1 z × Lives n z xs y
+
+lives_one : (n : ℕ) (x : NodeRecord) (xs : List (Event × Option ℕ)) (y z : NodeRecord) → Lives n x xs y → Lives n x xs z → y ≡ z
+lives_one n x [] y z p q = sym p ∙ q
+lives_one n x (a ∷ xs) y z (u, b, l) (v, c, m) = lives_one n v xs y z (subst (λ w. Lives n w xs y) (becomes_one n x a.0 a.1 u v b c) l) m
+
+lived_more : (n : ℕ) (c mid : List NodeRecord) (e : Event) (told : Told) (xs : List (Event × Option ℕ)) (y : NodeRecord) → n < length c → apply c e ≡ Some (mid, told) → Lives n (record_at mid n) xs y
+    → (b : Bool) → touches (cause_of c e) n ≡ b → Lives n (record_at c n) (cond b ((e, word_of c e) ∷ xs) xs) y
+lived_more n c mid e told xs y l h later true is = (record_at mid n, becomes_of n c mid e told l h is, later)
+lived_more n c mid e told xs y l h later false is = subst (λ z. Lives n z xs y) (sym ((keeps_of c e mid told h).same n is)) later
+
+pub same_size : (c last : List NodeRecord) (es : List Event) (ts : List (Cause × Told)) → run c es ≡ Some (last, ts) → length c ≡ length last
+same_size c last [] ts h = ap (λ (z : List NodeRecord × List (Cause × Told)). length z.0) (same_Some (c, []) (last, ts) h)
+same_size c last (e ∷ es) ts h =
+    let m = first_of_run c e es last ts h in
+    (keeps_of c e m.mid m.told m.first).size ∙ same_size m.mid last es m.others m.then
+
+lived : (n : ℕ) (c last : List NodeRecord) (es : List Event) (ts : List (Cause × Told)) → n < length c → run c es ≡ Some (last, ts) → Lives n (record_at c n) (account_read n c es) (record_at last n)
+lived n c last [] ts l h = ap (λ (z : List NodeRecord × List (Cause × Told)). record_at z.0 n) (same_Some (c, []) (last, ts) h)
+lived n c last (e ∷ es) ts l h =
+    let m = first_of_run c e es last ts h in
+    let size : length c ≡ length m.mid = (keeps_of c e m.mid m.told m.first).size in
+    let later = lived n m.mid last es m.others (omega (arith, l, size)) m.then in
+    subst (λ d. Lives n (record_at c n) (cond (touches (cause_of c e) n) ((e, word_of c e) ∷ account_read n d es) (account_read n d es)) (record_at last n)) (sym (ap (λ z. z.0) (after_is c m.mid e m.told m.first)))
+    (lived_more n c m.mid e m.told (account_read n m.mid es) (record_at last n) l m.first later (touches (cause_of c e) n) refl)
+
+-- a list that can be replayed runs
+pub ran : (c last : List NodeRecord) (es : List Event) → replay c es ≡ Some last → (ts : List (Cause × Told)) × (run c es ≡ Some (last, ts))
+ran c last es h = go (run c es) refl h
+  where
+    go : (o : Option (List NodeRecord × List (Cause × Told))) → run c es ≡ o → option_map {U = List NodeRecord} (λ done. done.0) o ≡ Some last → (ts : List (Cause × Told)) × (run c es ≡ Some (last, ts))
+    go None is k = absurd (cc)
+    go (Some done) is k = (done.1, is ∙ ap (λ (z : List NodeRecord). Some (z, done.1)) (same_Some done.0 last k))
+
+pub same_node : (chip other last now : List NodeRecord) (es fs : List Event) (n : ℕ) → replay chip es ≡ Some last → replay other fs ≡ Some now → length chip ≡ length other
+    → record_at chip n ≡ record_at other n → account_read n chip es ≡ account_read n other fs → record_at last n ≡ record_at now n
+same_node chip other last now es fs n h k size at same =
+    let a = ran chip last es h in
+    let b = ran other now fs k in
+    let here : length chip ≡ length last = same_size chip last es a.0 a.1 in
+    let there : length other ≡ length now = same_size other now fs b.0 b.1 in
+    elim (cases_lt n (length chip)) [
+      | inl l ↦ lives_one n (record_at chip n) (account_read n chip es) (record_at last n) (record_at now n) (lived n chip last es a.0 l a.1)
+          (subst (λ z. Lives n (record_at chip n) z (record_at now n)) (sym same)
+          (subst (λ z. Lives n z (account_read n other fs) (record_at now n)) (sym at) (lived n other now fs b.0 (omega (arith, l, size)) b.1)))
+      | inr l ↦ get_or_past last n (record_of nowhere) (omega (arith, l, here)) ∙ sym (get_or_past now n (record_of nowhere) (omega (arith, l, size, there)))
+    ]
+
+pub same_chip : (chip last now : List NodeRecord) (es fs : List Event) → replay chip es ≡ Some last → replay chip fs ≡ Some now
+    → ((n : ℕ) → account_read n chip es ≡ account_read n chip fs) → last ≡ now
+same_chip chip last now es fs h k same =
+    let a = ran chip last es h in
+    let b = ran chip now fs k in
+    ext_get_or (record_of nowhere) last now (sym (same_size chip last es a.0 a.1) ∙ same_size chip now fs b.0 b.1) (λ n l. same_node chip chip last now es fs n h k refl refl (same n))
