@@ -25,12 +25,12 @@ use Rattle.ga_lab.specs.Sequences.{AreCausal, back, chained, onward, either, Tak
 use Rattle.ga_lab.proofs.Called.{Runs, runs_of, with_kept, call_runs, runs_some, call_load, first_runs}
 use Rattle.ga_lab.proofs.Forward.{made_is_next}
 use Rattle.ga_lab.proofs.Reasoned.{replayed}
-use Rattle.ga_lab.proofs.Sequences.{call_made, calls_counted, call_limit, ended, undone_last, sound}
+use Rattle.ga_lab.proofs.Sequences.{call_made, calls_counted, call_limit, ended, undone_last}
 use Rattle.ga_lab.proofs.Normal.{steps_for, at, load_of, steps_length, steps_join, Fits, reach, behind, one_refused, one_undo, one_rewind, ends_at, swaps_all}
 
 -- A step.
 
-less_of : (x y : ℕ) → nat_le x y ≡ false → y < x
+pub less_of : (x y : ℕ) → nat_le x y ≡ false → y < x
 less_of x y f = ⊎_elim (λ l. l) (λ l. absurd (both_ways (nat_le x y) f (le-leb x y l))) (cases_lt y x)
 
 one_step : (s : State) (n : NodeId) → Fits s → s.made < 2 ^ 64 - 1 → AreCausal (load_of s) (steps_for s.kept ++ step n ∷ []) (steps_for (stepped s n).kept)
@@ -194,10 +194,6 @@ pub kept_fits : (load : List NodeRecord) (limit : ℕ) (calls : List Call) → (
 kept_fits load limit calls =
     let h : Held (called_all (first load limit) calls) = calls_held (first load limit) calls (first_held load limit) in
     (h.room, h.made)
-
-pub ends_alike : (load : List NodeRecord) (limit : ℕ) (calls others : List Call) → AreCausal (first load limit) calls others
-    → AreEquivalent load (called_all (first load limit) calls).kept (called_all (first load limit) others).kept
-ends_alike load limit calls others h = sound (first load limit) calls others h (first_runs load limit [])
 
 pub related : (load : List NodeRecord) (limit : ℕ) (calls others : List Call) → length calls + length calls < 2 ^ 64 → length others + length others < 2 ^ 64
     → TakesNoLook (first load limit) calls → TakesNoLook (first load limit) others

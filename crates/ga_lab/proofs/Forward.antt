@@ -168,12 +168,12 @@ before load (x ∷ xs) e h =
       can = b.can;
     }
 
-with_kept : State → List Event → ℕ → State
-with_kept s xs made = record s { kept = xs; made = made }
+-- a machine with another list, of which so many were made
+abbrev pub keeping : State → List Event → ℕ → State
+keeping s xs made = record s { kept = xs; made = made }
 
-steps_at : (s : State) (c : List NodeRecord) (xs : List Event) (ts : List (Cause × Told)) (e : Event) → run s.load xs ≡ Some (c, ts) → refusal_of c e ≡ None
-    → length xs < s.limit → s.made < 2 ^ 64 - 1 → stepped (with_kept s xs s.made) (actor_of e) ≡ with_kept s (xs ++ e ∷ []) (s.made + 1)
-unfolding with_kept
+pub steps_at : (s : State) (c : List NodeRecord) (xs : List Event) (ts : List (Cause × Told)) (e : Event) → run s.load xs ≡ Some (c, ts) → refusal_of c e ≡ None
+    → length xs < s.limit → s.made < 2 ^ 64 - 1 → stepped (keeping s xs s.made) (actor_of e) ≡ keeping s (xs ++ e ∷ []) (s.made + 1)
 steps_at s c xs ts e ran can room count =
     let t : State = record s { kept = xs; made = s.made } in
     let chip : chip_of t ≡ c = ap (λ (o : Option (List NodeRecord × List (Cause × Told))). unwrap_or (option_map (λ (x : List NodeRecord × List (Cause × Told)). x.0) o) []) ran in
@@ -186,7 +186,6 @@ steps_at s c xs ts e ran can room count =
 
 pub redone : (s : State) (xs : List Event) (e : Event) → IsSome (replay s.load s.kept) → s.kept ≡ xs ++ e ∷ [] → length s.kept ≤ s.limit → s.made < 2 ^ 64 - 1
     → stepped (undone s) (actor_of e) ≡ record s { made = s.made + 1 }
-unfolding with_kept
 redone s xs e some is room count =
     let b : Before s.load xs e = before s.load xs e (subst (λ z. IsSome (replay s.load z)) is some) in
     let long : length (xs ++ e ∷ []) ≡ length xs + 1 = length_push xs e in
@@ -194,6 +193,6 @@ redone s xs e some is room count =
     let less : length s.kept - 1 ≡ length xs = omega arith in
     let front : take (length s.kept - 1) s.kept ≡ xs =
     ap (λ z. take z s.kept) less ∙ ap (take (length xs)) is ∙ take-append-le (length xs) xs (e ∷ []) (omega arith) ∙ take_all (length xs) xs (omega arith) in
-    ap (λ z. stepped (with_kept s z s.made) (actor_of e)) front
+    ap (λ z. stepped (keeping s z s.made) (actor_of e)) front
     ∙ steps_at s b.last xs b.told e b.ran b.can (omega arith) count
-    ∙ ap (λ z. with_kept s z (s.made + 1)) (sym is)
+    ∙ ap (λ z. keeping s z (s.made + 1)) (sym is)

@@ -204,15 +204,15 @@ one_undos s xs (y ∷ ys) (suc m) n is f l =
 -- A rollback that takes no look.
 
 -- the list with what is taken at its end
-abbrev parted : State → ℕ → List Cause
+abbrev pub parted : State → ℕ → List Cause
 parted s i = rest (causes_of s) i ++ without (map not (dependents (causes_of s) i)) (causes_of s)
 
-parted_alike : (s : State) (r : Runs s) (i : ℕ) → NoneLooks (without (map not (dependents (causes_of s) i)) (causes_of s)) → AreEquivalent s.load s.kept (events_in (parted s i))
+pub parted_alike : (s : State) (r : Runs s) (i : ℕ) → NoneLooks (without (map not (dependents (causes_of s) i)) (causes_of s)) → AreEquivalent s.load s.kept (events_in (parted s i))
 parted_alike s r i none =
     subst (λ (z : List Cause). AreEquivalent s.load s.kept (events_in (rest z i ++ without (map not (dependents z i)) z))) (sym (causes_is s r))
     (taken_last s.load r.last s.kept r.told i r.run_is (subst (λ z. NoneLooks (without (map not (dependents z i)) z)) (causes_is s r) none))
 
-events_join : (xs ys : List Cause) → events_in (xs ++ ys) ≡ events_in xs ++ events_in ys
+pub events_join : (xs ys : List Cause) → events_in (xs ++ ys) ≡ events_in xs ++ events_in ys
 events_join [] ys = refl
 events_join (x ∷ xs) ys = ap (λ z. x.event ∷ z) (events_join xs ys)
 

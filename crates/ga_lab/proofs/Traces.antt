@@ -32,8 +32,9 @@ use Rattle.ga_journal.specs.Told.{mades_of}
 use Rattle.ga_lab.specs.Machine.{State, first, chip_of, causes_of, history_of}
 use Rattle.ga_lab.specs.Calls.{Call, called_all}
 use Rattle.ga_lab.proofs.Told.{made_of, history_accounted}
-use Rattle.ga_lab.proofs.Called.{Runs, told_is, causes_is, first_runs}
+use Rattle.ga_lab.proofs.Called.{Runs, told_is, causes_is, first_runs, calls_load}
 use Rattle.ga_lab.proofs.Alike.{consistent}
+use Rattle.ga_lab.proofs.Silent.{none_looks}
 
 -- the side on which a neighbour stands
 side_of : ℕ → ℕ → Side
@@ -196,13 +197,14 @@ account_told_back s n r none =
     ∙ ap (λ z. map (λ x. x.0) (map decoded z)) (sym (ap (λ z. mades_of z n) (told_is s r) ∙ history_accounted r.told n))
 
 pub traces_tell : (load : List NodeRecord) (limit bound : ℕ) (calls others : List Call)
-    → NoneLooks (causes_of (called_all (first load limit) calls)) → NoneLooks (causes_of (called_all (first load bound) others))
+    → NoneLooks (causes_of (called_all (first load limit) calls))
     → ((n : ℕ) → history_of (called_all (first load limit) calls) n ≡ history_of (called_all (first load bound) others) n)
     → AreEquivalent load (called_all (first load limit) calls).kept (called_all (first load bound) others).kept × (chip_of (called_all (first load limit) calls) ≡ chip_of (called_all (first load bound) others))
-traces_tell load limit bound calls others none nor h =
+traces_tell load limit bound calls others none h =
     let s = called_all (first load limit) calls in
     let z = called_all (first load bound) others in
     let r = first_runs load limit calls in
     let q = first_runs load bound others in
+    let nor : NoneLooks (causes_of z) = none_looks s z r q (calls_load (first load limit) calls ∙ sym (calls_load (first load bound) others)) none h in
     let k = consistent load limit bound calls others (λ n. account_told_back s n r none ∙ ap (λ x. map (λ y. y.0) (map decoded x)) (h n) ∙ sym (account_told_back z n q nor)) in
     (k.0, k.1)

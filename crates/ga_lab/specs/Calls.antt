@@ -2,7 +2,7 @@
 use Rattle.std.specs.Prelude.{◌≡◌, ℕ, List, [], ◌∷◌}
 use Rattle.ga_grid.specs.declared.node_id.NodeId.{NodeId}
 use Rattle.ga_causal.specs.Equivalence.{AreEquivalent}
-use Rattle.ga_lab.specs.Machine.{State, stepped, undone, rewound}
+use Rattle.ga_lab.specs.Machine.{State, first, stepped, undone, rewound}
 
 pub data Call : Type 0 where
   step : NodeId → Call
@@ -19,6 +19,11 @@ called s (rewind n k) = rewound s n k
 abbrev pub called_all : State → List Call → State
 called_all s [] = s
 called_all s (call ∷ calls) = called_all (called s call) calls
+
+-- calls lead to the machine from its load
+pub record IsReached (s : State) : Type 0 where
+  pub calls : List Call
+  pub is : called_all (first s.load s.limit) calls ≡ s
 
 -- one keeps what the other keeps, but for the order of independent events
 pub record AreAlike (s z : State) : Type 0 where

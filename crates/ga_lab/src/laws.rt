@@ -1,4 +1,6 @@
-//! Laws over the machine, each the contract of a function that does no work.
+//! Laws over the machine, each the contract of a function that does no work. Where one is of machines that are reached (`IsReached`),
+//! it is of each to which steps, undos and rollbacks lead from a load. Of others it isn't said: what they keep need not have been
+//! made, and then they have no chip.
 
 ghost use Rattle.std.specs.Prelude.{◌≡◌, ◌<◌, ◌≤◌, ◌^◌, ◌↔◌, ℕ, true, List, [], ◌∷◌, ◌++◌, ◌+◌, ◌-◌, length, map, Some, None, Ok, IsSome};
 ghost use Rattle.ga_event.specs.declared.event.Event.{Event};
@@ -13,9 +15,12 @@ ghost use Rattle.ga_lab.specs.Machine.{State, first, chip_of, told_of_kept, caus
 ghost use Rattle.ga_lab.specs.Forward.{actor_of, stepped_all};
 ghost use Rattle.ga_grid.specs.Chip.{record_at};
 ghost use Rattle.ga_node.specs.Record.{NodeRecord};
-ghost use Rattle.ga_lab.specs.Calls.{Call, called_all, AreAlike};
-ghost use Rattle.ga_lab.specs.Sequences.{AreCausal, TakesNoLook};
+ghost use Rattle.ga_lab.specs.Calls.{Call, called_all, IsReached, AreAlike};
+ghost use Rattle.ga_lab.specs.Sequences.{AreCausal, TakesNoLook, taken_from};
 ghost use Rattle.ga_causal.specs.Equivalence.{AreEquivalent, account};
+ghost use Rattle.ga_causal.specs.Words.{words_read};
+ghost use Rattle.ga_causal.specs.Causes.{events_in};
+ghost use Rattle.ga_causal.specs.Steps.{place_of};
 ghost use Rattle.ga_causal.specs.Dependence.{NoneLooks};
 ghost use Rattle.ga_causal.specs.declared.chain.Link.{Link};
 ghost use Rattle.ga_causal.specs.Chains.{IsChain, named};
@@ -32,7 +37,7 @@ pub fn stays_steady()
 
 /// What a step answers is told of it later, at the place behind the events that were kept before.
 pub fn told_later()
-    ensures { (s : State) (n : NodeId) (told : Made) → IsSome (replay s.load s.kept) →
+    ensures { (s : State) (n : NodeId) (told : Made) → IsReached s →
         step_answer s n ≡ Ok told → made_in (told_of_kept (stepped s n)) (length s.kept) ≡ Some told }
 {}
 
@@ -43,23 +48,23 @@ pub fn reached()
         (s.load ≡ load) × IsSome (replay s.load s.kept) }
 {}
 
-/// Whatever is called, no more events are kept than the limit, nor than were made.
+/// Whatever is called, no more events are kept than the limit, nor than were made, and fewer than 2^64 were made.
 pub fn kept_fits()
     ensures { (load : List NodeRecord) (limit : ℕ) (calls : List Call) →
         let s = called_all (first load limit) calls in
-        (length s.kept ≤ s.limit) × (length s.kept ≤ s.made) }
+        (length s.kept ≤ s.limit) × (length s.kept ≤ s.made) × (s.made < 2 ^ 64) }
 {}
 
-/// After a rollback the history of each node is the first part of what it was. (Here and below, that the kept events can be
-/// replayed is asked of a machine: by `reached` each that calls lead to meets it. Others have no chip.)
+/// After a rollback the history of each node is the first part of what it was.
 pub fn history_kept()
-    ensures { (s : State) (n k m : ℕ) → IsSome (replay s.load s.kept) →
+    ensures { (s : State) (n k m : ℕ) → IsReached s →
         (later : List Made) × (history_of s m ≡ history_of (rewound s n k) m ++ later) }
 {}
 
-/// To undo the newest event is to roll back the last step of any of its nodes.
+/// To undo the newest event is to roll back the last step of any of its nodes. A rollback of another node's last step takes another
+/// event.
 pub fn undone_rewound()
-    ensures { (s : State) (events : List Event) (event : Event) (n : ℕ) → IsSome (replay s.load s.kept) →
+    ensures { (s : State) (events : List Event) (event : Event) (n : ℕ) → IsReached s →
         s.kept ≡ events ++ event ∷ [] → touches event n ≡ true → undone s ≡ rewound s n (steps_of n s.kept) }
 {}
 
@@ -76,12 +81,12 @@ pub fn same_accounts()
 
 /// Causal consistency of sequences of calls (Danos and Krivine): two sequences from one load are causally equivalent, which is that
 /// a step followed by its undo is nothing and independent steps swap, exactly where they end alike. That they end alike holds of
-/// all; the other direction wants that no rollback takes a look, since a step that the look read may stay, and then the rollback is
-/// no undos. It goes over as many steps and undos again, which have to be counted: so less than half of 2^64 calls.
+/// all, from any machine that is reached. The other direction is of sequences from the load, and wants that no rollback takes a
+/// look, since what a neighbour did after the look stays, and then the rollback is no undos (`examples/look_again`). It goes over as
+/// many steps and undos again, which have to be counted: so less than half of 2^64 calls.
 pub fn causal_calls()
-    ensures ends { (load : List NodeRecord) (limit : ℕ) (calls others : List Call) →
-        AreCausal (first load limit) calls others →
-        AreEquivalent load (called_all (first load limit) calls).kept (called_all (first load limit) others).kept }
+    ensures ends { (s : State) (calls others : List Call) → IsReached s → AreCausal s calls others →
+        AreEquivalent s.load (called_all s calls).kept (called_all s others).kept }
     ensures related { (load : List NodeRecord) (limit : ℕ) (calls others : List Call) →
         length calls + length calls < 2 ^ 64 → length others + length others < 2 ^ 64 →
         TakesNoLook (first load limit) calls → TakesNoLook (first load limit) others →
@@ -93,12 +98,12 @@ pub fn causal_calls()
 /// (An undo shows it: it drops the newest event.)
 pub fn order_unseen()
     ensures chip { (s z : State) → AreAlike s z → chip_of s ≡ chip_of z }
-    ensures account { (s z : State) (n : ℕ) → IsSome (replay s.load s.kept) → AreAlike s z →
+    ensures account { (s z : State) (n : ℕ) → IsReached s → AreAlike s z →
         account n (causes_of s) ≡ account n (causes_of z) }
-    ensures history { (s z : State) (n : ℕ) → IsSome (replay s.load s.kept) → AreAlike s z → history_of s n ≡ history_of z n }
+    ensures history { (s z : State) (n : ℕ) → IsReached s → AreAlike s z → history_of s n ≡ history_of z n }
     ensures step { (s z : State) (n : NodeId) → AreAlike s z →
         (step_answer s n ≡ step_answer z n) × AreAlike (stepped s n) (stepped z n) }
-    ensures rollback { (s z : State) (n k : ℕ) → IsSome (replay s.load s.kept) → AreAlike s z →
+    ensures rollback { (s z : State) (n k : ℕ) → IsReached s → AreAlike s z →
         (rewind_answer s n k ≡ rewind_answer z n k) × AreAlike (rewound s n k) (rewound z n k) }
 {}
 
@@ -107,54 +112,82 @@ pub fn order_unseen()
 /// need not be the one that is told there: where several of the events on which a step depends directly lead back to the first, the
 /// one that was made first is told.)
 pub fn why_unseen()
-    ensures none { (s z : State) (n k m j : ℕ) → IsSome (replay s.load s.kept) → AreAlike s z →
+    ensures none { (s z : State) (n k m j : ℕ) → IsReached s → AreAlike s z →
         ((why_answer s n k m j ≡ Ok None) ↔ (why_answer z n k m j ≡ Ok None)) }
-    ensures chain { (s z : State) (n k m j : ℕ) (links : List Link) → IsSome (replay s.load s.kept) → AreAlike s z →
+    ensures chain { (s z : State) (n k m j : ℕ) (links : List Link) → IsReached s → AreAlike s z →
         why_answer s n k m j ≡ Ok (Some links) →
         (chain : List Link) × IsChain (causes_of z) chain × (named (causes_of s) links ≡ named (causes_of z) chain) }
 {}
 
-/// Where no kept event looks, the histories of the nodes, which are what `trace` prints, tell the kept events but for the order of
-/// independent ones, and with them the chip. (Where one looks they don't: it reads another word where a neighbour made a step
-/// before it, and is told alike.)
+/// Where no kept event of one of two machines looks, the histories of the nodes, which are what `trace` prints, tell the kept events
+/// but for the order of independent ones, and with them the chip: another with the same histories has no look either. (Where one
+/// looks they don't: it reads another word where a neighbour made a step before it, and is told alike.)
 pub fn traces_tell()
     ensures { (load : List NodeRecord) (limit bound : ℕ) (calls others : List Call) →
         let s = called_all (first load limit) calls in
         let z = called_all (first load bound) others in
-        NoneLooks (causes_of s) → NoneLooks (causes_of z) → ((n : ℕ) → history_of s n ≡ history_of z n) →
+        NoneLooks (causes_of s) → ((n : ℕ) → history_of s n ≡ history_of z n) →
         AreEquivalent load s.kept z.kept × (chip_of s ≡ chip_of z) }
 {}
 
+/// The histories of the nodes, together with the words that their looks read, tell the chip, whoever looks: a node of which `trace`
+/// tells the same, and whose looks read the same words, is the same, whatever else differs. So the account of a node with the words
+/// that came to it determines it (after Danos and Krivine, whose processes stand beside the memory of what they received). Whose
+/// looks differ, or were not told, may differ (`traces_tell`). The order of the kept events isn't told: a look may have read a word
+/// before or after a step of a neighbour that shows no wait, and a rollback of that step takes it or leaves it.
+pub fn words_tell()
+    ensures node { (load : List NodeRecord) (limit bound : ℕ) (calls others : List Call) (n : ℕ) →
+        let s = called_all (first load limit) calls in
+        let z = called_all (first load bound) others in
+        history_of s n ≡ history_of z n → words_read n load s.kept ≡ words_read n load z.kept →
+        record_at (chip_of s) n ≡ record_at (chip_of z) n }
+    ensures chip { (load : List NodeRecord) (limit bound : ℕ) (calls others : List Call) →
+        let s = called_all (first load limit) calls in
+        let z = called_all (first load bound) others in
+        ((n : ℕ) → history_of s n ≡ history_of z n) → ((n : ℕ) → words_read n load s.kept ≡ words_read n load z.kept) →
+        chip_of s ≡ chip_of z }
+{}
+
 /// Whatever was taken back, the machine stands where steps alone lead from the load: one step for each kept event, in their order,
-/// of a pass one of its writer. No more may be kept than the limit and the count of made events let steps make, as is so after any
-/// calls.
+/// of a pass one of its writer.
 pub fn reached_forward()
-    ensures { (s : State) → IsSome (replay s.load s.kept) → length s.kept ≤ s.limit → length s.kept < 2 ^ 64 →
+    ensures { (s : State) → IsReached s →
         stepped_all (first s.load s.limit) (map actor_of s.kept) ≡ record s { made = length s.kept } }
 {}
 
 /// `why` finds no chain from a step to another exactly where a rollback of the first leaves the other standing. Both must stand:
 /// `why` refuses a step that doesn't.
 pub fn takes_what_it_explains()
-    ensures { (s : State) (n k m j : ℕ) → IsSome (replay s.load s.kept) → stands s n k ≡ true → stands s m j ≡ true →
+    ensures { (s : State) (n k m j : ℕ) → IsReached s → stands s n k ≡ true → stands s m j ≡ true →
         ((why_answer s n k m j ≡ Ok None) ↔ (stands (rewound s n k) m j ≡ true)) }
 {}
 
 /// Two rollbacks leave the same machine in either order.
 pub fn either_order()
-    ensures { (s : State) (n k m j : ℕ) → IsSome (replay s.load s.kept) →
+    ensures { (s : State) (n k m j : ℕ) → IsReached s →
         rewound (rewound s n k) m j ≡ rewound (rewound s m j) n k }
 {}
 
-/// What was undone is made again by a step of its node, of a pass by one of its writer. The limit and the count of made events must
-/// leave room for it, or the step is refused.
+/// What was undone is made again by a step of its node, of a pass by one of its writer (a step of its reader takes the word of the
+/// first writer that waits, which may be another). Once 2^64 - 1 events were made a step is refused.
 pub fn redone()
-    ensures { (s : State) (xs : List Event) (e : Event) → IsSome (replay s.load s.kept) → s.kept ≡ xs ++ e ∷ [] →
-        length s.kept ≤ s.limit → s.made < 2 ^ 64 - 1 → stepped (undone s) (actor_of e) ≡ record s { made = s.made + 1 } }
+    ensures { (s : State) (xs : List Event) (e : Event) → IsReached s → s.kept ≡ xs ++ e ∷ [] →
+        s.made < 2 ^ 64 - 1 → stepped (undone s) (actor_of e) ≡ record s { made = s.made + 1 } }
+{}
+
+/// What a rollback took is made again by steps of the same nodes in their order, of a pass by one of its writer, where no look is
+/// among it: then the same events are kept again but for the order of independent ones, and the chip is the same. (A look made
+/// again also sees what its neighbours did after it.) The count of made events must have room for them.
+pub fn remade()
+    ensures { (s : State) (n k : ℕ) → IsReached s →
+        let taken = taken_from (causes_of s) (place_of (causes_of s) n k) in
+        NoneLooks taken → s.made + length taken < 2 ^ 64 →
+        let z = stepped_all (rewound s n k) (map actor_of (events_in taken)) in
+        AreEquivalent s.load s.kept z.kept × (chip_of z ≡ chip_of s) }
 {}
 
 /// A node that keeps all its steps stands after a rollback as it stood before. Another stands where its first steps left it.
 pub fn stays_elsewhere()
-    ensures { (s : State) (n k m : ℕ) → IsSome (replay s.load s.kept) → steps_of m (rewound s n k).kept ≡ steps_of m s.kept →
+    ensures { (s : State) (n k m : ℕ) → IsReached s → steps_of m (rewound s n k).kept ≡ steps_of m s.kept →
         record_at (chip_of (rewound s n k)) m ≡ record_at (chip_of s) m }
 {}

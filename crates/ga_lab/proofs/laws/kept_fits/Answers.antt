@@ -1,5 +1,5 @@
-use Rattle.ga_lab.proofs.Causal as Causal
+use Rattle.ga_lab.proofs.Reached as Reached
 use Rattle.ga_lab.proofs.laws.kept_fits.Goals as goal
 
 pub returns : goal.returns
-returns c = Causal.kept_fits
+returns c = Reached.fits

@@ -1,0 +1,144 @@
+-- What a node's history and the words that its looks read make of it.
+use Rattle.std.proofs.Common.{◌≡◌, ℕ, ◌<◌, ◌≤◌, Bool, true, false, cond, inl, inr, List, [], ◌∷◌, ◌++◌, length, Option, Some, None, refl, sym, ◌∙◌, ap, subst, arith, ext_get_or}
+use Rattle.std.specs.Prelude.{option_to_list}
+use Rattle.std.specs.List.{flat_map}
+use Rattle.std.proofs.lemmas.Bool.{cases_lt}
+use Rattle.std.proofs.lemmas.List.{get_or_past}
+use Rattle.std.proofs.lemmas.Option.{same_Some}
+use Rattle.ga_ports.specs.declared.side.Side.TheVariants.{Right}
+use Rattle.ga_node.specs.declared.seen.Seen.{Seen}
+use Rattle.ga_node.specs.Io.{io_word}
+use Rattle.ga_node.specs.Record.{NodeRecord, record_of}
+use Rattle.ga_node.specs.Table.{looks}
+use Rattle.ga_grid.specs.Chip.{nowhere, record_at}
+use Rattle.ga_event.specs.declared.event.Event.{Event}
+use Rattle.ga_event.specs.declared.event.Event.TheVariants as event
+use Rattle.ga_event.specs.declared.event.Cause.{Cause}
+use Rattle.ga_event.specs.Touches.{touches}
+use Rattle.ga_event.specs.Apply.{Told, after, apply, cause_of, run}
+use Rattle.ga_causal.specs.Words.{word_of, account_read, look_word, words_read}
+use Rattle.ga_causal.proofs.Runs.{first_of_run, keeps_of}
+use Rattle.ga_causal.proofs.Words.{Becomes, becomes_one, becomes_of, after_is, same_size}
+use Rattle.ga_journal.specs.declared.made.Made.{Made}
+use Rattle.ga_journal.specs.declared.made.Made.TheVariants as made
+use Rattle.ga_journal.specs.Told.{made_after, mades_after, mades_of}
+use Rattle.ga_lab.specs.Machine.{State, first, chip_of, history_of}
+use Rattle.ga_lab.specs.Calls.{Call, called_all}
+use Rattle.ga_lab.proofs.Called.{Runs, told_is, chip_is, first_runs, calls_load}
+
+-- the event of which this is told, but for the side of a pass, which shows in neither of its nodes
+abbrev pub event_in : Made → Event
+event_in (made.Own node k kind) = event.Own node
+event_in (made.Pass w k r j word) = event.Pass w r Right
+
+-- its word: what is told of a pass, or the first of the words that looks read, where it is a look
+abbrev pub Takes : Made → List ℕ → Option ℕ → List ℕ → Type 0
+Takes (made.Own node k kind) ws word vs = ws ≡ option_to_list word ++ vs
+Takes (made.Pass w k r j told) ws word vs = (word ≡ Some told) × (ws ≡ vs)
+
+-- what a history and words make of a node
+abbrev pub Traced : ℕ → NodeRecord → List Made → List ℕ → NodeRecord → Type 0
+Traced n x [] ws y = (x ≡ y) × (ws ≡ [])
+Traced n x (m ∷ ms) ws y = (z : NodeRecord) × (word : Option ℕ) × (vs : List ℕ) × Becomes n x (event_in m) word z × Takes m ws word vs × Traced n z ms vs y
+
+Agrees : Option ℕ → Option ℕ → List ℕ → List ℕ → Type 0
+Agrees word other vs us = (word ≡ other) × (vs ≡ us)
+
+own_takes : (b : Bool) (i j : ℕ) (word other : Option ℕ) (ws vs us : List ℕ) → word ≡ cond b (Some i) None → other ≡ cond b (Some j) None
+    → ws ≡ option_to_list word ++ vs → ws ≡ option_to_list other ++ us → Agrees word other vs us
+unfolding Agrees
+own_takes true i j word other ws vs us p q t u =
+    let h : ◌≡◌ {A = List ℕ} (i ∷ vs) (j ∷ us) = ap (λ o. option_to_list o ++ vs) (sym p) ∙ sym t ∙ u ∙ ap (λ o. option_to_list o ++ us) q in
+    let head : i ≡ j = cc in
+    let tail : vs ≡ us = cc in
+    (p ∙ ap (λ (z : ℕ). Some z) head ∙ sym q, tail)
+own_takes false i j word other ws vs us p q t u =
+    (p ∙ sym q, ap (λ o. option_to_list o ++ vs) (sym p) ∙ sym t ∙ u ∙ ap (λ o. option_to_list o ++ us) q)
+
+takes_one : (m : Made) (n : ℕ) (x y z : NodeRecord) (word other : Option ℕ) (ws vs us : List ℕ) → Becomes n x (event_in m) word y → Becomes n x (event_in m) other z
+    → Takes m ws word vs → Takes m ws other us → Agrees word other vs us
+unfolding Agrees
+takes_one (made.Own node k kind) n x y z word other ws vs us (seen, p, q) (scene, u, v) t w = own_takes (looks x) (io_word seen) (io_word scene) word other ws vs us q v t w
+takes_one (made.Pass w k r j told) n x y z word other ws vs us p q (t, a) (u, b) = (t ∙ sym u, sym a ∙ b)
+
+-- they make one thing of it
+traced_one : (n : ℕ) (x : NodeRecord) (ms : List Made) (ws : List ℕ) (y z : NodeRecord) → Traced n x ms ws y → Traced n x ms ws z → y ≡ z
+unfolding Agrees
+traced_one n x [] ws y z p q = sym p.0 ∙ q.0
+traced_one n x (m ∷ ms) ws y z (u, word, vs, b, t, l) (v, other, us, c, w, k) =
+    let same = takes_one m n x u v word other ws vs us b c t w in
+    let at : u ≡ v = becomes_one n x (event_in m) other u v (subst (λ o. Becomes n x (event_in m) o u) same.0 b) c in
+    traced_one n v ms us y z (subst (λ o. Traced n v ms o y) same.1 (subst (λ o. Traced n o ms vs y) at l)) k
+
+-- an event that was made, told and with its word
+made_traced : (n : ℕ) (c mid : List NodeRecord) (e : Event) (before : List Event) (y : NodeRecord) (ms : List Made) (ws : List ℕ)
+    → Becomes n (record_at c n) e (word_of c e) (record_at mid n) → Traced n (record_at mid n) ms ws y
+    → Traced n (record_at c n) (option_to_list (made_after before e (after c e).1) ++ ms) (look_word e (word_of c e) ++ ws) y
+made_traced n c mid (event.Own node) before y ms ws b later = (record_at mid n, word_of c (event.Own node), ws, b, refl, later)
+made_traced n c mid (event.Pass w r side) before y ms ws b later = (record_at mid n, word_of c (event.Pass w r side), ws, b, (refl, refl), later)
+
+traced_more : (n : ℕ) (c mid : List NodeRecord) (e : Event) (told : Told) (before : List Event) (y : NodeRecord) (ms : List Made) (rest : List (Event × Option ℕ)) → n < length c
+    → apply c e ≡ Some (mid, told) → Traced n (record_at mid n) ms (flat_map (λ x. look_word x.0 x.1) rest) y → (b : Bool) → touches e n ≡ b
+    → Traced n (record_at c n) (cond b (option_to_list (made_after before e told)) [] ++ ms) (flat_map (λ x. look_word x.0 x.1) (cond b ((e, word_of c e) ∷ rest) rest)) y
+traced_more n c mid e told before y ms rest l h later true is =
+    subst (λ z. Traced n (record_at c n) (option_to_list (made_after before e z) ++ ms) (look_word e (word_of c e) ++ flat_map (λ x. look_word x.0 x.1) rest) y) (ap (λ z. z.1) (after_is c mid e told h))
+    (made_traced n c mid e before y ms (flat_map (λ x. look_word x.0 x.1) rest) (becomes_of n c mid e told l h is) later)
+traced_more n c mid e told before y ms rest l h later false is =
+    subst (λ z. Traced n z ms (flat_map (λ x. look_word x.0 x.1) rest) y) (sym ((keeps_of c e mid told h).same n is)) later
+
+pub traced : (n : ℕ) (c last : List NodeRecord) (es : List Event) (ts : List (Cause × Told)) (before : List Event) → n < length c → run c es ≡ Some (last, ts)
+    → Traced n (record_at c n) (mades_after before ts n) (words_read n c es) (record_at last n)
+traced n c last [] ts before l h =
+    subst (λ (z : List NodeRecord × List (Cause × Told)). Traced n (record_at c n) (mades_after before z.1 n) [] (record_at z.0 n)) (same_Some (c, []) (last, ts) h) (refl, refl)
+traced n c last (e ∷ es) ts before l h =
+    let m = first_of_run c e es last ts h in
+    let size : length c ≡ length m.mid = (keeps_of c e m.mid m.told m.first).size in
+    let later = traced n m.mid last es m.others (before ++ e ∷ []) (omega (arith, l, size)) m.then in
+    subst (λ (z : List (Cause × Told)). Traced n (record_at c n) (mades_after before z n) (words_read n c (e ∷ es)) (record_at last n)) (sym m.all)
+    (subst (λ d. Traced n (record_at c n) (mades_after before ((cause_of c e, m.told) ∷ m.others) n) (flat_map (λ x. look_word x.0 x.1) (cond (touches e n) ((e, word_of c e) ∷ account_read n d es) (account_read n d es))) (record_at last n))
+    (sym (ap (λ z. z.0) (after_is c m.mid e m.told m.first)))
+    (traced_more n c m.mid e m.told before (record_at last n) (mades_after (before ++ e ∷ []) m.others n) (account_read n m.mid es) l m.first later (touches e n) refl))
+
+-- machines with one load, of which the same is told of a node and in which its looks read the same words
+node_alike : (s z : State) (n : ℕ) → Runs s → Runs z → s.load ≡ z.load → history_of s n ≡ history_of z n → words_read n s.load s.kept ≡ words_read n z.load z.kept
+    → record_at (chip_of s) n ≡ record_at (chip_of z) n
+node_alike s z n r q load told words =
+    let here : length s.load ≡ length r.last = same_size s.load r.last s.kept r.told r.run_is in
+    let there : length z.load ≡ length q.last = same_size z.load q.last z.kept q.told q.run_is in
+    let size : length s.load ≡ length z.load = ap length load in
+    let same : mades_of r.told n ≡ mades_of q.told n = ap (λ x. mades_of x n) (sym (told_is s r)) ∙ told ∙ ap (λ x. mades_of x n) (told_is z q) in
+    let last : record_at r.last n ≡ record_at q.last n = elim (cases_lt n (length s.load)) [
+      | inl l ↦ traced_one n (record_at s.load n) (mades_of r.told n) (words_read n s.load s.kept) (record_at r.last n) (record_at q.last n)
+          (traced n s.load r.last s.kept r.told [] l r.run_is)
+          (subst (λ x. Traced n (record_at s.load n) (mades_of r.told n) x (record_at q.last n)) (sym words)
+          (subst (λ x. Traced n (record_at s.load n) x (words_read n z.load z.kept) (record_at q.last n)) (sym same)
+          (subst (λ c. Traced n (record_at c n) (mades_of q.told n) (words_read n z.load z.kept) (record_at q.last n)) (sym load)
+          (traced n z.load q.last z.kept q.told [] (omega (arith, l, size)) q.run_is))))
+      | inr l ↦ get_or_past r.last n (record_of nowhere) (omega (arith, l, here)) ∙ sym (get_or_past q.last n (record_of nowhere) (omega (arith, l, size, there)))
+    ] in
+    ap (λ c. record_at c n) (chip_is s r) ∙ last ∙ sym (ap (λ c. record_at c n) (chip_is z q))
+
+pub same_node : (load : List NodeRecord) (limit bound : ℕ) (calls others : List Call) (n : ℕ)
+    → history_of (called_all (first load limit) calls) n ≡ history_of (called_all (first load bound) others) n
+    → words_read n load (called_all (first load limit) calls).kept ≡ words_read n load (called_all (first load bound) others).kept
+    → record_at (chip_of (called_all (first load limit) calls)) n ≡ record_at (chip_of (called_all (first load bound) others)) n
+same_node load limit bound calls others n told words =
+    let s = called_all (first load limit) calls in
+    let z = called_all (first load bound) others in
+    let at : s.load ≡ load = calls_load (first load limit) calls in
+    let to : z.load ≡ load = calls_load (first load bound) others in
+    node_alike s z n (first_runs load limit calls) (first_runs load bound others) (at ∙ sym to) told
+    (ap (λ c. words_read n c s.kept) at ∙ words ∙ sym (ap (λ c. words_read n c z.kept) to))
+
+pub same_chip : (load : List NodeRecord) (limit bound : ℕ) (calls others : List Call)
+    → ((n : ℕ) → history_of (called_all (first load limit) calls) n ≡ history_of (called_all (first load bound) others) n)
+    → ((n : ℕ) → words_read n load (called_all (first load limit) calls).kept ≡ words_read n load (called_all (first load bound) others).kept)
+    → chip_of (called_all (first load limit) calls) ≡ chip_of (called_all (first load bound) others)
+same_chip load limit bound calls others told words =
+    let s = called_all (first load limit) calls in
+    let z = called_all (first load bound) others in
+    let r : Runs s = first_runs load limit calls in
+    let q : Runs z = first_runs load bound others in
+    let here : length load ≡ length (chip_of s) = ap length (sym (calls_load (first load limit) calls)) ∙ same_size s.load r.last s.kept r.told r.run_is ∙ ap length (sym (chip_is s r)) in
+    let there : length load ≡ length (chip_of z) = ap length (sym (calls_load (first load bound) others)) ∙ same_size z.load q.last z.kept q.told q.run_is ∙ ap length (sym (chip_is z q)) in
+    ext_get_or (record_of nowhere) (chip_of s) (chip_of z) (sym here ∙ there) (λ n l. same_node load limit bound calls others n (told n) (words n))
