@@ -81,7 +81,7 @@ own_becomes : (c : List NodeRecord) (node : NodeId) → node.number < length c �
 own_becomes c node l = (seen_from c node.number, get_or-set_same c node.number _ (record_of nowhere) l, refl)
 
 pass_becomes : (c : List NodeRecord) (w r : NodeId) (side : Side) (n : ℕ) → n < length c → (((w.number == n) || ((r.number == n) || false)) ≡ true) → Becomes n (record_at c n) (Pass w r side) (word_of c (Pass w r side)) (record_at (after c (Pass w r side)).0 n)
-pass_becomes c w r side n l touched = elim (cases_eq n r.number) [ | inl e ↦ as_reader e | inr ne ↦ as_writer ne ]
+pass_becomes c w r side n l touched = elim (cases_eq n r.number) [ inl e ↦ as_reader e | inr ne ↦ as_writer ne ]
   where
     from : NodeRecord
     from = record_at c w.number
@@ -103,7 +103,7 @@ pass_becomes c w r side n l touched = elim (cases_eq n r.number) [ | inl e ↦ a
     is_writer : (n ≡ r.number → ⊥) → n ≡ w.number
     is_writer ne = elim (or_cases (w.number == n) ((r.number == n) || false) touched) [
       | inl q ↦ sym (eqb-true w.number n q)
-      | inr q ↦ elim (or_cases (r.number == n) false q) [ | inl k ↦ absurd (ne (sym (eqb-true r.number n k))) | inr k ↦ absurd (both_ways false refl k) ]
+      | inr q ↦ elim (or_cases (r.number == n) false q) [ inl k ↦ absurd (ne (sym (eqb-true r.number n k))) | inr k ↦ absurd (both_ways false refl k) ]
     ]
 
     as_writer : (n ≡ r.number → ⊥) → record_at (set mid r.number (taken word (record_at c r.number))) n ≡ cond (n == r.number) (taken word (record_at c n)) (sent (record_at c n))
@@ -117,7 +117,7 @@ pass_becomes c w r side n l touched = elim (cases_eq n r.number) [ | inl e ↦ a
 
 after_becomes : (n : ℕ) (c : List NodeRecord) (e : Event) → n < length c → touches (cause_of c e) n ≡ true → Becomes n (record_at c n) e (word_of c e) (record_at (after c e).0 n)
 after_becomes n c (Own node) l touched =
-    let at : node.number ≡ n = elim (or_cases (node.number == n) false touched) [ | inl q ↦ eqb-true node.number n q | inr q ↦ absurd (both_ways false refl q) ] in
+    let at : node.number ≡ n = elim (or_cases (node.number == n) false touched) [ inl q ↦ eqb-true node.number n q | inr q ↦ absurd (both_ways false refl q) ] in
     subst (λ z. Becomes z (record_at c z) (Own node) (word_of c (Own node)) (record_at (after c (Own node)).0 z)) at (own_becomes c node (omega (arith, at, l)))
 after_becomes n c (Pass w r side) l touched = pass_becomes c w r side n l touched
 

@@ -49,7 +49,7 @@ count_reached s h = subst (λ z. length z.kept < 2 ^ 64) h.is (
     let k : length (called_all (first s.load s.limit) h.calls).kept ≤ (called_all (first s.load s.limit) h.calls).made = (kept_fits s.load s.limit h.calls).1 in
     let l : (called_all (first s.load s.limit) h.calls).made < 2 ^ 64 = made_below s.load s.limit h.calls in
     omega (arith, k, l)
-)
+    )
 
 -- what is kept fits the limit and the count
 pub fits : (load : List NodeRecord) (limit : ℕ) (calls : List Call) → (length (called_all (first load limit) calls).kept ≤ (called_all (first load limit) calls).limit)

@@ -92,7 +92,7 @@ words_blind n c last (e ∷ es) ts h none =
 
 past_word : (c : List NodeRecord) (e : Event) (n : ℕ) → length c ≤ n → touches e n ≡ true → look_word e (word_of c e) ≡ []
 past_word c (event.Own node) n l t =
-    let at : node.number ≡ n = elim (or_cases (node.number == n) false t) [ | inl q ↦ eqb-true node.number n q | inr q ↦ absurd (both_ways false refl q) ] in
+    let at : node.number ≡ n = elim (or_cases (node.number == n) false t) [ inl q ↦ eqb-true node.number n q | inr q ↦ absurd (both_ways false refl q) ] in
     no_word c (event.Own node) (blind_past c node.number (omega (arith, l, at)))
 past_word c (event.Pass w r side) n l t = refl
 
