@@ -130,9 +130,10 @@ fn peeks_at(
     alloc: Global,
     lab: &Lab,
     node: NodeId,
-    steps: u32,
+    steps: u8,
 ) -> Result<(), Fail> {
-    for step in 0..steps {
+    let last = u32::from(steps);
+    for step in 0..last {
         let mut other = passed(rt, alloc)?;
         other.rewind(node, step + 1)?;
         match lab.peek(node, step) {
@@ -140,11 +141,11 @@ fn peeks_at(
             None => assert!(rt; false),
         }
     }
-    match lab.peek(node, steps) {
+    match lab.peek(node, last) {
         Some(then) => assert!(rt; is_same(&then, lab.node(node))),
         None => assert!(rt; false),
     }
-    assert!(rt; lab.peek(node, steps + 1).is_none());
+    assert!(rt; lab.peek(node, last + 1).is_none());
     Ok(())
 }
 
