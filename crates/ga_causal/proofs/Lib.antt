@@ -23,3 +23,4 @@ pub mod Taken
 pub mod Moved
 pub mod Words
 pub mod Received
+pub mod Tails

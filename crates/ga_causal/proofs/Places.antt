@@ -69,13 +69,13 @@ touching_in n (e ∷ es) =
     touching-cons n e es ∙ ap (λ (z : ℕ). cond (touches e n) 1 0 + z) (touching_in n es)
     ∙ sym (sum_by-cons (λ (x : Event). cond (event_touches x n) 1 0) e.event (events_in es))
 
-touching_yes : (n : ℕ) (e : Cause) (es : List Cause) → touches e n ≡ true → touching n (e ∷ es) ≡ suc (touching n es)
+pub touching_yes : (n : ℕ) (e : Cause) (es : List Cause) → touches e n ≡ true → touching n (e ∷ es) ≡ suc (touching n es)
 touching_yes n e es t = sum _ _ (touching-cons n e es) (ap (λ (z : Bool). cond {A = ℕ} z 1 0) t)
   where
     sum : (a b : ℕ) → a ≡ b + touching n es → b ≡ 1 → a ≡ suc (touching n es)
     sum a b p q = omega arith
 
-touching_no : (n : ℕ) (e : Cause) (es : List Cause) → touches e n ≡ false → touching n (e ∷ es) ≡ touching n es
+pub touching_no : (n : ℕ) (e : Cause) (es : List Cause) → touches e n ≡ false → touching n (e ∷ es) ≡ touching n es
 touching_no n e es t = sum _ _ (touching-cons n e es) (ap (λ (z : Bool). cond {A = ℕ} z 1 0) t)
   where
     sum : (a b : ℕ) → a ≡ b + touching n es → b ≡ 0 → a ≡ touching n es

@@ -1,6 +1,7 @@
 //! Chains of direct dependence.
 
-ghost use Rattle.std.specs.Prelude.{◌≡◌, ◌≢◌, ◌↔◌, ◌<◌, ◌≤◌, true, false, length, slice_get, slice_index_or, IfOk, IsTrue, [], ◌∷◌};
+ghost use Rattle.std.specs.Prelude.{◌≡◌, ◌≢◌, ◌↔◌, ◌<◌, ◌≤◌, ◌+◌, ◌^◌, true, false, List, length, drop, slice_get, slice_index_or, IfOk, IsTrue, [], ◌∷◌};
+ghost use Rattle.ga_event.specs.declared.event.Cause.{Cause};
 ghost use Rattle.ga_causal.specs.Dependence.{dependents};
 ghost use Rattle.ga_causal.specs.Firsts.{first_at, IsFirsts};
 ghost use Rattle.ga_causal.specs.Chains.{IsChain, IsChainTo, IsFound, IsNext};
@@ -77,16 +78,19 @@ impl Chain {
 fn chain_back(
     alloc: Global,
     events: &[Cause],
+    skipped: u32,
     firsts: &Firsts,
     from: u32,
     to: u32,
 ) -> Result<Chain, Memory>
     requires from { from < length events.now }
     requires to { to < length events.now }
+    requires fits { skipped + to < 2 ^ 32 }
     requires firsts { IsFirsts events.now from to to (first_at firsts.now) }
     requires none { firsts.now.none ≡ to }
     requires dependent { slice_index_or (dependents events.now from) to false ≡ true }
-    ensures { IfOk result (IsChainTo events.now from to) }
+    ensures { IfOk result (λ chain. (all : List Cause) → drop skipped all ≡ events.now →
+        IsChainTo all (skipped + from) (skipped + to) chain) }
 {
     let mut links = Vec::new(alloc);
     let mut at = to;
@@ -94,13 +98,13 @@ fn chain_back(
         let event = &events[at as usize];
         let before = firsts.oldest(event);
         links.push(Link {
-            place: at,
+            place: skipped + at,
             rule: rule(&events[before as usize], event),
         })?;
         at = before;
     }
     links.push(Link {
-        place: from,
+        place: skipped + from,
         rule: 0,
     })?;
     links.reverse();
@@ -111,18 +115,21 @@ fn chain_back(
 fn chain_between(
     alloc: Global,
     events: &[Cause],
+    skipped: u32,
     from: u32,
     to: u32,
 ) -> Result<Option<Chain>, Memory>
     requires order { from < to }
     requires within { to < length events.now }
-    ensures { IfOk result (IsFound events.now from to) }
+    requires fits { skipped + to < 2 ^ 32 }
+    ensures { IfOk result (λ answer. (all : List Cause) → drop skipped all ≡ events.now →
+        IsFound all (skipped + from) (skipped + to) answer) }
 {
     let firsts = Firsts::of(events, from, to);
     if firsts.oldest(&events[to as usize]) == to {
         return Ok(None);
     }
-    let chain = chain_back(alloc, events, &firsts, from, to)?;
+    let chain = chain_back(alloc, events, skipped, &firsts, from, to)?;
     Ok(Some(chain))
 }
 
@@ -148,14 +155,32 @@ pub fn find_chain(
     requires to { to < length events.now }
     ensures { IfOk result (IsFound events.now from to) }
 {
+    find_later_chain(alloc, events, 0, from, to)
+}
+
+/// Does what `find_chain` does, in the last events of a list, without those before them: as many as `skipped`. `from` and `to`
+/// count from the first of the last events on, and the links give places of the whole list. What was skipped is in no chain.
+pub fn find_later_chain(
+    alloc: Global,
+    events: &[Cause],
+    skipped: u32,
+    from: u32,
+    to: u32,
+) -> Result<Option<Chain>, Memory>
+    requires from { from < length events.now }
+    requires to { to < length events.now }
+    requires fits { skipped + to < 2 ^ 32 }
+    ensures { IfOk result (λ answer. (all : List Cause) → drop skipped all ≡ events.now →
+        IsFound all (skipped + from) (skipped + to) answer) }
+{
     if to < from {
         return Ok(None);
     }
     if to == from {
-        let chain = chain_alone(alloc, from)?;
+        let chain = chain_alone(alloc, skipped + from)?;
         return Ok(Some(chain));
     }
-    chain_between(alloc, events, from, to)
+    chain_between(alloc, events, skipped, from, to)
 }
 
 // Whether the link may follow the event at the place before.

@@ -8,7 +8,7 @@ mod marks;
 mod rule;
 mod step;
 
-pub use chain::{Chain, Link, check_chain, find_chain};
+pub use chain::{Chain, Link, check_chain, find_chain, find_later_chain};
 pub use ga_event::Cause;
 pub use ga_grid::Memory;
 pub use marks::{Marks, closure};

@@ -1,10 +1,11 @@
-use Rattle.std.proofs.Common.{◌≡◌, ℕ, ◌<◌, length, ap, arith}
+use Rattle.std.proofs.Common.{◌≡◌, ℕ, ◌+◌, ◌<◌, ◌∙◌, length, ap, arith}
 use Rattle.ga_causal.specs.declared.chain.Link.{Link}
 use Rattle.ga_causal.specs.Dependence.{rule_between}
 use Rattle.ga_causal.specs.Chains.{IsOldest}
 use Rattle.ga_causal.proofs.Exact.{flag_from_DependsOn}
 use Rattle.ga_causal.proofs.Chaining.{goes_on_longer, goes_on_first, rule_read}
 use Rattle.ga_causal.proofs.Noting.{oldest_read}
+use Rattle.ga_causal.proofs.Tails.{oldest_later, rule_there}
 use Rattle.ga_causal.proofs.chain.chain_back.Goals as goal
 
 pub bounds-events-before : goal.bounds-events-before
@@ -35,11 +36,16 @@ loop-at-preserved c =
     record {
       within = omega (arith, o.direct.before);
       dependent = flag_from_DependsOn c.args.events.now c.args.from c.oldest-before.result c.requires.from o.dependent;
-      goes_on = goes_on_longer c.args.events.now c.args.from c.args.to c.loop-at.at c.oldest-before.result (record { place = c.loop-at.at; rule = c.rule.result }) c.loop-at.links.items c.push.new.self.items
-          c.loop-at-test.true o (ap (λ (z : ℕ). let w : Link = record { place = c.loop-at.at; rule = z } in w) r) c.in_ok-push.ensures.items c.loop-at.invariant.goes_on;
+      goes_on = λ all is.
+          let k = c.args.skipped in
+          goes_on_longer all (k + c.args.from) (k + c.args.to) (k + c.loop-at.at) (k + c.oldest-before.result) (record { place = k + c.loop-at.at; rule = c.rule.result }) c.loop-at.links.items c.push.new.self.items
+          (λ h. c.loop-at-test.true (omega (arith, h))) (oldest_later all c.args.events.now k c.args.from c.loop-at.at c.oldest-before.result is o)
+          (ap (λ (z : ℕ). let w : Link = record { place = k + c.loop-at.at; rule = z } in w) (r ∙ rule_there all c.args.events.now k c.oldest-before.result c.loop-at.at is))
+          c.in_ok-push.ensures.items (c.loop-at.invariant.goes_on all is);
     }
 
 pub returns : goal.returns
-returns c =
-    goes_on_first c.args.events.now c.args.from c.args.to c.loop-at.at c.loop-at.links.items c.push-2.new.self.items c.reverse.new.self.items
-    c.loop-at-test.false c.in_ok-push-2.ensures.items c.reverse.ensures.items c.loop-at.invariant.goes_on
+returns c all is =
+    let k = c.args.skipped in
+    goes_on_first all (k + c.args.from) (k + c.args.to) (k + c.loop-at.at) c.loop-at.links.items c.push-2.new.self.items c.reverse.new.self.items
+    (ap (λ (z : ℕ). k + z) c.loop-at-test.false) c.in_ok-push-2.ensures.items c.reverse.ensures.items (c.loop-at.invariant.goes_on all is)

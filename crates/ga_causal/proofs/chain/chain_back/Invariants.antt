@@ -1,4 +1,5 @@
-use Rattle.std.proofs.Common.{◌≡◌, ◌≤◌, ◌++◌, List, true, false, reverse, slice_index_or}
+use Rattle.std.proofs.Common.{◌≡◌, ◌≤◌, ◌+◌, ◌++◌, List, true, false, drop, reverse, slice_index_or}
+use Rattle.ga_event.specs.declared.event.Cause.{Cause}
 use Rattle.ga_causal.specs.declared.chain.Link.{Link}
 use Rattle.ga_causal.specs.Dependence.{dependents}
 use Rattle.ga_causal.specs.Chains.{IsChainTo}
@@ -9,7 +10,8 @@ abbrev pub invariant-loop-at : goal.invariant-loop-at
 invariant-loop-at l = record {
   within : l.at ≤ l.to;
   dependent : slice_index_or (dependents l.events l.from) l.at false ≡ true;
-  goes_on : (links : List Link) → IsChainTo l.events l.from l.at links → IsChainTo l.events l.from l.to (links ++ reverse l.links.items);
+  goes_on : (all : List Cause) → drop l.skipped all ≡ l.events → (links : List Link) → IsChainTo all (l.skipped + l.from) (l.skipped + l.at) links
+      → IsChainTo all (l.skipped + l.from) (l.skipped + l.to) (links ++ reverse l.links.items);
 }
 
 abbrev pub decreases-loop-at : goal.decreases-loop-at
