@@ -1,4 +1,3 @@
-use Rattle.std.proofs.Common.{refl}
 use Rattle.ga_causal.proofs.Tails.{in_whole}
 use Rattle.ga_causal.proofs.chain.find_chain.Goals as goal
 
