@@ -3,6 +3,7 @@
 use crate::fault::JournalFault;
 use crate::journal::Journal;
 use crate::made::Made;
+use crate::since::Since;
 use ga_event::{Cause, Event};
 use ga_grid::NodeId;
 use ga_node::Node;
@@ -15,11 +16,12 @@ pub struct Chronicle {
 }
 
 impl Chronicle {
-    ghost use Rattle.std.specs.Prelude.{◌≡◌, ◌≤◌, ◌↔◌, length, take, drop, IfOk, IfErr, IsNone};
+    ghost use Rattle.std.specs.Prelude.{◌≡◌, ◌<◌, ◌≤◌, ◌+◌, ◌^◌, ◌↔◌, length, take, drop, IfOk, IfErr, IsNone};
     ghost use Rattle.std.specs.List.{slice_get};
     ghost use Rattle.ga_journal.specs.Histories.{history};
     ghost use Rattle.ga_journal.specs.Walked.{walked, CanWalk};
-    ghost use Rattle.ga_journal.specs.Kept.{kept_of, causes_of, events_of};
+    ghost use Rattle.ga_journal.specs.Kept.{kept_of, causes_of, events_of, steps_of};
+    ghost use Rattle.ga_journal.specs.Since.{IsSince};
     ghost use Rattle.ga_journal.specs.Told.{mades_of, made_in};
     ghost use Rattle.ga_journal.specs.Logs.{IsWhole};
 
@@ -75,6 +77,23 @@ impl Chronicle {
         ensures err { IfErr result (λ fault. fault ≡ JournalFault.Memory) }
     {
         self.journal.causes()
+    }
+
+    /// The kept events from a node's step on, and what stands before them. It walks back from the newest down to the step, and
+    /// takes memory for what it passes alone.
+    ///
+    /// # Errors
+    /// `Memory` alone.
+    pub fn causes_since(&self, from: (NodeId, u32), other: NodeId) -> Result<Since, JournalFault>
+        requires whole { IsWhole self.now.journal.histories self.now.journal.made }
+        requires counted { 0 < from.1 }
+        requires stands { from.1 ≤ steps_of from.0.number (events_of self.now.journal) }
+        ensures ok { IfOk result (λ since. IsSince (causes_of self.now.journal) from.0.number from.1 other.number
+            since.causes.items since.before since.steps) }
+        ensures short { IfOk result (λ since. since.before + length since.causes.items < 2 ^ 32) }
+        ensures err { IfErr result (λ fault. fault ≡ JournalFault.Memory) }
+    {
+        self.journal.causes_since(from, other)
     }
 
     /// Counts ticks from 0 on again.

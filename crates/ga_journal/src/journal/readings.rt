@@ -1,0 +1,108 @@
+//! What a journal tells of the kept events. No tick counts the entries that are read for it.
+
+use super::Journal;
+use crate::fault::JournalFault;
+use crate::histories::{mades, walk_node};
+use crate::made::Made;
+use crate::recall::{all_causes, recall};
+use crate::since::{Since, walk_down};
+use ga_event::{Cause, Event};
+use ga_grid::NodeId;
+use ga_node::Node;
+
+impl Journal {
+    ghost use Rattle.std.specs.Prelude.{◌≡◌, ◌<◌, ◌≤◌, ◌+◌, ◌^◌, ◌↔◌, length, take, drop};
+    ghost use Rattle.std.specs.Prelude.{IfOk, IfErr, IsNone};
+    ghost use Rattle.std.specs.List.{slice_get};
+    ghost use Rattle.ga_journal.specs.Histories.{history};
+    ghost use Rattle.ga_journal.specs.Walked.{walked, CanWalk};
+    ghost use Rattle.ga_journal.specs.Kept.{kept_of, causes_of, events_of, steps_of};
+    ghost use Rattle.ga_journal.specs.Told.{mades_of, made_in};
+    ghost use Rattle.ga_journal.specs.Logs.{IsWhole};
+    ghost use Rattle.ga_journal.specs.Since.{IsSince};
+
+    /// What is told of the kept events that touch a node, in order.
+    ///
+    /// # Errors
+    /// `Memory` alone.
+    pub(crate) fn history(&self, node: NodeId) -> Result<Vec<Made>, JournalFault>
+        requires { IsWhole self.now.histories self.now.made }
+        ensures ok { IfOk result (λ list. list.items ≡ mades_of (kept_of self.now) node.number) }
+        ensures err { IfErr result (λ fault. fault ≡ JournalFault.Memory) }
+    {
+        mades(&self.histories, node)
+    }
+
+    /// Writes back to a node what its entries from the position `to` on and below `from` overwrote, those of the last entry
+    /// first: to the node as it was after `from` of its steps, so that it is as it was after `to` of them.
+    pub(crate) fn walk_back(&self, node: NodeId, now: &mut Node, from: u32, to: u32)
+        requires order { to ≤ from }
+        requires within { from ≤ length (history self.now.histories node.number) }
+        requires can { CanWalk now.old (drop to (take from (history self.now.histories node.number))) }
+        ensures { now.new ≡ walked now.old (drop to (take from (history self.now.histories node.number))) }
+    {
+        walk_node(&self.histories, node, now, from, to);
+    }
+
+    /// The kept event at a place of their list, from 0 on; none past its end. It walks back from the newest.
+    pub(crate) fn event_at(&self, place: u32) -> Option<Event>
+        requires { IsWhole self.now.histories self.now.made }
+        ensures value { result ≡ slice_get (events_of self.now) place }
+        ensures past { IsNone result ↔ (length (kept_of self.now) ≤ place) }
+    {
+        if place < self.kept {
+            let (cause, _) = recall(&self.histories, self.top, self.hint, self.kept - place);
+            Some(cause.event)
+        } else {
+            None
+        }
+    }
+
+    /// What is told of the kept event at a place of their list, from 0 on; none past its end. It walks back from the
+    /// newest.
+    pub(crate) fn made_at(&self, place: u32) -> Option<Made>
+        requires { IsWhole self.now.histories self.now.made }
+        ensures value { result ≡ made_in (kept_of self.now) place }
+        ensures past { IsNone result ↔ (length (kept_of self.now) ≤ place) }
+    {
+        if place < self.kept {
+            let (_, made) = recall(&self.histories, self.top, self.hint, self.kept - place);
+            Some(made)
+        } else {
+            None
+        }
+    }
+
+    /// The kept events in order, each with whether it looked.
+    ///
+    /// # Errors
+    /// `Memory` alone.
+    pub(crate) fn causes(&self) -> Result<Vec<Cause>, JournalFault>
+        requires { IsWhole self.now.histories self.now.made }
+        ensures ok { IfOk result (λ list. list.items ≡ causes_of self.now) }
+        ensures err { IfErr result (λ fault. fault ≡ JournalFault.Memory) }
+    {
+        all_causes(&self.histories, self.top, self.hint, self.kept)
+    }
+
+    /// The kept events from a node's step on, and what stands before them. It walks back from the newest down to the step, and
+    /// takes memory for what it passes alone.
+    ///
+    /// # Errors
+    /// `Memory` alone.
+    pub(crate) fn causes_since(
+        &self,
+        from: (NodeId, u32),
+        other: NodeId,
+    ) -> Result<Since, JournalFault>
+        requires whole { IsWhole self.now.histories self.now.made }
+        requires counted { 0 < from.1 }
+        requires stands { from.1 ≤ steps_of from.0.number (events_of self.now) }
+        ensures ok { IfOk result (λ since. IsSince (causes_of self.now) from.0.number from.1 other.number
+            since.causes.items since.before since.steps) }
+        ensures short { IfOk result (λ since. since.before + length since.causes.items < 2 ^ 32) }
+        ensures err { IfErr result (λ fault. fault ≡ JournalFault.Memory) }
+    {
+        walk_down(&self.histories, self.top, self.hint, self.kept, from, other)
+    }
+}

@@ -1,0 +1,109 @@
+//! What a rollback asks of a journal: marks, the nodes that wait, and entries taken back, each in one tick.
+
+use super::Journal;
+use crate::events::go_back;
+use crate::histories::count;
+use crate::looks::{has_looked, look_after};
+use crate::marks::{has_partner, partner};
+use crate::ticks::Ticks;
+use ga_grid::{Chip, NodeId};
+
+impl Journal {
+    ghost use Rattle.std.specs.Prelude.{◌≡◌, ◌<◌, ◌+◌, ◌^◌, ℕ, length, true, false, IfSome, IfNone};
+    ghost use Rattle.ga_journal.specs.Histories.{history};
+    ghost use Rattle.ga_journal.specs.Marks.{AreMarks, mark_of, waits, named, partner_at, ticked, lowered, taken_up};
+    ghost use Rattle.ga_journal.specs.Marks.{CanTakeBack, IsTakenBack};
+    ghost use Rattle.ga_journal.specs.Looks.{IsLookToGo, SawNoneToGo, IsSought};
+
+    /// How many ticks were counted.
+    pub fn ticks(&self) -> u64
+        ensures { result ≡ self.now.ticks }
+    {
+        self.ticks.count()
+    }
+
+    /// Counts from 0 on again.
+    pub(crate) fn count_anew(&mut self)
+        ensures { self.new ≡ record self.old { ticks = 0 } }
+    {
+        self.ticks = Ticks::new();
+    }
+
+    /// The node and the position of the other entry of a pass; none for an entry of another kind. Positions count from 0.
+    /// One tick.
+    pub fn look(&mut self, node: NodeId, at: u32) -> Option<(NodeId, u32)>
+        requires there { at < length (history self.old.histories node.number) }
+        requires fits { self.old.ticks + 1 < 2 ^ 64 }
+        ensures value { named result ≡ partner_at self.old.histories node.number at }
+        ensures ticks { self.new ≡ ticked self.old }
+    {
+        self.ticks.raise();
+        partner(&self.histories, node, at)
+    }
+
+    /// How many of a node's entries are to stay.
+    pub fn mark_of(&self, node: NodeId) -> u32
+        ensures value { result ≡ mark_of self.now node.number }
+        ensures sound { AreMarks self.now }
+    {
+        count(&self.histories, node) - self.going[node.index()]
+    }
+
+    /// The position of the newest look of `looker` that is to stay so far, where it came after an entry of `node` that is
+    /// to go: then it saw what is to go. One tick, and none where no entry of `looker` is a look.
+    pub fn look_to_go(&mut self, node: NodeId, looker: NodeId) -> Option<u32>
+        requires { self.old.ticks + 1 < 2 ^ 64 }
+        ensures some { IfSome result (λ at.
+            IsLookToGo self.old node.number looker.number at × (self.new ≡ ticked self.old)) }
+        ensures none { IfNone result (
+            SawNoneToGo self.old node.number looker.number × IsSought self.old looker.number self.new) }
+    {
+        if !has_looked(&self.histories, looker) {
+            return None;
+        }
+        let stay = self.mark_of(looker);
+        let gone = self.mark_of(node);
+        self.ticks.raise();
+        look_after(&self.histories, (looker, stay), (node, gone))
+    }
+
+    /// Lowers a node's mark: only its first `to` entries are to stay. The node waits from then on. One tick.
+    pub fn lower(&mut self, node: NodeId, to: u32)
+        requires smaller { to < mark_of self.old node.number }
+        requires fits { self.old.ticks + 1 < 2 ^ 64 }
+        ensures { self.new ≡ lowered self.old node.number to }
+    {
+        self.ticks.raise();
+        let entries = count(&self.histories, node);
+        self.going[node.index()] = entries - to;
+        self.waiting.add(node);
+    }
+
+    /// Takes one of the nodes that wait out, in one tick. None, and no tick, where none waits.
+    pub fn take_up(&mut self) -> Option<NodeId>
+        requires { self.old.ticks + 1 < 2 ^ 64 }
+        ensures some { IfSome result (λ node.
+            (waits self.old node.number ≡ true) × (self.new ≡ taken_up self.old node.number)) }
+        ensures none { IfNone result (((n : ℕ) → waits self.old n ≡ false) × (self.new ≡ self.old)) }
+    {
+        let node = self.waiting.take()?;
+        self.ticks.raise();
+        Some(node)
+    }
+
+    /// Writes the values of a node's last entry back to the chip, and drops the entry. `kept` falls with an own event, and
+    /// with the second entry of a pass. One tick.
+    pub fn restore_last(&mut self, chip: &mut Chip, node: NodeId)
+        requires going { mark_of self.old node.number < length (history self.old.histories node.number) }
+        requires sound { CanTakeBack self.old chip.old node.number }
+        requires fits { self.old.ticks + 1 < 2 ^ 64 }
+        ensures { IsTakenBack self.old chip.old node.number self.new chip.new }
+    {
+        self.ticks.raise();
+        let act = go_back(&mut self.histories, chip, node);
+        self.going[node.index()] -= 1;
+        if !has_partner(&self.histories, &act) {
+            self.kept -= 1;
+        }
+    }
+}
