@@ -1,7 +1,7 @@
 -- Why a step came about.
-use Rattle.std.proofs.Common.{◌≡◌, ℕ, zero, suc, ◌≤◌, true, false, ◌&&◌, Some, None, Err, refl, sym, ◌∙◌, ap, subst, arith, ◌⊎◌, ◌↔◌, inl, inr, ⊎_elim}
+use Rattle.std.proofs.Common.{◌≡◌, ℕ, zero, suc, ◌<◌, ◌≤◌, true, false, ◌&&◌, Some, None, Err, refl, sym, ◌∙◌, ap, subst, arith, ◌⊎◌, ◌↔◌, inl, inr, ⊎_elim}
 use Rattle.std.specs.Prelude.{Option, Result, List, is_some, is_ok, IsOk, nat_le, nat_lt}
-use Rattle.std.proofs.lemmas.Bool.{cases_lt, le-leb, lt-leb, lt-ltb, le-ltb, cases_Bool, both_ways, and_from, and_right, and_parts, and_cases}
+use Rattle.std.proofs.lemmas.Bool.{cases_lt, leb-true, le-leb, lt-leb, lt-ltb, le-ltb, cases_Bool, both_ways, and_from, and_right, and_parts, and_cases}
 use Rattle.ga_event.specs.declared.event.Cause.{Cause}
 use Rattle.ga_node.specs.State.{NodeState}
 use Rattle.ga_journal.specs.Histories.{Book}
@@ -88,11 +88,10 @@ why_refused s n k m j result same h = (
   λ f. refuses s n k m j result same h f,
 )
 
--- the answer from the list of causes
-abbrev pub AnswersIn : List Cause → ℕ → ℕ → ℕ → ℕ → Result (Option (List Link)) LabFault → Type 0
-AnswersIn causes n k m j result =
-    (result ≡ why_between causes (place_of causes n k) (place_of causes m j))
-    ⊎ ((result ≡ Err Memory) × IsOk (why_between causes (place_of causes n k) (place_of causes m j)))
+-- a step that stands is counted from 1 on, and its node has made so many
+pub stands_counted : (s : State) (n k : ℕ) → stands s n k ≡ true → 0 < k
+stands_counted s n k h = leb-true 1 k (and_parts (nat_le 1 k) (nat_le k (steps_of n s.kept)) h).0
 
-pub from_causes : (s : State) (causes : List Cause) (n k m j : ℕ) (result : Result (Option (List Link)) LabFault) → causes ≡ causes_of s → AnswersIn causes n k m j result → Answers s n k m j result
-from_causes s causes n k m j result same h = subst (λ z. AnswersIn z n k m j result) same h
+pub stands_kept : (chip : List NodeState) (book : Book) (n k : ℕ) → stands (state_of chip book) n k ≡ true → k ≤ steps_of n (events_of book)
+unfolding state_of
+stands_kept chip book n k h = leb-true k (steps_of n (events_of book)) (and_parts (nat_le 1 k) (nat_le k (steps_of n (events_of book))) h).1

@@ -1,48 +1,44 @@
 //! The chain of causes between two steps.
 
-ghost use Rattle.std.specs.Prelude.{◌≡◌, ◌<◌, ◌^◌, ◌⊎◌, length, Some, Err, IsOk};
+ghost use Rattle.std.specs.Prelude.{◌≡◌, ◌+◌, ◌<◌, ◌^◌, ◌⊎◌, ℕ, List, length, drop, Some, Err, IsOk};
+ghost use Rattle.ga_event.specs.declared.event.Cause.{Cause};
 ghost use Rattle.ga_causal.specs.Steps.{place_of};
+ghost use Rattle.ga_journal.specs.Since.{IsSince};
 ghost use Rattle.ga_lab.specs.Machine.{why_between};
 
 use crate::fault::LabFault;
-use ga_causal::{Cause, Chain, find_chain, place_of};
+use ga_causal::{Chain, find_later_chain, place_of};
 use ga_grid::NodeId;
-use std::alloc::Global;
+use ga_journal::Since;
 
-/// The chain between two steps of a list of causes, where both stand.
-pub(crate) fn chain_between(
-    alloc: Global,
-    causes: &[Cause],
-    from: (NodeId, u32),
-    to: (NodeId, u32),
-) -> Result<Option<Chain>, LabFault>
-    requires { length causes.now < 2 ^ 32 }
-    ensures { let cause = place_of causes.now from.0.number from.1 in
-        let effect = place_of causes.now to.0.number to.1 in
-        let answer = why_between causes.now cause effect in
+/// The chain from the step at which these events begin to another, in the whole list of which they are the last.
+pub(crate) fn chain_since(since: &Since, to: (NodeId, u32)) -> Result<Option<Chain>, LabFault>
+    requires counted { 0 < to.1 }
+    requires short { since.now.before + length since.now.causes.items < 2 ^ 32 }
+    ensures { (all : List Cause) (n k : ℕ) →
+        IsSince all n k to.0.number since.now.causes.items since.now.before since.now.steps →
+        let answer = why_between all (place_of all n k) (place_of all to.0.number to.1) in
         (result ≡ answer) ⊎ ((result ≡ Err LabFault.Memory) × IsOk answer) }
 {
-    match place_of(causes, from.0, from.1) {
-        Some(cause) => match place_of(causes, to.0, to.1) {
-            Some(effect) => chain(alloc, causes, cause, effect),
-            None => Err(LabFault::NoStep),
-        },
+    if to.1 <= since.steps {
+        return Ok(None);
+    }
+    match place_of(&since.causes, to.0, to.1 - since.steps) {
+        Some(effect) => chain(since, effect),
         None => Err(LabFault::NoStep),
     }
 }
 
-/// The chain between two places of a list of causes.
-fn chain(
-    alloc: Global,
-    causes: &[Cause],
-    cause: u32,
-    effect: u32,
-) -> Result<Option<Chain>, LabFault>
-    requires cause { cause < length causes.now }
-    requires effect { effect < length causes.now }
-    ensures { (result ≡ why_between causes.now (Some cause) (Some effect)) ⊎ (result ≡ Err LabFault.Memory) }
+/// The chain from the first of these events to another of them.
+fn chain(since: &Since, effect: u32) -> Result<Option<Chain>, LabFault>
+    requires effect { effect < length since.now.causes.items }
+    requires short { since.now.before + length since.now.causes.items < 2 ^ 32 }
+    ensures { (all : List Cause) → drop since.now.before all ≡ since.now.causes.items →
+        (result ≡ why_between all (Some since.now.before) (Some (since.now.before + effect)))
+        ⊎ (result ≡ Err LabFault.Memory) }
 {
-    match find_chain(alloc, causes, cause, effect) {
+    let alloc = *since.causes.allocator();
+    match find_later_chain(alloc, &since.causes, since.before, 0, effect) {
         Ok(found) => Ok(found),
         Err(_) => Err(LabFault::Memory),
     }

@@ -1,6 +1,7 @@
-use Rattle.std.proofs.Common.{Ok, ap, inl}
-use Rattle.ga_causal.proofs.ChainOf.{chain_is}
+use Rattle.std.proofs.Common.{sym, ◌∙◌, inl}
+use Rattle.ga_lab.proofs.SinceLemmas.{found_chain}
 use Rattle.ga_lab.proofs.why.chain.Goals as goal
 
 pub returns-in-Ok : goal.returns-in-Ok
-returns-in-Ok c = inl (ap Ok (chain_is c.args.causes.now c.args.cause c.args.effect c.in-Ok.found c.requires.cause c.in-Ok.ensures))
+returns-in-Ok c all is =
+    inl (found_chain all c.args.since.now.causes.items c.args.since.now.before c.args.effect c.in-Ok.found is c.requires.effect (c.in-Ok.ensures all (is ∙ sym c.deref.ensures.value)))

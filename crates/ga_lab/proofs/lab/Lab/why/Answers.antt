@@ -2,7 +2,8 @@ use Rattle.std.proofs.Common.{Err, sym, ◌∙◌, ap, inl, inr}
 use Rattle.std.specs.Prelude.{Result, Option, List}
 use Rattle.ga_causal.specs.declared.chain.Link.{Link}
 use Rattle.ga_lab.specs.declared.fault.LabFault.{LabFault}
-use Rattle.ga_lab.proofs.Reasons.{no_cause, no_effect, reasoned, why_refused, from_causes}
+use Rattle.ga_lab.specs.Machine.{causes_of}
+use Rattle.ga_lab.proofs.Reasons.{no_cause, no_effect, reasoned, why_refused, stands_counted}
 use Rattle.ga_lab.proofs.lab.Lab.why.Goals.{then-not-stands-via-then-not-stands, then-not-stands-via-else-not-stands+then-not-stands-2}
 use Rattle.ga_lab.proofs.lab.Lab.why.Goals as goal
 
@@ -14,14 +15,19 @@ returns-then-not-stands-clause-answer c = elim c.then-not-stands.branch [
       inl (sym (no_effect c.args.self.now c.args.from.0.number c.args.from.1 c.args.to.0.number c.args.to.1 c.stands.ensures.caused (sym w.stands-else-not-stands.ensures.value ∙ w.if-not-stands-2.true)))
 ]
 
+pub since-requires : goal.since-requires
+since-requires c = sym c.stands.ensures.value ∙ c.if-not-stands.false
+
+pub chain_since-requires-clause-counted : goal.chain_since-requires-clause-counted
+chain_since-requires-clause-counted c =
+    stands_counted c.args.self.now c.args.to.0.number c.args.to.1 (sym c.stands-else-not-stands.ensures.value ∙ c.if-not-stands-2.false)
+
 pub returns-in-Ok-clause-answer : goal.returns-in-Ok-clause-answer
-returns-in-Ok-clause-answer c =
-    from_causes c.args.self.now c.deref.result.now c.args.from.0.number c.args.from.1 c.args.to.0.number c.args.to.1 c.chain_between.result
-    (c.deref.ensures.value ∙ c.in-Ok.ensures.ok) c.chain_between.ensures
+returns-in-Ok-clause-answer c = c.chain_since.ensures (causes_of c.args.self.now) c.args.from.0.number c.args.from.1 c.in-Ok.ensures.ok
 
 pub returns-in-Ok-clause-refused : goal.returns-in-Ok-clause-refused
 returns-in-Ok-clause-refused c =
-    why_refused c.args.self.now c.args.from.0.number c.args.from.1 c.args.to.0.number c.args.to.1 c.chain_between.result c.stands.ensures.caused (returns-in-Ok-clause-answer c)
+    why_refused c.args.self.now c.args.from.0.number c.args.from.1 c.args.to.0.number c.args.to.1 c.chain_since.result c.stands.ensures.caused (returns-in-Ok-clause-answer c)
 
 pub returns-in-Err-clause-answer : goal.returns-in-Err-clause-answer
 returns-in-Err-clause-answer c = inr (
