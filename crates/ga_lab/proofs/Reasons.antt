@@ -1,5 +1,5 @@
 -- Why a step came about.
-use Rattle.std.proofs.Common.{◌≡◌, ℕ, zero, suc, ◌<◌, ◌≤◌, true, false, ◌&&◌, Some, None, Err, refl, sym, ◌∙◌, ap, subst, arith, ◌⊎◌, ◌↔◌, inl, inr, ⊎_elim}
+use Rattle.std.proofs.Common.{◌≡◌, ℕ, zero, suc, ◌<◌, ◌≤◌, true, false, ◌&&◌, Some, None, Err, refl, sym, ◌∙◌, ap, arith, ◌⊎◌, ◌↔◌, inl, inr, ⊎_elim}
 use Rattle.std.specs.Prelude.{Option, Result, List, is_some, is_ok, IsOk, nat_le, nat_lt}
 use Rattle.std.proofs.lemmas.Bool.{cases_lt, leb-true, le-leb, lt-leb, lt-ltb, le-ltb, cases_Bool, both_ways, and_from, and_right, and_parts, and_cases}
 use Rattle.ga_event.specs.declared.event.Cause.{Cause}

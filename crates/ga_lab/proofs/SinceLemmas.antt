@@ -1,5 +1,5 @@
 -- The chain from a step, read off the events from there on.
-use Rattle.std.proofs.Common.{◌≡◌, ℕ, zero, suc, ◌+◌, ◌-◌, ◌<◌, ◌≤◌, true, List, [], ◌∷◌, ◌++◌, length, drop, length-drop, Some, None, Ok, Err, refl, sym, ◌∙◌, ap, subst, arith, ◌⊎◌, inl, inr, ⊎_elim}
+use Rattle.std.proofs.Common.{◌≡◌, ℕ, zero, suc, ◌+◌, ◌-◌, ◌<◌, ◌≤◌, true, List, ◌∷◌, ◌++◌, length, drop, length-drop, Some, None, Ok, Err, refl, sym, ◌∙◌, ap, subst, arith, ◌⊎◌, inl, inr, ⊎_elim}
 use Rattle.std.specs.Prelude.{Option, Result, is_some, IsOk}
 use Rattle.std.proofs.Math.Seq.{drop-append_seam}
 use Rattle.std.proofs.lemmas.Bool.{lt-ltb}
@@ -7,7 +7,6 @@ use Rattle.std.proofs.lemmas.List.{length-append}
 use Rattle.ga_event.specs.declared.event.Cause.{Cause}
 use Rattle.ga_journal.specs.Since.{IsSince}
 use Rattle.ga_causal.specs.declared.chain.Link.{Link}
-use Rattle.ga_causal.specs.Dependence.{DependsOn}
 use Rattle.ga_causal.specs.Chains.{IsFound, chain_of}
 use Rattle.ga_causal.specs.Steps.{touching, place_of}
 use Rattle.ga_causal.proofs.ChainOf.{chain_is}

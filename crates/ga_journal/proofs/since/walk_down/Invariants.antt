@@ -1,4 +1,4 @@
-use Rattle.std.proofs.Common.{◌≡◌, ◌≤◌, ◌+◌, ◌-◌, List, length}
+use Rattle.std.proofs.Common.{◌≡◌, ◌+◌, ◌-◌, List, length}
 use Rattle.ga_journal.specs.Histories.{lists_of}
 use Rattle.ga_journal.specs.Logs.{Stamped, Records}
 use Rattle.ga_journal.proofs.Down.{IsDown}

@@ -1,4 +1,4 @@
-use Rattle.std.proofs.Common.{◌≡◌, ◌-◌, Some, None, sym, ◌∙◌, ap, inl}
+use Rattle.std.proofs.Common.{◌-◌, ◌∙◌, ap, inl}
 use Rattle.ga_causal.specs.Steps.{place_of}
 use Rattle.ga_lab.proofs.SinceLemmas.{tail_is, before_none, there, nowhere}
 use Rattle.ga_lab.proofs.why.chain_since.Goals as goal

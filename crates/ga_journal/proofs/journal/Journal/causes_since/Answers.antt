@@ -1,4 +1,4 @@
-use Rattle.std.proofs.Common.{◌≡◌, ◌≤◌, length, sym, ◌∙◌, ap, subst, arith}
+use Rattle.std.proofs.Common.{◌≡◌, ◌≤◌, length, sym, ◌∙◌, ap, subst}
 use Rattle.ga_journal.specs.Histories.{Book, history, lists_of}
 use Rattle.ga_journal.specs.Kept.{causes_of, events_of, steps_of}
 use Rattle.ga_journal.specs.Logs.{IsWhole}

@@ -1,5 +1,4 @@
-use Rattle.std.proofs.Common.{◌<◌, ◌≤◌, sym, ◌∙◌, ap, subst}
-use Rattle.ga_journal.specs.Kept.{events_of, steps_of}
+use Rattle.std.proofs.Common.{sym, ◌∙◌, ap, subst}
 use Rattle.ga_journal.specs.Since.{IsSince}
 use Rattle.ga_lab.specs.Machine.{State, stands, causes_of}
 use Rattle.ga_lab.proofs.Reasons.{stands_counted, stands_kept}
