@@ -1,6 +1,5 @@
 pub mod Applied
 pub mod Passes
 pub mod Locality
-pub mod Sources
 pub mod Steadiness
 pub mod Nexts

@@ -2,5 +2,4 @@ pub mod Touches
 pub mod Apply
 pub mod Agree
 pub mod Next
-pub mod Sources
 pub mod Undo

@@ -1,13 +1,10 @@
 //! Laws of the definitions, each the contract of a function that does nothing.
 
-ghost use Rattle.std.specs.Prelude.{◌≡◌, ℕ, Bool, false, if◌then◌else◌, List, IfSome, None, Some, Ok, length};
+ghost use Rattle.std.specs.Prelude.{◌≡◌, ℕ, Bool, false, if◌then◌else◌, List, IfSome, None, Ok};
 ghost use Rattle.ga_node.specs.State.{NodeState};
 ghost use Rattle.ga_node.specs.Record.{NodeRecord};
 ghost use Rattle.ga_grid.specs.declared.node_id.NodeId.{NodeId};
-ghost use Rattle.ga_grid.specs.Chip.{node_at, record_at, records_of};
-ghost use Rattle.ga_node.specs.declared.part.Part.{Part};
-ghost use Rattle.ga_node.specs.Flow.{part_of};
-ghost use Rattle.ga_event.specs.Sources.{themselves, sources_after_all, chip_after, AlikeInAll, SameAt, AllHaveSizes};
+ghost use Rattle.ga_grid.specs.Chip.{node_at, records_of};
 ghost use Rattle.ga_event.specs.declared.event.Event.{Event};
 ghost use Rattle.ga_event.specs.declared.event.Effect.{Effect};
 ghost use Rattle.ga_event.specs.Touches.{touches, meets};
@@ -66,13 +63,4 @@ pub fn stays_steady()
         IfSome (apply chip event) (λ done. AreSteady done.0) }
     ensures events { (chip : List NodeRecord) (events : List Event) → AreSteady chip →
         IfSome (replay chip events) (λ last. AreSteady last) }
-{}
-
-/// What isn't among the sources of a value gave nothing to it.
-pub fn sources_give_all()
-    ensures value { (c d : List NodeRecord) (events : List Event) (n : ℕ) (part : Part) →
-        length c ≡ 144 → length d ≡ 144 → AllHaveSizes c → AllHaveSizes d → AlikeInAll c d events
-        → SameAt c d (sources_after_all c events themselves n part)
-        → part_of 0 (record_at (chip_after c events) n) part ≡ part_of 0 (record_at (chip_after d events) n) part }
-    ensures chip { (c d : List NodeRecord) (events : List Event) → replay c events ≡ Some d → chip_after c events ≡ d }
 {}

@@ -15,9 +15,8 @@ use Rattle.ga_node.specs.declared.due.Due.{Due}
 use Rattle.ga_node.specs.declared.due.Due.TheVariants as due
 use Rattle.ga_node.specs.declared.kind.Kind.{Kind}
 use Rattle.ga_node.specs.declared.kind.Kind.TheVariants as kind
-use Rattle.ga_node.specs.Flow.{HasSizes}
 use Rattle.ga_node.specs.Io.{io_word}
-use Rattle.ga_node.specs.Record.{NodeRecord}
+use Rattle.ga_node.specs.Record.{NodeRecord, HasSizes}
 use Rattle.ga_node.specs.Changes.{Change, after}
 use Rattle.ga_node.specs.Table.{Access, Plain, Reads, Writes, named, found, followed, carried_out, does, fetches, reads_io_in, reads_io, due_of, done_by, own_event, own, is_io, looks_by, looks}
 

@@ -1,4 +1,5 @@
-use ga_node::{Flow, Node, Part, Place, Seen, Wait};
+use ga_flow::{Flow, Part, own_flow, send_flow, take_flow};
+use ga_node::{Node, Place, Seen, Wait};
 use ga_ports::PortSet;
 
 /// Whether a value is that of this part before.
@@ -22,29 +23,29 @@ fn is_computed(flow: &Flow, sources: &[Part]) -> bool {
 fn own_events(rt: HostRuntime) {
     let mut node = Node::new(0);
     node.set(Place::Ram(0), 0x241b2);
-    assert!(rt; is_moved(&node.own_flow(Part::I), Part::Ram(0)));
-    assert!(rt; is_computed(&node.own_flow(Part::P), &[Part::P]));
-    assert!(rt; is_computed(&node.own_flow(Part::Slot), &[]));
+    assert!(rt; is_moved(&own_flow(&node, Part::I), Part::Ram(0)));
+    assert!(rt; is_computed(&own_flow(&node, Part::P), &[Part::P]));
+    assert!(rt; is_computed(&own_flow(&node, Part::Slot), &[]));
     assert!(rt; node.own(Seen::nobody()).is_ok());
-    assert!(rt; is_moved(&node.own_flow(Part::T), Part::T));
-    assert!(rt; is_moved(&node.own_flow(Part::S), Part::T));
-    assert!(rt; is_moved(&node.own_flow(Part::Data(9)), Part::Data(8)));
+    assert!(rt; is_moved(&own_flow(&node, Part::T), Part::T));
+    assert!(rt; is_moved(&own_flow(&node, Part::S), Part::T));
+    assert!(rt; is_moved(&own_flow(&node, Part::Data(9)), Part::Data(8)));
     assert!(rt; node.own(Seen::nobody()).is_ok());
-    assert!(rt; is_computed(&node.own_flow(Part::T), &[Part::T, Part::S]));
-    assert!(rt; is_moved(&node.own_flow(Part::S), Part::Data(2)));
-    assert!(rt; is_moved(&node.own_flow(Part::Data(9)), Part::Data(2)));
-    assert!(rt; is_moved(&node.own_flow(Part::Carry), Part::Carry));
-    assert!(rt; is_computed(&node.own_flow(Part::Slot), &[Part::Slot]));
+    assert!(rt; is_computed(&own_flow(&node, Part::T), &[Part::T, Part::S]));
+    assert!(rt; is_moved(&own_flow(&node, Part::S), Part::Data(2)));
+    assert!(rt; is_moved(&own_flow(&node, Part::Data(9)), Part::Data(2)));
+    assert!(rt; is_moved(&own_flow(&node, Part::Carry), Part::Carry));
+    assert!(rt; is_computed(&own_flow(&node, Part::Slot), &[Part::Slot]));
 }
 
 #[test]
 fn halves_of_a_transfer(rt: HostRuntime) {
-    assert!(rt; is_moved(&Node::send_flow(Part::T), Part::S));
-    assert!(rt; is_computed(&Node::send_flow(Part::Wait), &[]));
+    assert!(rt; is_moved(&send_flow(Part::T), Part::S));
+    assert!(rt; is_computed(&send_flow(Part::Wait), &[]));
     let right = PortSet::of(8);
-    assert!(rt; is_moved(&Node::take_flow(Wait::Read(right), Part::T), Part::Outside));
-    assert!(rt; is_moved(&Node::take_flow(Wait::Read(right), Part::S), Part::T));
-    assert!(rt; is_moved(&Node::take_flow(Wait::Fetch(right), Part::I), Part::Outside));
-    assert!(rt; is_moved(&Node::take_flow(Wait::Fetch(right), Part::T), Part::T));
-    assert!(rt; is_moved(&Node::take_flow(Wait::Nothing, Part::P), Part::P));
+    assert!(rt; is_moved(&take_flow(Wait::Read(right), Part::T), Part::Outside));
+    assert!(rt; is_moved(&take_flow(Wait::Read(right), Part::S), Part::T));
+    assert!(rt; is_moved(&take_flow(Wait::Fetch(right), Part::I), Part::Outside));
+    assert!(rt; is_moved(&take_flow(Wait::Fetch(right), Part::T), Part::T));
+    assert!(rt; is_moved(&take_flow(Wait::Nothing, Part::P), Part::P));
 }

@@ -1,10 +1,10 @@
 -- Which parts of the load the values of a chip come from, through stacks, memories, registers and links.
 use Rattle.std.specs.Prelude.{◌≡◌, ◌≢◌, ℕ, ◌==◌, if◌then◌else◌, List, [], ◌∷◌, ◌++◌}
-use Rattle.ga_node.specs.Record.{NodeRecord}
+use Rattle.ga_node.specs.Record.{NodeRecord, HasSizes}
 use Rattle.ga_node.specs.Io.{io_word}
-use Rattle.ga_node.specs.declared.part.Part.{Part}
-use Rattle.ga_node.specs.declared.part.Part.TheVariants.{Outside}
-use Rattle.ga_node.specs.Flow.{Flow, Same, From, top, part_of, own_flow, send_flow, take_flow, AreAlike, HasSizes}
+use Rattle.ga_flow.specs.declared.part.Part.{Part}
+use Rattle.ga_flow.specs.declared.part.Part.TheVariants.{Outside}
+use Rattle.ga_flow.specs.Flow.{Flow, Same, From, top, part_of, own_flow, send_flow, take_flow, AreAlike}
 use Rattle.ga_grid.specs.Chip.{record_at}
 use Rattle.ga_event.specs.declared.event.Event.{Event}
 use Rattle.ga_event.specs.declared.event.Event.TheVariants.{Own, Pass}

@@ -5,20 +5,20 @@ use Rattle.std.proofs.lemmas.Option.{same_Some}
 use Rattle.std.proofs.Common.{eq-eqb}
 use Rattle.std.proofs.lemmas.Bool.{cases_eq, cases_lt, ne_eqb}
 use Rattle.std.proofs.lemmas.List.{get_or_past, get_or-set_same, get_or-set_other, length-set}
-use Rattle.ga_node.specs.Record.{NodeRecord, record_of}
+use Rattle.ga_node.specs.Record.{NodeRecord, HasSizes, record_of}
 use Rattle.ga_node.specs.Io.{io_word}
 use Rattle.ga_node.specs.Table.{t, own, sent, taken}
-use Rattle.ga_node.specs.declared.part.Part.{Part}
-use Rattle.ga_node.specs.declared.part.Part.TheVariants.{Data as OfD, Return as OfR, Ram as OfRam, Rom as OfRom, A as OfA, B as OfB, P as OfP, I as OfI, Io as OfIo, Carry as OfCarry, Slot as OfSlot, Wait as OfWait, Stop as OfStop, Outside}
-use Rattle.ga_node.specs.Flow.{Flow, Same, From, top, part_of, IsPart, own_flow, send_flow, take_flow, HasSizes, Agree, Comes}
-use Rattle.ga_node.proofs.Flowing.{own_flows, own_sizes, sent_flows, sent_sizes, taken_flows, taken_sizes}
+use Rattle.ga_flow.specs.declared.part.Part.{Part}
+use Rattle.ga_flow.specs.declared.part.Part.TheVariants.{Data as OfD, Return as OfR, Ram as OfRam, Rom as OfRom, A as OfA, B as OfB, P as OfP, I as OfI, Io as OfIo, Carry as OfCarry, Slot as OfSlot, Wait as OfWait, Stop as OfStop, Outside}
+use Rattle.ga_flow.specs.Flow.{Flow, Same, From, top, part_of, IsPart, own_flow, send_flow, take_flow, Agree, Comes}
+use Rattle.ga_flow.proofs.Flowing.{own_flows, own_sizes, sent_flows, sent_sizes, taken_flows, taken_sizes}
 use Rattle.ga_grid.specs.Chip.{record_at, nowhere}
 use Rattle.ga_event.specs.declared.event.Event.{Event}
 use Rattle.ga_event.specs.declared.event.Event.TheVariants.{Own, Pass}
 use Rattle.ga_event.specs.declared.event.Cause.{Cause}
 use Rattle.ga_node.specs.declared.kind.NotReady.{NotReady}
 use Rattle.ga_event.specs.Apply.{seen_from, after, Told, run, replay, cause_of, unless, refusal_of}
-use Rattle.ga_event.specs.Sources.{Sources, themselves, sources_in, sources_of_all, sources_by, sources_after, sources_after_all, chip_after, AlikeIn, AlikeInAll, SameAt, AllHaveSizes}
+use Rattle.ga_flow.specs.Sources.{Sources, themselves, sources_in, sources_of_all, sources_by, sources_after, sources_after_all, chip_after, AlikeIn, AlikeInAll, SameAt, AllHaveSizes}
 
 -- the parts of the node alone don't change with the word from outside
 word_free : (word : ℕ) (n : NodeRecord) (part : Part) → IsPart part → part_of word n part ≡ part_of 0 n part

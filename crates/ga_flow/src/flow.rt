@@ -1,8 +1,8 @@
 //! Where the values come from that an event leaves in a node.
 
 ghost use Rattle.std.specs.Prelude.{◌≡◌, ◌∷◌, []};
-ghost use Rattle.ga_node.specs.Flow.{From};
-ghost use Rattle.ga_node.specs.Following.{flow_of};
+ghost use Rattle.ga_flow.specs.Flow.{From};
+ghost use Rattle.ga_flow.specs.Following.{flow_of};
 
 use crate::part::Part;
 use arrayvec::ArrayVec;

@@ -1,5 +1,6 @@
-use Rattle.ga_node.proofs.Flowing.{own_flows, own_kinds, alike, sent_flows, taken_flows}
-use Rattle.ga_node.proofs.laws.flows.Goals as goal
+use Rattle.ga_flow.proofs.Deciding.{alike}
+use Rattle.ga_flow.proofs.Flowing.{own_flows, own_kinds, sent_flows, taken_flows}
+use Rattle.ga_flow.proofs.laws.flows.Goals as goal
 
 pub returns-clause-own : goal.returns-clause-own
 returns-clause-own c seen other n m part left right alike is = own_flows seen other n m alike left right part is

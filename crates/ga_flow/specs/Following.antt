@@ -1,16 +1,16 @@
 -- A part followed back through the changes of an event, the last of them first, to where its value comes from. What this finds is
 -- what the table of Flow.antt says.
 use Rattle.std.specs.Prelude.{◌+◌, ◌-◌, ◌==◌, if◌then◌else◌, List, [], ◌∷◌}
-use Rattle.ga_node.specs.declared.part.Part.{Part}
-use Rattle.ga_node.specs.declared.part.Part.TheVariants.{Data, Return, Ram, Rom, A, B, P, I, Io, Carry, Slot, Wait, Stop, Outside}
-use Rattle.ga_node.specs.declared.flow.Flow.{Flow as KeptFlow}
-use Rattle.ga_node.specs.declared.flow.Flow.TheVariants as flow
-use Rattle.ga_node.specs.declared.sought.Sought.{Sought}
-use Rattle.ga_node.specs.declared.sought.Sought.TheVariants as sought
+use Rattle.ga_flow.specs.declared.part.Part.{Part}
+use Rattle.ga_flow.specs.declared.part.Part.TheVariants.{Data, Return, Ram, Rom, A, B, P, I, Io, Carry, Slot, Wait, Stop, Outside}
+use Rattle.ga_flow.specs.declared.flow.Flow.{Flow as KeptFlow}
+use Rattle.ga_flow.specs.declared.flow.Flow.TheVariants as flow
+use Rattle.ga_flow.specs.declared.sought.Sought.{Sought}
+use Rattle.ga_flow.specs.declared.sought.Sought.TheVariants as sought
 use Rattle.ga_ports.specs.Address.{is_single}
 use Rattle.ga_ports.specs.declared.address.Target.{Target}
 use Rattle.ga_ports.specs.declared.address.Target.TheVariants as target
-use Rattle.ga_node.specs.Flow.{Flow, Same, From, Move, PushData, PopData, SetTop, PopTo, PushReturn, PopReturn, SetTopReturn, SetP, SetA, SetB, SetI, SetIo, SetCarry, SetRam, GoOn, Skip, StartAgain, SetWait, SetStop, top, top_return, is_same, IsPart}
+use Rattle.ga_flow.specs.Flow.{Flow, Same, From, Move, PushData, PopData, SetTop, PopTo, PushReturn, PopReturn, SetTopReturn, SetP, SetA, SetB, SetI, SetIo, SetCarry, SetRam, GoOn, Skip, StartAgain, SetWait, SetStop, top, top_return, is_same, IsPart}
 
 -- what a kept flow stands for
 abbrev pub flow_of : KeptFlow → Flow

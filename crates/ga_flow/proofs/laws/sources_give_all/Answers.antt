@@ -1,5 +1,5 @@
-use Rattle.ga_event.proofs.Sources.{sources_all, chip_after_replay}
-use Rattle.ga_event.proofs.laws.sources_give_all.Goals as goal
+use Rattle.ga_flow.proofs.Sources.{sources_all, chip_after_replay}
+use Rattle.ga_flow.proofs.laws.sources_give_all.Goals as goal
 
 pub returns-clause-value : goal.returns-clause-value
 returns-clause-value c = sources_all

@@ -7,13 +7,14 @@ use Rattle.ga_ports.specs.declared.address.Target.{Target}
 use Rattle.ga_ports.specs.declared.address.Target.TheVariants as target
 use Rattle.ga_node.specs.Record.{NodeRecord}
 use Rattle.ga_node.specs.Table.{t, r, is_extended, due_of}
+use Rattle.ga_node.specs.declared.due.Due.{Due}
 use Rattle.ga_node.specs.declared.due.Due.TheVariants as due
 use Rattle.ga_node.specs.declared.wait.Wait.{Wait}
 use Rattle.ga_node.specs.declared.wait.Wait.TheVariants as wait
-use Rattle.ga_node.specs.declared.part.Part.{Part}
-use Rattle.ga_node.specs.declared.part.Part.TheVariants.{Data, Return, Ram, Rom, A, B, P, I, Io, Carry, Slot, Wait as WaitPart, Stop, Outside}
-use Rattle.ga_node.specs.Flow.{Flow, Same, From, Flows, Move, PushData, PopData, SetTop, PopTo, PushReturn, PopReturn, SetTopReturn, SetP, SetA, SetB, SetI, SetIo, SetCarry, SetRam, GoOn, Skip, StartAgain, SetWait, SetStop, is_same, with_flow, pushed_data, popped_data, pushed_return, popped_return, by, moved, moved_all, top, top_return, read_moves, write_moves, moves, moves_by, fetch_moves, send_moves, take_moves, own_flow, send_flow, take_flow}
-use Rattle.ga_node.specs.Following.{Trace, At, Found, set_at, push_data, pop_data, push_return, pop_return, before, before_all, settled, read_before, write_before}
+use Rattle.ga_flow.specs.declared.part.Part.{Part}
+use Rattle.ga_flow.specs.declared.part.Part.TheVariants.{Data, Return, Ram, Rom, A, B, P, I, Io, Carry, Slot, Wait as WaitPart, Stop, Outside}
+use Rattle.ga_flow.specs.Flow.{Flow, Same, From, Flows, Move, PushData, PopData, SetTop, PopTo, PushReturn, PopReturn, SetTopReturn, SetP, SetA, SetB, SetI, SetIo, SetCarry, SetRam, GoOn, Skip, StartAgain, SetWait, SetStop, is_same, with_flow, pushed_data, popped_data, pushed_return, popped_return, by, moved, moved_all, top, top_return, read_moves, write_moves, moves, moves_by, send_moves, take_moves, own_flow, send_flow, take_flow}
+use Rattle.ga_flow.specs.Following.{Trace, At, Found, set_at, push_data, pop_data, push_return, pop_return, before, before_all, settled, read_before, write_before}
 
 -- the flow of what stands there
 abbrev resolved : Flows → Trace → Flow
@@ -220,13 +221,13 @@ op_last op.BStore n = (tt, (tt, tt))
 op_last op.AStore n = (tt, (tt, tt))
 
 -- what is found before what comes next in a node, and before the halves of a transfer
-pub op_found : (op : Op) (n : NodeRecord) (part : Part) → due_of n ≡ due.Run op → settled (before_all (moves op n) (At part)) ≡ own_flow n part
-unfolding own_flow
-op_found op n part is = found_flow (moves op n) part (op_last op n) ∙ ap (λ d. moved_all (moves_by d n) Same part) (sym is)
+due_last : (d : Due) (n : NodeRecord) → SlotLast (moves_by d n)
+due_last due.Fetch n = read_last (classified n.p) _ (λ flow. (tt, (tt, tt)))
+due_last (due.Run op) n = op_last op n
 
-pub fetch_found : (n : NodeRecord) (part : Part) → due_of n ≡ due.Fetch → settled (before_all (fetch_moves (classified n.p)) (At part)) ≡ own_flow n part
+pub due_found : (d : Due) (n : NodeRecord) (part : Part) → d ≡ due_of n → settled (before_all (moves_by d n) (At part)) ≡ own_flow n part
 unfolding own_flow
-fetch_found n part is = found_flow (fetch_moves (classified n.p)) part (read_last (classified n.p) _ (λ flow. (tt, (tt, tt)))) ∙ ap (λ d. moved_all (moves_by d n) Same part) (sym is)
+due_found d n part is = found_flow (moves_by d n) part (due_last d n) ∙ ap (λ d. moved_all (moves_by d n) Same part) is
 
 pub send_found : (part : Part) → settled (before_all send_moves (At part)) ≡ send_flow part
 unfolding send_flow

@@ -37,7 +37,7 @@ pub enum Part {
 
 impl Part {
     ghost use Rattle.std.specs.Prelude.{◌≡◌};
-    ghost use Rattle.ga_node.specs.Flow.{kind_of, index_of, is_same};
+    ghost use Rattle.ga_flow.specs.Flow.{kind_of, index_of, is_same};
 
     /// T, the top of the data stack.
     pub const T: Part = Part::Data(0);

@@ -1,6 +1,6 @@
--- Where the values come from that an event leaves in a node: the table of Table.antt once more, with the sources of each word in the
--- place of the word.
-use Rattle.std.specs.Prelude.{ℕ, ◌+◌, ◌-◌, ◌/◌, ◌^◌, ◌==◌, ◌≡◌, ◌<◌, Bool, ◌&&◌, if◌then◌else◌, List, [], ◌∷◌, slice_index, length}
+-- Where the values come from that an event leaves in a node: the table of ga_node's Table.antt once more, with the sources of each word
+-- in the place of the word.
+use Rattle.std.specs.Prelude.{ℕ, ◌+◌, ◌-◌, ◌/◌, ◌^◌, ◌==◌, ◌≡◌, ◌<◌, Bool, ◌&&◌, if◌then◌else◌, List, [], ◌∷◌, slice_index}
 use Rattle.ga_word.specs.Word.{carry_value}
 use Rattle.ga_slots.specs.declared.op.Op.{Op}
 use Rattle.ga_slots.specs.declared.op.Op.TheVariants.{Return, Execute, Jump, Call, Unext, Next, If, MinusIf, FetchP, FetchPlus, FetchB, Fetch, StoreP, StorePlus, StoreB, Store, MultiplyStep, TwoStar, TwoSlash, Invert, Plus, And, Or, Drop, Dup, Pop, Over, A, Nop, Push, BStore, AStore}
@@ -10,8 +10,8 @@ use Rattle.ga_ports.specs.declared.address.Target.TheVariants.{Ram, Rom, Io, Por
 use Rattle.ga_node.specs.Record.{NodeRecord}
 use Rattle.ga_node.specs.Waits.{wait_code}
 use Rattle.ga_node.specs.Table.{t, r, is_extended, due_of}
-use Rattle.ga_node.specs.declared.part.Part.{Part}
-use Rattle.ga_node.specs.declared.part.Part.TheVariants.{Data as OfD, Return as OfR, Ram as OfRam, Rom as OfRom, A as OfA, B as OfB, P as OfP, I as OfI, Io as OfIo, Carry as OfCarry, Slot as OfSlot, Wait as OfWait, Stop as OfStop, Outside}
+use Rattle.ga_flow.specs.declared.part.Part.{Part}
+use Rattle.ga_flow.specs.declared.part.Part.TheVariants.{Data as OfD, Return as OfR, Ram as OfRam, Rom as OfRom, A as OfA, B as OfB, P as OfP, I as OfI, Io as OfIo, Carry as OfCarry, Slot as OfSlot, Wait as OfWait, Stop as OfStop, Outside}
 use Rattle.ga_node.specs.declared.due.Due.{Due}
 use Rattle.ga_node.specs.declared.due.Due.TheVariants as due
 use Rattle.ga_node.specs.declared.wait.Wait.{Wait}
@@ -315,13 +315,6 @@ chosen_by (due.Run _) = []
 pub record AreAlike (n m : NodeRecord) : Type 0 where
   pub due : due_of n ≡ due_of m
   pub choice : choice (due_of n) n ≡ choice (due_of m) m
-
--- the lists of a node
-pub record HasSizes (n : NodeRecord) : Type 0 where
-  pub d : length n.d ≡ 10
-  pub r : length n.r ≡ 9
-  pub ram : length n.ram ≡ 64
-  pub rom : length n.rom ≡ 64
 
 -- the same stands in both at these parts, where these words come from outside
 abbrev pub Agree : ℕ → NodeRecord → ℕ → NodeRecord → List Part → Type 0

@@ -1,0 +1,6 @@
+pub mod Deciding
+pub mod Flowing
+pub mod Following
+pub mod Sources
+pub mod Tracks
+pub mod Words

@@ -1,0 +1,12 @@
+//! Where values come from: of a node after an event, and of a chip after a list of events.
+#![tactic(auto)]
+
+mod flow;
+mod flows;
+pub mod laws;
+mod part;
+mod sought;
+
+pub use flow::Flow;
+pub use flows::{own_flow, send_flow, take_flow};
+pub use part::Part;
