@@ -1,4 +1,4 @@
--- What a picture shows of a list of events (docs/REFERENCE.md, "Pictures"; this project's own). Places count from 0 here.
+-- What a picture shows of a list of events (this project's own). Places count from 0 here.
 use Rattle.std.specs.Prelude.{◌≡◌, ℕ, ◌+◌, ◌-◌, ◌<◌, ◌≤◌, true, List, length, Option, Some, None, slice_get}
 use Rattle.ga_event.specs.declared.event.Cause.{Cause}
 use Rattle.ga_event.specs.declared.event.Event.TheVariants.{Own, Pass}
