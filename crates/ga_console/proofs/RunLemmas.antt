@@ -45,7 +45,7 @@ runs_refused limit read rest text fault ImageRefused r t = (fault, r, t)
 runs_refused limit read rest text fault StreamFault r t = inr (inr (fault, r, t))
 runs_refused limit read rest text fault NotFinished r t = absurd t
 
-refused_in : (image ahead rest : List ℕ) (fault : ImageFault) → IsReadAlone image ahead rest → IsFault image fault → Refused (image ++ ahead) rest fault
+pub refused_in : (image ahead rest : List ℕ) (fault : ImageFault) → IsReadAlone image ahead rest → IsFault image fault → Refused (image ++ ahead) rest fault
 refused_in image ahead rest fault part (inl e) = inl e
 refused_in image ahead rest fault part (inr e) = inr (record { image = image; ahead = ahead; splits = refl; part = part; faulty = e })
 

@@ -1,10 +1,13 @@
 -- From the image of a source to what is written.
-use Rattle.std.proofs.Common.{ℕ, List, ◌++◌, inr, refl, sym, subst}
-use Rattle.ga_console.specs.Run.{IsReadAlone}
+use Rattle.std.proofs.Common.{ℕ, List, ◌++◌, inl, inr, refl, sym, subst}
+use Rattle.ga_image.specs.Reading.{no_memory}
+use Rattle.ga_image.specs.declared.fault.ImageFault.{ImageFault}
+use Rattle.ga_console.specs.Run.{IsReadAlone, IsFault, Refuses}
 use Rattle.ga_console.specs.Race.{Writes}
-use Rattle.ga_console.specs.Source.{IsAssembly, Assembly, Assembles}
+use Rattle.ga_console.specs.Source.{IsAssembly, Assembly, Assembles, Listing, Lists, IsAccepted, Disassembly, Disassembles}
 use Rattle.ga_console.specs.declared.run.Status.{Status}
 use Rattle.ga_console.specs.declared.run.Status.TheVariants.{Done, ImageRefused, StreamFault, NotFinished}
+use Rattle.ga_console.proofs.RunLemmas.{refused_in}
 
 -- the image was written, or a front of it
 pub assembly_written : (whole text : List ℕ) (status : Status) → IsAssembly whole → Writes whole text status → Assembly text status
@@ -19,3 +22,46 @@ assembles source ahead rest text Done part written = (source, ahead, refl, part,
 assembles source ahead rest text ImageRefused part written = written
 assembles source ahead rest text StreamFault part written = inr written
 assembles source ahead rest text NotFinished part written = written
+
+-- the listing was written, or a front of it
+pub listing_written : (whole text : List ℕ) (status : Status) → Writes whole text status → Listing text status
+listing_written whole text Done written = tt
+listing_written whole text StreamFault written = tt
+listing_written whole text ImageRefused written = absurd written
+listing_written whole text NotFinished written = absurd written
+
+-- what was listed of the source that was read
+pub lists : (source ahead rest text : List ℕ) (status : Status) → IsReadAlone source ahead rest → Listing text status → Lists (source ++ ahead) rest text status
+lists source ahead rest text Done part written = (source, ahead, refl, part, tt)
+lists source ahead rest text ImageRefused part written = written
+lists source ahead rest text StreamFault part written = inr (source, ahead, refl, part, tt)
+lists source ahead rest text NotFinished part written = written
+
+-- source of an image was written, or a front of it
+pub source_written : (image whole text : List ℕ) (status : Status) → IsAccepted image → Writes whole text status → Disassembly image text status
+source_written image whole text Done accepted written = accepted
+source_written image whole text StreamFault accepted written = inl accepted
+source_written image whole text ImageRefused accepted written = absurd written
+source_written image whole text NotFinished accepted written = absurd written
+
+-- an image's refusal was written, or a front of it
+pub refusal_written : (image text : List ℕ) (fault : ImageFault) (status : Status) → IsFault image fault → Refuses fault text status → Disassembly image text status
+refusal_written image text fault Done is written = absurd written
+refusal_written image text fault ImageRefused is written = (fault, is, written)
+refusal_written image text fault StreamFault is written = inr (fault, is, written)
+refusal_written image text fault NotFinished is written = absurd written
+
+-- what was written for the image that was read
+pub disassembles : (image ahead rest text : List ℕ) (status : Status) → IsReadAlone image ahead rest → Disassembly image text status → Disassembles (image ++ ahead) rest text status
+disassembles image ahead rest text Done part written = (image, ahead, refl, part, written)
+disassembles image ahead rest text ImageRefused part written = (written.0, refused_in image ahead rest written.0 part written.1, written.2)
+disassembles image ahead rest text StreamFault part (inl accepted) = inr (inl (image, ahead, refl, part, accepted))
+disassembles image ahead rest text StreamFault part (inr refused) = inr (inr (refused.0, refused_in image ahead rest refused.0 part refused.1, refused.2))
+disassembles image ahead rest text NotFinished part written = written
+
+-- memory was wanting while an image was read
+pub disassembles_nothing : (read rest text : List ℕ) (status : Status) → Refuses no_memory text status → Disassembles read rest text status
+disassembles_nothing read rest text Done written = absurd written
+disassembles_nothing read rest text ImageRefused written = (no_memory, inl refl, written)
+disassembles_nothing read rest text StreamFault written = inr (inr (no_memory, inl refl, written))
+disassembles_nothing read rest text NotFinished written = absurd written

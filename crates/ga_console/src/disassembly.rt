@@ -1,5 +1,7 @@
 //! An image in, source of the same memories and registers out.
-ghost use Rattle.std.specs.Prelude.{◌<◌};
+ghost use Rattle.std.specs.Prelude.{◌≡◌, ◌<◌, ◌++◌, ℕ, List, Some, IfOk, IfErr};
+ghost use Rattle.ga_console.specs.Run.{IsFault};
+ghost use Rattle.ga_console.specs.Source.{IsAccepted, Disassembly, Disassembles};
 
 use super::assembling::write_text;
 use super::image::{ImageEnd, read_image};
@@ -23,7 +25,13 @@ const NO_MEMORY: ImageFault = ImageFault {
 
 /// Reads an image of either format up to its first line `end`, and writes source that gives the same memories, A, B and P. A
 /// refused image gets its refusal.
-pub fn disassemble<R: Read, W: Write>(alloc: Global, reader: &mut R, writer: &mut W) -> Status {
+pub fn disassemble<R: Read, W: Write>(alloc: Global, reader: &mut R, writer: &mut W) -> Status
+    // Where the streams tell their bytes: what was read, and what was written for it by the status.
+    ensures { (left before : List ℕ) →
+        R.remaining reader.old ≡ Some left → W.contents writer.old ≡ Some before →
+        (read rest text : List ℕ) × (left ≡ read ++ rest) × (R.remaining reader.new ≡ Some rest)
+        × (W.contents writer.new ≡ Some (before ++ text)) × Disassembles read rest text result }
+{
     let mut input = Input::new();
     let mut image = Vec::new(alloc);
     match read_image(&mut input, reader, &mut image) {
@@ -37,13 +45,25 @@ pub fn disassemble<R: Read, W: Write>(alloc: Global, reader: &mut R, writer: &mu
 }
 
 /// Writes the source of an image, or refuses the image.
-fn disassemble_text<W: Write>(alloc: Global, writer: &mut W, image: Vec<u8>) -> Status {
-    match parse(alloc, image.as_slice()) {
-        Ok(chip) => match source_of(alloc, &chip) {
-            Ok(text) => write_text(writer, text),
-            Err(_) => refuse(writer, NO_MEMORY),
-        },
+fn disassemble_text<W: Write>(alloc: Global, writer: &mut W, image: Vec<u8>) -> Status
+    ensures { (before : List ℕ) → W.contents writer.old ≡ Some before →
+        (text : List ℕ) × (W.contents writer.new ≡ Some (before ++ text)) × Disassembly image.items text result }
+{
+    match source_for(alloc, image) {
+        Ok(text) => write_text(writer, text),
         Err(fault) => refuse(writer, fault),
+    }
+}
+
+/// Source of an image, or the image's first fault.
+fn source_for(alloc: Global, image: Vec<u8>) -> Result<Vec<u8>, ImageFault>
+    ensures ok { IfOk result (λ text. IsAccepted image.items) }
+    ensures err { IfErr result (λ fault. IsFault image.items fault) }
+{
+    let chip = parse(alloc, image.as_slice())?;
+    match source_of(alloc, &chip) {
+        Ok(text) => Ok(text),
+        Err(_) => Err(NO_MEMORY),
     }
 }
 

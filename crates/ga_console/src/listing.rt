@@ -1,4 +1,6 @@
 //! Source in, a listing of its cells out.
+ghost use Rattle.std.specs.Prelude.{◌≡◌, ◌++◌, ℕ, List, Some};
+ghost use Rattle.ga_console.specs.Source.{Listing, Lists};
 
 use super::assembling::write_text;
 use super::faults::{tell_fault, tell_long, tell_memory};
@@ -19,7 +21,13 @@ pub fn list_source<R: Read, W: Write, E: Write>(
     reader: &mut R,
     writer: &mut W,
     errors: &mut E,
-) -> Status {
+) -> Status
+    // Where the streams tell their bytes: what was read, and what was written for it by the status.
+    ensures { (left before : List ℕ) →
+        R.remaining reader.old ≡ Some left → W.contents writer.old ≡ Some before →
+        (read rest text : List ℕ) × (left ≡ read ++ rest) × (R.remaining reader.new ≡ Some rest)
+        × (W.contents writer.new ≡ Some (before ++ text)) × Lists read rest text result }
+{
     let mut input = Input::new();
     let mut source = Vec::new(alloc);
     match read_image(&mut input, reader, &mut source) {
@@ -43,18 +51,29 @@ fn list_text<W: Write, E: Write>(
     writer: &mut W,
     errors: &mut E,
     source: Vec<u8>,
-) -> Status {
+) -> Status
+    ensures { (before : List ℕ) → W.contents writer.old ≡ Some before →
+        (text : List ℕ) × (W.contents writer.new ≡ Some (before ++ text)) × Listing text result }
+{
+    match listing_of(alloc, errors, source) {
+        Some(text) => write_text(writer, text),
+        None => Status::ImageRefused,
+    }
+}
+
+/// The listing of a source; or none, where a fault is told on `errors`.
+fn listing_of<E: Write>(alloc: Global, errors: &mut E, source: Vec<u8>) -> Option<Vec<u8>> {
     match assemble(alloc, source.as_slice()) {
         Ok(assembled) => match listing(alloc, &assembled, source.as_slice()) {
-            Ok(text) => write_text(writer, text),
+            Ok(text) => Some(text),
             Err(_) => {
                 tell_memory(errors);
-                Status::ImageRefused
+                None
             }
         },
         Err(fault) => {
             tell_fault(errors, fault);
-            Status::ImageRefused
+            None
         }
     }
 }
