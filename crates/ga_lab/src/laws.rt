@@ -37,7 +37,7 @@ pub fn stays_steady()
 
 /// What a step answers is told of it later, at the place behind the events that were kept before.
 pub fn told_later()
-    ensures { (s : State) (n : NodeId) (told : Made) → IsReached s →
+    ensures { (s : State) (n : NodeId) (told : Made) → IsSome (replay s.load s.kept) →
         step_answer s n ≡ Ok told → made_in (told_of_kept (stepped s n)) (length s.kept) ≡ Some told }
 {}
 
