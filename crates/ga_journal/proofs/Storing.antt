@@ -11,9 +11,8 @@ use Rattle.ga_journal.specs.declared.entry.Part.{Part}
 use Rattle.ga_journal.specs.declared.entry.Part.TheVariants.{Own, Look, Passed}
 use Rattle.ga_journal.specs.declared.entry.Pass.{Pass}
 use Rattle.ga_journal.specs.declared.entry.Entry.{Entry}
-use Rattle.ga_journal.specs.Histories.{past, bound_from, bound_of}
-use Rattle.ga_journal.specs.Ends.{own_act}
-use Rattle.ga_journal.proofs.Heads.{deed}
+use Rattle.ga_journal.specs.Histories.{past, bound_from, bound_of, deed}
+use Rattle.ga_journal.specs.declared.entry.Act.TheVariants as act
 use Rattle.ga_journal.specs.Stored.{own_part, act_with, no_pass, act_in, past_in, passes_in, Names, IsBelow, IsDropped, AreNumbered}
 
 pub numbered_le : (n m : ℕ) (es : List Entry) → AreNumbered n es m → n ≤ m
@@ -122,11 +121,11 @@ none_bound ps [] h = refl
 none_bound ps (x ∷ xs) h = absurd (omega (arith, h))
 
 -- an own event more
-act_own : (ps : List Pass) (kind : Kind) (look : Bool) (place : ℕ) → act_in ps (own_part (deed kind look)) place ≡ own_act (deed kind look)
+act_own : (ps : List Pass) (kind : Kind) (look : Bool) (place : ℕ) → act_in ps (own_part (deed kind look)) place ≡ act.Own (deed kind look)
 act_own ps kind true place = refl
 act_own ps kind false place = refl
 
-pub pasts_deed : (ps : List Pass) (es : List Entry) (e : Entry) (kind : Kind) (look : Bool) → e.part ≡ own_part (deed kind look) → map (past_in ps) (es ++ e ∷ []) ≡ map (past_in ps) es ++ past e.stamp (own_act (deed kind look)) e.saved ∷ []
+pub pasts_deed : (ps : List Pass) (es : List Entry) (e : Entry) (kind : Kind) (look : Bool) → e.part ≡ own_part (deed kind look) → map (past_in ps) (es ++ e ∷ []) ≡ map (past_in ps) es ++ past e.stamp (act.Own (deed kind look)) e.saved ∷ []
 pasts_deed ps es e kind look part =
     pasts_own ps es e ∙ ap (λ z. map (past_in ps) es ++ past e.stamp z e.saved ∷ []) (ap (λ z. act_in ps z e.place) part ∙ act_own ps kind look e.place)
 

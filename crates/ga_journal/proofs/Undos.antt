@@ -9,18 +9,23 @@ use Rattle.ga_grid.specs.Chip.{nowhere, node_at}
 use Rattle.ga_grid.specs.declared.node_id.NodeId.{NodeId}
 use Rattle.ga_event.specs.declared.event.Event.TheVariants as event
 use Rattle.ga_event.specs.declared.event.Effect.TheVariants as effect
-use Rattle.ga_event.specs.Undo.{own_effect, restored_at, CanRestore, CanUnapply}
-use Rattle.ga_journal.specs.Histories.{Past, history}
+use Rattle.ga_event.specs.Undo.{own_effect, unapplied, restored_at, CanRestore, CanUnapply}
+use Rattle.ga_journal.specs.Histories.{Past, history, deed}
 use Rattle.ga_journal.specs.Logs.{Stamped, Records}
 use Rattle.ga_journal.specs.Newest.{IsTopmost}
 use Rattle.ga_journal.specs.Ends.{CanGoBack}
 use Rattle.ga_journal.specs.Popped.{CanUndo}
-use Rattle.ga_journal.proofs.Heads.{deed, Headed, headed}
+use Rattle.ga_journal.proofs.Heads.{Headed, headed}
 use Rattle.ga_journal.proofs.Popping.{SentLeft, TookLeft, end_gone}
 
 can_own : (chip : List NodeState) (node : NodeId) (kind : Kind) (look : Bool) (saved : List (Place × ℕ)) → CanUnapply chip (event.Own node) (own_effect (deed kind look) saved) → CanRestore (node_at chip node.number) saved
 can_own chip node kind true saved h = h
 can_own chip node kind false saved h = h
+
+-- an own event is taken back at its node
+pub back_own : (chip : List NodeState) (node : NodeId) (kind : Kind) (look : Bool) (saved : List (Place × ℕ)) → restored_at chip node.number saved ≡ unapplied chip (event.Own node) (own_effect (deed kind look) saved)
+back_own chip node kind true saved = refl
+back_own chip node kind false saved = refl
 
 -- the node's own last entry can be taken back
 pub can_first : (log : List Stamped) (made : ℕ) (hs : List (List Past)) (chip : List NodeState) (node : NodeId) → Records log hs made → IsTopmost hs node.number → CanUndo chip log → CanGoBack (history hs node.number) chip node.number

@@ -1,5 +1,5 @@
 -- The end of one history: the entry that an own event adds, and the one that is taken back.
-use Rattle.std.specs.Prelude.{◌≡◌, ℕ, if◌then◌else◌, List, [], ◌∷◌, ◌++◌, Some, slice_get}
+use Rattle.std.specs.Prelude.{◌≡◌, ℕ, List, [], ◌∷◌, ◌++◌, Some, slice_get}
 use Rattle.ga_node.specs.State.{NodeState}
 use Rattle.ga_node.specs.declared.place.Place.{Place}
 use Rattle.ga_grid.specs.Chip.{node_at}
@@ -8,7 +8,7 @@ use Rattle.ga_event.specs.declared.event.Deed.{Deed}
 use Rattle.ga_event.specs.declared.event.Event.TheVariants as event
 use Rattle.ga_event.specs.Undo.{own_effect, IsApplied, CanRestore, restored_at}
 use Rattle.ga_journal.specs.declared.entry.Act.{Act}
-use Rattle.ga_journal.specs.declared.entry.Act.TheVariants.{Alone, Looked}
+use Rattle.ga_journal.specs.declared.entry.Act.TheVariants as act
 use Rattle.ga_journal.specs.declared.entry.Head.{Head}
 use Rattle.ga_journal.specs.Histories.{Past, past}
 
@@ -19,17 +19,13 @@ pub record TellsOf (history : List Past) (at : ℕ) (head : Head) : Type 0 where
   pub stamp : entry.stamp ≡ head.stamp
   pub act : entry.act ≡ head.act
 
--- the part of a node in its own event, which looked or didn't
-abbrev pub own_act : Deed → Act
-own_act deed = if deed.look then Looked deed.kind else Alone deed.kind
-
 -- the node's own event was made on the chip, and its entry added
 pub record IsMadeAlone
     (old : List Past) (chip : List NodeState) (node : NodeId) (stamp : ℕ) (deed : Deed) (new : List Past) (now : List NodeState)
     : Type 0 where
   pub saved : List (Place × ℕ)
   pub applied : IsApplied chip (event.Own node) (own_effect deed saved) now
-  pub added : new ≡ old ++ past stamp (own_act deed) saved ∷ []
+  pub added : new ≡ old ++ past stamp (act.Own deed) saved ∷ []
 
 -- the values of the last entry can be written back to node n
 abbrev pub CanGoBack : List Past → List NodeState → ℕ → Type 0

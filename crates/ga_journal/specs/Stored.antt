@@ -1,18 +1,19 @@
 -- How a history is stored: entries, the passes among them in a list of their own, and where the newest look stands.
-use Rattle.std.specs.Prelude.{◌≡◌, ℕ, ◌+◌, ◌<◌, nat_lt, if◌then◌else◌, List, [], ◌∷◌, ◌++◌, length, map, slice_index_or, Vec, vec_len, vec_capacity}
+use Rattle.std.specs.Prelude.{◌≡◌, ℕ, ◌+◌, ◌<◌, true, false, nat_lt, if◌then◌else◌, List, [], ◌∷◌, ◌++◌, length, map, slice_index_or, Vec, vec_len, vec_capacity}
 use Rattle.std.specs.Global.{Global}
 use Rattle.ga_ports.specs.declared.side.Side.TheVariants.{Right}
 use Rattle.ga_grid.specs.NodeId.{node_id}
 use Rattle.ga_event.specs.declared.event.Deed.{Deed}
 use Rattle.ga_journal.specs.declared.entry.Act.{Act}
-use Rattle.ga_journal.specs.declared.entry.Act.TheVariants.{Alone, Looked, Sent, Took}
+use Rattle.ga_journal.specs.declared.entry.Act.TheVariants.{Sent, Took}
+use Rattle.ga_journal.specs.declared.entry.Act.TheVariants as act
 use Rattle.ga_journal.specs.declared.entry.Role.{Role}
 use Rattle.ga_journal.specs.declared.entry.Role.TheVariants.{Writer, Reader}
 use Rattle.ga_journal.specs.declared.entry.Part.{Part}
 use Rattle.ga_journal.specs.declared.entry.Part.TheVariants.{Own, Look, Passed}
 use Rattle.ga_journal.specs.declared.entry.Pass.{Pass}
 use Rattle.ga_journal.specs.declared.entry.Entry.{Entry}
-use Rattle.ga_journal.specs.Histories.{Past, Held, past}
+use Rattle.ga_journal.specs.Histories.{Past, Held, past, deed}
 
 -- an end of a pass as the part of its node
 abbrev pub act_with : Role → Pass → Act
@@ -29,8 +30,8 @@ no_pass = record { partner = node_id 0; side = Right; at = 0; looked = 0; word =
 
 -- a node's part in an event, where a pass stands at a place of a list
 abbrev pub act_in : List Pass → Part → ℕ → Act
-act_in passes (Own kind) place = Alone kind
-act_in passes (Look kind) place = Looked kind
+act_in passes (Own kind) place = act.Own (deed kind false)
+act_in passes (Look kind) place = act.Own (deed kind true)
 act_in passes (Passed role) place = act_with role (slice_index_or passes place no_pass)
 
 -- an entry with its pass

@@ -6,14 +6,14 @@ ghost use Rattle.ga_node.specs.Record.{record_of};
 ghost use Rattle.ga_node.specs.Table.{refusal};
 ghost use Rattle.ga_grid.specs.Chip.{records_of, record_at, node_at};
 ghost use Rattle.ga_event.specs.Apply.{refusal_of, is_open};
-ghost use Rattle.ga_event.specs.Undo.{IsOfKind};
+ghost use Rattle.ga_event.specs.Undo.{IsOfKind, own_effect};
 ghost use Rattle.ga_journal.specs.Histories.{past, past_of, lists_of, room_of, has_room, has_pass_room, HasRoom};
 ghost use Rattle.ga_journal.specs.Histories.{history, bound_of, pushed, appended};
 ghost use Rattle.ga_journal.specs.Logs.{Stamped, Records, IsWhole};
 ghost use Rattle.ga_journal.specs.Newest.{IsTopmost};
 ghost use Rattle.ga_journal.specs.Popped.{IsNewest, TakesBack, IsTakenOut};
 ghost use Rattle.ga_journal.specs.Stored.{act_with};
-ghost use Rattle.ga_journal.specs.Ends.{own_act, CanGoBack, IsGoneBack};
+ghost use Rattle.ga_journal.specs.Ends.{CanGoBack, IsGoneBack};
 ghost use Rattle.ga_journal.specs.Making.{IsAdded};
 
 use crate::entry::{Act, Pass, Role, Taken};
@@ -49,7 +49,7 @@ fn push_own(
     requires room { has_room (room_of histories.old.items) node.number }
     requires fits { length (history (lists_of histories.old.items) node.number) + 1 < 2 ^ 32 }
     ensures after { lists_of histories.new.items
-        ≡ pushed (lists_of histories.old.items) node.number (past stamp (own_act deed) saved) }
+        ≡ pushed (lists_of histories.old.items) node.number (past stamp (Act.Own deed) saved) }
     ensures size { length histories.new.items ≡ 144 }
 {
     let history = &mut histories[node.index()];
@@ -110,6 +110,17 @@ pub(crate) fn go_back(histories: &mut Vec<History>, chip: &mut Chip, node: NodeI
     history.go_back(chip, node)
 }
 
+/// What a node's own event did, with the old values.
+fn effect_of(deed: Deed, saved: Saved) -> Effect
+    ensures { result ≡ own_effect deed saved }
+{
+    if deed.look {
+        Effect::Look(deed.kind, saved)
+    } else {
+        Effect::Own(deed.kind, saved)
+    }
+}
+
 /// Takes the newest event out, in which the node had a part.
 pub(crate) fn take_event(histories: &mut Vec<History>, node: NodeId) -> (Event, Effect)
     requires size { length histories.old.items ≡ 144 }
@@ -121,8 +132,7 @@ pub(crate) fn take_event(histories: &mut Vec<History>, node: NodeId) -> (Event, 
 {
     let Taken { act, saved, .. } = take_last(histories, node);
     match act {
-        Act::Alone(kind) => (Event::Own(node), Effect::Own(kind, saved)),
-        Act::Looked(kind) => (Event::Own(node), Effect::Look(kind, saved)),
+        Act::Own(deed) => (Event::Own(node), effect_of(deed, saved)),
         Act::Sent { to, side, word, .. } => {
             let other = take_last(histories, to);
             let event = Event::Pass {
@@ -347,8 +357,7 @@ pub(crate) fn undo_event(histories: &mut Vec<History>, chip: &mut Chip, node: No
     ensures undone { IsTakenOut (lists_of histories.old.items) chip.old result (lists_of histories.new.items) chip.new }
 {
     match go_back(histories, chip, node) {
-        Act::Alone(_) => Event::Own(node),
-        Act::Looked(_) => Event::Own(node),
+        Act::Own(_) => Event::Own(node),
         Act::Sent { to, side, .. } => {
             let _ = go_back(histories, chip, to);
             Event::Pass {

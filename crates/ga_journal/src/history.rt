@@ -40,8 +40,8 @@ fn act_of(passes: &Vec<Pass>, part: Part, place: u32) -> Act
     ensures { result ≡ act_in passes.now.items part place }
 {
     match part {
-        Part::Own(kind) => Act::Alone(kind),
-        Part::Look(kind) => Act::Looked(kind),
+        Part::Own(kind) => Act::Own(Deed { kind, look: false }),
+        Part::Look(kind) => Act::Own(Deed { kind, look: true }),
         Part::Passed(role) => {
             let Pass {
                 partner,
@@ -131,7 +131,7 @@ impl History {
     ghost use Rattle.ga_grid.specs.Chip.{node_at};
     ghost use Rattle.ga_journal.specs.Histories.{past, past_of, bound_of};
     ghost use Rattle.ga_journal.specs.Stored.{act_with};
-    ghost use Rattle.ga_journal.specs.Ends.{TellsOf, own_act, IsMadeAlone, CanGoBack, IsGoneBack};
+    ghost use Rattle.ga_journal.specs.Ends.{TellsOf, IsMadeAlone, CanGoBack, IsGoneBack};
     ghost use Rattle.ga_journal.specs.Looks.{HasLook, HasNoLook, IsNewestLook, IsPastNewest};
 
     /// A history without an entry.
@@ -244,7 +244,7 @@ impl History {
     pub fn push_own(&mut self, stamp: u64, deed: Deed, saved: Saved, before: NodeId)
         requires room { IsTrue self.old.room.entry }
         requires fits { length self.old.items + 1 < 2 ^ 32 }
-        ensures { self.new.items ≡ self.old.items ++ past stamp (own_act deed) saved ∷ [] }
+        ensures { self.new.items ≡ self.old.items ++ past stamp (Act.Own deed) saved ∷ [] }
     {
         let place = self.looked;
         let part = part_of(deed);

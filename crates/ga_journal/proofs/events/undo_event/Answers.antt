@@ -1,10 +1,10 @@
-use Rattle.std.proofs.Common.{◌∙◌, true, false, ap, refl}
-use Rattle.ga_event.specs.Undo.{restored_at}
+use Rattle.std.proofs.Common.{◌∙◌, ap, refl}
+use Rattle.ga_event.specs.Undo.{own_effect, restored_at}
 use Rattle.ga_event.specs.declared.event.Effect.TheVariants as effect
 use Rattle.ga_journal.specs.Histories.{lists_of}
 use Rattle.ga_journal.specs.Popped.{TakesBack}
 use Rattle.ga_journal.proofs.Popping.{own_newest, sent_left, sent_more, sent_newest, took_left, took_more, took_newest}
-use Rattle.ga_journal.proofs.Undos.{can_first, either_order, sent_apart, sent_back, took_back}
+use Rattle.ga_journal.proofs.Undos.{back_own, can_first, either_order, sent_apart, sent_back, took_back}
 use Rattle.ga_journal.proofs.events.undo_event.Goals as goal
 
 pub go_back-requires-clause-can : goal.go_back-requires-clause-can
@@ -48,24 +48,15 @@ go_back-requires-in-Took-clause-can c =
     let s = took_left back.log c.requires.back.0 hs mid c.args.node c.in-Took.from c.in-Took.side c.in-Took.at c.in-Took.word _ gone.entry back.records c.requires.topmost gone.last c.go_back.ensures.others (gone.part ∙ c.in-Took.is) in
     took_back back.log hs mid c.args.chip.now c.go_back.new.chip c.args.node c.in-Took.from c.in-Took.side c.in-Took.word gone.entry s back.can gone.node
 
-pub returns-in-Alone-clause-undone : goal.returns-in-Alone-clause-undone
-returns-in-Alone-clause-undone c =
+pub returns-in-Own-clause-undone : goal.returns-in-Own-clause-undone
+returns-in-Own-clause-undone c =
     let hs = lists_of c.args.histories.now.items in
     let gone = c.go_back.ensures.back in
+    let deed = c.in-Own.field-0 in
     record {
-      effect = effect.Own c.in-Alone.field-0 gone.entry.saved;
-      newest = λ log made r. own_newest log made hs (lists_of c.go_back.new.histories.items) c.args.node _ gone.entry c.in-Alone.field-0 false gone.entry.saved r c.requires.topmost gone.last c.go_back.ensures.others (gone.part ∙ c.in-Alone.is) refl;
-      chip_is = gone.node;
-    }
-
-pub returns-in-Looked-clause-undone : goal.returns-in-Looked-clause-undone
-returns-in-Looked-clause-undone c =
-    let hs = lists_of c.args.histories.now.items in
-    let gone = c.go_back.ensures.back in
-    record {
-      effect = effect.Look c.in-Looked.field-0 gone.entry.saved;
-      newest = λ log made r. own_newest log made hs (lists_of c.go_back.new.histories.items) c.args.node _ gone.entry c.in-Looked.field-0 true gone.entry.saved r c.requires.topmost gone.last c.go_back.ensures.others (gone.part ∙ c.in-Looked.is) refl;
-      chip_is = gone.node;
+      effect = own_effect deed gone.entry.saved;
+      newest = λ log made r. own_newest log made hs (lists_of c.go_back.new.histories.items) c.args.node _ gone.entry deed.kind deed.look gone.entry.saved r c.requires.topmost gone.last c.go_back.ensures.others (gone.part ∙ c.in-Own.is) refl;
+      chip_is = gone.node ∙ back_own c.args.chip.now c.args.node deed.kind deed.look gone.entry.saved;
     }
 
 pub returns-in-Sent-clause-undone : goal.returns-in-Sent-clause-undone

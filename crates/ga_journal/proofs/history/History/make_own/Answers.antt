@@ -1,6 +1,6 @@
 use Rattle.std.proofs.Common.{◌≡◌, ◌+◌, ◌-◌, ◌∙◌, ◌++◌, ◌∷◌, [], length, map, sym, ap, subst, arith, length-append}
 use Rattle.ga_journal.specs.declared.entry.Entry.{Entry}
-use Rattle.ga_journal.specs.Ends.{own_act}
+use Rattle.ga_journal.specs.declared.entry.Act.TheVariants as act
 use Rattle.ga_journal.specs.Histories.{Held, past}
 use Rattle.ga_journal.specs.Stored.{IsHistory, past_in, looked_after}
 use Rattle.ga_journal.proofs.Looking.{own_more}
@@ -38,6 +38,6 @@ returns c =
       applied = c.apply_own-deed.ensures;
       added = ap (λ z. map (past_in ps) z) (set_last es c.push_reserved.new.self.items _ e (length c.as_slice.result.now - 1) c.push_reserved.ensures.items (omega (arith, here, more)))
           ∙ pasts_deed ps es e c.apply_own-deed.result.kind c.apply_own-deed.result.look c.part_of-part.ensures
-          ∙ ap (λ (h : Held). h.items ++ past first.stamp (own_act c.apply_own-deed.result) c.apply_own-deed.new.saved ∷ []) c.self.view_is
-          ∙ ap (λ (z : Entry). c.args.self.now.items ++ past z.stamp (own_act c.apply_own-deed.result) c.apply_own-deed.new.saved ∷ []) read;
+          ∙ ap (λ (h : Held). h.items ++ past first.stamp (act.Own c.apply_own-deed.result) c.apply_own-deed.new.saved ∷ []) c.self.view_is
+          ∙ ap (λ (z : Entry). c.args.self.now.items ++ past z.stamp (act.Own c.apply_own-deed.result) c.apply_own-deed.new.saved ∷ []) read;
     }

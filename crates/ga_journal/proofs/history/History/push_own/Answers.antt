@@ -1,6 +1,6 @@
 use Rattle.std.proofs.Common.{◌∙◌, ◌++◌, ◌∷◌, [], length, map, refl, sym, ap, subst}
 use Rattle.ga_journal.specs.declared.entry.Entry.{Entry}
-use Rattle.ga_journal.specs.Ends.{own_act}
+use Rattle.ga_journal.specs.declared.entry.Act.TheVariants as act
 use Rattle.ga_journal.specs.Histories.{Held, past}
 use Rattle.ga_journal.specs.Stored.{IsHistory, past_in, looked_after}
 use Rattle.ga_journal.proofs.Looking.{own_more}
@@ -24,4 +24,4 @@ returns c =
     let e : Entry = record { stamp = c.args.stamp; place = c.self.inside.looked; part = c.part_of-part.result; before = c.args.before; saved = c.args.saved } in
     ap (λ z. map (past_in ps) z) c.push_reserved.ensures.items
     ∙ pasts_deed ps es e c.args.deed.kind c.args.deed.look c.part_of-part.ensures
-    ∙ ap (λ (h : Held). h.items ++ past c.args.stamp (own_act c.args.deed) c.args.saved ∷ []) c.self.view_is
+    ∙ ap (λ (h : Held). h.items ++ past c.args.stamp (act.Own c.args.deed) c.args.saved ∷ []) c.self.view_is
