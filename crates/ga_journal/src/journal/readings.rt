@@ -2,10 +2,8 @@
 
 use super::Journal;
 use crate::fault::JournalFault;
-use crate::histories::{mades, walk_node};
 use crate::made::Made;
-use crate::recall::{all_causes, recall};
-use crate::since::{Since, walk_down};
+use crate::since::Since;
 use ga_event::{Cause, Event};
 use ga_grid::NodeId;
 use ga_node::Node;
@@ -30,7 +28,7 @@ impl Journal {
         ensures ok { IfOk result (λ list. list.items ≡ mades_of (kept_of self.now) node.number) }
         ensures err { IfErr result (λ fault. fault ≡ JournalFault.Memory) }
     {
-        mades(&self.histories, node)
+        self.histories.mades(node)
     }
 
     /// Writes back to a node what its entries from the position `to` on and below `from` overwrote, those of the last entry
@@ -41,7 +39,7 @@ impl Journal {
         requires can { CanWalk now.old (drop to (take from (history self.now.histories node.number))) }
         ensures { now.new ≡ walked now.old (drop to (take from (history self.now.histories node.number))) }
     {
-        walk_node(&self.histories, node, now, from, to);
+        self.histories.walk_node(node, now, from, to);
     }
 
     /// The kept event at a place of their list, from 0 on; none past its end. It walks back from the newest.
@@ -51,7 +49,8 @@ impl Journal {
         ensures past { IsNone result ↔ (length (kept_of self.now) ≤ place) }
     {
         if place < self.kept {
-            let (cause, _) = recall(&self.histories, self.top, self.hint, self.kept - place);
+            let back_by = self.kept - place;
+            let (cause, _) = self.histories.recall(self.top, self.hint, back_by);
             Some(cause.event)
         } else {
             None
@@ -66,7 +65,8 @@ impl Journal {
         ensures past { IsNone result ↔ (length (kept_of self.now) ≤ place) }
     {
         if place < self.kept {
-            let (_, made) = recall(&self.histories, self.top, self.hint, self.kept - place);
+            let back_by = self.kept - place;
+            let (_, made) = self.histories.recall(self.top, self.hint, back_by);
             Some(made)
         } else {
             None
@@ -82,7 +82,7 @@ impl Journal {
         ensures ok { IfOk result (λ list. list.items ≡ causes_of self.now) }
         ensures err { IfErr result (λ fault. fault ≡ JournalFault.Memory) }
     {
-        all_causes(&self.histories, self.top, self.hint, self.kept)
+        self.histories.all_causes(self.top, self.hint, self.kept)
     }
 
     /// The kept events from a node's step on, and what stands before them. It walks back from the newest down to the step, and
@@ -103,6 +103,7 @@ impl Journal {
         ensures short { IfOk result (λ since. since.before + length since.causes.items < 2 ^ 32) }
         ensures err { IfErr result (λ fault. fault ≡ JournalFault.Memory) }
     {
-        walk_down(&self.histories, self.top, self.hint, self.kept, from, other)
+        self.histories
+            .walk_down(self.top, self.hint, self.kept, from, other)
     }
 }

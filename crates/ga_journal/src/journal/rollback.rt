@@ -1,10 +1,6 @@
 //! What a rollback asks of a journal: marks, the nodes that wait, and entries taken back, each in one tick.
 
 use super::Journal;
-use crate::events::go_back;
-use crate::histories::count;
-use crate::looks::{has_looked, look_after};
-use crate::marks::{has_partner, partner};
 use crate::ticks::Ticks;
 use ga_grid::{Chip, NodeId};
 
@@ -38,7 +34,7 @@ impl Journal {
         ensures ticks { self.new ≡ ticked self.old }
     {
         self.ticks.raise();
-        partner(&self.histories, node, at)
+        self.histories.partner(node, at)
     }
 
     /// How many of a node's entries are to stay.
@@ -46,7 +42,7 @@ impl Journal {
         ensures value { result ≡ mark_of self.now node.number }
         ensures sound { AreMarks self.now }
     {
-        count(&self.histories, node) - self.going[node.index()]
+        self.histories.count(node) - self.going[node.index()]
     }
 
     /// The position of the newest look of `looker` that is to stay so far, where it came after an entry of `node` that is
@@ -58,13 +54,13 @@ impl Journal {
         ensures none { IfNone result (
             SawNoneToGo self.old node.number looker.number × IsSought self.old looker.number self.new) }
     {
-        if !has_looked(&self.histories, looker) {
+        if !self.histories.has_looked(looker) {
             return None;
         }
         let stay = self.mark_of(looker);
         let gone = self.mark_of(node);
         self.ticks.raise();
-        look_after(&self.histories, (looker, stay), (node, gone))
+        self.histories.look_after((looker, stay), (node, gone))
     }
 
     /// Lowers a node's mark: only its first `to` entries are to stay. The node waits from then on. One tick.
@@ -74,7 +70,7 @@ impl Journal {
         ensures { self.new ≡ lowered self.old node.number to }
     {
         self.ticks.raise();
-        let entries = count(&self.histories, node);
+        let entries = self.histories.count(node);
         self.going[node.index()] = entries - to;
         self.waiting.add(node);
     }
@@ -100,9 +96,9 @@ impl Journal {
         ensures { IsTakenBack self.old chip.old node.number self.new chip.new }
     {
         self.ticks.raise();
-        let act = go_back(&mut self.histories, chip, node);
+        let act = self.histories.go_back(chip, node);
         self.going[node.index()] -= 1;
-        if !has_partner(&self.histories, &act) {
+        if !self.histories.has_partner(&act) {
             self.kept -= 1;
         }
     }

@@ -9,12 +9,12 @@ use Rattle.ga_journal.proofs.Recalling.{WalkOf, walk_of, same_causes}
 use Rattle.ga_journal.proofs.journal.Journal.causes_since.Goals as goal
 
 pub walk_down-requires-clause-fits : goal.walk_down-requires-clause-fits
-walk_down-requires-clause-fits c n = fits c.self.inside.histories.items c.self.inside.top c.self.inside.made c.self.inside.kept c.self.inside.limit n c.self.invariant.keeps
+walk_down-requires-clause-fits c n = fits c.self.inside.histories c.self.inside.top c.self.inside.made c.self.inside.kept c.self.inside.limit n c.self.invariant.keeps
 
 pub walk_down-requires-clause-walk : goal.walk_down-requires-clause-walk
 walk_down-requires-clause-walk c =
-    let whole : IsWhole (lists_of c.self.inside.histories.items) c.self.inside.made = subst (λ (b : Book). IsWhole b.histories b.made) (sym c.self.view_is) c.requires.whole in
-    let w : WalkOf c.self.inside.histories.items c.self.inside.top c.self.inside.made c.self.inside.kept = walk_of c.self.inside.histories.items c.self.inside.top c.self.inside.made c.self.inside.kept c.self.inside.limit c.self.invariant.keeps whole in
+    let whole : IsWhole (lists_of c.self.inside.histories) c.self.inside.made = subst (λ (b : Book). IsWhole b.histories b.made) (sym c.self.view_is) c.requires.whole in
+    let w : WalkOf c.self.inside.histories c.self.inside.top c.self.inside.made c.self.inside.kept = walk_of c.self.inside.histories c.self.inside.top c.self.inside.made c.self.inside.kept c.self.inside.limit c.self.invariant.keeps whole in
     (w.log, w.long, w.below)
 
 pub walk_down-requires-clause-stands : goal.walk_down-requires-clause-stands
@@ -24,11 +24,11 @@ walk_down-requires-clause-stands c =
 
 pub returns-clause-ok : goal.returns-clause-ok
 returns-clause-ok c =
-    let whole : IsWhole (lists_of c.self.inside.histories.items) c.self.inside.made = subst (λ (b : Book). IsWhole b.histories b.made) (sym c.self.view_is) c.requires.whole in
-    let w : WalkOf c.self.inside.histories.items c.self.inside.top c.self.inside.made c.self.inside.kept = walk_of c.self.inside.histories.items c.self.inside.top c.self.inside.made c.self.inside.kept c.self.inside.limit c.self.invariant.keeps whole in
-    since_kept c.walk_down.result c.self.inside.histories.items c.self.inside.top c.self.inside.kept c.args.from.0.number c.args.from.1 c.args.other.number w.log (causes_of c.args.self.now) c.walk_down.ensures.ok w.long w.below
-    (same_causes c.self.inside.histories.items c.self.inside.top c.self.inside.made c.self.inside.kept w ∙ ap (λ (b : Book). causes_of b) c.self.view_is)
+    let whole : IsWhole (lists_of c.self.inside.histories) c.self.inside.made = subst (λ (b : Book). IsWhole b.histories b.made) (sym c.self.view_is) c.requires.whole in
+    let w : WalkOf c.self.inside.histories c.self.inside.top c.self.inside.made c.self.inside.kept = walk_of c.self.inside.histories c.self.inside.top c.self.inside.made c.self.inside.kept c.self.inside.limit c.self.invariant.keeps whole in
+    since_kept c.walk_down.result c.self.inside.histories c.self.inside.top c.self.inside.kept c.args.from.0.number c.args.from.1 c.args.other.number w.log (causes_of c.args.self.now) c.walk_down.ensures.ok w.long w.below
+    (same_causes c.self.inside.histories c.self.inside.top c.self.inside.made c.self.inside.kept w ∙ ap (λ (b : Book). causes_of b) c.self.view_is)
 
 pub returns-clause-short : goal.returns-clause-short
 returns-clause-short c =
-    since_short c.walk_down.result c.self.inside.histories.items c.self.inside.top c.self.inside.made c.self.inside.kept c.self.inside.limit c.self.invariant.keeps c.walk_down.ensures.short
+    since_short c.walk_down.result c.self.inside.histories c.self.inside.top c.self.inside.made c.self.inside.kept c.self.inside.limit c.self.invariant.keeps c.walk_down.ensures.short

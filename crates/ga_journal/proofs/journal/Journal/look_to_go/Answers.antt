@@ -15,7 +15,7 @@ returns-then-not-has_looked-clause-none c =
 
 pub returns-clause-none : goal.returns-clause-none
 returns-clause-none c =
-    let hs = lists_of c.self.inside.histories.items in
+    let hs = lists_of c.self.inside.histories in
     let now = c.args.self.now in
     let node = c.args.node.number in
     let looker = c.args.looker.number in
@@ -25,6 +25,6 @@ returns-clause-none c =
       subst (λ (b : Book). HasNoLookAfter (history b.histories looker) (mark_of now looker) (history b.histories node) (mark_of now node)) c.self.view_is
           (subst (λ z. HasNoLookAfter (history hs looker) z (history hs node) (mark_of now node)) c.mark_of-stay.ensures.value
           (subst (λ z. HasNoLookAfter (history hs looker) c.mark_of-stay.result (history hs node) z) c.mark_of-gone.ensures.value h)),
-      Once some (ap (λ z. let b : Book = record { histories = hs; limit = c.self.inside.limit; made = c.self.inside.made; ready = room_of c.self.inside.histories.items; going = c.self.inside.going; waiting = c.self.inside.waiting; ticks = z } in b) c.raise.ensures ∙ ap ticked c.self.view_is),
+      Once some (ap (λ z. let b : Book = record { histories = hs; limit = c.self.inside.limit; made = c.self.inside.made; ready = room_of c.self.inside.histories; going = c.self.inside.going; waiting = c.self.inside.waiting; ticks = z } in b) c.raise.ensures ∙ ap ticked c.self.view_is),
     ))
     c.look_after.ensures.none

@@ -14,22 +14,22 @@ pub make_event-made-requires-clause-fits : goal.make_event-made-requires-clause-
 make_event-made-requires-clause-fits c n =
     let room : length (kept_of c.args.self.now) < c.args.self.now.limit = c.requires.ready.unfilled in
     let unfilled = subst (λ (b : Book). length (kept_of b) < b.limit) (sym c.self.view_is) room in
-    let q = count_within (lists_of c.self.inside.histories.items) c.self.inside.top c.self.inside.made n c.self.invariant.keeps.rise c.self.invariant.keeps.below in
+    let q = count_within (lists_of c.self.inside.histories) c.self.inside.top c.self.inside.made n c.self.invariant.keeps.rise c.self.invariant.keeps.below in
     omega (arith, q, unfilled, c.self.invariant.keeps.fits)
 
 pub invariant_of-self : goal.invariant_of-self
 invariant_of-self c =
     let room : length (kept_of c.args.self.now) < c.args.self.now.limit = c.requires.ready.unfilled in
     let unfilled = subst (λ (b : Book). length (kept_of b) < b.limit) (sym c.self.view_is) room in
-    let size : length (lists_of c.self.inside.histories.items) ≡ 144 = length-map c.self.inside.histories.items pasts_of ∙ c.self.invariant.keeps.size in
+    let size : length (lists_of c.self.inside.histories) ≡ 144 = length-map c.self.inside.histories pasts_of ∙ c.self.invariant.keeps.size in
     let added = c.make_event-made.ensures.added in
     record {
-      keeps = append_keeps c.self.inside.histories.items c.make_event-made.new.histories.items c.self.inside.top c.self.inside.made c.self.inside.kept c.self.inside.limit c.args.event added.effect
+      keeps = append_keeps c.self.inside.histories c.make_event-made.new.self c.self.inside.top c.self.inside.made c.self.inside.kept c.self.inside.limit c.args.event added.effect
           c.self.invariant.keeps added.histories added.applied.of_kind (subst (λ z. z < c.self.inside.limit) (sym c.self.invariant.keeps.count) unfilled) c.make_event-made.ensures.size;
-      go_within = append_within (lists_of c.self.inside.histories.items) (lists_of c.make_event-made.new.histories.items) c.self.inside.made c.args.event added.effect c.self.inside.going added.histories added.applied.of_kind size c.self.invariant.go_within;
+      go_within = append_within (lists_of c.self.inside.histories) (lists_of c.make_event-made.new.self) c.self.inside.made c.args.event added.effect c.self.inside.going added.histories added.applied.of_kind size c.self.invariant.go_within;
       going_size = c.self.invariant.going_size;
       waiting_size = c.self.invariant.waiting_size;
-      matched = append_matched (lists_of c.self.inside.histories.items) (lists_of c.make_event-made.new.histories.items) c.self.inside.made c.args.event added.effect
+      matched = append_matched (lists_of c.self.inside.histories) (lists_of c.make_event-made.new.self) c.self.inside.made c.args.event added.effect
           (subst (λ (b : Book). IsWhole b.histories b.made) (sym c.self.view_is) c.requires.whole) added.histories added.applied.of_kind;
     }
 
@@ -39,11 +39,11 @@ returns-clause-made c = is_made _ c.args.self.now c.args.chip.now c.make_event-m
 pub returns-clause-whole : goal.returns-clause-whole
 returns-clause-whole c =
     let added = c.make_event-made.ensures.added in
-    whole_more (lists_of c.self.inside.histories.items) (lists_of c.make_event-made.new.histories.items) c.self.inside.made c.args.event added.effect
+    whole_more (lists_of c.self.inside.histories) (lists_of c.make_event-made.new.self) c.self.inside.made c.args.event added.effect
     (subst (λ (b : Book). IsWhole b.histories b.made) (sym c.self.view_is) c.requires.whole) added.applied.of_kind added.histories
 
 pub returns-clause-back : goal.returns-clause-back
 returns-clause-back c =
     let added = c.make_event-made.ensures.added in
-    back_more (lists_of c.self.inside.histories.items) (lists_of c.make_event-made.new.histories.items) c.make_event-made.new.chip c.self.inside.made c.args.event added.effect
+    back_more (lists_of c.self.inside.histories) (lists_of c.make_event-made.new.self) c.make_event-made.new.chip c.self.inside.made c.args.event added.effect
     (subst (λ (b : Book). IsWhole b.histories b.made) (sym c.self.view_is) c.requires.whole) added.applied.of_kind added.histories added.applied.ready

@@ -10,29 +10,29 @@ use Rattle.ga_journal.proofs.journal.Journal.undo.Goals as goal
 
 pub returns-in-None-clause-none : goal.returns-in-None-clause-none
 returns-in-None-clause-none c =
-    subst (λ (b : Book). kept_of b ≡ []) c.self.view_is (none_kept (lists_of c.self.inside.histories.items) c.self.inside.made c.in-None.ensures.none)
+    subst (λ (b : Book). kept_of b ≡ []) c.self.view_is (none_kept (lists_of c.self.inside.histories) c.self.inside.made c.in-None.ensures.none)
 
 pub overflow_sub-self : goal.overflow_sub-self
 overflow_sub-self c =
-    let back : TakesBack c.args.chip.now (lists_of c.self.inside.histories.items) c.self.inside.made = subst (λ (b : Book). TakesBack c.args.chip.now b.histories b.made) (sym c.self.view_is) c.requires.back in
-    kept_more back.log c.self.inside.histories.items c.self.inside.top c.self.inside.made c.self.inside.kept c.self.inside.limit c.last_stamp-stamp.result.0 c.self.invariant.keeps back.records
-    (newest_is back.log c.self.inside.made (lists_of c.self.inside.histories.items) c.in-Some.node c.last_stamp-stamp.result.0 back.records c.in-Some.ensures.some c.last_stamp-stamp.ensures)
+    let back : TakesBack c.args.chip.now (lists_of c.self.inside.histories) c.self.inside.made = subst (λ (b : Book). TakesBack c.args.chip.now b.histories b.made) (sym c.self.view_is) c.requires.back in
+    kept_more back.log c.self.inside.histories c.self.inside.top c.self.inside.made c.self.inside.kept c.self.inside.limit c.last_stamp-stamp.result.0 c.self.invariant.keeps back.records
+    (newest_is back.log c.self.inside.made (lists_of c.self.inside.histories) c.in-Some.node c.last_stamp-stamp.result.0 back.records c.in-Some.ensures.some c.last_stamp-stamp.ensures)
 
 pub invariant_of-self : goal.invariant_of-self
 invariant_of-self c =
-    let back : TakesBack c.args.chip.now (lists_of c.self.inside.histories.items) c.self.inside.made = subst (λ (b : Book). TakesBack c.args.chip.now b.histories b.made) (sym c.self.view_is) c.requires.back in
+    let back : TakesBack c.args.chip.now (lists_of c.self.inside.histories) c.self.inside.made = subst (λ (b : Book). TakesBack c.args.chip.now b.histories b.made) (sym c.self.view_is) c.requires.back in
     let settled : (n : ℕ) → get_or c.self.inside.going n 0 ≡ 0 = subst (λ (b : Book). (n : ℕ) → get_or b.going n 0 ≡ 0) (sym c.self.view_is) c.requires.rest.settled in
     let out = c.undo_event.ensures.undone in
     let newest = out.newest back.log c.self.inside.made back.records in
     record {
-      keeps = pop_keeps back.log c.self.inside.histories.items c.undo_event.new.histories.items c.self.inside.top c.self.inside.made c.self.inside.kept c.self.inside.limit c.last_stamp-stamp.result.0 c.undo_event.result out.effect
+      keeps = pop_keeps back.log c.self.inside.histories c.undo_event.new.self c.self.inside.top c.self.inside.made c.self.inside.kept c.self.inside.limit c.last_stamp-stamp.result.0 c.undo_event.result out.effect
           c.self.invariant.keeps back.records
-          (newest_is back.log c.self.inside.made (lists_of c.self.inside.histories.items) c.in-Some.node c.last_stamp-stamp.result.0 back.records c.in-Some.ensures.some c.last_stamp-stamp.ensures)
+          (newest_is back.log c.self.inside.made (lists_of c.self.inside.histories) c.in-Some.node c.last_stamp-stamp.result.0 back.records c.in-Some.ensures.some c.last_stamp-stamp.ensures)
           newest c.undo_event.ensures.size;
-      go_within = none_go (lists_of c.undo_event.new.histories.items) c.self.inside.going settled;
+      go_within = none_go (lists_of c.undo_event.new.self) c.self.inside.going settled;
       going_size = c.self.invariant.going_size;
       waiting_size = c.self.invariant.waiting_size;
-      matched = pop_matched back.log (lists_of c.self.inside.histories.items) (lists_of c.undo_event.new.histories.items) c.self.inside.made c.undo_event.result out.effect back.records newest;
+      matched = pop_matched back.log (lists_of c.self.inside.histories) (lists_of c.undo_event.new.self) c.self.inside.made c.undo_event.result out.effect back.records newest;
     }
 
 pub returns-in-Some-clause-some : goal.returns-in-Some-clause-some
@@ -43,13 +43,13 @@ returns-in-Some-clause-some c =
       effect = out.effect;
       popped = popped_by c.args.self.now _ c.undo_event.result out.effect whole
           (λ log made r. out.newest log made (subst (λ (b : Book). Records log b.histories made) (sym c.self.view_is) r))
-          (ap (λ (b : Book). let n : Book = record { histories = lists_of c.undo_event.new.histories.items; limit = b.limit; made = b.made; ready = room_of c.undo_event.new.histories.items; going = b.going; waiting = b.waiting; ticks = b.ticks } in n) c.self.view_is);
+          (ap (λ (b : Book). let n : Book = record { histories = lists_of c.undo_event.new.self; limit = b.limit; made = b.made; ready = room_of c.undo_event.new.self; going = b.going; waiting = b.waiting; ticks = b.ticks } in n) c.self.view_is);
       chip_is = out.chip_is;
     }
 
 pub returns-in-Some-clause-whole : goal.returns-in-Some-clause-whole
 returns-in-Some-clause-whole c =
-    let back : TakesBack c.args.chip.now (lists_of c.self.inside.histories.items) c.self.inside.made = subst (λ (b : Book). TakesBack c.args.chip.now b.histories b.made) (sym c.self.view_is) c.requires.back in
+    let back : TakesBack c.args.chip.now (lists_of c.self.inside.histories) c.self.inside.made = subst (λ (b : Book). TakesBack c.args.chip.now b.histories b.made) (sym c.self.view_is) c.requires.back in
     let out = c.undo_event.ensures.undone in
-    whole_less back.log (lists_of c.self.inside.histories.items) (lists_of c.undo_event.new.histories.items) c.self.inside.made c.undo_event.result out.effect
+    whole_less back.log (lists_of c.self.inside.histories) (lists_of c.undo_event.new.self) c.self.inside.made c.undo_event.result out.effect
     back.records (out.newest back.log c.self.inside.made back.records)

@@ -1,0 +1,34 @@
+use Rattle.std.proofs.Common.{◌-◌, refl, arith, length-set}
+use Rattle.std.specs.Prelude.{slice_index}
+use Rattle.ga_journal.specs.Histories.{lists_of}
+use Rattle.ga_journal.proofs.Rooms.{read_at}
+use Rattle.ga_journal.proofs.Cutting.{found_at, less_one, cut_some, cut_within, less_last, less_others, less_fits, less_count}
+use Rattle.ga_journal.proofs.histories.Histories.back_at.Goals as goal
+
+pub overflow_sub-len : goal.overflow_sub-len
+overflow_sub-len c = cut_some c.args.self.now c.args.lengths.now c.index-at.result c.args.node.number c.at-history.ensures.size c.told-lengths c.index-at.ensures.in_range c.index-at.ensures.value c.requires.some
+
+pub head-requires : goal.head-requires
+head-requires c =
+    let some = cut_some c.args.self.now c.args.lengths.now c.index-at.result c.args.node.number c.at-history.ensures.size c.told-lengths c.index-at.ensures.in_range c.index-at.ensures.value c.requires.some in
+    let within = cut_within c.args.self.now c.args.lengths.now c.index-at.result c.at-history.result.now c.at-history.ensures.size c.index-at.ensures.in_range (read_at _ c.index-at.result c.args.node.number _ c.at-history.ensures.size c.index-at.ensures.in_range c.index-at.ensures.value c.at-history.ensures.value) c.requires.fits in
+    omega (arith, some, within)
+
+pub returns : goal.returns
+returns c =
+    let vecs = c.args.self.now in
+    let lengths = c.args.lengths.now in
+    let some = cut_some vecs lengths c.index-at.result c.args.node.number c.at-history.ensures.size c.told-lengths c.index-at.ensures.in_range c.index-at.ensures.value c.requires.some in
+    let within = cut_within vecs lengths c.index-at.result c.at-history.result.now c.at-history.ensures.size c.index-at.ensures.in_range (read_at _ c.index-at.result c.args.node.number _ c.at-history.ensures.size c.index-at.ensures.in_range c.index-at.ensures.value c.at-history.ensures.value) c.requires.fits in
+    record {
+      entry = c.head.ensures.entry;
+      stamp = c.head.ensures.stamp;
+      act = c.head.ensures.act;
+      last = less_last vecs lengths c.index-at.result c.args.node.number _ c.at-history.result.now c.head.ensures.entry c.at-history.ensures.size c.told-lengths c.index-at.ensures.in_range c.index-at.ensures.value (read_at _ c.index-at.result c.args.node.number _ c.at-history.ensures.size c.index-at.ensures.in_range c.index-at.ensures.value c.at-history.ensures.value) refl
+          some within (found_at c.at-history.result.now.items (slice_index c.args.lengths.now c.index-at.result - 1) c.head.ensures.entry c.head.ensures.found);
+      others = less_others vecs lengths c.index-at.result c.args.node.number _ c.at-history.ensures.size c.told-lengths c.index-at.ensures.in_range c.index-at.ensures.value;
+      fits = λ n. less_fits (lists_of vecs) lengths c.index-at.result _ (rw c.told-lengths c.index-at.ensures.in_range) (omega arith) c.requires.fits n;
+      count = less_count vecs lengths c.index-at.result c.args.node.number _ c.at-history.ensures.size c.told-lengths c.index-at.ensures.in_range c.index-at.ensures.value (omega arith) c.requires.fits;
+      less = less_one lengths c.index-at.result c.args.node.number (rw c.told-lengths c.index-at.ensures.in_range) c.index-at.ensures.value some;
+      size = length-set lengths c.index-at.result _;
+    }

@@ -1,0 +1,28 @@
+use Rattle.std.proofs.Common.{◌<◌, subst, sym}
+use Rattle.ga_journal.specs.Histories.{bound_of}
+use Rattle.ga_journal.specs.Ends.{CanGoBack}
+use Rattle.ga_journal.proofs.Rooms.{history_read, popped_last, popped_others}
+use Rattle.ga_journal.proofs.histories.Histories.go_back.Goals as goal
+
+pub go_back-requires-clause-some : goal.go_back-requires-clause-some
+go_back-requires-clause-some c =
+    subst (λ z. 0 < bound_of z)
+    (sym (history_read _ c.args.node.number c.at_mut-history.result.now (rw c.at_mut-history.ensures.size c.args.node.in_range) c.at_mut-history.ensures.value))
+    c.requires.some
+
+pub go_back-requires-clause-can : goal.go_back-requires-clause-can
+go_back-requires-clause-can c =
+    subst (λ z. CanGoBack z c.args.chip.now c.args.node.number)
+    (sym (history_read _ c.args.node.number c.at_mut-history.result.now (rw c.at_mut-history.ensures.size c.args.node.in_range) c.at_mut-history.ensures.value))
+    c.requires.can
+
+pub returns-clause-back : goal.returns-clause-back
+returns-clause-back c = record {
+  entry = c.go_back.ensures.entry;
+  last = popped_last _ c.args.node.number c.at_mut-history.result.now c.go_back.new.self _ (rw c.at_mut-history.ensures.size c.args.node.in_range) c.at_mut-history.ensures.value c.go_back.ensures.last;
+  part = c.go_back.ensures.part;
+  node = c.go_back.ensures.node;
+}
+
+pub returns-clause-others : goal.returns-clause-others
+returns-clause-others c = popped_others _ c.args.node.number c.go_back.new.self (rw c.at_mut-history.ensures.size c.args.node.in_range)

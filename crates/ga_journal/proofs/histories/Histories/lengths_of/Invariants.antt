@@ -1,0 +1,7 @@
+use Rattle.std.proofs.Common.{◌≡◌, ◌<◌, ℕ, length}
+use Rattle.std.specs.Prelude.{slice_index}
+use Rattle.ga_journal.specs.Histories.{lists_of, history}
+use Rattle.ga_journal.proofs.histories.Histories.lengths_of.Given as goal
+
+abbrev pub invariant-loop-number : goal.invariant-loop-number
+invariant-loop-number l = (length l.lengths ≡ 144) × ((n : ℕ) → n < l.number → slice_index l.lengths n ≡ length (history (lists_of l.self) n))

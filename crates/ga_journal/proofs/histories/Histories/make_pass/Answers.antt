@@ -1,0 +1,17 @@
+use Rattle.std.proofs.Common.{◌+◌, ◌∙◌, ap, sym, Some}
+use Rattle.std.specs.Prelude.{Option}
+use Rattle.ga_event.specs.declared.event.Effect.TheVariants as effect
+use Rattle.ga_journal.specs.declared.made.Made.{Made}
+use Rattle.ga_journal.specs.declared.made.Made.TheVariants as made
+use Rattle.ga_journal.specs.Histories.{lists_of, history}
+use Rattle.std.specs.Prelude.{length}
+use Rattle.ga_journal.proofs.histories.Histories.make_pass.Goals as goal
+
+pub returns-clause-added : goal.returns-clause-added
+returns-clause-added c = record {
+  effect = effect.Pass c.apply_pass-word.result c.apply_pass-word.new.sent c.apply_pass-word.new.taken;
+  applied = c.apply_pass-word.ensures;
+  histories = c.push_pass.ensures.after;
+  told_is = ap (λ n. let o : Option Made = Some (made.Pass c.args.ends.0 (n + 1) c.args.ends.1 (length (history (lists_of c.args.self.now) c.args.ends.1.number) + 1) c.apply_pass-word.result) in o) (sym c.count-writer_step.ensures)
+      ∙ ap (λ n. let o : Option Made = Some (made.Pass c.args.ends.0 (c.count-writer_step.result + 1) c.args.ends.1 (n + 1) c.apply_pass-word.result) in o) (sym c.count-reader_step.ensures);
+}

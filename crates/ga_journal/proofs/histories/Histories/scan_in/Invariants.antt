@@ -1,0 +1,9 @@
+use Rattle.std.proofs.Common.{◌≡◌, ◌<◌, ◌≤◌, ℕ}
+use Rattle.ga_journal.specs.Histories.{lists_of, history, bound_of}
+use Rattle.ga_journal.specs.Cuts.{cut}
+use Rattle.ga_journal.proofs.histories.Histories.scan_in.Given as goal
+
+abbrev pub invariant-loop-number : goal.invariant-loop-number
+invariant-loop-number l =
+    (l.greatest ≡ bound_of (history (cut (lists_of l.self) l.lengths) l.best.number))
+    × ((m : ℕ) → m < l.number → bound_of (history (cut (lists_of l.self) l.lengths) m) ≤ l.greatest)

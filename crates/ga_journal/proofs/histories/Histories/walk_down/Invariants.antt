@@ -1,0 +1,15 @@
+use Rattle.std.proofs.Common.{◌≡◌, ◌+◌, ◌-◌, List, length}
+use Rattle.ga_journal.specs.Histories.{lists_of}
+use Rattle.ga_journal.specs.Logs.{Stamped, Records}
+use Rattle.ga_journal.proofs.Down.{IsDown}
+use Rattle.ga_journal.proofs.histories.Histories.walk_down.Given as goal
+
+-- the causes so far are those of the events walked, and the step stood before the last of them
+abbrev pub invariant-loop-lengths : goal.invariant-loop-lengths
+invariant-loop-lengths l =
+    ((log : List Stamped) → l.kept ≡ length log → Records log (lists_of l.self) l.fn.top →
+    IsDown (lists_of l.self) l.lengths l.top log l.from.0.number l.from.1 l.causes.items (l.kept - l.before))
+    × (length l.lengths ≡ 144) × (l.before + length l.causes.items ≡ l.kept)
+
+abbrev pub decreases-loop-lengths : goal.decreases-loop-lengths
+decreases-loop-lengths l = l.before

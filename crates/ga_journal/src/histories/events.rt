@@ -1,0 +1,344 @@
+//! Events that are added to the histories, and taken out of them.
+
+ghost use Rattle.std.specs.Prelude.{◌≡◌};
+ghost use Rattle.ga_event.specs.Undo.{own_effect};
+
+use super::Histories;
+use crate::entry::{Act, Pass, Role, Taken};
+use crate::made::Made;
+use ga_event::{Deed, Effect, Event, apply_pass};
+use ga_grid::{Chip, NodeId};
+use ga_node::Saved;
+use ga_ports::Side;
+use ga_word::Word18;
+
+/// A node that the event touches.
+#[inline(always)]
+pub(crate) fn node_of(event: Event) -> NodeId {
+    match event {
+        Event::Own(node) => node,
+        Event::Pass { writer, .. } => writer,
+    }
+}
+
+/// What a node's own event did, with the old values.
+fn effect_of(deed: Deed, saved: Saved) -> Effect
+    ensures { result ≡ own_effect deed saved }
+{
+    if deed.look {
+        Effect::Look(deed.kind, saved)
+    } else {
+        Effect::Own(deed.kind, saved)
+    }
+}
+
+impl Histories {
+    ghost use Rattle.std.specs.Prelude.{◌≡◌, ◌≢◌, ◌+◌, ◌<◌, ◌^◌, List, ◌∷◌, [], ◌++◌, ℕ, length, slice_set};
+    ghost use Rattle.std.specs.Prelude.{true, None};
+    ghost use Rattle.ga_node.specs.Record.{record_of};
+    ghost use Rattle.ga_node.specs.Table.{refusal};
+    ghost use Rattle.ga_grid.specs.Chip.{records_of, record_at, node_at};
+    ghost use Rattle.ga_event.specs.Apply.{refusal_of, is_open};
+    ghost use Rattle.ga_event.specs.Undo.{IsOfKind, own_effect};
+    ghost use Rattle.ga_journal.specs.Histories.{past, past_of, lists_of, room_of, has_room, has_pass_room, HasRoom};
+    ghost use Rattle.ga_journal.specs.Histories.{history, bound_of, pushed, appended};
+    ghost use Rattle.ga_journal.specs.Logs.{Stamped, Records, IsWhole};
+    ghost use Rattle.ga_journal.specs.Newest.{IsTopmost};
+    ghost use Rattle.ga_journal.specs.Popped.{IsNewest, TakesBack, IsTakenOut};
+    ghost use Rattle.ga_journal.specs.Stored.{act_with};
+    ghost use Rattle.ga_journal.specs.Ends.{CanGoBack, IsGoneBack};
+    ghost use Rattle.ga_journal.specs.Making.{IsAdded};
+
+    /// Adds an own event to one history.
+    #[inline(always)]
+    fn push_own(&mut self, node: NodeId, stamp: u64, deed: Deed, saved: Saved, before: NodeId)
+        requires room { has_room (room_of self.old) node.number }
+        requires fits { length (history (lists_of self.old) node.number) + 1 < 2 ^ 32 }
+        ensures after { lists_of self.new
+            ≡ pushed (lists_of self.old) node.number (past stamp (Act.Own deed) saved) }
+        ensures size { length self.new ≡ 144 }
+    {
+        let history = self.at_mut(node);
+        history.push_own(stamp, deed, saved, before);
+    }
+
+    /// Adds an end of a pass to one history.
+    fn push_end(
+        &mut self,
+        node: NodeId,
+        stamp: u64,
+        role: Role,
+        pass: Pass,
+        saved: Saved,
+        before: NodeId,
+    )
+        requires room { has_pass_room (room_of self.old) node.number }
+        requires fits { length (history (lists_of self.old) node.number) < 2 ^ 32 }
+        ensures after { lists_of self.new
+            ≡ pushed (lists_of self.old) node.number (past stamp (act_with role pass) saved) }
+        ensures others { (n : ℕ) → n ≢ node.number →
+            has_pass_room (room_of self.old) n → has_pass_room (room_of self.new) n }
+        ensures size { length self.new ≡ 144 }
+    {
+        let history = self.at_mut(node);
+        history.push_pass(stamp, role, pass, saved, before);
+    }
+
+    /// Takes the last entry of a history out.
+    #[inline(always)]
+    fn take_last(&mut self, node: NodeId) -> Taken
+        requires { 0 < bound_of (history (lists_of self.old) node.number) }
+        ensures last { history (lists_of self.old) node.number
+            ≡ history (lists_of self.new) node.number ++ past_of result ∷ [] }
+        ensures others { lists_of self.new
+            ≡ slice_set (lists_of self.old) node.number (history (lists_of self.new) node.number) }
+        ensures size { length self.new ≡ 144 }
+    {
+        let history = self.at_mut(node);
+        history.pop()
+    }
+
+    /// Writes the values of a node's last entry back, and takes the entry out.
+    #[inline(always)]
+    pub(crate) fn go_back(&mut self, chip: &mut Chip, node: NodeId) -> Act
+        requires some { 0 < bound_of (history (lists_of self.old) node.number) }
+        requires can { CanGoBack (history (lists_of self.old) node.number) chip.old node.number }
+        ensures back { IsGoneBack (history (lists_of self.old) node.number) chip.old node.number
+            (history (lists_of self.new) node.number) chip.new result }
+        ensures others { lists_of self.new
+            ≡ slice_set (lists_of self.old) node.number (history (lists_of self.new) node.number) }
+        ensures size { length self.new ≡ 144 }
+    {
+        let history = self.at_mut(node);
+        history.go_back(chip, node)
+    }
+
+    /// Takes the newest event out, in which the node had a part.
+    pub(crate) fn take_event(&mut self, node: NodeId) -> (Event, Effect)
+        requires topmost { IsTopmost (lists_of self.old) node.number }
+        requires whole { (made : ℕ) × IsWhole (lists_of self.old) made }
+        ensures size { length self.new ≡ 144 }
+        ensures newest { (log : List Stamped) (made : ℕ) → Records log (lists_of self.old) made →
+            IsNewest log result.0 result.1 (lists_of self.new) }
+    {
+        let Taken { act, saved, .. } = self.take_last(node);
+        match act {
+            Act::Own(deed) => (Event::Own(node), effect_of(deed, saved)),
+            Act::Sent { to, side, word, .. } => {
+                let other = self.take_last(to);
+                let event = Event::Pass {
+                    writer: node,
+                    reader: to,
+                    side,
+                };
+                let effect = Effect::Pass {
+                    word,
+                    writer: saved,
+                    reader: other.saved,
+                };
+                (event, effect)
+            }
+            Act::Took {
+                from,
+                side,
+                word,
+                ..
+            } => {
+                let other = self.take_last(from);
+                let event = Event::Pass {
+                    writer: from,
+                    reader: node,
+                    side,
+                };
+                let effect = Effect::Pass {
+                    word,
+                    writer: other.saved,
+                    reader: saved,
+                };
+                (event, effect)
+            }
+        }
+    }
+
+    /// Adds the two entries of a pass.
+    fn push_pass(
+        &mut self,
+        stamp: u64,
+        ends: (NodeId, NodeId),
+        side: Side,
+        word: Word18,
+        saved: (Saved, Saved),
+        before: NodeId,
+    )
+        requires room { HasRoom (room_of self.old) (Event.Pass ends.0 ends.1 side) }
+        requires two { ends.0.number ≢ ends.1.number }
+        requires fits { (n : ℕ) → length (history (lists_of self.old) n) < 2 ^ 32 }
+        ensures after { lists_of self.new ≡ appended (lists_of self.old) stamp
+            (Event.Pass ends.0 ends.1 side) (Effect.Pass word saved.0 saved.1) }
+        ensures size { length self.new ≡ 144 }
+    {
+        let (writer, reader) = ends;
+        let (sent, taken) = saved;
+        let here = Pass {
+            partner: reader,
+            side,
+            at: self.count(reader),
+            looked: 0,
+            word,
+        };
+        let there = Pass {
+            partner: writer,
+            side,
+            at: self.count(writer),
+            looked: 0,
+            word,
+        };
+        self.push_end(writer, stamp, Role::Writer, here, sent, before);
+        self.push_end(reader, stamp, Role::Reader, there, taken, before);
+    }
+
+    /// Adds the entries of an event.
+    #[inline(always)]
+    pub(crate) fn push_event(&mut self, stamp: u64, event: Event, effect: Effect, before: NodeId)
+        requires room { HasRoom (room_of self.old) event }
+        requires of_kind { IsOfKind event effect }
+        requires fits { (n : ℕ) → length (history (lists_of self.old) n) + 1 < 2 ^ 32 }
+        ensures after { lists_of self.new ≡ appended (lists_of self.old) stamp event effect }
+        ensures size { length self.new ≡ 144 }
+    {
+        match event {
+            Event::Own(node) => match effect {
+                Effect::Own(kind, saved) => {
+                    let deed = Deed { kind, look: false };
+                    self.push_own(node, stamp, deed, saved, before);
+                }
+                Effect::Look(kind, saved) => {
+                    let deed = Deed { kind, look: true };
+                    self.push_own(node, stamp, deed, saved, before);
+                }
+                Effect::Pass { .. } => unreachable!(),
+            },
+            Event::Pass {
+                writer,
+                reader,
+                side,
+            } => match effect {
+                Effect::Own(..) => unreachable!(),
+                Effect::Look(..) => unreachable!(),
+                Effect::Pass {
+                    word,
+                    writer: sent,
+                    reader: taken,
+                } => self.push_pass(stamp, (writer, reader), side, word, (sent, taken), before),
+            },
+        }
+    }
+
+    /// Makes an own event on the chip, with its entry.
+    #[inline(always)]
+    fn make_own(&mut self, chip: &mut Chip, node: NodeId, stamp: u64, before: NodeId) -> Made
+        requires ready { refusal (record_of (node_at chip.old node.number)) ≡ None }
+        requires room { has_room (room_of self.old) node.number }
+        requires fits { length (history (lists_of self.old) node.number) + 1 < 2 ^ 32 }
+        ensures added { IsAdded (lists_of self.old) chip.old stamp (Event.Own node) result
+            (lists_of self.new) chip.new }
+        ensures size { length self.new ≡ 144 }
+    {
+        let step = self.count(node) + 1;
+        let history = self.at_mut(node);
+        let deed = history.make_own(chip, node, stamp, before);
+        Made::Own {
+            node,
+            step,
+            kind: deed.kind,
+        }
+    }
+
+    /// Makes a pass on the chip, with its two entries.
+    fn make_pass(
+        &mut self,
+        chip: &mut Chip,
+        ends: (NodeId, NodeId),
+        side: Side,
+        stamp: u64,
+        before: NodeId,
+    ) -> Made
+        requires open { is_open ends.0.number ends.1.number side
+            (record_at (records_of chip.old) ends.0.number).wait
+            (record_at (records_of chip.old) ends.1.number).wait ≡ true }
+        requires room { HasRoom (room_of self.old) (Event.Pass ends.0 ends.1 side) }
+        requires fits { (n : ℕ) → length (history (lists_of self.old) n) + 1 < 2 ^ 32 }
+        ensures added { IsAdded (lists_of self.old) chip.old stamp
+            (Event.Pass ends.0 ends.1 side) result (lists_of self.new) chip.new }
+        ensures size { length self.new ≡ 144 }
+    {
+        let (writer, reader) = ends;
+        let writer_step = self.count(writer) + 1;
+        let reader_step = self.count(reader) + 1;
+        let mut sent = Saved::new();
+        let mut taken = Saved::new();
+        let word = apply_pass(chip, writer, reader, side, &mut sent, &mut taken);
+        self.push_pass(stamp, ends, side, word, (sent, taken), before);
+        Made::Pass {
+            writer,
+            writer_step,
+            reader,
+            reader_step,
+            word,
+        }
+    }
+
+    /// Makes an event on the chip, with its entries.
+    #[inline(always)]
+    pub(crate) fn make_event(
+        &mut self,
+        chip: &mut Chip,
+        event: Event,
+        stamp: u64,
+        before: NodeId,
+    ) -> Made
+        requires can { refusal_of (records_of chip.old) event ≡ None }
+        requires room { HasRoom (room_of self.old) event }
+        requires fits { (n : ℕ) → length (history (lists_of self.old) n) + 1 < 2 ^ 32 }
+        ensures added { IsAdded (lists_of self.old) chip.old stamp event result
+            (lists_of self.new) chip.new }
+        ensures size { length self.new ≡ 144 }
+    {
+        match event {
+            Event::Own(node) => self.make_own(chip, node, stamp, before),
+            Event::Pass {
+                writer,
+                reader,
+                side,
+            } => self.make_pass(chip, (writer, reader), side, stamp, before),
+        }
+    }
+
+    /// Takes the newest event back on the chip, in which the node had a part, and its entries out.
+    pub(crate) fn undo_event(&mut self, chip: &mut Chip, node: NodeId) -> Event
+        requires topmost { IsTopmost (lists_of self.old) node.number }
+        requires back { (made : ℕ) × TakesBack chip.old (lists_of self.old) made }
+        ensures size { length self.new ≡ 144 }
+        ensures undone { IsTakenOut (lists_of self.old) chip.old result (lists_of self.new) chip.new }
+    {
+        match self.go_back(chip, node) {
+            Act::Own(_) => Event::Own(node),
+            Act::Sent { to, side, .. } => {
+                let _ = self.go_back(chip, to);
+                Event::Pass {
+                    writer: node,
+                    reader: to,
+                    side,
+                }
+            }
+            Act::Took { from, side, .. } => {
+                let _ = self.go_back(chip, from);
+                Event::Pass {
+                    writer: from,
+                    reader: node,
+                    side,
+                }
+            }
+        }
+    }
+}

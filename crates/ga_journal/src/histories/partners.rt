@@ -1,0 +1,53 @@
+//! The other entry of a pass.
+
+ghost use Rattle.std.specs.Prelude.{◌≡◌};
+ghost use Rattle.ga_journal.specs.Marks.{partner_of, named};
+
+use super::Histories;
+use crate::entry::Act;
+use ga_grid::NodeId;
+
+/// The node and the position that an act names.
+fn named_by(act: &Act) -> Option<(NodeId, u32)>
+    ensures { named result ≡ partner_of act.now }
+{
+    match act {
+        Act::Own(_) => None,
+        Act::Sent { to, at, .. } => Some((*to, *at)),
+        Act::Took { from, at, .. } => Some((*from, *at)),
+    }
+}
+
+impl Histories {
+    ghost use Rattle.std.specs.Prelude.{◌≡◌, ◌<◌, ℕ, length, nat_lt, slice_index};
+    ghost use Rattle.ga_journal.specs.Histories.{lists_of, history};
+    ghost use Rattle.ga_journal.specs.Marks.{partner_of, named, partner_at, has_partner};
+
+    /// The other entry of the pass of the entry at a position.
+    pub(crate) fn partner(&self, node: NodeId, at: u32) -> Option<(NodeId, u32)>
+        requires there { at < length (history (lists_of self.now) node.number) }
+        ensures { named result ≡ partner_at (lists_of self.now) node.number at }
+    {
+        let history = self.at(node);
+        named_by(&history.head(at as usize).act)
+    }
+
+    /// Whether a history is longer than this.
+    fn is_past(&self, node: NodeId, at: u32) -> bool
+        ensures { result ≡ nat_lt at (length (history (lists_of self.now) node.number)) }
+    {
+        let history = self.at(node);
+        (at as usize) < history.len()
+    }
+
+    /// Whether the other entry of its pass is there.
+    pub(crate) fn has_partner(&self, act: &Act) -> bool
+        ensures { result ≡ has_partner (lists_of self.now) act.now }
+    {
+        match act {
+            Act::Own(_) => false,
+            Act::Sent { to, at, .. } => self.is_past(*to, *at),
+            Act::Took { from, at, .. } => self.is_past(*from, *at),
+        }
+    }
+}

@@ -1,0 +1,285 @@
+//! Walking back over the kept events, from the newest on, without taking anything out.
+
+ghost use Rattle.std.specs.Prelude.{◌≡◌, ◌++◌, ◌∷◌, [], false, OnOk, IfErr};
+
+use super::Histories;
+use crate::entry::{Act, Head};
+use crate::fault::JournalFault;
+use crate::made::Made;
+use crate::since::Since;
+use ga_event::{Cause, Deed, Event};
+use ga_grid::{NODES, NodeId};
+use ga_ports::Side;
+use ga_word::Word18;
+use std::alloc::Global;
+
+// For so many causes room is made at first, so that a short walk makes one growth.
+const FIRST_ROOM: usize = 64;
+
+/// Puts a cause at the end of a list.
+fn add(causes: &mut Vec<Cause>, cause: Cause) -> Result<(), JournalFault>
+    ensures ok { OnOk result (causes.new.items ≡ causes.old.items ++ cause ∷ []) }
+    ensures err { IfErr result (λ fault. fault ≡ JournalFault.Memory) }
+{
+    match causes.push(cause) {
+        Ok(()) => Ok(()),
+        Err(_) => Err(JournalFault::Memory),
+    }
+}
+
+/// A node's own event, with what is told of it.
+#[inline(always)]
+fn own(node: NodeId, step: u32, deed: Deed) -> (Cause, Made)
+    ensures { result ≡ (record { event = Event.Own node; look = deed.look }, Made.Own node step deed.kind) }
+{
+    let Deed { kind, look } = deed;
+    let event = Event::Own(node);
+    (Cause { event, look }, Made::Own { node, step, kind })
+}
+
+/// A pass, which looks at nothing, with what is told of it.
+#[inline(always)]
+fn passed(ends: (NodeId, NodeId), steps: (u32, u32), side: Side, word: Word18) -> (Cause, Made)
+    ensures { result ≡ (
+      record { event = Event.Pass ends.0 ends.1 side; look = false },
+      Made.Pass ends.0 steps.0 ends.1 steps.1 word,
+    ) }
+{
+    let (writer, reader) = ends;
+    let (writer_step, reader_step) = steps;
+    let event = Event::Pass {
+        writer,
+        reader,
+        side,
+    };
+    let made = Made::Pass {
+        writer,
+        writer_step,
+        reader,
+        reader_step,
+        word,
+    };
+    (Cause { event, look: false }, made)
+}
+
+impl Histories {
+    ghost use Rattle.std.specs.Prelude.{◌≡◌, ◌-◌, ◌<◌, ◌≤◌, ◌^◌, ℕ, List, length, drop, slice_index, false, IfOk, IfErr};
+    ghost use Rattle.ga_journal.specs.Histories.{lists_of, history, AllRise, bound_of};
+    ghost use Rattle.ga_journal.specs.Logs.{Stamped, Records};
+    ghost use Rattle.ga_journal.specs.Newest.{IsLatest};
+    ghost use Rattle.ga_journal.specs.Cuts.{cut, older_causes, WalksBack, IsCutWithin, IsShorter, IsFirst, IsWalked};
+    ghost use Rattle.std.specs.Prelude.{◌≡◌, ◌+◌, ◌<◌, ◌≤◌, ◌^◌, ℕ, List, [], ◌∷◌, ◌++◌, length, OnOk, IfOk, IfErr};
+    ghost use Rattle.ga_journal.specs.Histories.{lists_of, history};
+    ghost use Rattle.ga_journal.specs.Cuts.{older_causes};
+    ghost use Rattle.ga_journal.specs.Since.{IsSince};
+
+    /// How many entries each node has.
+    pub(crate) fn lengths_of(&self) -> [u32; 144]
+        requires fits { (n : ℕ) → length (history (lists_of self.now) n) < 2 ^ 32 }
+        ensures lengths { (n : ℕ) → n < 144 → slice_index result n ≡ length (history (lists_of self.now) n) }
+        ensures all { length result ≡ 144 }
+        ensures nodes { length self.now ≡ 144 }
+    {
+        prove!(self.nodes.as_slice().len() == NODES);
+        let mut lengths = [0u32; 144];
+        for number in 0..144u8 {
+            lengths[number as usize] = self.count(NodeId::new(number));
+        }
+        lengths
+    }
+
+    /// The least number above the stamps of a node's first entries.
+    #[inline(always)]
+    fn bound_in(&self, lengths: &[u32; 144], node: NodeId, top: u64) -> u64
+        requires fits { IsCutWithin (lists_of self.now) lengths.now }
+        requires rise { AllRise (cut (lists_of self.now) lengths.now) top }
+        ensures value { result ≡ bound_of (history (cut (lists_of self.now) lengths.now) node.number) }
+        ensures within { result ≤ top }
+        ensures nodes { length self.now ≡ 144 }
+    {
+        let history = self.at(node);
+        let len = lengths[node.index()] as usize;
+        if len == 0 {
+            return 0;
+        }
+        history.head(len - 1).stamp + 1
+    }
+
+    /// The node whose last entry so far has the greatest stamp of all.
+    #[inline(never)]
+    fn scan_in(&self, lengths: &[u32; 144], top: u64) -> NodeId
+        requires fits { IsCutWithin (lists_of self.now) lengths.now }
+        requires rise { AllRise (cut (lists_of self.now) lengths.now) top }
+        ensures { IsLatest (cut (lists_of self.now) lengths.now) result.number }
+    {
+        let mut best = NodeId::new(0);
+        let mut greatest = self.bound_in(lengths, best, top);
+        for number in 1..144u8 {
+            let node = NodeId::new(number);
+            let here = self.bound_in(lengths, node, top);
+            if here > greatest {
+                greatest = here;
+                best = node;
+            }
+        }
+        best
+    }
+
+    /// A node that had a part in the newest event so far.
+    #[inline(always)]
+    fn newest_in(&self, lengths: &[u32; 144], top: u64, hint: NodeId) -> NodeId
+        requires fits { IsCutWithin (lists_of self.now) lengths.now }
+        requires rise { AllRise (cut (lists_of self.now) lengths.now) top }
+        ensures { IsLatest (cut (lists_of self.now) lengths.now) result.number }
+    {
+        if self.bound_in(lengths, hint, top) == top {
+            return hint;
+        }
+        self.scan_in(lengths, top)
+    }
+
+    /// What the last of a node's first entries tells. They are one less from now on.
+    #[inline(always)]
+    fn back_at(&self, lengths: &mut [u32; 144], node: NodeId) -> Head
+        requires fits { IsCutWithin (lists_of self.now) lengths.old }
+        requires some { 0 < bound_of (history (cut (lists_of self.now) lengths.old) node.number) }
+        ensures { IsShorter (lists_of self.now) lengths.old node.number lengths.new result }
+    {
+        let history = self.at(node);
+        let at = node.index();
+        let len = lengths[at] - 1;
+        lengths[at] = len;
+        history.head(len as usize)
+    }
+
+    /// Walks back over the newest event so far, and tells of it.
+    pub(crate) fn back(
+        &self,
+        lengths: &mut [u32; 144],
+        top: &mut u64,
+        hint: &mut NodeId,
+    ) -> (Cause, Made)
+        requires { (log : List Stamped) × (0 < length log)
+            × WalksBack (lists_of self.now) lengths.old top.old log }
+        ensures first { (log : List Stamped) →
+            WalksBack (lists_of self.now) lengths.old top.old log → IsFirst log result.0 result.1 }
+        ensures left { (log : List Stamped) →
+            WalksBack (lists_of self.now) lengths.old top.old log →
+            IsWalked (lists_of self.now) lengths.new top.new log }
+        ensures size { length lengths.new ≡ 144 }
+    {
+        let node = self.newest_in(lengths, *top, *hint);
+        let step = lengths[node.index()];
+        let entry = self.back_at(lengths, node);
+        *top = entry.stamp;
+        *hint = entry.before;
+        let Head { act, .. } = entry;
+        match act {
+            Act::Own(deed) => own(node, step, deed),
+            Act::Sent { to, side, word, .. } => {
+                let reader_step = lengths[to.index()];
+                let _other = self.back_at(lengths, to);
+                passed((node, to), (step, reader_step), side, word)
+            }
+            Act::Took {
+                from,
+                side,
+                word,
+                ..
+            } => {
+                let writer_step = lengths[from.index()];
+                let _other = self.back_at(lengths, from);
+                passed((from, node), (writer_step, step), side, word)
+            }
+        }
+    }
+
+    /// The event so many from the newest one on, counted from 1, with what is told of it.
+    pub(crate) fn recall(&self, top: u64, hint: NodeId, back_by: u32) -> (Cause, Made)
+        requires fits { (n : ℕ) → length (history (lists_of self.now) n) < 2 ^ 32 }
+        requires some { 0 < back_by }
+        requires walk { (log : List Stamped) × (back_by ≤ length log)
+            × Records log (lists_of self.now) top }
+        ensures { (log : List Stamped) → back_by ≤ length log →
+            Records log (lists_of self.now) top →
+            IsFirst (drop (back_by - 1) log) result.0 result.1 }
+    {
+        let mut lengths = self.lengths_of();
+        let mut top = top;
+        let mut hint = hint;
+        for _ in 1..back_by {
+            self.back(&mut lengths, &mut top, &mut hint);
+        }
+        self.back(&mut lengths, &mut top, &mut hint)
+    }
+
+    /// The events of a log of this length, in order, each with whether it looked.
+    pub(crate) fn all_causes(
+        &self,
+        top: u64,
+        hint: NodeId,
+        kept: u32,
+    ) -> Result<Vec<Cause>, JournalFault>
+        requires fits { (n : ℕ) → length (history (lists_of self.now) n) < 2 ^ 32 }
+        requires walk { (log : List Stamped) × (kept ≡ length log) × Records log (lists_of self.now) top }
+        ensures ok { IfOk result (λ list. (log : List Stamped) → kept ≡ length log →
+            Records log (lists_of self.now) top → list.items ≡ older_causes log) }
+        ensures err { IfErr result (λ fault. fault ≡ JournalFault.Memory) }
+    {
+        let mut list = Vec::new(self.alloc());
+        if list.reserve(kept as usize).is_err() {
+            return Err(JournalFault::Memory);
+        }
+        let mut lengths = self.lengths_of();
+        let mut top = top;
+        let mut hint = hint;
+        for _ in 0..kept {
+            let (cause, _) = self.back(&mut lengths, &mut top, &mut hint);
+            list.push_reserved(cause);
+        }
+        list.reverse();
+        Ok(list)
+    }
+
+    /// Walks back over a log of this length, down to a step that stands, and tells what it passed.
+    pub(crate) fn walk_down(
+        &self,
+        top: u64,
+        hint: NodeId,
+        kept: u32,
+        from: (NodeId, u32),
+        other: NodeId,
+    ) -> Result<Since, JournalFault>
+        requires fits { (n : ℕ) → length (history (lists_of self.now) n) < 2 ^ 32 }
+        requires walk { (log : List Stamped) × (kept ≡ length log) × Records log (lists_of self.now) top }
+        requires counted { 0 < from.1 }
+        requires stands { from.1 ≤ length (history (lists_of self.now) from.0.number) }
+        ensures ok { IfOk result (λ since. (log : List Stamped) → kept ≡ length log →
+            Records log (lists_of self.now) top →
+            IsSince (older_causes log) from.0.number from.1 other.number since.causes.items since.before since.steps) }
+        ensures short { IfOk result (λ since. since.before + length since.causes.items ≡ kept) }
+        ensures err { IfErr result (λ fault. fault ≡ JournalFault.Memory) }
+    {
+        let at = from.0.index();
+        let mut causes = Vec::new(self.alloc());
+        if causes.reserve(FIRST_ROOM).is_err() {
+            return Err(JournalFault::Memory);
+        }
+        let mut lengths = self.lengths_of();
+        let mut top = top;
+        let mut hint = hint;
+        let mut before = kept;
+        while lengths[at] >= from.1 {
+            let (cause, _) = self.back(&mut lengths, &mut top, &mut hint);
+            add(&mut causes, cause)?;
+            before -= 1;
+        }
+        causes.reverse();
+        let steps = lengths[other.index()];
+        Ok(Since {
+            causes,
+            before,
+            steps,
+        })
+    }
+}
