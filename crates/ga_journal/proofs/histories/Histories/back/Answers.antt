@@ -1,4 +1,4 @@
-use Rattle.std.proofs.Common.{◌+◌, ◌∙◌, true, false, refl, sym, ap}
+use Rattle.std.proofs.Common.{◌+◌, ◌∙◌, refl, sym, ap}
 use Rattle.std.specs.Prelude.{slice_index}
 use Rattle.ga_journal.specs.Histories.{lists_of, history, bound_of}
 use Rattle.ga_journal.specs.Newest.{IsTopmost}

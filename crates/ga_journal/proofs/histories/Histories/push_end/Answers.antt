@@ -1,4 +1,3 @@
-use Rattle.std.proofs.Common.{◌∙◌}
 use Rattle.ga_journal.proofs.Rooms.{lists_pushed, pass_room_others}
 use Rattle.ga_journal.proofs.histories.Histories.push_end.Goals as goal
 
