@@ -8,8 +8,7 @@ use Rattle.std.proofs.lemmas.Grind.{flat_map-append}
 use Rattle.std.proofs.lemmas.Bool.Decides.{nat_tests}
 use Rattle.ga_image.specs.Lines.{lines_of}
 use Rattle.ga_console.specs.Lines.{ended, text_of, ended_lines, HasNoFeed}
-use Rattle.ga_lab.specs.Machine.{State}
-use Rattle.ga_console.specs.Replies.{Answer, quit_line}
+use Rattle.ga_console.specs.Turns.{Answering, quit_line}
 use Rattle.ga_console.specs.Session.{Answers, HasNoQuit, heard_lines, HearsWholeLines, QuitsAfter, Serves, ServesToEnd, ServesToQuit, ServesToBound, ServesToFault, ServesCut}
 use Rattle.ga_console.specs.Texts.{no_input}
 use Rattle.ga_console.specs.declared.commands.Ending.{Ending}
@@ -26,37 +25,39 @@ all_push : (P : List ℕ → Type 0) (lines : List (List ℕ)) (line : List ℕ)
 all_push P [] line h p = (p, tt)
 all_push P (l ∷ ls) line h p = (h.0, all_push P ls line h.1 p)
 
--- the answers so far, and the machine after them
-pub AnswersTo : State → List (List ℕ) → List ℕ → State → Type 0
-AnswersTo m [] text new = (text ≡ []) × (new ≡ m)
-AnswersTo m (line ∷ lines) text new = (answer : List ℕ) × (next : State) × (more : List ℕ) × Answer m line answer next × AnswersTo next lines more new × (text ≡ answer ++ more)
-
-answers_from : (m : State) (lines : List (List ℕ)) (text : List ℕ) (new : State) → AnswersTo m lines text new → Answers m lines text
-unfolding AnswersTo
-answers_from m [] text new h = h.0
-answers_from m (line ∷ lines) text new h = (h.0, h.1, h.2, h.3, answers_from h.1 lines h.2 new h.4, h.5)
-
-answers_push : (m : State) (lines : List (List ℕ)) (text : List ℕ) (next : State) (line answer : List ℕ) (new : State)
-    → AnswersTo m lines text next → Answer next line answer new → AnswersTo m (lines ++ line ∷ []) (text ++ answer) new
-unfolding AnswersTo
-answers_push m [] text next line answer new h a =
-    let P : State → Type 0 = λ s. Answer s line answer new in
+answers_push : {M : Type 0} (A : Answering M) (m : M) (lines : List (List ℕ)) (text : List ℕ) (next : M) (line answer : List ℕ) (new : M)
+    → Answers A m lines text next → A next line answer new → Answers A m (lines ++ line ∷ []) (text ++ answer) new
+answers_push {M} A m [] text next line answer new h a =
+    let P : M → Type 0 = λ s. A s line answer new in
     (answer, new, [], subst P h.1 a, (refl, refl), ap (λ (t : List ℕ). t ++ answer) h.0 ∙ sym (append-nil answer))
-answers_push m (l ∷ ls) text next line answer new h a =
-    (h.0, h.1, h.2 ++ answer, h.3, answers_push h.1 ls h.2 next line answer new h.4 a, ap (λ (t : List ℕ). t ++ answer) h.5 ∙ append_assoc h.0 h.2 answer)
+answers_push A m (l ∷ ls) text next line answer new h a =
+    (h.0, h.1, h.2 ++ answer, h.3, answers_push A h.1 ls h.2 next line answer new h.4 a, ap (λ (t : List ℕ). t ++ answer) h.5 ∙ append_assoc h.0 h.2 answer)
 
 -- what was heard of the whole, and what is left of it
-pub record Heard (first : State) (whole : List ℕ) (start : ℕ) (left : List ℕ) (taken : ℕ) (text : List ℕ) (m : State) : Type 0 where
+pub record Heard {M : Type 0} (A : Answering M) (first : M) (whole : List ℕ) (start : ℕ) (left : List ℕ) (taken : ℕ) (text : List ℕ) (m : M) : Type 0 where
   pub lines : List (List ℕ)
   pub splits : whole ≡ text_of lines ++ left
   pub feeds : AllByRecursion HasNoFeed lines
   pub no_quit : HasNoQuit lines
-  pub answers : AnswersTo first lines text m
+  pub answers : Answers A first lines text m
   pub counts : taken ≡ start + length (text_of lines)
 
-pub heard_none : (m : State) (whole : List ℕ) (start : ℕ) → Heard m whole start whole start [] m
-unfolding AnswersTo
-heard_none m whole start = record { lines = []; splits = refl; feeds = tt; no_quit = tt; answers = (refl, refl); counts = omega arith }
+pub heard_none : {M : Type 0} (A : Answering M) (m : M) (whole : List ℕ) (start : ℕ) → Heard A m whole start whole start [] m
+heard_none A m whole start = record { lines = []; splits = refl; feeds = tt; no_quit = tt; answers = (refl, refl); counts = omega arith }
+
+-- the same machine under another name
+pub heard_same : {M : Type 0} {A : Answering M} {first : M} {whole : List ℕ} {start : ℕ} {left : List ℕ} {taken : ℕ} {text : List ℕ} {m : M}
+    → Heard A first whole start left taken text m → (last : M) → last ≡ m → Heard A first whole start left taken text last
+heard_same {M} {A} {first} {whole} {start} {left} {taken} {text} {m} h last e =
+    let P : M → Type 0 = λ s. Answers A first h.lines text s in
+    record {
+      lines = h.lines;
+      splits = h.splits;
+      feeds = h.feeds;
+      no_quit = h.no_quit;
+      answers = subst P (sym e) h.answers;
+      counts = h.counts;
+    }
 
 le-true : (a b : ℕ) → a ≤ b → nat_le a b ≡ true
 le-true a b h = grind (arith, nat_tests)
@@ -90,9 +91,9 @@ whole_quit room read rest heard after short (inl e) = inr (quit_line ∷ after, 
 whole_quit room read rest heard after short (inr e) = inl e.0
 
 -- Where a write failed at last, what was said stands in the script.
-pub cut_short : (room : ℕ) (m : State) (read rest text : List ℕ) (ending : Result Ending WriteFailed)
-    → Serves room m read rest text ending → ServesCut room m read rest text
-cut_short room m read rest text (Ok Ended) s = record {
+pub cut_short : {M : Type 0} (A : Answering M) (room : ℕ) (m : M) (read rest text : List ℕ) (last : M) (ending : Result Ending WriteFailed)
+    → Serves A room m read rest text last ending → ServesCut A room m read rest text last
+cut_short A room m read rest text last (Ok Ended) s = record {
   heard = lines_of read;
   after = [];
   front = heard_within room read s.within ∙ sym (append-nil (lines_of read));
@@ -100,7 +101,7 @@ cut_short room m read rest text (Ok Ended) s = record {
   script = inl s.answers;
   whole = inl s.at_end;
 }
-cut_short room m read rest text (Ok Quit) s =
+cut_short A room m read rest text last (Ok Quit) s =
     let behind = behind_quit read rest s.heard s.after s.quits in
     record {
       heard = s.heard;
@@ -110,7 +111,7 @@ cut_short room m read rest text (Ok Quit) s =
       script = inl s.answers;
       whole = whole_quit room read rest s.heard s.after s.within s.quits;
     }
-cut_short room m read rest text (Ok Past) s =
+cut_short A room m read rest text last (Ok Past) s =
     let long : room < length read = omega (arith, s.over) in
     record {
       heard = ended_lines (take room read);
@@ -120,7 +121,7 @@ cut_short room m read rest text (Ok Past) s =
       script = inr (long, refl, s.said, s.answers, s.told);
       whole = inr ([], sym (append-nil (ended_lines (take room read))));
     }
-cut_short room m read rest text (Ok ReadFailed) s =
+cut_short A room m read rest text last (Ok ReadFailed) s =
     let more = more_lines read in
     record {
       heard = ended_lines read;
@@ -130,10 +131,10 @@ cut_short room m read rest text (Ok ReadFailed) s =
       script = inl s.answers;
       whole = inr ([], ap ended_lines (take_all room read s.within) ∙ sym (append-nil (ended_lines read)));
     }
-cut_short room m read rest text (Err failed) s = s
+cut_short A room m read rest text last (Err failed) s = s
 
-module _ {first : State} {whole : List ℕ} {start : ℕ} {left : List ℕ} {taken : ℕ} {text : List ℕ} {m : State}
-    (h : Heard first whole start left taken text m) where
+module _ {M : Type 0} {A : Answering M} {first : M} {whole : List ℕ} {start : ℕ} {left : List ℕ} {taken : ℕ} {text : List ℕ} {m : M}
+    (h : Heard A first whole start left taken text m) where
   -- what was read, up to the end of these bytes
   pub read_to : List ℕ → List ℕ
   read_to bytes = text_of h.lines ++ bytes
@@ -147,19 +148,19 @@ module _ {first : State} {whole : List ℕ} {start : ℕ} {left : List ℕ} {tak
   length_to bytes = length-append (text_of h.lines) bytes
 
   -- one line more was heard
-  pub heard_push : (part more : List ℕ) (now : ℕ) (answer : List ℕ) (new : State) → left ≡ part ++ 10 ∷ more → HasNoFeed part
-      → now ≡ taken + length part + 1 → Answer m part answer new → part ≢ quit_line → Heard first whole start more now (text ++ answer) new
+  pub heard_push : (part more : List ℕ) (now : ℕ) (answer : List ℕ) (new : M) → left ≡ part ++ 10 ∷ more → HasNoFeed part
+      → now ≡ taken + length part + 1 → A m part answer new → part ≢ quit_line → Heard A first whole start more now (text ++ answer) new
   heard_push part more now answer new e none counts a other = record {
     lines = h.lines ++ part ∷ [];
     splits = h.splits ∙ ap (λ (l : List ℕ). text_of h.lines ++ l) e ∙ text_push h.lines part more;
     feeds = all_push HasNoFeed h.lines part h.feeds none;
     no_quit = all_push (λ l. l ≢ quit_line) h.lines part h.no_quit other;
-    answers = answers_push first h.lines text m part answer new h.answers a;
+    answers = answers_push A first h.lines text m part answer new h.answers a;
     counts = omega (arith, h.counts, counts, ap length (sym (text_push h.lines part [])), length-append (text_of h.lines) (part ++ 10 ∷ []), length-append part (10 ∷ []), length-append (text_of (h.lines ++ part ∷ [])) []);
   }
 
   -- A write failed: the lines heard were answered.
-  pub heard_cut : (bytes rest : List ℕ) → taken + length bytes ≤ 16777216 → ServesCut (16777216 - start) first (read_to bytes) rest text
+  pub heard_cut : (bytes rest : List ℕ) → taken + length bytes ≤ 16777216 → ServesCut A (16777216 - start) first (read_to bytes) rest text m
   unfolding read_to
   heard_cut bytes rest within =
       let short : length (read_to bytes) ≤ 16777216 - start = omega (arith, within, length_to bytes, h.counts) in
@@ -168,36 +169,36 @@ module _ {first : State} {whole : List ℕ} {start : ℕ} {left : List ℕ} {tak
         after = lines_of bytes;
         front = heard_within (16777216 - start) (read_to bytes) short ∙ lines_front h.lines bytes h.feeds;
         no_quit = h.no_quit;
-        script = inl (answers_from first h.lines text m h.answers);
+        script = inl h.answers;
         whole = inr (ended_lines bytes, ap ended_lines (take_all (16777216 - start) (read_to bytes) short) ∙ ended_front h.lines bytes h.feeds);
       }
 
   -- a read failed
-  pub heard_failed : (part rest : List ℕ) → HasNoFeed part → taken + length part ≤ 16777216 → ServesToFault (16777216 - start) first (read_to part) rest text
+  pub heard_failed : (part rest : List ℕ) → HasNoFeed part → taken + length part ≤ 16777216 → ServesToFault A (16777216 - start) first (read_to part) rest text m
   unfolding read_to
   heard_failed part rest none short =
       let same : h.lines ≡ ended_lines (read_to part) = sym (ended_whole h.lines part h.feeds none) in
       let P : List (List ℕ) → Type 0 = λ ls. HasNoQuit ls in
-      let Q : List (List ℕ) → Type 0 = λ ls. Answers first ls text in
+      let Q : List (List ℕ) → Type 0 = λ ls. Answers A first ls text m in
       record {
         within = omega (arith, short, length_to part, h.counts);
         no_quit = subst P same h.no_quit;
-        answers = subst Q same (answers_from first h.lines text m h.answers);
+        answers = subst Q same h.answers;
       }
 
   -- the input ended behind the last line feed
-  pub heard_ended : (part rest : List ℕ) → part ≡ [] → rest ≡ [] → taken + length part ≤ 16777216 → ServesToEnd (16777216 - start) first (read_to part) rest text
+  pub heard_ended : (part rest : List ℕ) → part ≡ [] → rest ≡ [] → taken + length part ≤ 16777216 → ServesToEnd A (16777216 - start) first (read_to part) rest text m
   unfolding read_to
   heard_ended part rest none nothing short =
       let same : h.lines ≡ lines_of (read_to part) =
       sym (ap (λ (p : List ℕ). lines_of (text_of h.lines ++ p)) none ∙ lines_front h.lines [] h.feeds ∙ append-nil h.lines) in
       let P : List (List ℕ) → Type 0 = λ ls. HasNoQuit ls in
-      let Q : List (List ℕ) → Type 0 = λ ls. Answers first ls text in
+      let Q : List (List ℕ) → Type 0 = λ ls. Answers A first ls text m in
       record {
         within = omega (arith, short, length_to part, h.counts);
         at_end = nothing;
         no_quit = subst P same h.no_quit;
-        answers = subst Q same (answers_from first h.lines text m h.answers);
+        answers = subst Q same h.answers;
       }
 
   lines_to : (part : List ℕ) → HasNoFeed part → 0 < length part → h.lines ++ part ∷ [] ≡ lines_of (read_to part)
@@ -205,22 +206,22 @@ module _ {first : State} {whole : List ℕ} {start : ℕ} {left : List ℕ} {tak
   lines_to part none some = sym (lines_front h.lines part h.feeds ∙ ap (λ (ls : List (List ℕ)). h.lines ++ ls) (lines_last part none some))
 
   -- the last line had no line feed
-  pub heard_last : (part rest answer : List ℕ) (new : State) → HasNoFeed part → 0 < length part → rest ≡ [] → taken + length part ≤ 16777216
-      → Answer m part answer new → part ≢ quit_line → ServesToEnd (16777216 - start) first (read_to part) rest (text ++ answer)
+  pub heard_last : (part rest answer : List ℕ) (new : M) → HasNoFeed part → 0 < length part → rest ≡ [] → taken + length part ≤ 16777216
+      → A m part answer new → part ≢ quit_line → ServesToEnd A (16777216 - start) first (read_to part) rest (text ++ answer) new
   heard_last part rest answer new none some nothing short a other =
       let same = lines_to part none some in
       let P : List (List ℕ) → Type 0 = λ ls. HasNoQuit ls in
-      let Q : List (List ℕ) → Type 0 = λ ls. Answers first ls (text ++ answer) in
+      let Q : List (List ℕ) → Type 0 = λ ls. Answers A first ls (text ++ answer) new in
       record {
         within = omega (arith, short, length_to part, h.counts);
         at_end = nothing;
         no_quit = subst P same (all_push (λ l. l ≢ quit_line) h.lines part h.no_quit other);
-        answers = subst Q same (answers_from first (h.lines ++ part ∷ []) (text ++ answer) new (answers_push first h.lines text m part answer new h.answers a));
+        answers = subst Q same (answers_push A first h.lines text m part answer new h.answers a);
       }
 
   -- and was quit
   pub heard_quit_last : (part rest : List ℕ) → HasNoFeed part → part ≡ quit_line → rest ≡ [] → taken + length part ≤ 16777216
-      → ServesToQuit (16777216 - start) first (read_to part) rest text
+      → ServesToQuit A (16777216 - start) first (read_to part) rest text m
   heard_quit_last part rest none quit nothing short =
       let some : 0 < length part = omega (arith, ap length quit) in
       record {
@@ -228,7 +229,7 @@ module _ {first : State} {whole : List ℕ} {start : ℕ} {left : List ℕ} {tak
         heard = h.lines;
         after = [];
         no_quit = h.no_quit;
-        answers = answers_from first h.lines text m h.answers;
+        answers = h.answers;
         quits = inr (nothing, sym (lines_to part none some) ∙ ap (λ (l : List ℕ). h.lines ++ l ∷ []) quit);
       }
 
@@ -246,14 +247,14 @@ module _ {first : State} {whole : List ℕ} {start : ℕ} {left : List ℕ} {tak
   length_past part bytes = omega (arith, ap length (text_push h.lines part bytes), length-append (text_of h.lines) (part ++ 10 ∷ bytes), length-append part (10 ∷ bytes))
 
   pub heard_quit : (part bytes rest : List ℕ) (now : ℕ) → HasNoFeed part → part ≡ quit_line → now ≡ taken + length part + 1 → now + length bytes ≤ 16777216
-      → ServesToQuit (16777216 - start) first (read_past part bytes) rest text
+      → ServesToQuit A (16777216 - start) first (read_past part bytes) rest text m
   unfolding read_past
   heard_quit part bytes rest now none quit counts short = record {
     within = omega (arith, short, counts, length_past part bytes, h.counts);
     heard = h.lines;
     after = ended_lines bytes;
     no_quit = h.no_quit;
-    answers = answers_from first h.lines text m h.answers;
+    answers = h.answers;
     quits = inl (ended_front (h.lines ++ part ∷ []) bytes (all_push HasNoFeed h.lines part h.feeds none) ∙ append_assoc h.lines (part ∷ []) (ended_lines bytes)
         ∙ ap (λ (l : List ℕ). h.lines ++ l ∷ ended_lines bytes) quit);
   }
@@ -267,7 +268,7 @@ module _ {first : State} {whole : List ℕ} {start : ℕ} {left : List ℕ} {tak
   split_over part b rest e = split_at part (b ∷ rest) e ∙ sym (append_assoc (read_to part) (b ∷ []) rest)
 
   pub heard_past : (part : List ℕ) (b : ℕ) (rest : List ℕ) (now : ℕ) → HasNoFeed part → now ≡ taken + length part → now ≡ 16777216
-      → ServesToBound (16777216 - start) first (read_over part b) rest (text ++ no_input)
+      → ServesToBound A (16777216 - start) first (read_over part b) rest (text ++ no_input) m
   unfolding read_over read_to
   heard_past part b rest now none counts full =
       let room : 16777216 - start ≡ length (read_to part) = omega (arith, length_to part, h.counts) in
@@ -275,11 +276,11 @@ module _ {first : State} {whole : List ℕ} {start : ℕ} {left : List ℕ} {tak
       sym (ap (λ (n : ℕ). ended_lines (take n (read_to part ++ b ∷ []))) room
       ∙ ap ended_lines (take-append_seam (read_to part) (b ∷ [])) ∙ ended_whole h.lines part h.feeds none) in
       let P : List (List ℕ) → Type 0 = λ ls. HasNoQuit ls in
-      let Q : List (List ℕ) → Type 0 = λ ls. Answers first ls text in
+      let Q : List (List ℕ) → Type 0 = λ ls. Answers A first ls text m in
       record {
         over = omega (arith, length-append (read_to part) (b ∷ []), room);
         no_quit = subst P same h.no_quit;
         said = text;
-        answers = subst Q same (answers_from first h.lines text m h.answers);
+        answers = subst Q same h.answers;
         told = refl;
       }

@@ -7,8 +7,9 @@ use Rattle.ga_console.specs.Input.{input_limit}
 use Rattle.ga_console.specs.Image.{HasNoEnd}
 use Rattle.ga_console.specs.Output.{IsSaid, ready}
 use Rattle.ga_lab.specs.Machine.{State}
+use Rattle.ga_console.specs.Turns.{Answering}
 use Rattle.ga_console.specs.Session.{Serves, Written}
-use Rattle.ga_console.specs.Run.{Runs, Served, Refused, Refuses, Opens, IsFault, AfterImage, IsImagePart, IsReadAlone, status_of}
+use Rattle.ga_console.specs.Run.{RunsBy, Served, Refused, Refuses, Opens, IsFault, AfterImage, IsImagePart, IsReadAlone, status_of}
 use Rattle.ga_console.specs.declared.commands.Ending.{Ending}
 use Rattle.ga_console.specs.declared.commands.Ending.TheVariants.{Ended, Quit, Past, ReadFailed}
 use Rattle.ga_console.specs.declared.output.WriteFailed.{WriteFailed}
@@ -23,37 +24,43 @@ said_fresh contents before text pending e p = record { sent = []; held = e ∙ a
 pub all_sent : (contents : Option (List ℕ)) (before text : List ℕ) (h : IsSaid contents before text []) → h.sent ≡ text
 all_sent contents before text h = sym (h.splits ∙ append-nil h.sent)
 
-pub runs_served : (limit : ℕ) (read rest text : List ℕ) (ending : Result Ending WriteFailed) (status : Status) → status ≡ status_of ending
-    → Served limit read rest text ending → Runs limit read rest text status
-runs_served limit read rest text ending Done e s = (ending, sym e, s)
-runs_served limit read rest text (Ok Ended) ImageRefused e s = cc
-runs_served limit read rest text (Ok Quit) ImageRefused e s = cc
-runs_served limit read rest text (Ok Past) ImageRefused e s = cc
-runs_served limit read rest text (Ok ReadFailed) ImageRefused e s = cc
-runs_served limit read rest text (Err failed) ImageRefused e s = cc
-runs_served limit read rest text ending StreamFault e s = inl (ending, sym e, s)
-runs_served limit read rest text (Ok Ended) NotFinished e s = cc
-runs_served limit read rest text (Ok Quit) NotFinished e s = cc
-runs_served limit read rest text (Ok Past) NotFinished e s = cc
-runs_served limit read rest text (Ok ReadFailed) NotFinished e s = cc
-runs_served limit read rest text (Err failed) NotFinished e s = cc
+-- the same machine under another name
+pub serves_from : {M : Type 0} (A : Answering M) (room : ℕ) (m other : M) (read rest text : List ℕ) (last : M) (ending : Result Ending WriteFailed) → m ≡ other
+    → Serves A room m read rest text last ending → Serves A room other read rest text last ending
+serves_from {M} A room m other read rest text last ending e s =
+    let P : M → Type 0 = λ x. Serves A room x read rest text last ending in subst P e s
 
-pub runs_refused : (limit : ℕ) (read rest text : List ℕ) (fault : ImageFault) (status : Status) → Refused read rest fault → Refuses fault text status
-    → Runs limit read rest text status
-runs_refused limit read rest text fault Done r t = absurd t
-runs_refused limit read rest text fault ImageRefused r t = (fault, r, t)
-runs_refused limit read rest text fault StreamFault r t = inr (inr (fault, r, t))
-runs_refused limit read rest text fault NotFinished r t = absurd t
+pub runs_served : {M : Type 0} (A : Answering M) (begin : State → M) (limit : ℕ) (read rest text : List ℕ) (ending : Result Ending WriteFailed) (status : Status) → status ≡ status_of ending
+    → Served A begin limit read rest text ending → RunsBy A begin limit read rest text status
+runs_served A begin limit read rest text ending Done e s = (ending, sym e, s)
+runs_served A begin limit read rest text (Ok Ended) ImageRefused e s = cc
+runs_served A begin limit read rest text (Ok Quit) ImageRefused e s = cc
+runs_served A begin limit read rest text (Ok Past) ImageRefused e s = cc
+runs_served A begin limit read rest text (Ok ReadFailed) ImageRefused e s = cc
+runs_served A begin limit read rest text (Err failed) ImageRefused e s = cc
+runs_served A begin limit read rest text ending StreamFault e s = inl (ending, sym e, s)
+runs_served A begin limit read rest text (Ok Ended) NotFinished e s = cc
+runs_served A begin limit read rest text (Ok Quit) NotFinished e s = cc
+runs_served A begin limit read rest text (Ok Past) NotFinished e s = cc
+runs_served A begin limit read rest text (Ok ReadFailed) NotFinished e s = cc
+runs_served A begin limit read rest text (Err failed) NotFinished e s = cc
+
+pub runs_refused : {M : Type 0} (A : Answering M) (begin : State → M) (limit : ℕ) (read rest text : List ℕ) (fault : ImageFault) (status : Status) → Refused read rest fault → Refuses fault text status
+    → RunsBy A begin limit read rest text status
+runs_refused A begin limit read rest text fault Done r t = absurd t
+runs_refused A begin limit read rest text fault ImageRefused r t = (fault, r, t)
+runs_refused A begin limit read rest text fault StreamFault r t = inr (inr (fault, r, t))
+runs_refused A begin limit read rest text fault NotFinished r t = absurd t
 
 pub refused_in : (image ahead rest : List ℕ) (fault : ImageFault) → IsReadAlone image ahead rest → IsFault image fault → Refused (image ++ ahead) rest fault
 refused_in image ahead rest fault part (inl e) = inl e
 refused_in image ahead rest fault part (inr e) = inr (record { image = image; ahead = ahead; splits = refl; part = part; faulty = e })
 
-served_in : (limit : ℕ) (image commands rest said text : List ℕ) (machine : State) (ending : Result Ending WriteFailed) → IsImagePart image commands rest
-    → Opens image limit machine → Serves (input_limit - length image) machine commands rest said ending → Written ending (ready ++ said) text
-    → Served limit (image ++ commands) rest text ending
-served_in limit image commands rest said text machine ending part opens serves written =
-    let P : State → Type 0 = λ m. Serves (input_limit - length image) m commands rest said ending in
+served_in : {M : Type 0} (A : Answering M) (begin : State → M) (limit : ℕ) (image commands rest said text : List ℕ) (machine : State) (last : M) (ending : Result Ending WriteFailed) → IsImagePart image commands rest
+    → Opens image limit machine → Serves A (input_limit - length image) (begin machine) commands rest said last ending → Written ending (ready ++ said) text
+    → Served A begin limit (image ++ commands) rest text ending
+served_in A begin limit image commands rest said text machine last ending part opens serves written =
+    let P : State → Type 0 = λ m. Serves A (input_limit - length image) (begin m) commands rest said last ending in
     record {
       image = image;
       commands = commands;
@@ -62,29 +69,30 @@ served_in limit image commands rest said text machine ending part opens serves w
       splits = refl;
       part = part;
       accepted = opens.1;
+      last = last;
       serves = subst P opens.2 serves;
       written = written;
     }
 
 -- behind an image that was read whole
-pub runs_after : (limit taken : ℕ) (image ahead commands rest text : List ℕ) (status : Status) → taken ≡ length image → IsImagePart image commands rest
+pub runs_after : {M : Type 0} (A : Answering M) (begin : State → M) (limit taken : ℕ) (image ahead commands rest text : List ℕ) (status : Status) → taken ≡ length image → IsImagePart image commands rest
     → (commands ≡ ahead → IsReadAlone image commands rest)
-    → AfterImage limit image taken ahead commands rest text status → Runs limit (image ++ commands) rest text status
-runs_after limit taken image ahead commands rest text status e part alone (inl a) =
-    let Q : ℕ → Type 0 = λ n. Serves (input_limit - n) a.0 commands rest a.4 a.2 in
-    runs_served limit (image ++ commands) rest text a.2 status a.3
-    (served_in limit image commands rest a.4 text a.0 a.2 part a.1 (subst Q e a.5) a.6)
-runs_after limit taken image ahead commands rest text status e part alone (inr a) =
-    runs_refused limit (image ++ commands) rest text a.0 status (refused_in image commands rest a.0 (alone a.3) a.1) a.2
+    → AfterImage A begin limit image taken ahead commands rest text status → RunsBy A begin limit (image ++ commands) rest text status
+runs_after A begin limit taken image ahead commands rest text status e part alone (inl a) =
+    let Q : ℕ → Type 0 = λ n. Serves A (input_limit - n) (begin a.0) commands rest a.4 a.5 a.2 in
+    runs_served A begin limit (image ++ commands) rest text a.2 status a.3
+    (served_in A begin limit image commands rest a.4 text a.0 a.5 a.2 part a.1 (subst Q e a.6) a.7)
+runs_after A begin limit taken image ahead commands rest text status e part alone (inr a) =
+    runs_refused A begin limit (image ++ commands) rest text a.0 status (refused_in image commands rest a.0 (alone a.3) a.1) a.2
 
 -- No image that is accepted reaches the bound of the input.
-pub runs_full : (limit taken byte : ℕ) (image read rest text : List ℕ) (status : Status) → length image ≡ input_limit → HasNoEnd image
-    → AfterImage limit image taken [] read rest text status → Runs limit (image ++ byte ∷ read) rest text status
-runs_full limit taken byte image read rest text status full none (inl a) =
+pub runs_full : {M : Type 0} (A : Answering M) (begin : State → M) (limit taken byte : ℕ) (image read rest text : List ℕ) (status : Status) → length image ≡ input_limit → HasNoEnd image
+    → AfterImage A begin limit image taken [] read rest text status → RunsBy A begin limit (image ++ byte ∷ read) rest text status
+runs_full A begin limit taken byte image read rest text status full none (inl a) =
     absurd (let short : length image < 16777216 = short_image image a.1.0 a.1.1 in omega arith)
-runs_full limit taken byte image read rest text status full none (inr a) =
+runs_full A begin limit taken byte image read rest text status full none (inr a) =
     let one : length (byte ∷ read) ≡ 1 = ap (λ (l : List ℕ). length (byte ∷ l)) a.3 in
-    runs_refused limit (image ++ byte ∷ read) rest text a.0 status (refused_in image (byte ∷ read) rest a.0 (inr (inr (full, one, none))) a.1) a.2
+    runs_refused A begin limit (image ++ byte ∷ read) rest text a.0 status (refused_in image (byte ∷ read) rest a.0 (inr (inr (full, one, none))) a.1) a.2
 
 pub nothing_left : (xs ys : List ℕ) → [] ≡ xs ++ ys → (xs ≡ []) × (ys ≡ [])
 nothing_left [] ys e = (refl, sym e)

@@ -3,7 +3,7 @@ use Rattle.std.specs.Prelude.{◌≡◌, ◌≢◌, ◌≤◌, ℕ, List, ◌∷
 use Rattle.ga_image.specs.Lines.{longest}
 use Rattle.ga_console.specs.Lines.{HasNoFeed}
 use Rattle.ga_console.specs.Commands.{Spells}
-use Rattle.ga_console.specs.Replies.{quit_line}
+use Rattle.ga_console.specs.Turns.{quit_line}
 use Rattle.ga_console.specs.declared.command.Command.{Command}
 
 -- the bytes begin with a line of so many bytes that spells the command, which isn't quit

@@ -7,6 +7,7 @@ pub mod Texts
 pub mod Parsing
 pub mod Ahead
 pub mod Commands
+pub mod Turns
 pub mod Replies
 pub mod Reached
 pub mod Session

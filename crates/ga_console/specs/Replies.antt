@@ -1,5 +1,5 @@
 -- What the machine replies to a line (docs/REFERENCE.md, "Sessions"; this project's own).
-use Rattle.std.specs.Prelude.{◌≡◌, ◌≢◌, ℕ, ◌+◌, ◌<◌, ◌≤◌, ◌⊎◌, IsOk, List, [], ◌++◌, length, take, flat_map, codes, Option, Some, None, Result, Ok, Err}
+use Rattle.std.specs.Prelude.{◌≡◌, ℕ, ◌<◌, ◌≤◌, ◌⊎◌, IsOk, List, [], ◌++◌, length, flat_map, Option, Some, None, Result, Ok, Err}
 use Rattle.ga_grid.specs.Chip.{record_at}
 use Rattle.ga_grid.specs.declared.node_id.NodeId.{NodeId}
 use Rattle.ga_causal.specs.declared.chain.Link.{Link}
@@ -12,10 +12,6 @@ use Rattle.ga_lab.specs.declared.fault.LabFault.{LabFault}
 use Rattle.ga_lab.specs.declared.fault.LabFault.TheVariants as fault
 use Rattle.ga_console.specs.Texts.{made_text, removed_text, refusal_text, node_text, memory_text, counts_text, trace_text, chain_text, independent, no_syntax, no_long}
 use Rattle.ga_console.specs.Commands.{Spells}
-use Rattle.ga_console.specs.declared.output.WriteFailed.{WriteFailed}
-use Rattle.ga_console.specs.declared.reply.Turn.{Turn}
-use Rattle.ga_console.specs.declared.reply.Turn.TheVariants.{Answered}
-use Rattle.ga_console.specs.declared.reply.Turn.TheVariants.{Quit as Quits}
 use Rattle.ga_console.specs.declared.command.Command.{Command}
 use Rattle.ga_console.specs.declared.command.Command.TheVariants.{Step, Back, Rewind, Node, Memory, Trace, Why, Count, Dump, Quit}
 
@@ -93,16 +89,3 @@ pub data Answer (s : State) (line answer : List ℕ) (new : State) : Type 0 wher
   long : longest < length line → answer ≡ no_long → new ≡ s → Answer s line answer new
   command : (c : Command) → length line ≤ longest → Spells c line → Does s c answer new → Answer s line answer new
   syntax : length line ≤ longest → ((c : Command) → ¬ Spells c line) → answer ≡ no_syntax → new ≡ s → Answer s line answer new
-
-abbrev pub quit_line : List ℕ
-quit_line = codes "quit"
-
--- a line, of which the first `longest + 1` bytes are here, is answered and isn't quit
-abbrev pub AnswersLine : State → List ℕ → List ℕ → State → Type 0
-AnswersLine s line answer new = (part : List ℕ) → line ≡ take (longest + 1) part → Answer s part answer new × (part ≢ quit_line)
-
--- it is answered, as far as the answer can be written, or ends the session
-abbrev pub Turns : State → List ℕ → State → Result Turn WriteFailed → List ℕ → Type 0
-Turns s line new (Ok Answered) answer = AnswersLine s line answer new
-Turns s line new (Ok Quits) answer = (line ≡ quit_line) × (new ≡ s) × (answer ≡ [])
-Turns s line new (Err failed) answer = AnswersLine s line answer new

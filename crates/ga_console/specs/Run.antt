@@ -1,4 +1,5 @@
--- What a whole session may write, and how it may end (docs/REFERENCE.md, "Sessions"; this project's own).
+-- What a whole session may write, and how it may end (docs/REFERENCE.md, "Sessions"; this project's own). A is how the session
+-- answers a line, and begin its machine on a fresh one.
 use Rattle.std.specs.Prelude.{◌≡◌, ℕ, ◌-◌, ◌<◌, ◌⊎◌, List, [], ◌++◌, length, Result, Ok, Err}
 use Rattle.ga_node.specs.State.{NodeState}
 use Rattle.ga_grid.specs.Chip.{records_of}
@@ -12,7 +13,9 @@ use Rattle.ga_console.specs.Output.{Begins, ready}
 use Rattle.ga_console.specs.Image.{EndsAtEnd, HasNoEnd}
 use Rattle.ga_lab.specs.Machine.{State, first}
 use Rattle.ga_console.specs.Texts.{image_fault_text}
+use Rattle.ga_console.specs.Turns.{Answering}
 use Rattle.ga_console.specs.Session.{Serves, Written}
+use Rattle.ga_console.specs.Replies.{Answer}
 use Rattle.ga_console.specs.declared.commands.Ending.{Ending}
 use Rattle.ga_console.specs.declared.commands.Ending.TheVariants.{Ended, Quit, Past, ReadFailed}
 use Rattle.ga_console.specs.declared.output.WriteFailed.{WriteFailed}
@@ -33,7 +36,7 @@ IsReadAlone image ahead rest = (EndsAtEnd image × (length ahead < block_size))
     ⊎ ((length image ≡ input_limit) × (length ahead ≡ 1) × HasNoEnd image)
 
 -- the image was accepted, and the commands behind it were served to this ending
-pub record Served (limit : ℕ) (read rest text : List ℕ) (ending : Result Ending WriteFailed) : Type 0 where
+pub record Served {M : Type 0} (A : Answering M) (begin : State → M) (limit : ℕ) (read rest text : List ℕ) (ending : Result Ending WriteFailed) : Type 0 where
   pub image : List ℕ
   pub commands : List ℕ
   pub chip : List NodeState
@@ -41,7 +44,8 @@ pub record Served (limit : ℕ) (read rest text : List ℕ) (ending : Result End
   pub splits : read ≡ image ++ commands
   pub part : IsImagePart image commands rest
   pub accepted : IsImage (lines_of image) chip
-  pub serves : Serves (input_limit - length image) (first (records_of chip) limit) commands rest said ending
+  pub last : M
+  pub serves : Serves A (input_limit - length image) (begin (first (records_of chip) limit)) commands rest said last ending
   pub written : Written ending (ready ++ said) text
 
 -- the image was refused with its first fault, and nothing was read behind it
@@ -64,17 +68,21 @@ status_of (Ok ReadFailed) = StreamFault
 status_of (Err failed) = StreamFault
 
 -- What a session may have written, where read was read of its input and rest is left of it.
-abbrev pub Runs : ℕ → List ℕ → List ℕ → List ℕ → Status → Type 0
-Runs limit read rest text Done = (ending : Result Ending WriteFailed) × (status_of ending ≡ Done) × Served limit read rest text ending
-Runs limit read rest text ImageRefused = (fault : ImageFault) × Refused read rest fault × (text ≡ image_fault_text fault)
+abbrev pub RunsBy : {M : Type 0} → Answering M → (State → M) → ℕ → List ℕ → List ℕ → List ℕ → Status → Type 0
+RunsBy A begin limit read rest text Done = (ending : Result Ending WriteFailed) × (status_of ending ≡ Done) × Served A begin limit read rest text ending
+RunsBy A begin limit read rest text ImageRefused = (fault : ImageFault) × Refused read rest fault × (text ≡ image_fault_text fault)
 -- the command part failed, or a read in the image part, or a write of the refusal
-Runs limit read rest text StreamFault =
+RunsBy A begin limit read rest text StreamFault =
     ((ending : Result Ending WriteFailed)
     × (status_of ending ≡ StreamFault)
-    × Served limit read rest text ending)
+    × Served A begin limit read rest text ending)
     ⊎ ((text ≡ []) × HasNoEnd read)
     ⊎ ((fault : ImageFault) × Refused read rest fault × Begins (image_fault_text fault) text)
-Runs limit read rest text NotFinished = ⊥
+RunsBy A begin limit read rest text NotFinished = ⊥
+
+-- The debugger's session.
+abbrev pub Runs : ℕ → List ℕ → List ℕ → List ℕ → Status → Type 0
+Runs limit read rest text status = RunsBy Answer (λ s. s) limit read rest text status
 
 -- a refusal was written whole, or that failed
 abbrev pub Refuses : ImageFault → List ℕ → Status → Type 0
@@ -93,8 +101,8 @@ IsFault image fault = (fault ≡ no_memory) ⊎ IsFirstFault (lines_of image) fa
 
 -- What may be written after the image was read, of which so many bytes were taken: ahead is what was read with it. Where it is
 -- refused, no more is read.
-abbrev pub AfterImage : ℕ → List ℕ → ℕ → List ℕ → List ℕ → List ℕ → List ℕ → Status → Type 0
-AfterImage limit image taken ahead read rest text status =
+abbrev pub AfterImage : {M : Type 0} → Answering M → (State → M) → ℕ → List ℕ → ℕ → List ℕ → List ℕ → List ℕ → List ℕ → Status → Type 0
+AfterImage {M} A begin limit image taken ahead read rest text status =
     ((machine : State) × Opens image limit machine × (ending : Result Ending WriteFailed) × (status ≡ status_of ending)
-    × (said : List ℕ) × Serves (input_limit - taken) machine read rest said ending × Written ending (ready ++ said) text)
+    × (said : List ℕ) × (last : M) × Serves A (input_limit - taken) (begin machine) read rest said last ending × Written ending (ready ++ said) text)
     ⊎ ((fault : ImageFault) × IsFault image fault × Refuses fault text status × (read ≡ ahead))

@@ -125,7 +125,7 @@ fn step_of(text: &[u8]) -> Option<(NodeId, u32)>
 }
 
 /// The text before the first space, and the text behind it.
-fn cut(text: &[u8]) -> Option<(&[u8], &[u8])>
+pub fn cut(text: &[u8]) -> Option<(&[u8], &[u8])>
     ensures { option_map (λ parts. (parts.0.now, parts.1.now)) result ≡ cut text.now }
 {
     for (i, byte) in text.iter().enumerate() {
@@ -138,7 +138,7 @@ fn cut(text: &[u8]) -> Option<(&[u8], &[u8])>
 
 /// The node that is named by three decimal digits: its row, and two of its column.
 #[tactic(auto, unfolding(crate::specs::Parsing::node_in, ga_image::specs::Digits::node_number))]
-fn node_of(word: &[u8]) -> Option<NodeId>
+pub fn node_of(word: &[u8]) -> Option<NodeId>
     ensures { result ≡ node_in word.now }
 {
     match word {
@@ -173,7 +173,7 @@ fn node_at(row: u32, column: u32) -> Option<NodeId>
 }
 
 /// A decimal number below 2^32 without leading zeros.
-fn number_of(word: &[u8]) -> Option<u32>
+pub fn number_of(word: &[u8]) -> Option<u32>
     ensures { result ≡ number_in word.now }
 {
     let (first, rest) = word.split_first()?;
@@ -206,7 +206,7 @@ fn digit_of(byte: u8) -> Option<u32>
 }
 
 /// A number of two hexadecimal digits in either case.
-fn byte_of(word: &[u8]) -> Option<u8>
+pub fn byte_of(word: &[u8]) -> Option<u8>
     ensures { result ≡ byte_in word.now }
 {
     let mut byte = [0];

@@ -8,8 +8,7 @@ use super::ahead::command_ahead;
 use super::input::Input;
 use super::lines::{Line, LineEnd, read_line};
 use super::output::{Output, WriteFailed};
-use super::reply::{Turn, answer, obey};
-use ga_lab::Lab;
+use super::responder::{Responder, Turn};
 use std::alloc::Global;
 use std::io::{Read, Write};
 
@@ -30,13 +29,13 @@ pub enum Ending {
 ///
 /// # Errors
 /// A write failed.
-pub fn serve<R: Read, W: Write>(
+pub fn serve<S: Responder, R: Read, W: Write>(
     alloc: Global,
     input: &mut Input,
     reader: &mut R,
     output: &mut Output,
     writer: &mut W,
-    lab: &mut Lab,
+    session: &mut S,
 ) -> Result<Ending, WriteFailed>
     requires { IsWithin input.old }
     ensures { (left before said : List ℕ) → R.remaining reader.old ≡ Some left →
@@ -44,29 +43,29 @@ pub fn serve<R: Read, W: Write>(
         (read rest text sent : List ℕ)
         × (input.old.bytes ++ left ≡ read ++ rest) × (R.remaining reader.new ≡ Some rest)
         × (W.contents writer.new ≡ Some (before ++ sent))
-        × Serves (input_limit - input.old.taken) lab.old read rest text result
+        × Serves S.answers (input_limit - input.old.taken) session.old read rest text session.new result
         × Written result (said ++ text) sent }
 {
-    let ending = answer_lines(alloc, input, reader, output, writer, lab)?;
+    let ending = answer_lines(alloc, input, reader, output, writer, session)?;
     output.send(writer)?;
     Ok(ending)
 }
 
 /// Answers the command lines one by one, until the input ends. Some of the answers may be pending then.
-fn answer_lines<R: Read, W: Write>(
+fn answer_lines<S: Responder, R: Read, W: Write>(
     alloc: Global,
     input: &mut Input,
     reader: &mut R,
     output: &mut Output,
     writer: &mut W,
-    lab: &mut Lab,
+    session: &mut S,
 ) -> Result<Ending, WriteFailed>
     requires { IsWithin input.old }
     ensures { (left before said : List ℕ) → R.remaining reader.old ≡ Some left →
         IsSaid (W.contents writer.old) before said output.old →
         (read rest text : List ℕ)
         × (input.old.bytes ++ left ≡ read ++ rest) × (R.remaining reader.new ≡ Some rest)
-        × Serves (input_limit - input.old.taken) lab.old read rest text result
+        × Serves S.answers (input_limit - input.old.taken) session.old read rest text session.new result
         × IsSaidOrCut result (W.contents writer.new) before (said ++ text) output.new }
 {
     let mut line = Line::new();
@@ -74,11 +73,11 @@ fn answer_lines<R: Read, W: Write>(
         if let Some(ahead) = command_ahead(input.unread()) {
             let (command, count) = ahead;
             input.skip(count);
-            obey(alloc, lab, command, output, writer)?;
+            session.obey(alloc, command, output, writer)?;
             continue 'lines;
         }
         match read_line(input, reader, output, writer, &mut line)? {
-            LineEnd::Feed => match answer(alloc, lab, &line, output, writer)? {
+            LineEnd::Feed => match session.answer(alloc, &line, output, writer)? {
                 Turn::Quit => return Ok(Ending::Quit),
                 Turn::Answered => {}
             },
@@ -86,7 +85,7 @@ fn answer_lines<R: Read, W: Write>(
                 if line.is_empty() {
                     return Ok(Ending::Ended);
                 }
-                return match answer(alloc, lab, &line, output, writer)? {
+                return match session.answer(alloc, &line, output, writer)? {
                     Turn::Quit => Ok(Ending::Quit),
                     Turn::Answered => Ok(Ending::Ended),
                 };

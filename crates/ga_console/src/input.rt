@@ -49,6 +49,7 @@ impl Model for Input {
 }
 
 impl Input {
+    /// An input of which nothing was read.
     pub fn new() -> Self
         ensures { result ≡ record { bytes = []; taken = 0 } }
     {
@@ -61,7 +62,7 @@ impl Input {
     }
 
     /// Reads more, by one read, where all that was read is taken. At the bound it looks only whether the input ends there.
-    pub fn fill<R: Read>(&mut self, reader: &mut R) -> Fill
+    pub(crate) fn fill<R: Read>(&mut self, reader: &mut R) -> Fill
         requires { self.old.bytes ≡ [] }
         ensures fills { (input : List ℕ) → R.remaining reader.old ≡ Some input →
             (rest : List ℕ) × (R.remaining reader.new ≡ Some rest)
@@ -94,7 +95,7 @@ impl Input {
 
     /// What was read and is not taken yet.
     #[inline(always)]
-    pub fn unread(&self) -> &[u8]
+    pub(crate) fn unread(&self) -> &[u8]
         ensures { result.now ≡ self.now.bytes }
     {
         &self.block[self.start..self.end]
@@ -102,7 +103,7 @@ impl Input {
 
     /// Takes so many bytes and the line feed behind them.
     #[inline(always)]
-    pub fn skip(&mut self, count: usize)
+    pub(crate) fn skip(&mut self, count: usize)
         requires within { count + 1 ≤ length self.old.bytes }
         requires short { count ≤ 200 }
         ensures bytes { self.new.bytes ≡ drop (count + 1) self.old.bytes }
@@ -114,7 +115,7 @@ impl Input {
     }
 
     /// Takes what was read, up to a line feed, and keeps it as far as a line goes. True where a line feed was taken.
-    pub fn take_line(&mut self, line: &mut Line) -> bool
+    pub(crate) fn take_line(&mut self, line: &mut Line) -> bool
         ensures takes { (part : List ℕ) × TakesPart self.old part self.new result
             × (line.new.items ≡ take 201 (line.old.items ++ part)) }
         ensures within { IsWithin self.new }
@@ -137,7 +138,7 @@ impl Input {
     }
 
     /// Takes what was read, up to a line feed and with it, and adds it to a text. True where a line feed was taken.
-    pub fn take_text(&mut self, text: &mut Vec<u8>) -> Result<bool, AllocError>
+    pub(crate) fn take_text(&mut self, text: &mut Vec<u8>) -> Result<bool, AllocError>
         ensures takes { IfOk result (λ fed. (part : List ℕ) × TakesPart self.old part self.new fed
             × (text.new.items ≡ text.old.items ++ with_feed part fed)) }
         ensures behind { IfOk result (λ fed. fed ≡ true → length self.new.bytes < block_size) }

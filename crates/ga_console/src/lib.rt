@@ -22,13 +22,26 @@ mod output;
 mod race;
 mod readings;
 mod reply;
+mod responder;
 mod run;
 mod settings;
 mod text;
 
 pub use assembling::assemble_source;
+pub use command::{Command, byte_of, command_of, cut, node_of, number_of};
+pub use commands::{Ending, serve};
 pub use disassembly::disassemble;
+pub use event::{push_made, refusal};
+pub use image::{ImageEnd, read_image};
+pub use input::Input;
+pub use lines::Line;
 pub use listing::list_source;
+pub use output::{Output, WriteFailed, write_all};
 pub use race::race_report;
-pub use run::{Status, session};
+pub use responder::{Responder, Turn};
+pub use run::{Status, open_image, refuse, session, session_with, status_of};
 pub use settings::{LineFault, Settings, arguments};
+pub use text::{
+    BYTE_ROOM, LINE_ROOM, NODE_ROOM, NUMBER_ROOM, STEP_ROOM, Text, WORD_ROOM, push_byte,
+    push_digit, push_node, push_number, push_spaced, push_step, push_text, push_word,
+};

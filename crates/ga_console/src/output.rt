@@ -42,6 +42,15 @@ impl Model for Output {
 }
 
 impl Output {
+    /// An output to which nothing was said.
+    pub fn new() -> Self
+        ensures { result ≡ [] }
+    {
+        Output {
+            pending: ArrayVec::new(),
+        }
+    }
+
     /// An output that begins with `ready`.
     pub fn ready() -> Self
         ensures { result ≡ ready }

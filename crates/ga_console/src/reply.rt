@@ -1,25 +1,18 @@
 //! The answer to a line.
 ghost use Rattle.ga_console.specs.Output.{Says};
-ghost use Rattle.ga_console.specs.Replies.{Does, Turns};
+ghost use Rattle.ga_console.specs.Replies.{Answer, Does};
+ghost use Rattle.ga_console.specs.Turns.{Turns};
 
 use super::changes::{back, rewind, step};
 use super::command::{Command, command_of};
 use super::lines::Line;
 use super::output::{Output, WriteFailed};
 use super::readings::{count, dump, memory, node, trace, why};
+use super::responder::Turn;
 use ga_image::LINE_LIMIT;
 use ga_lab::Lab;
 use std::alloc::Global;
 use std::io::Write;
-
-/// What a line asks for.
-#[derive(Clone, Copy, PartialEq, Eq)]
-pub enum Turn {
-    /// An answer, which was said.
-    Answered,
-    /// The end of the session.
-    Quit,
-}
 
 /// Answers a line, of which at least the first 201 bytes are here.
 ///
@@ -32,7 +25,7 @@ pub fn answer<W: Write>(
     output: &mut Output,
     writer: &mut W,
 ) -> Result<Turn, WriteFailed>
-    ensures { Says result (Turns lab.old line.now.items lab.new result)
+    ensures { Says result (Turns Answer lab.old line.now.items lab.new result)
         (W.contents writer.old) output.old (W.contents writer.new) output.new }
 {
     if line.len() > LINE_LIMIT {

@@ -2,13 +2,14 @@
 ghost use Rattle.std.specs.Prelude.{◌≡◌, ◌++◌, ℕ, List, Some, IfOk, IfErr};
 ghost use Rattle.ga_console.specs.Input.{IsWithin};
 ghost use Rattle.ga_console.specs.Output.{IsSaid};
-ghost use Rattle.ga_console.specs.Run.{Runs, AfterImage, Refuses, Opens, IsFault, status_of as status_that};
+ghost use Rattle.ga_console.specs.Run.{Runs, RunsBy, AfterImage, Refuses, Opens, IsFault, status_of as status_that};
 
 use super::commands::{Ending, serve};
 use super::fault_text::put_fault;
 use super::image::{ImageEnd, read_image};
 use super::input::Input;
 use super::output::{Output, WriteFailed, write_all};
+use super::responder::Responder;
 use super::text::Text;
 use ga_image::{ImageCause, ImageFault, parse};
 use ga_lab::Lab;
@@ -52,20 +53,41 @@ pub fn session<R: Read, W: Write>(
         (read rest text : List ℕ) × (left ≡ read ++ rest) × (R.remaining reader.new ≡ Some rest)
         × (W.contents writer.new ≡ Some (before ++ text)) × Runs limit read rest text result }
 {
+    session_with::<Lab, R, W>(alloc, reader, writer, limit)
+}
+
+/// A session as `session` is, whose lines are answered by a responder that begins on the image's chip.
+pub fn session_with<S: Responder, R: Read, W: Write>(
+    alloc: Global,
+    reader: &mut R,
+    writer: &mut W,
+    limit: u32,
+) -> Status
+    ensures { (left before : List ℕ) →
+        R.remaining reader.old ≡ Some left → W.contents writer.old ≡ Some before →
+        (read rest text : List ℕ) × (left ≡ read ++ rest) × (R.remaining reader.new ≡ Some rest)
+        × (W.contents writer.new ≡ Some (before ++ text)) × RunsBy S.answers S.begin limit read rest text result }
+{
     let mut input = Input::new();
     let mut image = Vec::new(alloc);
     match read_image(&mut input, reader, &mut image) {
         Err(_) => refuse(writer, NO_MEMORY),
         Ok(ImageEnd::Failed) => Status::StreamFault,
         // No image that is accepted is so long.
-        Ok(ImageEnd::Past) => after_image(alloc, &mut input, reader, writer, image, limit),
-        Ok(ImageEnd::Ended) => after_image(alloc, &mut input, reader, writer, image, limit),
-        Ok(ImageEnd::EndLine) => after_image(alloc, &mut input, reader, writer, image, limit),
+        Ok(ImageEnd::Past) => after_image::<S, R, W>(
+            alloc, &mut input, reader, writer, image, limit,
+        ),
+        Ok(ImageEnd::Ended) => after_image::<S, R, W>(
+            alloc, &mut input, reader, writer, image, limit,
+        ),
+        Ok(ImageEnd::EndLine) => after_image::<S, R, W>(
+            alloc, &mut input, reader, writer, image, limit,
+        ),
     }
 }
 
 /// Serves the commands after an accepted image, or refuses it.
-fn after_image<R: Read, W: Write>(
+fn after_image<S: Responder, R: Read, W: Write>(
     alloc: Global,
     input: &mut Input,
     reader: &mut R,
@@ -79,19 +101,23 @@ fn after_image<R: Read, W: Write>(
         (read rest text : List ℕ)
         × (input.old.bytes ++ left ≡ read ++ rest) × (R.remaining reader.new ≡ Some rest)
         × (W.contents writer.new ≡ Some (before ++ text))
-        × AfterImage limit image.items input.old.taken input.old.bytes read rest text result }
+        × AfterImage S.answers S.begin limit image.items input.old.taken input.old.bytes read rest text result }
 {
-    match open(alloc, image, limit) {
-        Ok(mut lab) => {
+    match open_image(alloc, image, limit) {
+        Ok(lab) => {
+            let mut session = S::open(lab);
             let mut output = Output::ready();
-            status_of(serve(alloc, input, reader, &mut output, writer, &mut lab))
+            status_of(serve(alloc, input, reader, &mut output, writer, &mut session))
         }
         Err(fault) => refuse(writer, fault),
     }
 }
 
-/// A lab that has the image's chip as its load, or the image's first fault.
-fn open(alloc: Global, image: Vec<u8>, limit: u32) -> Result<Lab, ImageFault>
+/// A lab that has the image's chip as its load.
+///
+/// # Errors
+/// The image's first fault, or want of memory.
+pub fn open_image(alloc: Global, image: Vec<u8>, limit: u32) -> Result<Lab, ImageFault>
     ensures ok { IfOk result (λ lab. Opens image.items limit lab) }
     ensures err { IfErr result (λ fault. IsFault image.items fault) }
 {
@@ -103,7 +129,7 @@ fn open(alloc: Global, image: Vec<u8>, limit: u32) -> Result<Lab, ImageFault>
 }
 
 /// Writes the text of a refused image.
-pub(crate) fn refuse<W: Write>(writer: &mut W, fault: ImageFault) -> Status
+pub fn refuse<W: Write>(writer: &mut W, fault: ImageFault) -> Status
     ensures { (before : List ℕ) → W.contents writer.old ≡ Some before →
         (text : List ℕ) × (W.contents writer.new ≡ Some (before ++ text)) × Refuses fault text result }
 {
@@ -115,7 +141,8 @@ pub(crate) fn refuse<W: Write>(writer: &mut W, fault: ImageFault) -> Status
     }
 }
 
-fn status_of(ending: Result<Ending, WriteFailed>) -> Status
+/// The status of a session whose commands were served so.
+pub fn status_of(ending: Result<Ending, WriteFailed>) -> Status
     ensures { result ≡ status_that ending }
 {
     match ending {

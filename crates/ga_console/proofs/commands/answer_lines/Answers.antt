@@ -2,29 +2,28 @@ use Rattle.std.proofs.Common.{ℕ, ◌-◌, ◌++◌, [], List, refl, sym, ap, s
 use Rattle.std.specs.Prelude.{Result, Ok}
 use Rattle.std.specs.Result.{IsErr}
 use Rattle.ga_console.specs.Ahead.{IsAhead}
+use Rattle.ga_console.specs.Turns.{Answering}
 use Rattle.ga_console.specs.Session.{Serves, ServesCut}
 use Rattle.ga_console.specs.Texts.{no_input}
-use Rattle.ga_lab.specs.Machine.{State}
 use Rattle.ga_console.specs.declared.output.WriteFailed.{WriteFailed}
 use Rattle.ga_console.specs.declared.commands.Ending.{Ending}
 use Rattle.ga_console.specs.declared.commands.Ending.TheVariants.{Ended, Past}
 use Rattle.ga_console.proofs.SaidLemmas.{at_err, cut_here, said_assoc, cut_assoc, said_pending, said_nothing}
-use Rattle.ga_console.specs.Replies.Answer.{command}
 use Rattle.ga_console.proofs.AheadLemmas.{ahead_whole}
 use Rattle.ga_console.proofs.LineLemmas.{quit_part, empty_part, some_part}
-use Rattle.ga_console.proofs.Heard.{heard_none, heard_push, heard_cut, heard_failed, heard_ended, heard_last, heard_quit, heard_quit_last, heard_past, cut_short, read_to, read_past, read_over, split_at, split_past, split_over}
+use Rattle.ga_console.proofs.Heard.{heard_none, heard_push, heard_cut, heard_failed, heard_ended, heard_last, heard_quit, heard_quit_last, heard_past, heard_same, cut_short, read_to, read_past, read_over, split_at, split_past, split_over}
 use Rattle.ga_console.proofs.commands.answer_lines.Goals as goal
 
 -- a write failed
-serves_cut : (room : ℕ) (m : State) (read rest text : List ℕ) (result : Result Ending WriteFailed) → IsErr result
-    → ServesCut room m read rest text → Serves room m read rest text result
-serves_cut room m read rest text result is h = at_err (λ (r : Result Ending WriteFailed). Serves room m read rest text r) result is (λ why. h)
+serves_cut : {M : Type 0} (A : Answering M) (room : ℕ) (m : M) (read rest text : List ℕ) (last : M) (result : Result Ending WriteFailed) → IsErr result
+    → ServesCut A room m read rest text last → Serves A room m read rest text last result
+serves_cut A room m read rest text last result is h = at_err (λ (r : Result Ending WriteFailed). Serves A room m read rest text last r) result is (λ why. h)
 
 pub lines-init : goal.lines-init
 lines-init g c = record {
   within = c.requires;
   heard = λ left before said known held.
-      (left, [], known, said_pending _ before said c.args.output.now held, heard_none c.args.lab.now (c.args.input.now.bytes ++ left) c.args.input.now.taken);
+      (left, [], known, said_pending _ before said c.args.output.now held, heard_none g.S.Responder.answers c.args.session.now (c.args.input.now.bytes ++ left) c.args.input.now.taken);
 }
 
 pub returns-in_err-read_line : goal.returns-in_err-read_line
@@ -39,7 +38,7 @@ returns-in_err-read_line g c = λ left before said known held.
       inv.1,
       split_at heard part got.0 got.2.is_line.splits,
       got.1,
-      serves_cut _ _ _ _ _ c.from_residual-in_err-read_line.result c.from_residual-in_err-read_line.ensures.0
+      serves_cut _ _ _ _ _ _ _ c.from_residual-in_err-read_line.result c.from_residual-in_err-read_line.ensures.0
           (heard_cut heard part got.0 (omega (arith, got.2.counts, got.2.none_left, c.in_err-read_line.ensures.within))),
       cut_here c.from_residual-in_err-read_line.result _ before (said ++ inv.1) _ c.from_residual-in_err-read_line.ensures.0 told,
     )
@@ -53,14 +52,14 @@ returns-in_err-answer-in-Feed g c = λ left before said known held.
     let heard = inv.4 in
     let turn = c.in_err-answer-in-Feed.ensures before (said ++ inv.1) told in
     let answered = turn.1 part got.2.is_line.kept in
-    let more = heard_push heard part (c.read_line.new.input.bytes ++ got.0) c.read_line.new.input.taken turn.0 c.answer.new.lab
+    let more = heard_push heard part (c.read_line.new.input.bytes ++ got.0) c.read_line.new.input.taken turn.0 c.answer.new.self
     got.2.is_line.splits got.2.is_line.no_feed got.2.counts answered.0 answered.1 in (
       read_to more c.read_line.new.input.bytes,
       got.0,
       inv.1 ++ turn.0,
       split_at more c.read_line.new.input.bytes got.0 refl,
       got.1,
-      serves_cut _ _ _ _ _ c.from_residual-in_err-answer-in-Feed.result c.from_residual-in_err-answer-in-Feed.ensures.0
+      serves_cut _ _ _ _ _ _ _ c.from_residual-in_err-answer-in-Feed.result c.from_residual-in_err-answer-in-Feed.ensures.0
           (heard_cut more c.read_line.new.input.bytes got.0 c.in_ok-read_line.ensures.within),
       cut_here c.from_residual-in_err-answer-in-Feed.result _ before (said ++ (inv.1 ++ turn.0)) _ c.from_residual-in_err-answer-in-Feed.ensures.0
           (cut_assoc _ before said inv.1 turn.0 turn.2),
@@ -72,8 +71,8 @@ returns-in-Quit g c = λ left before said known held.
     let got = rw c.in-Feed.is at (c.in_ok-read_line.ensures.reads inv.0 inv.2) in
     let told = c.in_ok-read_line.ensures.said before (said ++ inv.1) inv.3 in
     let part : List ℕ = got.2.part in
-    let heard = inv.4 in
     let turn = rw c.in-Quit.is at (c.in_ok-answer-in-Feed.ensures before (said ++ inv.1) told) in
+    let heard = heard_same inv.4 c.answer.new.self turn.1.1 in
     let quit = quit_part c.read_line.new.line.items part got.2.is_line.kept turn.1.0 in (
       read_past heard part c.read_line.new.input.bytes,
       got.0,
@@ -99,7 +98,7 @@ lines-preserved g c = record {
         inv.1 ++ turn.0,
         got.1,
         said_assoc _ before said inv.1 turn.0 _ turn.2,
-        heard_push heard part (c.read_line.new.input.bytes ++ got.0) c.read_line.new.input.taken turn.0 c.answer.new.lab
+        heard_push heard part (c.read_line.new.input.bytes ++ got.0) c.read_line.new.input.taken turn.0 c.answer.new.self
             got.2.is_line.splits got.2.is_line.no_feed got.2.counts answered.0 answered.1,
       );
 }
@@ -136,9 +135,9 @@ returns-in_err-answer-in-Last g c = λ left before said known held.
       inv.1 ++ turn.0,
       split_at heard part got.0 (got.2.0.is_line.splits ∙ ap (λ (l : List ℕ). part ++ l) (sym got.2.1)),
       got.1,
-      serves_cut _ _ _ _ _ c.from_residual-in_err-answer-in-Last.result c.from_residual-in_err-answer-in-Last.ensures.0
-          (cut_short (16777216 - c.args.input.now.taken) c.args.lab.now (read_to heard part) got.0 (inv.1 ++ turn.0) (Ok Ended)
-          (heard_last heard part got.0 turn.0 c.answer-in-Last.new.lab got.2.0.is_line.no_feed some got.2.1 (omega (arith, got.2.0.counts, got.2.0.none_left, c.in_ok-read_line.ensures.within)) answered.0 answered.1)),
+      serves_cut _ _ _ _ _ _ _ c.from_residual-in_err-answer-in-Last.result c.from_residual-in_err-answer-in-Last.ensures.0
+          (cut_short _ (16777216 - c.args.input.now.taken) c.args.session.now (read_to heard part) got.0 (inv.1 ++ turn.0) _ (Ok Ended)
+          (heard_last heard part got.0 turn.0 c.answer-in-Last.new.self got.2.0.is_line.no_feed some got.2.1 (omega (arith, got.2.0.counts, got.2.0.none_left, c.in_ok-read_line.ensures.within)) answered.0 answered.1)),
       cut_here c.from_residual-in_err-answer-in-Last.result _ before (said ++ (inv.1 ++ turn.0)) _ c.from_residual-in_err-answer-in-Last.ensures.0
           (cut_assoc _ before said inv.1 turn.0 turn.2),
     )
@@ -149,8 +148,8 @@ returns-in-Quit-2 g c = λ left before said known held.
     let got = rw c.in-Last.is at (c.in_ok-read_line.ensures.reads inv.0 inv.2) in
     let told = c.in_ok-read_line.ensures.said before (said ++ inv.1) inv.3 in
     let part : List ℕ = got.2.0.part in
-    let heard = inv.4 in
     let turn = rw c.in-Quit-2.is at (c.in_ok-answer-in-Last.ensures before (said ++ inv.1) told) in
+    let heard = heard_same inv.4 c.answer-in-Last.new.self turn.1.1 in
     let quit = quit_part c.read_line.new.line.items part got.2.0.is_line.kept turn.1.0 in (
       read_to heard part,
       got.0,
@@ -176,7 +175,7 @@ returns-in-Answered-2 g c = λ left before said known held.
       inv.1 ++ turn.0,
       split_at heard part got.0 (got.2.0.is_line.splits ∙ ap (λ (l : List ℕ). part ++ l) (sym got.2.1)),
       got.1,
-      heard_last heard part got.0 turn.0 c.answer-in-Last.new.lab got.2.0.is_line.no_feed some got.2.1 (omega (arith, got.2.0.counts, got.2.0.none_left, c.in_ok-read_line.ensures.within)) answered.0 answered.1,
+      heard_last heard part got.0 turn.0 c.answer-in-Last.new.self got.2.0.is_line.no_feed some got.2.1 (omega (arith, got.2.0.counts, got.2.0.none_left, c.in_ok-read_line.ensures.within)) answered.0 answered.1,
       said_assoc _ before said inv.1 turn.0 _ turn.2,
     )
 
@@ -192,8 +191,8 @@ returns-in_err-say-in-Past g c = λ left before said known held.
       inv.1 ++ no_input,
       split_over heard part got.2.byte got.0 got.2.takes.is_line.splits,
       got.1,
-      serves_cut _ _ _ _ _ c.from_residual-in_err-say-in-Past.result c.from_residual-in_err-say-in-Past.ensures.0
-          (cut_short (16777216 - c.args.input.now.taken) c.args.lab.now (read_over heard part got.2.byte) got.0 (inv.1 ++ no_input) (Ok Past)
+      serves_cut _ _ _ _ _ _ _ c.from_residual-in_err-say-in-Past.result c.from_residual-in_err-say-in-Past.ensures.0
+          (cut_short _ (16777216 - c.args.input.now.taken) c.args.session.now (read_over heard part got.2.byte) got.0 (inv.1 ++ no_input) _ (Ok Past)
           (heard_past heard part got.2.byte got.0 c.read_line.new.input.taken got.2.takes.is_line.no_feed got.2.takes.counts got.2.full)),
       cut_here c.from_residual-in_err-say-in-Past.result _ before (said ++ (inv.1 ++ no_input)) _ c.from_residual-in_err-say-in-Past.ensures.0
           (cut_assoc _ before said inv.1 no_input (c.in_err-say-in-Past.ensures before (said ++ inv.1) told)),
@@ -237,15 +236,15 @@ returns-in_err-obey g c = λ left before said known held.
     let ahead = subst (λ (t : List ℕ). IsAhead t c.in-Some.ahead.0 c.in-Some.ahead.1) c.unread.ensures c.in-Some.ensures in
     let done = c.in_err-obey.ensures before (said ++ inv.1) inv.3 in
     let whole = ahead_whole c.lines.input.bytes c.skip.new.self.bytes inv.0 c.in-Some.ahead.0 c.in-Some.ahead.1 ahead c.skip.ensures.bytes in
-    let more = heard_push inv.4 ahead.line (c.skip.new.self.bytes ++ inv.0) c.skip.new.self.taken done.0 c.obey.new.lab
+    let more = heard_push inv.4 ahead.line (c.skip.new.self.bytes ++ inv.0) c.skip.new.self.taken done.0 c.obey.new.self
     whole ahead.no_feed (omega (arith, c.skip.ensures.taken, ahead.counts))
-    (command c.in-Some.ahead.0 (omega (arith, ahead.counts, ahead.short)) ahead.spelled done.1) ahead.not_quit in (
+    (done.1 ahead.line (omega (arith, ahead.counts, ahead.short)) ahead.spelled) ahead.not_quit in (
       read_to more c.skip.new.self.bytes,
       inv.0,
       inv.1 ++ done.0,
       split_at more c.skip.new.self.bytes inv.0 refl,
       inv.2,
-      serves_cut _ _ _ _ _ c.from_residual.result c.from_residual.ensures.0 (heard_cut more c.skip.new.self.bytes inv.0 c.skip.ensures.within),
+      serves_cut _ _ _ _ _ _ _ c.from_residual.result c.from_residual.ensures.0 (heard_cut more c.skip.new.self.bytes inv.0 c.skip.ensures.within),
       cut_here c.from_residual.result _ before (said ++ (inv.1 ++ done.0)) _ c.from_residual.ensures.0 (cut_assoc _ before said inv.1 done.0 done.2),
     )
 
@@ -260,9 +259,9 @@ lines-preserved-in-Some g c = record {
         inv.1 ++ done.0,
         inv.2,
         said_assoc _ before said inv.1 done.0 _ done.2,
-        heard_push inv.4 ahead.line (c.skip.new.self.bytes ++ inv.0) c.skip.new.self.taken done.0 c.obey.new.lab
+        heard_push inv.4 ahead.line (c.skip.new.self.bytes ++ inv.0) c.skip.new.self.taken done.0 c.obey.new.self
             (ahead_whole c.lines.input.bytes c.skip.new.self.bytes inv.0 c.in-Some.ahead.0 c.in-Some.ahead.1 ahead c.skip.ensures.bytes)
             ahead.no_feed (omega (arith, c.skip.ensures.taken, ahead.counts))
-            (command c.in-Some.ahead.0 (omega (arith, ahead.counts, ahead.short)) ahead.spelled done.1) ahead.not_quit,
+            (done.1 ahead.line (omega (arith, ahead.counts, ahead.short)) ahead.spelled) ahead.not_quit,
       );
 }

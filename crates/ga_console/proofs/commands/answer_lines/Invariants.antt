@@ -9,7 +9,7 @@ invariant-lines g l = record {
   within : IsWithin l.input;
   heard : (left before said : List ℕ) → g.R.Read.remaining l.fn.reader ≡ Some left → IsSaid (g.W.Write.contents l.fn.writer) before said l.fn.output →
       (rest text : List ℕ) × (g.R.Read.remaining l.reader ≡ Some rest) × IsSaid (g.W.Write.contents l.writer) before (said ++ text) l.output
-      × Heard l.fn.lab (l.fn.input.bytes ++ left) l.fn.input.taken (l.input.bytes ++ rest) l.input.taken text l.lab;
+      × Heard g.S.Responder.answers l.fn.session (l.fn.input.bytes ++ left) l.fn.input.taken (l.input.bytes ++ rest) l.input.taken text l.session;
 }
 
 abbrev pub decreases-lines : goal.decreases-lines

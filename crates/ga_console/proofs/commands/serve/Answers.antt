@@ -18,7 +18,7 @@ returns-in_err-ending g c = λ left before said known held.
       done.3,
       done.4,
       done.6.held,
-      at_err (λ (r : Result Ending WriteFailed). Serves (16777216 - c.args.input.now.taken) c.args.lab.now done.0 done.1 done.2 r) c.from_residual.result
+      at_err (λ (r : Result Ending WriteFailed). Serves g.S.Responder.answers (16777216 - c.args.input.now.taken) c.args.session.now done.0 done.1 done.2 c.answer_lines.new.session r) c.from_residual.result
           c.from_residual.ensures.0 (λ why. done.5),
       at_err (λ (r : Result Ending WriteFailed). Written r (said ++ done.2) done.6.sent) c.from_residual.result c.from_residual.ensures.0 (λ why. done.6.front),
     )
@@ -27,7 +27,7 @@ pub returns-in_err-send : goal.returns-in_err-send
 returns-in_err-send g c = λ left before said known held.
     let done = c.in_ok-ending.ensures left before said known held in
     let told = c.in_err-send.ensures.said before (said ++ done.2) done.6 in
-    let cut = cut_short (16777216 - c.args.input.now.taken) c.args.lab.now done.0 done.1 done.2 (Ok c.in_ok-ending.ending) done.5 in (
+    let cut = cut_short _ (16777216 - c.args.input.now.taken) c.args.session.now done.0 done.1 done.2 _ (Ok c.in_ok-ending.ending) done.5 in (
       done.0,
       done.1,
       done.2,
@@ -35,7 +35,7 @@ returns-in_err-send g c = λ left before said known held.
       done.3,
       done.4,
       told.held,
-      at_err (λ (r : Result Ending WriteFailed). Serves (16777216 - c.args.input.now.taken) c.args.lab.now done.0 done.1 done.2 r) c.from_residual-in_err-send.result
+      at_err (λ (r : Result Ending WriteFailed). Serves g.S.Responder.answers (16777216 - c.args.input.now.taken) c.args.session.now done.0 done.1 done.2 c.answer_lines.new.session r) c.from_residual-in_err-send.result
           c.from_residual-in_err-send.ensures.0 (λ why. cut),
       at_err (λ (r : Result Ending WriteFailed). Written r (said ++ done.2) told.sent) c.from_residual-in_err-send.result c.from_residual-in_err-send.ensures.0 (λ why. told.front),
     )

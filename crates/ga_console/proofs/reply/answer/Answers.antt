@@ -4,10 +4,11 @@ use Rattle.std.proofs.lemmas.List.{take_all}
 use Rattle.ga_lab.specs.Machine.{State}
 use Rattle.ga_console.specs.Texts.{no_long, no_syntax}
 use Rattle.ga_console.specs.Commands.{Spells}
-use Rattle.ga_console.specs.Replies.{Does, Turns, AnswersLine}
+use Rattle.ga_console.specs.Replies.{Answer, Does}
+use Rattle.ga_console.specs.Turns.{Turns, AnswersLine}
 use Rattle.ga_console.specs.Replies.Answer.{long, command, syntax}
 use Rattle.ga_console.specs.declared.output.WriteFailed.{WriteFailed}
-use Rattle.ga_console.specs.declared.reply.Turn.{Turn}
+use Rattle.ga_console.specs.declared.responder.Turn.{Turn}
 use Rattle.ga_console.specs.declared.command.Command.{Command}
 use Rattle.ga_console.specs.declared.command.Command.TheVariants.{Quit}
 use Rattle.ga_console.proofs.SaidLemmas.{cut_here, said_pending}
@@ -21,22 +22,22 @@ whole line part e h = sym (e ∙ take_all 201 part (omega (arith, ap length e, l
 
 -- a failed write changes nothing of what the answer is
 turns_err : (s : State) (line answer : List ℕ) (new : State) (result : Result Turn WriteFailed) → IsErr result
-    → AnswersLine s line answer new → Turns s line new result answer
+    → AnswersLine Answer s line answer new → Turns Answer s line new result answer
 turns_err s line answer new (Ok turn) is h = absurd (search rules)
 turns_err s line answer new (Err why) is h = h
 
-answers_long : (s : State) (line : List ℕ) → 200 < length line → AnswersLine s line no_long s
+answers_long : (s : State) (line : List ℕ) → 200 < length line → AnswersLine Answer s line no_long s
 answers_long s line past = λ part kept.
     let long_part : 200 < length part = too_long line part kept past in
     (long long_part refl refl, λ e. absurd (omega (arith, ap length e)))
 
-answers_none : (s : State) (line given : List ℕ) → given ≡ line → length line ≤ 200 → ((d : Command) → ¬ Spells d given) → AnswersLine s line no_syntax s
+answers_none : (s : State) (line given : List ℕ) → given ≡ line → length line ≤ 200 → ((d : Command) → ¬ Spells d given) → AnswersLine Answer s line no_syntax s
 answers_none s line given e short none = λ part kept.
     let same : part ≡ given = whole line part kept short ∙ sym e in
     (syntax (omega (arith, ap length same, ap length e)) (λ d spelled. none d (subst (Spells d) same spelled)) refl refl, λ q. none Quit (sym same ∙ q))
 
 answers_done : (s : State) (line given answer : List ℕ) (new : State) (d : Command) → given ≡ line → length line ≤ 200 → Spells d given
-    → ((other : Command) → Spells other given → other ≡ d) → d ≢ Quit → Does s d answer new → AnswersLine s line answer new
+    → ((other : Command) → Spells other given → other ≡ d) → d ≢ Quit → Does s d answer new → AnswersLine Answer s line answer new
 answers_done s line given answer new d e short spelled only not_quit does = λ part kept.
     let same : part ≡ given = whole line part kept short ∙ sym e in
     (command d (omega (arith, ap length same, ap length e)) (subst (Spells d) (sym same) spelled) does, λ q. not_quit (sym (only Quit (sym same ∙ q))))

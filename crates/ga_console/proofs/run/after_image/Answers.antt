@@ -1,6 +1,6 @@
 use Rattle.std.proofs.Common.{inl, inr, refl}
 use Rattle.ga_console.specs.Output.{ready}
-use Rattle.ga_console.proofs.RunLemmas.{said_fresh}
+use Rattle.ga_console.proofs.RunLemmas.{said_fresh, serves_from}
 use Rattle.ga_console.proofs.run.after_image.Goals as goal
 
 pub returns-in-Ok : goal.returns-in-Ok
@@ -12,7 +12,7 @@ returns-in-Ok g c = λ left before known held.
       done.4,
       done.5,
       done.6,
-      inl (c.in-Ok.lab, c.in-Ok.ensures.ok, c.serve.result, c.status_of.ensures, done.2, done.7, done.8),
+      inl (c.in-Ok.lab, c.in-Ok.ensures.ok, c.serve.result, c.status_of.ensures, done.2, c.serve.new.session, serves_from _ _ _ _ _ _ _ _ _ c.open-session.ensures done.7, done.8),
     )
 
 pub returns-in-Err : goal.returns-in-Err

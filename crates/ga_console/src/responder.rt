@@ -1,0 +1,96 @@
+//! What answers the lines of a session.
+ghost use Rattle.std.specs.Prelude.{◌≡◌, ℕ, List};
+ghost use Rattle.ga_lab.specs.Machine.{State};
+ghost use Rattle.ga_console.specs.Output.{Says};
+ghost use Rattle.ga_console.specs.Turns.{Turns, AnswersCommand};
+
+use super::command::Command;
+use super::lines::Line;
+use super::output::{Output, WriteFailed};
+use super::reply;
+use ga_lab::Lab;
+use std::alloc::Global;
+use std::io::Write;
+
+/// What a line asks for.
+#[derive(Clone, Copy, PartialEq, Eq)]
+pub enum Turn {
+    /// An answer, which was said.
+    Answered,
+    /// The end of the session.
+    Quit,
+}
+
+/// What answers the lines of a session. It knows each command of the debugger, and may know more.
+pub trait Responder: Drop {
+    // The machine before a line, the line, its answer, and the machine after it.
+    ghost answers: { Self → List ℕ → List ℕ → Self → Type 0 };
+
+    // The session's machine on a lab that was opened.
+    ghost begin: { State → Self };
+
+    /// Begins on a lab.
+    fn open(lab: Lab) -> Self
+        ensures { result ≡ begin lab };
+
+    /// Answers a line, of which at least the first 201 bytes are here.
+    ///
+    /// # Errors
+    /// A write failed.
+    fn answer<W: Write>(
+        &mut self,
+        alloc: Global,
+        line: &Line,
+        output: &mut Output,
+        writer: &mut W,
+    ) -> Result<Turn, WriteFailed>
+        ensures { Says result (Turns answers self.old line.now.items self.new result)
+            (W.contents writer.old) output.old (W.contents writer.new) output.new };
+
+    /// Answers a line that spells a command of the debugger.
+    ///
+    /// # Errors
+    /// A write failed.
+    fn obey<W: Write>(
+        &mut self,
+        alloc: Global,
+        command: Command,
+        output: &mut Output,
+        writer: &mut W,
+    ) -> Result<(), WriteFailed>
+        ensures { Says result (AnswersCommand answers self.old command self.new)
+            (W.contents writer.old) output.old (W.contents writer.new) output.new };
+}
+
+impl Responder for Lab {
+    ghost use Rattle.ga_console.specs.Replies.{Answer};
+
+    ghost answers = { Answer };
+
+    ghost begin = { λ s. s };
+
+    fn open(lab: Lab) -> Self {
+        lab
+    }
+
+    fn answer<W: Write>(
+        &mut self,
+        alloc: Global,
+        line: &Line,
+        output: &mut Output,
+        writer: &mut W,
+    ) -> Result<Turn, WriteFailed> {
+        reply::answer(alloc, self, line, output, writer)
+    }
+
+    #[inline(always)]
+    fn obey<W: Write>(
+        &mut self,
+        alloc: Global,
+        command: Command,
+        output: &mut Output,
+        writer: &mut W,
+    ) -> Result<(), WriteFailed> {
+        reply::obey(alloc, self, command, output, writer)
+    }
+}
