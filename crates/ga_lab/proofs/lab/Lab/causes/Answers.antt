@@ -1,0 +1,30 @@
+use Rattle.std.proofs.Common.{◌≡◌, ℕ, length, sym, ◌∙◌, ap, subst}
+use Rattle.std.proofs.lemmas.List.{length-map}
+use Rattle.ga_event.specs.declared.event.Cause.{Cause}
+use Rattle.ga_lab.specs.Machine.{State, causes_of}
+use Rattle.ga_lab.proofs.Replays.{IsReplayed, causes_tied, replayed_tied}
+use Rattle.ga_lab.proofs.Reasons.{stands_place}
+use Rattle.ga_lab.proofs.lab.Lab.causes.Goals as goal
+
+pub returns-in-Ok-clause-ok : goal.returns-in-Ok-clause-ok
+returns-in-Ok-clause-ok c =
+    c.in-Ok.ensures.ok ∙ sym (causes_tied c.self.inside.chip c.self.inside.chronicle.journal c.self.invariant.tied) ∙ ap causes_of c.self.view_is
+
+as_long : (s : State) → IsReplayed s → length (causes_of s) ≡ length s.kept
+as_long s same = sym (length-map (causes_of s) (λ (e : Cause). e.event)) ∙ ap length same
+
+pub returns-in-Ok-clause-size : goal.returns-in-Ok-clause-size
+returns-in-Ok-clause-size c =
+    as_long c.args.self.now (subst IsReplayed c.self.view_is (replayed_tied c.self.inside.chip c.self.inside.chronicle.journal c.self.invariant.tied))
+
+pub returns-in-Err-clause-size : goal.returns-in-Err-clause-size
+returns-in-Err-clause-size c =
+    as_long c.args.self.now (subst IsReplayed c.self.view_is (replayed_tied c.self.inside.chip c.self.inside.chronicle.journal c.self.invariant.tied))
+
+pub returns-in-Ok-clause-places : goal.returns-in-Ok-clause-places
+returns-in-Ok-clause-places c n k =
+    stands_place c.args.self.now n k (subst IsReplayed c.self.view_is (replayed_tied c.self.inside.chip c.self.inside.chronicle.journal c.self.invariant.tied))
+
+pub returns-in-Err-clause-places : goal.returns-in-Err-clause-places
+returns-in-Err-clause-places c n k =
+    stands_place c.args.self.now n k (subst IsReplayed c.self.view_is (replayed_tied c.self.inside.chip c.self.inside.chronicle.journal c.self.invariant.tied))

@@ -1,0 +1,28 @@
+//! The kept events of a lab with their causes, as one list.
+
+use super::Lab;
+use crate::fault::LabFault;
+use ga_event::Cause;
+
+impl Lab {
+    ghost use Rattle.std.specs.Prelude.{◌≡◌, ℕ, IfOk, IfErr, is_some, length};
+    ghost use Rattle.ga_causal.specs.Steps.{place_of};
+    ghost use Rattle.ga_lab.specs.Machine.{causes_of, stands};
+
+    /// The kept events in order, each with whether it looked at the neighbours of its node. A step stands exactly where it has a
+    /// place in this list.
+    ///
+    /// # Errors
+    /// `Memory` alone.
+    pub fn causes(&self) -> Result<Vec<Cause>, LabFault>
+        ensures ok { IfOk result (λ list. list.items ≡ causes_of self.now) }
+        ensures err { IfErr result (λ why. why ≡ LabFault.Memory) }
+        ensures size { length (causes_of self.now) ≡ length self.now.kept }
+        ensures places { (n k : ℕ) → is_some (place_of (causes_of self.now) n k) ≡ stands self.now n k }
+    {
+        match self.chronicle.causes() {
+            Ok(list) => Ok(list),
+            Err(_) => Err(LabFault::Memory),
+        }
+    }
+}
