@@ -2,7 +2,8 @@
 
 from machine import name
 from node import Node, advanced
-from source import CODE, FIELDS, OPCODES, Fault, programs_of
+from source import FIELDS, programs_of
+from words import CODE, OPCODES, Fault
 
 NAMES = ["invert" if it == "-" else it for it in OPCODES]
 

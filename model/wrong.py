@@ -12,7 +12,7 @@ import sys
 import tempfile
 from concurrent.futures import ThreadPoolExecutor
 
-NODE, MACHINE, SOURCE, LISTING = "node.py", "machine.py", "source.py", "listing.py"
+NODE, MACHINE, WORDS, SOURCE, LISTING = "node.py", "machine.py", "words.py", "source.py", "listing.py"
 WRONG = (
     # the grid
     (NODE, '(column % 2 == 0) == (side == "r")', '(column % 2 == 0) == (side == "l")'),
@@ -190,22 +190,22 @@ WRONG = (
     (MACHINE, "if any(cells[at : at + 8])]", "if any(cells)]"),
     (MACHINE, "if len(block) > 1 for line", "for line"),
     # words of source
-    (SOURCE, "return 0x155 ^ sum(", "return 0x155 | sum("),
-    (SOURCE, "return (-size if found[1] else size) % 0x40000", "return size"),
-    (SOURCE, "size <= 262143, line", "size <= 131071, line"),
-    (SOURCE, '"/b": 0x200}', '"/b": 0x100}'),
-    (SOURCE, '"jump" if self.comes(";") else "call"', '"jump" if self.words and self.words[0][1] == ";" else "call"'),
-    (SOURCE, '"jump" if self.comes(";") else "call"', '"call"'),
-    (SOURCE, "self.lines.setdefault(word, line)", "self.lines[word] = line"),
-    (SOURCE, "address < 0x40 or 0x80 <= address < 0xC0, line", "address < 0xC0, line"),
-    (SOURCE, 'self.ask(line, "org", address + self.bit)', 'self.ask(line, "org", address)'),
-    (SOURCE, 'self.bit = 0x200 if word == "+cy" else 0', "self.bit = 0x200"),
-    (SOURCE, '"until": "if", "-until": "-if"', '"until": "-if", "-until": "if"'),
-    (SOURCE, 'word.replace("while", "if")', '"if"'),
-    (SOURCE, 'self.ask(line, "op", CODE["push"])', "pass"),
-    (SOURCE, 'label = self.close(line, "ahead")\n            self.ahead(line, "jump")\n            self.mark(line, label)', 'label = self.close(line, "ahead")\n            self.mark(line, label)\n            self.ahead(line, "jump")'),
-    (SOURCE, 'self.jump(line, "next", self.close(line, "loop"))\n            self.open.append(innermost)', 'self.jump(line, "next", innermost[1])\n            self.open.append(innermost)'),
-    (SOURCE, "raise fault(self.open[0][2]", "raise fault(self.open[-1][2]"),
+    (WORDS, "return 0x155 ^ sum(", "return 0x155 | sum("),
+    (WORDS, "return (-size if found[1] else size) % 0x40000", "return size"),
+    (WORDS, "size <= 262143, line", "size <= 131071, line"),
+    (WORDS, '"/b": 0x200}', '"/b": 0x100}'),
+    (WORDS, '"jump" if self.comes(";") else "call"', '"jump" if self.words and self.words[0][1] == ";" else "call"'),
+    (WORDS, '"jump" if self.comes(";") else "call"', '"call"'),
+    (WORDS, "self.lines.setdefault(word, line)", "self.lines[word] = line"),
+    (WORDS, "address < 0x40 or 0x80 <= address < 0xC0, line", "address < 0xC0, line"),
+    (WORDS, 'self.ask(line, "org", address + self.bit)', 'self.ask(line, "org", address)'),
+    (WORDS, 'self.bit = 0x200 if word == "+cy" else 0', "self.bit = 0x200"),
+    (WORDS, '"until": "if", "-until": "-if"', '"until": "-if", "-until": "if"'),
+    (WORDS, 'word.replace("while", "if")', '"if"'),
+    (WORDS, 'self.ask(line, "op", CODE["push"])', "pass"),
+    (WORDS, 'label = self.close(line, "ahead")\n            self.ahead(line, "jump")\n            self.mark(line, label)', 'label = self.close(line, "ahead")\n            self.mark(line, label)\n            self.ahead(line, "jump")'),
+    (WORDS, 'self.jump(line, "next", self.close(line, "loop"))\n            self.open.append(innermost)', 'self.jump(line, "next", innermost[1])\n            self.open.append(innermost)'),
+    (WORDS, "raise fault(self.open[0][2]", "raise fault(self.open[-1][2]"),
     # the packing rule
     (SOURCE, "FIELDS = {0: 10, 1: 8, 2: 3}", "FIELDS = {0: 10, 1: 8, 2: 4}"),
     (SOURCE, "FIELDS = {0: 10, 1: 8, 2: 3}", "FIELDS = {0: 10, 1: 8}"),
@@ -265,7 +265,7 @@ def told(room, number, program, count):
         return f"its text stands {right.count(old)} times, and not once"
     with open(f"{folder}/{file}", "w", encoding="utf-8") as text:
         text.write(right.replace(old, new))
-    ran = subprocess.run([sys.executable, "-B", f"{folder}/{'sources' if file in (SOURCE, LISTING) else 'sessions'}.py", program, "0", str(count)], capture_output=True, text=True)
+    ran = subprocess.run([sys.executable, "-B", f"{folder}/{'sources' if file in (WORDS, SOURCE, LISTING) else 'sessions'}.py", program, "0", str(count)], capture_output=True, text=True)
     shutil.rmtree(folder)
     said = (ran.stdout + ran.stderr).strip().split("\n")[-1]
     if ran.returncode == 1:

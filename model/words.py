@@ -1,0 +1,220 @@
+"""A second reading of "Source" in docs/REFERENCE.md, apart from the crates: the words of a source, and what those of a node ask for."""
+
+import re
+
+OPCODES = "; ex jump call unext next if -if @p @+ @b @ !p !+ !b ! +* 2* 2/ - + and or drop dup pop over a . push b! a!".split()
+CODE = {it: code for code, it in enumerate(OPCODES)}
+JUMPS = {it: CODE[it] for it in ("jump", "call", "unext", "next", "if", "-if")}
+OPS = {it: code for it, code in CODE.items() if it not in JUMPS} | {"inv": CODE["-"], "invert": CODE["-"], "xor": CODE["or"], "nop": CODE["."]}
+PORTS = {"right": 0x1D5, "down": 0x115, "left": 0x175, "up": 0x145, "io": 0x15D}
+BEGINNINGS = {"if": "if", "-if": "-if", "ahead": "jump"}
+ENDINGS = {"again": "jump", "until": "if", "-until": "-if", "next": "next"}
+CONTROLS = {*BEGINNINGS, *ENDINGS, "begin", "for", "else", "then", "while", "-while", "repeat", "unext", "*next"}
+DIRECTIVES = {":", "org", "/p", "/a", "/b", "..", "+cy", "-cy", "node", ",", "\\", "("}
+BOUNDS = {"/p": 0x400, "/a": 0x40000, "/b": 0x200}
+
+
+class Fault(Exception):
+    """What is told of a source, with its line."""
+
+
+def fault(line, text):
+    return Fault(f"line {line}: {text}")
+
+
+def demand(holds, line, text):
+    if not holds:
+        raise fault(line, text)
+
+
+def words_of(source):
+    """The words with their lines; a line at fault is a word that is a Fault, and the last one."""
+    lines = source.split("\n")
+    for number, line in enumerate(lines[:-1] if lines[-1] == "" else lines, 1):
+        if line == "end":
+            return
+        if len(line) > 200:
+            yield number, fault(number, "the line has more than 200 bytes")
+            return
+        within = False
+        for word in re.findall("[^ \t]+", line):
+            if within:
+                within = not word.endswith(")")
+            elif word == "\\":
+                break
+            elif word == "(":
+                within = True
+            else:
+                yield number, word
+        if within:
+            yield number, fault(number, "a comment without its )")
+            return
+
+
+def number_of(word, line):
+    """The number that a word says modulo 2^18, None where it says none."""
+    if word in PORTS:
+        return PORTS[word]
+    if re.fullmatch("[r-][d-][l-][u-]", word) and word != "----":
+        return 0x155 ^ sum(bit for letter, bit in zip(word, (0x80, 0x40, 0x20, 0x10)) if letter != "-")
+    found = re.fullmatch("(-?)(?:0x([0-9a-fA-F]+)|([0-9]+))", word)
+    if not found:
+        return None
+    size = int(found[2], 16) if found[2] else int(found[3])
+    demand(size <= 131072 if found[1] else size <= 262143, line, "number out of range")
+    return (-size if found[1] else size) % 0x40000
+
+
+def is_name(word):
+    """Whether a label may have this name."""
+    try:
+        is_number = number_of(word, 0) is not None
+    except Fault:
+        is_number = True
+    return not (is_number or word in OPS or word in JUMPS or word in CONTROLS or word in DIRECTIVES or word.startswith("'"))
+
+
+class Words:
+    """What the words of a node ask for. A label is its name, or a number where a control word makes it."""
+
+    def __init__(self, line, words):
+        self.asked, self.lines, self.marked, self.registers, self.open = [], {}, set(), {}, []
+        self.words, self.bit, self.made = list(words), 0, 0
+        while self.words:
+            line = self.word()
+        if self.open:
+            raise fault(self.open[0][2], "this is never closed")
+        for label, first in self.lines.items():
+            demand(label in self.marked, first, f"what is {label}")
+
+    def take(self, line):
+        """The word behind a directive."""
+        demand(self.words, line, "a name or a value is missing")
+        line, word = self.words.pop(0)
+        if isinstance(word, Fault):
+            raise word
+        return line, word
+
+    def comes(self, word):
+        """Whether this word is next, which is taken then."""
+        if self.words and self.words[0][1] == word:
+            self.words.pop(0)
+            return True
+        return False
+
+    def ask(self, line, *what):
+        self.asked.append((line, *what))
+
+    def label(self, line, word):
+        self.lines.setdefault(word, line)
+        return word
+
+    def mark(self, line, label):
+        demand(label not in self.marked, line, "the label stands twice")
+        self.marked.add(label)
+        self.ask(line, "mark", label)
+
+    def jump(self, line, op, label):
+        self.ask(line, "back" if label in self.marked else "ahead", CODE[op], label)
+
+    def value(self, line, word):
+        if word.startswith("'"):
+            demand(word != "'", line, "a name or a value is missing")
+            return self.label(line, word[1:])
+        return number_of(word, line)
+
+    def word(self):
+        line, word = self.take(0)
+        if self.comes(","):
+            value = self.value(line, word)
+            demand(value is not None, line, "a name or a value is missing")
+            self.ask(line, "cell", value)
+        elif word in DIRECTIVES:
+            self.directive(line, word)
+        elif word in OPS:
+            self.ask(line, "op", OPS[word])
+        elif word in CONTROLS:
+            self.control(line, word)
+        elif (value := self.value(line, word)) is not None:
+            self.ask(line, "literal", value)
+        else:
+            demand(is_name(word), line, f"what is {word}")
+            self.jump(line, "jump" if self.comes(";") else "call", self.label(line, word))
+        return line
+
+    def directive(self, line, word):
+        if word == ":":
+            line, text = self.take(line)
+            demand(is_name(text), line, "the name is taken")
+            self.mark(line, self.label(line, text))
+        elif word == "org":
+            line, text = self.take(line)
+            address = number_of(text, line)
+            demand(address is not None, line, "a name or a value is missing")
+            demand(address < 0x40 or 0x80 <= address < 0xC0, line, "number out of range")
+            self.ask(line, "org", address + self.bit)
+        elif word in BOUNDS:
+            line, text = self.take(line)
+            value = number_of(text, line)
+            if value is None:
+                demand(is_name(text), line, "a name or a value is missing")
+                value = self.label(line, text)
+            else:
+                demand(value < BOUNDS[word], line, "number out of range")
+            demand(word not in self.registers, line, "the register is given twice")
+            self.registers[word] = (line, value)
+        elif word in ("+cy", "-cy"):
+            self.bit = 0x200 if word == "+cy" else 0
+            self.ask(line, "bit", self.bit)
+        elif word == "..":
+            self.ask(line, "fill")
+        else:
+            raise fault(line, f"what is {word}")
+
+    def new(self):
+        self.made += 1
+        return self.made
+
+    def begin(self, line):
+        label = self.new()
+        self.open.append(("loop", label, line))
+        self.mark(line, label)
+
+    def ahead(self, line, op):
+        label = self.new()
+        self.jump(line, op, label)
+        self.open.append(("ahead", label, line))
+
+    def close(self, line, kind):
+        demand(self.open and self.open[-1][0] == kind, line, "nothing is open that this closes")
+        return self.open.pop()[1]
+
+    def control(self, line, word):
+        if word in BEGINNINGS:
+            self.ahead(line, BEGINNINGS[word])
+        elif word in ("begin", "for"):
+            if word == "for":
+                self.ask(line, "op", CODE["push"])
+            self.begin(line)
+        elif word == "else":
+            label = self.close(line, "ahead")
+            self.ahead(line, "jump")
+            self.mark(line, label)
+        elif word == "then":
+            self.mark(line, self.close(line, "ahead"))
+        elif word == "unext":
+            self.ask(line, "unext", self.close(line, "loop"))
+        elif word in ("while", "-while"):
+            demand(self.open and self.open[-1][0] == "loop", line, "nothing is open that this closes")
+            loop = self.open.pop()
+            self.ahead(line, word.replace("while", "if"))
+            self.open.append(("loop", loop[1], line))
+        elif word == "*next":
+            demand(self.open, line, "nothing is open that this closes")
+            innermost = self.open.pop()
+            self.jump(line, "next", self.close(line, "loop"))
+            self.open.append(innermost)
+        else:
+            self.jump(line, ENDINGS.get(word, "jump"), self.close(line, "loop"))
+            if word == "repeat":
+                self.mark(line, self.close(line, "ahead"))
