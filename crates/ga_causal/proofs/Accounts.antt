@@ -9,10 +9,9 @@ use Rattle.ga_event.specs.Touches.{meets}
 use Rattle.ga_event.specs.Apply.{Told, run}
 use Rattle.ga_node.specs.Record.{NodeRecord}
 use Rattle.ga_event.proofs.Locality.{meets-touched}
-use Rattle.ga_causal.specs.Causes.{nodes_of, events_in, touches}
-use Rattle.ga_causal.specs.Dependence.{marked, dependents_after, dependents, without, rest}
+use Rattle.ga_causal.specs.Dependence.{cause_nodes, events_in, cause_touches, marked, dependents_after, dependents, without, rest, place_of, rest_from, rewound_list}
 use Rattle.ga_causal.specs.Equivalence.{recorded, account, account_told}
-use Rattle.ga_causal.specs.Steps.{counted, numbered_seen, place_of, rest_from, rewound}
+use Rattle.ga_causal.specs.Steps.{counted, numbered_seen}
 use Rattle.ga_causal.proofs.Exact.{any-mono}
 use Rattle.ga_causal.proofs.Runs.{causes, kept, run_rest}
 use Rattle.ga_causal.proofs.Counts.{seen_rest}
@@ -23,20 +22,20 @@ use Rattle.ga_causal.proofs.Consistent.{causes_without, made_of}
 
 -- what touches a node, of things that are of causes
 abbrev at_node : {X : Type 0} → (X → Cause) → ℕ → List X → List X
-at_node f m xs = filter (λ x. touches (f x) m) xs
+at_node f m xs = filter (λ x. cause_touches (f x) m) xs
 
 pub marked-stays : (marks : ℕ → Bool) (e : Cause) (m : ℕ) → marks m ≡ true → marked marks e m ≡ true
 marked-stays marks e m h = go (meets marks e)
   where
-    go : (b : Bool) → cond b (λ n. marks n || touches e n) marks m ≡ true
-    go true = or_left (marks m) (touches e m) h
+    go : (b : Bool) → cond b (λ n. marks n || cause_touches e n) marks m ≡ true
+    go true = or_left (marks m) (cause_touches e m) h
     go false = h
 
-pub marked-touched : (marks : ℕ → Bool) (e : Cause) (m : ℕ) → meets marks e ≡ true → touches e m ≡ true → marked marks e m ≡ true
-marked-touched marks e m t h = subst (λ b. cond b (λ n. marks n || touches e n) marks m ≡ true) (sym t) (or_right (marks m) (touches e m) h)
+pub marked-touched : (marks : ℕ → Bool) (e : Cause) (m : ℕ) → meets marks e ≡ true → cause_touches e m ≡ true → marked marks e m ≡ true
+marked-touched marks e m t h = subst (λ b. cond b (λ n. marks n || cause_touches e n) marks m ≡ true) (sym t) (or_right (marks m) (cause_touches e m) h)
 
-touched-marked : (marks : ℕ → Bool) (e : Cause) (m : ℕ) → marks m ≡ true → touches e m ≡ true → meets marks e ≡ true
-touched-marked marks e m h t = meets-touched marks e (any-mono (λ k. k == m) marks (λ k q. subst (λ z. marks z ≡ true) (sym (eqb-true k m q)) h) (nodes_of e) t)
+touched-marked : (marks : ℕ → Bool) (e : Cause) (m : ℕ) → marks m ≡ true → cause_touches e m ≡ true → meets marks e ≡ true
+touched-marked marks e m h t = meets-touched marks e (any-mono (λ k. k == m) marks (λ k q. subst (λ z. marks z ≡ true) (sym (eqb-true k m q)) h) (cause_nodes e) t)
 
 -- the things that are left of one and more, by whether it is dropped
 abbrev pick : {X : Type 0} → (X → Cause) → ℕ → X → List X → Bool → List X
@@ -46,7 +45,7 @@ none_step : {X : Type 0} (f : X → Cause) (m : ℕ) (marks : ℕ → Bool) (x :
 none_step f m marks x left h later = ⊎_elim
     (λ t. ap (pick f m x left) t ∙ later)
     (λ g. ap (pick f m x left) g
-    ∙ cond-false (touches (f x) m) (x ∷ at_node f m left) (at_node f m left) (false_from_ne_true (touches (f x) m) (λ t. both_ways (meets marks (f x)) g (touched-marked marks (f x) m h t))) ∙ later)
+    ∙ cond-false (cause_touches (f x) m) (x ∷ at_node f m left) (at_node f m left) (false_from_ne_true (cause_touches (f x) m) (λ t. both_ways (meets marks (f x)) g (touched-marked marks (f x) m h t))) ∙ later)
     (cases_Bool (meets marks (f x)))
 
 -- of a marked node nothing is left
@@ -66,18 +65,18 @@ Begins-both false x xs ys (more, q) = (more, q)
 Begins-none : {X : Type 0} (xs ys : List X) → ys ≡ [] → Begins xs ys
 Begins-none xs ys q = (xs, ap (λ z. z ++ xs) (sym q))
 
-begins_skip : {X : Type 0} (f : X → Cause) (m : ℕ) (x : X) (xs ys : List X) → touches (f x) m ≡ false → Begins (at_node f m xs) ys → Begins (at_node f m (x ∷ xs)) ys
-begins_skip f m x xs ys g h = subst (λ z. Begins z ys) (sym (cond-false (touches (f x) m) (x ∷ at_node f m xs) (at_node f m xs) g)) h
+begins_skip : {X : Type 0} (f : X → Cause) (m : ℕ) (x : X) (xs ys : List X) → cause_touches (f x) m ≡ false → Begins (at_node f m xs) ys → Begins (at_node f m (x ∷ xs)) ys
+begins_skip f m x xs ys g h = subst (λ z. Begins z ys) (sym (cond-false (cause_touches (f x) m) (x ∷ at_node f m xs) (at_node f m xs) g)) h
 
-begins_step : {X : Type 0} (f : X → Cause) (m : ℕ) (marks : ℕ → Bool) (x : X) (xs left : List X) → (touches (f x) m ≡ true → meets marks (f x) ≡ true → at_node f m left ≡ []) → Begins (at_node f m xs) (at_node f m left)
+begins_step : {X : Type 0} (f : X → Cause) (m : ℕ) (marks : ℕ → Bool) (x : X) (xs left : List X) → (cause_touches (f x) m ≡ true → meets marks (f x) ≡ true → at_node f m left ≡ []) → Begins (at_node f m xs) (at_node f m left)
     → Begins (at_node f m (x ∷ xs)) (pick f m x left (meets marks (f x)))
 begins_step f m marks x xs left none ih = ⊎_elim
     (λ t. subst (Begins (at_node f m (x ∷ xs))) (sym (ap (pick f m x left) t))
     (⊎_elim
     (λ u. Begins-none (at_node f m (x ∷ xs)) (at_node f m left) (none u t))
     (λ g. begins_skip f m x xs (at_node f m left) g ih)
-    (cases_Bool (touches (f x) m))))
-    (λ t. subst (Begins (at_node f m (x ∷ xs))) (sym (ap (pick f m x left) t)) (Begins-both (touches (f x) m) x (at_node f m xs) (at_node f m left) ih))
+    (cases_Bool (cause_touches (f x) m))))
+    (λ t. subst (Begins (at_node f m (x ∷ xs))) (sym (ap (pick f m x left) t)) (Begins-both (cause_touches (f x) m) x (at_node f m xs) (at_node f m left) ih))
     (cases_Bool (meets marks (f x)))
 
 begins_kept : {X : Type 0} (f : X → Cause) (m : ℕ) (marks : ℕ → Bool) (xs : List X) → Begins (at_node f m xs) (at_node f m (without (dependents_after marks (map f xs)) xs))
@@ -90,10 +89,10 @@ begins_kept f m marks (x ∷ xs) =
 begins_rest : {X : Type 0} (f : X → Cause) (m i : ℕ) (xs : List X) → Begins (at_node f m xs) (at_node f m (without (dependents (map f xs) i) xs))
 begins_rest f m i [] = ([], refl)
 begins_rest f m zero (x ∷ xs) = ⊎_elim
-    (λ u. Begins-none (at_node f m (x ∷ xs)) _ (none_left f m (touches (f x)) xs u))
-    (λ g. begins_skip f m x xs _ g (begins_kept f m (touches (f x)) xs))
-    (cases_Bool (touches (f x) m))
-begins_rest f m (suc i) (x ∷ xs) = Begins-both (touches (f x) m) x (at_node f m xs) _ (begins_rest f m i xs)
+    (λ u. Begins-none (at_node f m (x ∷ xs)) _ (none_left f m (cause_touches (f x)) xs u))
+    (λ g. begins_skip f m x xs _ g (begins_kept f m (cause_touches (f x)) xs))
+    (cases_Bool (cause_touches (f x) m))
+begins_rest f m (suc i) (x ∷ xs) = Begins-both (cause_touches (f x) m) x (at_node f m xs) _ (begins_rest f m i xs)
 
 causes_entries : (s : ℕ → ℕ) (es : List Cause) → map (λ x. x.0) (entries s es) ≡ es
 causes_entries s [] = refl
@@ -111,7 +110,7 @@ account_from es (Some i) m =
     (begins_rest (λ (x : Cause × List ℕ). x.0) m i (numbered_seen es))
 
 -- the account of a node after a rollback is the first part of what it was
-pub first_part : (events : List Cause) (n k m : ℕ) → (later : List (Cause × List ℕ)) × (account m events ≡ account m (rewound events n k) ++ later)
+pub first_part : (events : List Cause) (n k m : ℕ) → (later : List (Cause × List ℕ)) × (account m events ≡ account m (rewound_list events n k) ++ later)
 first_part events n k m = account_from events (place_of events n k) m
 
 zip_nil : {X Y : Type 0} (xs : List X) → zip xs (let ys : List Y = [] in ys) ≡ []
@@ -160,48 +159,48 @@ leaves_from chip last es ts (Some i) is same =
     (r.0, without (dependents (causes ts) i) ts, r.1, λ m. told_rest ts i m)
 
 pub first_part_told : (chip last : List NodeRecord) (events : List Event) (steps : List (Cause × Told)) (n k : ℕ) → run chip events ≡ Some (last, steps)
-    → (now : List NodeRecord) × (left : List (Cause × Told)) × (run chip (events_in (rewound (causes steps) n k)) ≡ Some (now, left))
+    → (now : List NodeRecord) × (left : List (Cause × Told)) × (run chip (events_in (rewound_list (causes steps) n k)) ≡ Some (now, left))
     × ((m : ℕ) → (later : List ((Cause × List ℕ) × Told)) × (account_told m steps ≡ account_told m left ++ later))
 first_part_told chip last events steps n k is =
     leaves_from chip last events steps (place_of (causes steps) n k) is ((made_of chip last events steps is).1)
 
 -- the account of the node itself ends before the step that is taken back
 abbrev entries_at : ℕ → (ℕ → ℕ) → List Cause → List (Cause × List ℕ)
-entries_at n s es = filter (λ x. touches x.0 n) (entries s es)
+entries_at n s es = filter (λ x. cause_touches x.0 n) (entries s es)
 
 none_kept : (s : ℕ → ℕ) (marks : ℕ → Bool) (n : ℕ) (es : List Cause) → marks n ≡ true → entries_at n s (kept marks es) ≡ []
 none_kept s marks n [] h = refl
 none_kept s marks n (e ∷ es) h = ⊎_elim
-    (λ t. ap (entries_at n s) (kept-dropped marks e es t) ∙ none_kept s (λ m. marks m || touches e m) n es (or_left (marks n) (touches e n) h))
+    (λ t. ap (entries_at n s) (kept-dropped marks e es t) ∙ none_kept s (λ m. marks m || cause_touches e m) n es (or_left (marks n) (cause_touches e n) h))
     (λ g. ap (entries_at n s) (kept-kept marks e es g)
-    ∙ cond-false (touches e n) ((e, numbers s e) ∷ entries_at n (counted s e) (kept marks es)) (entries_at n (counted s e) (kept marks es)) (false_from_ne_true (touches e n) (λ t. both_ways (meets marks e) g (touched-marked marks e n h t)))
+    ∙ cond-false (cause_touches e n) ((e, numbers s e) ∷ entries_at n (counted s e) (kept marks es)) (entries_at n (counted s e) (kept marks es)) (false_from_ne_true (cause_touches e n) (λ t. both_ways (meets marks e) g (touched-marked marks e n h t)))
     ∙ none_kept (counted s e) marks n es h)
     (cases_Bool (meets marks e))
 
-entries-skipped : (s : ℕ → ℕ) (n : ℕ) (e : Cause) (es : List Cause) → touches e n ≡ false → entries_at n s (e ∷ es) ≡ entries_at n (counted s e) es
-entries-skipped s n e es f = cond-false (touches e n) ((e, numbers s e) ∷ entries_at n (counted s e) es) (entries_at n (counted s e) es) f
+entries-skipped : (s : ℕ → ℕ) (n : ℕ) (e : Cause) (es : List Cause) → cause_touches e n ≡ false → entries_at n s (e ∷ es) ≡ entries_at n (counted s e) es
+entries-skipped s n e es f = cond-false (cause_touches e n) ((e, numbers s e) ∷ entries_at n (counted s e) es) (entries_at n (counted s e) es) f
 
-entries-more : (s : ℕ → ℕ) (n : ℕ) (e : Cause) (es : List Cause) → touches e n ≡ true → entries_at n s (e ∷ es) ≡ (e, numbers s e) ∷ entries_at n (counted s e) es
-entries-more s n e es t = cond-true (touches e n) ((e, numbers s e) ∷ entries_at n (counted s e) es) (entries_at n (counted s e) es) t
+entries-more : (s : ℕ → ℕ) (n : ℕ) (e : Cause) (es : List Cause) → cause_touches e n ≡ true → entries_at n s (e ∷ es) ≡ (e, numbers s e) ∷ entries_at n (counted s e) es
+entries-more s n e es t = cond-true (cause_touches e n) ((e, numbers s e) ∷ entries_at n (counted s e) es) (entries_at n (counted s e) es) t
 
-own_part : (s : ℕ → ℕ) (es : List Cause) (n k : ℕ) → entries_at n s (rewound es n (suc k)) ≡ take k (entries_at n s es)
+own_part : (s : ℕ → ℕ) (es : List Cause) (n k : ℕ) → entries_at n s (rewound_list es n (suc k)) ≡ take k (entries_at n s es)
 own_part s [] n zero = refl
 own_part s [] n (suc k) = refl
 own_part s (e ∷ es) n zero = ⊎_elim
-    (λ t. ap (entries_at n s) (rewound-first e es n t) ∙ none_kept s (touches e) n es t)
-    (λ f. ap (entries_at n s) (rewound-other e es n zero f) ∙ entries-skipped s n e (rewound es n 1) f
+    (λ t. ap (entries_at n s) (rewound-first e es n t) ∙ none_kept s (cause_touches e) n es t)
+    (λ f. ap (entries_at n s) (rewound-other e es n zero f) ∙ entries-skipped s n e (rewound_list es n 1) f
     ∙ own_part (counted s e) es n zero)
-    (cases_Bool (touches e n))
+    (cases_Bool (cause_touches e n))
 own_part s (e ∷ es) n (suc k) = ⊎_elim
-    (λ t. ap (entries_at n s) (rewound-touched e es n k t) ∙ entries-more s n e (rewound es n (suc k)) t
+    (λ t. ap (entries_at n s) (rewound-touched e es n k t) ∙ entries-more s n e (rewound_list es n (suc k)) t
     ∙ ap (λ z. (e, numbers s e) ∷ z) (own_part (counted s e) es n k)
     ∙ sym (ap (take (suc k)) (entries-more s n e es t)))
-    (λ f. ap (entries_at n s) (rewound-other e es n (suc k) f) ∙ entries-skipped s n e (rewound es n (suc (suc k))) f
+    (λ f. ap (entries_at n s) (rewound-other e es n (suc k) f) ∙ entries-skipped s n e (rewound_list es n (suc (suc k))) f
     ∙ own_part (counted s e) es n (suc k)
     ∙ sym (ap (take (suc k)) (entries-skipped s n e es f)))
-    (cases_Bool (touches e n))
+    (cases_Bool (cause_touches e n))
 
-pub own_part_of : (events : List Cause) (n k : ℕ) → account n (rewound events n (k + 1)) ≡ take k (account n events)
+pub own_part_of : (events : List Cause) (n k : ℕ) → account n (rewound_list events n (k + 1)) ≡ take k (account n events)
 own_part_of events n k =
     let q : k + 1 ≡ suc k = omega arith in
-    ap (λ (z : ℕ). account n (rewound events n z)) q ∙ own_part (λ i. 0) events n k
+    ap (λ (z : ℕ). account n (rewound_list events n z)) q ∙ own_part (λ i. 0) events n k

@@ -7,27 +7,26 @@ use Rattle.ga_event.specs.declared.event.Cause.{Cause}
 use Rattle.ga_event.specs.Touches.{looked_at, seen_by}
 use Rattle.ga_event.specs.Apply.{Told, run}
 use Rattle.ga_node.specs.Record.{NodeRecord}
-use Rattle.ga_causal.specs.Causes.{nodes_of}
-use Rattle.ga_causal.specs.Dependence.{NoneLooks}
+use Rattle.ga_causal.specs.Dependence.{cause_nodes, NoneLooks}
 use Rattle.ga_causal.specs.Equivalence.{AreEquivalent}
 use Rattle.ga_causal.specs.Steps.{counted, numbered_by, numbered, numbered_seen}
 use Rattle.ga_causal.proofs.Runs.{causes}
 use Rattle.ga_causal.proofs.Shuffles.{In}
 use Rattle.ga_causal.proofs.Consistent.{in_moved, same_events}
 
-pub seen_blind : (e : Cause) → e.look ≡ false → seen_by e ≡ nodes_of e
+pub seen_blind : (e : Cause) → e.look ≡ false → seen_by e ≡ cause_nodes e
 unfolding seen_by
-seen_blind e h = ap (λ z. nodes_of e ++ z) (ap (looked_at e.event) h ∙ none e.event) ∙ append-nil (nodes_of e)
+seen_blind e h = ap (λ z. cause_nodes e ++ z) (ap (looked_at e.event) h ∙ none e.event) ∙ append-nil (cause_nodes e)
   where
     none : (e : Event) → looked_at e false ≡ []
     none (Own node) = refl
     none (Pass w r side) = refl
 
-numbered_blind : (s : ℕ → ℕ) (es : List Cause) → NoneLooks es → numbered_by seen_by s es ≡ numbered_by nodes_of s es
+numbered_blind : (s : ℕ → ℕ) (es : List Cause) → NoneLooks es → numbered_by seen_by s es ≡ numbered_by cause_nodes s es
 numbered_blind s [] h = refl
 numbered_blind s (e ∷ es) h =
     ap (λ z. (e, map (λ n. s n + 1) z) ∷ numbered_by seen_by (counted s e) es) (seen_blind e h.0)
-    ∙ ap (λ z. (e, map (λ n. s n + 1) (nodes_of e)) ∷ z) (numbered_blind (counted s e) es h.1)
+    ∙ ap (λ z. (e, map (λ n. s n + 1) (cause_nodes e)) ∷ z) (numbered_blind (counted s e) es h.1)
 
 causes_numbered : (nodes : Cause → List ℕ) (s : ℕ → ℕ) (es : List Cause) → map (λ x. x.0) (numbered_by nodes s es) ≡ es
 causes_numbered nodes s [] = refl
@@ -68,4 +67,4 @@ same_steps c last now es fs ts us is so none = (to, from)
     from p =
         both.1
         (subst (λ z. IsPermutation z (numbered_seen (causes us))) (sym (numbered_blind (λ n. 0) (causes ts) none))
-        (subst (λ z. IsPermutation (numbered (causes ts)) z) (sym (numbered_blind (λ n. 0) (causes us) (none_moved nodes_of (causes ts) (causes us) p none))) p))
+        (subst (λ z. IsPermutation (numbered (causes ts)) z) (sym (numbered_blind (λ n. 0) (causes us) (none_moved cause_nodes (causes ts) (causes us) p none))) p))

@@ -6,11 +6,10 @@ use Rattle.std.proofs.lemmas.Option.{same_Some}
 use Rattle.std.proofs.lemmas.List.Sorted.{IsPermutation-refl, IsPermutation-sym, IsPermutation-trans, IsPermutation-cons, IsPermutation-append_left, IsPermutation-to_front, Contains-permutation}
 use Rattle.ga_event.specs.declared.event.Event.{Event}
 use Rattle.ga_event.specs.declared.event.Cause.{Cause}
-use Rattle.ga_causal.specs.Causes.{events_in, touches}
+use Rattle.ga_causal.specs.Dependence.{events_in, cause_touches, without}
 use Rattle.ga_event.specs.Apply.{Told, apply, cause_of, run}
 use Rattle.ga_node.specs.Record.{NodeRecord}
 use Rattle.ga_event.proofs.Locality.{Agree-sym, cause_alike}
-use Rattle.ga_causal.specs.Dependence.{without}
 use Rattle.ga_causal.specs.Equivalence.{AreApart, AreEquivalent, same, swapped, later, joined, recorded, account, account_told}
 use Rattle.ga_causal.specs.Steps.{counted, numbered_seen}
 use Rattle.ga_causal.proofs.Runs.{causes, run_more, first_of_run, keeps_of, same_of}
@@ -27,10 +26,10 @@ pub record Turned (c d p : List NodeRecord) (e f : Event) (t u : Told) : Type 0 
 
 pub turned : (c d p : List NodeRecord) (e f : Event) (t u : Told) → apply c e ≡ Some (d, t) → apply d f ≡ Some (p, u) → AreApart (cause_of c e) (cause_of d f) → Turned c d p e f t u
 turned c d p e f t u h k a =
-    let s = same_of (touches (cause_of c e)) f d p c u (Agree-sym (touches (cause_of c e)) c d (keeps_of c e d t h)) (apart_free (cause_of c e) (cause_of d f) a) k in
+    let s = same_of (cause_touches (cause_of c e)) f d p c u (Agree-sym (cause_touches (cause_of c e)) c d (keeps_of c e d t h)) (apart_free (cause_of c e) (cause_of d f) a) k in
     let b : AreApart (cause_of c e) (cause_of c f) = subst (AreApart (cause_of c e)) s.cause a in
-    let z = same_of (touches (cause_of c f)) e c d s.mid t (keeps_of c f s.mid u s.done) (apart_free (cause_of c f) (cause_of c e) (AreApart-sym (cause_of c e) (cause_of c f) b)) h in
-    let x = same_of (touches (cause_of c e)) f c s.mid d u (keeps_of c e d t h) (apart_free (cause_of c e) (cause_of c f) b) s.done in
+    let z = same_of (cause_touches (cause_of c f)) e c d s.mid t (keeps_of c f s.mid u s.done) (apart_free (cause_of c f) (cause_of c e) (AreApart-sym (cause_of c e) (cause_of c f) b)) h in
+    let x = same_of (cause_touches (cause_of c e)) f c s.mid d u (keeps_of c e d t h) (apart_free (cause_of c e) (cause_of c f) b) s.done in
     let same_end : x.mid ≡ z.mid = same_chip e f c d s.mid x.mid z.mid t u b x.done z.done x.cause z.cause x.agree z.agree in
     let there : p ≡ x.mid = ap (λ (w : List NodeRecord × Told). w.0) (same_Some (p, u) (x.mid, u) (sym k ∙ x.done)) in
     record { mid = s.mid; first = s.done; second = subst (λ w. apply s.mid e ≡ Some (w, t)) (sym (there ∙ same_end)) z.done; cause = sym s.cause; other = sym z.cause }
@@ -48,7 +47,7 @@ record Follows (c last : List NodeRecord) (ys : List Event) (ts : List (Cause ×
   pub run_is : run c ys ≡ Some (last, told)
   pub shuffled : Shuffled (causes ts) (causes told)
   pub alike : (s : ℕ → ℕ) → IsPermutation (told_after s ts) (told_after s told)
-  pub nodes : (s : ℕ → ℕ) (n : ℕ) → filter (λ x. touches x.0.0 n) (told_after s ts) ≡ filter (λ x. touches x.0.0 n) (told_after s told)
+  pub nodes : (s : ℕ → ℕ) (n : ℕ) → filter (λ x. cause_touches x.0.0 n) (told_after s ts) ≡ filter (λ x. cause_touches x.0.0 n) (told_after s told)
 
 -- two of which not both pass a test can be swapped
 pub swap_filter : {X : Type 0} (test : X → Bool) (a b : X) (xs : List X) → (test a ≡ true → test b ≡ true → ⊥) → filter test (a ∷ b ∷ xs) ≡ filter test (b ∷ a ∷ xs)
@@ -60,15 +59,15 @@ swap_filter test a b xs h = go (test a) (test b) h
     go false true h = refl
     go false false h = refl
 
-pub not_both : (e f : Cause) (n : ℕ) → AreApart e f → touches e n ≡ true → touches f n ≡ true → ⊥
+pub not_both : (e f : Cause) (n : ℕ) → AreApart e f → cause_touches e n ≡ true → cause_touches f n ≡ true → ⊥
 not_both e f n h t u = h.first n t (sees_touched f n u)
 
-filtered : (s : ℕ → ℕ) (n : ℕ) (xs ys : List Cause) → Shuffled xs ys → filter (λ (x : Cause × List ℕ). touches x.0 n) (entries s xs) ≡ filter (λ (x : Cause × List ℕ). touches x.0 n) (entries s ys)
+filtered : (s : ℕ → ℕ) (n : ℕ) (xs ys : List Cause) → Shuffled xs ys → filter (λ (x : Cause × List ℕ). cause_touches x.0 n) (entries s xs) ≡ filter (λ (x : Cause × List ℕ). cause_touches x.0 n) (entries s ys)
 filtered s n xs ys stays = refl
 filtered s n xs ys (flipped {e} {f} {xs = zs} h) =
-    swap_filter (λ (x : Cause × List ℕ). touches x.0 n) (e, numbers s e) (f, numbers (counted s e) f) (entries (counted (counted s e) f) zs) (not_both e f n h)
-    ∙ ap (λ z. filter (λ (x : Cause × List ℕ). touches x.0 n) z) (sym (entries_flipped s e f zs h))
-filtered s n xs ys (after {e} {xs = us} {ys = vs} h) = ap (λ z. cond (touches e n) ((e, numbers s e) ∷ z) z) (filtered (counted s e) n us vs h)
+    swap_filter (λ (x : Cause × List ℕ). cause_touches x.0 n) (e, numbers s e) (f, numbers (counted s e) f) (entries (counted (counted s e) f) zs) (not_both e f n h)
+    ∙ ap (λ z. filter (λ (x : Cause × List ℕ). cause_touches x.0 n) z) (sym (entries_flipped s e f zs h))
+filtered s n xs ys (after {e} {xs = us} {ys = vs} h) = ap (λ z. cond (cause_touches e n) ((e, numbers s e) ∷ z) z) (filtered (counted s e) n us vs h)
 filtered s n xs ys (chained {ys = zs} h k) = filtered s n xs zs h ∙ filtered s n zs ys k
 
 permuted : (s : ℕ → ℕ) (xs ys : List Cause) → Shuffled xs ys → IsPermutation (entries s xs) (entries s ys)
@@ -99,16 +98,16 @@ alike_flipped s e f t u xs h =
     b : (Cause × List ℕ) × Told
     b = ((f, numbers (counted s e) f), u)
 
-nodes_flipped : (s : ℕ → ℕ) (n : ℕ) (e f : Cause) (t u : Told) (xs : List (Cause × Told)) → AreApart e f → filter (λ (x : (Cause × List ℕ) × Told). touches x.0.0 n) (told_after s ((e, t) ∷ (f, u) ∷ xs)) ≡ filter (λ (x : (Cause × List ℕ) × Told). touches x.0.0 n) (told_after s ((f, u) ∷ (e, t) ∷ xs))
+nodes_flipped : (s : ℕ → ℕ) (n : ℕ) (e f : Cause) (t u : Told) (xs : List (Cause × Told)) → AreApart e f → filter (λ (x : (Cause × List ℕ) × Told). cause_touches x.0.0 n) (told_after s ((e, t) ∷ (f, u) ∷ xs)) ≡ filter (λ (x : (Cause × List ℕ) × Told). cause_touches x.0.0 n) (told_after s ((f, u) ∷ (e, t) ∷ xs))
 nodes_flipped s n e f t u xs h =
-    swap_filter (λ (x : (Cause × List ℕ) × Told). touches x.0.0 n) ((e, numbers s e), t) ((f, numbers (counted s e) f), u) (told_after (counted (counted s e) f) xs) (not_both e f n h)
-    ∙ ap (λ z. filter (λ (x : (Cause × List ℕ) × Told). touches x.0.0 n) z) (sym (told_flipped s e f t u xs h))
+    swap_filter (λ (x : (Cause × List ℕ) × Told). cause_touches x.0.0 n) ((e, numbers s e), t) ((f, numbers (counted s e) f), u) (told_after (counted (counted s e) f) xs) (not_both e f n h)
+    ∙ ap (λ z. filter (λ (x : (Cause × List ℕ) × Told). cause_touches x.0.0 n) z) (sym (told_flipped s e f t u xs h))
 
 follows_swapped : (c last : List NodeRecord) (e f : Event) (xs : List Event) (ts : List (Cause × Told)) → AreApart (cause_of c e) (cause_of c f) → run c (e ∷ f ∷ xs) ≡ Some (last, ts) → Follows c last (f ∷ e ∷ xs) ts
 follows_swapped c last e f xs ts h is =
     let m = first_of_run c e (f ∷ xs) last ts is in
     let n = first_of_run m.mid f xs last m.others m.then in
-    let q : cause_of c f ≡ cause_of m.mid f = cause_alike (touches (cause_of c e)) c m.mid f (keeps_of c e m.mid m.told m.first) (apart_free (cause_of c e) (cause_of c f) h) in
+    let q : cause_of c f ≡ cause_of m.mid f = cause_alike (cause_touches (cause_of c e)) c m.mid f (keeps_of c e m.mid m.told m.first) (apart_free (cause_of c e) (cause_of c f) h) in
     let b : AreApart (cause_of c e) (cause_of m.mid f) = subst (AreApart (cause_of c e)) q h in
     let z = turned c m.mid n.mid e f m.told n.told m.first n.first b in
     let all : ts ≡ (cause_of c e, m.told) ∷ (cause_of m.mid f, n.told) ∷ n.others = m.all ∙ ap (λ w. (cause_of c e, m.told) ∷ w) n.all in
@@ -139,7 +138,7 @@ follows c xs ys (later {now} {e} {told} {xs = us} {ys = vs} h k) last ts is =
       run_is = run_more c e vs m.mid last m.told r.told m.first (subst (λ w. run w vs ≡ Some (last, r.told)) (sym at) r.run_is);
       shuffled = after r.shuffled;
       alike = λ s. IsPermutation-cons ((cause_of c e, numbers s (cause_of c e)), m.told) _ _ (r.alike (counted s (cause_of c e)));
-      nodes = λ s n. ap (λ z. cond (touches (cause_of c e) n) (((cause_of c e, numbers s (cause_of c e)), m.told) ∷ z) z) (r.nodes (counted s (cause_of c e)) n);
+      nodes = λ s n. ap (λ z. cond (cause_touches (cause_of c e) n) (((cause_of c e, numbers s (cause_of c e)), m.told) ∷ z) z) (r.nodes (counted s (cause_of c e)) n);
     })
 follows c xs ys (joined {ys = zs} h k) last ts is =
     let a = follows c xs zs h last ts is in
@@ -268,8 +267,8 @@ same_accounts c last now es fs ts us is so = (to, from)
     each : (xs ys : List Cause) → ((n : ℕ) → account n xs ≡ account n ys) → (x : Cause × List ℕ) → In x (numbered_seen xs) → In x (numbered_seen ys)
     each xs ys h x i =
         let t = touched_of x.0.event in
-        in_filtered (λ e. touches e.0 t.node) (numbered_seen ys) x
-        (subst (In x) (h t.node) (in_filter (λ e. touches e.0 t.node) (numbered_seen xs) x i t.is))
+        in_filtered (λ e. cause_touches e.0 t.node) (numbered_seen ys) x
+        (subst (In x) (h t.node) (in_filter (λ e. cause_touches e.0 t.node) (numbered_seen xs) x i t.is))
 
     from : ((n : ℕ) → account n (causes ts) ≡ account n (causes us)) → AreEquivalent c es fs
     from h = equivalent_of c last now es fs ts us is so

@@ -4,26 +4,25 @@ use Rattle.std.specs.Prelude.{slice_index_or}
 use Rattle.std.specs.List.{list_any}
 use Rattle.std.proofs.lemmas.Bool.{or_left, or_right, or_cases, cases_Bool, both_ways, cond-true, cond-false, false_from_ne_true}
 use Rattle.ga_event.specs.declared.event.Cause.{Cause}
-use Rattle.ga_causal.specs.Causes.{nodes_of, touches}
+use Rattle.ga_causal.specs.Dependence.{cause_nodes, cause_touches, is_a_pass, rule_of, event_at, DependsOn, itself, through, marked, dependents_after, dependents}
 use Rattle.ga_event.specs.Touches.{seen_by, meets}
 use Rattle.ga_event.proofs.Locality.{meets-touched}
-use Rattle.ga_causal.specs.Dependence.{is_a_pass, rule_of, event_at, DependsOn, itself, through, marked, dependents_after, dependents}
 
 -- direct dependence of two events is one rule or another: the later sees a node that the earlier touches
-pub rule_meets : (d e : Cause) → rule_of d e ≢ 0 → meets (touches d) e ≡ true
+pub rule_meets : (d e : Cause) → rule_of d e ≢ 0 → meets (cause_touches d) e ≡ true
 rule_meets d e h = ⊎_elim (λ t. t)
-    (λ f. absurd (h (cond-false (list_any (touches d) (nodes_of e)) _ (cond (meets (touches d) e) 3 0) (false_from_ne_true _ (λ t. both_ways (meets (touches d) e) f (meets-touched (touches d) e t)))
-    ∙ cond-false (meets (touches d) e) 3 0 f)))
-    (cases_Bool (meets (touches d) e))
+    (λ f. absurd (h (cond-false (list_any (cause_touches d) (cause_nodes e)) _ (cond (meets (cause_touches d) e) 3 0) (false_from_ne_true _ (λ t. both_ways (meets (cause_touches d) e) f (meets-touched (cause_touches d) e t)))
+    ∙ cond-false (meets (cause_touches d) e) 3 0 f)))
+    (cases_Bool (meets (cause_touches d) e))
 
 some_rule : (a b : Bool) → cond {A = ℕ} a (cond b 2 1) 3 ≢ 0
 some_rule true true e = omega arith
 some_rule true false e = omega arith
 some_rule false b e = omega arith
 
-pub meets_rule : (d e : Cause) → meets (touches d) e ≡ true → rule_of d e ≢ 0
-meets_rule d e h = λ z. some_rule (list_any (touches d) (nodes_of e)) (is_a_pass d.event || is_a_pass e.event)
-    (ap (λ (k : ℕ). cond {A = ℕ} (list_any (touches d) (nodes_of e)) (cond (is_a_pass d.event || is_a_pass e.event) 2 1) k) (sym (cond-true (meets (touches d) e) 3 0 h)) ∙ z)
+pub meets_rule : (d e : Cause) → meets (cause_touches d) e ≡ true → rule_of d e ≢ 0
+meets_rule d e h = λ z. some_rule (list_any (cause_touches d) (cause_nodes e)) (is_a_pass d.event || is_a_pass e.event)
+    (ap (λ (k : ℕ). cond {A = ℕ} (list_any (cause_touches d) (cause_nodes e)) (cond (is_a_pass d.event || is_a_pass e.event) 2 1) k) (sym (cond-true (meets (cause_touches d) e) 3 0 h)) ∙ z)
 
 pub any-mono : (m k : ℕ → Bool) → ((n : ℕ) → m n ≡ true → k n ≡ true) → (ns : List ℕ) → list_any m ns ≡ true → list_any k ns ≡ true
 any-mono m k h [] t = t
@@ -54,19 +53,19 @@ flag_marked marks (e ∷ es) zero l h = h
 flag_marked marks (e ∷ es) (suc q) l h =
     flag_marked (marked marks e) es q (omega arith) (meets-mono marks (marked marks e) (event_at es q) (marked_stays marks e) h)
 
-flag_more : (marks : ℕ → Bool) (es : List Cause) (p q : ℕ) → slice_index_or (dependents_after marks es) p false ≡ true → p < q → q < length es → meets (touches (event_at es p)) (event_at es q) ≡ true → slice_index_or (dependents_after marks es) q false ≡ true
+flag_more : (marks : ℕ → Bool) (es : List Cause) (p q : ℕ) → slice_index_or (dependents_after marks es) p false ≡ true → p < q → q < length es → meets (cause_touches (event_at es p)) (event_at es q) ≡ true → slice_index_or (dependents_after marks es) q false ≡ true
 flag_more marks [] p q f k l h = absurd (omega arith)
 flag_more marks (e ∷ es) p zero f k l h = absurd (omega arith)
 flag_more marks (e ∷ es) zero (suc q) f k l h =
-    flag_marked (marked marks e) es q (omega arith) (meets-mono (touches e) (marked marks e) (event_at es q) (λ n t. rw f (or_right _ _ t)) h)
+    flag_marked (marked marks e) es q (omega arith) (meets-mono (cause_touches e) (marked marks e) (event_at es q) (λ n t. rw f (or_right _ _ t)) h)
 flag_more marks (e ∷ es) (suc p) (suc q) f k l h = flag_more (marked marks e) es p q f (omega arith) (omega arith) h
 
 -- what depends directly on a flagged event is flagged
-pub flag_direct : (es : List Cause) (i p q : ℕ) → slice_index_or (dependents es i) p false ≡ true → p < q → q < length es → meets (touches (event_at es p)) (event_at es q) ≡ true → slice_index_or (dependents es i) q false ≡ true
+pub flag_direct : (es : List Cause) (i p q : ℕ) → slice_index_or (dependents es i) p false ≡ true → p < q → q < length es → meets (cause_touches (event_at es p)) (event_at es q) ≡ true → slice_index_or (dependents es i) q false ≡ true
 flag_direct [] i p q f k l h = absurd (omega arith)
 flag_direct (e ∷ es) i p zero f k l h = absurd (omega arith)
-flag_direct (e ∷ es) zero zero (suc q) f k l h = flag_marked (touches e) es q (omega arith) h
-flag_direct (e ∷ es) zero (suc p) (suc q) f k l h = flag_more (touches e) es p q f (omega arith) (omega arith) h
+flag_direct (e ∷ es) zero zero (suc q) f k l h = flag_marked (cause_touches e) es q (omega arith) h
+flag_direct (e ∷ es) zero (suc p) (suc q) f k l h = flag_more (cause_touches e) es p q f (omega arith) (omega arith) h
 flag_direct (e ∷ es) (suc i) zero (suc q) f k l h = absurd (both_ways false refl f)
 flag_direct (e ∷ es) (suc i) (suc p) (suc q) f k l h = flag_direct es i p q f (omega arith) (omega arith) h
 
@@ -85,7 +84,7 @@ pub record Earlier (es : List Cause) (flags : List Bool) (q : ℕ) : Type 0 wher
   pub place : ℕ
   pub before : place < q
   pub flagged : slice_index_or flags place false ≡ true
-  pub direct : meets (touches (event_at es place)) (event_at es q) ≡ true
+  pub direct : meets (cause_touches (event_at es place)) (event_at es q) ≡ true
 
 Earlier-shift : (e : Cause) (es : List Cause) (b : Bool) (flags : List Bool) (q : ℕ) → Earlier es flags q → Earlier (e ∷ es) (b ∷ flags) (suc q)
 Earlier-shift e es b flags q w = record { place = suc w.place; before = omega (arith, w.before); flagged = w.flagged; direct = w.direct }
@@ -93,8 +92,8 @@ Earlier-shift e es b flags q w = record { place = suc w.place; before = omega (a
 first_mark : (marks : ℕ → Bool) (e : Cause) (es : List Cause) (q : ℕ) → meets (marked marks e) (event_at es q) ≡ true → (meets marks (event_at es q) ≡ true) ⊎ Earlier (e ∷ es) (dependents_after marks (e ∷ es)) (suc q)
 first_mark marks e es q h = ⊎_elim
     (λ t. ⊎_elim inl (λ u. inr (record { place = zero; before = omega arith; flagged = t; direct = u }))
-    (meets-or marks (touches e) (event_at es q) (let g : meets (λ n. marks n || touches e n) (event_at es q) ≡ true = subst (λ b. meets (cond b (λ n. marks n || touches e n) marks) (event_at es q) ≡ true) t h in g)))
-    (λ f. inl (subst (λ b. meets (cond b (λ n. marks n || touches e n) marks) (event_at es q) ≡ true) f h))
+    (meets-or marks (cause_touches e) (event_at es q) (let g : meets (λ n. marks n || cause_touches e n) (event_at es q) ≡ true = subst (λ b. meets (cond b (λ n. marks n || cause_touches e n) marks) (event_at es q) ≡ true) t h in g)))
+    (λ f. inl (subst (λ b. meets (cond b (λ n. marks n || cause_touches e n) marks) (event_at es q) ≡ true) f h))
     (cases_Bool (meets marks e))
 
 why_flagged : (marks : ℕ → Bool) (es : List Cause) (q : ℕ) → slice_index_or (dependents_after marks es) q false ≡ true → (meets marks (event_at es q) ≡ true) ⊎ Earlier es (dependents_after marks es) q
@@ -107,8 +106,8 @@ why_dependent [] i q f = absurd (both_ways false refl f)
 why_dependent (e ∷ es) zero zero f = inl refl
 why_dependent (e ∷ es) zero (suc q) f = ⊎_elim
     (λ m. inr (record { place = zero; before = omega arith; flagged = refl; direct = m }))
-    (λ w. inr (Earlier-shift e es true (dependents_after (touches e) es) q w))
-    (why_flagged (touches e) es q f)
+    (λ w. inr (Earlier-shift e es true (dependents_after (cause_touches e) es) q w))
+    (why_flagged (cause_touches e) es q f)
 why_dependent (e ∷ es) (suc i) zero f = absurd (both_ways false refl f)
 why_dependent (e ∷ es) (suc i) (suc q) f = ⊎_elim (λ h. inl (ap suc h)) (λ w. inr (Earlier-shift e es false (dependents es i) q w)) (why_dependent es i q f)
 
@@ -129,7 +128,7 @@ length-dependents_after marks (e ∷ es) = ap suc (length-dependents_after (mark
 
 pub length-dependents : (es : List Cause) (i : ℕ) → length (dependents es i) ≡ length es
 length-dependents [] i = refl
-length-dependents (e ∷ es) zero = ap suc (length-dependents_after (touches e) es)
+length-dependents (e ∷ es) zero = ap suc (length-dependents_after (cause_touches e) es)
 length-dependents (e ∷ es) (suc i) = ap suc (length-dependents es i)
 
 -- past its end nothing is flagged

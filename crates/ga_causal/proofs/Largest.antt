@@ -4,9 +4,8 @@ use Rattle.std.specs.Prelude.{slice_index_or}
 use Rattle.std.specs.List.{list_any}
 use Rattle.std.proofs.lemmas.Bool.{cases_lt, or_cases, cases_Bool, both_ways, false_from_ne_true}
 use Rattle.ga_event.specs.declared.event.Cause.{Cause}
-use Rattle.ga_causal.specs.Causes.{nodes_of, touches}
+use Rattle.ga_causal.specs.Dependence.{cause_nodes, cause_touches, marked, dependents_after, dependents, without, DependsOn, NoneLooks}
 use Rattle.ga_event.specs.Touches.{seen_by, meets}
-use Rattle.ga_causal.specs.Dependence.{marked, dependents_after, dependents, without, DependsOn, NoneLooks}
 use Rattle.ga_causal.specs.Steps.{counted, numbered_by, numbered, numbered_seen}
 use Rattle.ga_event.proofs.Locality.{touched-meets}
 use Rattle.ga_causal.proofs.Exact.{flag_from_DependsOn, past_alone}
@@ -17,32 +16,32 @@ pub record Lacks (marks : ℕ → Bool) (s z : ℕ → ℕ) : Type 0 where
   pub less : (n : ℕ) → marks n ≡ true → s n < z n
 
 counted-least : (z : ℕ → ℕ) (e : Cause) (n : ℕ) → z n ≤ counted z e n
-counted-least z e n = ⊎_elim (λ t. rw t (omega arith)) (λ f. rw f (omega arith)) (cases_Bool (touches e n))
+counted-least z e n = ⊎_elim (λ t. rw t (omega arith)) (λ f. rw f (omega arith)) (cases_Bool (cause_touches e n))
 
-counted-more : (z : ℕ → ℕ) (e : Cause) (n : ℕ) → touches e n ≡ true → z n < counted z e n
+counted-more : (z : ℕ → ℕ) (e : Cause) (n : ℕ) → cause_touches e n ≡ true → z n < counted z e n
 counted-more z e n t = rw t (omega arith)
 
 counted-mono : (s z : ℕ → ℕ) (e : Cause) (n : ℕ) → s n ≤ z n → counted s e n ≤ counted z e n
-counted-mono s z e n h = ⊎_elim (λ t. rw t (omega arith)) (λ f. rw f h) (cases_Bool (touches e n))
+counted-mono s z e n h = ⊎_elim (λ t. rw t (omega arith)) (λ f. rw f h) (cases_Bool (cause_touches e n))
 
 counted-mono_lt : (s z : ℕ → ℕ) (e : Cause) (n : ℕ) → s n < z n → counted s e n < counted z e n
-counted-mono_lt s z e n h = ⊎_elim (λ t. rw t (omega arith)) (λ f. rw f h) (cases_Bool (touches e n))
+counted-mono_lt s z e n h = ⊎_elim (λ t. rw t (omega arith)) (λ f. rw f h) (cases_Bool (cause_touches e n))
 
 Lacks-kept : (marks : ℕ → Bool) (s z : ℕ → ℕ) (e : Cause) → Lacks marks s z → Lacks marks (counted s e) (counted z e)
 Lacks-kept marks s z e l = record { most = λ n. counted-mono s z e n (l.most n); less = λ n m. counted-mono_lt s z e n (l.less n m) }
 
-less_dropped : (marks : ℕ → Bool) (s z : ℕ → ℕ) (e : Cause) → Lacks marks s z → (n : ℕ) → (marks n || touches e n) ≡ true → s n < counted z e n
+less_dropped : (marks : ℕ → Bool) (s z : ℕ → ℕ) (e : Cause) → Lacks marks s z → (n : ℕ) → (marks n || cause_touches e n) ≡ true → s n < counted z e n
 less_dropped marks s z e l n m = ⊎_elim
     (λ t. let h : s n < z n = l.less n t in let k : z n ≤ counted z e n = counted-least z e n in omega arith)
     (λ t. let h : s n ≤ z n = l.most n in let k : z n < counted z e n = counted-more z e n t in omega arith)
-    (or_cases (marks n) (touches e n) m)
+    (or_cases (marks n) (cause_touches e n) m)
 
 Lacks-dropped : (marks : ℕ → Bool) (s z : ℕ → ℕ) (e : Cause) → Lacks marks s z → Lacks (marked marks e) s (counted z e)
 Lacks-dropped marks s z e l = record {
   most = λ n. (let h : s n ≤ z n = l.most n in let k : z n ≤ counted z e n = counted-least z e n in omega arith);
   less = λ n m. ⊎_elim
-      (λ t. less_dropped marks s z e l n (subst (λ b. cond b (λ n. marks n || touches e n) marks n ≡ true) t m))
-      (λ f. let h : s n < z n = l.less n (subst (λ b. cond b (λ n. marks n || touches e n) marks n ≡ true) f m) in let k : z n ≤ counted z e n = counted-least z e n in omega arith)
+      (λ t. less_dropped marks s z e l n (subst (λ b. cond b (λ n. marks n || cause_touches e n) marks n ≡ true) t m))
+      (λ f. let h : s n < z n = l.less n (subst (λ b. cond b (λ n. marks n || cause_touches e n) marks n ≡ true) f m) in let k : z n ≤ counted z e n = counted-least z e n in omega arith)
       (cases_Bool (meets marks e));
 }
 
@@ -83,7 +82,7 @@ dropped_after nodes marks (e ∷ es) q (false ∷ fs) s z l h (suc p) t =
     dropped_after nodes marks es q.1 fs (counted s e) (counted z e) (Lacks-kept marks s z e l) (others_of e _ _ _ _ h) p
     (subst (λ m. slice_index_or (dependents_after m es) p false ≡ true) (marked-free marks e free) t)
 
-Lacks-first : (s z : ℕ → ℕ) (e : Cause) → ((n : ℕ) → s n ≤ z n) → Lacks (touches e) s (counted z e)
+Lacks-first : (s z : ℕ → ℕ) (e : Cause) → ((n : ℕ) → s n ≤ z n) → Lacks (cause_touches e) s (counted z e)
 Lacks-first s z e l = record {
   most = λ n. (let h : s n ≤ z n = l n in let k : z n ≤ counted z e n = counted-least z e n in omega arith);
   less = λ n t. (let h : s n ≤ z n = l n in let k : z n < counted z e n = counted-more z e n t in omega arith);
@@ -94,7 +93,7 @@ dropped_rest nodes [] q i fs s z l d h p t = absurd (both_ways false refl t)
 dropped_rest nodes (e ∷ es) q i [] s z l d h p t = absurd (both_ways false refl d)
 dropped_rest nodes (e ∷ es) q zero (false ∷ fs) s z l d h p t = absurd (both_ways false refl d)
 dropped_rest nodes (e ∷ es) q zero (true ∷ fs) s z l d h zero t = refl
-dropped_rest nodes (e ∷ es) q zero (true ∷ fs) s z l d h (suc p) t = dropped_after nodes (touches e) es q.1 fs s (counted z e) (Lacks-first s z e l) h p t
+dropped_rest nodes (e ∷ es) q zero (true ∷ fs) s z l d h (suc p) t = dropped_after nodes (cause_touches e) es q.1 fs s (counted z e) (Lacks-first s z e l) h p t
 dropped_rest nodes (e ∷ es) q (suc i) (b ∷ fs) s z l d h zero t = absurd (both_ways false refl t)
 dropped_rest nodes (e ∷ es) q (suc i) (true ∷ fs) s z l d h (suc p) t =
     dropped_rest nodes es q.1 i fs s (counted z e) (λ n. (let g : s n ≤ z n = l n in let k : z n ≤ counted z e n = counted-least z e n in omega arith)) d h p t
@@ -107,7 +106,7 @@ dropped_all nodes events q i fs d h j x = elim (cases_lt i (length events)) [
   | inr l ↦ subst (λ (z : ℕ). slice_index_or fs z false ≡ true) (sym (past_alone events i j l x)) d
 ]
 
-shows_steps : (es : List Cause) → NoneLooks es → ShowsAll nodes_of es
+shows_steps : (es : List Cause) → NoneLooks es → ShowsAll cause_nodes es
 shows_steps [] q = tt
 shows_steps (e ∷ es) q = (λ marks t. touched-meets marks e q.0 t, shows_steps es q.1)
 
@@ -116,7 +115,7 @@ shows_seen [] = tt
 shows_seen (e ∷ es) = (λ marks t. t, shows_seen es)
 
 pub largest : (events : List Cause) → NoneLooks events → (i : ℕ) (dropped : List Bool) → IsTrue (slice_index_or dropped i false) → numbered (without dropped events) ≡ without dropped (numbered events) → (j : ℕ) → DependsOn events i j → IsTrue (slice_index_or dropped j false)
-largest events q = dropped_all nodes_of events (shows_steps events q)
+largest events q = dropped_all cause_nodes events (shows_steps events q)
 
 pub largest_seen : (events : List Cause) (i : ℕ) (dropped : List Bool) → IsTrue (slice_index_or dropped i false) → numbered_seen (without dropped events) ≡ without dropped (numbered_seen events) → (j : ℕ) → DependsOn events i j → IsTrue (slice_index_or dropped j false)
 largest_seen events = dropped_all seen_by events (shows_seen events)

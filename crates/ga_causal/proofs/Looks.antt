@@ -5,8 +5,8 @@ use Rattle.ga_ports.specs.declared.side.Side.TheVariants.{Right, Down, Left, Up}
 use Rattle.ga_grid.specs.Grid.{neighbour_of}
 use Rattle.ga_event.specs.declared.event.Cause.{Cause}
 use Rattle.ga_event.specs.Touches.{with_some, neighbours, looked_at, seen_by, meets}
-use Rattle.ga_causal.specs.Causes.{nodes_of, any_of}
-use Rattle.ga_causal.specs.Firsts.{least, least_with}
+use Rattle.ga_causal.specs.Dependence.{cause_nodes}
+use Rattle.ga_causal.specs.kept.Firsts.{any_of, least, least_with}
 
 any_some : (marks : ℕ → Bool) (at : Option ℕ) (ns : List ℕ) → list_any marks (with_some at ns) ≡ (any_of marks at || list_any marks ns)
 any_some marks None ns = refl
@@ -43,6 +43,6 @@ any-append marks [] b = refl
 any-append marks (n ∷ a) b = or_over (marks n) (list_any marks (a ++ b)) (list_any marks a) (list_any marks b) (any-append marks a b)
 
 -- what an event sees is what it touches, and at what it looks
-pub meets_parts : (marks : ℕ → Bool) (cause : Cause) → meets marks cause ≡ (list_any marks (nodes_of cause) || list_any marks (looked_at cause.event cause.look))
+pub meets_parts : (marks : ℕ → Bool) (cause : Cause) → meets marks cause ≡ (list_any marks (cause_nodes cause) || list_any marks (looked_at cause.event cause.look))
 unfolding seen_by
-meets_parts marks cause = any-append marks (nodes_of cause) (looked_at cause.event cause.look)
+meets_parts marks cause = any-append marks (cause_nodes cause) (looked_at cause.event cause.look)

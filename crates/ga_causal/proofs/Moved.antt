@@ -8,11 +8,10 @@ use Rattle.ga_event.specs.Apply.{Told, run}
 use Rattle.ga_event.specs.Touches.{meets}
 use Rattle.ga_node.specs.Record.{NodeRecord}
 use Rattle.ga_causal.specs.declared.chain.Link.{Link}
-use Rattle.ga_causal.specs.Causes.{touches}
-use Rattle.ga_causal.specs.Chains.{IsNext, IsLinked, IsChain, named, no_entry}
-use Rattle.ga_causal.specs.Dependence.{rule_of, event_at, rule_between, IsDirect}
+use Rattle.ga_causal.specs.Dependence.{cause_touches, rule_of, event_at, rule_between, IsDirect}
+use Rattle.ga_causal.specs.Chains.{IsNext, IsLinked, IsChain}
+use Rattle.ga_causal.specs.Steps.{named, no_entry, counted}
 use Rattle.ga_causal.specs.Equivalence.{AreApart, AreEquivalent}
-use Rattle.ga_causal.specs.Steps.{counted}
 use Rattle.ga_causal.proofs.Exact.{rule_meets}
 use Rattle.ga_causal.proofs.Runs.{causes}
 use Rattle.ga_causal.proofs.Shuffles.{Shuffled, stays, flipped, after, chained, apart_free, entries, entries_flipped}
@@ -50,7 +49,7 @@ lifted f zero = zero
 lifted f (suc i) = suc (f i)
 
 no_rule : (e f : Cause) → AreApart e f → rule_of e f ≢ 0 → ⊥
-no_rule e f h r = both_ways (meets (touches e) f) (apart_free e f h) (rule_meets e f r)
+no_rule e f h r = both_ways (meets (cause_touches e) f) (apart_free e f h) (rule_meets e f r)
 
 moved_flipped : (s : ℕ → ℕ) (e f : Cause) (zs : List Cause) → AreApart e f → Moved s (e ∷ f ∷ zs) (f ∷ e ∷ zs)
 moved_flipped s e f zs h = record { to = flip; within = within; alike = alike; order = order }

@@ -3,10 +3,9 @@ use Rattle.std.proofs.Common.{◌≡◌, ℕ, ◌+◌, ◌<◌, ◌≤◌, ◌�
 use Rattle.std.proofs.lemmas.List.{get_or_default}
 use Rattle.std.proofs.lemmas.Bool.{cases_Bool}
 use Rattle.ga_event.specs.declared.event.Cause.{Cause}
-use Rattle.ga_causal.specs.Causes.{touches}
+use Rattle.ga_causal.specs.Dependence.{cause_touches, no_cause, event_at, dependents, DependsOn}
 use Rattle.ga_event.specs.Touches.{seen_by}
-use Rattle.ga_causal.specs.Dependence.{no_cause, event_at, dependents, DependsOn}
-use Rattle.ga_causal.specs.Firsts.{Oldest, first_at, least, IsFirsts}
+use Rattle.ga_causal.specs.kept.Firsts.{Oldest, first_at, least, IsFirsts}
 use Rattle.ga_causal.specs.Chains.{IsOldest}
 use Rattle.ga_causal.proofs.Exact.{flag_from_DependsOn}
 use Rattle.ga_causal.proofs.Oldest.{least_flag, flag_least, oldest_of, IsFirsts-first, IsFirsts-other, IsFirsts-noted}
@@ -23,17 +22,17 @@ least_most first none [] = omega arith
 least_most first none (n ∷ ns) = let h : least first none ns ≤ none = least_most first none ns in omega arith
 
 -- the cause is noted first
-pub noted_first : (es : List Cause) (i to : ℕ) (fresh now : Oldest) (e : Cause) → i < to → i < length es → e ≡ get_or es i e → ((n : ℕ) → first_at fresh n ≡ to) → ((n : ℕ) → first_at now n ≡ cond (touches e n) (min (first_at fresh n) i) (first_at fresh n)) → IsFirsts es i (i + 1) to (first_at now)
+pub noted_first : (es : List Cause) (i to : ℕ) (fresh now : Oldest) (e : Cause) → i < to → i < length es → e ≡ get_or es i e → ((n : ℕ) → first_at fresh n ≡ to) → ((n : ℕ) → first_at now n ≡ cond (cause_touches e n) (min (first_at fresh n) i) (first_at fresh n)) → IsFirsts es i (i + 1) to (first_at now)
 noted_first es i to fresh now e l k r none is =
     IsFirsts-first es i to (first_at now) l k
-    (λ n. is n ∙ ap (λ z. cond (touches e n) (min z i) z) (none n) ∙ ap (λ z. cond (touches z n) (min to i) to) (sym (event_read es i e k r)))
+    (λ n. is n ∙ ap (λ z. cond (cause_touches e n) (min z i) z) (none n) ∙ ap (λ z. cond (cause_touches z n) (min to i) to) (sym (event_read es i e k r)))
 
 -- an event that sees a node with a place is noted
-pub noted_more : (es : List Cause) (i place to : ℕ) (firsts now : Oldest) (e : Cause) (found : ℕ) → IsFirsts es i place to (first_at firsts) → firsts.none ≡ to → place < length es → place < to → e ≡ get_or es place e → found ≡ least (first_at firsts) firsts.none (seen_by e) → found < to → ((n : ℕ) → first_at now n ≡ cond (touches e n) (min (first_at firsts n) place) (first_at firsts n)) → IsFirsts es i (place + 1) to (first_at now)
+pub noted_more : (es : List Cause) (i place to : ℕ) (firsts now : Oldest) (e : Cause) (found : ℕ) → IsFirsts es i place to (first_at firsts) → firsts.none ≡ to → place < length es → place < to → e ≡ get_or es place e → found ≡ least (first_at firsts) firsts.none (seen_by e) → found < to → ((n : ℕ) → first_at now n ≡ cond (cause_touches e n) (min (first_at firsts n) place) (first_at firsts n)) → IsFirsts es i (place + 1) to (first_at now)
 noted_more es i place to firsts now e found w n l k r f h is =
     let low : least (first_at firsts) to (seen_by (event_at es place)) < to = subst (λ z. z < to) (least_read es place to firsts e found n l r f) h in
     IsFirsts-noted es i place to (first_at firsts) (first_at now) k (least_flag es i place to (first_at firsts) w l low) w
-    (λ m. is m ∙ ap (λ z. cond (touches z m) (min (first_at firsts m) place) (first_at firsts m)) (sym (event_read es place e l r)))
+    (λ m. is m ∙ ap (λ z. cond (cause_touches z m) (min (first_at firsts m) place) (first_at firsts m)) (sym (event_read es place e l r)))
 
 -- another is not
 pub noted_none : (es : List Cause) (i place to : ℕ) (firsts : Oldest) (e : Cause) (found : ℕ) → IsFirsts es i place to (first_at firsts) → firsts.none ≡ to → i < place → place < length es → place < to → e ≡ get_or es place e → found ≡ least (first_at firsts) firsts.none (seen_by e) → to ≤ found → IsFirsts es i (place + 1) to (first_at firsts)

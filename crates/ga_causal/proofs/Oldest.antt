@@ -3,10 +3,9 @@ use Rattle.std.proofs.Common.{◌≡◌, ℕ, ◌+◌, ◌<◌, ◌≤◌, ◌�
 use Rattle.std.specs.List.{list_any}
 use Rattle.std.proofs.lemmas.Bool.{or_left, or_right, or_cases, cases_Bool, cases_lt, cases_eq, both_ways, cond-true, cond-false, eqb-true}
 use Rattle.ga_event.specs.declared.event.Cause.{Cause}
-use Rattle.ga_causal.specs.Causes.{touches}
+use Rattle.ga_causal.specs.Dependence.{cause_touches, event_at, dependents, DependsOn, itself, through}
 use Rattle.ga_event.specs.Touches.{seen_by, meets}
-use Rattle.ga_causal.specs.Dependence.{event_at, dependents, DependsOn, itself, through}
-use Rattle.ga_causal.specs.Firsts.{least, IsFirsts}
+use Rattle.ga_causal.specs.kept.Firsts.{least, IsFirsts}
 use Rattle.ga_causal.specs.Chains.{IsOldest}
 use Rattle.ga_causal.proofs.Exact.{any-mono, rule_meets, meets_rule, flag_direct, flag_itself, why_dependent, DependsOn_from_flag, flag_from_DependsOn, Earlier}
 
@@ -56,9 +55,9 @@ met_at : (marks : ℕ → Bool) (ns : List ℕ) (n : ℕ) → Among ns n → mar
 met_at marks ns n t h = any-mono (λ k. k == n) marks (λ k q. subst (λ z. marks z ≡ true) (sym (eqb-true k n q)) h) ns t
 
 -- an event that meets an older dependent one, below the limit, sees a node with no later place
-least_cause : (es : List Cause) (i limit none : ℕ) (first : ℕ → ℕ) (e : Cause) (q : ℕ) → IsFirsts es i limit none first → q < limit → slice_index_or (dependents es i) q false ≡ true → meets (touches (event_at es q)) e ≡ true → least first none (seen_by e) ≤ q
+least_cause : (es : List Cause) (i limit none : ℕ) (first : ℕ → ℕ) (e : Cause) (q : ℕ) → IsFirsts es i limit none first → q < limit → slice_index_or (dependents es i) q false ≡ true → meets (cause_touches (event_at es q)) e ≡ true → least first none (seen_by e) ≤ q
 least_cause es i limit none first e q w l f m =
-    let k = marked_of (touches (event_at es q)) (seen_by e) m in
+    let k = marked_of (cause_touches (event_at es q)) (seen_by e) m in
     let a : least first none (seen_by e) ≤ first k.node = least_below first none k.node (seen_by e) k.among in
     let b : first k.node ≤ q = w.oldest k.node q l f k.marked in
     omega arith
@@ -67,7 +66,7 @@ least_cause es i limit none first e q w l f m =
 record IsCause (es : List Cause) (i limit : ℕ) (e : Cause) (place : ℕ) : Type 0 where
   below : place < limit
   dependent : slice_index_or (dependents es i) place false ≡ true
-  direct : meets (touches (event_at es place)) e ≡ true
+  direct : meets (cause_touches (event_at es place)) e ≡ true
 
 cause_least : (es : List Cause) (i limit none : ℕ) (first : ℕ → ℕ) (e : Cause) → IsFirsts es i limit none first → least first none (seen_by e) < none → IsCause es i limit e (least first none (seen_by e))
 cause_least es i limit none first e w l =
@@ -77,7 +76,7 @@ cause_least es i limit none first e w l =
     (record {
       below = w.noted k.node h;
       dependent = w.dependent k.node h;
-      direct = met_at (touches (event_at es (first k.node))) (seen_by e) k.node k.among (w.touched k.node h);
+      direct = met_at (cause_touches (event_at es (first k.node))) (seen_by e) k.node k.among (w.touched k.node h);
     })
 
 -- an event after the cause depends on it exactly where a node that it sees has a place
@@ -115,19 +114,19 @@ DependsOn-order es i q itself = omega arith
 DependsOn-order es i q (through {middle} d s) = let h : i ≤ middle = DependsOn-order es i middle d in omega (arith, s.before)
 
 -- before any event is noted
-pub IsFirsts-first : (es : List Cause) (i none : ℕ) (first : ℕ → ℕ) → i < none → i < length es → ((n : ℕ) → first n ≡ cond (touches (event_at es i) n) (min none i) none) → IsFirsts es i (i + 1) none first
+pub IsFirsts-first : (es : List Cause) (i none : ℕ) (first : ℕ → ℕ) → i < none → i < length es → ((n : ℕ) → first n ≡ cond (cause_touches (event_at es i) n) (min none i) none) → IsFirsts es i (i + 1) none first
 IsFirsts-first es i none first l k is = record {
   noted = λ n h. (let e : first n ≡ i = at n h in omega arith);
   dependent = λ n h. subst (λ z. slice_index_or (dependents es i) z false ≡ true) (sym (at n h)) (flag_itself es i k);
-  touched = λ n h. subst (λ z. touches (event_at es z) n ≡ true) (sym (at n h)) (touching n h);
-  oldest = λ n q m f t. (let e : q ≡ i = only q m f in let g : first n ≡ min none i = is n ∙ cond-true (touches (event_at es i) n) (min none i) none (subst (λ z. touches (event_at es z) n ≡ true) e t) in omega arith);
+  touched = λ n h. subst (λ z. cause_touches (event_at es z) n ≡ true) (sym (at n h)) (touching n h);
+  oldest = λ n q m f t. (let e : q ≡ i = only q m f in let g : first n ≡ min none i = is n ∙ cond-true (cause_touches (event_at es i) n) (min none i) none (subst (λ z. cause_touches (event_at es z) n ≡ true) e t) in omega arith);
 }
   where
-    touching : (n : ℕ) → first n < none → touches (event_at es i) n ≡ true
-    touching n h = ⊎_elim (λ t. t) (λ f. absurd (let e : first n ≡ none = is n ∙ cond-false (touches (event_at es i) n) (min none i) none f in omega arith)) (cases_Bool (touches (event_at es i) n))
+    touching : (n : ℕ) → first n < none → cause_touches (event_at es i) n ≡ true
+    touching n h = ⊎_elim (λ t. t) (λ f. absurd (let e : first n ≡ none = is n ∙ cond-false (cause_touches (event_at es i) n) (min none i) none f in omega arith)) (cases_Bool (cause_touches (event_at es i) n))
 
     at : (n : ℕ) → first n < none → first n ≡ i
-    at n h = let e : first n ≡ min none i = is n ∙ cond-true (touches (event_at es i) n) (min none i) none (touching n h) in omega arith
+    at n h = let e : first n ≡ min none i = is n ∙ cond-true (cause_touches (event_at es i) n) (min none i) none (touching n h) in omega arith
 
     only : (q : ℕ) → q < i + 1 → slice_index_or (dependents es i) q false ≡ true → q ≡ i
     only q m f = let h : i ≤ q = DependsOn-order es i q (DependsOn_from_flag es i q (omega arith) f) in omega arith
@@ -145,7 +144,7 @@ IsFirsts-other es i place none first free w = record {
 }
 
 -- one that does
-pub IsFirsts-noted : (es : List Cause) (i place none : ℕ) (first now : ℕ → ℕ) → place < none → slice_index_or (dependents es i) place false ≡ true → IsFirsts es i place none first → ((n : ℕ) → now n ≡ cond (touches (event_at es place) n) (min (first n) place) (first n)) → IsFirsts es i (place + 1) none now
+pub IsFirsts-noted : (es : List Cause) (i place none : ℕ) (first now : ℕ → ℕ) → place < none → slice_index_or (dependents es i) place false ≡ true → IsFirsts es i place none first → ((n : ℕ) → now n ≡ cond (cause_touches (event_at es place) n) (min (first n) place) (first n)) → IsFirsts es i (place + 1) none now
 IsFirsts-noted es i place none first now l f w is = record {
   noted = λ n h. elim (split n) [ inl e ↦ (let k : first n < place = w.noted n (subst (λ z. z < none) e h) in omega arith) | inr e ↦ (let g : now n ≡ place = e.1 in omega arith) ];
   dependent = λ n h. elim (split n) [
@@ -153,24 +152,24 @@ IsFirsts-noted es i place none first now l f w is = record {
     | inr e ↦ subst (λ z. slice_index_or (dependents es i) z false ≡ true) (sym e.1) f
   ];
   touched = λ n h. elim (split n) [
-    | inl e ↦ subst (λ z. touches (event_at es z) n ≡ true) (sym e) (w.touched n (subst (λ z. z < none) e h))
-    | inr e ↦ subst (λ z. touches (event_at es z) n ≡ true) (sym e.1) e.0
+    | inl e ↦ subst (λ z. cause_touches (event_at es z) n ≡ true) (sym e) (w.touched n (subst (λ z. z < none) e h))
+    | inr e ↦ subst (λ z. cause_touches (event_at es z) n ≡ true) (sym e.1) e.0
   ];
   oldest = λ n q m g t. elim (cases_eq q place) [
-    | inl e ↦ (let k : now n ≡ min (first n) place = is n ∙ cond-true (touches (event_at es place) n) (min (first n) place) (first n) (subst (λ z. touches (event_at es z) n ≡ true) e t) in omega arith)
+    | inl e ↦ (let k : now n ≡ min (first n) place = is n ∙ cond-true (cause_touches (event_at es place) n) (min (first n) place) (first n) (subst (λ z. cause_touches (event_at es z) n ≡ true) e t) in omega arith)
     | inr ne ↦ (let k : first n ≤ q = w.oldest n q (omega arith) g t in let h : now n ≤ first n = lower n in omega arith)
   ];
 }
   where
     lower : (n : ℕ) → now n ≤ first n
     lower n = ⊎_elim
-        (λ t. let k : now n ≡ min (first n) place = is n ∙ cond-true (touches (event_at es place) n) (min (first n) place) (first n) t in omega arith)
-        (λ t. let k : now n ≡ first n = is n ∙ cond-false (touches (event_at es place) n) (min (first n) place) (first n) t in omega arith)
-        (cases_Bool (touches (event_at es place) n))
+        (λ t. let k : now n ≡ min (first n) place = is n ∙ cond-true (cause_touches (event_at es place) n) (min (first n) place) (first n) t in omega arith)
+        (λ t. let k : now n ≡ first n = is n ∙ cond-false (cause_touches (event_at es place) n) (min (first n) place) (first n) t in omega arith)
+        (cases_Bool (cause_touches (event_at es place) n))
 
-    split : (n : ℕ) → (now n ≡ first n) ⊎ ((touches (event_at es place) n ≡ true) × (now n ≡ place))
+    split : (n : ℕ) → (now n ≡ first n) ⊎ ((cause_touches (event_at es place) n ≡ true) × (now n ≡ place))
     split n = ⊎_elim
-        (λ t. let k : now n ≡ min (first n) place = is n ∙ cond-true (touches (event_at es place) n) (min (first n) place) (first n) t in
+        (λ t. let k : now n ≡ min (first n) place = is n ∙ cond-true (cause_touches (event_at es place) n) (min (first n) place) (first n) t in
         ⊎_elim (λ h. inl (omega arith)) (λ h. inr (t, omega arith)) (cases_lt (first n) place))
-        (λ t. inl (is n ∙ cond-false (touches (event_at es place) n) (min (first n) place) (first n) t))
-        (cases_Bool (touches (event_at es place) n))
+        (λ t. inl (is n ∙ cond-false (cause_touches (event_at es place) n) (min (first n) place) (first n) t))
+        (cases_Bool (cause_touches (event_at es place) n))

@@ -1,18 +1,16 @@
 -- The places of the steps.
 use Rattle.std.proofs.Common.{◌≡◌, ℕ, true, false, zero, suc, ◌+◌, ◌<◌, ◌≤◌, List, [], ◌∷◌, ◌++◌, length, take, drop, refl, sym, ◌∙◌, ap, arith, get_or, subst, cond, Bool, ⊎_elim}
 use Rattle.std.proofs.Math.Seq.{drop-cons}
-use Rattle.std.specs.Prelude.{nat_lt, count_by, is_some, IsSome, ◌↔◌}
+use Rattle.std.specs.Prelude.{nat_lt, count_by, is_some, IsSome, ◌↔◌, Option, Some, None, option_map}
 use Rattle.std.proofs.lemmas.Bool.{cases_Bool, lt-ltb, le-ltb, ltb-true, cases_lt, both_ways}
 use Rattle.std.proofs.lemmas.Option.{same_Some}
 use Rattle.std.proofs.lemmas.List.{drop_all}
 use Rattle.std.proofs.lemmas.List.Sums.{sum_by-cons}
-use Rattle.std.specs.Prelude.{Option, Some, None, option_map}
 use Rattle.ga_event.specs.declared.event.Event.{Event}
 use Rattle.ga_event.specs.declared.event.Cause.{Cause}
 use Rattle.ga_event.specs.Touches.{touches as event_touches}
-use Rattle.ga_causal.specs.Causes.{events_in, touches}
-use Rattle.ga_causal.specs.Dependence.{event_at}
-use Rattle.ga_causal.specs.Steps.{touching, place_of, IsStep}
+use Rattle.ga_causal.specs.Dependence.{events_in, cause_touches, event_at, place_of}
+use Rattle.ga_causal.specs.Steps.{touching, IsStep}
 use Rattle.ga_causal.proofs.Refusals.{place-first, place-touched, place-other, some-shift, shifted_of}
 
 -- a place that stands so many later
@@ -33,18 +31,18 @@ drop_at es i e l is =
     drop-cons es i e l ∙ ap (λ z. z ∷ drop (suc i) es) (sym is) ∙ ap (λ (k : ℕ). e ∷ drop k es) (let h : suc i ≡ i + 1 = omega arith in h)
 
 -- the search from a place on, by the event there
-pub on_found : (es : List Cause) (n i left : ℕ) (e : Cause) → i < length es → e ≡ get_or es i e → touches e n ≡ true → left ≡ 0 → on_by i (place_of (drop i es) n (suc left)) ≡ Some i
+pub on_found : (es : List Cause) (n i left : ℕ) (e : Cause) → i < length es → e ≡ get_or es i e → cause_touches e n ≡ true → left ≡ 0 → on_by i (place_of (drop i es) n (suc left)) ≡ Some i
 on_found es n i left e l is t none =
     ap (λ (k : ℕ). on_by i (place_of (drop i es) n (suc k))) none
     ∙ ap (λ z. on_by i (place_of z n 1)) (drop_at es i e l is) ∙ ap (on_by i) (place-first e (drop (i + 1) es) n t)
     ∙ ap Some (let h : i + 0 ≡ i = omega arith in h)
 
-pub on_touched : (es : List Cause) (n i left : ℕ) (e : Cause) → i < length es → e ≡ get_or es i e → touches e n ≡ true → on_by i (place_of (drop i es) n (suc (suc left))) ≡ on_by (i + 1) (place_of (drop (i + 1) es) n (suc left))
+pub on_touched : (es : List Cause) (n i left : ℕ) (e : Cause) → i < length es → e ≡ get_or es i e → cause_touches e n ≡ true → on_by i (place_of (drop i es) n (suc (suc left))) ≡ on_by (i + 1) (place_of (drop (i + 1) es) n (suc left))
 on_touched es n i left e l is t =
     ap (λ z. on_by i (place_of z n (suc (suc left)))) (drop_at es i e l is) ∙ ap (on_by i) (place-touched e (drop (i + 1) es) n left t)
     ∙ on_by-suc i (place_of (drop (i + 1) es) n (suc left))
 
-pub on_other : (es : List Cause) (n i left : ℕ) (e : Cause) → i < length es → e ≡ get_or es i e → touches e n ≡ false → on_by i (place_of (drop i es) n (suc left)) ≡ on_by (i + 1) (place_of (drop (i + 1) es) n (suc left))
+pub on_other : (es : List Cause) (n i left : ℕ) (e : Cause) → i < length es → e ≡ get_or es i e → cause_touches e n ≡ false → on_by i (place_of (drop i es) n (suc left)) ≡ on_by (i + 1) (place_of (drop (i + 1) es) n (suc left))
 on_other es n i left e l is t =
     ap (λ z. on_by i (place_of z n (suc left))) (drop_at es i e l is) ∙ ap (on_by i) (place-other e (drop (i + 1) es) n left t)
     ∙ on_by-suc i (place_of (drop (i + 1) es) n (suc left))
@@ -59,23 +57,23 @@ pub on_end : (es : List Cause) (n i k : ℕ) → length es ≤ i → on_by i (pl
 on_end es n i k l = ap (λ z. on_by i (place_of z n k)) (drop_all i es l)
 
 -- one event more
-pub touching-cons : (n : ℕ) (e : Cause) (es : List Cause) → touching n (e ∷ es) ≡ cond (touches e n) 1 0 + touching n es
-touching-cons n e es = sum_by-cons (λ (x : Cause). cond (touches x n) 1 0) e es
+pub touching-cons : (n : ℕ) (e : Cause) (es : List Cause) → touching n (e ∷ es) ≡ cond (cause_touches e n) 1 0 + touching n es
+touching-cons n e es = sum_by-cons (λ (x : Cause). cond (cause_touches x n) 1 0) e es
 
 -- whether an event looks is no matter
 pub touching_in : (n : ℕ) (es : List Cause) → touching n es ≡ count_by (λ e. event_touches e n) (events_in es)
 touching_in n [] = refl
 touching_in n (e ∷ es) =
-    touching-cons n e es ∙ ap (λ (z : ℕ). cond (touches e n) 1 0 + z) (touching_in n es)
+    touching-cons n e es ∙ ap (λ (z : ℕ). cond (cause_touches e n) 1 0 + z) (touching_in n es)
     ∙ sym (sum_by-cons (λ (x : Event). cond (event_touches x n) 1 0) e.event (events_in es))
 
-pub touching_yes : (n : ℕ) (e : Cause) (es : List Cause) → touches e n ≡ true → touching n (e ∷ es) ≡ suc (touching n es)
+pub touching_yes : (n : ℕ) (e : Cause) (es : List Cause) → cause_touches e n ≡ true → touching n (e ∷ es) ≡ suc (touching n es)
 touching_yes n e es t = sum _ _ (touching-cons n e es) (ap (λ (z : Bool). cond {A = ℕ} z 1 0) t)
   where
     sum : (a b : ℕ) → a ≡ b + touching n es → b ≡ 1 → a ≡ suc (touching n es)
     sum a b p q = omega arith
 
-pub touching_no : (n : ℕ) (e : Cause) (es : List Cause) → touches e n ≡ false → touching n (e ∷ es) ≡ touching n es
+pub touching_no : (n : ℕ) (e : Cause) (es : List Cause) → cause_touches e n ≡ false → touching n (e ∷ es) ≡ touching n es
 touching_no n e es t = sum _ _ (touching-cons n e es) (ap (λ (z : Bool). cond {A = ℕ} z 1 0) t)
   where
     sum : (a b : ℕ) → a ≡ b + touching n es → b ≡ 0 → a ≡ touching n es
@@ -87,11 +85,11 @@ place_stands [] n k = sym (le-ltb k 0 (omega arith))
 place_stands (e ∷ es) n zero = ⊎_elim
     (λ t. ap is_some (place-first e es n t) ∙ sym (lt-ltb 0 (touching n (e ∷ es)) (let h = touching_yes n e es t in omega (arith, h))))
     (λ f. ap is_some (place-other e es n 0 f) ∙ some-shift (place_of es n 1) ∙ place_stands es n 0 ∙ ap (nat_lt 0) (sym (touching_no n e es f)))
-    (cases_Bool (touches e n))
+    (cases_Bool (cause_touches e n))
 place_stands (e ∷ es) n (suc k) = ⊎_elim
     (λ t. ap is_some (place-touched e es n k t) ∙ some-shift (place_of es n (suc k)) ∙ place_stands es n k ∙ same_test k (touching n es) ∙ ap (nat_lt (suc k)) (sym (touching_yes n e es t)))
     (λ f. ap is_some (place-other e es n (suc k) f) ∙ some-shift (place_of es n (suc (suc k))) ∙ place_stands es n (suc k) ∙ ap (nat_lt (suc k)) (sym (touching_no n e es f)))
-    (cases_Bool (touches e n))
+    (cases_Bool (cause_touches e n))
   where
     same_test : (a b : ℕ) → nat_lt a b ≡ nat_lt (suc a) (suc b)
     same_test a b = ⊎_elim
@@ -107,12 +105,12 @@ stands_exact es n (suc k) = (
 )
 
 -- and is one
-step_later : (e : Cause) (es : List Cause) (n k place : ℕ) → touches e n ≡ true → IsStep es n k place → IsStep (e ∷ es) n (suc k) (suc place)
+step_later : (e : Cause) (es : List Cause) (n k place : ℕ) → cause_touches e n ≡ true → IsStep es n k place → IsStep (e ∷ es) n (suc k) (suc place)
 step_later e es n k place t s =
     let a = touching_yes n e (take place es) t in
     record { within = omega (arith, s.within); touched = s.touched; before = omega (arith, s.before, a) }
 
-step_past : (e : Cause) (es : List Cause) (n k place : ℕ) → touches e n ≡ false → IsStep es n k place → IsStep (e ∷ es) n k (suc place)
+step_past : (e : Cause) (es : List Cause) (n k place : ℕ) → cause_touches e n ≡ false → IsStep es n k place → IsStep (e ∷ es) n k (suc place)
 step_past e es n k place f s =
     let a = touching_no n e (take place es) f in
     record { within = omega (arith, s.within); touched = s.touched; before = omega (arith, s.before, a) }
@@ -124,16 +122,16 @@ place_step (e ∷ es) n (suc zero) place h = ⊎_elim
     (λ t. subst (IsStep (e ∷ es) n 1) (same_Some 0 place (sym (place-first e es n t) ∙ h)) (record { within = omega arith; touched = t; before = refl }))
     (λ f. let s = shifted_of (place_of es n 1) place (sym (place-other e es n 0 f) ∙ h) in
     subst (IsStep (e ∷ es) n 1) (sym s.shift) (step_past e es n 1 s.place f (place_step es n 1 s.place s.is)))
-    (cases_Bool (touches e n))
+    (cases_Bool (cause_touches e n))
 place_step (e ∷ es) n (suc (suc i)) place h = ⊎_elim
     (λ t. let s = shifted_of (place_of es n (suc i)) place (sym (place-touched e es n i t) ∙ h) in
     subst (IsStep (e ∷ es) n (suc (suc i))) (sym s.shift) (step_later e es n (suc i) s.place t (place_step es n (suc i) s.place s.is)))
     (λ f. let s = shifted_of (place_of es n (suc (suc i))) place (sym (place-other e es n (suc i) f) ∙ h) in
     subst (IsStep (e ∷ es) n (suc (suc i))) (sym s.shift) (step_past e es n (suc (suc i)) s.place f (place_step es n (suc (suc i)) s.place s.is)))
-    (cases_Bool (touches e n))
+    (cases_Bool (cause_touches e n))
 
 -- the place of a step in a list of two parts
-pub place_split : (n j : ℕ) (xs : List Cause) (x : Cause) (ys : List Cause) → touching n xs ≡ j → touches x n ≡ true → place_of (xs ++ x ∷ ys) n (suc j) ≡ Some (length xs)
+pub place_split : (n j : ℕ) (xs : List Cause) (x : Cause) (ys : List Cause) → touching n xs ≡ j → cause_touches x n ≡ true → place_of (xs ++ x ∷ ys) n (suc j) ≡ Some (length xs)
 place_split n zero [] x ys q t = place-first x ys n t
 place_split n (suc j) [] x ys q t = absurd (zero_suc j q)
   where
@@ -142,25 +140,25 @@ place_split n (suc j) [] x ys q t = absurd (zero_suc j q)
 place_split n zero (e ∷ es) x ys q t = ⊎_elim
     (λ yes. absurd (let a = touching_yes n e es yes in omega arith))
     (λ no. place-other e (es ++ x ∷ ys) n 0 no ∙ ap (option_map suc) (place_split n zero es x ys (sym (touching_no n e es no) ∙ q) t))
-    (cases_Bool (touches e n))
+    (cases_Bool (cause_touches e n))
 place_split n (suc j) (e ∷ es) x ys q t = ⊎_elim
     (λ yes. place-touched e (es ++ x ∷ ys) n j yes ∙ ap (option_map suc) (place_split n j es x ys (let a = touching_yes n e es yes in omega arith) t))
     (λ no. place-other e (es ++ x ∷ ys) n (suc j) no ∙ ap (option_map suc) (place_split n (suc j) es x ys (sym (touching_no n e es no) ∙ q) t))
-    (cases_Bool (touches e n))
+    (cases_Bool (cause_touches e n))
 
 pub place_more : (n j : ℕ) (xs ys : List Cause) → j < touching n xs → place_of (xs ++ ys) n (suc j) ≡ place_of xs n (suc j)
 place_more n j [] ys l = absurd (omega (arith, l))
 place_more n zero (e ∷ es) ys l = ⊎_elim
     (λ yes. place-first e (es ++ ys) n yes ∙ sym (place-first e es n yes))
     (λ no. place-other e (es ++ ys) n 0 no ∙ ap (option_map suc) (place_more n zero es ys (let a = touching_no n e es no in omega (arith, a, l))) ∙ sym (place-other e es n 0 no))
-    (cases_Bool (touches e n))
+    (cases_Bool (cause_touches e n))
 place_more n (suc j) (e ∷ es) ys l = ⊎_elim
     (λ yes. place-touched e (es ++ ys) n j yes ∙ ap (option_map suc) (place_more n j es ys (let a = touching_yes n e es yes in omega (arith, a, l))) ∙ sym (place-touched e es n j yes))
     (λ no. place-other e (es ++ ys) n (suc j) no ∙ ap (option_map suc) (place_more n (suc j) es ys (let a = touching_no n e es no in omega (arith, a, l))) ∙ sym (place-other e es n (suc j) no))
-    (cases_Bool (touches e n))
+    (cases_Bool (cause_touches e n))
 
 -- a step before a place counts there
-pub touching_before : (es : List Cause) (n q i : ℕ) → q < i → q < length es → touches (event_at es q) n ≡ true → touching n (take q es) + 1 ≤ touching n (take i es)
+pub touching_before : (es : List Cause) (n q i : ℕ) → q < i → q < length es → cause_touches (event_at es q) n ≡ true → touching n (take q es) + 1 ≤ touching n (take i es)
 touching_before [] n q i l inside t = absurd (omega arith)
 touching_before (x ∷ xs) n q zero l inside t = absurd (omega arith)
 touching_before (x ∷ xs) n zero (suc i) l inside t = let a = touching_yes n x (take i xs) t in omega (arith, a)

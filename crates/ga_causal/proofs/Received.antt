@@ -15,11 +15,10 @@ use Rattle.ga_event.specs.Agree.{Agree}
 use Rattle.ga_event.specs.declared.event.Event.{Event}
 use Rattle.ga_event.specs.declared.event.Event.TheVariants.{Own, Pass}
 use Rattle.ga_event.specs.declared.event.Cause.{Cause}
-use Rattle.ga_event.specs.Touches.{nodes_of, with_some, neighbours, looked_at, seen_by, meets}
-use Rattle.ga_event.specs.Touches.{touches as event_touches}
+use Rattle.ga_event.specs.Touches.{nodes_of, with_some, neighbours, looked_at, seen_by, meets, touches as event_touches}
 use Rattle.ga_event.specs.Apply.{Told, shows, beside_in, seen_from, after, apply, cause_of, run, replay}
 use Rattle.ga_event.proofs.Locality.{cause_alike}
-use Rattle.ga_causal.specs.Causes.{touches}
+use Rattle.ga_causal.specs.Dependence.{cause_touches}
 use Rattle.ga_causal.specs.Equivalence.{AreApart, AreEquivalent, same, swapped, later, joined}
 use Rattle.ga_causal.specs.Words.{word_of, with_words, account_read}
 use Rattle.ga_causal.proofs.Runs.{first_of_run, keeps_of}
@@ -79,10 +78,10 @@ swapped_alike n c last e f zs ts h is =
     let m = first_of_run c e (f ∷ zs) last ts is in
     let k = first_of_run m.mid f zs last m.others m.then in
     let keeps = keeps_of c e m.mid m.told m.first in
-    let q : cause_of c f ≡ cause_of m.mid f = cause_alike (touches (cause_of c e)) c m.mid f keeps (apart_free (cause_of c e) (cause_of c f) h) in
+    let q : cause_of c f ≡ cause_of m.mid f = cause_alike (cause_touches (cause_of c e)) c m.mid f keeps (apart_free (cause_of c e) (cause_of c f) h) in
     let z = turned c m.mid k.mid e f m.told k.told m.first k.first (subst (AreApart (cause_of c e)) q h) in
-    let one : word_of c f ≡ word_of m.mid f = word_alike (touches (cause_of c e)) c m.mid f keeps (apart_free (cause_of c e) (cause_of c f) h) in
-    let two : word_of c e ≡ word_of z.mid e = word_alike (touches (cause_of c f)) c z.mid e (keeps_of c f z.mid k.told z.first) (apart_free (cause_of c f) (cause_of c e) (AreApart-sym (cause_of c e) (cause_of c f) h)) in
+    let one : word_of c f ≡ word_of m.mid f = word_alike (cause_touches (cause_of c e)) c m.mid f keeps (apart_free (cause_of c e) (cause_of c f) h) in
+    let two : word_of c e ≡ word_of z.mid e = word_alike (cause_touches (cause_of c f)) c z.mid e (keeps_of c f z.mid k.told z.first) (apart_free (cause_of c f) (cause_of c e) (AreApart-sym (cause_of c e) (cause_of c f) h)) in
     let test : Event × Option ℕ → Bool = λ x. event_touches x.0 n in
     ap (λ xs. filter test xs) (two_words c m.mid k.mid e f m.told k.told zs m.first k.first)
     ∙ ap (λ (w : Option ℕ). filter test ((e, word_of c e) ∷ (f, w) ∷ with_words k.mid zs)) (sym one)

@@ -4,26 +4,24 @@ use Rattle.std.specs.Prelude.{option_map}
 use Rattle.std.proofs.lemmas.Bool.{or_left, or_right, cases_Bool, both_ways, cond-true, cond-false, ne_eqb, eqb-true, not-false, false_from_ne_true}
 use Rattle.std.proofs.lemmas.Option.{same_Some}
 use Rattle.ga_event.specs.declared.event.Cause.{Cause}
-use Rattle.ga_causal.specs.Causes.{nodes_of, touches}
+use Rattle.ga_causal.specs.Dependence.{cause_nodes, cause_touches, marked, event_at, dependents_after, dependents, rest, DependsOn, place_of}
 use Rattle.ga_event.specs.Touches.{meets}
-use Rattle.ga_causal.specs.Dependence.{marked, event_at, dependents_after, dependents, rest, DependsOn}
-use Rattle.ga_causal.specs.Steps.{place_of}
 use Rattle.ga_event.proofs.Locality.{meets-touched}
 use Rattle.ga_causal.proofs.Exact.{any-mono, flag_marked, DependsOn_from_flag, flag_from_DependsOn}
 use Rattle.ga_causal.proofs.Runs.{kept}
 use Rattle.ga_causal.proofs.Rollbacks.{kept-dropped, kept-kept}
 
 -- the place of a step by cases
-pub place-first : (e : Cause) (es : List Cause) (n : ℕ) → touches e n ≡ true → place_of (e ∷ es) n 1 ≡ Some 0
-place-first e es n t = cond-true (touches e n) (Some 0) (option_map suc (place_of es n 1)) t
+pub place-first : (e : Cause) (es : List Cause) (n : ℕ) → cause_touches e n ≡ true → place_of (e ∷ es) n 1 ≡ Some 0
+place-first e es n t = cond-true (cause_touches e n) (Some 0) (option_map suc (place_of es n 1)) t
 
-pub place-touched : (e : Cause) (es : List Cause) (n i : ℕ) → touches e n ≡ true → place_of (e ∷ es) n (suc (suc i)) ≡ option_map suc (place_of es n (suc i))
+pub place-touched : (e : Cause) (es : List Cause) (n i : ℕ) → cause_touches e n ≡ true → place_of (e ∷ es) n (suc (suc i)) ≡ option_map suc (place_of es n (suc i))
 place-touched e es n i t =
-    cond-true (touches e n) (cond (suc i == 0) (Some 0) (option_map suc (place_of es n (suc i)))) (option_map suc (place_of es n (suc (suc i)))) t
+    cond-true (cause_touches e n) (cond (suc i == 0) (Some 0) (option_map suc (place_of es n (suc i)))) (option_map suc (place_of es n (suc (suc i)))) t
     ∙ cond-false (suc i == 0) (Some 0) (option_map suc (place_of es n (suc i))) (ne_eqb (suc i) 0 (λ q. omega arith))
 
-pub place-other : (e : Cause) (es : List Cause) (n i : ℕ) → touches e n ≡ false → place_of (e ∷ es) n (suc i) ≡ option_map suc (place_of es n (suc i))
-place-other e es n i f = cond-false (touches e n) _ (option_map suc (place_of es n (suc i))) f
+pub place-other : (e : Cause) (es : List Cause) (n i : ℕ) → cause_touches e n ≡ false → place_of (e ∷ es) n (suc i) ≡ option_map suc (place_of es n (suc i))
+place-other e es n i f = cond-false (cause_touches e n) _ (option_map suc (place_of es n (suc i))) f
 
 -- what was found under a shift
 pub record Shifted (o : Option ℕ) (q : ℕ) : Type 0 where
@@ -40,37 +38,37 @@ some-shift None = refl
 some-shift (Some p) = refl
 
 -- the event there touches the node
-pub touching : (es : List Cause) (n k q : ℕ) → place_of es n k ≡ Some q → (q < length es) × (touches (event_at es q) n ≡ true)
+pub touching : (es : List Cause) (n k q : ℕ) → place_of es n k ≡ Some q → (q < length es) × (cause_touches (event_at es q) n ≡ true)
 touching [] n k q h = absurd (cc)
 touching (e ∷ es) n zero q h = absurd (cc)
 touching (e ∷ es) n (suc zero) q h = ⊎_elim
     (λ t. let z : 0 ≡ q = same_Some 0 q (sym (place-first e es n t) ∙ h) in
-    subst (λ w. (w < suc (length es)) × (touches (event_at (e ∷ es) w) n ≡ true)) z (omega arith, t))
+    subst (λ w. (w < suc (length es)) × (cause_touches (event_at (e ∷ es) w) n ≡ true)) z (omega arith, t))
     (λ f. let s = shifted_of (place_of es n 1) q (sym (place-other e es n 0 f) ∙ h) in
     let r = touching es n 1 s.place s.is in
-    subst (λ w. (w < suc (length es)) × (touches (event_at (e ∷ es) w) n ≡ true)) (sym s.shift) (omega (arith, r.0), r.1))
-    (cases_Bool (touches e n))
+    subst (λ w. (w < suc (length es)) × (cause_touches (event_at (e ∷ es) w) n ≡ true)) (sym s.shift) (omega (arith, r.0), r.1))
+    (cases_Bool (cause_touches e n))
 touching (e ∷ es) n (suc (suc i)) q h = ⊎_elim
     (λ t. let s = shifted_of (place_of es n (suc i)) q (sym (place-touched e es n i t) ∙ h) in
     let r = touching es n (suc i) s.place s.is in
-    subst (λ w. (w < suc (length es)) × (touches (event_at (e ∷ es) w) n ≡ true)) (sym s.shift) (omega (arith, r.0), r.1))
+    subst (λ w. (w < suc (length es)) × (cause_touches (event_at (e ∷ es) w) n ≡ true)) (sym s.shift) (omega (arith, r.0), r.1))
     (λ f. let s = shifted_of (place_of es n (suc (suc i))) q (sym (place-other e es n (suc i) f) ∙ h) in
     let r = touching es n (suc (suc i)) s.place s.is in
-    subst (λ w. (w < suc (length es)) × (touches (event_at (e ∷ es) w) n ≡ true)) (sym s.shift) (omega (arith, r.0), r.1))
-    (cases_Bool (touches e n))
+    subst (λ w. (w < suc (length es)) × (cause_touches (event_at (e ∷ es) w) n ≡ true)) (sym s.shift) (omega (arith, r.0), r.1))
+    (cases_Bool (cause_touches e n))
 
-touch_meets : (marks : ℕ → Bool) (e : Cause) (n : ℕ) → marks n ≡ true → touches e n ≡ true → meets marks e ≡ true
-touch_meets marks e n m t = meets-touched marks e (any-mono (λ k. k == n) marks (λ k q. subst (λ z. marks z ≡ true) (sym (eqb-true k n q)) m) (nodes_of e) t)
+touch_meets : (marks : ℕ → Bool) (e : Cause) (n : ℕ) → marks n ≡ true → cause_touches e n ≡ true → meets marks e ≡ true
+touch_meets marks e n m t = meets-touched marks e (any-mono (λ k. k == n) marks (λ k q. subst (λ z. marks z ≡ true) (sym (eqb-true k n q)) m) (cause_nodes e) t)
 
 -- no step of a marked node stays
 none_kept : (marks : ℕ → Bool) (es : List Cause) (n k : ℕ) → marks n ≡ true → place_of (kept marks es) n k ≡ None
 none_kept marks [] n k m = refl
 none_kept marks (e ∷ es) n k m = ⊎_elim
-    (λ t. ap (λ z. place_of z n k) (kept-dropped marks e es t) ∙ none_kept (λ a. marks a || touches e a) es n k (or_left (marks n) (touches e n) m))
-    (λ f. ap (λ z. place_of z n k) (kept-kept marks e es f) ∙ later k (false_from_ne_true (touches e n) (λ t. both_ways (meets marks e) f (touch_meets marks e n m t))) (λ j. none_kept marks es n j m))
+    (λ t. ap (λ z. place_of z n k) (kept-dropped marks e es t) ∙ none_kept (λ a. marks a || cause_touches e a) es n k (or_left (marks n) (cause_touches e n) m))
+    (λ f. ap (λ z. place_of z n k) (kept-kept marks e es f) ∙ later k (false_from_ne_true (cause_touches e n) (λ t. both_ways (meets marks e) f (touch_meets marks e n m t))) (λ j. none_kept marks es n j m))
     (cases_Bool (meets marks e))
   where
-    later : (j : ℕ) → touches e n ≡ false → ((i : ℕ) → place_of (kept marks es) n i ≡ None) → place_of (e ∷ kept marks es) n j ≡ None
+    later : (j : ℕ) → cause_touches e n ≡ false → ((i : ℕ) → place_of (kept marks es) n i ≡ None) → place_of (e ∷ kept marks es) n j ≡ None
     later zero f h = refl
     later (suc j) f h = place-other e (kept marks es) n j f ∙ ap (λ (o : Option ℕ). option_map suc o) (h (suc j))
 
@@ -82,15 +80,15 @@ stands_none : (now : List Cause) (flags : List Bool) (n k q : ℕ) → place_of 
 unfolding Stands
 stands_none now flags n k q h f = ap is_some h ∙ sym (ap not f)
 
-stands_first : (e : Cause) (es : List Cause) (flags : List Bool) (n : ℕ) → touches e n ≡ true → slice_index_or flags 0 false ≡ false → Stands (e ∷ es) flags n 1 0
+stands_first : (e : Cause) (es : List Cause) (flags : List Bool) (n : ℕ) → cause_touches e n ≡ true → slice_index_or flags 0 false ≡ false → Stands (e ∷ es) flags n 1 0
 unfolding Stands
 stands_first e es flags n t f = ap is_some (place-first e es n t) ∙ sym (ap not f)
 
-stands_touched : (e : Cause) (es : List Cause) (b : Bool) (flags : List Bool) (n i q : ℕ) → touches e n ≡ true → Stands es flags n (suc i) q → Stands (e ∷ es) (b ∷ flags) n (suc (suc i)) (suc q)
+stands_touched : (e : Cause) (es : List Cause) (b : Bool) (flags : List Bool) (n i q : ℕ) → cause_touches e n ≡ true → Stands es flags n (suc i) q → Stands (e ∷ es) (b ∷ flags) n (suc (suc i)) (suc q)
 unfolding Stands
 stands_touched e es b flags n i q t h = ap is_some (place-touched e es n i t) ∙ some-shift (place_of es n (suc i)) ∙ h
 
-stands_other : (e : Cause) (es : List Cause) (b : Bool) (flags : List Bool) (n i q : ℕ) → touches e n ≡ false → Stands es flags n (suc i) q → Stands (e ∷ es) (b ∷ flags) n (suc i) (suc q)
+stands_other : (e : Cause) (es : List Cause) (b : Bool) (flags : List Bool) (n i q : ℕ) → cause_touches e n ≡ false → Stands es flags n (suc i) q → Stands (e ∷ es) (b ∷ flags) n (suc i) (suc q)
 unfolding Stands
 stands_other e es b flags n i q f h = ap is_some (place-other e es n i f) ∙ some-shift (place_of es n (suc i)) ∙ h
 
@@ -100,35 +98,35 @@ stands_dropped now b flags n k q h = h
 
 -- what a step of the list without its first event is, or the first itself
 pub data FoundAt (e : Cause) (es : List Cause) (n : ℕ) : ℕ → ℕ → Type 0 where
-  at_first : touches e n ≡ true → FoundAt e es n 1 0
-  after_touched : {i q : ℕ} → touches e n ≡ true → place_of es n (suc i) ≡ Some q → FoundAt e es n (suc (suc i)) (suc q)
-  after_other : {i q : ℕ} → touches e n ≡ false → place_of es n (suc i) ≡ Some q → FoundAt e es n (suc i) (suc q)
+  at_first : cause_touches e n ≡ true → FoundAt e es n 1 0
+  after_touched : {i q : ℕ} → cause_touches e n ≡ true → place_of es n (suc i) ≡ Some q → FoundAt e es n (suc (suc i)) (suc q)
+  after_other : {i q : ℕ} → cause_touches e n ≡ false → place_of es n (suc i) ≡ Some q → FoundAt e es n (suc i) (suc q)
 
 found_at : (e : Cause) (es : List Cause) (n k q : ℕ) → place_of (e ∷ es) n k ≡ Some q → FoundAt e es n k q
 found_at e es n zero q h = absurd (cc)
 found_at e es n (suc zero) q h = ⊎_elim
     (λ t. subst (λ z. FoundAt e es n 1 z) (same_Some 0 q (sym (place-first e es n t) ∙ h)) (at_first t))
     (λ f. let s = shifted_of (place_of es n 1) q (sym (place-other e es n 0 f) ∙ h) in subst (λ z. FoundAt e es n 1 z) (sym s.shift) (after_other f s.is))
-    (cases_Bool (touches e n))
+    (cases_Bool (cause_touches e n))
 found_at e es n (suc (suc i)) q h = ⊎_elim
     (λ t. let s = shifted_of (place_of es n (suc i)) q (sym (place-touched e es n i t) ∙ h) in subst (λ z. FoundAt e es n (suc (suc i)) z) (sym s.shift) (after_touched t s.is))
     (λ f. let s = shifted_of (place_of es n (suc (suc i))) q (sym (place-other e es n (suc i) f) ∙ h) in subst (λ z. FoundAt e es n (suc (suc i)) z) (sym s.shift) (after_other f s.is))
-    (cases_Bool (touches e n))
+    (cases_Bool (cause_touches e n))
 
 joined : (ℕ → Bool) → Cause → ℕ → Bool
-joined marks e n = marks n || touches e n
+joined marks e n = marks n || cause_touches e n
 
 flag_of : (marks : ℕ → Bool) (es : List Cause) (n k q : ℕ) → marks n ≡ true → place_of es n k ≡ Some q → slice_index_or (dependents_after marks es) q false ≡ true
 flag_of marks es n k q m h = let r = touching es n k q h in flag_marked marks es q r.0 (touch_meets marks (event_at es q) n m r.1)
 
-marked-stays : (marks : ℕ → Bool) (e : Cause) (n : ℕ) → meets marks e ≡ true → touches e n ≡ true → marked marks e n ≡ true
-marked-stays marks e n m t = rw m (or_right (marks n) (touches e n) t)
+marked-stays : (marks : ℕ → Bool) (e : Cause) (n : ℕ) → meets marks e ≡ true → cause_touches e n ≡ true → marked marks e n ≡ true
+marked-stays marks e n m t = rw m (or_right (marks n) (cause_touches e n) t)
 
 after_drop : (marks : ℕ → Bool) (e : Cause) (es : List Cause) → meets marks e ≡ true → kept marks (e ∷ es) ≡ kept (marked marks e) es
-after_drop marks e es m = kept-dropped marks e es m ∙ ap (λ z. kept z es) (sym (cond-true (meets marks e) (λ n. marks n || touches e n) marks m))
+after_drop marks e es m = kept-dropped marks e es m ∙ ap (λ z. kept z es) (sym (cond-true (meets marks e) (λ n. marks n || cause_touches e n) marks m))
 
 after_keep : (marks : ℕ → Bool) (e : Cause) (es : List Cause) → meets marks e ≡ false → kept marks (e ∷ es) ≡ e ∷ kept (marked marks e) es
-after_keep marks e es f = kept-kept marks e es f ∙ ap (λ z. e ∷ kept z es) (sym (cond-false (meets marks e) (λ n. marks n || touches e n) marks f))
+after_keep marks e es f = kept-kept marks e es f ∙ ap (λ z. e ∷ kept z es) (sym (cond-false (meets marks e) (λ n. marks n || cause_touches e n) marks f))
 
 kept_stands : (marks : ℕ → Bool) (es : List Cause) (n k q : ℕ) → place_of es n k ≡ Some q → Stands (kept marks es) (dependents_after marks es) n k q
 kept_stands marks [] n k q h = absurd (cc)
@@ -152,10 +150,10 @@ rest_stands : (es : List Cause) (i n k q : ℕ) → place_of es n k ≡ Some q �
 rest_stands [] i n k q h = absurd (cc)
 rest_stands (e ∷ es) zero n k q h = go k q (found_at e es n k q h)
   where
-    go : (j p : ℕ) → FoundAt e es n j p → Stands (kept (touches e) es) (true ∷ dependents_after (touches e) es) n j p
-    go j p (at_first t) = stands_none (kept (touches e) es) (true ∷ dependents_after (touches e) es) n 1 0 (none_kept (touches e) es n 1 t) refl
-    go j p (after_touched {i} {q = r} t w) = stands_none (kept (touches e) es) (true ∷ dependents_after (touches e) es) n (suc (suc i)) (suc r) (none_kept (touches e) es n (suc (suc i)) t) (flag_of (touches e) es n (suc i) r t w)
-    go j p (after_other {i} {q = r} o w) = stands_dropped (kept (touches e) es) true (dependents_after (touches e) es) n (suc i) r (kept_stands (touches e) es n (suc i) r w)
+    go : (j p : ℕ) → FoundAt e es n j p → Stands (kept (cause_touches e) es) (true ∷ dependents_after (cause_touches e) es) n j p
+    go j p (at_first t) = stands_none (kept (cause_touches e) es) (true ∷ dependents_after (cause_touches e) es) n 1 0 (none_kept (cause_touches e) es n 1 t) refl
+    go j p (after_touched {i} {q = r} t w) = stands_none (kept (cause_touches e) es) (true ∷ dependents_after (cause_touches e) es) n (suc (suc i)) (suc r) (none_kept (cause_touches e) es n (suc (suc i)) t) (flag_of (cause_touches e) es n (suc i) r t w)
+    go j p (after_other {i} {q = r} o w) = stands_dropped (kept (cause_touches e) es) true (dependents_after (cause_touches e) es) n (suc i) r (kept_stands (cause_touches e) es n (suc i) r w)
 rest_stands (e ∷ es) (suc i) n k q h = go k q (found_at e es n k q h) (λ j p. rest_stands es i n j p)
   where
     go : (j p : ℕ) → FoundAt e es n j p → ((j p : ℕ) → place_of es n j ≡ Some p → Stands (rest es i) (dependents es i) n j p) → Stands (e ∷ rest es i) (false ∷ dependents es i) n j p

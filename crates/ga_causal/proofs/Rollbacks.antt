@@ -7,23 +7,23 @@ use Rattle.std.specs.List.Sorted.{IsPermutation}
 use Rattle.std.proofs.lemmas.List.Sorted.{list_any-IsPermutation}
 use Rattle.std.proofs.lemmas.Bool.{or_cases, or_parts, or_left, or_right, or_from, and_from, cases_Bool, both_ways, cond-true, cond-false, false_from_ne_true, eq-eqb, ne_eqb}
 use Rattle.ga_event.specs.declared.event.Cause.{Cause}
-use Rattle.ga_causal.specs.Causes.{nodes_of, touches}
+use Rattle.ga_causal.specs.Dependence.{cause_nodes, cause_touches, place_of, rest_from, rewound_list, rewound_all}
 use Rattle.ga_event.specs.Touches.{seen_by, meets}
-use Rattle.ga_causal.specs.Steps.{counted, place_of, rest_from, rewound, rewound_all}
+use Rattle.ga_causal.specs.Steps.{counted}
 use Rattle.ga_event.proofs.Locality.{meets-touched}
 use Rattle.ga_causal.proofs.Exact.{any-mono, any-or, meets-mono, meets-or}
 use Rattle.ga_causal.proofs.Runs.{kept}
 
 -- one of the event's steps is among those to be taken back, after so many steps of each node
 abbrev pub is_cut : (ℕ → ℕ) → (ℕ → ℕ → Bool) → Cause → Bool
-is_cut c cut e = list_any (λ n. cut n (c n + 1)) (nodes_of e)
+is_cut c cut e = list_any (λ n. cut n (c n + 1)) (cause_nodes e)
 
 -- the events that are left when all these steps are taken back at once, with what depends on them
 abbrev pub walk : (ℕ → Bool) → (ℕ → ℕ) → (ℕ → ℕ → Bool) → List Cause → List Cause
 walk marks c cut [] = []
-walk marks c cut (e ∷ es) = cond (meets marks e || is_cut c cut e) (walk (λ n. marks n || touches e n) c cut es) (e ∷ walk marks (counted c e) cut es)
+walk marks c cut (e ∷ es) = cond (meets marks e || is_cut c cut e) (walk (λ n. marks n || cause_touches e n) c cut es) (e ∷ walk marks (counted c e) cut es)
 
-pub walk-dropped : (marks : ℕ → Bool) (c : ℕ → ℕ) (cut : ℕ → ℕ → Bool) (e : Cause) (es : List Cause) → (meets marks e || is_cut c cut e) ≡ true → walk marks c cut (e ∷ es) ≡ walk (λ n. marks n || touches e n) c cut es
+pub walk-dropped : (marks : ℕ → Bool) (c : ℕ → ℕ) (cut : ℕ → ℕ → Bool) (e : Cause) (es : List Cause) → (meets marks e || is_cut c cut e) ≡ true → walk marks c cut (e ∷ es) ≡ walk (λ n. marks n || cause_touches e n) c cut es
 walk-dropped marks c cut e es t = cond-true (meets marks e || is_cut c cut e) _ _ t
 
 pub walk-kept : (marks : ℕ → Bool) (c : ℕ → ℕ) (cut : ℕ → ℕ → Bool) (e : Cause) (es : List Cause) → (meets marks e || is_cut c cut e) ≡ false → walk marks c cut (e ∷ es) ≡ e ∷ walk marks (counted c e) cut es
@@ -45,20 +45,20 @@ or-join : (x y z : Bool) → ((x || y) || z) ≡ (x || (y || z))
 or-join true y z = refl
 or-join false y z = refl
 
-counted-other : (c : ℕ → ℕ) (e : Cause) (n : ℕ) → touches e n ≡ false → counted c e n ≡ c n
-counted-other c e n f = cond-false (touches e n) (c n + 1) (c n) f
+counted-other : (c : ℕ → ℕ) (e : Cause) (n : ℕ) → cause_touches e n ≡ false → counted c e n ≡ c n
+counted-other c e n f = cond-false (cause_touches e n) (c n + 1) (c n) f
 
 -- a drop is a drop of the one walk too
 drop_one : (m j : ℕ → Bool) (c b : ℕ → ℕ) (x y : ℕ → ℕ → Bool) (e : Cause) → ((n : ℕ) → m n ≡ true → j n ≡ true) → ((n : ℕ) → j n ≡ false → c n ≡ b n) → ((n i : ℕ) → x n i ≡ true → y n i ≡ true) → (meets m e || is_cut c x e) ≡ true → (meets j e || is_cut b y e) ≡ true
 drop_one m j c b x y e h g k t = ⊎_elim
     (λ u. or_left (meets j e) (is_cut b y e) (meets-mono m j e h u))
     (λ u. ⊎_elim (λ v. or_left (meets j e) (is_cut b y e) (meets-touched j e v)) (λ v. or_right (meets j e) (is_cut b y e) v)
-    (any-or j (λ n. y n (b n + 1)) (nodes_of e)
+    (any-or j (λ n. y n (b n + 1)) (cause_nodes e)
     (any-mono (λ n. x n (c n + 1)) (λ n. j n || y n (b n + 1))
     (λ n q. ⊎_elim (λ v. or_left (j n) (y n (b n + 1)) v)
     (λ v. or_right (j n) (y n (b n + 1)) (k n (b n + 1) (subst (λ z. x n (z + 1) ≡ true) (g n v) q)))
     (cases_Bool (j n)))
-    (nodes_of e) u)))
+    (cause_nodes e) u)))
     (or_cases (meets m e) (is_cut c x e) t)
 
 -- a drop of the one walk is a drop of one of the two
@@ -81,28 +81,28 @@ drop_two m k j c d b x y e w t = ⊎_elim by_mark by_cut (or_cases (meets j e) (
 
     by_cut : is_cut b (λ n i. x n i || y n i) e ≡ true → ((meets m e || is_cut c x e) ≡ true) ⊎ ((meets k e || is_cut d y e) ≡ true)
     by_cut u = ⊎_elim (λ v. by_mark (meets-touched j e v))
-        (λ v. cuts (any-or (λ n. x n (c n + 1)) (λ n. y n (d n + 1)) (nodes_of e) v))
-        (any-or j (λ n. x n (c n + 1) || y n (d n + 1)) (nodes_of e) (any-mono (λ n. x n (b n + 1) || y n (b n + 1)) (λ n. j n || (x n (c n + 1) || y n (d n + 1))) one (nodes_of e) u))
+        (λ v. cuts (any-or (λ n. x n (c n + 1)) (λ n. y n (d n + 1)) (cause_nodes e) v))
+        (any-or j (λ n. x n (c n + 1) || y n (d n + 1)) (cause_nodes e) (any-mono (λ n. x n (b n + 1) || y n (b n + 1)) (λ n. j n || (x n (c n + 1) || y n (d n + 1))) one (cause_nodes e) u))
 
-Joins-second : (m k j : ℕ → Bool) (c d b : ℕ → ℕ) (e : Cause) → Joins m k j c d b → Joins m (λ n. k n || touches e n) (λ n. j n || touches e n) c d b
+Joins-second : (m k j : ℕ → Bool) (c d b : ℕ → ℕ) (e : Cause) → Joins m k j c d b → Joins m (λ n. k n || cause_touches e n) (λ n. j n || cause_touches e n) c d b
 Joins-second m k j c d b e w = record {
-  both = λ n. ap (λ z. z || touches e n) (w.both n) ∙ or-join (m n) (k n) (touches e n);
-  first = λ n f. w.first n ((or_parts (j n) (touches e n) f).0);
-  second = λ n f. w.second n ((or_parts (j n) (touches e n) f).0);
+  both = λ n. ap (λ z. z || cause_touches e n) (w.both n) ∙ or-join (m n) (k n) (cause_touches e n);
+  first = λ n f. w.first n ((or_parts (j n) (cause_touches e n) f).0);
+  second = λ n f. w.second n ((or_parts (j n) (cause_touches e n) f).0);
 }
 
-Joins-first : (m k j : ℕ → Bool) (c d b : ℕ → ℕ) (e : Cause) → Joins m k j c d b → Joins (λ n. m n || touches e n) k (λ n. j n || touches e n) c (counted d e) b
+Joins-first : (m k j : ℕ → Bool) (c d b : ℕ → ℕ) (e : Cause) → Joins m k j c d b → Joins (λ n. m n || cause_touches e n) k (λ n. j n || cause_touches e n) c (counted d e) b
 Joins-first m k j c d b e w = record {
-  both = λ n. ap (λ z. z || touches e n) (w.both n) ∙ or-swap (m n) (k n) (touches e n);
-  first = λ n f. w.first n ((or_parts (j n) (touches e n) f).0);
-  second = λ n f. counted-other d e n ((or_parts (j n) (touches e n) f).1) ∙ w.second n ((or_parts (j n) (touches e n) f).0);
+  both = λ n. ap (λ z. z || cause_touches e n) (w.both n) ∙ or-swap (m n) (k n) (cause_touches e n);
+  first = λ n f. w.first n ((or_parts (j n) (cause_touches e n) f).0);
+  second = λ n f. counted-other d e n ((or_parts (j n) (cause_touches e n) f).1) ∙ w.second n ((or_parts (j n) (cause_touches e n) f).0);
 }
 
 Joins-kept : (m k j : ℕ → Bool) (c d b : ℕ → ℕ) (e : Cause) → Joins m k j c d b → Joins m k j (counted c e) (counted d e) (counted b e)
 Joins-kept m k j c d b e w = record {
   both = w.both;
-  first = λ n f. ap (λ (z : ℕ). cond (touches e n) (z + 1) z) (w.first n f);
-  second = λ n f. ap (λ (z : ℕ). cond (touches e n) (z + 1) z) (w.second n f);
+  first = λ n f. ap (λ (z : ℕ). cond (cause_touches e n) (z + 1) z) (w.first n f);
+  second = λ n f. ap (λ (z : ℕ). cond (cause_touches e n) (z + 1) z) (w.second n f);
 }
 
 -- a walk over what another leaves is one walk
@@ -110,12 +110,12 @@ walk_twice : (m k j : ℕ → Bool) (c d b : ℕ → ℕ) (x y : ℕ → ℕ →
 walk_twice m k j c d b x y [] w = refl
 walk_twice m k j c d b x y (e ∷ es) w = ⊎_elim
     (λ t. ap (λ (z : List Cause). walk m c x z) (walk-dropped k d y e es t)
-    ∙ walk_twice m (λ n. k n || touches e n) (λ n. j n || touches e n) c d b x y es (Joins-second m k j c d b e w)
+    ∙ walk_twice m (λ n. k n || cause_touches e n) (λ n. j n || cause_touches e n) c d b x y es (Joins-second m k j c d b e w)
     ∙ sym (walk-dropped j b (λ n i. x n i || y n i) e es (drop_one k j d b y (λ n i. x n i || y n i) e (λ n v. w.both n ∙ or_right (m n) (k n) v) w.second (λ n i v. or_right (x n i) (y n i) v) t)))
     (λ f. ⊎_elim
     (λ t. ap (λ (z : List Cause). walk m c x z) (walk-kept k d y e es f)
     ∙ walk-dropped m c x e (walk k (counted d e) y es) t
-    ∙ walk_twice (λ n. m n || touches e n) k (λ n. j n || touches e n) c (counted d e) b x y es (Joins-first m k j c d b e w)
+    ∙ walk_twice (λ n. m n || cause_touches e n) k (λ n. j n || cause_touches e n) c (counted d e) b x y es (Joins-first m k j c d b e w)
     ∙ sym (walk-dropped j b (λ n i. x n i || y n i) e es (drop_one m j c b x (λ n i. x n i || y n i) e (λ n v. w.both n ∙ or_left (m n) (k n) v) w.first (λ n i v. or_left (x n i) (y n i) v) t)))
     (λ g. ap (λ (z : List Cause). walk m c x z) (walk-kept k d y e es f)
     ∙ walk-kept m c x e (walk k (counted d e) y es) g
@@ -152,10 +152,10 @@ single_cut c n k (m ∷ ns) =
     (λ t. ap (λ (z : ℕ). (c z + 1) == k) (eqb-true m n t)) (single_cut c n k ns)
 
 -- the event is dropped only by that step
-single_drop : (c : ℕ → ℕ) (n k : ℕ) (e : Cause) → (meets nowhere e || is_cut c (single n k) e) ≡ (touches e n && ((c n + 1) == k))
-single_drop c n k e = ap (λ z. z || is_cut c (single n k) e) (nowhere-meets (seen_by e)) ∙ single_cut c n k (nodes_of e)
+single_drop : (c : ℕ → ℕ) (n k : ℕ) (e : Cause) → (meets nowhere e || is_cut c (single n k) e) ≡ (cause_touches e n && ((c n + 1) == k))
+single_drop c n k e = ap (λ z. z || is_cut c (single n k) e) (nowhere-meets (seen_by e)) ∙ single_cut c n k (cause_nodes e)
 
-pub kept-dropped : (marks : ℕ → Bool) (e : Cause) (es : List Cause) → meets marks e ≡ true → kept marks (e ∷ es) ≡ kept (λ n. marks n || touches e n) es
+pub kept-dropped : (marks : ℕ → Bool) (e : Cause) (es : List Cause) → meets marks e ≡ true → kept marks (e ∷ es) ≡ kept (λ n. marks n || cause_touches e n) es
 kept-dropped marks e es t = rw t refl
 
 pub kept-kept : (marks : ℕ → Bool) (e : Cause) (es : List Cause) → meets marks e ≡ false → kept marks (e ∷ es) ≡ e ∷ kept marks es
@@ -166,87 +166,87 @@ walk_marked : (marks : ℕ → Bool) (c : ℕ → ℕ) (n k : ℕ) (es : List Ca
 walk_marked marks c n k [] h = refl
 walk_marked marks c n k (e ∷ es) h = ⊎_elim
     (λ t. walk-dropped marks c (single n k) e es (or_left (meets marks e) (is_cut c (single n k) e) t)
-    ∙ walk_marked (λ m. marks m || touches e m) c n k es (or_left (marks n) (touches e n) h)
+    ∙ walk_marked (λ m. marks m || cause_touches e m) c n k es (or_left (marks n) (cause_touches e n) h)
     ∙ sym (kept-dropped marks e es t))
     (λ f. walk-kept marks c (single n k) e es (or_from (meets marks e) (is_cut c (single n k) e) f (not_cut f))
     ∙ ap (λ z. e ∷ z) (walk_marked marks (counted c e) n k es h)
     ∙ sym (kept-kept marks e es f))
     (cases_Bool (meets marks e))
   where
-    touch_meets : touches e n ≡ true → meets marks e ≡ true
-    touch_meets t = meets-touched marks e (any-mono (λ m. m == n) marks (λ m q. subst (λ z. marks z ≡ true) (sym (eqb-true m n q)) h) (nodes_of e) t)
+    touch_meets : cause_touches e n ≡ true → meets marks e ≡ true
+    touch_meets t = meets-touched marks e (any-mono (λ m. m == n) marks (λ m q. subst (λ z. marks z ≡ true) (sym (eqb-true m n q)) h) (cause_nodes e) t)
 
     not_cut : meets marks e ≡ false → is_cut c (single n k) e ≡ false
-    not_cut f = single_cut c n k (nodes_of e) ∙ ap (λ z. z && ((c n + 1) == k)) (false_from_ne_true (touches e n) (λ t. both_ways (meets marks e) f (touch_meets t)))
+    not_cut f = single_cut c n k (cause_nodes e) ∙ ap (λ z. z && ((c n + 1) == k)) (false_from_ne_true (cause_touches e n) (λ t. both_ways (meets marks e) f (touch_meets t)))
 
 never : (x y : Bool) → y ≡ false → (x && y) ≡ false
 never true y h = h
 never false y h = refl
 
 -- an event that is not that step stays
-walk-other : (c : ℕ → ℕ) (n k : ℕ) (e : Cause) (es : List Cause) → (touches e n && ((c n + 1) == k)) ≡ false → walk nowhere c (single n k) (e ∷ es) ≡ e ∷ walk nowhere (counted c e) (single n k) es
+walk-other : (c : ℕ → ℕ) (n k : ℕ) (e : Cause) (es : List Cause) → (cause_touches e n && ((c n + 1) == k)) ≡ false → walk nowhere c (single n k) (e ∷ es) ≡ e ∷ walk nowhere (counted c e) (single n k) es
 walk-other c n k e es h = walk-kept nowhere c (single n k) e es (single_drop c n k e ∙ h)
 
 -- a step that was made before the list begins cuts nothing
 walk_past : (c : ℕ → ℕ) (n k : ℕ) (es : List Cause) → k ≤ c n → walk nowhere c (single n k) es ≡ es
 walk_past c n k [] h = refl
 walk_past c n k (e ∷ es) h =
-    walk-other c n k e es (never (touches e n) ((c n + 1) == k) (ne_eqb (c n + 1) k (λ q. omega arith)))
-    ∙ ap (λ z. e ∷ z) (walk_past (counted c e) n k es (⊎_elim (λ t. rw t (omega arith)) (λ f. rw f h) (cases_Bool (touches e n))))
+    walk-other c n k e es (never (cause_touches e n) ((c n + 1) == k) (ne_eqb (c n + 1) k (λ q. omega arith)))
+    ∙ ap (λ z. e ∷ z) (walk_past (counted c e) n k es (⊎_elim (λ t. rw t (omega arith)) (λ f. rw f h) (cases_Bool (cause_touches e n))))
 
 rest_later : (e : Cause) (es : List Cause) (o : Option ℕ) → rest_from (e ∷ es) (option_map suc o) ≡ e ∷ rest_from es o
 rest_later e es None = refl
 rest_later e es (Some i) = refl
 
-pub rewound-first : (e : Cause) (es : List Cause) (n : ℕ) → touches e n ≡ true → rewound (e ∷ es) n 1 ≡ kept (touches e) es
-rewound-first e es n t = ap (λ (o : Option ℕ). rest_from (e ∷ es) o) (cond-true (touches e n) (Some 0) (option_map suc (place_of es n 1)) t)
+pub rewound-first : (e : Cause) (es : List Cause) (n : ℕ) → cause_touches e n ≡ true → rewound_list (e ∷ es) n 1 ≡ kept (cause_touches e) es
+rewound-first e es n t = ap (λ (o : Option ℕ). rest_from (e ∷ es) o) (cond-true (cause_touches e n) (Some 0) (option_map suc (place_of es n 1)) t)
 
-pub rewound-touched : (e : Cause) (es : List Cause) (n i : ℕ) → touches e n ≡ true → rewound (e ∷ es) n (suc (suc i)) ≡ e ∷ rewound es n (suc i)
+pub rewound-touched : (e : Cause) (es : List Cause) (n i : ℕ) → cause_touches e n ≡ true → rewound_list (e ∷ es) n (suc (suc i)) ≡ e ∷ rewound_list es n (suc i)
 rewound-touched e es n i t =
     ap (λ (o : Option ℕ). rest_from (e ∷ es) o)
-    (cond-true (touches e n) (cond (suc i == 0) (Some 0) (option_map suc (place_of es n (suc i)))) (option_map suc (place_of es n (suc (suc i)))) t
+    (cond-true (cause_touches e n) (cond (suc i == 0) (Some 0) (option_map suc (place_of es n (suc i)))) (option_map suc (place_of es n (suc (suc i)))) t
     ∙ cond-false (suc i == 0) (Some 0) (option_map suc (place_of es n (suc i))) (ne_eqb (suc i) 0 (λ q. omega arith)))
     ∙ rest_later e es (place_of es n (suc i))
 
-pub rewound-other : (e : Cause) (es : List Cause) (n j : ℕ) → touches e n ≡ false → rewound (e ∷ es) n (suc j) ≡ e ∷ rewound es n (suc j)
-rewound-other e es n j f = ap (λ (o : Option ℕ). rest_from (e ∷ es) o) (cond-false (touches e n) _ (option_map suc (place_of es n (suc j))) f) ∙ rest_later e es (place_of es n (suc j))
+pub rewound-other : (e : Cause) (es : List Cause) (n j : ℕ) → cause_touches e n ≡ false → rewound_list (e ∷ es) n (suc j) ≡ e ∷ rewound_list es n (suc j)
+rewound-other e es n j f = ap (λ (o : Option ℕ). rest_from (e ∷ es) o) (cond-false (cause_touches e n) _ (option_map suc (place_of es n (suc j))) f) ∙ rest_later e es (place_of es n (suc j))
 
-counted-touched : (c : ℕ → ℕ) (e : Cause) (n : ℕ) → touches e n ≡ true → counted c e n ≡ c n + 1
-counted-touched c e n t = cond-true (touches e n) (c n + 1) (c n) t
+counted-touched : (c : ℕ → ℕ) (e : Cause) (n : ℕ) → cause_touches e n ≡ true → counted c e n ≡ c n + 1
+counted-touched c e n t = cond-true (cause_touches e n) (c n + 1) (c n) t
 
 -- a rollback is a walk that cuts one step
-pub rewound_walk : (c : ℕ → ℕ) (n k : ℕ) (es : List Cause) (j : ℕ) → k ≡ c n + j → walk nowhere c (single n k) es ≡ rewound es n j
+pub rewound_walk : (c : ℕ → ℕ) (n k : ℕ) (es : List Cause) (j : ℕ) → k ≡ c n + j → walk nowhere c (single n k) es ≡ rewound_list es n j
 rewound_walk c n k [] j q = refl
 rewound_walk c n k (e ∷ es) zero q = walk_past c n k (e ∷ es) (omega arith)
 rewound_walk c n k (e ∷ es) (suc zero) q = ⊎_elim
-    (λ t. walk-dropped nowhere c (single n k) e es (single_drop c n k e ∙ and_from (touches e n) ((c n + 1) == k) t (eq-eqb (c n + 1) k (omega arith)))
-    ∙ walk_marked (touches e) c n k es t
+    (λ t. walk-dropped nowhere c (single n k) e es (single_drop c n k e ∙ and_from (cause_touches e n) ((c n + 1) == k) t (eq-eqb (c n + 1) k (omega arith)))
+    ∙ walk_marked (cause_touches e) c n k es t
     ∙ sym (rewound-first e es n t))
     (λ f. walk-other c n k e es (ap (λ z. z && ((c n + 1) == k)) f)
     ∙ ap (λ z. e ∷ z) (rewound_walk (counted c e) n k es (suc zero) (q ∙ ap (λ (z : ℕ). z + 1) (sym (counted-other c e n f))))
     ∙ sym (rewound-other e es n zero f))
-    (cases_Bool (touches e n))
+    (cases_Bool (cause_touches e n))
 rewound_walk c n k (e ∷ es) (suc (suc i)) q = ⊎_elim
     (λ t. let h : counted c e n ≡ c n + 1 = counted-touched c e n t in
-    walk-other c n k e es (never (touches e n) ((c n + 1) == k) (ne_eqb (c n + 1) k (λ w. omega arith)))
+    walk-other c n k e es (never (cause_touches e n) ((c n + 1) == k) (ne_eqb (c n + 1) k (λ w. omega arith)))
     ∙ ap (λ z. e ∷ z) (rewound_walk (counted c e) n k es (suc i) (omega arith))
     ∙ sym (rewound-touched e es n i t))
     (λ f. let h : counted c e n ≡ c n = counted-other c e n f in
     walk-other c n k e es (ap (λ z. z && ((c n + 1) == k)) f)
     ∙ ap (λ z. e ∷ z) (rewound_walk (counted c e) n k es (suc (suc i)) (omega arith))
     ∙ sym (rewound-other e es n (suc i) f))
-    (cases_Bool (touches e n))
+    (cases_Bool (cause_touches e n))
 
 walk_none : (c : ℕ → ℕ) (es : List Cause) → walk nowhere c (λ n k. false) es ≡ es
 walk_none c [] = refl
 walk_none c (e ∷ es) =
-    walk-kept nowhere c (λ n k. false) e es (or_from (meets nowhere e) _ (nowhere-meets (seen_by e)) (nowhere-meets (nodes_of e)))
+    walk-kept nowhere c (λ n k. false) e es (or_from (meets nowhere e) _ (nowhere-meets (seen_by e)) (nowhere-meets (cause_nodes e)))
     ∙ ap (λ z. e ∷ z) (walk_none (counted c e) es)
 
 Joins-none : Joins nowhere nowhere nowhere (λ n. 0) (λ n. 0) (λ n. 0)
 Joins-none = record { both = λ n. refl; first = λ n f. refl; second = λ n f. refl }
 
-at_once : (x : ℕ → ℕ → Bool) (es : List Cause) (n k : ℕ) → walk nowhere (λ n. 0) x (rewound es n k) ≡ walk nowhere (λ n. 0) (λ m i. x m i || single n k m i) es
+at_once : (x : ℕ → ℕ → Bool) (es : List Cause) (n k : ℕ) → walk nowhere (λ n. 0) x (rewound_list es n k) ≡ walk nowhere (λ n. 0) (λ m i. x m i || single n k m i) es
 at_once x es n k =
     ap (λ (z : List Cause). walk nowhere (λ n. 0) x z) (sym (rewound_walk (λ n. 0) n k es k (omega arith)))
     ∙ walk_twice nowhere nowhere nowhere (λ n. 0) (λ n. 0) (λ n. 0) x (single n k) es Joins-none
@@ -268,7 +268,7 @@ rewound_all_walk : (steps : List (ℕ × ℕ)) (es : List Cause) → rewound_all
 unfolding among
 rewound_all_walk [] es = sym (walk_none (λ n. 0) es)
 rewound_all_walk (step ∷ steps) es =
-    rewound_all_walk steps (rewound es step.0 step.1)
+    rewound_all_walk steps (rewound_list es step.0 step.1)
     ∙ at_once (among steps) es step.0 step.1
     ∙ same_cuts (λ m i. among steps m i || single step.0 step.1 m i) (among (step ∷ steps)) es (λ m i. or-comm (among steps m i) (single step.0 step.1 m i))
 
@@ -280,11 +280,11 @@ rewound_any_order es steps others h =
     ∙ same_cuts (among steps) (among others) es (λ m i. list_any-IsPermutation (λ (step : ℕ × ℕ). single step.0 step.1 m i) steps others h)
     ∙ sym (rewound_all_walk others es)
 
-pub rewound_twice : (events : List Cause) (n k m j : ℕ) → rewound (rewound events n k) m j ≡ rewound (rewound events m j) n k
+pub rewound_twice : (events : List Cause) (n k m j : ℕ) → rewound_list (rewound_list events n k) m j ≡ rewound_list (rewound_list events m j) n k
 unfolding among
 rewound_twice es n k m j =
-    sym (rewound_walk (λ n. 0) m j (rewound es n k) j (omega arith))
+    sym (rewound_walk (λ n. 0) m j (rewound_list es n k) j (omega arith))
     ∙ at_once (single m j) es n k
     ∙ same_cuts (λ a b. single m j a b || single n k a b) (λ a b. single n k a b || single m j a b) es (λ a b. or-comm (single m j a b) (single n k a b))
     ∙ sym (at_once (single n k) es m j)
-    ∙ rewound_walk (λ n. 0) n k (rewound es m j) k (omega arith)
+    ∙ rewound_walk (λ n. 0) n k (rewound_list es m j) k (omega arith)

@@ -9,10 +9,9 @@ use Rattle.ga_event.specs.declared.event.Cause.{Cause}
 use Rattle.ga_event.specs.Touches.{meets}
 use Rattle.ga_event.specs.Apply.{Told, run}
 use Rattle.ga_node.specs.Record.{NodeRecord}
-use Rattle.ga_causal.specs.Causes.{nodes_of, events_in, touches}
-use Rattle.ga_causal.specs.Dependence.{dependents, rest}
+use Rattle.ga_causal.specs.Dependence.{cause_nodes, events_in, cause_touches, dependents, rest, place_of, rest_from, rewound_list, rewound_all}
 use Rattle.ga_causal.specs.Equivalence.{AreApart, AreEquivalent}
-use Rattle.ga_causal.specs.Steps.{counted, touching, place_of, rest_from, rewound, rewound_all}
+use Rattle.ga_causal.specs.Steps.{counted, touching}
 use Rattle.ga_event.proofs.Locality.{touched_free}
 use Rattle.ga_causal.proofs.Runs.{causes, run_rest}
 use Rattle.ga_causal.proofs.Rollbacks.{walk, walk-dropped, walk-kept, is_cut, single, nowhere, or-swap, rewound_walk}
@@ -40,16 +39,16 @@ same_cut c d cut marks (n ∷ ns) h f =
     let p : (marks n ≡ false) × (list_any marks ns ≡ false) = or_parts (marks n) (list_any marks ns) f in
     ap (λ (z : ℕ). cut n (z + 1) || list_any (λ i. cut i (d i + 1)) ns) (h n p.0) ∙ ap (λ z. cut n (c n + 1) || z) (same_cut c d cut marks ns h p.1)
 
-dropped_marked : (m : ℕ → Bool) (c : ℕ → ℕ) (cut : ℕ → ℕ → Bool) (e f : Cause) → meets (touches e) f ≡ false → is_dropped (λ n. m n || touches e n) c cut f ≡ is_dropped m c cut f
+dropped_marked : (m : ℕ → Bool) (c : ℕ → ℕ) (cut : ℕ → ℕ → Bool) (e f : Cause) → meets (cause_touches e) f ≡ false → is_dropped (λ n. m n || cause_touches e n) c cut f ≡ is_dropped m c cut f
 unfolding is_dropped
-dropped_marked m c cut e f free = ap (λ z. z || is_cut c cut f) (any_joined m (touches e) _ free)
+dropped_marked m c cut e f free = ap (λ z. z || is_cut c cut f) (any_joined m (cause_touches e) _ free)
 
-dropped_counted : (m : ℕ → Bool) (c : ℕ → ℕ) (cut : ℕ → ℕ → Bool) (e f : Cause) → meets (touches e) f ≡ false → is_dropped m (counted c e) cut f ≡ is_dropped m c cut f
+dropped_counted : (m : ℕ → Bool) (c : ℕ → ℕ) (cut : ℕ → ℕ → Bool) (e f : Cause) → meets (cause_touches e) f ≡ false → is_dropped m (counted c e) cut f ≡ is_dropped m c cut f
 unfolding is_dropped
 dropped_counted m c cut e f free =
-    ap (λ z. meets m f || z) (same_cut c (counted c e) cut (touches e) (nodes_of f) (λ n g. cond-false (touches e n) (c n + 1) (c n) g) (touched_free (touches e) f free))
+    ap (λ z. meets m f || z) (same_cut c (counted c e) cut (cause_touches e) (cause_nodes f) (λ n g. cond-false (cause_touches e n) (c n + 1) (c n) g) (touched_free (cause_touches e) f free))
 
-dropped_is : (m : ℕ → Bool) (c : ℕ → ℕ) (cut : ℕ → ℕ → Bool) (e : Cause) (es : List Cause) → is_dropped m c cut e ≡ true → walk m c cut (e ∷ es) ≡ walk (λ n. m n || touches e n) c cut es
+dropped_is : (m : ℕ → Bool) (c : ℕ → ℕ) (cut : ℕ → ℕ → Bool) (e : Cause) (es : List Cause) → is_dropped m c cut e ≡ true → walk m c cut (e ∷ es) ≡ walk (λ n. m n || cause_touches e n) c cut es
 unfolding is_dropped
 dropped_is m c cut e es t = walk-dropped m c cut e es t
 
@@ -63,42 +62,42 @@ by_paths xs ys us vs p q h = subst (λ z. Shuffled z ys) (sym p) (subst (λ z. S
 walk_flipped : (m : ℕ → Bool) (c : ℕ → ℕ) (cut : ℕ → ℕ → Bool) (e f : Cause) (zs : List Cause) → AreApart e f → Shuffled (walk m c cut (e ∷ f ∷ zs)) (walk m c cut (f ∷ e ∷ zs))
 walk_flipped m c cut e f zs h = ⊎_elim
     (λ t. ⊎_elim
-    (λ u. by_paths _ _ _ _ (dropped_is m c cut e (f ∷ zs) t ∙ dropped_is (λ n. m n || touches e n) c cut f zs (dropped_marked m c cut e f ef ∙ u) ∙ ap (λ z. walk z c cut zs) (fun_ext (λ n. or-swap (m n) (touches e n) (touches f n))))
-    (dropped_is m c cut f (e ∷ zs) u ∙ dropped_is (λ n. m n || touches f n) c cut e zs (dropped_marked m c cut f e fe ∙ t)) stays)
-    (λ v. by_paths _ _ _ _ (dropped_is m c cut e (f ∷ zs) t ∙ kept_is (λ n. m n || touches e n) c cut f zs (dropped_marked m c cut e f ef ∙ v))
+    (λ u. by_paths _ _ _ _ (dropped_is m c cut e (f ∷ zs) t ∙ dropped_is (λ n. m n || cause_touches e n) c cut f zs (dropped_marked m c cut e f ef ∙ u) ∙ ap (λ z. walk z c cut zs) (fun_ext (λ n. or-swap (m n) (cause_touches e n) (cause_touches f n))))
+    (dropped_is m c cut f (e ∷ zs) u ∙ dropped_is (λ n. m n || cause_touches f n) c cut e zs (dropped_marked m c cut f e fe ∙ t)) stays)
+    (λ v. by_paths _ _ _ _ (dropped_is m c cut e (f ∷ zs) t ∙ kept_is (λ n. m n || cause_touches e n) c cut f zs (dropped_marked m c cut e f ef ∙ v))
     (kept_is m c cut f (e ∷ zs) v ∙ ap (λ z. f ∷ z) (dropped_is m (counted c f) cut e zs (dropped_counted m c cut f e fe ∙ t))) stays)
     (cases_Bool (is_dropped m c cut f)))
     (λ s. ⊎_elim
     (λ u. by_paths _ _ _ _ (kept_is m c cut e (f ∷ zs) s ∙ ap (λ z. e ∷ z) (dropped_is m (counted c e) cut f zs (dropped_counted m c cut e f ef ∙ u)))
-    (dropped_is m c cut f (e ∷ zs) u ∙ kept_is (λ n. m n || touches f n) c cut e zs (dropped_marked m c cut f e fe ∙ s)) stays)
+    (dropped_is m c cut f (e ∷ zs) u ∙ kept_is (λ n. m n || cause_touches f n) c cut e zs (dropped_marked m c cut f e fe ∙ s)) stays)
     (λ v. by_paths _ _ _ _ (kept_is m c cut e (f ∷ zs) s ∙ ap (λ z. e ∷ z) (kept_is m (counted c e) cut f zs (dropped_counted m c cut e f ef ∙ v)))
     (kept_is m c cut f (e ∷ zs) v ∙ ap (λ z. f ∷ z) (kept_is m (counted c f) cut e zs (dropped_counted m c cut f e fe ∙ s)) ∙ ap (λ z. f ∷ e ∷ walk m z cut zs) (sym (counted_both c e f))) (flipped h))
     (cases_Bool (is_dropped m c cut f)))
     (cases_Bool (is_dropped m c cut e))
   where
-    ef : meets (touches e) f ≡ false
+    ef : meets (cause_touches e) f ≡ false
     ef = apart_free e f h
 
-    fe : meets (touches f) e ≡ false
+    fe : meets (cause_touches f) e ≡ false
     fe = apart_free f e (AreApart-sym e f h)
 
 walk_shuffled : (m : ℕ → Bool) (c : ℕ → ℕ) (cut : ℕ → ℕ → Bool) (xs ys : List Cause) → Shuffled xs ys → Shuffled (walk m c cut xs) (walk m c cut ys)
 walk_shuffled m c cut xs ys stays = stays
 walk_shuffled m c cut xs ys (flipped {e} {f} {xs = zs} h) = walk_flipped m c cut e f zs h
 walk_shuffled m c cut xs ys (after {e} {xs = us} {ys = vs} h) = ⊎_elim
-    (λ t. by_paths _ _ _ _ (dropped_is m c cut e us t) (dropped_is m c cut e vs t) (walk_shuffled (λ n. m n || touches e n) c cut us vs h))
+    (λ t. by_paths _ _ _ _ (dropped_is m c cut e us t) (dropped_is m c cut e vs t) (walk_shuffled (λ n. m n || cause_touches e n) c cut us vs h))
     (λ f. by_paths _ _ _ _ (kept_is m c cut e us f) (kept_is m c cut e vs f) (after (walk_shuffled m (counted c e) cut us vs h)))
     (cases_Bool (is_dropped m c cut e))
 walk_shuffled m c cut xs ys (chained {ys = zs} h k) = chained (walk_shuffled m c cut xs zs h) (walk_shuffled m c cut zs ys k)
 
 -- a rollback of one step leaves such lists again
-pub rewound_shuffled : (xs ys : List Cause) (n k : ℕ) → Shuffled xs ys → Shuffled (rewound xs n k) (rewound ys n k)
+pub rewound_shuffled : (xs ys : List Cause) (n k : ℕ) → Shuffled xs ys → Shuffled (rewound_list xs n k) (rewound_list ys n k)
 rewound_shuffled xs ys n k h =
     by_paths _ _ _ _ (sym (rewound_walk (λ i. 0) n k xs k (omega arith))) (sym (rewound_walk (λ i. 0) n k ys k (omega arith))) (walk_shuffled nowhere (λ i. 0) (single n k) xs ys h)
 
 pub all_shuffled : (steps : List (ℕ × ℕ)) (xs ys : List Cause) → Shuffled xs ys → Shuffled (rewound_all xs steps) (rewound_all ys steps)
 all_shuffled [] xs ys h = h
-all_shuffled (step ∷ steps) xs ys h = all_shuffled steps (rewound xs step.0 step.1) (rewound ys step.0 step.1) (rewound_shuffled xs ys step.0 step.1 h)
+all_shuffled (step ∷ steps) xs ys h = all_shuffled steps (rewound_list xs step.0 step.1) (rewound_list ys step.0 step.1) (rewound_shuffled xs ys step.0 step.1 h)
 
 -- and what is left runs
 rest_made : (c : List NodeRecord) (xs : List Cause) (o : Option ℕ) → Made c xs → Made c (rest_from xs o)
@@ -111,7 +110,7 @@ rest_made c xs (Some i) m =
 
 pub all_made : (c : List NodeRecord) (steps : List (ℕ × ℕ)) (xs : List Cause) → Made c xs → Made c (rewound_all xs steps)
 all_made c [] xs m = m
-all_made c (step ∷ steps) xs m = all_made c steps (rewound xs step.0 step.1) (rest_made c xs (place_of xs step.0 step.1) m)
+all_made c (step ∷ steps) xs m = all_made c steps (rewound_list xs step.0 step.1) (rest_made c xs (place_of xs step.0 step.1) m)
 
 pub rolled_back : (c last now : List NodeRecord) (es fs : List Event) (ts us : List (Cause × Told)) → run c es ≡ Some (last, ts) → run c fs ≡ Some (now, us) → AreEquivalent c es fs
     → (steps : List (ℕ × ℕ)) → AreEquivalent c (events_in (rewound_all (causes ts) steps)) (events_in (rewound_all (causes us) steps))
@@ -134,7 +133,7 @@ touching_shuffled n xs ys (flipped {e} {f} {xs = zs} h) = two _ _ _ _ _ _ _ (tou
     two : (a b c d e f g : ℕ) → a ≡ b + c → c ≡ d + e → f ≡ d + g → g ≡ b + e → a ≡ f
     two a b c d e f g p q r s = omega arith
 touching_shuffled n xs ys (after {e} {xs = us} {ys = vs} h) =
-    touching-cons n e us ∙ ap (λ (z : ℕ). cond (touches e n) 1 0 + z) (touching_shuffled n us vs h) ∙ sym (touching-cons n e vs)
+    touching-cons n e us ∙ ap (λ (z : ℕ). cond (cause_touches e n) 1 0 + z) (touching_shuffled n us vs h) ∙ sym (touching-cons n e vs)
 touching_shuffled n xs ys (chained {ys = zs} h k) = touching_shuffled n xs zs h ∙ touching_shuffled n zs ys k
 
 -- a step stands in both or in neither

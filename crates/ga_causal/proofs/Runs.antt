@@ -5,11 +5,10 @@ use Rattle.std.proofs.lemmas.Bool.{or_parts, cases_Bool}
 use Rattle.std.proofs.lemmas.Option.{same_Some}
 use Rattle.ga_event.specs.declared.event.Event.{Event}
 use Rattle.ga_event.specs.declared.event.Cause.{Cause}
-use Rattle.ga_causal.specs.Causes.{events_in, touches}
+use Rattle.ga_causal.specs.Dependence.{events_in, cause_touches, dependents_after, dependents, without, rest}
 use Rattle.ga_event.specs.Touches.{meets}
 use Rattle.ga_event.specs.Apply.{Told, apply, cause_of, run}
 use Rattle.ga_node.specs.Record.{NodeRecord}
-use Rattle.ga_causal.specs.Dependence.{dependents_after, dependents, without, rest}
 use Rattle.ga_event.specs.Agree.{Agree, Alike}
 use Rattle.ga_event.proofs.Locality.{Agree-sym, apply_alike, cause_alike, apply_keeps}
 
@@ -53,16 +52,16 @@ first_of_run c e es last ts = at_first (apply c e) refl
     at_first None h g = absurd (cc)
     at_first (Some done) h g = at_rest done h (run done.0 es) refl g
 
-pub keeps_of : (c : List NodeRecord) (e : Event) (d : List NodeRecord) (t : Told) → apply c e ≡ Some (d, t) → Agree (touches (cause_of c e)) c d
-keeps_of c e d t h = subst (λ o. IfSome o (λ done. Agree (touches (cause_of c e)) c done.0)) h (apply_keeps c e)
+pub keeps_of : (c : List NodeRecord) (e : Event) (d : List NodeRecord) (t : Told) → apply c e ≡ Some (d, t) → Agree (cause_touches (cause_of c e)) c d
+keeps_of c e d t h = subst (λ o. IfSome o (λ done. Agree (cause_touches (cause_of c e)) c done.0)) h (apply_keeps c e)
 
 -- the marks go on
-Agree-marked : (marks : ℕ → Bool) (e : Event) (c d b : List NodeRecord) (t : Told) → Agree marks c b → apply c e ≡ Some (d, t) → Agree (λ n. marks n || touches (cause_of c e) n) d b
+Agree-marked : (marks : ℕ → Bool) (e : Event) (c d b : List NodeRecord) (t : Told) → Agree marks c b → apply c e ≡ Some (d, t) → Agree (λ n. marks n || cause_touches (cause_of c e) n) d b
 Agree-marked marks e c d b t a h =
-    let k : Agree (touches (cause_of c e)) c d = keeps_of c e d t h in
+    let k : Agree (cause_touches (cause_of c e)) c d = keeps_of c e d t h in
     record {
       size = sym k.size ∙ a.size;
-      same = λ n free. let p : (marks n ≡ false) × (touches (cause_of c e) n ≡ false) = or_parts (marks n) (touches (cause_of c e) n) free in sym (k.same n p.1) ∙ a.same n p.0;
+      same = λ n free. let p : (marks n ≡ false) × (cause_touches (cause_of c e) n ≡ false) = or_parts (marks n) (cause_touches (cause_of c e) n) free in sym (k.same n p.1) ∙ a.same n p.0;
     }
 
 -- what a kept event does elsewhere
@@ -83,7 +82,7 @@ same_of marks e c d b t a free h = go (apply b e) refl (subst (λ o. Alike marks
 abbrev KeepsRun : (ℕ → Bool) → List NodeRecord → List (Cause × Told) → Type 0
 KeepsRun marks b ts = (now : List NodeRecord) × (run b (events_in (kept marks (causes ts))) ≡ Some (now, without (dependents_after marks (causes ts)) ts))
 
-run_dropped : (marks : ℕ → Bool) (k : Cause) (b : List NodeRecord) (t : Told) (ts : List (Cause × Told)) → meets marks k ≡ true → KeepsRun (λ n. marks n || touches k n) b ts → KeepsRun marks b ((k, t) ∷ ts)
+run_dropped : (marks : ℕ → Bool) (k : Cause) (b : List NodeRecord) (t : Told) (ts : List (Cause × Told)) → meets marks k ≡ true → KeepsRun (λ n. marks n || cause_touches k n) b ts → KeepsRun marks b ((k, t) ∷ ts)
 run_dropped marks k b t ts m h = rw m h
 
 run_stays : (marks : ℕ → Bool) (e : Event) (c b mid : List NodeRecord) (t : Told) (ts : List (Cause × Told)) → cause_of c e ≡ cause_of b e → meets marks (cause_of c e) ≡ false → apply b e ≡ Some (mid, t) → KeepsRun marks mid ts → KeepsRun marks b ((cause_of c e, t) ∷ ts)
@@ -98,7 +97,7 @@ run_kept marks (e ∷ es) c b last ts a h =
     let f = first_of_run c e es last ts h in
     subst (λ z. KeepsRun marks b z) (sym f.all)
     (⊎_elim
-    (λ m. run_dropped marks (cause_of c e) b f.told f.others m (run_kept (λ n. marks n || touches (cause_of c e) n) es f.mid b last f.others (Agree-marked marks e c f.mid b f.told a f.first) f.then))
+    (λ m. run_dropped marks (cause_of c e) b f.told f.others m (run_kept (λ n. marks n || cause_touches (cause_of c e) n) es f.mid b last f.others (Agree-marked marks e c f.mid b f.told a f.first) f.then))
     (λ m. let s = same_of marks e c f.mid b f.told a m f.first in
     run_stays marks e c b s.mid f.told f.others s.cause m s.done (run_kept marks es f.mid s.mid last f.others s.agree f.then))
     (cases_Bool (meets marks (cause_of c e))))
@@ -112,7 +111,7 @@ run_rest chip [] i last ts h = subst (λ z. RestRuns chip i z) (ap (λ (z : List
 run_rest chip (e ∷ es) zero last ts h =
     let f = first_of_run chip e es last ts h in
     subst (λ z. RestRuns chip zero z) (sym f.all)
-    (run_kept (touches (cause_of chip e)) es f.mid chip last f.others (Agree-sym (touches (cause_of chip e)) chip f.mid (keeps_of chip e f.mid f.told f.first)) f.then)
+    (run_kept (cause_touches (cause_of chip e)) es f.mid chip last f.others (Agree-sym (cause_touches (cause_of chip e)) chip f.mid (keeps_of chip e f.mid f.told f.first)) f.then)
 run_rest chip (e ∷ es) (suc i) last ts h =
     let f = first_of_run chip e es last ts h in
     let k = run_rest f.mid es i last f.others f.then in

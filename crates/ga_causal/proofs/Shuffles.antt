@@ -6,9 +6,8 @@ use Rattle.std.proofs.lemmas.Bool.{cases_Bool, both_ways, cond-true, cond-false,
 use Rattle.ga_event.specs.declared.event.Event.{Event}
 use Rattle.ga_event.specs.declared.event.Event.TheVariants.{Own, Pass}
 use Rattle.ga_event.specs.declared.event.Cause.{Cause}
-use Rattle.ga_causal.specs.Causes.{touches}
-use Rattle.ga_event.specs.Touches.{seen_by, meets}
-use Rattle.ga_event.specs.Touches.{touches as event_touches}
+use Rattle.ga_causal.specs.Dependence.{cause_touches}
+use Rattle.ga_event.specs.Touches.{seen_by, meets, touches as event_touches}
 use Rattle.ga_event.proofs.Locality.{meets-touched}
 use Rattle.ga_causal.specs.Equivalence.{sees, AreApart}
 use Rattle.ga_causal.specs.Steps.{counted, numbered_by}
@@ -39,7 +38,7 @@ abbrev pub entries : (ℕ → ℕ) → List Cause → List (Cause × List ℕ)
 entries s es = numbered_by seen_by s es
 
 pub counted_both : (s : ℕ → ℕ) (e f : Cause) → counted (counted s e) f ≡ counted (counted s f) e
-counted_both s e f = fun_ext (λ n. two (touches e n) (touches f n) (s n))
+counted_both s e f = fun_ext (λ n. two (cause_touches e n) (cause_touches f n) (s n))
   where
     two : (a b : Bool) (x : ℕ) → cond b (cond a (x + 1) x + 1) (cond a (x + 1) x) ≡ cond a (cond b (x + 1) x + 1) (cond b (x + 1) x)
     two true true x = refl
@@ -47,12 +46,12 @@ counted_both s e f = fun_ext (λ n. two (touches e n) (touches f n) (s n))
     two false true x = refl
     two false false x = refl
 
-pub apart_free : (e f : Cause) → AreApart e f → meets (touches e) f ≡ false
+pub apart_free : (e f : Cause) → AreApart e f → meets (cause_touches e) f ≡ false
 apart_free e f h = apart_meets e f h.first
 
 -- an event has the same numbers after one that touches nothing that it sees
-pub numbers_after : (s : ℕ → ℕ) (e f : Cause) → meets (touches e) f ≡ false → numbers s f ≡ numbers (counted s e) f
-numbers_after s e f free = numbers_alike (touches e) s (counted s e) (AgreeOn-first s e) (seen_by f) free
+pub numbers_after : (s : ℕ → ℕ) (e f : Cause) → meets (cause_touches e) f ≡ false → numbers s f ≡ numbers (counted s e) f
+numbers_after s e f free = numbers_alike (cause_touches e) s (counted s e) (AgreeOn-first s e) (seen_by f) free
 
 pub entries_flipped : (s : ℕ → ℕ) (e f : Cause) (xs : List Cause) → AreApart e f → entries s (f ∷ e ∷ xs) ≡ (f, numbers (counted s e) f) ∷ (e, numbers s e) ∷ entries (counted (counted s e) f) xs
 entries_flipped s e f xs h =
@@ -84,7 +83,7 @@ pub record IsLate (s : ℕ → ℕ) (x : Cause × List ℕ) : Type 0 where
   pub is : numbers when x.0 ≡ x.1
 
 counted-least : (s : ℕ → ℕ) (e : Cause) (n : ℕ) → s n ≤ counted s e n
-counted-least s e n = ⊎_elim (λ t. rw t (omega arith)) (λ f. rw f (omega arith)) (cases_Bool (touches e n))
+counted-least s e n = ⊎_elim (λ t. rw t (omega arith)) (λ f. rw f (omega arith)) (cases_Bool (cause_touches e n))
 
 late_of : (s : ℕ → ℕ) (x : Cause × List ℕ) (es : List Cause) → In x (entries s es) → IsLate s x
 late_of s x [] i = absurd i
@@ -107,7 +106,7 @@ same_at a b n (m ∷ ns) h t =
 pub same_number : (a b : ℕ → ℕ) (e : Cause) (n : ℕ) → numbers a e ≡ numbers b e → sees e n ≡ true → a n ≡ b n
 same_number a b e n h t = same_at a b n (seen_by e) h t
 
-pub sees_touched : (e : Cause) (n : ℕ) → touches e n ≡ true → sees e n ≡ true
+pub sees_touched : (e : Cause) (n : ℕ) → cause_touches e n ≡ true → sees e n ≡ true
 sees_touched e n t = meets-touched (λ m. m == n) e t
 
 -- each event touches a node
@@ -121,14 +120,14 @@ touched_of (Pass w r side) = record { node = w.number; is = or_left (w.number ==
 
 -- At each node that k touches and that this event sees, it comes after k, which is made after so many steps of each node.
 IsBeyond : Cause → (ℕ → ℕ) → Cause × List ℕ → Type 0
-IsBeyond k s x = (n : ℕ) → touches k n ≡ true → sees x.0 n ≡ true → (w : ℕ → ℕ) → numbers w x.0 ≡ x.1 → s n < w n
+IsBeyond k s x = (n : ℕ) → cause_touches k n ≡ true → sees x.0 n ≡ true → (w : ℕ → ℕ) → numbers w x.0 ≡ x.1 → s n < w n
 
 beyond_of : (k : Cause) (s : ℕ → ℕ) (x : Cause × List ℕ) → IsLate (counted s k) x → IsBeyond k s x
 unfolding IsBeyond
 beyond_of k s x l n t seen w h =
     let a : w n ≡ l.when n = same_number w l.when x.0 n (h ∙ sym l.is) seen in
     let b : counted s k n ≤ l.when n = l.most n in
-    let c : counted s k n ≡ s n + 1 = cond-true (touches k n) (s n + 1) (s n) t in
+    let c : counted s k n ≡ s n + 1 = cond-true (cause_touches k n) (s n + 1) (s n) t in
     omega arith
 
 -- it is not k itself
@@ -139,15 +138,15 @@ not_beyond k s b =
     let l : s t.node < s t.node = b t.node t.is (sees_touched k t.node t.is) s refl in
     omega arith
 
-counted-other : (s : ℕ → ℕ) (e : Cause) (n : ℕ) → touches e n ≡ false → counted s e n ≡ s n
-counted-other s e n f = cond-false (touches e n) (s n + 1) (s n) f
+counted-other : (s : ℕ → ℕ) (e : Cause) (n : ℕ) → cause_touches e n ≡ false → counted s e n ≡ s n
+counted-other s e n f = cond-false (cause_touches e n) (s n + 1) (s n) f
 
 -- an event that comes later touches nothing that k sees, where k has its numbers already now
-first_apart : (k f : Cause) (s : ℕ → ℕ) → IsLate (counted s f) (k, numbers s k) → (n : ℕ) → touches f n ≡ true → sees k n ≡ true → ⊥
+first_apart : (k f : Cause) (s : ℕ → ℕ) → IsLate (counted s f) (k, numbers s k) → (n : ℕ) → cause_touches f n ≡ true → sees k n ≡ true → ⊥
 first_apart k f s l n t seen =
     let a : s n ≡ l.when n = same_number s l.when k n (sym l.is) seen in
     let b : counted s f n ≤ l.when n = l.most n in
-    let c : counted s f n ≡ s n + 1 = cond-true (touches f n) (s n + 1) (s n) t in
+    let c : counted s f n ≡ s n + 1 = cond-true (cause_touches f n) (s n + 1) (s n) t in
     omega arith
 
 record Fronted (k : Cause) (ys : List Cause) : Type 0 where
@@ -158,20 +157,20 @@ record Fronted (k : Cause) (ys : List Cause) : Type 0 where
 abbrev Others : Cause → (ℕ → ℕ) → List Cause → Type 0
 Others k s ys = (x : Cause × List ℕ) → In x (entries s ys) → ((k, numbers s k) ≡ x) ⊎ IsBeyond k s x
 
-second_apart : (k f : Cause) (s : ℕ → ℕ) (ys : List Cause) → Others k s (f ∷ ys) → ((n : ℕ) → touches f n ≡ true → sees k n ≡ true → ⊥) → (n : ℕ) → touches k n ≡ true → sees f n ≡ true → ⊥
+second_apart : (k f : Cause) (s : ℕ → ℕ) (ys : List Cause) → Others k s (f ∷ ys) → ((n : ℕ) → cause_touches f n ≡ true → sees k n ≡ true → ⊥) → (n : ℕ) → cause_touches k n ≡ true → sees f n ≡ true → ⊥
 unfolding IsBeyond
 second_apart k f s ys h first n t seen = elim (h (f, numbers s f) (inl refl)) [
-  | inl q ↦ first n (subst (λ (z : Cause × List ℕ). touches z.0 n ≡ true) q t) (sees_touched k n t)
+  | inl q ↦ first n (subst (λ (z : Cause × List ℕ). cause_touches z.0 n ≡ true) q t) (sees_touched k n t)
   | inr b ↦ (let l : s n < s n = b n t seen s refl in omega arith)
 ]
 
-others_later : (k f : Cause) (s : ℕ → ℕ) (ys : List Cause) → Others k s (f ∷ ys) → ((n : ℕ) → touches f n ≡ true → sees k n ≡ true → ⊥) → numbers s k ≡ numbers (counted s f) k → Others k (counted s f) ys
+others_later : (k f : Cause) (s : ℕ → ℕ) (ys : List Cause) → Others k s (f ∷ ys) → ((n : ℕ) → cause_touches f n ≡ true → sees k n ≡ true → ⊥) → numbers s k ≡ numbers (counted s f) k → Others k (counted s f) ys
 unfolding IsBeyond
 others_later k f s ys h first same x i = elim (h x (inr i)) [
   | inl q ↦ inl (ap (λ (z : List ℕ). (k, z)) (sym same) ∙ q)
   | inr b ↦ inr (λ n t seen w g.
       let l : s n < w n = b n t seen w g in
-      let c : counted s f n ≡ s n = counted-other s f n (false_from_ne_true (touches f n) (λ u. first n u (sees_touched k n t))) in
+      let c : counted s f n ≡ s n = counted-other s f n (false_from_ne_true (cause_touches f n) (λ u. first n u (sees_touched k n t))) in
       omega arith)
 ]
 

@@ -5,7 +5,7 @@ use Rattle.std.specs.List.{list_any}
 use Rattle.std.proofs.lemmas.Bool.{or_from, or_left, or_right, cases_Bool, false_from_ne_true}
 use Rattle.ga_event.specs.declared.event.Event.{Event}
 use Rattle.ga_event.specs.declared.event.Cause.{Cause}
-use Rattle.ga_causal.specs.Causes.{touches}
+use Rattle.ga_causal.specs.Dependence.{cause_touches}
 use Rattle.ga_event.specs.Touches.{seen_by, meets}
 use Rattle.ga_event.specs.Apply.{Told, apply, cause_of, run, replay}
 use Rattle.ga_node.specs.Record.{NodeRecord, record_of}
@@ -19,26 +19,26 @@ any_none : (marks : ℕ → Bool) (ns : List ℕ) → ((n : ℕ) → list_any (�
 any_none marks [] h = refl
 any_none marks (n ∷ ns) h = or_from (marks n) (list_any marks ns) (h n (or_left _ (list_any (λ m. m == n) ns) (eq-eqb n n refl))) (any_none marks ns (λ k t. h k (or_right (n == k) (list_any (λ m. m == k) ns) t)))
 
-pub apart_meets : (e f : Cause) → ((n : ℕ) → touches e n ≡ true → sees f n ≡ true → ⊥) → meets (touches e) f ≡ false
-apart_meets e f h = any_none (touches e) (seen_by f) (λ n t. false_from_ne_true (touches e n) (λ u. h n u t))
+pub apart_meets : (e f : Cause) → ((n : ℕ) → cause_touches e n ≡ true → sees f n ≡ true → ⊥) → meets (cause_touches e) f ≡ false
+apart_meets e f h = any_none (cause_touches e) (seen_by f) (λ n t. false_from_ne_true (cause_touches e n) (λ u. h n u t))
 
 none_of : (marks : ℕ → Bool) (o : Option (List NodeRecord × Told)) → Alike marks None o → o ≡ None
 none_of marks None a = refl
 none_of marks (Some done) a = absurd a
 
-refused_of : (e f : Event) (c b : List NodeRecord) (t : Told) → meets (touches (cause_of c f)) (cause_of c e) ≡ false → apply c e ≡ None → apply c f ≡ Some (b, t) → apply b e ≡ None
+refused_of : (e f : Event) (c b : List NodeRecord) (t : Told) → meets (cause_touches (cause_of c f)) (cause_of c e) ≡ false → apply c e ≡ None → apply c f ≡ Some (b, t) → apply b e ≡ None
 refused_of e f c b t h r k =
-    none_of (touches (cause_of c f)) (apply b e)
-    (subst (λ o. Alike (touches (cause_of c f)) o (apply b e)) r
-    (apply_alike (touches (cause_of c f)) c b e (keeps_of c f b t k) h))
+    none_of (cause_touches (cause_of c f)) (apply b e)
+    (subst (λ o. Alike (cause_touches (cause_of c f)) o (apply b e)) r
+    (apply_alike (cause_touches (cause_of c f)) c b e (keeps_of c f b t k) h))
 
-pub same_chip : (e f : Event) (c d b p q : List NodeRecord) (te tf : Told) → AreApart (cause_of c e) (cause_of c f) → apply d f ≡ Some (p, tf) → apply b e ≡ Some (q, te) → cause_of c f ≡ cause_of d f → cause_of c e ≡ cause_of b e → Agree (touches (cause_of c e)) b p → Agree (touches (cause_of c f)) d q → p ≡ q
+pub same_chip : (e f : Event) (c d b p q : List NodeRecord) (te tf : Told) → AreApart (cause_of c e) (cause_of c f) → apply d f ≡ Some (p, tf) → apply b e ≡ Some (q, te) → cause_of c f ≡ cause_of d f → cause_of c e ≡ cause_of b e → Agree (cause_touches (cause_of c e)) b p → Agree (cause_touches (cause_of c f)) d q → p ≡ q
 same_chip e f c d b p q te tf h df be cf ce x y =
-    let u : Agree (touches (cause_of c f)) d p = subst (λ z. Agree (touches z) d p) (sym cf) (keeps_of d f p tf df) in
-    let v : Agree (touches (cause_of c e)) b q = subst (λ z. Agree (touches z) b q) (sym ce) (keeps_of b e q te be) in
+    let u : Agree (cause_touches (cause_of c f)) d p = subst (λ z. Agree (cause_touches z) d p) (sym cf) (keeps_of d f p tf df) in
+    let v : Agree (cause_touches (cause_of c e)) b q = subst (λ z. Agree (cause_touches z) b q) (sym ce) (keeps_of b e q te be) in
     ext_get_or (record_of nowhere) p q (sym x.size ∙ v.size)
-    (λ n l. elim (cases_Bool (touches (cause_of c e) n)) [
-      | inl t ↦ (let g : touches (cause_of c f) n ≡ false = false_from_ne_true (touches (cause_of c f) n) (λ w. h.first n t (meets-touched (λ m. m == n) (cause_of c f) w)) in sym (u.same n g) ∙ y.same n g)
+    (λ n l. elim (cases_Bool (cause_touches (cause_of c e) n)) [
+      | inl t ↦ (let g : cause_touches (cause_of c f) n ≡ false = false_from_ne_true (cause_touches (cause_of c f) n) (λ w. h.first n t (meets-touched (λ m. m == n) (cause_of c f) w)) in sym (u.same n g) ∙ y.same n g)
       | inr g ↦ sym (x.same n g) ∙ v.same n g
     ])
 
@@ -46,10 +46,10 @@ same_chip e f c d b p q te tf h df be cf ce x y =
 pub run_swapped : (c : List NodeRecord) (e f : Event) → AreApart (cause_of c e) (cause_of c f) → option_map {U = List NodeRecord × List (Cause × Told)} (λ r. (r.0, reverse r.1)) (run c (e ∷ f ∷ [])) ≡ run c (f ∷ e ∷ [])
 run_swapped c e f h = go (apply c e) refl (apply c f) refl
   where
-    x : meets (touches (cause_of c e)) (cause_of c f) ≡ false
+    x : meets (cause_touches (cause_of c e)) (cause_of c f) ≡ false
     x = apart_meets (cause_of c e) (cause_of c f) h.first
 
-    y : meets (touches (cause_of c f)) (cause_of c e) ≡ false
+    y : meets (cause_touches (cause_of c f)) (cause_of c e) ≡ false
     y = apart_meets (cause_of c f) (cause_of c e) h.second
 
     go : (oe : Option (List NodeRecord × Told)) → apply c e ≡ oe → (of : Option (List NodeRecord × Told)) → apply c f ≡ of → option_map {U = List NodeRecord × List (Cause × Told)} (λ r. (r.0, reverse r.1)) (run c (e ∷ f ∷ [])) ≡ run c (f ∷ e ∷ [])
@@ -57,8 +57,8 @@ run_swapped c e f h = go (apply c e) refl (apply c f) refl
     go None i (Some b) j = rw (i, j, refused_of e f c b.0 b.1 y i j) refl
     go (Some d) i None j = rw (i, j, refused_of f e c d.0 d.1 x j i) refl
     go (Some d) i (Some b) j =
-        let s = same_of (touches (cause_of c e)) f c b.0 d.0 b.1 (keeps_of c e d.0 d.1 i) x j in
-        let z = same_of (touches (cause_of c f)) e c d.0 b.0 d.1 (keeps_of c f b.0 b.1 j) y i in
+        let s = same_of (cause_touches (cause_of c e)) f c b.0 d.0 b.1 (keeps_of c e d.0 d.1 i) x j in
+        let z = same_of (cause_touches (cause_of c f)) e c d.0 b.0 d.1 (keeps_of c f b.0 b.1 j) y i in
         let k : s.mid ≡ z.mid = same_chip e f c d.0 b.0 s.mid z.mid d.1 b.1 h s.done z.done s.cause z.cause s.agree z.agree in
         rw (i, j, s.done, z.done, k) (ap (λ (w : List (Cause × Told)). Some (z.mid, w)) (pair_up s.cause z.cause))
       where

@@ -2,12 +2,11 @@
 use Rattle.std.proofs.Common.{◌≡◌, ℕ, zero, suc, ◌+◌, ◌-◌, ◌<◌, ◌≤◌, List, [], ◌∷◌, ◌++◌, length, drop, Some, None, option_map, ⊎_elim, length-drop, Option, Result, Ok, Err, IfOk, refl, sym, ◌∙◌, ap, ap₂, subst, arith}
 use Rattle.std.proofs.lemmas.List.{get_or-drop}
 use Rattle.ga_event.specs.declared.event.Cause.{Cause}
-use Rattle.ga_causal.specs.Dependence.{no_cause, event_at, rule_of, rule_between, IsDirect, DependsOn, itself, through}
+use Rattle.ga_causal.specs.Dependence.{no_cause, event_at, rule_of, rule_between, IsDirect, DependsOn, itself, through, cause_touches, place_of}
 use Rattle.ga_causal.specs.declared.chain.Link.{Link}
 use Rattle.ga_causal.specs.Chains.{IsOldest, IsFound}
-use Rattle.ga_causal.specs.Steps.{touching, place_of}
+use Rattle.ga_causal.specs.Steps.{touching}
 use Rattle.ga_causal.proofs.Oldest.{DependsOn-order}
-use Rattle.ga_causal.specs.Causes.{touches}
 use Rattle.ga_causal.proofs.Refusals.{place-other, place-touched}
 use Rattle.ga_causal.proofs.Places.{on_by, on_by-zero, touching_yes, touching_no}
 use Rattle.std.proofs.lemmas.Bool.{cases_Bool}
@@ -86,7 +85,7 @@ later_from m zero (e ∷ es) ys l = ⊎_elim
     (λ no. let a = touching_no m e es no in
     place-other e (es ++ ys) m 0 no ∙ ap (option_map suc) (later_from m 0 es ys (omega (arith, a, l))) ∙ on_suc (length es) (place_of ys m (suc (0 - touching m es)))
     ∙ ap (λ (z : ℕ). on_by (suc (length es)) (place_of ys m (suc (0 - z)))) (sym a))
-    (cases_Bool (touches e m))
+    (cases_Bool (cause_touches e m))
 later_from m (suc j) (e ∷ es) ys l = ⊎_elim
     (λ yes. let a = touching_yes m e es yes in
     place-touched e (es ++ ys) m j yes ∙ ap (option_map suc) (later_from m j es ys (omega (arith, a, l))) ∙ on_suc (length es) (place_of ys m (suc (j - touching m es)))
@@ -94,7 +93,7 @@ later_from m (suc j) (e ∷ es) ys l = ⊎_elim
     (λ no. let a = touching_no m e es no in
     place-other e (es ++ ys) m (suc j) no ∙ ap (option_map suc) (later_from m (suc j) es ys (omega (arith, a, l))) ∙ on_suc (length es) (place_of ys m (suc (suc j - touching m es)))
     ∙ ap (λ (z : ℕ). on_by (suc (length es)) (place_of ys m (suc (suc j - z)))) (sym a))
-    (cases_Bool (touches e m))
+    (cases_Bool (cause_touches e m))
 
 pub place_later : (m j : ℕ) (xs ys : List Cause) → touching m xs < j → place_of (xs ++ ys) m j ≡ on_by (length xs) (place_of ys m (j - touching m xs))
 place_later m zero xs ys l = absurd (omega (arith, l))

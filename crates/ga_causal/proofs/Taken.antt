@@ -7,8 +7,7 @@ use Rattle.ga_event.specs.declared.event.Cause.{Cause}
 use Rattle.ga_event.specs.Touches.{seen_by, meets}
 use Rattle.ga_event.specs.Apply.{Told, run}
 use Rattle.ga_node.specs.Record.{NodeRecord}
-use Rattle.ga_causal.specs.Causes.{events_in, touches}
-use Rattle.ga_causal.specs.Dependence.{marked, dependents_after, dependents, without, rest, NoneLooks}
+use Rattle.ga_causal.specs.Dependence.{events_in, cause_touches, marked, dependents_after, dependents, without, rest, NoneLooks}
 use Rattle.ga_causal.specs.Equivalence.{sees, AreApart, AreEquivalent}
 use Rattle.ga_causal.proofs.Exact.{any-mono}
 use Rattle.ga_causal.proofs.Runs.{causes}
@@ -33,13 +32,13 @@ behind e (k ∷ ks) ls h = chained (flipped h.0) (after (behind e ks ls h.1))
 sees-marked : (marks : ℕ → Bool) (k : Cause) (n : ℕ) → marks n ≡ true → sees k n ≡ true → meets marks k ≡ true
 sees-marked marks k n h t = any-mono (λ m. m == n) marks (λ m q. subst (λ z. marks z ≡ true) (sym (eqb-true m n q)) h) (seen_by k) t
 
-one_apart : (e k : Cause) (marks : ℕ → Bool) → ((n : ℕ) → touches e n ≡ true → marks n ≡ true) → e.look ≡ false → meets marks k ≡ false → AreApart e k
+one_apart : (e k : Cause) (marks : ℕ → Bool) → ((n : ℕ) → cause_touches e n ≡ true → marks n ≡ true) → e.look ≡ false → meets marks k ≡ false → AreApart e k
 one_apart e k marks h blind free = record {
   first = λ n t seen. both_ways (meets marks k) free (sees-marked marks k n (h n t) seen);
   second = λ n t seen. both_ways (meets marks k) free (sees-marked marks k n (h n (subst (λ z. list_any (λ m. m == n) z ≡ true) (seen_blind e blind) seen)) (sees_touched k n t));
 }
 
-left_apart : (e : Cause) (marks : ℕ → Bool) (es : List Cause) → ((n : ℕ) → touches e n ≡ true → marks n ≡ true) → e.look ≡ false → AllApart e (without (dependents_after marks es) es)
+left_apart : (e : Cause) (marks : ℕ → Bool) (es : List Cause) → ((n : ℕ) → cause_touches e n ≡ true → marks n ≡ true) → e.look ≡ false → AllApart e (without (dependents_after marks es) es)
 left_apart e marks [] h blind = tt
 left_apart e marks (k ∷ es) h blind =
     go (meets marks k) (λ f. one_apart e k marks h blind f) (left_apart e (marked marks k) es (λ n t. marked-stays marks k n (h n t)) blind)
@@ -63,9 +62,9 @@ parted_after marks (e ∷ es) none =
 parted_rest : (es : List Cause) (i : ℕ) → NoneLooks (taken (dependents es i) es) → Shuffled es (rest es i ++ taken (dependents es i) es)
 parted_rest [] i none = stays
 parted_rest (e ∷ es) zero none =
-    parted true e es (without (dependents_after (touches e) es) es) (taken (dependents_after (touches e) es) es)
-    (λ t blind. left_apart e (touches e) es (λ n u. u) blind)
-    none (λ k. parted_after (touches e) es k)
+    parted true e es (without (dependents_after (cause_touches e) es) es) (taken (dependents_after (cause_touches e) es) es)
+    (λ t blind. left_apart e (cause_touches e) es (λ n u. u) blind)
+    none (λ k. parted_after (cause_touches e) es k)
 parted_rest (e ∷ es) (suc i) none = after (parted_rest es i none)
 
 pub taken_last : (chip last : List NodeRecord) (events : List Event) (steps : List (Cause × Told)) (i : ℕ) → run chip events ≡ Some (last, steps)

@@ -17,7 +17,7 @@ use Rattle.ga_node.specs.declared.kind.Kind.TheVariants as kind
 use Rattle.ga_node.specs.declared.kind.NotReady.{NotReady}
 use Rattle.ga_node.specs.Io.{io_word}
 use Rattle.ga_node.specs.Record.{NodeRecord, record_of}
-use Rattle.ga_node.specs.Changes.{after as changed_by}
+use Rattle.ga_node.specs.Changes.{after_changes as changed_by}
 use Rattle.ga_node.specs.Table.{Access, Plain, Reads, Writes, named, found, followed, carried_out, does, fetches, due_of, done_by, own_event, own, looks, t, sent, taken}
 use Rattle.ga_node.proofs.Looks.{own_blind}
 use Rattle.ga_grid.specs.Chip.{nowhere, record_at}
@@ -26,7 +26,7 @@ use Rattle.ga_event.specs.declared.event.Event.{Event}
 use Rattle.ga_event.specs.declared.event.Event.TheVariants.{Own, Pass}
 use Rattle.ga_event.specs.declared.event.Cause.{Cause}
 use Rattle.ga_event.specs.Apply.{Told, seen_from, refusal_of, unless, after, apply, cause_of, run, replay}
-use Rattle.ga_causal.specs.Causes.{touches}
+use Rattle.ga_causal.specs.Dependence.{cause_touches}
 use Rattle.ga_causal.specs.Words.{word_of, account_read}
 use Rattle.ga_causal.proofs.Runs.{first_of_run, keeps_of}
 
@@ -115,14 +115,14 @@ pass_becomes c w r side n l touched = elim (cases_eq n r.number) [ inl e ↦ as_
         ∙ ap (λ (z : ℕ). sent (record_at c z)) (sym e)
         ∙ sym (cond-false (n == r.number) (taken word (record_at c n)) (sent (record_at c n)) (ne_eqb n r.number ne))
 
-after_becomes : (n : ℕ) (c : List NodeRecord) (e : Event) → n < length c → touches (cause_of c e) n ≡ true → Becomes n (record_at c n) e (word_of c e) (record_at (after c e).0 n)
+after_becomes : (n : ℕ) (c : List NodeRecord) (e : Event) → n < length c → cause_touches (cause_of c e) n ≡ true → Becomes n (record_at c n) e (word_of c e) (record_at (after c e).0 n)
 after_becomes n c (Own node) l touched =
     let at : node.number ≡ n = elim (or_cases (node.number == n) false touched) [ inl q ↦ eqb-true node.number n q | inr q ↦ absurd (both_ways false refl q) ] in
     subst (λ z. Becomes z (record_at c z) (Own node) (word_of c (Own node)) (record_at (after c (Own node)).0 z)) at (own_becomes c node (omega (arith, at, l)))
 after_becomes n c (Pass w r side) l touched = pass_becomes c w r side n l touched
 
 -- what an event that was made makes of a node that it touches
-pub becomes_of : (n : ℕ) (c d : List NodeRecord) (e : Event) (told : Told) → n < length c → apply c e ≡ Some (d, told) → touches (cause_of c e) n ≡ true → Becomes n (record_at c n) e (word_of c e) (record_at d n)
+pub becomes_of : (n : ℕ) (c d : List NodeRecord) (e : Event) (told : Told) → n < length c → apply c e ≡ Some (d, told) → cause_touches (cause_of c e) n ≡ true → Becomes n (record_at c n) e (word_of c e) (record_at d n)
 becomes_of n c d e told l h touched =
     subst (λ z. Becomes n (record_at c n) e (word_of c e) (record_at z n)) (ap (λ z. z.0) (after_is c d e told h)) (after_becomes n c e l touched)
 
@@ -136,7 +136,7 @@ lives_one n x [] y z p q = sym p ∙ q
 lives_one n x (a ∷ xs) y z (u, b, l) (v, c, m) = lives_one n v xs y z (subst (λ w. Lives n w xs y) (becomes_one n x a.0 a.1 u v b c) l) m
 
 lived_more : (n : ℕ) (c mid : List NodeRecord) (e : Event) (told : Told) (xs : List (Event × Option ℕ)) (y : NodeRecord) → n < length c → apply c e ≡ Some (mid, told) → Lives n (record_at mid n) xs y
-    → (b : Bool) → touches (cause_of c e) n ≡ b → Lives n (record_at c n) (cond b ((e, word_of c e) ∷ xs) xs) y
+    → (b : Bool) → cause_touches (cause_of c e) n ≡ b → Lives n (record_at c n) (cond b ((e, word_of c e) ∷ xs) xs) y
 lived_more n c mid e told xs y l h later true is = (record_at mid n, becomes_of n c mid e told l h is, later)
 lived_more n c mid e told xs y l h later false is = subst (λ z. Lives n z xs y) (sym ((keeps_of c e mid told h).same n is)) later
 
@@ -152,8 +152,8 @@ lived n c last (e ∷ es) ts l h =
     let m = first_of_run c e es last ts h in
     let size : length c ≡ length m.mid = (keeps_of c e m.mid m.told m.first).size in
     let later = lived n m.mid last es m.others (omega (arith, l, size)) m.then in
-    subst (λ d. Lives n (record_at c n) (cond (touches (cause_of c e) n) ((e, word_of c e) ∷ account_read n d es) (account_read n d es)) (record_at last n)) (sym (ap (λ z. z.0) (after_is c m.mid e m.told m.first)))
-    (lived_more n c m.mid e m.told (account_read n m.mid es) (record_at last n) l m.first later (touches (cause_of c e) n) refl)
+    subst (λ d. Lives n (record_at c n) (cond (cause_touches (cause_of c e) n) ((e, word_of c e) ∷ account_read n d es) (account_read n d es)) (record_at last n)) (sym (ap (λ z. z.0) (after_is c m.mid e m.told m.first)))
+    (lived_more n c m.mid e m.told (account_read n m.mid es) (record_at last n) l m.first later (cause_touches (cause_of c e) n) refl)
 
 -- a list that can be replayed runs
 pub ran : (c last : List NodeRecord) (es : List Event) → replay c es ≡ Some last → (ts : List (Cause × Told)) × (run c es ≡ Some (last, ts))

@@ -1,9 +1,8 @@
 -- Chains of direct dependence.
-use Rattle.std.specs.Prelude.{ℕ, zero, suc, ◌≡◌, ◌<◌, ◌≤◌, ◌≢◌, ◌==◌, nat_lt, Bool, false, not, ◌&&◌, if◌then◌else◌, List, [], ◌∷◌, ◌++◌, length, map, Option, Some, None, MatchOption, slice_index_or}
+use Rattle.std.specs.Prelude.{ℕ, zero, suc, ◌≡◌, ◌<◌, ◌≤◌, ◌≢◌, ◌==◌, nat_lt, Bool, false, not, ◌&&◌, if◌then◌else◌, List, [], ◌∷◌, ◌++◌, length, Option, Some, None, MatchOption, slice_index_or}
 use Rattle.ga_event.specs.declared.event.Cause.{Cause}
 use Rattle.ga_causal.specs.declared.chain.Link.{Link}
-use Rattle.ga_causal.specs.Dependence.{no_cause, rule_between, IsDirect, DependsOn, dependents}
-use Rattle.ga_causal.specs.Steps.{numbered_seen}
+use Rattle.ga_causal.specs.Dependence.{rule_between, IsDirect, DependsOn, dependents}
 
 -- the link may follow the place: its event depends directly on the one there, by the rule that it names
 abbrev pub IsNext : List Cause → ℕ → Link → Type 0
@@ -64,11 +63,3 @@ links_to (suc most) events cause place =
 unfoldable pub chain_of : List Cause → ℕ → ℕ → Option (List Link)
 chain_of events cause place =
     if slice_index_or (dependents events cause) place false then Some (links_to (suc place) events cause place) else None
-
--- what is read past the end of a list of numbered events
-abbrev pub no_entry : Cause × List ℕ
-no_entry = (no_cause, [])
-
--- the links told by their events, each with the numbers of its steps and its rule, in place of the places in the list
-abbrev pub named : List Cause → List Link → List ((Cause × List ℕ) × ℕ)
-named events links = map (λ (link : Link). (slice_index_or (numbered_seen events) link.place no_entry, link.rule)) links

@@ -1,26 +1,37 @@
 -- Which events of a list depend on which (Danos and Krivine, "Reversible Communicating Systems", 2004), and the list that a
 -- rollback leaves.
-use Rattle.std.specs.Prelude.{ℕ, zero, suc, ◌≡◌, ◌<◌, ◌≢◌, Bool, true, false, ◌||◌, if◌then◌else◌, List, [], ◌∷◌, length, slice_index_or}
-use Rattle.ga_grid.specs.NodeId.{node_id}
+use Rattle.std.specs.Prelude.{ℕ, zero, suc, ◌≡◌, ◌<◌, ◌≢◌, Bool, true, false, ◌||◌, if◌then◌else◌, List, [], ◌∷◌, length, slice_index_or, ◌↔◌, IsTrue, map, ◌==◌, Option, Some, None, option_map}
+use Rattle.ga_grid.specs.Grid.{node_id}
 use Rattle.std.specs.List.{list_any}
 use Rattle.ga_event.specs.declared.event.Cause.{Cause}
 use Rattle.ga_event.specs.declared.event.Event.{Event}
 use Rattle.ga_event.specs.declared.event.Event.TheVariants.{Own, Pass}
-use Rattle.ga_causal.specs.Causes.{nodes_of, touches}
 use Rattle.ga_event.specs.Touches.{meets}
+use Rattle.ga_event.specs.Touches as Touches
 
 abbrev pub is_a_pass : Event → Bool
 is_a_pass (Own n) = false
 is_a_pass (Pass writer reader side) = true
 
+-- the events alone
+abbrev pub events_in : List Cause → List Event
+events_in causes = map (λ (cause : Cause). cause.event) causes
+
+-- the nodes that the event cause_touches, whether it looks or not
+abbrev pub cause_nodes : Cause → List ℕ
+cause_nodes cause = Touches.nodes_of cause.event
+
+abbrev pub cause_touches : Cause → ℕ → Bool
+cause_touches cause n = Touches.touches cause.event n
+
 -- the rule by which a later event depends directly on an earlier one, or 0 where it does not: rule 1 for two events of one
 -- node alone, rule 2 where at least one is a pass and they touch a common node, else rule 3 for a look at a node that the
--- earlier touches
+-- earlier cause_touches
 abbrev pub rule_of : Cause → Cause → ℕ
 rule_of earlier later =
-    if list_any (touches earlier) (nodes_of later)
+    if list_any (cause_touches earlier) (cause_nodes later)
     then (if is_a_pass earlier.event || is_a_pass later.event then 2 else 1)
-    else (if meets (touches earlier) later then 3 else 0)
+    else (if meets (cause_touches earlier) later then 3 else 0)
 
 -- what is read past the end of a list
 abbrev pub no_cause : Cause
@@ -49,7 +60,7 @@ is_marked flags n = slice_index_or flags n false
 
 -- the marked nodes after an event: one that meets a marked node marks all its nodes
 abbrev pub marked : (ℕ → Bool) → Cause → ℕ → Bool
-marked marks e = if meets marks e then (λ n. marks n || touches e n) else marks
+marked marks e = if meets marks e then (λ n. marks n || cause_touches e n) else marks
 
 -- of each event in turn, whether it meets a marked node
 abbrev pub dependents_after : (ℕ → Bool) → List Cause → List Bool
@@ -59,7 +70,7 @@ dependents_after marks (e ∷ es) = meets marks e ∷ dependents_after (marked m
 -- of each event, whether it depends on the one at this place (exactly those that depend on it by DependsOn: law marks_exact)
 abbrev pub dependents : List Cause → ℕ → List Bool
 dependents [] i = []
-dependents (e ∷ es) zero = true ∷ dependents_after (touches e) es
+dependents (e ∷ es) zero = true ∷ dependents_after (cause_touches e) es
 dependents (e ∷ es) (suc i) = false ∷ dependents es i
 
 -- the elements that are not flagged, in their order
@@ -76,3 +87,30 @@ rest events i = without (dependents events i) events
 abbrev pub NoneLooks : List Cause → Type 0
 NoneLooks [] = Unit {0}
 NoneLooks (e ∷ es) = (e.look ≡ false) × NoneLooks es
+
+-- These are the events that do not depend on the one at the place, in their order.
+pub record IsRest (events : List Cause) (place : ℕ) (left : List Cause) : Type 0 where
+  pub gone : List Bool
+  pub size : length gone ≡ length events
+  pub exact : (j : ℕ) → j < length events → (IsTrue (slice_index_or gone j false) ↔ DependsOn events place j)
+  pub kept : left ≡ without gone events
+
+-- the place of the k-th event that cause_touches the node, counted from 1; none where there is none
+abbrev pub place_of : List Cause → ℕ → ℕ → Option ℕ
+place_of [] n k = None
+place_of (e ∷ es) n zero = None
+place_of (e ∷ es) n (suc k) =
+    if cause_touches e n then (if k == 0 then Some 0 else option_map suc (place_of es n k)) else option_map suc (place_of es n (suc k))
+
+abbrev pub rest_from : List Cause → Option ℕ → List Cause
+rest_from events None = events
+rest_from events (Some i) = rest events i
+
+-- the list after a rollback of the node to its step k; a step that does not stand is refused, and changes nothing
+abbrev pub rewound_list : List Cause → ℕ → ℕ → List Cause
+rewound_list events n k = rest_from events (place_of events n k)
+
+-- the list after rollbacks to these steps, each a node and a number, one after another
+abbrev pub rewound_all : List Cause → List (ℕ × ℕ) → List Cause
+rewound_all events [] = events
+rewound_all events (step ∷ steps) = rewound_all (rewound_list events step.0 step.1) steps

@@ -3,8 +3,8 @@
 ghost use Rattle.std.specs.Prelude.{◌≡◌, ◌<◌, ◌≤◌, ◌≢◌, ◌==◌, ◌+◌, ℕ, length, min, if◌then◌else◌};
 ghost use Rattle.ga_grid.specs.Grid.{neighbour_of};
 ghost use Rattle.ga_event.specs.Touches.{neighbours, seen_by};
-ghost use Rattle.ga_causal.specs.Causes.{touches};
-ghost use Rattle.ga_causal.specs.Firsts.{first_at, least, least_with, IsFirsts};
+ghost use Rattle.ga_causal.specs.Dependence.{cause_touches};
+ghost use Rattle.ga_causal.specs.kept.Firsts.{first_at, least, least_with, IsFirsts};
 
 use ga_event::{Cause, Event};
 use ga_grid::{NODES, NodeId, neighbour};
@@ -20,7 +20,7 @@ pub(crate) struct Firsts {
 
 impl Model for Firsts {
     ghost use Rattle.std.specs.Prelude.{◌≡◌, ℕ, List, length};
-    ghost use Rattle.ga_causal.specs.Firsts.{Oldest};
+    ghost use Rattle.ga_causal.specs.kept.Firsts.{Oldest};
 
     ghost Value = { Oldest };
 
@@ -101,7 +101,7 @@ impl Firsts {
 
     fn note(&mut self, event: &Cause, place: u32)
         ensures places { (n : ℕ) → first_at self.new n
-            ≡ (if touches event.now n then min (first_at self.old n) place else first_at self.old n) }
+            ≡ (if cause_touches event.now n then min (first_at self.old n) place else first_at self.old n) }
         ensures none { self.new.none ≡ self.old.none }
     {
         match event.event {

@@ -8,12 +8,11 @@ ghost use Rattle.ga_grid.specs.Chip.{record_at};
 ghost use Rattle.ga_event.specs.Touches.{touches};
 ghost use Rattle.ga_event.specs.Apply.{Told, replay, run, cause_of};
 ghost use Rattle.ga_causal.specs.declared.chain.Link.{Link};
-ghost use Rattle.ga_causal.specs.Chains.{IsChain, IsChainTo, IsFound, chain_of, named};
-ghost use Rattle.ga_causal.specs.Causes.{events_in};
-ghost use Rattle.ga_causal.specs.Dependence.{dependents, rest, without, DependsOn, NoneLooks};
+ghost use Rattle.ga_causal.specs.Chains.{IsChain, IsChainTo, IsFound, chain_of};
+ghost use Rattle.ga_causal.specs.Steps.{named, numbered, numbered_seen, touching, IsStep};
+ghost use Rattle.ga_causal.specs.Dependence.{events_in, dependents, rest, without, DependsOn, NoneLooks, place_of, rewound_list, rewound_all};
 ghost use Rattle.ga_causal.specs.Equivalence.{AreApart, AreEquivalent, recorded, account, account_told};
 ghost use Rattle.ga_causal.specs.Words.{account_read};
-ghost use Rattle.ga_causal.specs.Steps.{numbered, numbered_seen, touching, place_of, IsStep, rewound, rewound_all};
 
 /// Two events can be swapped that touch no common node, and of which neither looks at a node that the other touches: in either
 /// order they lead to the same chip, and each looks alike and the same is told of it, or neither order can be.
@@ -72,7 +71,7 @@ pub fn steps()
 
 /// Rollbacks leave the same list in any order. Of two, the second is refused exactly where its step depends on the first.
 pub fn two_rollbacks()
-    ensures either { (events : List Cause) (n k m j : ℕ) → rewound (rewound events n k) m j ≡ rewound (rewound events m j) n k }
+    ensures either { (events : List Cause) (n k m j : ℕ) → rewound_list (rewound_list events n k) m j ≡ rewound_list (rewound_list events m j) n k }
     ensures refused { (events : List Cause) (n k m j i q : ℕ) → place_of events n k ≡ Some i → place_of events m j ≡ Some q →
         (IsNone (place_of (rest events i) m j) ↔ DependsOn events i q) }
     ensures any { (events : List Cause) (steps others : List (ℕ × ℕ)) → IsPermutation steps others →
@@ -145,9 +144,9 @@ pub fn equivalent_rollbacks()
 /// back ends just before the step, also where the step doesn't stand, so that nothing is taken.
 pub fn account_kept()
     ensures first { (events : List Cause) (n k m : ℕ) →
-        (later : List (Cause × List ℕ)) × (account m events ≡ account m (rewound events n k) ++ later) }
+        (later : List (Cause × List ℕ)) × (account m events ≡ account m (rewound_list events n k) ++ later) }
     ensures own { (events : List Cause) (n k : ℕ) →
-        account n (rewound events n (k + 1)) ≡ take k (account n events) }
+        account n (rewound_list events n (k + 1)) ≡ take k (account n events) }
     ensures told { (chip last : List NodeRecord) (events : List Event) (steps : List (Cause × Told)) (n k : ℕ) →
         run chip events ≡ Some (last, steps) →
         let causes = map (λ (s : Cause × Told). s.0) steps in

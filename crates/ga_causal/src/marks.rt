@@ -4,8 +4,8 @@ ghost use Rattle.std.specs.Prelude.{◌≡◌, ◌↔◌, ◌<◌, ◌^◌, ℕ,
 ghost use Rattle.std.specs.List.{list_any};
 ghost use Rattle.ga_grid.specs.Grid.{neighbour_of};
 ghost use Rattle.ga_event.specs.Touches.{neighbours, meets};
-ghost use Rattle.ga_causal.specs.Causes.{touches, any_of};
-ghost use Rattle.ga_causal.specs.Dependence.{is_marked, marked, dependents, DependsOn};
+ghost use Rattle.ga_causal.specs.Dependence.{cause_touches, is_marked, marked, dependents, DependsOn};
+ghost use Rattle.ga_causal.specs.kept.Firsts.{any_of};
 
 use ga_event::{Cause, Event};
 use ga_grid::{Memory, NODES, NodeId, neighbour};
@@ -32,7 +32,7 @@ impl Model for Marks {
 impl Marks {
     /// The nodes that this event touches.
     pub fn new(event: Cause) -> Self
-        ensures { is_marked result ≡ touches event }
+        ensures { is_marked result ≡ cause_touches event }
     {
         let mut marks = Marks {
             flags: [false; NODES],
@@ -91,7 +91,7 @@ impl Marks {
     }
 
     fn mark(&mut self, event: Cause)
-        ensures { is_marked self.new ≡ (λ n. is_marked self.old n || touches event n) }
+        ensures { is_marked self.new ≡ (λ n. is_marked self.old n || cause_touches event n) }
     {
         match event.event {
             Event::Own(node) => self.flags[node.index()] = true,

@@ -1,7 +1,7 @@
 //! The places of the steps in a list of events.
 
 ghost use Rattle.std.specs.Prelude.{◌≡◌, ◌<◌, ◌^◌, length, IfSome};
-ghost use Rattle.ga_causal.specs.Steps.{place_of};
+ghost use Rattle.ga_causal.specs.Dependence.{place_of};
 
 use ga_event::{Cause, touches};
 use ga_grid::NodeId;

@@ -4,9 +4,9 @@ use Rattle.std.proofs.lemmas.List.Elements.{All-from_recursion}
 use Rattle.ga_grid.specs.declared.node_id.NodeId.{NodeId}
 use Rattle.ga_console.specs.Texts.{name_of}
 use Rattle.ga_console.specs.Lines.{HasNoFeed, is_feed}
-use Rattle.ga_console.specs.Commands.{Spells}
+use Rattle.ga_console.specs.Commands.{SpellsCommand}
 use Rattle.ga_console.specs.Parsing.{node_in}
-use Rattle.ga_console.specs.Ahead.{IsAhead}
+use Rattle.ga_console.specs.kept.Ahead.{IsAhead}
 use Rattle.ga_console.specs.declared.command.Command.{Command}
 use Rattle.ga_console.specs.declared.command.Command.TheVariants.{Step, Quit}
 use Rattle.std.proofs.Math.Seq.{drop-append-add}
@@ -55,7 +55,7 @@ step_front text node long b0 b1 b2 b3 b4 b8 found =
 
 -- a whole line in front of a text, with the line feed behind it
 pub line_front : (text : List ℕ) (asked : Command) (count : ℕ) → count < length text → HasNoFeed (take count text) → get_or text count 0 ≡ 10 → count ≤ 200
-    → Spells asked (take count text) → ((other : Command) → Spells other (take count text) → other ≡ asked) → asked ≢ Quit → IsAhead text asked count
+    → SpellsCommand asked (take count text) → ((other : Command) → SpellsCommand other (take count text) → other ≡ asked) → asked ≢ Quit → IsAhead text asked count
 line_front text asked count below no_feed feed short spelled only not_quit =
     let next : suc count ≡ count + 1 = omega arith in
     record {

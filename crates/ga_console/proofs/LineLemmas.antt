@@ -5,7 +5,7 @@ use Rattle.std.proofs.lemmas.Bool.Decides.{nat_tests}
 use Rattle.std.specs.Prelude.{◌==◌}
 use Rattle.std.proofs.lemmas.List.Elements.{All-append, All-nil}
 use Rattle.ga_console.specs.Lines.{HasNoFeed, is_feed}
-use Rattle.ga_console.specs.ReadLine.{IsLine}
+use Rattle.ga_console.specs.kept.ReadLine.{IsLine}
 use Rattle.ga_console.specs.Turns.{quit_line}
 
 take-take-append : (n : ℕ) (xs ys : List ℕ) → take n (take n xs ++ ys) ≡ take n (xs ++ ys)

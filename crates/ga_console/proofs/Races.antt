@@ -4,10 +4,9 @@ use Rattle.std.specs.Prelude.{slice_get}
 use Rattle.std.proofs.lemmas.List.{length-replicate}
 use Rattle.std.proofs.lemmas.List.Sums.{sum_by-cons}
 use Rattle.std.proofs.lemmas.Option.{slice_get_within}
-use Rattle.ga_node.specs.State.{NodeState}
-use Rattle.ga_node.specs.Record.{NodeRecord}
+use Rattle.ga_node.specs.Record.{NodeState, NodeRecord}
 use Rattle.ga_grid.specs.Chip.{records_of}
-use Rattle.ga_grid.specs.NodeId.{node_id}
+use Rattle.ga_grid.specs.Grid.{node_id}
 use Rattle.ga_shared.specs.declared.call.Call.{Call}
 use Rattle.ga_shared.specs.declared.call.Call.TheVariants.{Step}
 use Rattle.ga_shared.specs.declared.closing.Closed.{Closed}
@@ -15,13 +14,14 @@ use Rattle.ga_shared.specs.Race.{Raced}
 use Rattle.ga_image.specs.Lines.{lines_of}
 use Rattle.ga_image.specs.Grammar.{IsImage}
 use Rattle.ga_image.specs.FirstFault.{IsFirstFault}
-use Rattle.ga_image.specs.Reading.{no_memory}
+use Rattle.ga_image.specs.Fault.{no_memory}
 use Rattle.ga_image.specs.declared.fault.ImageFault.{ImageFault}
 use Rattle.ga_image.specs.declared.fault.ImageCause.TheVariants.{Memory}
 use Rattle.ga_lab.specs.Machine.{State}
 use Rattle.ga_console.specs.Texts.{image_fault_text}
 use Rattle.ga_console.specs.Run.{IsReadAlone, Refuses}
-use Rattle.ga_console.specs.Race.{calls_by, IsRace, Writes, Races, Reports, report_text}
+use Rattle.ga_console.specs.Race.{calls_by, IsRace, Reports, report_text}
+use Rattle.ga_console.specs.kept.Race.{Writes, Races}
 use Rattle.ga_console.specs.declared.run.Status.{Status}
 use Rattle.ga_console.specs.declared.run.Status.TheVariants.{Done, ImageRefused, StreamFault, NotFinished}
 

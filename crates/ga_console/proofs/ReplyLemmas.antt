@@ -6,7 +6,7 @@ use Rattle.ga_grid.specs.declared.node_id.NodeId.{NodeId}
 use Rattle.ga_image.specs.Printing.{printed}
 use Rattle.ga_event.specs.declared.event.Event.{Event}
 use Rattle.ga_causal.specs.declared.chain.Link.{Link}
-use Rattle.ga_journal.specs.declared.made.Made.{Made}
+use Rattle.ga_event.specs.declared.made.Made.{Made}
 use Rattle.ga_lab.specs.Machine.{State, chip_of, step_answer, stepped, undone, rewind_answer, rewound, undo_answer, dropped_answer, history_of, why_answer}
 use Rattle.ga_lab.specs.declared.fault.LabFault.{LabFault}
 use Rattle.ga_lab.specs.declared.fault.LabFault.TheVariants as fault

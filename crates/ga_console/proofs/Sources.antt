@@ -1,10 +1,11 @@
 -- From the image of a source to what is written.
 use Rattle.std.proofs.Common.{ℕ, List, ◌++◌, inl, inr, refl, sym, subst}
-use Rattle.ga_image.specs.Reading.{no_memory}
+use Rattle.ga_image.specs.Fault.{no_memory}
 use Rattle.ga_image.specs.declared.fault.ImageFault.{ImageFault}
 use Rattle.ga_console.specs.Run.{IsReadAlone, IsFault, Refuses}
-use Rattle.ga_console.specs.Race.{Writes}
-use Rattle.ga_console.specs.Source.{IsAssembly, Assembly, Assembles, Listing, Lists, IsAccepted, Disassembly, Disassembles}
+use Rattle.ga_console.specs.kept.Race.{Writes}
+use Rattle.ga_console.specs.Source.{IsAssembly, Assembles, Lists, IsAccepted, Disassembles}
+use Rattle.ga_console.specs.kept.Source.{Assembly, Listing, Disassembly}
 use Rattle.ga_console.specs.declared.run.Status.{Status}
 use Rattle.ga_console.specs.declared.run.Status.TheVariants.{Done, ImageRefused, StreamFault, NotFinished}
 use Rattle.ga_console.proofs.RunLemmas.{refused_in}

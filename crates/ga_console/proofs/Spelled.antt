@@ -7,8 +7,9 @@ use Rattle.ga_grid.specs.declared.node_id.NodeId.{NodeId}
 use Rattle.ga_console.specs.declared.command.Command.{Command}
 use Rattle.ga_console.specs.declared.command.Command.TheVariants.{Step, Back, Rewind, Node, Memory, Trace, Why, Count, Dump, Quit}
 use Rattle.ga_console.specs.Texts.{name_of}
-use Rattle.ga_console.specs.Commands.{IsNumber, SpellsAddress, Spells}
-use Rattle.ga_console.specs.Parsing.{cut, node_in, number_in, byte_in, step_in, rewind_in, memory_in, why_in, alone, with_arguments, command_by, command_in}
+use Rattle.ga_console.specs.Commands.{IsNumber, SpellsAddress, SpellsCommand}
+use Rattle.ga_console.specs.Parsing.{cut, node_in, number_in, byte_in}
+use Rattle.ga_console.specs.kept.Parsing.{step_in, rewind_in, memory_in, why_in, alone, with_arguments, command_by, command_in}
 use Rattle.ga_console.proofs.Cuts.{cut_joined, word_cut}
 use Rattle.ga_console.proofs.Taking.{first_step, mapped, node_name, name_node, name_word, number_decimal, decimal_number, decimal_word, byte_address, address_byte}
 
@@ -27,14 +28,14 @@ step_spelled text step e =
 
 -- the name is this one, and the command that comes with these arguments
 Named : List ℕ → List ℕ → List ℕ → Option Command → Command → Type 0
-Named name word text found c = name ≡ word → found ≡ Some c → Spells c (name ++ 32 ∷ text)
+Named name word text found c = name ≡ word → found ≡ Some c → SpellsCommand c (name ++ 32 ∷ text)
 
 node_spelled : (word text : List ℕ) (f : NodeId → Command) (name : List ℕ) (c : Command)
-    → ((node : NodeId) (line : List ℕ) → line ≡ word ++ 32 ∷ name_of node → Spells (f node) line) → Named name word text (option_map f (node_in text)) c
+    → ((node : NodeId) (line : List ℕ) → line ≡ word ++ 32 ∷ name_of node → SpellsCommand (f node) line) → Named name word text (option_map f (node_in text)) c
 unfolding Named
 node_spelled word text f name c spells is e =
     let (node, found, same) = mapped (node_in text) f c e in
-    let P : Command → Type 0 = λ d. Spells d (name ++ 32 ∷ text) in
+    let P : Command → Type 0 = λ d. SpellsCommand d (name ++ 32 ∷ text) in
     subst P same (spells node (name ++ 32 ∷ text) (ap (λ (t : List ℕ). t ++ 32 ∷ text) is ∙ ap (λ (t : List ℕ). word ++ 32 ∷ t) (node_name text node found)))
 
 rewind_spelled : (text name : List ℕ) (c : Command) → Named name (codes "rewind") text (rewind_in text) c
@@ -42,7 +43,7 @@ unfolding Named rewind_in
 rewind_spelled text name c is e =
     let (step, found, same) = mapped (step_in text) _ c e in
     let (number, whole) = step_spelled text step found in
-    let P : Command → Type 0 = λ d. Spells d (name ++ 32 ∷ text) in
+    let P : Command → Type 0 = λ d. SpellsCommand d (name ++ 32 ∷ text) in
     subst P same (number, ap (λ (t : List ℕ). t ++ 32 ∷ text) is ∙ ap (λ (t : List ℕ). codes "rewind" ++ 32 ∷ t) whole)
 
 memory_spelled : (text name : List ℕ) (c : Command) → Named name (codes "mem") text (memory_in text) c
@@ -52,7 +53,7 @@ memory_spelled text name c is e =
     let (node, first, last) = first_step (node_in parts.0) _ c rest in
     let (address, digits, made) = first_step (byte_in parts.1) _ c last in
     let same : Memory node address ≡ c = cc in
-    let P : Command → Type 0 = λ d. Spells d (name ++ 32 ∷ text) in
+    let P : Command → Type 0 = λ d. SpellsCommand d (name ++ 32 ∷ text) in
     subst P {x = Memory node address} same (
       parts.1,
       byte_address parts.1 address digits,
@@ -71,7 +72,7 @@ why_spelled text name c is e =
     let same : Why from k to.0 to.1 ≡ c = cc in
     let (k_small, k_text) = number_decimal second.0 k k_found in
     let (j_small, to_text) = step_spelled second.1 to to_found in
-    let P : Command → Type 0 = λ d. Spells d (name ++ 32 ∷ text) in
+    let P : Command → Type 0 = λ d. SpellsCommand d (name ++ 32 ∷ text) in
     subst P {x = Why from k to.0 to.1} same (
       k_small,
       j_small,
@@ -95,10 +96,10 @@ tested text word found others c Q here later e = by_test (pointwise nat_eq text 
   by_test true is e = here (is refl) e
   by_test false is e = later e
 
-arguments_spelled : (name text : List ℕ) (c : Command) → with_arguments name text ≡ Some c → Spells c (name ++ 32 ∷ text)
+arguments_spelled : (name text : List ℕ) (c : Command) → with_arguments name text ≡ Some c → SpellsCommand c (name ++ 32 ∷ text)
 unfolding with_arguments Named
 arguments_spelled name text c e =
-    let Q : Type 0 = Spells c (name ++ 32 ∷ text) in
+    let Q : Type 0 = SpellsCommand c (name ++ 32 ∷ text) in
     tested name (codes "step") _ _ c Q (node_spelled (codes "step") text Step name c (λ node line is. is)) (
     tested name (codes "rewind") _ _ c Q (rewind_spelled text name c) (
     tested name (codes "node") _ _ c Q (node_spelled (codes "node") text Node name c (λ node line is. is)) (
@@ -111,11 +112,11 @@ arguments_spelled name text c e =
     )
     ) e
 
-alone_spelled : (line : List ℕ) (c : Command) → alone line ≡ Some c → Spells c line
+alone_spelled : (line : List ℕ) (c : Command) → alone line ≡ Some c → SpellsCommand c line
 unfolding alone
 alone_spelled line c e =
-    let Q : Type 0 = Spells c line in
-    let P : Command → Type 0 = λ d. Spells d line in
+    let Q : Type 0 = SpellsCommand c line in
+    let P : Command → Type 0 = λ d. SpellsCommand d line in
     tested line (codes "back") _ _ c Q (λ is some. let same : Back ≡ c = cc in subst P same is) (
     tested line (codes "count") _ _ c Q (λ is some. let same : Count ≡ c = cc in subst P same is) (
     tested line (codes "dump") _ _ c Q (λ is some. let same : Dump ≡ c = cc in subst P same is) (
@@ -148,7 +149,7 @@ why_read from k to j k_small j_small =
     ) refl
 
 -- a line is read as what it spells
-pub spelled_read : (c : Command) (line : List ℕ) → Spells c line → command_in line ≡ Some c
+pub spelled_read : (c : Command) (line : List ℕ) → SpellsCommand c line → command_in line ≡ Some c
 unfolding with_arguments rewind_in alone
 spelled_read (Step node) line is = rw (is, name_node node) refl
 spelled_read Back line is = rw is refl
@@ -162,24 +163,24 @@ spelled_read Dump line is = rw is refl
 spelled_read Quit line is = rw is refl
 
 -- a line spells what it is read as
-pub read_spelled : (c : Command) (line : List ℕ) → command_in line ≡ Some c → Spells c line
+pub read_spelled : (c : Command) (line : List ℕ) → command_in line ≡ Some c → SpellsCommand c line
 read_spelled c line e = by_cut (cut line) (cut_joined line) e where
-  by_cut : (found : Option (List ℕ × List ℕ)) → ((parts : List ℕ × List ℕ) → found ≡ Some parts → line ≡ parts.0 ++ 32 ∷ parts.1) → command_by found line ≡ Some c → Spells c line
+  by_cut : (found : Option (List ℕ × List ℕ)) → ((parts : List ℕ × List ℕ) → found ≡ Some parts → line ≡ parts.0 ++ 32 ∷ parts.1) → command_by found line ≡ Some c → SpellsCommand c line
   by_cut None is e = alone_spelled line c e
   by_cut (Some parts) is e =
-      let P : List ℕ → Type 0 = λ t. Spells c t in
+      let P : List ℕ → Type 0 = λ t. SpellsCommand c t in
       subst P (sym (is parts refl)) (arguments_spelled parts.0 parts.1 c e)
 
 -- ---- what is told of a line
 
-pub told_some : (found : Option Command) (line : List ℕ) → found ≡ command_in line → IfSome found (λ c. Spells c line)
+pub told_some : (found : Option Command) (line : List ℕ) → found ≡ command_in line → IfSome found (λ c. SpellsCommand c line)
 told_some None line e = tt
 told_some (Some c) line e = read_spelled c line (sym e)
 
-pub told_only : (found : Option Command) (line : List ℕ) → found ≡ command_in line → IfSome found (λ c. (other : Command) → Spells other line → other ≡ c)
+pub told_only : (found : Option Command) (line : List ℕ) → found ≡ command_in line → IfSome found (λ c. (other : Command) → SpellsCommand other line → other ≡ c)
 told_only None line e = tt
 told_only (Some c) line e = λ other is. let read : command_in line ≡ Some other = spelled_read other line is in let both : Some other ≡ Some c = sym read ∙ sym e in cc
 
-pub told_none : (found : Option Command) (line : List ℕ) → found ≡ command_in line → IfNone found ((c : Command) → ¬ Spells c line)
+pub told_none : (found : Option Command) (line : List ℕ) → found ≡ command_in line → IfNone found ((c : Command) → ¬ SpellsCommand c line)
 told_none None line e = λ c is. let clash : None ≡ Some c = e ∙ spelled_read c line is in absurd cc
 told_none (Some c) line e = tt

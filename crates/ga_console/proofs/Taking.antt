@@ -8,8 +8,7 @@ use Rattle.std.proofs.lemmas.Bool.{ne_eqb}
 use Rattle.std.proofs.lemmas.List.{append-nil}
 use Rattle.std.proofs.lemmas.Fmt.{decimal_step, decimal_digit, decimal_by_steps}
 use Rattle.ga_word.specs.Word.{hex_digit}
-use Rattle.ga_grid.specs.Grid.{yxx_of, node_of}
-use Rattle.ga_grid.specs.NodeId.{node_id}
+use Rattle.ga_grid.specs.Grid.{yxx_of, node_of, node_id}
 use Rattle.ga_grid.specs.declared.node_id.NodeId.{NodeId}
 use Rattle.ga_grid.proofs.NodeIds.{node_id-number}
 use Rattle.ga_image.specs.Digits.{decimal_digit as digit_in, node_number, cell_number}

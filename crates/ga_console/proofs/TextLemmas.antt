@@ -6,7 +6,8 @@ use Rattle.std.proofs.lemmas.List.Elements.{recursion_from_All}
 use Rattle.ga_image.specs.Lines.{lines_of, with_byte}
 use Rattle.ga_grid.specs.Grid.{yxx_of}
 use Rattle.ga_grid.specs.declared.node_id.NodeId.{NodeId}
-use Rattle.ga_console.specs.Texts.{name_of, two_digits}
+use Rattle.ga_console.specs.Texts.{name_of}
+use Rattle.ga_console.specs.kept.Texts.{two_digits}
 use Rattle.ga_console.specs.Lines.{is_feed, HasNoFeed, ended, text_of, onto_first, ended_lines}
 
 -- no line feed, byte by byte

@@ -23,20 +23,20 @@ spaced (word ∷ []) = word
 spaced (word ∷ more) = word ++ 32 ∷ spaced more
 
 -- the line spells the command; numbers are decimal, without leading zeros
-abbrev pub Spells : Command → List ℕ → Type 0
-Spells (Step node) line = line ≡ spaced (codes "step" ∷ name_of node ∷ [])
-Spells Back line = line ≡ codes "back"
-Spells (Rewind node k) line = IsNumber k × (line ≡ spaced (codes "rewind" ∷ name_of node ∷ decimal k ∷ []))
-Spells (Node node) line = line ≡ spaced (codes "node" ∷ name_of node ∷ [])
-Spells (Memory node address) line =
+abbrev pub SpellsCommand : Command → List ℕ → Type 0
+SpellsCommand (Step node) line = line ≡ spaced (codes "step" ∷ name_of node ∷ [])
+SpellsCommand Back line = line ≡ codes "back"
+SpellsCommand (Rewind node k) line = IsNumber k × (line ≡ spaced (codes "rewind" ∷ name_of node ∷ decimal k ∷ []))
+SpellsCommand (Node node) line = line ≡ spaced (codes "node" ∷ name_of node ∷ [])
+SpellsCommand (Memory node address) line =
     (word : List ℕ)
     × SpellsAddress address word
     × (line ≡ spaced (codes "mem" ∷ name_of node ∷ word ∷ []))
-Spells (Trace node) line = line ≡ spaced (codes "trace" ∷ name_of node ∷ [])
-Spells (Why from k to j) line =
+SpellsCommand (Trace node) line = line ≡ spaced (codes "trace" ∷ name_of node ∷ [])
+SpellsCommand (Why from k to j) line =
     IsNumber k
     × IsNumber j
     × (line ≡ spaced (codes "why" ∷ name_of from ∷ decimal k ∷ name_of to ∷ decimal j ∷ []))
-Spells Count line = line ≡ codes "count"
-Spells Dump line = line ≡ codes "dump"
-Spells Quit line = line ≡ codes "quit"
+SpellsCommand Count line = line ≡ codes "count"
+SpellsCommand Dump line = line ≡ codes "dump"
+SpellsCommand Quit line = line ≡ codes "quit"

@@ -1,5 +1,5 @@
 -- The image part: what of the input it is (docs/REFERENCE.md, "Sessions"; this project's own).
-use Rattle.std.specs.Prelude.{◌≡◌, ◌≢◌, ℕ, ◌+◌, Bool, true, false, List, [], ◌∷◌, ◌++◌, length, codes}
+use Rattle.std.specs.Prelude.{◌≡◌, ◌≢◌, ℕ, ◌+◌, List, [], ◌∷◌, ◌++◌, length, codes}
 use Rattle.std.specs.List.{AllByRecursion}
 use Rattle.ga_console.specs.Lines.{HasNoFeed, ended, text_of}
 use Rattle.ga_console.specs.Input.{Unread, input_limit}
@@ -27,11 +27,6 @@ pub record HasNoEnd (text : List ℕ) : Type 0 where
   pub before : AllByRecursion IsBodyLine lines
   pub no_feed : HasNoFeed part
   pub splits : text ≡ text_of lines ++ part
-
--- a part with its line feed, if it has one
-abbrev pub with_feed : List ℕ → Bool → List ℕ
-with_feed part true = ended part
-with_feed part false = part
 
 -- so much was taken: the text, with left before it and more behind it
 pub record TakesText (old : Unread) (left text : List ℕ) (new : Unread) (more : List ℕ) : Type 0 where

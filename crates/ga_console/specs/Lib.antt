@@ -1,11 +1,9 @@
 pub mod Lines
 pub mod Input
 pub mod Output
-pub mod ReadLine
 pub mod Image
 pub mod Texts
 pub mod Parsing
-pub mod Ahead
 pub mod Commands
 pub mod Turns
 pub mod Replies
@@ -15,3 +13,4 @@ pub mod Run
 pub mod Settings
 pub mod Race
 pub mod Source
+pub mod kept

@@ -1,4 +1,4 @@
--- What was said and is written in part.
+-- What a session says first, and a text that was written in part.
 use Rattle.std.specs.Prelude.{◌≡◌, ℕ, List, ◌++◌, Option, Some, Result, Ok, Err, codes}
 use Rattle.ga_console.specs.declared.output.WriteFailed.{WriteFailed}
 
@@ -26,20 +26,3 @@ pub record IsCut (contents : Option (List ℕ)) (before said : List ℕ) : Type 
 abbrev pub IsSaidOrCut : {T : Type 0} → Result T WriteFailed → Option (List ℕ) → List ℕ → List ℕ → List ℕ → Type 0
 IsSaidOrCut (Ok done) contents before said pending = IsSaid contents before said pending
 IsSaidOrCut (Err failed) contents before said pending = IsCut contents before said
-
--- Such a text is said, or cut short by a failed write: contents and pending are what the writer holds and what waits before
--- the call, held and left the same after it.
-abbrev pub Says : {T : Type 0}
-    → Result T WriteFailed
-    → (List ℕ → Type 0)
-    → Option (List ℕ)
-    → List ℕ
-    → Option (List ℕ)
-    → List ℕ
-    → Type 0
-Says result IsText contents pending held left =
-    (before said : List ℕ)
-    → IsSaid contents before said pending
-    → (text : List ℕ)
-    × IsText text
-    × IsSaidOrCut result held before (said ++ text) left

@@ -1,9 +1,8 @@
 -- What a race over an image may write, and how it may end (docs/REFERENCE.md, "Races"; this project's own).
 use Rattle.std.specs.Prelude.{◌≡◌, ℕ, ◌<◌, ◌*◌, ◌⊎◌, List, [], ◌++◌, length, replicate, codes, decimal}
-use Rattle.ga_node.specs.State.{NodeState}
-use Rattle.ga_node.specs.Record.{NodeRecord}
+use Rattle.ga_node.specs.Record.{NodeState, NodeRecord}
 use Rattle.ga_grid.specs.Chip.{records_of}
-use Rattle.ga_grid.specs.NodeId.{node_id}
+use Rattle.ga_grid.specs.Grid.{node_id}
 use Rattle.ga_image.specs.Lines.{lines_of}
 use Rattle.ga_image.specs.Grammar.{IsImage}
 use Rattle.ga_image.specs.FirstFault.{IsFirstFault}
@@ -56,21 +55,6 @@ pub record IsCutShort (IsText : List ℕ → Type 0) (text : List ℕ) : Type 0 
   pub whole : List ℕ
   pub is_text : IsText whole
   pub front : Begins whole text
-
--- a text was written whole, or that failed
-abbrev pub Writes : List ℕ → List ℕ → Status → Type 0
-Writes whole text Done = text ≡ whole
-Writes whole text StreamFault = Begins whole text
-Writes whole text ImageRefused = ⊥
-Writes whole text NotFinished = ⊥
-
--- What may be written once the image was read.
-abbrev pub Races : ℕ → ℕ → ℕ → List ℕ → List ℕ → Status → Type 0
-Races limit workers calls image text Done = IsReport limit workers calls image text
-Races limit workers calls image text ImageRefused = IsRefusal image text
-Races limit workers calls image text StreamFault =
-    IsCutShort (IsReport limit workers calls image) text ⊎ IsCutShort (IsRefusal image) text
-Races limit workers calls image text NotFinished = text ≡ []
 
 -- P holds of the image that was read, and nothing was read behind it
 abbrev pub OfImage : List ℕ → List ℕ → (List ℕ → Type 0) → Type 0

@@ -5,13 +5,13 @@ use Rattle.ga_grid.specs.declared.node_id.NodeId.{NodeId}
 use Rattle.ga_causal.specs.declared.chain.Link.{Link}
 use Rattle.ga_image.specs.Lines.{longest}
 use Rattle.ga_image.specs.Printing.{printed}
-use Rattle.ga_journal.specs.Told.{made_in}
-use Rattle.ga_journal.specs.declared.made.Made.{Made}
+use Rattle.ga_event.specs.Told.{made_in}
+use Rattle.ga_event.specs.declared.made.Made.{Made}
 use Rattle.ga_lab.specs.Machine.{State, chip_of, step_answer, stepped, undo_answer, undone, rewind_answer, rewound, word_at, history_of, told_of_kept, why_answer}
 use Rattle.ga_lab.specs.declared.fault.LabFault.{LabFault}
 use Rattle.ga_lab.specs.declared.fault.LabFault.TheVariants as fault
 use Rattle.ga_console.specs.Texts.{made_text, removed_text, refusal_text, node_text, memory_text, counts_text, trace_text, chain_text, independent, no_syntax, no_long}
-use Rattle.ga_console.specs.Commands.{Spells}
+use Rattle.ga_console.specs.Commands.{SpellsCommand}
 use Rattle.ga_console.specs.declared.command.Command.{Command}
 use Rattle.ga_console.specs.declared.command.Command.TheVariants.{Step, Back, Rewind, Node, Memory, Trace, Why, Count, Dump, Quit}
 
@@ -87,5 +87,5 @@ Does s asked answer new = ((answer, new) ≡ reply s asked) ⊎ (Grows s asked �
 -- The answer to a line: it is too long, or spells a command, or spells none.
 pub data Answer (s : State) (line answer : List ℕ) (new : State) : Type 0 where
   long : longest < length line → answer ≡ no_long → new ≡ s → Answer s line answer new
-  command : (c : Command) → length line ≤ longest → Spells c line → Does s c answer new → Answer s line answer new
-  syntax : length line ≤ longest → ((c : Command) → ¬ Spells c line) → answer ≡ no_syntax → new ≡ s → Answer s line answer new
+  command : (c : Command) → length line ≤ longest → SpellsCommand c line → Does s c answer new → Answer s line answer new
+  syntax : length line ≤ longest → ((c : Command) → ¬ SpellsCommand c line) → answer ≡ no_syntax → new ≡ s → Answer s line answer new

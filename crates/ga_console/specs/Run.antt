@@ -1,11 +1,11 @@
 -- What a whole session may write, and how it may end (docs/REFERENCE.md, "Sessions"; this project's own). A is how the session
 -- answers a line, and begin its machine on a fresh one.
 use Rattle.std.specs.Prelude.{◌≡◌, ℕ, ◌-◌, ◌<◌, ◌⊎◌, List, [], ◌++◌, length, Result, Ok, Err}
-use Rattle.ga_node.specs.State.{NodeState}
+use Rattle.ga_node.specs.Record.{NodeState}
 use Rattle.ga_grid.specs.Chip.{records_of}
 use Rattle.ga_image.specs.Lines.{lines_of}
 use Rattle.ga_image.specs.Grammar.{IsImage}
-use Rattle.ga_image.specs.Reading.{no_memory}
+use Rattle.ga_image.specs.Fault.{no_memory}
 use Rattle.ga_image.specs.FirstFault.{IsFirstFault}
 use Rattle.ga_image.specs.declared.fault.ImageFault.{ImageFault}
 use Rattle.ga_console.specs.Input.{input_limit, block_size}
@@ -98,11 +98,3 @@ Opens image limit machine = (chip : List NodeState) × IsImage (lines_of image) 
 -- an image is refused with its first fault, or for want of memory
 abbrev pub IsFault : List ℕ → ImageFault → Type 0
 IsFault image fault = (fault ≡ no_memory) ⊎ IsFirstFault (lines_of image) fault
-
--- What may be written after the image was read, of which so many bytes were taken: ahead is what was read with it. Where it is
--- refused, no more is read.
-abbrev pub AfterImage : {M : Type 0} → Answering M → (State → M) → ℕ → List ℕ → ℕ → List ℕ → List ℕ → List ℕ → List ℕ → Status → Type 0
-AfterImage {M} A begin limit image taken ahead read rest text status =
-    ((machine : State) × Opens image limit machine × (ending : Result Ending WriteFailed) × (status ≡ status_of ending)
-    × (said : List ℕ) × (last : M) × Serves A (input_limit - taken) (begin machine) read rest said last ending × Written ending (ready ++ said) text)
-    ⊎ ((fault : ImageFault) × IsFault image fault × Refuses fault text status × (read ≡ ahead))

@@ -1,6 +1,6 @@
 -- What may be written for source (docs/REFERENCE.md, "Source"; this project's own).
 use Rattle.std.specs.Prelude.{◌≡◌, ℕ, ◌⊎◌, List, []}
-use Rattle.ga_node.specs.State.{NodeState}
+use Rattle.ga_node.specs.Record.{NodeState}
 use Rattle.ga_grid.specs.Chip.{records_of}
 use Rattle.ga_image.specs.Lines.{lines_of}
 use Rattle.ga_image.specs.Grammar.{IsImage}
@@ -12,7 +12,7 @@ use Rattle.ga_source.specs.Programs.{IsAssembled}
 use Rattle.ga_console.specs.Image.{HasNoEnd}
 use Rattle.ga_console.specs.Output.{Begins}
 use Rattle.ga_console.specs.Texts.{image_fault_text}
-use Rattle.ga_console.specs.Run.{IsFault, Refused}
+use Rattle.ga_console.specs.Run.{Refused}
 use Rattle.ga_console.specs.Race.{OfImage, IsCutShort}
 use Rattle.ga_console.specs.declared.run.Status.{Status}
 use Rattle.ga_console.specs.declared.run.Status.TheVariants.{Done, ImageRefused, StreamFault, NotFinished}
@@ -25,26 +25,12 @@ pub record IsAssembly (text : List ℕ) : Type 0 where
   pub told : text ≡ printed (records_of chip)
   pub back : Describes (lines_of text) (records_of chip)
 
--- What may be written once the source was read: nothing where it is refused.
-abbrev pub Assembly : List ℕ → Status → Type 0
-Assembly text Done = IsAssembly text
-Assembly text ImageRefused = text ≡ []
-Assembly text StreamFault = IsCutShort IsAssembly text
-Assembly text NotFinished = ⊥
-
 -- What `asm` may have written, where read was read of its input and rest is left of it. Source ends as an image does.
 abbrev pub Assembles : List ℕ → List ℕ → List ℕ → Status → Type 0
 Assembles read rest text Done = OfImage read rest (λ source. IsAssembly text)
 Assembles read rest text ImageRefused = text ≡ []
 Assembles read rest text StreamFault = ((text ≡ []) × HasNoEnd read) ⊎ IsCutShort IsAssembly text
 Assembles read rest text NotFinished = ⊥
-
--- What may be written of a listing once the source was read: nothing where it is refused. The listing itself is not defined.
-abbrev pub Listing : List ℕ → Status → Type 0
-Listing text Done = Unit {0}
-Listing text ImageRefused = text ≡ []
-Listing text StreamFault = Unit {0}
-Listing text NotFinished = ⊥
 
 -- What `list` may have written: source ends as an image does.
 abbrev pub Lists : List ℕ → List ℕ → List ℕ → Status → Type 0
@@ -56,13 +42,6 @@ Lists read rest text NotFinished = ⊥
 -- the text is an image
 abbrev pub IsAccepted : List ℕ → Type 0
 IsAccepted image = (chip : List NodeState) × IsImage (lines_of image) chip
-
--- What may be written once an image was read: its source, which is not defined, or its refusal.
-abbrev pub Disassembly : List ℕ → List ℕ → Status → Type 0
-Disassembly image text Done = IsAccepted image
-Disassembly image text ImageRefused = (fault : ImageFault) × IsFault image fault × (text ≡ image_fault_text fault)
-Disassembly image text StreamFault = IsAccepted image ⊎ ((fault : ImageFault) × IsFault image fault × Begins (image_fault_text fault) text)
-Disassembly image text NotFinished = ⊥
 
 -- What `dis` may have written, where read was read of its input and rest is left of it.
 abbrev pub Disassembles : List ℕ → List ℕ → List ℕ → Status → Type 0

@@ -1,5 +1,5 @@
 -- The texts of answers, each ended by a line feed (docs/REFERENCE.md, "Sessions"; this project's own).
-use Rattle.std.specs.Prelude.{ℕ, ◌+◌, ◌/◌, ◌%◌, ◌==◌, if◌then◌else◌, List, [], ◌∷◌, ◌++◌, codes, decimal}
+use Rattle.std.specs.Prelude.{ℕ, ◌==◌, if◌then◌else◌, List, ◌++◌, codes, decimal}
 use Rattle.std.specs.Int.{from_bool}
 use Rattle.ga_word.specs.Word.{hex6_of}
 use Rattle.ga_ports.specs.Address.{only, has_side}
@@ -12,25 +12,17 @@ use Rattle.ga_node.specs.declared.kind.Kind.{Kind}
 use Rattle.ga_node.specs.declared.kind.Kind.TheVariants as kind
 use Rattle.ga_grid.specs.Grid.{yxx_of}
 use Rattle.ga_grid.specs.declared.node_id.NodeId.{NodeId}
-use Rattle.ga_image.specs.Fault.{number_of, word_of}
+use Rattle.ga_image.specs.Fault.{cause_number, cause_word}
 use Rattle.ga_image.specs.Spelling.{decimal3_of, hex2_of, words_text}
 use Rattle.ga_image.specs.declared.fault.ImageFault.{ImageFault}
-use Rattle.ga_journal.specs.declared.made.Made.{Made}
-use Rattle.ga_journal.specs.declared.made.Made.TheVariants.{Own, Pass}
+use Rattle.ga_event.specs.declared.made.Made.{Made}
+use Rattle.ga_event.specs.declared.made.Made.TheVariants.{Own, Pass}
 use Rattle.ga_lab.specs.declared.fault.LabFault.{LabFault}
 use Rattle.ga_lab.specs.declared.fault.LabFault.TheVariants.{Waiting, Stopped, Full, Memory, Empty, NoStep, Spent}
 
 -- a node's name: three decimal digits, of its row and its column
 abbrev pub name_of : NodeId → List ℕ
 name_of node = decimal3_of (yxx_of node.number)
-
--- the two digits of a number below 100
-abbrev pub two_digits : ℕ → List ℕ
-two_digits n = (48 + n / 10) ∷ (48 + n % 10) ∷ []
-
--- the last four digits of a number
-abbrev pub four_digits : ℕ → List ℕ
-four_digits n = (48 + n / 1000 % 10) ∷ (48 + n / 100 % 10) ∷ (48 + n / 10 % 10) ∷ (48 + n % 10) ∷ []
 
 -- ---- events
 
@@ -78,17 +70,17 @@ abbrev pub side_text : ℕ → Side → List ℕ → List ℕ
 side_text sides side letter = if has_side sides side then letter else codes "-"
 
 -- right, down, left, up
-abbrev pub set_text : ℕ → List ℕ
-set_text sides =
+abbrev pub sides_text : ℕ → List ℕ
+sides_text sides =
     side_text sides Right (codes "r")
     ++ side_text sides Down (codes "d")
     ++ side_text sides Left (codes "l")
     ++ side_text sides Up (codes "u")
 
 abbrev pub state_text : Wait → ℕ → List ℕ
-state_text (wait.Fetch sides) stop = codes "fetch " ++ set_text sides
-state_text (wait.Read sides) stop = codes "read " ++ set_text sides
-state_text (wait.Write side) stop = codes "write " ++ set_text (only side)
+state_text (wait.Fetch sides) stop = codes "fetch " ++ sides_text sides
+state_text (wait.Read sides) stop = codes "read " ++ sides_text sides
+state_text (wait.Write side) stop = codes "write " ++ sides_text (only side)
 state_text wait.Nothing stop = if stop == 0 then codes "run" else codes "stop " ++ decimal stop
 
 -- a register: its name and its value
@@ -142,4 +134,4 @@ no_input = codes "no 33 input\n"
 
 -- how an image is refused
 abbrev pub image_fault_text : ImageFault → List ℕ
-image_fault_text fault = codes "no " ++ decimal (number_of fault.cause) ++ codes " " ++ word_of fault.cause ++ codes " line " ++ decimal fault.line ++ codes "\n"
+image_fault_text fault = codes "no " ++ decimal (cause_number fault.cause) ++ codes " " ++ cause_word fault.cause ++ codes " line " ++ decimal fault.line ++ codes "\n"

@@ -1,6 +1,6 @@
 //! A command whose line was read whole, found where it stands.
 ghost use Rattle.std.specs.Prelude.{IfSome};
-ghost use Rattle.ga_console.specs.Ahead.{IsAhead};
+ghost use Rattle.ga_console.specs.kept.Ahead.{IsAhead};
 
 use super::command::{Command, command_of, node_named};
 use super::input::feed_at;

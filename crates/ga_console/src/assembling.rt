@@ -1,7 +1,8 @@
 //! Source in, the image of its chip out.
 ghost use Rattle.std.specs.Prelude.{◌≡◌, ◌++◌, ℕ, List, Some, IfSome};
-ghost use Rattle.ga_console.specs.Race.{Writes};
-ghost use Rattle.ga_console.specs.Source.{IsAssembly, Assembly, Assembles};
+ghost use Rattle.ga_console.specs.kept.Race.{Writes};
+ghost use Rattle.ga_console.specs.Source.{IsAssembly, Assembles};
+ghost use Rattle.ga_console.specs.kept.Source.{Assembly};
 
 use super::faults::{tell_fault, tell_long, tell_memory, tell_store};
 use super::image::{ImageEnd, read_image};

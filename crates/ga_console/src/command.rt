@@ -1,11 +1,11 @@
 //! Commands, as lines spell them.
 
 ghost use Rattle.std.specs.Prelude.{◌≡◌, ◌+◌, ◌*◌, ◌<◌, [], ◌∷◌, IfSome, IfNone, option_map};
-ghost use Rattle.ga_grid.specs.Grid.{node_of as node_numbered};
-ghost use Rattle.ga_grid.specs.NodeId.{node_id};
+ghost use Rattle.ga_grid.specs.Grid.{node_of as node_numbered, node_id};
 ghost use Rattle.ga_image.specs.Digits.{decimal_digit};
-ghost use Rattle.ga_console.specs.Commands.{Spells};
-ghost use Rattle.ga_console.specs.Parsing.{cut, node_in, number_in, byte_in, with_digit, step_in, rewind_in, memory_in, why_in, alone, with_arguments};
+ghost use Rattle.ga_console.specs.Commands.{SpellsCommand};
+ghost use Rattle.ga_console.specs.Parsing.{cut, node_in, number_in, byte_in, with_digit};
+ghost use Rattle.ga_console.specs.kept.Parsing.{step_in, rewind_in, memory_in, why_in, alone, with_arguments};
 ghost use Rattle.ga_console.specs.declared.command.Command.{Command};
 
 use ga_grid::NodeId;
@@ -42,9 +42,9 @@ pub enum Command {
 
 /// The command that a line spells, or none.
 pub fn command_of(line: &[u8]) -> Option<Command>
-    ensures some { IfSome result (λ command. Spells command line.now) }
-    ensures only { IfSome result (λ command. (other : Command) → Spells other line.now → other ≡ command) }
-    ensures none { IfNone result ((command : Command) → ¬ Spells command line.now) }
+    ensures some { IfSome result (λ command. SpellsCommand command line.now) }
+    ensures only { IfSome result (λ command. (other : Command) → SpellsCommand other line.now → other ≡ command) }
+    ensures none { IfNone result ((command : Command) → ¬ SpellsCommand command line.now) }
 {
     match cut(line) {
         Some((name, arguments)) => with_arguments(name, arguments),
@@ -53,7 +53,7 @@ pub fn command_of(line: &[u8]) -> Option<Command>
 }
 
 /// The command that is spelled by one word.
-#[tactic(auto, unfolding(crate::specs::Parsing::alone))]
+#[tactic(auto, unfolding(crate::specs::kept::Parsing::alone))]
 fn alone(name: &[u8]) -> Option<Command>
     ensures { result ≡ alone name.now }
 {
@@ -67,7 +67,7 @@ fn alone(name: &[u8]) -> Option<Command>
 }
 
 /// The command that is spelled by a word and what follows the space behind it.
-#[tactic(auto, unfolding(crate::specs::Parsing::with_arguments))]
+#[tactic(auto, unfolding(crate::specs::kept::Parsing::with_arguments))]
 fn with_arguments(name: &[u8], arguments: &[u8]) -> Option<Command>
     ensures { result ≡ with_arguments name.now arguments.now }
 {
@@ -82,7 +82,7 @@ fn with_arguments(name: &[u8], arguments: &[u8]) -> Option<Command>
     }
 }
 
-#[tactic(auto, unfolding(crate::specs::Parsing::rewind_in))]
+#[tactic(auto, unfolding(crate::specs::kept::Parsing::rewind_in))]
 fn rewind_of(arguments: &[u8]) -> Option<Command>
     ensures { result ≡ rewind_in arguments.now }
 {
@@ -90,7 +90,7 @@ fn rewind_of(arguments: &[u8]) -> Option<Command>
     Some(Command::Rewind(node, step))
 }
 
-#[tactic(auto, unfolding(crate::specs::Parsing::memory_in))]
+#[tactic(auto, unfolding(crate::specs::kept::Parsing::memory_in))]
 fn memory_of(arguments: &[u8]) -> Option<Command>
     ensures { result ≡ memory_in arguments.now }
 {
@@ -98,7 +98,7 @@ fn memory_of(arguments: &[u8]) -> Option<Command>
     Some(Command::Memory(node_of(node)?, byte_of(address)?))
 }
 
-#[tactic(auto, unfolding(crate::specs::Parsing::why_in))]
+#[tactic(auto, unfolding(crate::specs::kept::Parsing::why_in))]
 fn why_of(arguments: &[u8]) -> Option<Command>
     ensures { result ≡ why_in arguments.now }
 {
@@ -116,7 +116,7 @@ fn why_of(arguments: &[u8]) -> Option<Command>
 }
 
 /// A node and the number of a step.
-#[tactic(auto, unfolding(crate::specs::Parsing::step_in))]
+#[tactic(auto, unfolding(crate::specs::kept::Parsing::step_in))]
 fn step_of(text: &[u8]) -> Option<(NodeId, u32)>
     ensures { result ≡ step_in text.now }
 {

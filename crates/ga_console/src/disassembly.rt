@@ -1,7 +1,8 @@
 //! An image in, source of the same memories and registers out.
 ghost use Rattle.std.specs.Prelude.{◌≡◌, ◌<◌, ◌++◌, ℕ, List, Some, IfOk, IfErr};
 ghost use Rattle.ga_console.specs.Run.{IsFault};
-ghost use Rattle.ga_console.specs.Source.{IsAccepted, Disassembly, Disassembles};
+ghost use Rattle.ga_console.specs.Source.{IsAccepted, Disassembles};
+ghost use Rattle.ga_console.specs.kept.Source.{Disassembly};
 
 use super::assembling::write_text;
 use super::image::{ImageEnd, read_image};

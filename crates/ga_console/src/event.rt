@@ -1,7 +1,7 @@
 //! The texts of events and of the list that keeps them.
 ghost use Rattle.std.specs.Prelude.{◌≡◌, ◌+◌, ◌≤◌, ◌++◌, length, codes};
 ghost use Rattle.arrayvec.specs.ArrayVec.{array_vec_len};
-ghost use Rattle.ga_journal.specs.declared.made.Made.TheVariants.{Pass};
+ghost use Rattle.ga_event.specs.declared.made.Made.TheVariants.{Pass};
 ghost use Rattle.ga_console.specs.Texts.{made_text, kind_text, removed_text, counts_text, trace_text, chain_text, refusal_text};
 
 use super::text::{

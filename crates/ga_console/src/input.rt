@@ -1,8 +1,9 @@
 //! The input, block by block, up to its bound.
 ghost use Rattle.std.specs.Prelude.{◌≡◌, ◌+◌, ◌≤◌, ◌<◌, ◌++◌, ◌∷◌, ℕ, true, List, [], length, take, drop, slice_index, Some, IfSome, IfNone, IfOk, OnErr};
-ghost use Rattle.ga_console.specs.Input.{Unread, IsWithin, Fills, HasFilled, TakesPart, block_size};
+ghost use Rattle.ga_console.specs.Input.{Unread, IsWithin, block_size};
+ghost use Rattle.ga_console.specs.kept.Input.{Fills, HasFilled, TakesPart};
 ghost use Rattle.ga_console.specs.Lines.{HasNoFeed};
-ghost use Rattle.ga_console.specs.Image.{with_feed};
+ghost use Rattle.ga_console.specs.kept.Image.{with_feed};
 
 use super::lines::{Line, keep};
 use std::alloc::AllocError;

@@ -2,7 +2,7 @@
 ghost use Rattle.std.specs.Prelude.{◌≡◌, ◌+◌, ◌≤◌, ◌<◌, ◌++◌, ℕ, List, Some, length, take, Ok};
 ghost use Rattle.ga_console.specs.Input.{IsWithin};
 ghost use Rattle.ga_console.specs.Output.{IsSaid, IsSaidOrCut};
-ghost use Rattle.ga_console.specs.ReadLine.{ReadsLine};
+ghost use Rattle.ga_console.specs.kept.ReadLine.{ReadsLine};
 
 use super::input::{Fill, Input};
 use super::output::{Output, WriteFailed};

@@ -1,6 +1,7 @@
 //! Source in, a listing of its cells out.
 ghost use Rattle.std.specs.Prelude.{◌≡◌, ◌++◌, ℕ, List, Some};
-ghost use Rattle.ga_console.specs.Source.{Listing, Lists};
+ghost use Rattle.ga_console.specs.kept.Source.{Listing};
+ghost use Rattle.ga_console.specs.Source.{Lists};
 
 use super::assembling::write_text;
 use super::faults::{tell_fault, tell_long, tell_memory};

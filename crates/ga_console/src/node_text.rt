@@ -4,7 +4,7 @@ ghost use Rattle.arrayvec.specs.ArrayVec.{array_vec_len};
 ghost use Rattle.ga_word.specs.Word.{hex6_of};
 ghost use Rattle.ga_node.specs.Record.{record_of};
 ghost use Rattle.ga_image.specs.Spelling.{words_text};
-ghost use Rattle.ga_console.specs.Texts.{node_text, memory_text, state_text, set_text, register_text, registers_text, flags_text, stacks_text};
+ghost use Rattle.ga_console.specs.Texts.{node_text, memory_text, state_text, sides_text, register_text, registers_text, flags_text, stacks_text};
 
 use super::text::{
     LINE_ROOM, NUMBER_ROOM, WORD_ROOM, push_byte, push_digit, push_node, push_number, push_spaced,
@@ -117,7 +117,7 @@ fn push_stop<const ROOM: usize>(out: &mut ArrayVec<u8, ROOM>, stop: u8)
 /// Adds a set of sides, given by its number.
 fn push_set<const ROOM: usize>(out: &mut ArrayVec<u8, ROOM>, sides: u8)
     requires { array_vec_len out.old + SET_ROOM ≤ ROOM }
-    ensures text { out.new.items ≡ out.old.items ++ set_text sides }
+    ensures text { out.new.items ≡ out.old.items ++ sides_text sides }
     ensures len { array_vec_len out.new ≡ array_vec_len out.old + SET_ROOM }
 {
     let letters = [

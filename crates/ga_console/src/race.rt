@@ -1,7 +1,8 @@
 //! A race of workers on the chip of an image.
 ghost use Rattle.std.specs.Prelude.{◌≡◌, ◌<◌, ◌≤◌, ◌*◌, ◌++◌, ℕ, List, map, length, Some, IfOk, IfSome, All, vec_len, slice_get};
 ghost use Rattle.ga_grid.specs.Chip.{records_of};
-ghost use Rattle.ga_console.specs.Race.{calls_by, report_text, IsRace, Races, Reports, Writes};
+ghost use Rattle.ga_console.specs.Race.{calls_by, report_text, IsRace, Reports};
+ghost use Rattle.ga_console.specs.kept.Race.{Races, Writes};
 
 use super::image::{ImageEnd, read_image};
 use super::input::Input;

@@ -1,8 +1,8 @@
 //! The commands that read the machine and leave it as it is.
 ghost use Rattle.std.specs.Prelude.{◌≡◌};
-ghost use Rattle.ga_journal.specs.Told.{made_in};
+ghost use Rattle.ga_event.specs.Told.{made_in};
 ghost use Rattle.ga_lab.specs.Machine.{told_of_kept};
-ghost use Rattle.ga_console.specs.Output.{Says};
+ghost use Rattle.ga_console.specs.kept.Output.{Says};
 ghost use Rattle.ga_console.specs.Replies.{Does, steps_text, told_text, links_text};
 ghost use Rattle.ga_console.specs.declared.command.Command.TheVariants.{Node, Memory, Trace, Why, Count, Dump};
 

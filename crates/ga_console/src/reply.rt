@@ -1,7 +1,7 @@
 //! The answer to a line.
-ghost use Rattle.ga_console.specs.Output.{Says};
+ghost use Rattle.ga_console.specs.kept.Output.{Says};
 ghost use Rattle.ga_console.specs.Replies.{Answer, Does};
-ghost use Rattle.ga_console.specs.Turns.{Turns};
+ghost use Rattle.ga_console.specs.kept.Turns.{Turns};
 
 use super::changes::{back, rewind, step};
 use super::command::{Command, command_of};

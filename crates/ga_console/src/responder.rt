@@ -1,8 +1,8 @@
 //! What answers the lines of a session.
 ghost use Rattle.std.specs.Prelude.{◌≡◌, ℕ, List};
 ghost use Rattle.ga_lab.specs.Machine.{State};
-ghost use Rattle.ga_console.specs.Output.{Says};
-ghost use Rattle.ga_console.specs.Turns.{Turns, AnswersCommand};
+ghost use Rattle.ga_console.specs.kept.Output.{Says};
+ghost use Rattle.ga_console.specs.kept.Turns.{Turns, AnswersCommand};
 
 use super::command::Command;
 use super::lines::Line;

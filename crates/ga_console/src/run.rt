@@ -2,7 +2,8 @@
 ghost use Rattle.std.specs.Prelude.{◌≡◌, ◌++◌, ℕ, List, Some, IfOk, IfErr};
 ghost use Rattle.ga_console.specs.Input.{IsWithin};
 ghost use Rattle.ga_console.specs.Output.{IsSaid};
-ghost use Rattle.ga_console.specs.Run.{Runs, RunsBy, AfterImage, Refuses, Opens, IsFault, status_of as status_that};
+ghost use Rattle.ga_console.specs.Run.{Runs, RunsBy, Refuses, Opens, IsFault, status_of as status_that};
+ghost use Rattle.ga_console.specs.kept.Run.{AfterImage};
 
 use super::commands::{Ending, serve};
 use super::fault_text::put_fault;

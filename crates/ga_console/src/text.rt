@@ -3,7 +3,8 @@ ghost use Rattle.std.specs.Prelude.{◌≡◌, ◌+◌, ◌%◌, ◌≤◌, ◌<
 ghost use Rattle.arrayvec.specs.ArrayVec.{array_vec_len};
 ghost use Rattle.ga_word.specs.Word.{hex6_of};
 ghost use Rattle.ga_image.specs.Spelling.{decimal3_of, hex2_of};
-ghost use Rattle.ga_console.specs.Texts.{name_of, step_text, two_digits, four_digits};
+ghost use Rattle.ga_console.specs.Texts.{name_of, step_text};
+ghost use Rattle.ga_console.specs.kept.Texts.{two_digits, four_digits};
 
 use arrayvec::ArrayVec;
 use ga_grid::NodeId;

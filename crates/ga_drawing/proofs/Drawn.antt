@@ -4,8 +4,7 @@ use Rattle.ga_ports.specs.declared.side.Side.{Side}
 use Rattle.ga_grid.specs.declared.node_id.NodeId.{NodeId}
 use Rattle.ga_event.specs.declared.event.Event.TheVariants.{Own, Pass}
 use Rattle.ga_event.specs.declared.event.Cause.{Cause}
-use Rattle.ga_causal.specs.Causes.{touches}
-use Rattle.ga_causal.specs.Dependence.{event_at}
+use Rattle.ga_causal.specs.Dependence.{cause_touches, event_at}
 use Rattle.ga_drawing.specs.declared.shade.Shade.{Shade}
 use Rattle.ga_drawing.specs.declared.placing.Shape.{Shape}
 use Rattle.ga_drawing.specs.Drawing.{IsLineOf, IsMark, IsArrow, IsShape, shade_of}
@@ -14,7 +13,7 @@ use Rattle.ga_drawing.proofs.Lined.{none_at, get_pushed}
 
 -- each node of the event has its line noted
 abbrev pub HasColumns : Cause → List NodeId → List ℕ → Type 0
-HasColumns e lines columns = (n : ℕ) → touches e n ≡ true → IsLineOf lines (slice_index columns n) n
+HasColumns e lines columns = (n : ℕ) → cause_touches e n ≡ true → IsLineOf lines (slice_index columns n) n
 
 pub mark_drawn : (e : Cause) (lines : List NodeId) (columns : List ℕ) (node : NodeId) (k : ℕ) → e.event ≡ Own node → k ≡ node.number → HasColumns e lines columns → IsMark e lines (slice_index columns k)
 mark_drawn e lines columns node k is at h =

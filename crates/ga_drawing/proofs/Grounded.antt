@@ -5,8 +5,7 @@ use Rattle.std.proofs.lemmas.List.{length-replicate}
 use Rattle.std.proofs.lemmas.Bool.{or_left, or_right, or_cases, both_ways, cases_eq}
 use Rattle.ga_event.specs.declared.event.Cause.{Cause}
 use Rattle.ga_event.specs.Touches.{seen_by}
-use Rattle.ga_causal.specs.Causes.{nodes_of, touches}
-use Rattle.ga_causal.specs.Dependence.{event_at, IsDirect, DependsOn, itself, through}
+use Rattle.ga_causal.specs.Dependence.{cause_nodes, cause_touches, event_at, IsDirect, DependsOn, itself, through}
 use Rattle.ga_causal.specs.Equivalence.{sees}
 use Rattle.ga_causal.proofs.Exact.{rule_meets, meets_rule}
 use Rattle.ga_drawing.proofs.Flags.{none_marked, any_of_one, any_at}
@@ -48,27 +47,27 @@ pub record AreGrounds (es : List Cause) (last at : ℕ) (flags : List Bool) (mar
   pub back : (n : ℕ) → IsWanted es last at n → marks n ≡ true
 
 -- an event that touches a wanted node
-direct_to : (es : List Cause) (last at n : ℕ) → last < length es → IsWanted es last (at + 1) n → touches (event_at es at) n ≡ true → DependsOn es at last
+direct_to : (es : List Cause) (last at n : ℕ) → last < length es → IsWanted es last (at + 1) n → cause_touches (event_at es at) n ≡ true → DependsOn es at last
 unfolding seen_by
 direct_to es last at n within w t = joined es at w.middle last
     (record {
       before = omega (arith, w.behind);
       within = omega (arith, ordered es w.middle last w.depends);
-      by_rule = meets_rule (event_at es at) (event_at es w.middle) (any_of_one (touches (event_at es at)) n t (seen_by (event_at es w.middle)) w.seen);
+      by_rule = meets_rule (event_at es at) (event_at es w.middle) (any_of_one (cause_touches (event_at es at)) n t (seen_by (event_at es w.middle)) w.seen);
     })
     w.depends
 
-pub met_depends : (es : List Cause) (last at : ℕ) (flags : List Bool) (marks : ℕ → Bool) → last < length es → AreGrounds es last (at + 1) flags marks → list_any marks (nodes_of (event_at es at)) ≡ true → DependsOn es at last
+pub met_depends : (es : List Cause) (last at : ℕ) (flags : List Bool) (marks : ℕ → Bool) → last < length es → AreGrounds es last (at + 1) flags marks → list_any marks (cause_nodes (event_at es at)) ≡ true → DependsOn es at last
 met_depends es last at flags marks within g t =
-    let r = any_at marks (nodes_of (event_at es at)) t in
+    let r = any_at marks (cause_nodes (event_at es at)) t in
     direct_to es last at r.0 within (g.into r.0 r.2) r.1
 
-pub depends_met : (es : List Cause) (last at : ℕ) (flags : List Bool) (marks : ℕ → Bool) → at < last → AreGrounds es last (at + 1) flags marks → DependsOn es at last → list_any marks (nodes_of (event_at es at)) ≡ true
+pub depends_met : (es : List Cause) (last at : ℕ) (flags : List Bool) (marks : ℕ → Bool) → at < last → AreGrounds es last (at + 1) flags marks → DependsOn es at last → list_any marks (cause_nodes (event_at es at)) ≡ true
 unfolding seen_by
 depends_met es last at flags marks under g d = ⊎_elim
     (λ e. absurd (omega (arith, e)))
-    (λ f. let r = any_at (touches (event_at es at)) (seen_by (event_at es f.middle)) (rule_meets (event_at es at) (event_at es f.middle) f.direct.by_rule) in
-    any_of_one marks r.0 (g.back r.0 (record { middle = f.middle; behind = omega (arith, f.direct.before); depends = f.more; seen = r.1 })) (nodes_of (event_at es at)) r.2)
+    (λ f. let r = any_at (cause_touches (event_at es at)) (seen_by (event_at es f.middle)) (rule_meets (event_at es at) (event_at es f.middle) f.direct.by_rule) in
+    any_of_one marks r.0 (g.back r.0 (record { middle = f.middle; behind = omega (arith, f.direct.before); depends = f.more; seen = r.1 })) (cause_nodes (event_at es at)) r.2)
     (first_link es at last d)
 
 -- the last one is a ground of itself
@@ -92,7 +91,7 @@ grounds_first es last marks l m =
     }
 
 -- one event more, which touches a wanted node
-pub grounds_met : (es : List Cause) (last at : ℕ) (flags : List Bool) (marks more : ℕ → Bool) → last < length es → at < last → AreGrounds es last (at + 1) flags marks → list_any marks (nodes_of (event_at es at)) ≡ true → ((n : ℕ) → more n ≡ (marks n || sees (event_at es at) n)) → AreGrounds es last at (set flags at true) more
+pub grounds_met : (es : List Cause) (last at : ℕ) (flags : List Bool) (marks more : ℕ → Bool) → last < length es → at < last → AreGrounds es last (at + 1) flags marks → list_any marks (cause_nodes (event_at es at)) ≡ true → ((n : ℕ) → more n ≡ (marks n || sees (event_at es at) n)) → AreGrounds es last at (set flags at true) more
 grounds_met es last at flags marks more l u g t m =
     let here : DependsOn es at last = met_depends es last at flags marks l g t in
     let size : length flags ≡ length es = g.size in
@@ -115,9 +114,9 @@ grounds_met es last at flags marks more l u g t m =
     }
 
 -- one event more, which touches none
-pub grounds_not : (es : List Cause) (last at : ℕ) (flags : List Bool) (marks : ℕ → Bool) → last < length es → at < last → AreGrounds es last (at + 1) flags marks → list_any marks (nodes_of (event_at es at)) ≡ false → AreGrounds es last at flags marks
+pub grounds_not : (es : List Cause) (last at : ℕ) (flags : List Bool) (marks : ℕ → Bool) → last < length es → at < last → AreGrounds es last (at + 1) flags marks → list_any marks (cause_nodes (event_at es at)) ≡ false → AreGrounds es last at flags marks
 grounds_not es last at flags marks l u g f =
-    let free : ¬ DependsOn es at last = λ d. both_ways (list_any marks (nodes_of (event_at es at))) f (depends_met es last at flags marks u g d) in
+    let free : ¬ DependsOn es at last = λ d. both_ways (list_any marks (cause_nodes (event_at es at))) f (depends_met es last at flags marks u g d) in
     record {
       size = g.size;
       done = λ j b k. elim (cases_eq j at) [

@@ -5,7 +5,7 @@ use Rattle.std.proofs.lemmas.List.{length-replicate}
 use Rattle.std.proofs.lemmas.Bool.{both_ways, cases_eq}
 use Rattle.std.proofs.lemmas.Grind.{get_or-set_at}
 use Rattle.ga_grid.specs.declared.node_id.NodeId.{NodeId}
-use Rattle.ga_drawing.specs.Lines.{AreLines}
+use Rattle.ga_drawing.specs.kept.Lines.{AreLines}
 
 -- nothing stands in an empty list
 pub none_at : {A : Type 0} (i : ℕ) (x : A) → slice_get [] i ≡ Some x → ⊥

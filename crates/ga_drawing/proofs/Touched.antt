@@ -9,18 +9,17 @@ use Rattle.ga_event.specs.declared.event.Event.{Event}
 use Rattle.ga_event.specs.declared.event.Event.TheVariants.{Own, Pass}
 use Rattle.ga_event.specs.declared.event.Cause.{Cause}
 use Rattle.ga_event.specs.Touches.{nodes_of}
-use Rattle.ga_causal.specs.Causes.{touches}
-use Rattle.ga_causal.specs.Dependence.{no_cause, event_at}
+use Rattle.ga_causal.specs.Dependence.{cause_touches, no_cause, event_at}
 use Rattle.ga_drawing.specs.Drawing.{IsTouched}
 
-pub own_touches : (e : Cause) (node : NodeId) → e.event ≡ Own node → touches e node.number ≡ true
+pub own_touches : (e : Cause) (node : NodeId) → e.event ≡ Own node → cause_touches e node.number ≡ true
 own_touches e node is = subst (λ z. list_any (λ m. m == node.number) (nodes_of z) ≡ true) (sym is) (or_left (node.number == node.number) false (eq-eqb node.number node.number refl))
 
-pub writer_touches : (e : Cause) (w r : NodeId) (side : Side) → e.event ≡ Pass w r side → touches e w.number ≡ true
+pub writer_touches : (e : Cause) (w r : NodeId) (side : Side) → e.event ≡ Pass w r side → cause_touches e w.number ≡ true
 writer_touches e w r side is =
     subst (λ z. list_any (λ m. m == w.number) (nodes_of z) ≡ true) (sym is) (or_left (w.number == w.number) ((r.number == w.number) || false) (eq-eqb w.number w.number refl))
 
-pub reader_touches : (e : Cause) (w r : NodeId) (side : Side) → e.event ≡ Pass w r side → touches e r.number ≡ true
+pub reader_touches : (e : Cause) (w r : NodeId) (side : Side) → e.event ≡ Pass w r side → cause_touches e r.number ≡ true
 reader_touches e w r side is =
     subst (λ z. list_any (λ m. m == r.number) (nodes_of z) ≡ true) (sym is)
     (or_right (w.number == r.number) ((r.number == r.number) || false) (or_left (r.number == r.number) false (eq-eqb r.number r.number refl)))
@@ -28,7 +27,7 @@ reader_touches e w r side is =
 -- what holds of the flags once the events up to a place are looked at
 pub record AreUsed (es : List Cause) (from place : ℕ) (marks : ℕ → Bool) : Type 0 where
   pub needed : (n : ℕ) → marks n ≡ true → IsTouched es from place n
-  pub all : (n at : ℕ) → from ≤ at → at < place → touches (event_at es at) n ≡ true → marks n ≡ true
+  pub all : (n at : ℕ) → from ≤ at → at < place → cause_touches (event_at es at) n ≡ true → marks n ≡ true
 
 pub used_none : (es : List Cause) (from : ℕ) (marks : ℕ → Bool) → ((n : ℕ) → marks n ≡ false) → AreUsed es from from marks
 used_none es from marks f = record {
@@ -36,17 +35,17 @@ used_none es from marks f = record {
   all = λ n at b l t. absurd (omega (arith, b, l));
 }
 
-pub used_more : (es : List Cause) (from place : ℕ) (marks more : ℕ → Bool) (e : Cause) → from ≤ place → place < length es → AreUsed es from place marks → e ≡ get_or es place e → ((n : ℕ) → more n ≡ (marks n || touches e n)) → AreUsed es from (place + 1) more
+pub used_more : (es : List Cause) (from place : ℕ) (marks more : ℕ → Bool) (e : Cause) → from ≤ place → place < length es → AreUsed es from place marks → e ≡ get_or es place e → ((n : ℕ) → more n ≡ (marks n || cause_touches e n)) → AreUsed es from (place + 1) more
 used_more es from place marks more e o l u is m =
     let here : event_at es place ≡ e = get_or_default es place no_cause e l ∙ sym is in
     record {
       needed = λ n t. ⊎_elim
           (λ s. let w = u.needed n s in record { place = w.place; behind = w.behind; before = omega (arith, w.before); touched = w.touched })
-          (λ s. record { place = place; behind = o; before = omega arith; touched = subst (λ z. touches z n ≡ true) (sym here) s })
-          (or_cases (marks n) (touches e n) (sym (m n) ∙ t));
+          (λ s. record { place = place; behind = o; before = omega arith; touched = subst (λ z. cause_touches z n ≡ true) (sym here) s })
+          (or_cases (marks n) (cause_touches e n) (sym (m n) ∙ t));
       all = λ n at b k t. m n ∙ elim (cases_eq at place) [
-        | inl q ↦ or_right (marks n) (touches e n) (subst (λ z. touches z n ≡ true) (ap (event_at es) q ∙ here) t)
-        | inr ne ↦ or_left (marks n) (touches e n) (u.all n at b (omega (arith, k, ne)) t)
+        | inl q ↦ or_right (marks n) (cause_touches e n) (subst (λ z. cause_touches z n ≡ true) (ap (event_at es) q ∙ here) t)
+        | inr ne ↦ or_left (marks n) (cause_touches e n) (u.all n at b (omega (arith, k, ne)) t)
       ];
     }
 

@@ -4,8 +4,7 @@ use Rattle.ga_event.specs.declared.event.Cause.{Cause}
 use Rattle.ga_event.specs.declared.event.Event.TheVariants.{Own, Pass}
 use Rattle.ga_grid.specs.declared.node_id.NodeId.{NodeId}
 use Rattle.ga_ports.specs.declared.side.Side.{Side}
-use Rattle.ga_causal.specs.Causes.{touches}
-use Rattle.ga_causal.specs.Dependence.{event_at, DependsOn}
+use Rattle.ga_causal.specs.Dependence.{cause_touches, event_at, DependsOn}
 use Rattle.ga_drawing.specs.declared.shade.Shade.{Shade}
 use Rattle.ga_drawing.specs.declared.shade.Shade.TheVariants.{Black, Grey, Red}
 use Rattle.ga_drawing.specs.declared.placing.Shape.{Shape}
@@ -68,7 +67,7 @@ pub record IsTouched (events : List Cause) (from to node : ℕ) : Type 0 where
   pub place : ℕ
   pub behind : from ≤ place
   pub before : place < to
-  pub touched : touches (event_at events place) node ≡ true
+  pub touched : cause_touches (event_at events place) node ≡ true
 
 -- The picture of the events from one place on and up to another: one shape for each, in their order, each on the lines of its
 -- nodes; and lines for the nodes that these events touch and for no others, by their numbers.

@@ -1,2 +1,2 @@
 pub mod Drawing
-pub mod Lines
+pub mod kept

@@ -2,7 +2,7 @@
 
 ghost use Rattle.std.specs.Prelude.{◌≡◌, replicate, IfOk};
 ghost use Rattle.ga_causal.specs.Dependence.{is_marked};
-ghost use Rattle.ga_drawing.specs.Lines.{AreLines};
+ghost use Rattle.ga_drawing.specs.kept.Lines.{AreLines};
 
 use crate::used::Used;
 use ga_causal::Memory;

@@ -3,7 +3,7 @@
 ghost use Rattle.std.specs.Prelude.{◌≡◌, ◌≤◌, ℕ, true, List, length, slice_index, IfOk};
 ghost use Rattle.ga_grid.specs.declared.node_id.NodeId.{NodeId};
 ghost use Rattle.ga_drawing.specs.Drawing.{IsDrawing, IsShape, IsLineOf, shade_of};
-ghost use Rattle.ga_causal.specs.Causes.{touches};
+ghost use Rattle.ga_causal.specs.Dependence.{cause_touches};
 
 use crate::lines::{Lines, lines_of};
 use crate::shade::Shade;
@@ -58,7 +58,7 @@ pub fn layout(
 /// What is drawn of an event.
 fn shape_of(event: &Cause, shade: Shade, columns: &[u8; 144]) -> Shape
     ensures drawn { (lines : List NodeId) →
-        ((n : ℕ) → touches event.now n ≡ true → IsLineOf lines (slice_index columns.now n) n) → IsShape event.now lines result }
+        ((n : ℕ) → cause_touches event.now n ≡ true → IsLineOf lines (slice_index columns.now n) n) → IsShape event.now lines result }
     ensures shaded { shade_of result ≡ shade }
 {
     match event.event {

@@ -1,8 +1,7 @@
 //! The nodes that some events touch.
 
 ghost use Rattle.std.specs.Prelude.{◌≡◌, ◌≤◌, ◌<◌, ℕ, true, false, ◌||◌, length};
-ghost use Rattle.ga_causal.specs.Causes.{touches};
-ghost use Rattle.ga_causal.specs.Dependence.{is_marked, event_at};
+ghost use Rattle.ga_causal.specs.Dependence.{cause_touches, is_marked, event_at};
 ghost use Rattle.ga_drawing.specs.Drawing.{IsTouched};
 
 use ga_causal::Cause;
@@ -32,7 +31,7 @@ impl Used {
         requires order { from ≤ to }
         requires within { to ≤ length events.now }
         ensures needed { (n : ℕ) → is_marked result n ≡ true → IsTouched events.now from to n }
-        ensures all { (n place : ℕ) → from ≤ place → place < to → touches (event_at events.now place) n ≡ true →
+        ensures all { (n place : ℕ) → from ≤ place → place < to → cause_touches (event_at events.now place) n ≡ true →
             is_marked result n ≡ true }
     {
         let mut used = Used::none();
@@ -60,7 +59,7 @@ impl Used {
 
     // Adds the nodes of an event.
     fn add(&mut self, event: &Cause)
-        ensures { (n : ℕ) → is_marked self.new n ≡ (is_marked self.old n || touches event.now n) }
+        ensures { (n : ℕ) → is_marked self.new n ≡ (is_marked self.old n || cause_touches event.now n) }
     {
         match event.event {
             Event::Own(node) => self.flags[node.index()] = true,

@@ -4,8 +4,8 @@ ghost use Rattle.std.specs.Prelude.{◌≡◌, ℕ, false, ◌||◌, ◌==◌};
 ghost use Rattle.std.specs.List.{list_any};
 ghost use Rattle.ga_grid.specs.Grid.{neighbour_of};
 ghost use Rattle.ga_event.specs.Touches.{neighbours};
-ghost use Rattle.ga_causal.specs.Causes.{nodes_of, any_of};
-ghost use Rattle.ga_causal.specs.Dependence.{is_marked};
+ghost use Rattle.ga_causal.specs.Dependence.{cause_nodes, is_marked};
+ghost use Rattle.ga_causal.specs.kept.Firsts.{any_of};
 ghost use Rattle.ga_causal.specs.Equivalence.{sees};
 
 use ga_causal::Cause;
@@ -42,7 +42,7 @@ impl Wanted {
 
     /// Whether the event touches a node that is seen.
     pub(crate) fn met_by(&self, event: &Cause) -> bool
-        ensures { result ≡ list_any (is_marked self.now) (nodes_of event.now) }
+        ensures { result ≡ list_any (is_marked self.now) (cause_nodes event.now) }
     {
         match event.event {
             Event::Own(node) => self.flags[node.index()],

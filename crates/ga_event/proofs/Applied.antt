@@ -1,8 +1,8 @@
 -- What an event does to a chip, from what it does to its nodes.
 use Rattle.std.proofs.Common.{◌≡◌, ◌≢◌, ℕ, ◌<◌, Bool, true, false, List, length, set, Option, Some, None, refl, sym, ◌∙◌, ap, subst}
 use Rattle.std.proofs.lemmas.List.{set-set, set-get_or, get_or-set_same, get_or-set_other, length-set}
-use Rattle.ga_node.specs.State.{NodeState, restored, AreFit, IsApart}
-use Rattle.ga_node.specs.Record.{NodeRecord, record_of}
+use Rattle.ga_node.specs.Record.{NodeState, NodeRecord, record_of}
+use Rattle.ga_node.specs.State.{restored, AreFit, IsApart}
 use Rattle.ga_node.specs.Table.{t, own, looks, looks_by, due_of, refusal, sent, taken}
 use Rattle.ga_node.specs.declared.due.Due.{Due}
 use Rattle.ga_node.specs.declared.seen.Seen.{Seen}

@@ -3,3 +3,4 @@ pub mod Apply
 pub mod Agree
 pub mod Next
 pub mod Undo
+pub mod Told

@@ -1,7 +1,8 @@
 -- An event taken back: the old values of the touched nodes are written back (after Danos and Krivine, "Reversible Communicating
 -- Systems", 2004).
 use Rattle.std.specs.Prelude.{◌≡◌, ◌≢◌, ℕ, Bool, true, false, if◌then◌else◌, List, length, Some}
-use Rattle.ga_node.specs.State.{NodeState, restored, AreFit, IsApart}
+use Rattle.ga_node.specs.Record.{NodeState}
+use Rattle.ga_node.specs.State.{restored, AreFit, IsApart}
 use Rattle.ga_node.specs.declared.place.Place.{Place}
 use Rattle.ga_grid.specs.Chip.{node_at, with_node, records_of}
 use Rattle.ga_event.specs.declared.event.Event.{Event}

@@ -1,8 +1,7 @@
 //! Laws of the definitions, each the contract of a function that does nothing.
 
 ghost use Rattle.std.specs.Prelude.{◌≡◌, ℕ, Bool, false, if◌then◌else◌, List, IfSome, None, Ok};
-ghost use Rattle.ga_node.specs.State.{NodeState};
-ghost use Rattle.ga_node.specs.Record.{NodeRecord};
+ghost use Rattle.ga_node.specs.Record.{NodeState, NodeRecord};
 ghost use Rattle.ga_grid.specs.declared.node_id.NodeId.{NodeId};
 ghost use Rattle.ga_grid.specs.Chip.{node_at, records_of};
 ghost use Rattle.ga_event.specs.declared.event.Event.{Event};

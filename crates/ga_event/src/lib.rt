@@ -5,9 +5,11 @@ mod back;
 mod event;
 mod forward;
 pub mod laws;
+mod made;
 mod next;
 
 pub use back::{restore, unapply};
 pub use event::{Cause, Deed, Effect, Event, cause_with, touches};
 pub use forward::{apply, apply_own, apply_pass, cause_of, seen_from};
+pub use made::Made;
 pub use next::next_event;

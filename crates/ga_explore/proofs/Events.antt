@@ -3,7 +3,7 @@ use Rattle.std.proofs.Common.{◌≡◌, ℕ, ◌+◌, ◌<◌, Bool, true, fals
 use Rattle.std.specs.Prelude.{is_some, IsSome}
 use Rattle.std.specs.Result.{result_ok}
 use Rattle.std.proofs.lemmas.Bool.{cases_lt}
-use Rattle.ga_journal.specs.declared.made.Made.{Made}
+use Rattle.ga_event.specs.declared.made.Made.{Made}
 use Rattle.ga_lab.specs.Machine.{State, step_answer, stepped}
 use Rattle.ga_explore.specs.declared.condition.Condition.{Condition}
 use Rattle.ga_explore.specs.declared.running.End.{End}

@@ -8,8 +8,7 @@ use Rattle.ga_ports.specs.declared.side.Side.TheVariants.{Right, Down, Left, Up}
 use Rattle.ga_node.specs.Record.{NodeRecord}
 use Rattle.ga_node.specs.Table.{refusal}
 use Rattle.ga_grid.specs.declared.node_id.NodeId.{NodeId}
-use Rattle.ga_grid.specs.NodeId.{node_id}
-use Rattle.ga_grid.specs.Grid.{neighbour_of}
+use Rattle.ga_grid.specs.Grid.{node_id, neighbour_of}
 use Rattle.ga_grid.specs.Chip.{record_at}
 use Rattle.ga_grid.proofs.NodeIds.{node_id-number}
 use Rattle.ga_event.specs.declared.event.Event.{Event}
@@ -17,11 +16,12 @@ use Rattle.ga_event.specs.declared.event.Event.TheVariants as event
 use Rattle.ga_event.specs.Touches.{touches}
 use Rattle.ga_event.specs.Agree.{Agree}
 use Rattle.ga_event.specs.Next.{next}
-use Rattle.ga_journal.specs.declared.made.Made.{Made}
-use Rattle.ga_journal.specs.declared.made.Made.TheVariants as made
+use Rattle.ga_event.specs.declared.made.Made.{Made}
+use Rattle.ga_event.specs.declared.made.Made.TheVariants as made
 use Rattle.ga_explore.specs.declared.numbers.Numbers.{Numbers}
-use Rattle.ga_explore.specs.Numbers.{has}
-use Rattle.ga_explore.specs.Ready.{can_go, IsRight, HoldsReady, StaysRight, IsRightAround, IsRefreshed}
+use Rattle.ga_explore.specs.kept.Numbers.{has}
+use Rattle.ga_explore.specs.Ready.{can_go}
+use Rattle.ga_explore.specs.kept.Ready.{IsRight, HoldsReady, StaysRight, IsRightAround, IsRefreshed}
 use Rattle.ga_explore.proofs.Nexts.{near_or_same, runs_on}
 
 pub can_go_is : (chip : List NodeRecord) (node : NodeId) → can_go chip node.number ≡ is_ok (next chip node)

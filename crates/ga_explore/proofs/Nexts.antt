@@ -13,8 +13,7 @@ use Rattle.ga_node.specs.declared.kind.NotReady.TheVariants.{Stopped}
 use Rattle.ga_node.specs.declared.wait.Wait.{Wait}
 use Rattle.ga_node.specs.declared.wait.Wait.TheVariants.{Nothing, Fetch, Read, Write}
 use Rattle.ga_grid.specs.declared.node_id.NodeId.{NodeId}
-use Rattle.ga_grid.specs.NodeId.{node_id}
-use Rattle.ga_grid.specs.Grid.{neighbour_of}
+use Rattle.ga_grid.specs.Grid.{node_id, neighbour_of}
 use Rattle.ga_grid.specs.Chip.{record_at}
 use Rattle.ga_grid.proofs.Links.{neighbour_of-back}
 use Rattle.ga_event.specs.declared.event.Event.{Event}

@@ -5,7 +5,7 @@ use Rattle.std.proofs.lemmas.Bool.{cases_lt}
 use Rattle.std.proofs.Math.Nat.{mod-eq_of_lt}
 use Rattle.ga_grid.proofs.NodeIds.{NodeId-same}
 use Rattle.ga_grid.specs.declared.node_id.NodeId.{NodeId}
-use Rattle.ga_grid.specs.NodeId.{node_id}
+use Rattle.ga_grid.specs.Grid.{node_id}
 use Rattle.ga_explore.specs.Ready.{first_in}
 
 below : (n : ℕ) → n % 144 < 144

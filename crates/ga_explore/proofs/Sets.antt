@@ -3,7 +3,7 @@ use Rattle.std.proofs.Common.{◌≡◌, ◌≢◌, ℕ, ◌+◌, ◌*◌, ◌/�
 use Rattle.std.specs.Int.{bit_at}
 use Rattle.std.proofs.lemmas.Bool.{cases_eq, cases_lt, cases_Bool}
 use Rattle.ga_explore.specs.declared.numbers.Numbers.{Numbers}
-use Rattle.ga_explore.specs.Numbers.{has}
+use Rattle.ga_explore.specs.kept.Numbers.{has}
 
 abbrev bit_in : List ℕ → ℕ → Bool
 bit_in words n = bit_at (get_or words (n / 64) 0) (n % 64) == 1

@@ -15,14 +15,15 @@ use Rattle.ga_event.specs.Next.{next}
 use Rattle.ga_event.proofs.Locality.{apply_keeps}
 use Rattle.ga_event.proofs.Nexts.{next_can}
 use Rattle.ga_rollback.proofs.Replays.{run_snoc}
-use Rattle.ga_journal.specs.declared.made.Made.{Made}
+use Rattle.ga_event.specs.declared.made.Made.{Made}
 use Rattle.ga_lab.specs.declared.fault.LabFault.{LabFault}
 use Rattle.ga_lab.specs.declared.fault.LabFault.TheVariants.{Full, Memory, Spent}
 use Rattle.ga_lab.specs.Machine.{State, chip_of, told_next, answer_to, step_answer, with_event, unless_refused, stepped}
 use Rattle.ga_lab.proofs.Called.{Runs, runs_of, chip_is}
 use Rattle.ga_explore.specs.declared.numbers.Numbers.{Numbers}
-use Rattle.ga_explore.specs.Numbers.{has}
-use Rattle.ga_explore.specs.Ready.{can_go, first_in, HoldsReady, StaysRight, IsRefreshed}
+use Rattle.ga_explore.specs.kept.Numbers.{has}
+use Rattle.ga_explore.specs.Ready.{can_go, first_in}
+use Rattle.ga_explore.specs.kept.Ready.{HoldsReady, StaysRight, IsRefreshed}
 use Rattle.ga_explore.specs.Running.{IsQuiet, IsRefusedFor}
 use Rattle.ga_explore.proofs.Looking.{IsOf, refreshed, none_past}
 use Rattle.ga_explore.proofs.Rounds.{first_same, none_of}

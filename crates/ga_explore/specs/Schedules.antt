@@ -3,7 +3,7 @@
 use Rattle.std.specs.Prelude.{ℕ, ◌+◌}
 use Rattle.rand_xoshiro.specs.SplitMix64.{mix_u64}
 use Rattle.ga_grid.specs.declared.node_id.NodeId.{NodeId}
-use Rattle.ga_grid.specs.NodeId.{node_id}
+use Rattle.ga_grid.specs.Grid.{node_id}
 use Rattle.ga_explore.specs.declared.schedule.Order.{Order}
 use Rattle.ga_explore.specs.declared.schedule.Order.TheVariants.{Rounds, Greedy, Random}
 use Rattle.ga_explore.specs.declared.schedule.Schedule.{Schedule}

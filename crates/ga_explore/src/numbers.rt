@@ -40,7 +40,7 @@ fn with_bit(word: u64, place: u32, is_one: bool) -> u64
 
 impl Numbers {
     ghost use Rattle.std.specs.Prelude.{◌≡◌, ◌≢◌, ◌<◌, ◌≤◌, ℕ, true, false, IfSome, IfNone};
-    ghost use Rattle.ga_explore.specs.Numbers.{has};
+    ghost use Rattle.ga_explore.specs.kept.Numbers.{has};
 
     /// The set of nothing.
     pub fn none() -> Self

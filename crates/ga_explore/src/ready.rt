@@ -3,8 +3,9 @@
 ghost use Rattle.std.specs.Prelude.{◌≡◌, ◌<◌, ◌≤◌, ℕ, true, false, Some, IfSome, IfNone};
 ghost use Rattle.ga_grid.specs.Chip.{records_of};
 ghost use Rattle.ga_grid.specs.Grid.{neighbour_of};
-ghost use Rattle.ga_explore.specs.Numbers.{has};
-ghost use Rattle.ga_explore.specs.Ready.{first_in, IsRight, HoldsReady, StaysRight, IsRightAround, IsRefreshed};
+ghost use Rattle.ga_explore.specs.kept.Numbers.{has};
+ghost use Rattle.ga_explore.specs.Ready.{first_in};
+ghost use Rattle.ga_explore.specs.kept.Ready.{IsRight, HoldsReady, StaysRight, IsRightAround, IsRefreshed};
 
 use crate::numbers::Numbers;
 use ga_event::next_event;

@@ -3,7 +3,7 @@
 ghost use Rattle.std.specs.Prelude.{◌≡◌, ◌≤◌, Ok, IfOk, IfErr, IsSome, OnOk, OnErr, Some};
 ghost use Rattle.ga_event.specs.Apply.{replay};
 ghost use Rattle.ga_lab.specs.Machine.{chip_of, step_answer, stepped};
-ghost use Rattle.ga_explore.specs.Ready.{HoldsReady};
+ghost use Rattle.ga_explore.specs.kept.Ready.{HoldsReady};
 ghost use Rattle.ga_explore.specs.Schedules.{passed_on};
 ghost use Rattle.ga_explore.specs.Running.{running, told, moved, after, AreMade, IsRefusedFor, IsHalted, HasEnded};
 

@@ -2,7 +2,7 @@
 
 ghost use Rattle.std.specs.Prelude.{◌≡◌};
 ghost use Rattle.rand_xoshiro.specs.SplitMix64.{mix_u64};
-ghost use Rattle.ga_grid.specs.NodeId.{node_id};
+ghost use Rattle.ga_grid.specs.Grid.{node_id};
 
 use ga_grid::{NODES, NodeId};
 use rand_core::SeedableRng;

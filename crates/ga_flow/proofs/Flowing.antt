@@ -10,7 +10,7 @@ use Rattle.ga_ports.specs.declared.address.Target.{Target}
 use Rattle.ga_ports.specs.declared.address.Target.TheVariants.{Ram, Rom, Io, Ports, Bad}
 use Rattle.ga_node.specs.Record.{NodeRecord, HasSizes}
 use Rattle.ga_node.specs.Io.{io_word}
-use Rattle.ga_node.specs.Changes.{Change, after}
+use Rattle.ga_node.specs.Changes.{Change, after_changes}
 use Rattle.ga_node.specs.Changes as change
 use Rattle.ga_node.specs.Table.{t, r, posts, halts, found, stored, followed, named, effect, is_extended, due_of, done_by, own_event, own, sent, taken, taking}
 use Rattle.ga_flow.specs.Flow.{Flow, Same, From, Move, top, second, top_return, part_of, IsPart, moved_all, from, read_moves, write_moves, moves, moves_by, take_moves, own_flow, send_flow, take_flow, Choice, Plain, Test, At, choice, AreAlike, Comes}
@@ -197,10 +197,10 @@ module _ (word : ℕ) (n : NodeRecord) (other : ℕ) (m : NodeRecord) where
   pub taken_flows : HasSizes n → HasSizes m → n.wait ≡ m.wait → (part : Part) → IsPart part → Comes word n other m (take_flow n.wait part) (part_of word (taken word n) part) (part_of other (taken other m) part)
   unfolding taken take_flow
   taken_flows left right same part is =
-      subst (λ w. Comes word n other m (moved_all (take_moves n.wait) Same part) (part_of word (after (taking n.wait word) n) part) (part_of other (after (taking w other) m) part)) same
+      subst (λ w. Comes word n other m (moved_all (take_moves n.wait) Same part) (part_of word (after_changes (taking n.wait word) n) part) (part_of other (after_changes (taking w other) m) part)) same
       (comes_after word n other m (take_row n.wait) left right part is)
 
   pub taken_sizes : HasSizes n → HasSizes m → n.wait ≡ m.wait → HasSizes (taken word n) × HasSizes (taken other m)
   unfolding taken
   taken_sizes left right same =
-      subst (λ w. HasSizes (after (taking n.wait word) n) × HasSizes (after (taking w other) m)) same (sizes_after word n other m (take_row n.wait) left right)
+      subst (λ w. HasSizes (after_changes (taking n.wait word) n) × HasSizes (after_changes (taking w other) m)) same (sizes_after word n other m (take_row n.wait) left right)

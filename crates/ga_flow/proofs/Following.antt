@@ -14,7 +14,7 @@ use Rattle.ga_node.specs.declared.wait.Wait.TheVariants as wait
 use Rattle.ga_flow.specs.declared.part.Part.{Part}
 use Rattle.ga_flow.specs.declared.part.Part.TheVariants.{Data, Return, Ram, Rom, A, B, P, I, Io, Carry, Slot, Wait as WaitPart, Stop, Outside}
 use Rattle.ga_flow.specs.Flow.{Flow, Same, From, Flows, Move, PushData, PopData, SetTop, PopTo, PushReturn, PopReturn, SetTopReturn, SetP, SetA, SetB, SetI, SetIo, SetCarry, SetRam, GoOn, Skip, StartAgain, SetWait, SetStop, is_same, with_flow, pushed_data, popped_data, pushed_return, popped_return, by, moved, moved_all, top, top_return, read_moves, write_moves, moves, moves_by, send_moves, take_moves, own_flow, send_flow, take_flow}
-use Rattle.ga_flow.specs.Following.{Trace, At, Found, set_at, push_data, pop_data, push_return, pop_return, before, before_all, settled, read_before, write_before}
+use Rattle.ga_flow.specs.kept.Following.{Trace, At, Found, set_at, push_data, pop_data, push_return, pop_return, before, before_all, settled, read_before, write_before}
 
 -- the flow of what stands there
 abbrev resolved : Flows → Trace → Flow

@@ -7,7 +7,7 @@ use Rattle.ga_word.specs.Word.{carry_value}
 use Rattle.ga_stacks.specs.Ring.{popped, pushed as pushed_list, topped as topped_list}
 use Rattle.ga_node.specs.Record.{NodeRecord, HasSizes}
 use Rattle.ga_node.specs.Waits.{wait_code}
-use Rattle.ga_node.specs.Changes.{Change, changed, after}
+use Rattle.ga_node.specs.Changes.{Change, changed, after_changes}
 use Rattle.ga_node.specs.Changes as change
 use Rattle.ga_flow.specs.Flow.{Flow, Same, From, Move, Flows, part_of, IsPart, by, moved, moved_all, Comes}
 use Rattle.ga_flow.specs.declared.part.Part.{Part}
@@ -144,7 +144,7 @@ module _ (word : ℕ) (n : NodeRecord) (other : ℕ) (m : NodeRecord) where
   step set_wait f x y (l, g, s) = (l, g, (s.0, λ agree. refl, s.2))
   step set_stop f x y (l, g, s) = (l, g, (s.0, s.1, λ agree. refl))
 
-  steps : {mvs : List Move} {cs es : List Change} → AreMoves mvs cs es → (f : Flows) (x y : NodeRecord) → Tracks f x y → Tracks (moved_all mvs f) (after cs x) (after es y)
+  steps : {mvs : List Move} {cs es : List Change} → AreMoves mvs cs es → (f : Flows) (x y : NodeRecord) → Tracks f x y → Tracks (moved_all mvs f) (after_changes cs x) (after_changes es y)
   steps none f x y tracks = tracks
   steps (then {mv = mv} {c = c} {e = e} one rest) f x y tracks = steps rest (moved mv f) (changed c x) (changed e y) (step one f x y tracks)
 
@@ -177,12 +177,12 @@ module _ (word : ℕ) (n : NodeRecord) (other : ℕ) (m : NodeRecord) where
   told f x y (l, g, s) Outside h = absurd h
 
   pub comes_after : {mvs : List Move} {cs es : List Change} → AreMoves mvs cs es → HasSizes n → HasSizes m → (part : Part) → IsPart part
-      → Comes word n other m (moved_all mvs Same part) (part_of word (after cs n) part) (part_of other (after es m) part)
-  comes_after {mvs = mvs} {cs = cs} {es = es} rows left right = told (moved_all mvs Same) (after cs n) (after es m) (steps rows Same n m (start left right))
+      → Comes word n other m (moved_all mvs Same part) (part_of word (after_changes cs n) part) (part_of other (after_changes es m) part)
+  comes_after {mvs = mvs} {cs = cs} {es = es} rows left right = told (moved_all mvs Same) (after_changes cs n) (after_changes es m) (steps rows Same n m (start left right))
 
-  pub sizes_after : {mvs : List Move} {cs es : List Change} → AreMoves mvs cs es → HasSizes n → HasSizes m → HasSizes (after cs n) × HasSizes (after es m)
+  pub sizes_after : {mvs : List Move} {cs es : List Change} → AreMoves mvs cs es → HasSizes n → HasSizes m → HasSizes (after_changes cs n) × HasSizes (after_changes es m)
   sizes_after {mvs = mvs} {cs = cs} {es = es} rows left right =
-      let all : Lists (moved_all mvs Same) (after cs n) (after es m) = (steps rows Same n m (start left right)).0 in (
+      let all : Lists (moved_all mvs Same) (after_changes cs n) (after_changes es m) = (steps rows Same n m (start left right)).0 in (
         record { d = all.0.left; r = all.1.left; ram = all.2.left; rom = all.3.left },
         record { d = all.0.right; r = all.1.right; ram = all.2.right; rom = all.3.right },
       )

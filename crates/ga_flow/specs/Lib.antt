@@ -1,3 +1,4 @@
 pub mod Flow
 pub mod Following
 pub mod Sources
+pub mod kept

@@ -16,7 +16,8 @@ impl Sought {
     ghost use Rattle.std.specs.Prelude.{◌≡◌, ◌∷◌, [], if◌then◌else◌};
     ghost use Rattle.ga_flow.specs.Flow.{From, GoOn, Skip, StartAgain, SetWait, SetStop, jump_moves, top_return};
     ghost use Rattle.ga_flow.specs.Flow as move;
-    ghost use Rattle.ga_flow.specs.Following.{flow_of, sought_of, set_at, push_data, pop_data, push_return, pop_return, before, before_all, settled, AreSources, IsSource, IsSought};
+    ghost use Rattle.ga_flow.specs.Following.{flow_of, AreSources, IsSource};
+    ghost use Rattle.ga_flow.specs.kept.Following.{sought_of, set_at, push_data, pop_data, push_return, pop_return, before, before_all, settled, IsSought};
 
     /// Before a part got a word that comes from there.
     pub(crate) fn set(self, at: Part, flow: Flow) -> Sought

@@ -3,10 +3,9 @@ use Rattle.std.proofs.Common.{◌≡◌, ◌≢◌, ℕ, ◌<◌, List, length, 
 use Rattle.std.proofs.lemmas.List.{get_or-set_same, get_or-set_other, length-set, map-set}
 use Rattle.std.proofs.Math.ListN.{get_or-map}
 use Rattle.std.proofs.lemmas.List.FromFn.{get_or-map-range_with_len, length-map-range_with_len}
-use Rattle.ga_node.specs.State.{NodeState, fresh_node}
-use Rattle.ga_node.specs.Record.{record_of}
-use Rattle.ga_grid.specs.Load.{load_p_of}
-use Rattle.ga_grid.specs.Chip.{nowhere, node_at, with_node, records_of, record_at, default_chip}
+use Rattle.ga_node.specs.Record.{NodeState, fresh_node, record_of}
+use Rattle.ga_grid.specs.Load.{load_p_of, default_chip}
+use Rattle.ga_grid.specs.Chip.{nowhere, node_at, with_node, records_of, record_at}
 
 -- the record of a node
 pub record_at-records_of : (chip : List NodeState) (n : ℕ) → record_at (records_of chip) n ≡ record_of (node_at chip n)

@@ -4,7 +4,7 @@ use Rattle.std.specs.Prelude.{option_map}
 use Rattle.std.proofs.Math.Bridge.{le_prop}
 use Rattle.std.proofs.Math.Nat.{mod-eq_of_lt}
 use Rattle.ga_grid.specs.declared.node_id.NodeId.{NodeId}
-use Rattle.ga_grid.specs.NodeId.{number_in, node_id}
+use Rattle.ga_grid.specs.Grid.{number_in, node_id}
 
 abbrev node : (n : ℕ) → n < 144 → NodeId
 node n l = record { number = n; in_range = l }

@@ -1,9 +1,6 @@
 -- The chip: 144 nodes, as they are kept and as records.
 use Rattle.std.specs.Prelude.{ℕ, List, map, slice_index_or, slice_set}
-use Rattle.std.specs.List.{range_with_len}
-use Rattle.ga_node.specs.State.{NodeState, fresh_node}
-use Rattle.ga_node.specs.Record.{NodeRecord, record_of}
-use Rattle.ga_grid.specs.Load.{load_p_of}
+use Rattle.ga_node.specs.Record.{NodeState, fresh_node, NodeRecord, record_of}
 
 -- the node that is read where there is none
 abbrev pub nowhere : NodeState
@@ -24,7 +21,3 @@ records_of chip = map record_of chip
 -- the record at a number
 abbrev pub record_at : List NodeRecord → ℕ → NodeRecord
 record_at chip n = slice_index_or chip n (record_of nowhere)
-
--- the chip at load (its values are this project's own choice)
-unfoldable pub default_chip : List NodeState
-default_chip = map (λ n. fresh_node (load_p_of n)) (range_with_len 0 144)

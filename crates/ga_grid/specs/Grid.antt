@@ -1,8 +1,11 @@
--- The grid of nodes and the links between neighbours (G144A12 Chip Reference, DB002): eight rows of eighteen columns, and a
+-- Nodes by number, the grid and the links between neighbours (G144A12 Chip Reference, DB002): eight rows of eighteen columns, and a
 -- node is number 18 * row + column. Both ends of a link have the same side.
 use Rattle.std.specs.Prelude.{ℕ, ◌+◌, ◌-◌, ◌*◌, ◌/◌, ◌%◌, ◌==◌, nat_lt, Bool, true, false, ◌&&◌, not, if◌then◌else◌, Option, Some, None, option_map}
 use Rattle.ga_ports.specs.declared.side.Side.{Side}
 use Rattle.ga_ports.specs.declared.side.Side.TheVariants.{Right, Down, Left, Up}
+use Rattle.std.proofs.Common.{lit<}
+use Rattle.std.proofs.Math.Nat.{mod-lt}
+use Rattle.ga_grid.specs.declared.node_id.NodeId.{NodeId}
 
 abbrev pub row_of : ℕ → ℕ
 row_of n = n / 18
@@ -22,14 +25,23 @@ abbrev pub is_even : ℕ → Bool
 is_even n = n % 2 == 0
 
 -- the next of so many places, or the one before
-abbrev pub stepped : ℕ → ℕ → Bool → Option ℕ
-stepped place size true = if nat_lt (place + 1) size then Some (place + 1) else None
-stepped place size false = if place == 0 then None else Some (place - 1)
+abbrev pub next_place : ℕ → ℕ → Bool → Option ℕ
+next_place place size true = if nat_lt (place + 1) size then Some (place + 1) else None
+next_place place size false = if place == 0 then None else Some (place - 1)
 
 -- right and left lead to another column of the row, down and up to another row of the column: right and down from an even one
 -- to the next and from an odd one to the one before, left and up the other way
 abbrev pub neighbour_of : ℕ → Side → Option ℕ
-neighbour_of n Right = option_map (λ column. 18 * row_of n + column) (stepped (column_of n) 18 (is_even (column_of n)))
-neighbour_of n Left = option_map (λ column. 18 * row_of n + column) (stepped (column_of n) 18 (not (is_even (column_of n))))
-neighbour_of n Down = option_map (λ row. 18 * row + column_of n) (stepped (row_of n) 8 (is_even (row_of n)))
-neighbour_of n Up = option_map (λ row. 18 * row + column_of n) (stepped (row_of n) 8 (not (is_even (row_of n))))
+neighbour_of n Right = option_map (λ column. 18 * row_of n + column) (next_place (column_of n) 18 (is_even (column_of n)))
+neighbour_of n Left = option_map (λ column. 18 * row_of n + column) (next_place (column_of n) 18 (not (is_even (column_of n))))
+neighbour_of n Down = option_map (λ row. 18 * row + column_of n) (next_place (row_of n) 8 (is_even (row_of n)))
+neighbour_of n Up = option_map (λ row. 18 * row + column_of n) (next_place (row_of n) 8 (not (is_even (row_of n))))
+
+-- the number of a node where there is one
+abbrev pub number_in : Option NodeId → Option ℕ
+number_in None = None
+number_in (Some node) = Some node.number
+
+-- the node of a number; from 144 on they begin again
+abbrev pub node_id : ℕ → NodeId
+node_id n = record { number = n % 144; in_range = mod-lt n (lit< tt) }

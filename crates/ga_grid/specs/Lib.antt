@@ -1,5 +1,4 @@
 pub mod Grid
-pub mod NodeId
 pub mod Load
 pub mod Chip
 pub mod Lending

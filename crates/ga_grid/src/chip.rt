@@ -37,7 +37,7 @@ pub struct Chip {
 
 impl Model for Chip {
     ghost use Rattle.std.specs.Prelude.{◌≡◌, List, length};
-    ghost use Rattle.ga_node.specs.State.{NodeState};
+    ghost use Rattle.ga_node.specs.Record.{NodeState};
 
     ghost Value = { List NodeState };
 
@@ -71,7 +71,8 @@ pub fn load_p(node: NodeId) -> u32
 
 impl Chip {
     ghost use Rattle.std.specs.Prelude.{◌≡◌, length, slice_set, IfOk};
-    ghost use Rattle.ga_grid.specs.Chip.{node_at, default_chip};
+    ghost use Rattle.ga_grid.specs.Chip.{node_at};
+    ghost use Rattle.ga_grid.specs.Load.{default_chip};
     ghost use Rattle.ga_grid.specs.Lending.{LendsNode};
 
     /// The chip at load: each node at its defaults, with P the address of the ports of all sides on which it has a neighbour.

@@ -1,8 +1,7 @@
 //! The links between neighbours.
 
 ghost use Rattle.std.specs.Prelude.{◌≡◌, ◌≢◌, ◌<◌, Some, IfSome, option_map};
-ghost use Rattle.ga_grid.specs.Grid.{stepped, neighbour_of};
-ghost use Rattle.ga_grid.specs.NodeId.{number_in, node_id};
+ghost use Rattle.ga_grid.specs.Grid.{next_place, neighbour_of, number_in, node_id};
 
 use crate::node_id::NodeId;
 use ga_ports::Side;
@@ -10,7 +9,7 @@ use ga_ports::Side;
 // The next of so many places, or the one before.
 fn step(place: u8, size: u8, is_forward: bool) -> Option<u8>
     requires { place < size }
-    ensures { result ≡ stepped place size is_forward }
+    ensures { result ≡ next_place place size is_forward }
 {
     if !is_forward {
         place.checked_sub(1)

@@ -15,8 +15,7 @@ pub struct NodeId {
 
 impl NodeId {
     ghost use Rattle.std.specs.Prelude.{◌≡◌, ◌≢◌, ◌<◌, ℕ, Some, IfSome, IfNone, option_map};
-    ghost use Rattle.ga_grid.specs.Grid.{yxx_of, node_of};
-    ghost use Rattle.ga_grid.specs.NodeId.{number_in, node_id};
+    ghost use Rattle.ga_grid.specs.Grid.{yxx_of, node_of, number_in, node_id};
 
     /// The node with this number.
     #[inline(always)]

@@ -11,7 +11,8 @@ use Rattle.ga_image.specs.declared.fault.ImageCause.TheVariants as cause
 use Rattle.ga_image.specs.declared.field.Field.{Field}
 use Rattle.ga_image.specs.declared.field.Field.TheVariants.{A, B, P, I, Io, Carry, Slot, Wait, Stop, Data, Return, Ram, Rom}
 use Rattle.ga_image.specs.declared.held.Held.{Held}
-use Rattle.ga_image.specs.Fields.{HasCell, writes, number_of, goes_past}
+use Rattle.ga_image.specs.kept.Fields.{HasCell}
+use Rattle.ga_image.specs.Fields.{writes, number_of, goes_past}
 use Rattle.ga_image.specs.Spelling.{Form, Node, Words, End, Spells}
 use Rattle.ga_image.specs.Held.{runs, held_after}
 use Rattle.ga_image.specs.Grammar.{header, format_of, all_writes}

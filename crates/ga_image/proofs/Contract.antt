@@ -1,7 +1,7 @@
 -- What a reading says of the grammar.
 use Rattle.std.specs.Prelude.{IfOk}
 use Rattle.std.proofs.Common.{◌≡◌, List, ℕ, inl, inr, Result, Ok, Err, sym, ◌∙◌}
-use Rattle.ga_node.specs.State.{NodeState}
+use Rattle.ga_node.specs.Record.{NodeState}
 use Rattle.ga_image.specs.declared.fault.ImageFault.{ImageFault}
 use Rattle.ga_image.specs.Reading.{reading, start, Gives}
 use Rattle.ga_image.specs.Grammar.{IsImage}

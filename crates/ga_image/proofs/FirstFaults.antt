@@ -2,13 +2,14 @@
 use Rattle.std.specs.Prelude.{IfErr}
 use Rattle.std.proofs.Common.{◌≡◌, ℕ, ◌+◌, ◌⊎◌, inl, inr, List, [], ◌∷◌, ◌++◌, length, Option, Some, None, Result, Ok, Err, refl, sym, ◌∙◌, ap, subst, append_assoc, length-append}
 use Rattle.std.proofs.lemmas.List.{append-nil}
-use Rattle.ga_node.specs.State.{NodeState}
+use Rattle.ga_node.specs.Record.{NodeState}
 use Rattle.ga_image.specs.declared.fault.ImageCause.{ImageCause}
 use Rattle.ga_image.specs.declared.fault.ImageCause.TheVariants as cause
 use Rattle.ga_image.specs.declared.fault.ImageFault.{ImageFault}
 use Rattle.ga_image.specs.Progress.{Progress, Stage}
 use Rattle.ga_image.specs.Progress as stage
-use Rattle.ga_image.specs.Reading.{reading, refused, at_end, fault_of, after_line, start, no_memory, Gives}
+use Rattle.ga_image.specs.Reading.{reading, refused, at_end, fault_of, after_line, start, Gives}
+use Rattle.ga_image.specs.Fault.{no_memory}
 use Rattle.ga_image.specs.FirstFault.{OneOf, IsEnd, causes, IsFirstCause, HasNone, AreFaultless, IsAtLine, IsAtEnd, IsFirstFault}
 use Rattle.ga_image.proofs.Standing.{Tells, IsAfter, StandsAt}
 use Rattle.ga_image.proofs.Causes.{fault_tells}

@@ -9,7 +9,8 @@ use Rattle.ga_grid.specs.Grid.{node_of}
 use Rattle.ga_image.specs.declared.fault.ImageCause.TheVariants as cause
 use Rattle.ga_image.specs.declared.field.Field.{Field}
 use Rattle.ga_image.specs.declared.field.Field.TheVariants.{A, B, P, I, Io, Carry, Slot, Wait, Stop, Data, Return, Ram, Rom}
-use Rattle.ga_image.specs.Fields.{HasCell, writes, next_field, number_of, greatest, goes_past, is_too_great, repeats}
+use Rattle.ga_image.specs.kept.Fields.{HasCell}
+use Rattle.ga_image.specs.Fields.{writes, next_field, number_of, greatest, goes_past, is_too_great, repeats}
 use Rattle.ga_image.specs.Spelling.{Node, Words, Spells, HasCount}
 use Rattle.ga_image.specs.Grammar.{Fits}
 use Rattle.ga_image.specs.Progress.{Progress, Stage}

@@ -10,7 +10,8 @@ use Rattle.ga_node.specs.Record.{NodeRecord}
 use Rattle.ga_grid.specs.Grid.{yxx_of}
 use Rattle.ga_image.specs.Spelling.{Node, End, words_text, decimal3_of}
 use Rattle.ga_image.specs.Grammar.{Block, field_line_form, block_forms}
-use Rattle.ga_image.specs.Printing.{AreWords, text_of, line_text, field_text, fields_text, blocks_text, line_unless, word_unless, row_cells, lines_at, block_unless, blocks_from, printed}
+use Rattle.ga_image.specs.Printing.{AreWords, lines_text, line_text, field_text, line_unless, word_unless, row_cells, lines_at, block_unless, blocks_from, printed}
+use Rattle.ga_image.specs.kept.Printing.{fields_text, blocks_text}
 
 -- one piece behind another
 pub grown : (old mid new a b : List ℕ) → mid ≡ old ++ a → new ≡ mid ++ b → new ≡ old ++ (a ++ b)
@@ -33,7 +34,7 @@ words_push (first ∷ words) word small last = (small.0, words_push words word s
 
 -- the texts of some lines and of others
 pub fields_append : (xs ys : List (Field × List ℕ)) → fields_text (xs ++ ys) ≡ fields_text xs ++ fields_text ys
-fields_append xs ys = ap text_of (map-append (λ line. field_text line.0 line.1) xs ys) ∙ flat_map-append (λ line. line ++ 10 ∷ []) (map (λ line. field_text line.0 line.1) xs) (map (λ line. field_text line.0 line.1) ys)
+fields_append xs ys = ap lines_text (map-append (λ line. field_text line.0 line.1) xs ys) ∙ flat_map-append (λ line. line ++ 10 ∷ []) (map (λ line. field_text line.0 line.1) xs) (map (λ line. field_text line.0 line.1) ys)
 
 -- some lines behind others
 pub lines_grown : (old mid new : List ℕ) (xs ys : List (Field × List ℕ)) → mid ≡ old ++ fields_text xs → new ≡ mid ++ fields_text ys → new ≡ old ++ fields_text (xs ++ ys)
@@ -108,8 +109,8 @@ block_head number = codes "node " ++ (decimal3_of (yxx_of number) ++ 10 ∷ [])
 pub block_text : (number : ℕ) (lines : List (Field × List ℕ)) → length (fields_text lines) ≢ 0 → blocks_text (block_unless number lines) ≡ block_head number ++ fields_text lines
 block_text number [] some = absurd (some refl)
 block_text number (line ∷ lines) some =
-    ap (λ forms. text_of (line_text (Node (yxx_of number)) ∷ map line_text forms)) (append-nil (map field_line_form (line ∷ lines)))
-    ∙ ap (λ texts. block_head number ++ text_of texts) (forms_text (line ∷ lines))
+    ap (λ forms. lines_text (line_text (Node (yxx_of number)) ∷ map line_text forms)) (append-nil (map field_line_form (line ∷ lines)))
+    ∙ ap (λ texts. block_head number ++ lines_text texts) (forms_text (line ∷ lines))
 
 -- and of one that has none
 pub no_block_text : (number : ℕ) (lines : List (Field × List ℕ)) → length (fields_text lines) ≡ 0 → blocks_text (block_unless number lines) ≡ []
@@ -119,8 +120,8 @@ no_block_text number (line ∷ lines) none = absurd (omega (arith, some_text lin
 -- the texts of some blocks and of others
 pub blocks_append : (xs ys : List Block) → blocks_text (xs ++ ys) ≡ blocks_text xs ++ blocks_text ys
 blocks_append xs ys =
-    ap (λ forms. text_of (map line_text forms)) (flat_map-append block_forms xs ys)
-    ∙ ap text_of (map-append line_text (flat_map block_forms xs) (flat_map block_forms ys))
+    ap (λ forms. lines_text (map line_text forms)) (flat_map-append block_forms xs ys)
+    ∙ ap lines_text (map-append line_text (flat_map block_forms xs) (flat_map block_forms ys))
     ∙ flat_map-append (λ line. line ++ 10 ∷ []) (map line_text (flat_map block_forms xs)) (map line_text (flat_map block_forms ys))
 
 -- the blocks of the nodes from a number on are the block of that node and those behind it
@@ -141,7 +142,7 @@ pub whole : (nodes : List NodeRecord) → printed nodes ≡ codes "ga144 2\n" ++
 unfolding printed
 whole nodes =
     let forms = flat_map block_forms (blocks_from 0 nodes) in
-    ap (λ texts. codes "ga144 2\n" ++ text_of texts) (map-append line_text forms (End ∷ []))
+    ap (λ texts. codes "ga144 2\n" ++ lines_text texts) (map-append line_text forms (End ∷ []))
     ∙ ap (λ text. codes "ga144 2\n" ++ text) (flat_map-append (λ line. line ++ 10 ∷ []) (map line_text forms) (codes "end" ∷ []))
 
 -- the text of a block behind others, where it has lines

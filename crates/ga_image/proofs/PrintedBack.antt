@@ -12,12 +12,11 @@ use Rattle.ga_ports.specs.declared.side.Side.TheVariants.{Right, Down, Left, Up}
 use Rattle.ga_node.specs.declared.wait.Wait.TheVariants.{Nothing, Fetch, Read, Write}
 use Rattle.ga_node.specs.declared.wait.Wait.{Wait as NodeWait}
 use Rattle.ga_node.specs.Waits.{wait_code}
-use Rattle.ga_node.specs.State.{NodeState, fresh_node}
-use Rattle.ga_node.specs.Record.{NodeRecord, record_of, fresh_record}
+use Rattle.ga_node.specs.Record.{NodeState, fresh_node, NodeRecord, record_of, fresh_record}
 use Rattle.ga_node.specs.Steady.{FitsWait, IsSteady}
 use Rattle.ga_grid.specs.Grid.{yxx_of}
-use Rattle.ga_grid.specs.Load.{load_p_of}
-use Rattle.ga_grid.specs.Chip.{nowhere, node_at, with_node, records_of, record_at, default_chip}
+use Rattle.ga_grid.specs.Load.{load_p_of, default_chip}
+use Rattle.ga_grid.specs.Chip.{nowhere, node_at, with_node, records_of, record_at}
 use Rattle.ga_grid.proofs.Chips.{node_at-with_node_same, node_at-with_node_other, length-with_node, records_of-with_node, node_at-default_chip, length-default_chip}
 use Rattle.ga_image.specs.declared.held.Held.{Held}
 use Rattle.ga_image.specs.declared.field.Field.{Field}

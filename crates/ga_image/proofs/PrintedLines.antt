@@ -13,9 +13,9 @@ use Rattle.ga_image.specs.declared.field.Field.{Field}
 use Rattle.ga_image.specs.declared.field.Field.TheVariants.{A, B, P, I, Io, Carry, Slot, Wait, Stop, Data, Return, Ram, Rom}
 use Rattle.ga_image.specs.declared.field.Format.TheVariants.{Two}
 use Rattle.ga_image.specs.Lines.{lines_of, with_byte}
-use Rattle.ga_image.specs.Spelling.{Form, Node, Words, End, decimal3_of, hex2_of, words_text, letter, set_text, wait_text, name_of, numbers_of, code_text, HasCount, SpellsWords, IsCode, SpellsCode, SpellsField, SpellsIn}
+use Rattle.ga_image.specs.Spelling.{Form, Node, Words, End, decimal3_of, hex2_of, words_text, letter, set_text, wait_text, field_name, numbers_of, code_text, HasCount, SpellsWords, IsCode, SpellsCode, SpellsField, SpellsIn}
 use Rattle.ga_image.specs.Grammar.{Spell, header}
-use Rattle.ga_image.specs.Printing.{field_text, line_text, text_of}
+use Rattle.ga_image.specs.Printing.{field_text, line_text, lines_text}
 use Rattle.ga_image.proofs.Numbers.{digit_spelled}
 use Rattle.ga_image.proofs.Feeds.{past_byte}
 
@@ -78,7 +78,7 @@ IsPrintable (Node yxx) = yxx < 1000
 IsPrintable (Words field words) = IsLine field words
 IsPrintable End = Unit {0}
 
-words_spelled : (field : Field) (words : List ℕ) → IsWordLine field words → SpellsWords (name_of field ++ numbers_of field words) field words
+words_spelled : (field : Field) (words : List ℕ) → IsWordLine field words → SpellsWords (field_name field ++ numbers_of field words) field words
 words_spelled field words is = record {
   count = is.0;
   six_digits = is.1;
@@ -87,12 +87,12 @@ words_spelled field words is = record {
   digits = lower_numbers field words;
 }
 
-code_spelled : (field : Field) (words : List ℕ) → IsCodeLine field words → SpellsCode (name_of field ++ code_text field (slice_index words 0)) field words
+code_spelled : (field : Field) (words : List ℕ) → IsCodeLine field words → SpellsCode (field_name field ++ code_text field (slice_index words 0)) field words
 code_spelled field words is = record {
   code = is.0;
   one = is.1;
   valid = is.2;
-  parts = ap (λ (ws : List ℕ). name_of field ++ code_text field (slice_index ws 0)) is.1;
+  parts = ap (λ (ws : List ℕ). field_name field ++ code_text field (slice_index ws 0)) is.1;
 }
 
 field_spelled : (field : Field) (words : List ℕ) → IsLine field words → SpellsField (field_text field words) field words
@@ -170,7 +170,7 @@ no_feed_wait code = either (nat_lt code 32) (nat_lt code 48) where
   either false true = no_feed_append (codes "read ") (set_text (code - 32)) (no_feed_tested (codes "read ") refl) (no_feed_set (code - 32))
   either false false = no_feed_append (codes "write ") (set_text (code - 48)) (no_feed_tested (codes "write ") refl) (no_feed_set (code - 48))
 
-no_feed_name : (field : Field) → HasNoFeed (name_of field)
+no_feed_name : (field : Field) → HasNoFeed (field_name field)
 no_feed_name A = no_feed_tested (codes "a") refl
 no_feed_name B = no_feed_tested (codes "b") refl
 no_feed_name P = no_feed_tested (codes "p") refl
@@ -186,19 +186,19 @@ no_feed_name (Ram cell) = no_feed_tested (codes "ram ") refl
 no_feed_name (Rom cell) = no_feed_tested (codes "rom ") refl
 
 no_feed_field : (field : Field) (words : List ℕ) → HasNoFeed (field_text field words)
-no_feed_field A words = no_feed_append (name_of A) (words_text words) (no_feed_name A) (no_feed_words words)
-no_feed_field B words = no_feed_append (name_of B) (words_text words) (no_feed_name B) (no_feed_words words)
-no_feed_field P words = no_feed_append (name_of P) (words_text words) (no_feed_name P) (no_feed_words words)
-no_feed_field I words = no_feed_append (name_of I) (words_text words) (no_feed_name I) (no_feed_words words)
-no_feed_field Io words = no_feed_append (name_of Io) (words_text words) (no_feed_name Io) (no_feed_words words)
-no_feed_field Carry words = no_feed_append (name_of Carry) ((48 + slice_index words 0) ∷ []) (no_feed_name Carry) (omega arith, tt)
-no_feed_field Slot words = no_feed_append (name_of Slot) ((48 + slice_index words 0) ∷ []) (no_feed_name Slot) (omega arith, tt)
-no_feed_field Wait words = no_feed_append (name_of Wait) (wait_text (slice_index words 0)) (no_feed_name Wait) (no_feed_wait (slice_index words 0))
-no_feed_field Stop words = no_feed_append (name_of Stop) ((48 + slice_index words 0) ∷ []) (no_feed_name Stop) (omega arith, tt)
-no_feed_field (Data k) words = no_feed_append (name_of (Data k)) (words_text words) (no_feed_name (Data k)) (no_feed_words words)
-no_feed_field (Return k) words = no_feed_append (name_of (Return k)) (words_text words) (no_feed_name (Return k)) (no_feed_words words)
-no_feed_field (Ram cell) words = no_feed_append (name_of (Ram cell)) (hex2_of cell ++ words_text words) (no_feed_name (Ram cell)) (no_feed_cell cell words)
-no_feed_field (Rom cell) words = no_feed_append (name_of (Rom cell)) (hex2_of cell ++ words_text words) (no_feed_name (Rom cell)) (no_feed_cell cell words)
+no_feed_field A words = no_feed_append (field_name A) (words_text words) (no_feed_name A) (no_feed_words words)
+no_feed_field B words = no_feed_append (field_name B) (words_text words) (no_feed_name B) (no_feed_words words)
+no_feed_field P words = no_feed_append (field_name P) (words_text words) (no_feed_name P) (no_feed_words words)
+no_feed_field I words = no_feed_append (field_name I) (words_text words) (no_feed_name I) (no_feed_words words)
+no_feed_field Io words = no_feed_append (field_name Io) (words_text words) (no_feed_name Io) (no_feed_words words)
+no_feed_field Carry words = no_feed_append (field_name Carry) ((48 + slice_index words 0) ∷ []) (no_feed_name Carry) (omega arith, tt)
+no_feed_field Slot words = no_feed_append (field_name Slot) ((48 + slice_index words 0) ∷ []) (no_feed_name Slot) (omega arith, tt)
+no_feed_field Wait words = no_feed_append (field_name Wait) (wait_text (slice_index words 0)) (no_feed_name Wait) (no_feed_wait (slice_index words 0))
+no_feed_field Stop words = no_feed_append (field_name Stop) ((48 + slice_index words 0) ∷ []) (no_feed_name Stop) (omega arith, tt)
+no_feed_field (Data k) words = no_feed_append (field_name (Data k)) (words_text words) (no_feed_name (Data k)) (no_feed_words words)
+no_feed_field (Return k) words = no_feed_append (field_name (Return k)) (words_text words) (no_feed_name (Return k)) (no_feed_words words)
+no_feed_field (Ram cell) words = no_feed_append (field_name (Ram cell)) (hex2_of cell ++ words_text words) (no_feed_name (Ram cell)) (no_feed_cell cell words)
+no_feed_field (Rom cell) words = no_feed_append (field_name (Rom cell)) (hex2_of cell ++ words_text words) (no_feed_name (Rom cell)) (no_feed_cell cell words)
 
 no_feed_line : (form : Form) → HasNoFeed (line_text form)
 no_feed_line (Node yxx) = no_feed_append (codes "node ") (decimal3_of yxx) (no_feed_tested (codes "node ") refl) (omega arith, (omega arith, (omega arith, tt)))
@@ -217,8 +217,8 @@ line_ends [] text none = refl
 line_ends (b ∷ line) text none = past_byte b (line ++ 10 ∷ text) none.0 ∙ ap (with_byte b) (line_ends line text none.1)
 
 -- lines that are each ended are the lines of their text
-pub lines_again : (lines : List (List ℕ)) → AllByRecursion HasNoFeed lines → lines_of (text_of lines) ≡ lines
+pub lines_again : (lines : List (List ℕ)) → AllByRecursion HasNoFeed lines → lines_of (lines_text lines) ≡ lines
 lines_again [] each = refl
 lines_again (line ∷ lines) each =
-    let more = text_of lines in
+    let more = lines_text lines in
     ap lines_of (append_assoc line (10 ∷ []) more) ∙ line_ends line more each.0 ∙ ap (λ others. line ∷ others) (lines_again lines each.1)

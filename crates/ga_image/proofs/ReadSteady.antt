@@ -10,11 +10,11 @@ use Rattle.ga_node.specs.declared.wait.Wait.TheVariants.{Nothing, Fetch, Read, W
 use Rattle.ga_node.specs.declared.wait.Wait.{Wait as NodeWait}
 use Rattle.ga_node.specs.declared.place.Place.TheVariants as place
 use Rattle.ga_node.specs.Waits.{wait_of}
-use Rattle.ga_node.specs.State.{NodeState, fresh_node, with_value}
-use Rattle.ga_node.specs.Record.{record_of}
+use Rattle.ga_node.specs.Record.{NodeState, fresh_node, record_of}
+use Rattle.ga_node.specs.State.{with_value}
 use Rattle.ga_node.specs.Steady.{FitsWait, IsSteady}
-use Rattle.ga_grid.specs.Load.{load_p_of}
-use Rattle.ga_grid.specs.Chip.{node_at, with_node, records_of, default_chip}
+use Rattle.ga_grid.specs.Load.{load_p_of, default_chip}
+use Rattle.ga_grid.specs.Chip.{node_at, with_node, records_of}
 use Rattle.ga_grid.proofs.Chips.{record_at-records_of, node_at-with_node_same, node_at-with_node_other, length-with_node, node_at-default_chip, length-default_chip}
 use Rattle.ga_image.specs.declared.held.Held.{Held}
 use Rattle.ga_image.specs.declared.field.Field.{Field}

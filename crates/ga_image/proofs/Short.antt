@@ -4,7 +4,7 @@ use Rattle.std.specs.Str.{str_to_ascii_lowercase}
 use Rattle.std.proofs.Common.{◌≡◌, ℕ, ◌+◌, ◌*◌, ◌<◌, ◌≤◌, Bool, true, false, cond, List, [], ◌∷◌, length, refl, sym, ◌∙◌, ap, arith, length-append}
 use Rattle.ga_image.specs.declared.field.Field.{Field}
 use Rattle.ga_image.specs.declared.field.Field.TheVariants.{A, B, P, I, Io, Carry, Slot, Wait, Stop, Data, Return, Ram, Rom}
-use Rattle.ga_image.specs.Spelling.{Form, Node, Words, End, Spells, SpellsField, SpellsWords, SpellsCode, HasCount, words_text, set_text, wait_text, code_text, name_of, numbers_of}
+use Rattle.ga_image.specs.Spelling.{Form, Node, Words, End, Spells, SpellsField, SpellsWords, SpellsCode, HasCount, words_text, set_text, wait_text, code_text, field_name, numbers_of}
 
 lower_length : (xs : List ℕ) → length (str_to_ascii_lowercase xs) ≡ length xs
 lower_length [] = refl
@@ -30,7 +30,7 @@ counted (Return k) count has = (omega (arith, has.1), omega (arith, has.1))
 counted (Ram cell) count has = (omega (arith, has.1), omega (arith, has.2))
 counted (Rom cell) count has = (omega (arith, has.1), omega (arith, has.2))
 
-numbers_length : (field : Field) (ws : List ℕ) → length (name_of field) + length (numbers_of field ws) ≤ 6 + 7 * length ws
+numbers_length : (field : Field) (ws : List ℕ) → length (field_name field) + length (numbers_of field ws) ≤ 6 + 7 * length ws
 numbers_length A ws = omega (arith, words_length ws)
 numbers_length B ws = omega (arith, words_length ws)
 numbers_length P ws = omega (arith, words_length ws)
@@ -48,7 +48,7 @@ numbers_length (Rom cell) ws = omega (arith, words_length ws)
 short_words : (text : List ℕ) (field : Field) (ws : List ℕ) → SpellsWords text field ws → length text ≤ 200
 short_words text field ws is =
     let most = (counted field (length ws) is.count).1 in
-    let whole : length text ≡ length (name_of field) + length is.numbers = ap length is.parts ∙ length-append (name_of field) is.numbers in
+    let whole : length text ≡ length (field_name field) + length is.numbers = ap length is.parts ∙ length-append (field_name field) is.numbers in
     let same : length is.numbers ≡ length (numbers_of field ws) = sym (lower_length is.numbers) ∙ ap length is.digits in
     omega (arith, numbers_length field ws)
 
@@ -60,7 +60,7 @@ wait_length code = either (nat_lt code 32) (nat_lt code 48) where
   either false true = omega arith
   either false false = omega arith
 
-code_length : (field : Field) (code : ℕ) → length (name_of field ++ code_text field code) ≤ 200
+code_length : (field : Field) (code : ℕ) → length (field_name field ++ code_text field code) ≤ 200
 code_length A code = omega arith
 code_length B code = omega arith
 code_length P code = omega arith

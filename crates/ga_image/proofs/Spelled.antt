@@ -16,7 +16,7 @@ use Rattle.ga_image.specs.declared.field.Field.TheVariants.{A, B, P, I, Io, Carr
 use Rattle.ga_image.specs.Steps.{◌>>=◌}
 use Rattle.ga_node.specs.Waits.{IsWaitCode}
 use Rattle.ga_image.specs.Digits.{cell_number, node_number, set_number}
-use Rattle.ga_image.specs.Spelling.{Form, Node, Words, End, hex2_of, words_text, set_text, wait_text, name_of, numbers_of, code_text, HasCount, SpellsWords, IsCode, SpellsCode, SpellsField, Spells}
+use Rattle.ga_image.specs.Spelling.{Form, Node, Words, End, hex2_of, words_text, set_text, wait_text, field_name, numbers_of, code_text, HasCount, SpellsWords, IsCode, SpellsCode, SpellsField, Spells}
 use Rattle.ga_image.specs.Forms.{form, spaced_words, few, words, word_form, cells_form, stack_form, digit_form, set_form, side_form, wait_form, node_form, wide_form, state_form, begins}
 use Rattle.ga_image.proofs.Numbers.{word_spelled, word_read, cell_spelled, node_spelled, set_spelled, between}
 
@@ -138,7 +138,7 @@ branch false x y z p q e = q e
 
 -- a register's line
 register_spelled : (text : List ℕ) (field : Field) (f : Form) → ((words : List ℕ) → numbers_of field words ≡ words_text words) → ((count : ℕ) → count ≡ 1 → HasCount field count)
-    → (digits : List ℕ) → text ≡ (name_of field ++ 32 ∷ []) ++ digits → word_form field digits ≡ Some f → ((words : List ℕ) → SpellsWords text field words → SpellsField text field words) → Spells text f
+    → (digits : List ℕ) → text ≡ (field_name field ++ 32 ∷ []) ++ digits → word_form field digits ≡ Some f → ((words : List ℕ) → SpellsWords text field words → SpellsField text field words) → Spells text f
 unfolding word_form
 register_spelled text field f plain counted tail is e wide =
     let (word, digits, made) = first_step (read6_of tail) _ f e in
@@ -148,7 +148,7 @@ register_spelled text field f plain counted tail is e wide =
       count = counted 1 refl;
       six_digits = (small, tt);
       numbers = 32 ∷ tail;
-      parts = is ∙ append_assoc (name_of field) (32 ∷ []) tail;
+      parts = is ∙ append_assoc (field_name field) (32 ∷ []) tail;
       digits = ap (λ xs. 32 ∷ xs) lower ∙ sym (plain (word ∷ []));
     }))
 
@@ -167,7 +167,7 @@ cells_parts (x ∷ y ∷ text) field f e =
 
 -- a line of cells
 cells_spelled : (text : List ℕ) (field : ℕ → Field) (f : Form) → ((cell : ℕ) (words : List ℕ) → numbers_of (field cell) words ≡ hex2_of cell ++ words_text words)
-    → ((cell count : ℕ) → cell < 256 → 1 ≤ count → count ≤ 16 → HasCount (field cell) count) → ((cell : ℕ) → text ≡ name_of (field cell) ++ drop 4 text) → cells_form field (drop 4 text) ≡ Some f
+    → ((cell count : ℕ) → cell < 256 → 1 ≤ count → count ≤ 16 → HasCount (field cell) count) → ((cell : ℕ) → text ≡ field_name (field cell) ++ drop 4 text) → cells_form field (drop 4 text) ≡ Some f
     → ((cell : ℕ) (words : List ℕ) → SpellsWords text (field cell) words → SpellsField text (field cell) words) → Spells text f
 cells_spelled text field f plain counted is e wide =
     let (cell, ws, same, small, six, lower, some, most) = cells_parts (drop 4 text) field f e in
@@ -180,7 +180,7 @@ cells_spelled text field f plain counted is e wide =
     }))
 
 -- a line of a stack
-stack_spelled : (text : List ℕ) (field : Field) (count : ℕ) (f : Form) → ((words : List ℕ) → numbers_of field words ≡ words_text words) → HasCount field count → text ≡ name_of field ++ drop 1 text
+stack_spelled : (text : List ℕ) (field : Field) (count : ℕ) (f : Form) → ((words : List ℕ) → numbers_of field words ≡ words_text words) → HasCount field count → text ≡ field_name field ++ drop 1 text
     → stack_form field count (drop 1 text) ≡ Some f → ((words : List ℕ) → SpellsWords text field words → SpellsField text field words) → Spells text f
 unfolding stack_form
 stack_spelled text field count f plain counted is e wide =
@@ -208,7 +208,7 @@ digit_spelled field least most (c ∷ []) f e =
 digit_spelled field least most (c ∷ d ∷ text) f e = cc
 
 -- a line of a code
-code_spelled : (text : List ℕ) (field : Field) (code : ℕ) (f : Form) → Words field (code ∷ []) ≡ f → IsCode field code → text ≡ name_of field ++ code_text field code
+code_spelled : (text : List ℕ) (field : Field) (code : ℕ) (f : Form) → Words field (code ∷ []) ≡ f → IsCode field code → text ≡ field_name field ++ code_text field code
     → ((words : List ℕ) → SpellsCode text field words → SpellsField text field words) → Spells text f
 code_spelled text field code f same valid is wide = subst (Spells text) same (wide (code ∷ []) (record { code = code; one = refl; valid = valid; parts = is }))
 

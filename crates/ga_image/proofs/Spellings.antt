@@ -11,7 +11,8 @@ use Rattle.ga_image.specs.declared.field.Field.TheVariants.{A, B, P, I, Io, Carr
 use Rattle.ga_node.specs.Waits.{IsWaitCode}
 use Rattle.ga_image.specs.declared.field.Format.{Format}
 use Rattle.ga_image.specs.Fields.{has_field}
-use Rattle.ga_image.specs.Spelling.{Form, Node, Words, End, decimal3_of, hex2_of, words_text, set_text, wait_text, name_of, code_text, SpellsWords, SpellsCode, SpellsField, Spells, HoldsCode, AreCodes, IsFormOf, SpellsIn}
+use Rattle.ga_image.specs.Spelling.{Form, Node, Words, End, decimal3_of, hex2_of, words_text, set_text, wait_text, field_name, code_text, SpellsWords, SpellsCode, SpellsField, Spells, IsFormOf, SpellsIn}
+use Rattle.ga_image.specs.kept.Spelling.{HoldsCode, AreCodes}
 use Rattle.ga_image.specs.Forms.{form, word_form, cells_form, stack_form, digit_form, set_form, side_form, wait_form, node_form, wide_form, state_form}
 use Rattle.ga_image.specs.Reading.{form_in, kept_in}
 use Rattle.ga_image.specs.Grammar.{Spell}
@@ -168,7 +169,7 @@ wait_read code (inr (inr (inr one))) some =
     let small : code - 48 < 16 = grind (arith, one) in
     ap (λ (n : ℕ). wait_form (wait_text n)) whole ∙ ap wait_form (write_text (code - 48)) ∙ write_read (code - 48) single small ∙ ap (λ (n : ℕ). Some (Words Wait (n ∷ []))) (sym whole)
 
-code_line_read : (text : List ℕ) (field : Field) (ws : List ℕ) (is : SpellsCode text field ws) → form (name_of field ++ code_text field is.code) ≡ Some (Words field (is.code ∷ [])) → form text ≡ Some (Words field ws)
+code_line_read : (text : List ℕ) (field : Field) (ws : List ℕ) (is : SpellsCode text field ws) → form (field_name field ++ code_text field is.code) ≡ Some (Words field (is.code ∷ [])) → form text ≡ Some (Words field ws)
 code_line_read text field ws is reads = ap form is.parts ∙ reads ∙ ap (λ xs. Some (Words field xs)) (sym is.one)
 
 words_line_read : (text : List ℕ) (field : Field) (ws : List ℕ) → SpellsField text field ws → form text ≡ Some (Words field ws)

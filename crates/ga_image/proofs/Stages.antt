@@ -2,7 +2,7 @@
 use Rattle.std.proofs.Common.{◌≢◌, refl}
 use Rattle.ga_image.specs.declared.parser.Stage.{Stage as Expects}
 use Rattle.ga_image.specs.declared.parser.Stage.TheVariants as expects
-use Rattle.ga_image.specs.Progress.{stage_of, IsBehindHeader}
+use Rattle.ga_image.specs.kept.Progress.{stage_of, IsBehindHeader}
 
 -- neither before the header nor behind the end
 pub behind : (stage : Expects) → stage ≢ expects.Header → stage ≢ expects.Ended → IsBehindHeader (stage_of stage)

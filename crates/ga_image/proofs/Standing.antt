@@ -8,7 +8,8 @@ use Rattle.ga_image.specs.declared.fault.ImageCause.TheVariants as cause
 use Rattle.ga_image.specs.declared.field.Field.{Field}
 use Rattle.ga_image.specs.declared.field.Format.{Format}
 use Rattle.ga_image.specs.declared.field.Format.TheVariants.{One, Two}
-use Rattle.ga_image.specs.Fields.{HasCell, number_of}
+use Rattle.ga_image.specs.kept.Fields.{HasCell}
+use Rattle.ga_image.specs.Fields.{number_of}
 use Rattle.ga_image.specs.Spelling.{Form, Node, Words, End, Spells}
 use Rattle.ga_image.specs.Forms.{form, state_form, wide_form}
 use Rattle.ga_image.specs.Held.{runs, held_after, is_unsteady}

@@ -1,11 +1,12 @@
 -- Steps of reading an image.
 use Rattle.std.proofs.Common.{◌≡◌, ◌≢◌, ℕ, ◌+◌, List, [], ◌∷◌, Some, None, Ok, Err, refl}
-use Rattle.ga_node.specs.State.{NodeState}
+use Rattle.ga_node.specs.Record.{NodeState}
 use Rattle.ga_image.specs.declared.parser.Stage.{Stage as Expects}
 use Rattle.ga_image.specs.declared.parser.Stage.TheVariants as expects
 use Rattle.ga_image.specs.declared.fault.ImageCause.{ImageCause}
 use Rattle.ga_image.specs.declared.fault.ImageCause.TheVariants.{Truncated}
-use Rattle.ga_image.specs.Progress.{Progress, stage_of, Stage, Header, Open, Block, Ended}
+use Rattle.ga_image.specs.Progress.{Progress, Stage, Header, Open, Block, Ended}
+use Rattle.ga_image.specs.kept.Progress.{stage_of}
 use Rattle.ga_image.specs.Lines.{lines_of}
 use Rattle.ga_image.specs.Reading.{reading, fault_of, after_line, at_end}
 

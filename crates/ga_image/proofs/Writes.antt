@@ -9,8 +9,9 @@ use Rattle.ga_node.specs.Places.{greatest_of}
 use Rattle.ga_image.specs.declared.field.Field.{Field}
 use Rattle.ga_image.specs.declared.field.Field.TheVariants.{A, B, P, I, Io, Carry, Slot, Wait, Stop, Data, Return, Ram, Rom}
 use Rattle.ga_image.specs.declared.fault.ImageCause.TheVariants.{Repeated}
-use Rattle.ga_image.specs.Fields.{HasCell, goes_past, greatest, next_field, number_of, writes, repeats, is_too_great}
-use Rattle.ga_image.specs.Spelling.{HoldsCode, AreCodes}
+use Rattle.ga_image.specs.kept.Fields.{HasCell}
+use Rattle.ga_image.specs.Fields.{goes_past, greatest, next_field, number_of, writes, repeats, is_too_great}
+use Rattle.ga_image.specs.kept.Spelling.{HoldsCode, AreCodes}
 use Rattle.ga_image.specs.Progress.{Progress}
 use Rattle.ga_image.specs.Reading.{words_fault, with_write, with_writes}
 use Rattle.ga_image.proofs.Flags.{or_false}

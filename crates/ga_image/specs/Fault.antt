@@ -3,29 +3,35 @@
 use Rattle.std.specs.Prelude.{ℕ, List, codes}
 use Rattle.ga_image.specs.declared.fault.ImageCause.{ImageCause}
 use Rattle.ga_image.specs.declared.fault.ImageCause.TheVariants.{Header, Line, Node, Word, Repeated, Place, Truncated, Long, Memory, State}
+use Rattle.ga_image.specs.declared.fault.ImageCause.TheVariants as cause
+use Rattle.ga_image.specs.declared.fault.ImageFault.{ImageFault}
 
 -- the number of a cause
-abbrev pub number_of : ImageCause → ℕ
-number_of Header = 11
-number_of Line = 12
-number_of Node = 13
-number_of Word = 14
-number_of Repeated = 15
-number_of Place = 16
-number_of Truncated = 17
-number_of Long = 18
-number_of Memory = 19
-number_of State = 20
+abbrev pub cause_number : ImageCause → ℕ
+cause_number Header = 11
+cause_number Line = 12
+cause_number Node = 13
+cause_number Word = 14
+cause_number Repeated = 15
+cause_number Place = 16
+cause_number Truncated = 17
+cause_number Long = 18
+cause_number Memory = 19
+cause_number State = 20
 
 -- its word
-abbrev pub word_of : ImageCause → List ℕ
-word_of Header = codes "header"
-word_of Line = codes "line"
-word_of Node = codes "node"
-word_of Word = codes "word"
-word_of Repeated = codes "repeated"
-word_of Place = codes "place"
-word_of Truncated = codes "truncated"
-word_of Long = codes "long"
-word_of Memory = codes "memory"
-word_of State = codes "state"
+abbrev pub cause_word : ImageCause → List ℕ
+cause_word Header = codes "header"
+cause_word Line = codes "line"
+cause_word Node = codes "node"
+cause_word Word = codes "word"
+cause_word Repeated = codes "repeated"
+cause_word Place = codes "place"
+cause_word Truncated = codes "truncated"
+cause_word Long = codes "long"
+cause_word Memory = codes "memory"
+cause_word State = codes "state"
+
+-- want of memory, which is met before the first line
+abbrev pub no_memory : ImageFault
+no_memory = record { line = 0; cause = cause.Memory }

@@ -1,5 +1,5 @@
 -- The fields of a block, and where the words of a field line go.
-use Rattle.std.specs.Prelude.{ℕ, ◌+◌, ◌-◌, ◌<◌, ◌==◌, ◌||◌, nat_lt, if◌then◌else◌, Bool, true, false, List, [], ◌∷◌, slice_index_or, slice_set}
+use Rattle.std.specs.Prelude.{ℕ, ◌+◌, ◌-◌, ◌==◌, ◌||◌, nat_lt, if◌then◌else◌, Bool, true, false, List, [], ◌∷◌, slice_index_or, slice_set}
 use Rattle.std.specs.List.{list_any}
 use Rattle.ga_node.specs.declared.place.Place.{Place}
 use Rattle.ga_node.specs.declared.place.Place.TheVariants as place
@@ -21,20 +21,20 @@ has_field One _ = false
 
 -- The place of a node that a field stands for. A node at load has the newest of its stacks' cells at 0, and the older ones
 -- follow: so the words of the data stack stand in T, S and the cells from 0 on, and those of the return stack in R and the cells.
-abbrev pub place_of : Field → Place
-place_of A = place.A
-place_of B = place.B
-place_of P = place.P
-place_of I = place.I
-place_of Io = place.Io
-place_of Carry = place.Carry
-place_of Slot = place.Slot
-place_of Wait = place.Wait
-place_of Stop = place.Stop
-place_of (Data k) = if k == 0 then place.T else if k == 1 then place.S else place.DataCell (k - 2)
-place_of (Return k) = if k == 0 then place.R else place.ReturnCell (k - 1)
-place_of (Ram cell) = place.Ram cell
-place_of (Rom cell) = place.Rom cell
+abbrev pub field_place : Field → Place
+field_place A = place.A
+field_place B = place.B
+field_place P = place.P
+field_place I = place.I
+field_place Io = place.Io
+field_place Carry = place.Carry
+field_place Slot = place.Slot
+field_place Wait = place.Wait
+field_place Stop = place.Stop
+field_place (Data k) = if k == 0 then place.T else if k == 1 then place.S else place.DataCell (k - 2)
+field_place (Return k) = if k == 0 then place.R else place.ReturnCell (k - 1)
+field_place (Ram cell) = place.Ram cell
+field_place (Rom cell) = place.Rom cell
 
 -- how many fields a block can give
 abbrev pub field_count : ℕ
@@ -69,14 +69,6 @@ abbrev pub writes : Field → List ℕ → List (Field × ℕ)
 writes field [] = []
 writes field (word ∷ words) = (field, word) ∷ writes (next_field field) words
 
--- a register, a word that a stack has, or a cell that a memory has
-abbrev pub HasCell : Field → Type 0
-HasCell (Data k) = k < 10
-HasCell (Return k) = k < 9
-HasCell (Ram cell) = cell < 64
-HasCell (Rom cell) = cell < 64
-HasCell register = Unit {0}
-
 -- so many words go past the last word of a stack or the last cell of a memory
 abbrev pub goes_past : Field → ℕ → Bool
 goes_past (Data k) count = nat_lt 10 (k + count)
@@ -87,7 +79,7 @@ goes_past register count = false
 
 -- the greatest word that it holds
 abbrev pub greatest : Field → ℕ
-greatest field = greatest_of (place_of field)
+greatest field = greatest_of (field_place field)
 
 -- one of the words is past the greatest
 abbrev pub is_too_great : Field → List ℕ → Bool

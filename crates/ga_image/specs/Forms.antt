@@ -5,24 +5,9 @@ use Rattle.ga_word.specs.Word.{read6_of}
 use Rattle.ga_ports.specs.Address.{is_single}
 use Rattle.ga_image.specs.declared.field.Field.{Field}
 use Rattle.ga_image.specs.declared.field.Field.TheVariants.{A, B, P, I, Io, Carry, Slot, Wait, Stop, Data, Return, Ram, Rom}
-use Rattle.ga_image.specs.declared.line.Line.{Line}
-use Rattle.ga_image.specs.declared.line.Line.TheVariants as line
-use Rattle.ga_image.specs.declared.field.Bank.{Bank}
-use Rattle.ga_image.specs.declared.field.Bank.TheVariants as bank
 use Rattle.ga_image.specs.Steps.{◌>>=◌}
 use Rattle.ga_image.specs.Digits.{cell_number, node_number, set_number}
 use Rattle.ga_image.specs.Spelling.{Form, Node, Words, End}
-
--- a line, as contracts see it
-abbrev pub form_of : Line → Form
-form_of (line.Node number) = Node number
-form_of (line.Words field words) = Words field words.items
-form_of line.End = End
-
--- a field of a memory
-abbrev pub field_in : Bank → ℕ → Field
-field_in bank.Ram cell = Ram cell
-field_in bank.Rom cell = Rom cell
 
 -- numbers of six digits, each behind one space
 unfoldable pub spaced_words : List ℕ → Option (List ℕ)

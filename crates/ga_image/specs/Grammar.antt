@@ -2,8 +2,10 @@
 use Rattle.std.specs.Prelude.{◌≡◌, ℕ, ◌+◌, ◌<◌, ◌≤◌, nat_eq, Bool, false, if◌then◌else◌, List, [], ◌∷◌, ◌++◌, length, codes, map, flat_map}
 use Rattle.std.specs.Cmp.Lexicographic.{pointwise}
 use Rattle.std.specs.List.{AllByRecursion, IsDistinct}
-use Rattle.ga_node.specs.State.{NodeState, with_value}
-use Rattle.ga_grid.specs.Chip.{default_chip, node_at, with_node}
+use Rattle.ga_node.specs.Record.{NodeState}
+use Rattle.ga_node.specs.State.{with_value}
+use Rattle.ga_grid.specs.Load.{default_chip}
+use Rattle.ga_grid.specs.Chip.{node_at, with_node}
 use Rattle.ga_grid.specs.Grid.{yxx_of}
 use Rattle.ga_image.specs.declared.field.Field.{Field}
 use Rattle.ga_image.specs.declared.field.Field.TheVariants.{Wait, Stop, Data, Return, Ram, Rom}
@@ -11,7 +13,7 @@ use Rattle.ga_image.specs.declared.field.Format.{Format}
 use Rattle.ga_image.specs.declared.field.Format.TheVariants.{One, Two}
 use Rattle.ga_node.specs.declared.wait.Wait.TheVariants.{Nothing}
 use Rattle.ga_node.specs.Waits.{wait_of}
-use Rattle.ga_image.specs.Fields.{place_of, writes, greatest, number_of}
+use Rattle.ga_image.specs.Fields.{field_place, writes, greatest, number_of}
 use Rattle.ga_image.specs.Held.{runs, held_after, is_unsteady}
 use Rattle.ga_image.specs.Spelling.{Form, Node, Words, End, SpellsIn}
 
@@ -70,7 +72,7 @@ pub record IsBlock (block : Block) : Type 0 where
 abbrev pub with_field : NodeState → Field → ℕ → NodeState
 with_field node Wait code = record node { wait = wait_of code; stop = 0 }
 with_field node Stop number = record node { stop = number; wait = Nothing }
-with_field node field word = with_value node (place_of field) word
+with_field node field word = with_value node (field_place field) word
 
 -- a chip with another word in a field of a node
 unfoldable pub with_word : List NodeState → ℕ → Field × ℕ → List NodeState

@@ -12,3 +12,4 @@ pub mod Reading
 pub mod FirstFault
 pub mod Printing
 pub mod ReadBack
+pub mod kept

@@ -6,23 +6,21 @@ use Rattle.ga_stacks.specs.Ring.{fresh_word}
 use Rattle.ga_node.specs.Record.{NodeRecord, fresh_record}
 use Rattle.ga_node.specs.Waits.{wait_code}
 use Rattle.ga_grid.specs.Load.{load_p_of}
-use Rattle.ga_image.specs.declared.field.Bank.{Bank}
-use Rattle.ga_image.specs.declared.field.Bank.TheVariants as bank
 use Rattle.ga_image.specs.declared.field.Field.{Field}
 use Rattle.ga_image.specs.declared.field.Field.TheVariants.{A, B, P, I, Io, Carry, Slot, Wait, Stop, Data, Return, Ram, Rom}
 use Rattle.ga_image.specs.declared.field.Format.TheVariants.{Two}
-use Rattle.ga_image.specs.Spelling.{Form, Node, Words, End, decimal3_of, name_of, numbers_of, code_text}
+use Rattle.ga_image.specs.Spelling.{Form, Node, Words, End, decimal3_of, field_name, numbers_of, code_text}
 use Rattle.ga_image.specs.Grammar.{header, Block, block_forms}
 
 -- ---- lines
 
 -- a field line, with its digits in lower case
 abbrev pub field_text : Field → List ℕ → List ℕ
-field_text Carry words = name_of Carry ++ code_text Carry (slice_index words 0)
-field_text Slot words = name_of Slot ++ code_text Slot (slice_index words 0)
-field_text Wait words = name_of Wait ++ code_text Wait (slice_index words 0)
-field_text Stop words = name_of Stop ++ code_text Stop (slice_index words 0)
-field_text field words = name_of field ++ numbers_of field words
+field_text Carry words = field_name Carry ++ code_text Carry (slice_index words 0)
+field_text Slot words = field_name Slot ++ code_text Slot (slice_index words 0)
+field_text Wait words = field_name Wait ++ code_text Wait (slice_index words 0)
+field_text Stop words = field_name Stop ++ code_text Stop (slice_index words 0)
+field_text field words = field_name field ++ numbers_of field words
 
 -- any line behind the header
 abbrev pub line_text : Form → List ℕ
@@ -31,30 +29,8 @@ line_text (Words field words) = field_text field words
 line_text End = codes "end"
 
 -- lines, each ended by a line feed
-abbrev pub text_of : List (List ℕ) → List ℕ
-text_of lines = flat_map (λ line. line ++ 10 ∷ []) lines
-
--- the text of field lines
-abbrev pub fields_text : List (Field × List ℕ) → List ℕ
-fields_text lines = text_of (map (λ line. field_text line.0 line.1) lines)
-
--- the text of blocks
-abbrev pub blocks_text : List Block → List ℕ
-blocks_text blocks = text_of (map line_text (flat_map block_forms blocks))
-
--- the fields whose lines give words, and those whose lines give one digit
-abbrev pub HasDigit : Field → Type 0
-HasDigit Carry = Unit {0}
-HasDigit Slot = Unit {0}
-HasDigit Stop = Unit {0}
-HasDigit _ = ⊥
-
-abbrev pub HasWords : Field → Type 0
-HasWords Carry = ⊥
-HasWords Slot = ⊥
-HasWords Wait = ⊥
-HasWords Stop = ⊥
-HasWords _ = Unit {0}
+abbrev pub lines_text : List (List ℕ) → List ℕ
+lines_text lines = flat_map (λ line. line ++ 10 ∷ []) lines
 
 -- words of 18 bits
 abbrev pub AreWords : List ℕ → Type 0
@@ -80,11 +56,6 @@ row_at memory cell = take 8 (drop cell memory)
 -- the lines of the rows of a memory, whose cells are these fields and hold 0 at load
 abbrev pub memory_lines : (ℕ → Field) → List ℕ → List (Field × List ℕ)
 memory_lines field memory = flat_map (λ cell. line_unless 0 (field cell) (row_at memory cell)) row_cells
-
--- the words of a memory
-abbrev pub memory_in : Bank → NodeRecord → List ℕ
-memory_in bank.Ram node = node.ram
-memory_in bank.Rom node = node.rom
 
 -- the lines of the registers that hold words
 abbrev pub register_lines : NodeRecord → NodeRecord → List (Field × List ℕ)
@@ -135,4 +106,4 @@ forms_of nodes = flat_map block_forms (blocks_from 0 nodes) ++ End ∷ []
 
 -- the whole text
 unfoldable pub printed : List NodeRecord → List ℕ
-printed nodes = text_of (header Two ∷ map line_text (forms_of nodes))
+printed nodes = lines_text (header Two ∷ map line_text (forms_of nodes))

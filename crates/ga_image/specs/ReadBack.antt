@@ -3,8 +3,7 @@ use Rattle.std.specs.Prelude.{ℕ, ◌≡◌, ◌^◌, ◌<◌, ◌≤◌, List,
 use Rattle.std.specs.List.{AllByRecursion}
 use Rattle.ga_node.specs.declared.wait.Wait.{Wait}
 use Rattle.ga_node.specs.declared.wait.Wait.TheVariants.{Nothing, Fetch, Read, Write}
-use Rattle.ga_node.specs.State.{NodeState}
-use Rattle.ga_node.specs.Record.{NodeRecord}
+use Rattle.ga_node.specs.Record.{NodeState, NodeRecord}
 use Rattle.ga_grid.specs.Chip.{records_of}
 use Rattle.ga_image.specs.Printing.{AreWords}
 use Rattle.ga_image.specs.Grammar.{IsImage}

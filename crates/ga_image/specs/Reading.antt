@@ -1,7 +1,7 @@
 -- Reading an image line by line, with the first fault that is met (docs/REFERENCE.md, "Images"; this project's own).
 use Rattle.std.specs.Prelude.{◌≡◌, ℕ, ◌+◌, ◌⊎◌, nat_lt, Bool, true, false, ◌||◌, if◌then◌else◌, List, [], ◌∷◌, length, replicate, slice_index_or, slice_set, is_none, Option, Some, None, Result, Ok, Err}
-use Rattle.ga_node.specs.State.{NodeState}
-use Rattle.ga_grid.specs.Chip.{default_chip}
+use Rattle.ga_node.specs.Record.{NodeState}
+use Rattle.ga_grid.specs.Load.{default_chip}
 use Rattle.ga_grid.specs.Grid.{node_of}
 use Rattle.ga_image.specs.declared.fault.ImageCause.{ImageCause}
 use Rattle.ga_image.specs.declared.fault.ImageCause.TheVariants as cause
@@ -17,6 +17,7 @@ use Rattle.ga_image.specs.Forms.{form}
 use Rattle.ga_image.specs.Lines.{longest}
 use Rattle.ga_image.specs.Grammar.{names, format_of, with_word}
 use Rattle.ga_image.specs.Progress.{Stage, Header, Open, Block, Ended, Progress}
+use Rattle.ga_image.specs.Fault.{no_memory}
 
 -- no field
 abbrev pub nothing_given : List Bool
@@ -164,10 +165,6 @@ at_end _ chip line = Err (record { line = line; cause = cause.Truncated })
 unfoldable pub reading : Progress → ℕ → List (List ℕ) → Result (List NodeState) ImageFault
 reading progress line [] = at_end progress.stage progress.chip line
 reading progress line (text ∷ lines) = refused (fault_of progress text) line (reading (after_line progress text) (line + 1) lines)
-
--- want of memory, which is met before the first line
-abbrev pub no_memory : ImageFault
-no_memory = record { line = 0; cause = cause.Memory }
 
 -- What a call returned is what reading gives, unless memory was refused.
 abbrev pub Gives : Result (List NodeState) ImageFault → Result (List NodeState) ImageFault → Type 0

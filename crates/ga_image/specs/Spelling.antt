@@ -44,20 +44,20 @@ wait_text code =
     else codes "write " ++ set_text (code - 48)
 
 -- what a field line begins with
-abbrev pub name_of : Field → List ℕ
-name_of A = codes "a"
-name_of B = codes "b"
-name_of P = codes "p"
-name_of I = codes "i"
-name_of Io = codes "io"
-name_of Carry = codes "carry "
-name_of Slot = codes "slot "
-name_of Wait = codes "wait "
-name_of Stop = codes "stop "
-name_of (Data k) = codes "d"
-name_of (Return k) = codes "r"
-name_of (Ram cell) = codes "ram "
-name_of (Rom cell) = codes "rom "
+abbrev pub field_name : Field → List ℕ
+field_name A = codes "a"
+field_name B = codes "b"
+field_name P = codes "p"
+field_name I = codes "i"
+field_name Io = codes "io"
+field_name Carry = codes "carry "
+field_name Slot = codes "slot "
+field_name Wait = codes "wait "
+field_name Stop = codes "stop "
+field_name (Data k) = codes "d"
+field_name (Return k) = codes "r"
+field_name (Ram cell) = codes "ram "
+field_name (Rom cell) = codes "rom "
 
 -- and the numbers that follow
 abbrev pub numbers_of : Field → List ℕ → List ℕ
@@ -79,7 +79,7 @@ pub record SpellsWords (text : List ℕ) (field : Field) (words : List ℕ) : Ty
   pub count : HasCount field (length words)
   pub six_digits : AllByRecursion (λ word. word < 2 ^ 24) words
   pub numbers : List ℕ
-  pub parts : text ≡ name_of field ++ numbers
+  pub parts : text ≡ field_name field ++ numbers
   pub digits : str_to_ascii_lowercase numbers ≡ numbers_of field words
 
 -- the numbers that a carry, a slot, a wait or a stop may have in a line
@@ -89,14 +89,6 @@ IsCode Slot code = code ≤ 4
 IsCode Wait code = IsWaitCode code × (code ≢ 0)
 IsCode Stop code = (1 ≤ code) × (code ≤ 3)
 IsCode _ code = ⊥
-
--- a word for a field, which for a wait is the number of one
-abbrev pub HoldsCode : Field → ℕ → Type 0
-HoldsCode Wait word = IsWaitCode word
-HoldsCode _ word = Unit {0}
-
-abbrev pub AreCodes : Field → List ℕ → Type 0
-AreCodes field words = AllByRecursion (HoldsCode field) words
 
 -- and how they are spelled: one decimal digit, or what the node waits for
 abbrev pub code_text : Field → ℕ → List ℕ
@@ -108,7 +100,7 @@ pub record SpellsCode (text : List ℕ) (field : Field) (words : List ℕ) : Typ
   pub code : ℕ
   pub one : words ≡ code ∷ []
   pub valid : IsCode field code
-  pub parts : text ≡ name_of field ++ code_text field code
+  pub parts : text ≡ field_name field ++ code_text field code
 
 -- any field line
 abbrev pub SpellsField : List ℕ → Field → List ℕ → Type 0

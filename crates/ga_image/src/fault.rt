@@ -1,7 +1,7 @@
 //! Why a text is no image.
 
 ghost use Rattle.std.specs.Prelude.{◌≡◌};
-ghost use Rattle.ga_image.specs.Fault.{number_of, word_of};
+ghost use Rattle.ga_image.specs.Fault.{cause_number, cause_word};
 
 use thiserror::Error;
 
@@ -43,7 +43,7 @@ pub enum ImageCause {
 impl ImageCause {
     /// The number by which the cause is reported.
     pub fn number(self) -> u8
-        ensures { result ≡ number_of self }
+        ensures { result ≡ cause_number self }
     {
         match self {
             ImageCause::Header => 11,
@@ -61,7 +61,7 @@ impl ImageCause {
 
     /// The word by which the cause is reported.
     pub fn word(self) -> &'static str
-        ensures { result.now ≡ word_of self }
+        ensures { result.now ≡ cause_word self }
     {
         match self {
             ImageCause::Header => "header",

@@ -1,9 +1,10 @@
 //! The fields of a block.
 
 ghost use Rattle.std.specs.Prelude.{◌≡◌, ◌<◌, ◌≤◌, length};
-ghost use Rattle.ga_image.specs.Spelling.{name_of};
-ghost use Rattle.ga_image.specs.Forms.{field_in};
-ghost use Rattle.ga_image.specs.Fields.{has_field, place_of, number_of, next_field, goes_past, is_too_great, HasCell};
+ghost use Rattle.ga_image.specs.Spelling.{field_name};
+ghost use Rattle.ga_image.specs.kept.Forms.{field_in};
+ghost use Rattle.ga_image.specs.Fields.{has_field, field_place, number_of, next_field, goes_past, is_too_great};
+ghost use Rattle.ga_image.specs.kept.Fields.{HasCell};
 
 use ga_node::Place;
 
@@ -75,7 +76,7 @@ impl Format {
 impl Field {
     /// The place of a node at load that it stands for.
     pub(crate) fn place(self) -> Place
-        ensures { result ≡ place_of self }
+        ensures { result ≡ field_place self }
     {
         match self {
             Field::A => Place::A,
@@ -99,7 +100,7 @@ impl Field {
 
     /// What its lines begin with.
     pub(crate) fn name(self) -> &'static str
-        ensures { result.now ≡ name_of self }
+        ensures { result.now ≡ field_name self }
     {
         match self {
             Field::A => "a",

@@ -1,12 +1,13 @@
 //! A text as an image.
 
 ghost use Rattle.std.specs.Prelude.{◌≡◌, ◌⊎◌, List, IfOk, IfErr};
-ghost use Rattle.ga_node.specs.State.{NodeState};
-ghost use Rattle.ga_grid.specs.Chip.{default_chip};
+ghost use Rattle.ga_node.specs.Record.{NodeState};
+ghost use Rattle.ga_grid.specs.Load.{default_chip};
 ghost use Rattle.ga_image.specs.FirstFault.{IsFirstFault};
 ghost use Rattle.ga_image.specs.Grammar.{IsImage};
 ghost use Rattle.ga_image.specs.Lines.{lines_of};
-ghost use Rattle.ga_image.specs.Reading.{start, reading, no_memory, Gives};
+ghost use Rattle.ga_image.specs.Reading.{start, reading, Gives};
+ghost use Rattle.ga_image.specs.Fault.{no_memory};
 
 use super::fault::{ImageCause, ImageFault};
 use super::lines::first_line;

@@ -1,8 +1,7 @@
 //! Laws of the definitions, each the contract of a function that does nothing.
 
 ghost use Rattle.std.specs.Prelude.{ℕ, ◌≡◌, ◌<◌, ◌↔◌, List, length, Ok, Err};
-ghost use Rattle.ga_node.specs.State.{NodeState};
-ghost use Rattle.ga_node.specs.Record.{NodeRecord};
+ghost use Rattle.ga_node.specs.Record.{NodeState, NodeRecord};
 ghost use Rattle.ga_grid.specs.Chip.{records_of};
 ghost use Rattle.ga_grid.specs.Steady.{AreSteady};
 ghost use Rattle.ga_image.specs.declared.fault.ImageFault.{ImageFault};

@@ -3,22 +3,8 @@
 ghost use Rattle.std.specs.Prelude.{◌≡◌, ◌≤◌, [], ◌∷◌};
 ghost use Rattle.ga_image.specs.Spelling.{Words};
 ghost use Rattle.std.specs.Option.{option_map};
-ghost use Rattle.ga_image.specs.Forms.{
-  form_of,
-  field_in,
-  words,
-  word_form,
-  cells_form,
-  stack_form,
-  digit_form,
-  set_form,
-  side_form,
-  wait_form,
-  node_form,
-  wide_form,
-  state_form,
-  form,
-};
+ghost use Rattle.ga_image.specs.kept.Forms.{form_of, field_in};
+ghost use Rattle.ga_image.specs.Forms.{words, word_form, cells_form, stack_form, digit_form, set_form, side_form, wait_form, node_form, wide_form, state_form, form};
 
 use super::digits::{cell_number, node_number, set_number};
 use super::field::{Bank, Field};

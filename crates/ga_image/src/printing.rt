@@ -5,11 +5,12 @@ ghost use Rattle.ga_node.specs.Record.{record_of, fresh_record};
 ghost use Rattle.ga_grid.specs.Chip.{records_of};
 ghost use Rattle.ga_grid.specs.Load.{load_p_of};
 ghost use Rattle.ga_grid.specs.Steady.{AreSteady};
-ghost use Rattle.ga_image.specs.Printing.{fields_text, register_lines, state_lines, memory_lines, row_at, lines_beside, blocks_text, block_unless, lines_at, printed, memory_in, AreWords};
+ghost use Rattle.ga_image.specs.kept.Printing.{fields_text, blocks_text, memory_in};
+ghost use Rattle.ga_image.specs.Printing.{register_lines, state_lines, memory_lines, row_at, lines_beside, block_unless, lines_at, printed, AreWords};
 ghost use Rattle.ga_image.specs.ReadBack.{HasSoundRegisters, HasSoundState, HoldsWords, IsSound, AreSound, Describes};
 ghost use Rattle.ga_image.specs.Lines.{lines_of};
-ghost use Rattle.ga_image.specs.Reading.{no_memory};
-ghost use Rattle.ga_image.specs.Forms.{field_in};
+ghost use Rattle.ga_image.specs.Fault.{no_memory};
+ghost use Rattle.ga_image.specs.kept.Forms.{field_in};
 
 use super::fault::{ImageCause, ImageFault};
 use super::field::{Bank, Field};

@@ -1,18 +1,19 @@
 -- An event made and kept in one go.
 use Rattle.std.proofs.Common.{◌≡◌, ◌+◌, List, length, Some, sym, ◌∙◌, ap, subst, refl}
 use Rattle.std.specs.Prelude.{Option}
-use Rattle.ga_node.specs.State.{NodeState}
+use Rattle.ga_node.specs.Record.{NodeState}
 use Rattle.ga_event.specs.declared.event.Event.{Event}
 use Rattle.ga_event.specs.declared.event.Event.TheVariants as event
 use Rattle.ga_event.specs.Apply.{Told, Did, Carried}
 use Rattle.ga_event.specs.Undo.{told_of}
-use Rattle.ga_journal.specs.declared.made.Made.{Made}
-use Rattle.ga_journal.specs.declared.made.Made.TheVariants as made
+use Rattle.ga_event.specs.declared.made.Made.{Made}
+use Rattle.ga_event.specs.declared.made.Made.TheVariants as made
 use Rattle.ga_journal.specs.Histories.{Past, Room, Book, history}
-use Rattle.ga_journal.specs.Kept.{steps_of, events_of}
-use Rattle.ga_journal.specs.Told.{made_after}
+use Rattle.ga_event.specs.Told.{steps_of, made_after}
+use Rattle.ga_journal.specs.Kept.{events_of}
 use Rattle.ga_journal.specs.Logs.{IsWhole}
-use Rattle.ga_journal.specs.Making.{IsMade, made_over, IsAdded}
+use Rattle.ga_journal.specs.Making.{IsMade}
+use Rattle.ga_journal.specs.kept.Making.{made_over, IsAdded}
 use Rattle.ga_journal.proofs.Logs.{steps_log}
 
 -- what the lengths tell, the events tell

@@ -1,5 +1,5 @@
 -- Walking back down to a step.
-use Rattle.std.proofs.Common.{◌≡◌, ℕ, zero, suc, ◌+◌, ◌-◌, ◌<◌, ◌≤◌, Bool, true, false, cond, List, [], ◌∷◌, ◌++◌, length, map, drop, take, refl, sym, ◌∙◌, ap, subst, arith, append_assoc}
+use Rattle.std.proofs.Common.{◌≡◌, ℕ, zero, suc, ◌+◌, ◌-◌, ◌<◌, ◌≤◌, Bool, true, false, cond, List, [], ◌∷◌, ◌++◌, length, map, drop, take, refl, sym, ◌∙◌, ap, subst, arith, append_assoc, Result, Ok, Err, IfOk, ◌^◌}
 use Rattle.std.specs.Prelude.{slice_index, reverse}
 use Rattle.std.proofs.lemmas.List.{reverse-append, length-take-le, length-drop, length-map}
 use Rattle.std.proofs.lemmas.List.Sums.{sum_by-append}
@@ -7,16 +7,16 @@ use Rattle.ga_event.specs.declared.event.Event.{Event}
 use Rattle.ga_event.specs.declared.event.Cause.{Cause}
 use Rattle.ga_event.specs.Touches.{touches}
 use Rattle.ga_event.specs.Apply.{Told}
-use Rattle.std.proofs.Common.{Result, Ok, Err, IfOk, ◌^◌}
 use Rattle.ga_journal.specs.declared.fault.JournalFault.{JournalFault}
 use Rattle.ga_journal.specs.declared.since.Since.{Since}
-use Rattle.ga_journal.specs.Histories.{Past, Held, lists_of, history}
-use Rattle.ga_journal.specs.Sound.{Keeps}
-use Rattle.ga_journal.specs.Kept.{steps_of}
+use Rattle.ga_journal.specs.Histories.{Past, history}
+use Rattle.ga_journal.specs.kept.Histories.{Held, lists_of}
+use Rattle.ga_journal.specs.kept.Sound.{Keeps}
+use Rattle.ga_event.specs.Told.{steps_of}
 use Rattle.ga_journal.specs.Logs.{Stamped, Records}
-use Rattle.ga_journal.specs.Cuts.{cut, older_causes, older_events, WalksBack, IsFirst, IsWalked}
+use Rattle.ga_journal.specs.kept.Cuts.{cut, older_causes, older_events, WalksBack, IsFirst, IsWalked}
 use Rattle.ga_journal.specs.Since.{events_in, IsSince}
-use Rattle.ga_journal.specs.declared.made.Made.{Made}
+use Rattle.ga_event.specs.declared.made.Made.{Made}
 use Rattle.ga_journal.proofs.Cutting.{history-cut}
 use Rattle.ga_journal.proofs.Logs.{length-tellings, tellings}
 use Rattle.ga_journal.proofs.Recalling.{older_are, older_causes_are, steps_older, walk_whole, cause_at, walked_drop, first_drop}

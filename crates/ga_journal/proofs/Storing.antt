@@ -11,9 +11,10 @@ use Rattle.ga_journal.specs.declared.entry.Part.{Part}
 use Rattle.ga_journal.specs.declared.entry.Part.TheVariants.{Own, Look, Passed}
 use Rattle.ga_journal.specs.declared.entry.Pass.{Pass}
 use Rattle.ga_journal.specs.declared.entry.Entry.{Entry}
-use Rattle.ga_journal.specs.Histories.{past, bound_from, bound_of, deed}
+use Rattle.ga_journal.specs.Histories.{past, deed}
+use Rattle.ga_journal.specs.kept.Histories.{bound_from, bound_of}
 use Rattle.ga_journal.specs.declared.entry.Act.TheVariants as act
-use Rattle.ga_journal.specs.Stored.{own_part, act_with, no_pass, act_in, past_in, passes_in, Names, IsBelow, IsDropped, AreNumbered}
+use Rattle.ga_journal.specs.kept.Stored.{own_part, act_with, no_pass, act_in, past_in, passes_in, Names, IsBelow, IsDropped, AreNumbered}
 
 pub numbered_le : (n m : ℕ) (es : List Entry) → AreNumbered n es m → n ≤ m
 numbered_le n m [] h = omega (arith, h)

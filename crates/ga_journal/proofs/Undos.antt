@@ -2,7 +2,8 @@
 use Rattle.std.proofs.Common.{◌≡◌, ◌≢◌, ℕ, Bool, true, false, List, set, refl, sym, ◌∙◌, ap, subst, inl, inr, get_or-set_other}
 use Rattle.std.proofs.lemmas.List.{set_comm}
 use Rattle.ga_ports.specs.declared.side.Side.{Side}
-use Rattle.ga_node.specs.State.{NodeState, restored}
+use Rattle.ga_node.specs.Record.{NodeState}
+use Rattle.ga_node.specs.State.{restored}
 use Rattle.ga_node.specs.declared.kind.Kind.{Kind}
 use Rattle.ga_node.specs.declared.place.Place.{Place}
 use Rattle.ga_grid.specs.Chip.{nowhere, node_at}
@@ -12,8 +13,8 @@ use Rattle.ga_event.specs.declared.event.Effect.TheVariants as effect
 use Rattle.ga_event.specs.Undo.{own_effect, unapplied, restored_at, CanRestore, CanUnapply}
 use Rattle.ga_journal.specs.Histories.{Past, history, deed}
 use Rattle.ga_journal.specs.Logs.{Stamped, Records}
-use Rattle.ga_journal.specs.Newest.{IsTopmost}
-use Rattle.ga_journal.specs.Ends.{CanGoBack}
+use Rattle.ga_journal.specs.kept.Newest.{IsTopmost}
+use Rattle.ga_journal.specs.kept.Ends.{CanGoBack}
 use Rattle.ga_journal.specs.Popped.{CanUndo}
 use Rattle.ga_journal.proofs.Heads.{Headed, headed}
 use Rattle.ga_journal.proofs.Popping.{SentLeft, TookLeft, end_gone}

@@ -1,5 +1,5 @@
 -- Looks that saw what is to go: an own event that looked saw of each neighbour just the entries with stamps below its own.
-use Rattle.std.specs.Prelude.{◌≡◌, ℕ, zero, suc, ◌<◌, ◌≤◌, true, false, List, length, Some, slice_get}
+use Rattle.std.specs.Prelude.{◌≡◌, ℕ, ◌<◌, ◌≤◌, true, false, List, length, Some, slice_get}
 use Rattle.ga_journal.specs.Histories.{Past, Book, history}
 use Rattle.ga_journal.specs.Kept.{has_looked_in}
 use Rattle.ga_journal.specs.Marks.{mark_of, ticked}
@@ -19,11 +19,6 @@ HasNoLook entries mark = (p : ℕ) (e : Past) → p < mark → slice_get entries
 -- some entry of a history is a look
 abbrev pub HasLook : List Past → Type 0
 HasLook entries = (p : ℕ) × (e : Past) × (slice_get entries p ≡ Some e) × (has_looked_in e.act ≡ true)
-
--- one past the newest of them, or 0
-abbrev pub IsPastNewest : List Past → ℕ → ℕ → Type 0
-IsPastNewest entries mark zero = HasNoLook entries mark
-IsPastNewest entries mark (suc at) = IsNewestLook entries mark at
 
 -- the newest look came after the entry at a position of another history
 pub record IsLookAfter (entries : List Past) (mark : ℕ) (others : List Past) (place at : ℕ) : Type 0 where

@@ -1,16 +1,13 @@
 -- An event that is made on a chip and kept in one go.
-use Rattle.std.specs.Prelude.{◌≡◌, ℕ, ◌+◌, List, length, Option, Some, None}
-use Rattle.ga_node.specs.State.{NodeState}
+use Rattle.std.specs.Prelude.{◌≡◌, List, Some}
+use Rattle.ga_node.specs.Record.{NodeState}
 use Rattle.ga_event.specs.declared.event.Event.{Event}
-use Rattle.ga_event.specs.declared.event.Event.TheVariants as event
 use Rattle.ga_event.specs.declared.event.Effect.{Effect}
-use Rattle.ga_event.specs.Apply.{Told, Did, Carried}
 use Rattle.ga_event.specs.Undo.{IsApplied, told_of}
-use Rattle.ga_journal.specs.declared.made.Made.{Made}
-use Rattle.ga_journal.specs.declared.made.Made.TheVariants as made
-use Rattle.ga_journal.specs.Histories.{Past, Book, history, appended, with_event}
+use Rattle.ga_event.specs.declared.made.Made.{Made}
+use Rattle.ga_journal.specs.Histories.{Book, with_event}
 use Rattle.ga_journal.specs.Kept.{events_of}
-use Rattle.ga_journal.specs.Told.{made_after}
+use Rattle.ga_event.specs.Told.{made_after}
 
 -- The event was applied to the chip with some effect and appended to the kept events, and this is told of it.
 pub record IsMade
@@ -20,20 +17,3 @@ pub record IsMade
   pub applied : IsApplied chip e effect now
   pub book : new ≡ with_event old e effect new.ready
   pub told_is : made_after (events_of old) e (told_of effect) ≡ Some told
-
--- what is told of an event by the lengths of the histories
-abbrev pub made_over : List (List Past) → Event → Told → Option Made
-made_over hs (event.Own node) (Did kind) = Some (made.Own node (length (history hs node.number) + 1) kind)
-made_over hs (event.Pass w r side) (Carried word) =
-    Some (made.Pass w (length (history hs w.number) + 1) r (length (history hs r.number) + 1) word)
-made_over hs (event.Own node) (Carried word) = None
-made_over hs (event.Pass w r side) (Did kind) = None
-
--- the same of the histories alone
-pub record IsAdded
-    (hs : List (List Past)) (chip : List NodeState) (stamp : ℕ) (e : Event) (told : Made) (gs : List (List Past)) (now : List NodeState)
-    : Type 0 where
-  pub effect : Effect
-  pub applied : IsApplied chip e effect now
-  pub histories : gs ≡ appended hs stamp e effect
-  pub told_is : made_over hs e (told_of effect) ≡ Some told

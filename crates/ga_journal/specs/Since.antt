@@ -3,7 +3,7 @@ use Rattle.std.specs.Prelude.{◌≡◌, ℕ, ◌+◌, true, List, ◌∷◌, �
 use Rattle.ga_event.specs.declared.event.Event.{Event}
 use Rattle.ga_event.specs.declared.event.Cause.{Cause}
 use Rattle.ga_event.specs.Touches.{touches}
-use Rattle.ga_journal.specs.Kept.{steps_of}
+use Rattle.ga_event.specs.Told.{steps_of}
 
 -- the events alone
 abbrev pub events_in : List Cause → List Event

@@ -2,9 +2,8 @@
 
 use crate::fault::JournalFault;
 use crate::journal::Journal;
-use crate::made::Made;
 use crate::since::Since;
-use ga_event::{Cause, Event};
+use ga_event::{Cause, Event, Made};
 use ga_grid::NodeId;
 use ga_node::Node;
 
@@ -20,9 +19,9 @@ impl Chronicle {
     ghost use Rattle.std.specs.List.{slice_get};
     ghost use Rattle.ga_journal.specs.Histories.{history};
     ghost use Rattle.ga_journal.specs.Walked.{walked, CanWalk};
-    ghost use Rattle.ga_journal.specs.Kept.{kept_of, causes_of, events_of, steps_of};
+    ghost use Rattle.ga_journal.specs.Kept.{kept_of, causes_of, events_of};
+    ghost use Rattle.ga_event.specs.Told.{steps_of, mades_of, made_in};
     ghost use Rattle.ga_journal.specs.Since.{IsSince};
-    ghost use Rattle.ga_journal.specs.Told.{mades_of, made_in};
     ghost use Rattle.ga_journal.specs.Logs.{IsWhole};
 
     /// What is told of the kept events that touch a node, in order.

@@ -1,7 +1,7 @@
 //! The history of one node.
 
 ghost use Rattle.std.specs.Prelude.{◌≡◌, ◌+◌, ◌<◌, ◌≤◌, ◌^◌, length};
-ghost use Rattle.ga_journal.specs.Stored.{own_part, act_in, looked_in, looked_after, passes_in, IsBelow, IsDropped};
+ghost use Rattle.ga_journal.specs.kept.Stored.{own_part, act_in, looked_in, looked_after, passes_in, IsBelow, IsDropped};
 
 use crate::entry::{Act, Entry, Head, Part, Pass, Role, Taken};
 use crate::fault::JournalFault;
@@ -22,11 +22,11 @@ pub(crate) struct History {
 }
 
 impl Model for History {
-    ghost use Rattle.ga_journal.specs.Histories.{Held};
+    ghost use Rattle.ga_journal.specs.kept.Histories.{Held};
 
     ghost Value = { Held };
 
-    ghost use Rattle.ga_journal.specs.Stored.{held_by, IsHistory};
+    ghost use Rattle.ga_journal.specs.kept.Stored.{held_by, IsHistory};
 
     ghost view = { λ h. held_by h.entries h.passes };
 
@@ -122,17 +122,18 @@ fn drop_pass(passes: &mut Vec<Pass>, part: Part)
 }
 
 impl History {
-    ghost use Rattle.std.specs.Prelude.{◌≡◌, ◌+◌, ◌<◌, ◌^◌, ◌++◌, ◌∷◌, [], length, IsTrue};
-    ghost use Rattle.std.specs.Prelude.{OnOk, OnErr, IfErr, IfSome, IfNone, None, take, drop};
+    ghost use Rattle.std.specs.Prelude.{◌≡◌, ◌+◌, ◌<◌, ◌^◌, ◌++◌, ◌∷◌, [], length, IsTrue, OnOk, OnErr, IfErr, IfSome, IfNone, None, take, drop};
     ghost use Rattle.std.specs.Bool.{OnTrue, OnFalse};
     ghost use Rattle.ga_journal.specs.Walked.{walked, CanWalk};
     ghost use Rattle.ga_node.specs.Record.{record_of};
     ghost use Rattle.ga_node.specs.Table.{refusal};
     ghost use Rattle.ga_grid.specs.Chip.{node_at};
-    ghost use Rattle.ga_journal.specs.Histories.{past, past_of, bound_of};
-    ghost use Rattle.ga_journal.specs.Stored.{act_with};
-    ghost use Rattle.ga_journal.specs.Ends.{TellsOf, IsMadeAlone, CanGoBack, IsGoneBack};
-    ghost use Rattle.ga_journal.specs.Looks.{HasLook, HasNoLook, IsNewestLook, IsPastNewest};
+    ghost use Rattle.ga_journal.specs.Histories.{past};
+    ghost use Rattle.ga_journal.specs.kept.Histories.{past_of, bound_of};
+    ghost use Rattle.ga_journal.specs.kept.Stored.{act_with};
+    ghost use Rattle.ga_journal.specs.kept.Ends.{TellsOf, IsMadeAlone, CanGoBack, IsGoneBack};
+    ghost use Rattle.ga_journal.specs.Looks.{HasLook, HasNoLook, IsNewestLook};
+    ghost use Rattle.ga_journal.specs.kept.Looks.{IsPastNewest};
 
     /// A history without an entry.
     #[inline(always)]

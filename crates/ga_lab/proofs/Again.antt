@@ -7,10 +7,8 @@ use Rattle.ga_node.specs.Record.{NodeRecord}
 use Rattle.ga_event.specs.declared.event.Event.{Event}
 use Rattle.ga_event.specs.declared.event.Cause.{Cause}
 use Rattle.ga_event.specs.Apply.{Told, apply, after, unless, run, replay}
-use Rattle.ga_causal.specs.Causes.{events_in}
-use Rattle.ga_causal.specs.Dependence.{NoneLooks, dependents, without, rest}
+use Rattle.ga_causal.specs.Dependence.{events_in, NoneLooks, dependents, without, rest, place_of, rest_from}
 use Rattle.ga_causal.specs.Equivalence.{AreEquivalent}
-use Rattle.ga_causal.specs.Steps.{place_of, rest_from}
 use Rattle.ga_causal.proofs.Runs.{first_of_run}
 use Rattle.ga_causal.proofs.Swaps.{replay_equivalent}
 use Rattle.ga_causal.proofs.Words.{after_is}

@@ -14,20 +14,16 @@ use Rattle.ga_event.specs.declared.event.Cause.{Cause}
 use Rattle.ga_event.specs.Touches.{touches as event_touches}
 use Rattle.ga_event.specs.Apply.{seen_from, run, replay}
 use Rattle.ga_event.specs.Next.{next}
-use Rattle.ga_causal.specs.Causes.{events_in}
-use Rattle.ga_causal.specs.Dependence.{rest}
+use Rattle.ga_causal.specs.Dependence.{events_in, rest, place_of, rest_from, rewound_list}
 use Rattle.ga_causal.specs.Equivalence.{AreEquivalent, same, swapped, later, joined, account}
-use Rattle.ga_causal.specs.Steps.{place_of, rest_from}
-use Rattle.ga_causal.specs.Steps.{rewound as rewound_list}
 use Rattle.ga_causal.proofs.Runs.{causes}
 use Rattle.ga_causal.proofs.Swaps.{replay_equivalent}
 use Rattle.ga_causal.proofs.Shuffles.{Shuffled}
 use Rattle.ga_causal.proofs.Consistent.{kept_alike, same_accounts, shuffled_by, equivalent-append}
 use Rattle.ga_causal.proofs.Rolled.{rolled_back, rewound_shuffled, length_shuffled, place_shuffled}
-use Rattle.ga_journal.specs.declared.made.Made.{Made}
-use Rattle.ga_journal.specs.declared.made.Made.TheVariants as made
-use Rattle.ga_journal.specs.Kept.{steps_of}
-use Rattle.ga_journal.specs.Told.{mades_of}
+use Rattle.ga_event.specs.declared.made.Made.{Made}
+use Rattle.ga_event.specs.declared.made.Made.TheVariants as made
+use Rattle.ga_event.specs.Told.{steps_of, mades_of}
 use Rattle.ga_lab.specs.declared.fault.LabFault.{LabFault}
 use Rattle.ga_lab.specs.declared.fault.LabFault.TheVariants.{Full, Spent}
 use Rattle.ga_lab.specs.Machine.{State, first, chip_of, told_by, causes_of, told_next, answer_to, with_event, step_answer, unless_refused, stepped, rest_answer, rewind_answer, rewound, history_of}

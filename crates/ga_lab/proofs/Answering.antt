@@ -12,9 +12,8 @@ use Rattle.ga_event.specs.declared.event.Event.TheVariants as event
 use Rattle.ga_event.specs.declared.event.Cause.{Cause}
 use Rattle.ga_event.specs.Apply.{Told, apply, after, unless, cause_of, run, replay}
 use Rattle.ga_event.specs.Next.{next}
-use Rattle.ga_journal.specs.declared.made.Made.{Made}
-use Rattle.ga_journal.specs.Kept.{events_told}
-use Rattle.ga_journal.specs.Told.{made_after, made_in}
+use Rattle.ga_event.specs.declared.made.Made.{Made}
+use Rattle.ga_event.specs.Told.{events_told, made_after, made_in}
 use Rattle.ga_rollback.proofs.Replays.{run_snoc}
 use Rattle.ga_lab.specs.declared.fault.LabFault.TheVariants.{Full, Spent}
 use Rattle.ga_lab.specs.Machine.{State, chip_of, told_by, told_of_kept, told_next, answer_to, with_event, step_answer, unless_refused, stepped}

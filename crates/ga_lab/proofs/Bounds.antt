@@ -5,14 +5,15 @@ use Rattle.std.specs.List.{sum, range_with_len}
 use Rattle.std.proofs.lemmas.List.{length-map, get_or-map}
 use Rattle.std.proofs.lemmas.List.FromFn.{get_or-map-range_with_len, length-map-range_with_len}
 use Rattle.std.proofs.lemmas.List.Sums.{sum-map}
-use Rattle.ga_node.specs.State.{NodeState}
+use Rattle.ga_node.specs.Record.{NodeState}
 use Rattle.ga_journal.specs.Histories.{Book}
-use Rattle.ga_journal.specs.Kept.{events_of, steps_of}
+use Rattle.ga_journal.specs.Kept.{events_of}
+use Rattle.ga_event.specs.Told.{steps_of}
 use Rattle.ga_journal.specs.Marks.{entries}
 use Rattle.ga_journal.proofs.Logs.{length-built}
 use Rattle.ga_rollback.specs.Rewound.{IsTicked}
-use Rattle.ga_lab.specs.Bound.{IsBounded, steps_in}
-use Rattle.ga_lab.specs.Tied.{IsLab, state_of}
+use Rattle.ga_lab.specs.Machine.{IsBounded, steps_in}
+use Rattle.ga_lab.specs.kept.Tied.{IsLab, state_of}
 use Rattle.ga_lab.proofs.Rewinding.{steps_lab, kept_state}
 
 -- the histories, and how long each of them is

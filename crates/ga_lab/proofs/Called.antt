@@ -13,18 +13,15 @@ use Rattle.ga_event.specs.Touches.{touches as event_touches}
 use Rattle.ga_event.specs.Apply.{Told, apply, after, unless, cause_of, run, replay}
 use Rattle.ga_event.specs.Next.{next}
 use Rattle.ga_event.proofs.Nexts.{next_can}
-use Rattle.ga_causal.specs.Causes.{events_in, touches}
-use Rattle.ga_causal.specs.Dependence.{rest}
-use Rattle.ga_causal.specs.Steps.{rest_from, touching}
-use Rattle.ga_causal.specs.Steps.{rewound as rewound_list}
+use Rattle.ga_causal.specs.Dependence.{events_in, cause_touches, rest, rest_from, rewound_list}
+use Rattle.ga_causal.specs.Steps.{touching}
 use Rattle.ga_causal.proofs.Runs.{causes, run_more, first_of_run}
 use Rattle.ga_causal.proofs.Consistent.{made_of}
 use Rattle.ga_causal.proofs.Places.{place_split, touching_in}
 use Rattle.ga_causal.proofs.Accounts.{first_part_told}
 use Rattle.ga_lab.proofs.Told.{history_begins}
-use Rattle.ga_journal.specs.declared.made.Made.{Made}
-use Rattle.ga_journal.specs.Kept.{steps_of}
-use Rattle.ga_journal.specs.Told.{mades_of}
+use Rattle.ga_event.specs.declared.made.Made.{Made}
+use Rattle.ga_event.specs.Told.{steps_of, mades_of}
 use Rattle.ga_rollback.proofs.Replays.{run_snoc}
 use Rattle.ga_lab.specs.declared.fault.LabFault.{LabFault}
 use Rattle.ga_lab.specs.Machine.{State, first, chip_of, told_by, told_of_kept, causes_of, answer_to, with_event, unless_refused, stepped, undone, rewound, history_of}
@@ -156,7 +153,7 @@ rest_last : (xs : List Cause) (c : Cause) → rest (xs ++ c ∷ []) (length xs) 
 rest_last [] c = refl
 rest_last (x ∷ xs) c = ap (λ z. x ∷ z) (rest_last xs c)
 
-rewound_last : (xs : List Cause) (c : Cause) (n : ℕ) → touches c n ≡ true → rewound_list (xs ++ c ∷ []) n (touching n xs + 1) ≡ xs
+rewound_last : (xs : List Cause) (c : Cause) (n : ℕ) → cause_touches c n ≡ true → rewound_list (xs ++ c ∷ []) n (touching n xs + 1) ≡ xs
 rewound_last xs c n t =
     let q : touching n xs + 1 ≡ suc (touching n xs) = omega arith in
     ap (λ (z : ℕ). rewound_list (xs ++ c ∷ []) n z) q ∙ ap (rest_from (xs ++ c ∷ [])) (place_split n (touching n xs) xs c [] refl t) ∙ rest_last xs c
@@ -165,7 +162,7 @@ pub undone_rewound : (s : State) (xs : List Event) (e : Event) (n : ℕ) → IsS
 undone_rewound s xs e n some is t =
     let r = runs_of s some in
     let l = last_of (causes r.told) xs e (events_run s.load r.last s.kept r.told r.run_is ∙ is) in
-    let here : touches l.cause n ≡ true = ap (λ z. event_touches z n) l.event ∙ t in
+    let here : cause_touches l.cause n ≡ true = ap (λ z. event_touches z n) l.event ∙ t in
     let steps : steps_of n s.kept ≡ touching n l.front + 1 =
     ap (steps_of n) is ∙ sum_by-append (λ (z : Event). cond (event_touches z n) 1 0) xs (e ∷ []) ∙ one (event_touches e n) t ∙ ap (λ (z : ℕ). z + 1) (ap (steps_of n) (sym l.events) ∙ sym (touching_in n l.front)) in
     let long : length (xs ++ e ∷ []) ≡ length xs + 1 = length_push xs e in

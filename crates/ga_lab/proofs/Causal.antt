@@ -11,11 +11,9 @@ use Rattle.ga_event.specs.declared.event.Cause.{Cause}
 use Rattle.ga_event.specs.Apply.{refusal_of, replay}
 use Rattle.ga_event.specs.Next.{next}
 use Rattle.ga_event.proofs.Nexts.{next_can}
-use Rattle.ga_causal.specs.Causes.{events_in}
-use Rattle.ga_causal.specs.Dependence.{dependents, without, rest}
+use Rattle.ga_causal.specs.Dependence.{events_in, dependents, without, rest, place_of, rest_from}
 use Rattle.ga_causal.specs.Equivalence.{AreEquivalent}
-use Rattle.ga_causal.specs.Steps.{place_of, rest_from}
-use Rattle.ga_journal.specs.declared.made.Made.{Made}
+use Rattle.ga_event.specs.declared.made.Made.{Made}
 use Rattle.ga_lab.specs.declared.fault.LabFault.{LabFault}
 use Rattle.ga_lab.specs.declared.fault.LabFault.TheVariants.{Full, Spent}
 use Rattle.ga_lab.specs.Machine.{State, first, chip_of, causes_of, told_next, answer_to, with_event, unless_refused, stepped, undone, rewound}

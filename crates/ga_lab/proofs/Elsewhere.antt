@@ -11,12 +11,11 @@ use Rattle.ga_event.specs.Touches.{meets}
 use Rattle.ga_event.specs.Apply.{Told, apply, cause_of, run, replay}
 use Rattle.ga_event.specs.Agree.{Agree}
 use Rattle.ga_event.proofs.Locality.{Agree-sym}
-use Rattle.ga_causal.specs.Causes.{events_in, touches}
-use Rattle.ga_causal.specs.Dependence.{dependents_after, without, rest}
-use Rattle.ga_causal.specs.Steps.{touching, place_of, rest_from}
+use Rattle.ga_causal.specs.Dependence.{events_in, cause_touches, dependents_after, without, rest, place_of, rest_from}
+use Rattle.ga_causal.specs.Steps.{touching}
 use Rattle.ga_causal.proofs.Runs.{kept, run_more, FirstOf, keeps_of, Same, same_of}
 use Rattle.ga_causal.proofs.Places.{touching_in}
-use Rattle.ga_journal.specs.Kept.{steps_of}
+use Rattle.ga_event.specs.Told.{steps_of}
 use Rattle.ga_lab.specs.Machine.{State, chip_of, told_by, causes_of, rewound}
 use Rattle.ga_lab.proofs.Answering.{Ran, ran, chip_is}
 use Rattle.ga_lab.proofs.Reasoned.{causes, replayed}
@@ -41,19 +40,19 @@ first_of_run c e es last ts = at_first (apply c e) refl
     at_first None h g = absurd (cc)
     at_first (Some done) h g = at_rest done h (run done.0 es) refl g
 
-Agree-marked : (marks : ℕ → Bool) (e : Event) (c d b : List NodeRecord) (t : Told) → Agree marks c b → apply c e ≡ Some (d, t) → Agree (λ n. marks n || touches (cause_of c e) n) d b
+Agree-marked : (marks : ℕ → Bool) (e : Event) (c d b : List NodeRecord) (t : Told) → Agree marks c b → apply c e ≡ Some (d, t) → Agree (λ n. marks n || cause_touches (cause_of c e) n) d b
 Agree-marked marks e c d b t a h =
-    let k : Agree (touches (cause_of c e)) c d = keeps_of c e d t h in
+    let k : Agree (cause_touches (cause_of c e)) c d = keeps_of c e d t h in
     record {
       size = sym k.size ∙ a.size;
-      same = λ n free. let p : (marks n ≡ false) × (touches (cause_of c e) n ≡ false) = or_parts (marks n) (touches (cause_of c e) n) free in sym (k.same n p.1) ∙ a.same n p.0;
+      same = λ n free. let p : (marks n ≡ false) × (cause_touches (cause_of c e) n ≡ false) = or_parts (marks n) (cause_touches (cause_of c e) n) free in sym (k.same n p.1) ∙ a.same n p.0;
     }
 
 one : Bool → ℕ
 one b = cond b 1 0
 
-touching-cons : (n : ℕ) (e : Cause) (es : List Cause) → touching n (e ∷ es) ≡ cond (touches e n) 1 0 + touching n es
-touching-cons n e es = Rattle.std.proofs.lemmas.List.Sums.sum_by-cons (λ (x : Cause). cond (touches x n) 1 0) e es
+touching-cons : (n : ℕ) (e : Cause) (es : List Cause) → touching n (e ∷ es) ≡ cond (cause_touches e n) 1 0 + touching n es
+touching-cons n e es = Rattle.std.proofs.lemmas.List.Sums.sum_by-cons (λ (x : Cause). cond (cause_touches x n) 1 0) e es
 
 -- leaving events out adds no step
 fewer : (n : ℕ) (flags : List Bool) (es : List Cause) → touching n (without flags es) ≤ touching n es
@@ -89,22 +88,22 @@ kept_elsewhere marks (e ∷ es) c b last ts m a free h count =
     let f = first_of_run c e es last ts h in
     subst (λ z. Elsewhere b last m (events_in (kept marks (causes z)))) (sym f.all)
     (go f
-    (λ no k. kept_elsewhere (λ n. marks n || touches (cause_of c e) n) es f.mid b last f.others m (Agree-marked marks e c f.mid b f.told a f.first) (or_from (marks m) (touches (cause_of c e) m) free no) f.then k)
+    (λ no k. kept_elsewhere (λ n. marks n || cause_touches (cause_of c e) n) es f.mid b last f.others m (Agree-marked marks e c f.mid b f.told a f.first) (or_from (marks m) (cause_touches (cause_of c e) m) free no) f.then k)
     (λ s k. kept_elsewhere marks es f.mid s.mid last f.others m s.agree free f.then k)
     (subst (λ z. touching m (kept marks (causes z)) ≡ touching m (causes z)) f.all count) (cases_Bool (meets marks (cause_of c e))))
   where
     go : (f : FirstOf c e es last ts)
-        → (touches (cause_of c e) m ≡ false → touching m (kept (λ n. marks n || touches (cause_of c e) n) (causes f.others)) ≡ touching m (causes f.others)
-        → Elsewhere b last m (events_in (kept (λ n. marks n || touches (cause_of c e) n) (causes f.others))))
+        → (cause_touches (cause_of c e) m ≡ false → touching m (kept (λ n. marks n || cause_touches (cause_of c e) n) (causes f.others)) ≡ touching m (causes f.others)
+        → Elsewhere b last m (events_in (kept (λ n. marks n || cause_touches (cause_of c e) n) (causes f.others))))
         → ((s : Same marks e c f.mid b f.told) → touching m (kept marks (causes f.others)) ≡ touching m (causes f.others) → Elsewhere s.mid last m (events_in (kept marks (causes f.others))))
         → touching m (kept marks (cause_of c e ∷ causes f.others)) ≡ touching m (cause_of c e ∷ causes f.others)
         → (meets marks (cause_of c e) ≡ true) ⊎ (meets marks (cause_of c e) ≡ false) → Elsewhere b last m (events_in (kept marks (cause_of c e ∷ causes f.others)))
     go f ih1 ih2 k (inl t) =
-        let k2 : touching m (kept (λ n. marks n || touches (cause_of c e) n) (causes f.others)) ≡ touching m (cause_of c e ∷ causes f.others) = rw t at k in
-        let less = fewer m (dependents_after (λ n. marks n || touches (cause_of c e) n) (causes f.others)) (causes f.others) in
+        let k2 : touching m (kept (λ n. marks n || cause_touches (cause_of c e) n) (causes f.others)) ≡ touching m (cause_of c e ∷ causes f.others) = rw t at k in
+        let less = fewer m (dependents_after (λ n. marks n || cause_touches (cause_of c e) n) (causes f.others)) (causes f.others) in
         let cons = touching-cons m (cause_of c e) (causes f.others) in
-        let no : touches (cause_of c e) m ≡ false = not_it (touches (cause_of c e) m) _ _ less (k2 ∙ cons) in
-        let k3 : touching m (kept (λ n. marks n || touches (cause_of c e) n) (causes f.others)) ≡ touching m (causes f.others) = same_count (touches (cause_of c e) m) _ _ no (k2 ∙ cons) in
+        let no : cause_touches (cause_of c e) m ≡ false = not_it (cause_touches (cause_of c e) m) _ _ less (k2 ∙ cons) in
+        let k3 : touching m (kept (λ n. marks n || cause_touches (cause_of c e) n) (causes f.others)) ≡ touching m (causes f.others) = same_count (cause_touches (cause_of c e) m) _ _ no (k2 ∙ cons) in
         rw t (ih1 no k3)
     go f ih1 ih2 k (inr t) =
         let k2 : touching m (cause_of c e ∷ kept marks (causes f.others)) ≡ touching m (cause_of c e ∷ causes f.others) = rw t at k in
@@ -122,13 +121,13 @@ rest_elsewhere chip [] i last ts m h count =
     (record { now = chip; told = []; run_is = refl; same = ap (λ (z : List NodeRecord × List (Cause × Told)). record_at z.0 m) (sym p) })
 rest_elsewhere chip (e ∷ es) zero last ts m h count =
     let f = first_of_run chip e es last ts h in
-    let k : touching m (kept (touches (cause_of chip e)) (causes f.others)) ≡ touching m (cause_of chip e ∷ causes f.others) = subst (λ z. touching m (rest (causes z) zero) ≡ touching m (causes z)) f.all count in
-    let less = fewer m (dependents_after (touches (cause_of chip e)) (causes f.others)) (causes f.others) in
+    let k : touching m (kept (cause_touches (cause_of chip e)) (causes f.others)) ≡ touching m (cause_of chip e ∷ causes f.others) = subst (λ z. touching m (rest (causes z) zero) ≡ touching m (causes z)) f.all count in
+    let less = fewer m (dependents_after (cause_touches (cause_of chip e)) (causes f.others)) (causes f.others) in
     let cons = touching-cons m (cause_of chip e) (causes f.others) in
-    let no : touches (cause_of chip e) m ≡ false = not_it (touches (cause_of chip e) m) _ _ less (k ∙ cons) in
+    let no : cause_touches (cause_of chip e) m ≡ false = not_it (cause_touches (cause_of chip e) m) _ _ less (k ∙ cons) in
     subst (λ z. Elsewhere chip last m (events_in (rest (causes z) zero))) (sym f.all)
-    (kept_elsewhere (touches (cause_of chip e)) es f.mid chip last f.others m (Agree-sym (touches (cause_of chip e)) chip f.mid (keeps_of chip e f.mid f.told f.first)) no f.then
-    (same_count (touches (cause_of chip e) m) _ _ no (k ∙ cons)))
+    (kept_elsewhere (cause_touches (cause_of chip e)) es f.mid chip last f.others m (Agree-sym (cause_touches (cause_of chip e)) chip f.mid (keeps_of chip e f.mid f.told f.first)) no f.then
+    (same_count (cause_touches (cause_of chip e) m) _ _ no (k ∙ cons)))
 rest_elsewhere chip (e ∷ es) (suc i) last ts m h count =
     let f = first_of_run chip e es last ts h in
     let k : touching m (cause_of chip e ∷ rest (causes f.others) i) ≡ touching m (cause_of chip e ∷ causes f.others) = subst (λ z. touching m (rest (causes z) (suc i)) ≡ touching m (causes z)) f.all count in

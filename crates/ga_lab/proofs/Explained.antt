@@ -6,16 +6,17 @@ use Rattle.ga_event.specs.declared.event.Event.{Event}
 use Rattle.ga_event.specs.declared.event.Cause.{Cause}
 use Rattle.ga_event.specs.Apply.{replay}
 use Rattle.ga_causal.specs.declared.chain.Link.{Link}
-use Rattle.ga_causal.specs.Chains.{IsChain, IsChainTo, IsFound, chain_of, named}
+use Rattle.ga_causal.specs.Chains.{IsChain, IsChainTo, IsFound, chain_of}
+use Rattle.ga_causal.specs.Steps.{named}
 use Rattle.ga_causal.specs.Equivalence.{AreEquivalent}
-use Rattle.ga_causal.specs.Steps.{place_of}
+use Rattle.ga_causal.specs.Dependence.{place_of}
 use Rattle.ga_causal.proofs.ChainLaws.{chain_chain}
 use Rattle.ga_causal.proofs.ChainOf.{chain_found}
 use Rattle.ga_causal.proofs.Consistent.{shuffled_by}
 use Rattle.ga_causal.proofs.Moved.{Again, chain_again}
 use Rattle.ga_causal.proofs.Refusals.{touching}
 use Rattle.ga_causal.proofs.Runs.{causes}
-use Rattle.ga_journal.specs.Kept.{steps_of}
+use Rattle.ga_event.specs.Told.{steps_of}
 use Rattle.ga_lab.specs.declared.fault.LabFault.{LabFault}
 use Rattle.ga_lab.specs.declared.fault.LabFault.TheVariants.{NoStep}
 use Rattle.ga_lab.specs.Machine.{State, causes_of, stands, rewound, why_between, why_answer}

@@ -13,21 +13,19 @@ use Rattle.ga_node.specs.declared.wait.Wait.TheVariants.{Nothing, Fetch, Read, W
 use Rattle.ga_node.specs.Record.{NodeRecord}
 use Rattle.ga_node.specs.Table.{refused_by}
 use Rattle.ga_grid.specs.declared.node_id.NodeId.{NodeId}
-use Rattle.ga_grid.specs.NodeId.{node_id}
-use Rattle.ga_grid.specs.Grid.{neighbour_of}
+use Rattle.ga_grid.specs.Grid.{node_id, neighbour_of}
 use Rattle.ga_grid.specs.Chip.{record_at}
 use Rattle.ga_grid.proofs.NodeIds.{node_id-number}
 use Rattle.ga_event.specs.declared.event.Event.{Event}
 use Rattle.ga_event.specs.declared.event.Event.TheVariants as event
 use Rattle.ga_event.specs.declared.event.Cause.{Cause}
-use Rattle.ga_event.specs.Apply.{Told, writes_to, reads_from, is_number, is_open, unmatched, refusal_of, apply, after, unless, run, replay}
+use Rattle.ga_event.specs.Apply.{Told, writes_to, reads_from, is_number, is_open, unmatched, refusal_of, apply, after, unless, run, replay, cause_of}
 use Rattle.ga_event.specs.Next.{next, next_by, pass_to, or_waiting}
-use Rattle.ga_journal.specs.declared.made.Made.{Made}
+use Rattle.ga_event.specs.declared.made.Made.{Made}
 use Rattle.ga_rollback.proofs.Replays.{run_snoc}
 use Rattle.ga_lab.specs.declared.fault.LabFault.TheVariants.{Full, Spent}
 use Rattle.ga_lab.specs.Machine.{State, first, chip_of, told_next, answer_to, with_event, unless_refused, stepped, undone}
 use Rattle.ga_causal.proofs.Runs.{run_more}
-use Rattle.ga_event.specs.Apply.{cause_of}
 use Rattle.ga_lab.specs.Forward.{actor_of, stepped_all}
 
 -- An event that can be made is the next of its node, a pass that of its writer.

@@ -19,9 +19,9 @@ use Rattle.ga_event.specs.Apply.{Told, after, apply, cause_of, run}
 use Rattle.ga_causal.specs.Words.{word_of, account_read, look_word, words_read}
 use Rattle.ga_causal.proofs.Runs.{first_of_run, keeps_of}
 use Rattle.ga_causal.proofs.Words.{Becomes, becomes_one, becomes_of, after_is, same_size}
-use Rattle.ga_journal.specs.declared.made.Made.{Made}
-use Rattle.ga_journal.specs.declared.made.Made.TheVariants as made
-use Rattle.ga_journal.specs.Told.{made_after, mades_after, mades_of}
+use Rattle.ga_event.specs.declared.made.Made.{Made}
+use Rattle.ga_event.specs.declared.made.Made.TheVariants as made
+use Rattle.ga_event.specs.Told.{made_after, mades_after, mades_of}
 use Rattle.ga_lab.specs.Machine.{State, first, chip_of, history_of}
 use Rattle.ga_lab.specs.Calls.{Call, called_all}
 use Rattle.ga_lab.proofs.Called.{Runs, told_is, chip_is, first_runs, calls_load}

@@ -11,11 +11,8 @@ use Rattle.ga_event.specs.declared.event.Cause.{Cause}
 use Rattle.ga_event.specs.Apply.{Told, refusal_of, apply, after, unless, cause_of, run, replay}
 use Rattle.ga_event.specs.Next.{next}
 use Rattle.ga_event.proofs.Nexts.{next_can}
-use Rattle.ga_causal.specs.Causes.{events_in}
-use Rattle.ga_causal.specs.Dependence.{dependents, without, rest, NoneLooks}
+use Rattle.ga_causal.specs.Dependence.{events_in, dependents, without, rest, NoneLooks, place_of, rest_from, rewound_list}
 use Rattle.ga_causal.specs.Equivalence.{AreApart, AreEquivalent, same, swapped, later, joined}
-use Rattle.ga_causal.specs.Steps.{place_of, rest_from}
-use Rattle.ga_causal.specs.Steps.{rewound as rewound_list}
 use Rattle.ga_causal.proofs.Runs.{causes}
 use Rattle.ga_causal.proofs.Swaps.{replay_equivalent}
 use Rattle.ga_causal.proofs.Taken.{taken_last}

@@ -4,8 +4,7 @@ use Rattle.std.specs.Prelude.{Option, None, IsNone, ◌↔◌, option_map, unwra
 use Rattle.std.proofs.lemmas.Bool.{cases_lt}
 use Rattle.std.proofs.lemmas.List.{take_all, take-append-le, take-append-drop, drop_all, length_push}
 use Rattle.std.proofs.lemmas.List.Sums.{sum_by-append}
-use Rattle.ga_node.specs.State.{NodeState}
-use Rattle.ga_node.specs.Record.{NodeRecord, record_of}
+use Rattle.ga_node.specs.Record.{NodeState, NodeRecord, record_of}
 use Rattle.ga_grid.specs.Chip.{records_of, record_at, node_at}
 use Rattle.ga_grid.proofs.Chips.{record_at-records_of}
 use Rattle.ga_event.specs.declared.event.Event.{Event}
@@ -14,14 +13,15 @@ use Rattle.ga_event.specs.Apply.{Told, replay}
 use Rattle.ga_event.specs.Touches.{touches}
 use Rattle.ga_event.specs.Undo.{unapplied}
 use Rattle.ga_journal.specs.Histories.{Book, history}
-use Rattle.ga_journal.specs.Kept.{events_told, events_of, steps_of}
+use Rattle.ga_event.specs.Told.{events_told, steps_of}
+use Rattle.ga_journal.specs.Kept.{events_of}
 use Rattle.ga_journal.specs.Walked.{walked, walked_chip, CanWalk}
 use Rattle.ga_journal.specs.Logs.{Stamped, built, IsLog}
 use Rattle.ga_journal.proofs.Logs.{tells_of, tellings, events_push, kept_log, length-built, history-no_histories, steps_built}
 use Rattle.ga_journal.proofs.Walks.{walked_chip-appended, walked_appended, can_appended, can_later, length-unapplied}
 use Rattle.ga_rollback.proofs.Replays.{run_log}
 use Rattle.ga_lab.specs.Machine.{chip_of, earlier}
-use Rattle.ga_lab.specs.Tied.{LeadsBack, IsTied, state_of}
+use Rattle.ga_lab.specs.kept.Tied.{LeadsBack, IsTied, state_of}
 
 -- the first events of a list are no more steps
 steps_front : (n place : ℕ) (events : List Event) → steps_of n (take place events) ≤ steps_of n events

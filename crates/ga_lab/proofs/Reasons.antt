@@ -3,16 +3,18 @@ use Rattle.std.proofs.Common.{◌≡◌, ℕ, zero, suc, ◌<◌, ◌≤◌, tru
 use Rattle.std.specs.Prelude.{Option, Result, List, is_some, is_ok, IsOk, nat_le, nat_lt}
 use Rattle.std.proofs.lemmas.Bool.{cases_lt, leb-true, le-leb, lt-leb, lt-ltb, le-ltb, cases_Bool, both_ways, and_from, and_right, and_parts, and_cases}
 use Rattle.ga_event.specs.declared.event.Cause.{Cause}
-use Rattle.ga_node.specs.State.{NodeState}
+use Rattle.ga_node.specs.Record.{NodeState}
 use Rattle.ga_journal.specs.Histories.{Book}
-use Rattle.ga_journal.specs.Kept.{events_of, steps_of}
-use Rattle.ga_causal.specs.Steps.{touching, place_of}
+use Rattle.ga_journal.specs.Kept.{events_of}
+use Rattle.ga_event.specs.Told.{steps_of}
+use Rattle.ga_causal.specs.Steps.{touching}
+use Rattle.ga_causal.specs.Dependence.{place_of}
 use Rattle.ga_causal.proofs.Places.{place_stands, place-zero, touching_in}
 use Rattle.ga_causal.specs.declared.chain.Link.{Link}
 use Rattle.ga_lab.specs.declared.fault.LabFault.{LabFault}
 use Rattle.ga_lab.specs.declared.fault.LabFault.TheVariants.{Memory, NoStep}
 use Rattle.ga_lab.specs.Machine.{State, causes_of, stands, why_between, why_answer}
-use Rattle.ga_lab.specs.Tied.{state_of}
+use Rattle.ga_lab.specs.kept.Tied.{state_of}
 use Rattle.ga_lab.proofs.Replays.{IsReplayed}
 
 -- a step stands exactly where it has a place

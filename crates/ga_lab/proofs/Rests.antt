@@ -2,13 +2,10 @@
 use Rattle.std.proofs.Common.{◌≡◌, ℕ, refl, ap, ◌∙◌}
 use Rattle.std.specs.Prelude.{List, Some}
 use Rattle.ga_event.specs.declared.event.Cause.{Cause}
-use Rattle.ga_causal.specs.Causes.{events_in}
-use Rattle.ga_causal.specs.Dependence.{dependents, rest}
-use Rattle.ga_causal.specs.Steps.{place_of, rest_from}
+use Rattle.ga_causal.specs.Dependence.{events_in, dependents, rest, IsRest, place_of, rest_from}
 use Rattle.ga_causal.proofs.Exact.{dependents_exact, length-dependents}
 use Rattle.ga_causal.proofs.Places.{place_step}
 use Rattle.ga_lab.specs.Machine.{State, causes_of, rewound}
-use Rattle.ga_lab.specs.Rest.{IsRest}
 
 pub rest_exact : (s new : State) (n k place : ℕ) → new ≡ rewound s n k → place_of (causes_of s) n k ≡ Some place
     → (left : List Cause) × IsRest (causes_of s) place left × (new.kept ≡ events_in left)

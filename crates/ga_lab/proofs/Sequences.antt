@@ -10,11 +10,11 @@ use Rattle.ga_event.specs.declared.event.Event.{Event}
 use Rattle.ga_event.specs.declared.event.Cause.{Cause}
 use Rattle.ga_event.specs.Apply.{Told, refusal_of, apply, after, unless, cause_of, run, replay}
 use Rattle.ga_event.specs.Next.{next}
-use Rattle.ga_causal.specs.Causes.{touches}
+use Rattle.ga_causal.specs.Dependence.{cause_touches}
 use Rattle.ga_causal.specs.Equivalence.{AreApart, AreEquivalent, same, swapped, later, joined}
 use Rattle.ga_causal.proofs.Runs.{first_of_run, keeps_of, same_of}
 use Rattle.ga_causal.proofs.Shuffles.{AreApart-sym, apart_free}
-use Rattle.ga_journal.specs.declared.made.Made.{Made}
+use Rattle.ga_event.specs.declared.made.Made.{Made}
 use Rattle.ga_rollback.proofs.Replays.{run_snoc}
 use Rattle.ga_lab.specs.declared.fault.LabFault.{LabFault}
 use Rattle.ga_lab.specs.declared.fault.LabFault.TheVariants.{Full, Spent}
@@ -197,7 +197,7 @@ can_after : (c : List NodeRecord) (e f : Event) → refusal_of c e ≡ None → 
 can_after c e f ce cf h =
     let made : apply c e ≡ Some ((after c e).0, (after c e).1) = ap (λ o. unless o (after c e)) ce in
     let other : apply c f ≡ Some ((after c f).0, (after c f).1) = ap (λ o. unless o (after c f)) cf in
-    let z = same_of (touches (cause_of c e)) f c (after c f).0 (after c e).0 (after c f).1 (keeps_of c e (after c e).0 (after c e).1 made) (apart_free (cause_of c e) (cause_of c f) h) other in
+    let z = same_of (cause_touches (cause_of c e)) f c (after c f).0 (after c e).0 (after c f).1 (keeps_of c e (after c e).0 (after c e).1 made) (apart_free (cause_of c e) (cause_of c f) h) other in
     can_of (after c e).0 f z.mid (after c f).1 z.done
 
 two_steps : (s : State) (r : Runs s) (e f : Event) → length s.kept + 1 < s.limit → s.made + 1 < 2 ^ 64 - 1 → refusal_of r.last e ≡ None → refusal_of r.last f ≡ None → AreApart (cause_of r.last e) (cause_of r.last f)

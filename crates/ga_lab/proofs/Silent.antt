@@ -6,8 +6,7 @@ use Rattle.std.proofs.lemmas.Bool.{cases_lt, or_cases, both_ways, cond-false}
 use Rattle.std.proofs.lemmas.List.{get_or_past}
 use Rattle.std.proofs.lemmas.Option.{same_Some}
 use Rattle.ga_node.specs.Io.{io_word}
-use Rattle.ga_node.specs.State.{fresh_node}
-use Rattle.ga_node.specs.Record.{NodeRecord, record_of}
+use Rattle.ga_node.specs.Record.{fresh_node, NodeRecord, record_of}
 use Rattle.ga_node.specs.Table.{looks}
 use Rattle.ga_grid.specs.Chip.{nowhere, record_at}
 use Rattle.ga_event.specs.declared.event.Event.{Event}
@@ -20,9 +19,9 @@ use Rattle.ga_causal.specs.Words.{word_of, account_read, look_word, words_read}
 use Rattle.ga_causal.proofs.Runs.{causes, first_of_run, keeps_of}
 use Rattle.ga_causal.proofs.Shuffles.{touched_of}
 use Rattle.ga_causal.proofs.Words.{Becomes, becomes_one, after_is}
-use Rattle.ga_journal.specs.declared.made.Made.{Made}
-use Rattle.ga_journal.specs.declared.made.Made.TheVariants as made
-use Rattle.ga_journal.specs.Told.{mades_of}
+use Rattle.ga_event.specs.declared.made.Made.{Made}
+use Rattle.ga_event.specs.declared.made.Made.TheVariants as made
+use Rattle.ga_event.specs.Told.{mades_of}
 use Rattle.ga_lab.specs.Machine.{State, causes_of, history_of}
 use Rattle.ga_lab.proofs.Called.{Runs, told_is, causes_is}
 use Rattle.ga_lab.proofs.Heard.{event_in, Takes, Traced, traced}

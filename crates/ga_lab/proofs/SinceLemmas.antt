@@ -8,7 +8,8 @@ use Rattle.ga_event.specs.declared.event.Cause.{Cause}
 use Rattle.ga_journal.specs.Since.{IsSince}
 use Rattle.ga_causal.specs.declared.chain.Link.{Link}
 use Rattle.ga_causal.specs.Chains.{IsFound, chain_of}
-use Rattle.ga_causal.specs.Steps.{touching, place_of}
+use Rattle.ga_causal.specs.Steps.{touching}
+use Rattle.ga_causal.specs.Dependence.{place_of}
 use Rattle.ga_causal.proofs.ChainOf.{chain_is}
 use Rattle.ga_causal.proofs.Oldest.{DependsOn-order}
 use Rattle.ga_causal.proofs.Places.{on_by, touching_in, place_split, place_more, place_stands, place_step}

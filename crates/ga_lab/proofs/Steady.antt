@@ -1,8 +1,7 @@
 -- The machine's chip is steady where its load is.
 use Rattle.std.proofs.Common.{List, [], Option, Some, None, IfSome}
 use Rattle.std.specs.Prelude.{unwrap_or}
-use Rattle.ga_node.specs.State.{fresh_node}
-use Rattle.ga_node.specs.Record.{NodeRecord, record_of}
+use Rattle.ga_node.specs.Record.{fresh_node, NodeRecord, record_of}
 use Rattle.ga_event.specs.Apply.{replay}
 use Rattle.ga_grid.specs.Steady.{AreSteady}
 use Rattle.ga_lab.specs.Machine.{State, chip_of}

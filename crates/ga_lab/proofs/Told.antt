@@ -7,18 +7,16 @@ use Rattle.std.proofs.lemmas.List.Concat.{flat_map-append}
 use Rattle.ga_event.specs.declared.event.Event.{Event}
 use Rattle.ga_event.specs.declared.event.Event.TheVariants as event
 use Rattle.ga_event.specs.declared.event.Cause.{Cause}
-use Rattle.ga_event.specs.Touches.{nodes_of, looked_at, seen_by}
-use Rattle.ga_event.specs.Touches.{touches as event_touches}
+use Rattle.ga_event.specs.Touches.{nodes_of, looked_at, seen_by, touches as event_touches}
 use Rattle.ga_event.specs.Apply.{Told, Did, Carried}
-use Rattle.ga_causal.specs.Causes.{touches}
+use Rattle.ga_causal.specs.Dependence.{cause_touches}
 use Rattle.ga_causal.specs.Equivalence.{account_told}
 use Rattle.ga_causal.specs.Steps.{counted}
 use Rattle.ga_causal.proofs.Shuffles.{numbers}
 use Rattle.ga_causal.proofs.Consistent.{told_after}
-use Rattle.ga_journal.specs.declared.made.Made.{Made}
-use Rattle.ga_journal.specs.declared.made.Made.TheVariants as made
-use Rattle.ga_journal.specs.Kept.{steps_of}
-use Rattle.ga_journal.specs.Told.{made_after, mades_after, mades_of}
+use Rattle.ga_event.specs.declared.made.Made.{Made}
+use Rattle.ga_event.specs.declared.made.Made.TheVariants as made
+use Rattle.ga_event.specs.Told.{steps_of, made_after, mades_after, mades_of}
 
 -- what is told of an event, by its numbers
 abbrev made_by : Event → List ℕ → Told → Option Made
@@ -43,7 +41,7 @@ unfolding seen_by
 made_numbered before s h c told = made_here before s h c.event (looked_at c.event c.look) told
 
 one_more : (before : List Event) (s : ℕ → ℕ) → ((m : ℕ) → s m ≡ steps_of m before) → (c : Cause) (m : ℕ) → counted s c m ≡ steps_of m (before ++ c.event ∷ [])
-one_more before s h c m = go (touches c m) (sum_by-append (λ (e : Event). cond (event_touches e m) 1 0) before (c.event ∷ []))
+one_more before s h c m = go (cause_touches c m) (sum_by-append (λ (e : Event). cond (event_touches e m) 1 0) before (c.event ∷ []))
   where
     go : (b : Bool) → steps_of m (before ++ c.event ∷ []) ≡ steps_of m before + (0 + cond b 1 0) → cond b (s m + 1) (s m) ≡ steps_of m (before ++ c.event ∷ [])
     go true q = let p = h m in omega arith
@@ -53,10 +51,10 @@ joined : (b : Bool) (x : (Cause × List ℕ) × Told) (xs : List ((Cause × List
 joined true x xs front back p q = ap (λ z. z ++ back) p ∙ ap (λ z. made_of x ++ z) q
 joined false x xs front back p q = q
 
-mades_accounted : (n : ℕ) (before : List Event) (s : ℕ → ℕ) (xs : List (Cause × Told)) → ((m : ℕ) → s m ≡ steps_of m before) → mades_after before xs n ≡ flat_map made_of (filter (λ x. touches x.0.0 n) (told_after s xs))
+mades_accounted : (n : ℕ) (before : List Event) (s : ℕ → ℕ) (xs : List (Cause × Told)) → ((m : ℕ) → s m ≡ steps_of m before) → mades_after before xs n ≡ flat_map made_of (filter (λ x. cause_touches x.0.0 n) (told_after s xs))
 mades_accounted n before s [] h = refl
 mades_accounted n before s (x ∷ xs) h =
-    joined (touches x.0 n) ((x.0, numbers s x.0), x.1) (filter (λ y. touches y.0.0 n) (told_after (counted s x.0) xs)) (option_to_list (made_after before x.0.event x.1)) (mades_after (before ++ x.0.event ∷ []) xs n)
+    joined (cause_touches x.0 n) ((x.0, numbers s x.0), x.1) (filter (λ y. cause_touches y.0.0 n) (told_after (counted s x.0) xs)) (option_to_list (made_after before x.0.event x.1)) (mades_after (before ++ x.0.event ∷ []) xs n)
     (ap option_to_list (made_numbered before s h x.0 x.1))
     (mades_accounted n (before ++ x.0.event ∷ []) (counted s x.0) xs (one_more before s h x.0))
 

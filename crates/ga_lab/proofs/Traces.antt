@@ -16,19 +16,17 @@ use Rattle.ga_grid.specs.declared.node_id.NodeId.{NodeId}
 use Rattle.ga_event.specs.declared.event.Event.{Event}
 use Rattle.ga_event.specs.declared.event.Event.TheVariants as event
 use Rattle.ga_event.specs.declared.event.Cause.{Cause}
-use Rattle.ga_event.specs.Touches.{looked_at, seen_by}
-use Rattle.ga_event.specs.Touches.{nodes_of as nodes_of_event}
+use Rattle.ga_event.specs.Touches.{looked_at, seen_by, nodes_of as nodes_of_event}
 use Rattle.ga_event.specs.Apply.{Told, Did, Carried, seen_from, is_number, is_open, reads_from, unmatched, refusal_of, apply, after, unless, cause_of, run}
-use Rattle.ga_causal.specs.Causes.{touches}
-use Rattle.ga_causal.specs.Dependence.{NoneLooks}
+use Rattle.ga_causal.specs.Dependence.{cause_touches, NoneLooks}
 use Rattle.ga_causal.specs.Equivalence.{AreEquivalent, account, account_told}
 use Rattle.ga_causal.specs.Steps.{counted}
 use Rattle.ga_causal.proofs.Runs.{causes, first_of_run}
 use Rattle.ga_causal.proofs.Shuffles.{numbers, entries}
 use Rattle.ga_causal.proofs.Consistent.{told_after}
-use Rattle.ga_journal.specs.declared.made.Made.{Made}
-use Rattle.ga_journal.specs.declared.made.Made.TheVariants as made
-use Rattle.ga_journal.specs.Told.{mades_of}
+use Rattle.ga_event.specs.declared.made.Made.{Made}
+use Rattle.ga_event.specs.declared.made.Made.TheVariants as made
+use Rattle.ga_event.specs.Told.{mades_of}
 use Rattle.ga_lab.specs.Machine.{State, first, chip_of, causes_of, history_of}
 use Rattle.ga_lab.specs.Calls.{Call, called_all}
 use Rattle.ga_lab.proofs.Told.{made_of, history_accounted}
@@ -181,9 +179,9 @@ told_back (x ∷ xs) h = one h.0 (told_back xs h.1)
     one (m, p, q) k = ap (λ z. map decoded (z ++ flat_map made_of xs)) p ∙ ap (λ z. z ∷ map decoded (flat_map made_of xs)) q ∙ ap (λ z. x ∷ z) k
 
 -- the account of a node, out of the account with what was told
-untold : (n : ℕ) (s : ℕ → ℕ) (ts : List (Cause × Told)) → filter (λ (x : Cause × List ℕ). touches x.0 n) (entries s (causes ts)) ≡ map (λ x. x.0) (filter (λ (x : (Cause × List ℕ) × Told). touches x.0.0 n) (told_after s ts))
+untold : (n : ℕ) (s : ℕ → ℕ) (ts : List (Cause × Told)) → filter (λ (x : Cause × List ℕ). cause_touches x.0 n) (entries s (causes ts)) ≡ map (λ x. x.0) (filter (λ (x : (Cause × List ℕ) × Told). cause_touches x.0.0 n) (told_after s ts))
 untold n s [] = refl
-untold n s (x ∷ ts) = go (touches x.0 n) _ _ (untold n (counted s x.0) ts)
+untold n s (x ∷ ts) = go (cause_touches x.0 n) _ _ (untold n (counted s x.0) ts)
   where
     go : (b : Bool) (xs : List (Cause × List ℕ)) (ys : List ((Cause × List ℕ) × Told)) → xs ≡ map (λ x. x.0) ys → cond b ((x.0, numbers s x.0) ∷ xs) xs ≡ map (λ x. x.0) (cond b (((x.0, numbers s x.0), x.1) ∷ ys) ys)
     go true xs ys k = ap (λ z. (x.0, numbers s x.0) ∷ z) k
@@ -193,7 +191,7 @@ account_told_back : (s : State) (n : ℕ) (r : Runs s) → NoneLooks (causes_of 
 account_told_back s n r none =
     let all : AreTellable (told_after (λ i. 0) r.told) = all_tellable s.load r.last s.kept r.told (λ i. 0) r.run_is (subst NoneLooks (causes_is s r) none) in
     ap (account n) (causes_is s r) ∙ untold n (λ i. 0) r.told
-    ∙ ap (map (λ x. x.0)) (sym (told_back (account_told n r.told) (some_tellable (λ x. touches x.0.0 n) (told_after (λ i. 0) r.told) all)))
+    ∙ ap (map (λ x. x.0)) (sym (told_back (account_told n r.told) (some_tellable (λ x. cause_touches x.0.0 n) (told_after (λ i. 0) r.told) all)))
     ∙ ap (λ z. map (λ x. x.0) (map decoded z)) (sym (ap (λ z. mades_of z n) (told_is s r) ∙ history_accounted r.told n))
 
 pub traces_tell : (load : List NodeRecord) (limit bound : ℕ) (calls others : List Call)

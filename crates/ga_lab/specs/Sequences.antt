@@ -8,9 +8,8 @@ use Rattle.ga_grid.specs.declared.node_id.NodeId.{NodeId}
 use Rattle.ga_event.specs.declared.event.Event.{Event}
 use Rattle.ga_event.specs.declared.event.Cause.{Cause}
 use Rattle.ga_event.specs.Apply.{refusal_of, cause_of}
-use Rattle.ga_causal.specs.Dependence.{dependents, without, NoneLooks}
+use Rattle.ga_causal.specs.Dependence.{dependents, without, NoneLooks, place_of}
 use Rattle.ga_causal.specs.Equivalence.{AreApart}
-use Rattle.ga_causal.specs.Steps.{place_of}
 use Rattle.ga_lab.specs.Calls.{Call, step, undo, rewind, called, called_all, AreAlike}
 use Rattle.ga_lab.specs.Forward.{actor_of}
 use Rattle.ga_lab.specs.Machine.{State, chip_of, causes_of, step_answer}

@@ -6,11 +6,10 @@ ghost use Rattle.std.specs.Prelude.{◌≡◌, ◌<◌, ◌≤◌, ◌^◌, ◌�
 ghost use Rattle.ga_event.specs.declared.event.Event.{Event};
 ghost use Rattle.ga_event.specs.Touches.{touches};
 ghost use Rattle.ga_event.specs.Apply.{replay};
-ghost use Rattle.ga_journal.specs.Kept.{steps_of};
+ghost use Rattle.ga_event.specs.Told.{steps_of, made_in};
 ghost use Rattle.ga_grid.specs.declared.node_id.NodeId.{NodeId};
 ghost use Rattle.ga_grid.specs.Steady.{AreSteady};
-ghost use Rattle.ga_journal.specs.Told.{made_in};
-ghost use Rattle.ga_journal.specs.declared.made.Made.{Made};
+ghost use Rattle.ga_event.specs.declared.made.Made.{Made};
 ghost use Rattle.ga_lab.specs.Machine.{State, first, chip_of, told_of_kept, causes_of, step_answer, stepped, stands, undone, rewind_answer, rewound, why_answer, history_of};
 ghost use Rattle.ga_lab.specs.Forward.{actor_of, stepped_all};
 ghost use Rattle.ga_grid.specs.Chip.{record_at};
@@ -19,11 +18,10 @@ ghost use Rattle.ga_lab.specs.Calls.{Call, called_all, IsReached, AreAlike};
 ghost use Rattle.ga_lab.specs.Sequences.{AreCausal, TakesNoLook, taken_from};
 ghost use Rattle.ga_causal.specs.Equivalence.{AreEquivalent, account};
 ghost use Rattle.ga_causal.specs.Words.{words_read};
-ghost use Rattle.ga_causal.specs.Causes.{events_in};
-ghost use Rattle.ga_causal.specs.Steps.{place_of};
-ghost use Rattle.ga_causal.specs.Dependence.{NoneLooks};
+ghost use Rattle.ga_causal.specs.Dependence.{events_in, NoneLooks, place_of};
 ghost use Rattle.ga_causal.specs.declared.chain.Link.{Link};
-ghost use Rattle.ga_causal.specs.Chains.{IsChain, named};
+ghost use Rattle.ga_causal.specs.Chains.{IsChain};
+ghost use Rattle.ga_causal.specs.Steps.{named};
 
 use ga_event::laws;
 

@@ -17,7 +17,7 @@ use Rattle.ga_node.specs.declared.kind.Kind.{Kind}
 use Rattle.ga_node.specs.declared.kind.Kind.TheVariants as kind
 use Rattle.ga_node.specs.Io.{io_word}
 use Rattle.ga_node.specs.Record.{NodeRecord, HasSizes}
-use Rattle.ga_node.specs.Changes.{Change, after}
+use Rattle.ga_node.specs.Changes.{Change, after_changes}
 use Rattle.ga_node.specs.Table.{Access, Plain, Reads, Writes, named, found, followed, carried_out, does, fetches, reads_io_in, reads_io, due_of, done_by, own_event, own, is_io, looks_by, looks}
 
 found_blind : (target : Target) (reader : Reader) (seen other : Seen) (n : NodeRecord) → is_io target ≡ false → found target reader seen n ≡ found target reader other n
@@ -43,7 +43,7 @@ event_blind seen other n = done_blind (due_of n) seen other n
 
 pub own_blind : (seen other : Seen) (n : NodeRecord) → looks n ≡ false → own seen n ≡ own other n
 unfolding own
-own_blind seen other n blind = ap (λ event. (event.0, after event.1 n)) (event_blind seen other n blind)
+own_blind seen other n blind = ap (λ event. (event.0, after_changes event.1 n)) (event_blind seen other n blind)
 
 -- whether it looks, by what it carries out
 pub looks_due : (due : Due) (n : NodeRecord) (look : Bool) → due ≡ due_of n → looks_by due n ≡ look → looks n ≡ look
@@ -55,7 +55,7 @@ looks_due due n look is by = rw (← is) by
 -- the node after what is read tells the word
 abbrev IsTelling : Access → NodeRecord → Type 0
 IsTelling (Plain changes) n = Unit {0}
-IsTelling (Reads address more) n = (word other : ℕ) → after (more word) n ≡ after (more other) n → word ≡ other
+IsTelling (Reads address more) n = (word other : ℕ) → after_changes (more word) n ≡ after_changes (more other) n → word ≡ other
 IsTelling (Writes address more) n = Unit {0}
 
 -- a word that was pushed is the top
@@ -100,8 +100,8 @@ op_tells op.BStore n sizes = tt
 op_tells op.AStore n sizes = tt
 
 read_tells : (target : Target) (reader : Reader) (more : ℕ → List Change) (k : Kind) (seen other : Seen) (n : NodeRecord) → is_io target ≡ true
-    → ((word else_word : ℕ) → after (more word) n ≡ after (more else_word) n → word ≡ else_word)
-    → after (named k (followed (found target reader seen n) more)).1 n ≡ after (named k (followed (found target reader other n) more)).1 n → io_word seen ≡ io_word other
+    → ((word else_word : ℕ) → after_changes (more word) n ≡ after_changes (more else_word) n → word ≡ else_word)
+    → after_changes (named k (followed (found target reader seen n) more)).1 n ≡ after_changes (named k (followed (found target reader other n) more)).1 n → io_word seen ≡ io_word other
 unfolding found followed
 read_tells (Ram k) reader more kind seen other n look tells same = cc
 read_tells (Rom k) reader more kind seen other n look tells same = cc
@@ -110,12 +110,12 @@ read_tells (Ports sides) reader more kind seen other n look tells same = cc
 read_tells Bad reader more kind seen other n look tells same = cc
 
 access_tells : (reader : Reader) (access : Access) (k : Kind) (seen other : Seen) (n : NodeRecord) → reads_io_in access ≡ true → IsTelling access n
-    → after (named k (carried_out reader access seen n)).1 n ≡ after (named k (carried_out reader access other n)).1 n → io_word seen ≡ io_word other
+    → after_changes (named k (carried_out reader access seen n)).1 n ≡ after_changes (named k (carried_out reader access other n)).1 n → io_word seen ≡ io_word other
 access_tells reader (Plain changes) kind seen other n look tells same = cc
 access_tells reader (Reads address more) kind seen other n look tells same = read_tells (classified address) reader more kind seen other n look tells same
 access_tells reader (Writes address more) kind seen other n look tells same = cc
 
-done_tells : (due : Due) (seen other : Seen) (n : NodeRecord) → HasSizes n → looks_by due n ≡ true → after (done_by due seen n).1 n ≡ after (done_by due other n).1 n → io_word seen ≡ io_word other
+done_tells : (due : Due) (seen other : Seen) (n : NodeRecord) → HasSizes n → looks_by due n ≡ true → after_changes (done_by due seen n).1 n ≡ after_changes (done_by due other n).1 n → io_word seen ≡ io_word other
 done_tells due.Fetch seen other n sizes look same = access_tells Instruction (fetches n) kind.Fetch seen other n look (λ word else_word e. ap (λ (m : NodeRecord). m.i) e) same
 done_tells (due.Run op) seen other n sizes look same = access_tells Stack (does op n) (kind.Run (code_of op)) seen other n look (op_tells op n sizes) same
 

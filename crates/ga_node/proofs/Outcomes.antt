@@ -4,11 +4,13 @@ use Rattle.ga_slots.specs.Slots.{opcode}
 use Rattle.ga_slots.specs.Codes.{code_of}
 use Rattle.ga_ports.specs.declared.address.Target.{Target}
 use Rattle.ga_ports.specs.declared.address.Target.TheVariants.{Ram, Rom, Io, Ports, Bad}
-use Rattle.ga_node.specs.State.{NodeState, restored, AreFit}
-use Rattle.ga_node.specs.Record.{NodeRecord, record_of}
-use Rattle.ga_node.specs.Changes.{Change, SetRam, SetIo, after, written}
-use Rattle.ga_node.specs.Table.{t, stored, followed, named, kind_of, fetched, effect, due_of, done_by, own_event, own}
-use Rattle.ga_node.specs.Saving.{IsOnce, Overwrites, IsMade, IsDone, IsEnded, Saves}
+use Rattle.ga_node.specs.Record.{NodeState, NodeRecord, record_of}
+use Rattle.ga_node.specs.State.{restored, AreFit}
+use Rattle.ga_node.specs.Changes.{Change, SetRam, SetIo, after_changes}
+use Rattle.ga_node.specs.Saving.{written, IsOnce, Overwrites}
+use Rattle.ga_node.specs.kept.Saving.{IsMade, IsDone, IsEnded, Saves}
+use Rattle.ga_node.specs.Table.{t, stored, followed, named, fetched, effect, due_of, done_by, own_event, own}
+use Rattle.ga_node.specs.kept.Table.{kind_of}
 use Rattle.ga_node.specs.declared.place.Place.{Place}
 use Rattle.ga_node.specs.declared.seen.Seen.{Seen}
 use Rattle.ga_node.specs.declared.due.Due.{Due}
@@ -32,17 +34,17 @@ done_followed outcome more given old new saved is whole = subst (λ o. IsDone (f
 
 -- what follows a write
 pub done_stored : (target : Target) (n : NodeRecord) (more : List Change) (old mid new : NodeState) (first saved : List (Place × ℕ))
-    → IsDone (stored target n) old mid first → Saves more mid first new saved → record_of new ≡ after more (record_of mid)
+    → IsDone (stored target n) old mid first → Saves more mid first new saved → record_of new ≡ after_changes more (record_of mid)
     → ((k w : ℕ) → AreBeside (SetRam k w ∷ []) more) → ((w : ℕ) → AreBeside (SetIo w ∷ []) more) → AreBeside [] more
     → ((k w : ℕ) → IsOnce (written (SetRam k w ∷ more) old)) → ((w : ℕ) → IsOnce (written (SetIo w ∷ more) old)) → IsOnce (written more old)
     → IsDone (followed (stored target n) (λ changes. changes ++ more)) old new saved
 unfolding stored followed
 done_stored (Ram k) n more old mid new first saved done saves later ram io rom once_ram once_io once =
-    made refl (saves_then (saves_made refl done) saves (ram k (t n))) refl (once_ram k (t n)) (later ∙ ap (after more) done.effect)
+    made refl (saves_then (saves_made refl done) saves (ram k (t n))) refl (once_ram k (t n)) (later ∙ ap (after_changes more) done.effect)
 done_stored (Rom k) n more old mid new first saved done saves later ram io rom once_ram once_io once =
-    made refl (saves_then (saves_made refl done) saves rom) refl once (later ∙ ap (after more) done.effect)
+    made refl (saves_then (saves_made refl done) saves rom) refl once (later ∙ ap (after_changes more) done.effect)
 done_stored Io n more old mid new first saved done saves later ram io rom once_ram once_io once =
-    made refl (saves_then (saves_made refl done) saves (io (t n))) refl (once_io (t n)) (later ∙ ap (after more) done.effect)
+    made refl (saves_then (saves_made refl done) saves (io (t n))) refl (once_io (t n)) (later ∙ ap (after_changes more) done.effect)
 done_stored (Ports sides) n more old mid new first saved done saves later ram io rom once_ram once_io once = absurd done
 done_stored Bad n more old mid new first saved done saves later ram io rom once_ram once_io once = absurd done
 
@@ -77,7 +79,7 @@ pub event_is : (seen : Seen) (old new : NodeState) (kind : Kind) (event : Kind �
     → IsNamed kind event old new saved → (kind, record_of new) ≡ own seen (record_of old)
 unfolding own
 event_is seen old new kind event saved is whole =
-    ap (λ z. (z, record_of new)) whole.is ∙ ap (λ z. (event.0, z)) whole.whole.effect ∙ ap (λ e. (e.0, after e.1 (record_of old))) (sym is)
+    ap (λ z. (z, record_of new)) whole.is ∙ ap (λ z. (event.0, z)) whole.whole.effect ∙ ap (λ e. (e.0, after_changes e.1 (record_of old))) (sym is)
 
 pub event_saves : (seen : Seen) (old new : NodeState) (kind : Kind) (event : Kind × List Change) (saved : List (Place × ℕ)) → own_event seen (record_of old) ≡ event
     → IsNamed kind event old new saved → Overwrites (own_event seen (record_of old)).1 old new saved

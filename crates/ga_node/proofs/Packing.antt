@@ -6,7 +6,7 @@ use Rattle.std.specs.Prelude.{Some}
 use Rattle.std.specs.List.{slice_get}
 use Rattle.std.proofs.lemmas.List.{length-map, map-append}
 use Rattle.ga_node.specs.State.{IsPlace}
-use Rattle.ga_node.specs.Packed.{code_of, place_by, packed, unpacked, AreWords}
+use Rattle.ga_node.specs.kept.Packed.{code_of, place_by, packed, unpacked, AreWords}
 
 -- the number of a kind and a cell, taken apart
 apart : (kind cell code : ℕ) → code ≡ 64 * kind + cell → cell < 64 → place_by (code / 64) (code % 64) ≡ place_by kind cell

@@ -1,16 +1,13 @@
 -- Saved values written back, one by one.
-use Rattle.std.proofs.Common.{◌≡◌, ℕ, ◌+◌, ◌≤◌, List, [], ◌∷◌, length, refl, sym, ap, ◌∙◌, arith}
-use Rattle.std.proofs.Common.{Bool, true, false, ◌==◌}
-use Rattle.std.proofs.Common.{◌<◌, slice_index, slice_set, drop, get_or, zero, suc, drop-cons, add-one}
-use Rattle.std.proofs.Common.{Some, None, subst}
+use Rattle.std.proofs.Common.{◌≡◌, ℕ, ◌+◌, ◌≤◌, List, [], ◌∷◌, length, refl, sym, ap, ◌∙◌, arith, Bool, true, false, ◌==◌, ◌<◌, slice_index, slice_set, drop, get_or, zero, suc, drop-cons, add-one, Some, None, subst}
 use Rattle.std.specs.List.{slice_get}
 use Rattle.std.proofs.lemmas.Option.{get_or_from_slice_get, slice_get_within}
 use Rattle.std.proofs.lemmas.List.{set-get_or, set-set}
-use Rattle.ga_node.specs.State.{NodeState, with_value, restored, IsInRange, IsApart, StaysApart, AreFit}
+use Rattle.ga_node.specs.Record.{NodeState, record_of}
+use Rattle.ga_node.specs.State.{with_value, restored, IsInRange, IsApart, StaysApart, AreFit}
 use Rattle.std.specs.Int.{from_bool}
 use Rattle.ga_node.specs.declared.wait.Wait.{Wait}
 use Rattle.ga_node.specs.declared.wait.Wait.TheVariants.{Nothing, Fetch as FetchWait, Read as ReadWait, Write as WriteWait}
-use Rattle.ga_node.specs.Record.{record_of}
 use Rattle.ga_node.specs.Waits.{wait_code}
 use Rattle.ga_node.specs.Table.{refused_by, refusal}
 use Rattle.ga_node.specs.declared.place.Place.{Place}

@@ -10,7 +10,7 @@ use Rattle.ga_ports.specs.declared.side.Side.{Side}
 use Rattle.ga_ports.specs.declared.address.Target.{Target}
 use Rattle.ga_ports.specs.declared.address.Target.TheVariants.{Ram, Rom, Io, Ports, Bad}
 use Rattle.ga_node.specs.Record.{NodeRecord}
-use Rattle.ga_node.specs.Changes.{Change, PushData, PopData, SetTop, PopTo, PushReturn, PopReturn, SetTopReturn, SetP, SetA, SetB, SetI, SetIo, SetCarry, SetRam, GoOn, Skip, StartAgain, SetWait, SetStop, changed, after}
+use Rattle.ga_node.specs.Changes.{Change, PushData, PopData, SetTop, PopTo, PushReturn, PopReturn, SetTopReturn, SetP, SetA, SetB, SetI, SetIo, SetCarry, SetRam, GoOn, Skip, StartAgain, SetWait, SetStop, changed, after_changes}
 use Rattle.ga_node.specs.Table.{t, r, found, stored, followed, effect, fetched, named, posts, halts, is_extended, own_event, own, refused_by, refusal, sent, taken, taking}
 use Rattle.ga_node.specs.Steady.{FitsWait, IsSteady}
 use Rattle.ga_node.specs.declared.seen.Seen.{Seen}
@@ -58,7 +58,7 @@ plain_change StartAgain n plain = refl
 plain_change (SetWait wait) n plain = absurd plain
 plain_change (SetStop code) n plain = absurd plain
 
-after_plain : (changes : List Change) (n : NodeRecord) → ArePlain changes → (after changes n).wait ≡ n.wait
+after_plain : (changes : List Change) (n : NodeRecord) → ArePlain changes → (after_changes changes n).wait ≡ n.wait
 after_plain [] n plain = refl
 after_plain (change ∷ rest) n plain = after_plain rest (changed change n) plain.1 ∙ plain_change change n plain.0
 
@@ -138,26 +138,26 @@ effect_lands op.BStore seen n other = (tt, (tt, (tt, tt)))
 effect_lands op.AStore seen n other = (tt, (tt, (tt, tt)))
 
 named_steady : (n : NodeRecord) (kind : Kind) (outcome : Result (List Change) (Kind × List Change)) → n.wait ≡ wait.Nothing → n.stop ≡ 0 → Lands n.slot outcome
-    → IsSteady (after (named kind outcome).1 n)
-named_steady n kind (Ok changes) idle going plain = steady_without (after changes n) (after_plain changes n plain ∙ idle)
-named_steady n kind (Err event) idle going (inl (w, is, fits)) = subst (λ changes. IsSteady (after changes n)) (sym is) (subst (λ stop. FitsWait w n.slot stop) (sym going) fits)
+    → IsSteady (after_changes (named kind outcome).1 n)
+named_steady n kind (Ok changes) idle going plain = steady_without (after_changes changes n) (after_plain changes n plain ∙ idle)
+named_steady n kind (Err event) idle going (inl (w, is, fits)) = subst (λ changes. IsSteady (after_changes changes n)) (sym is) (subst (λ stop. FitsWait w n.slot stop) (sym going) fits)
 named_steady n kind (Err event) idle going (inr (code, is)) =
-    subst (λ changes. IsSteady (after changes n)) (sym is) (steady_without (changed (SetStop code) n) idle)
+    subst (λ changes. IsSteady (after_changes changes n)) (sym is) (steady_without (changed (SetStop code) n) idle)
 
 -- an event of a node that runs
 run_steady : (seen : Seen) (n : NodeRecord) → n.wait ≡ wait.Nothing → n.stop ≡ 0 → IsSteady (own seen n).1
 unfolding own
 run_steady seen n idle going = elim (cases_eq n.slot 4) [ inl due ↦ fetches due | inr other ↦ runs other ]
   where
-    fetches : n.slot ≡ 4 → IsSteady (after (own_event seen n).1 n)
+    fetches : n.slot ≡ 4 → IsSteady (after_changes (own_event seen n).1 n)
     fetches due =
-        subst (λ event. IsSteady (after event.1 n)) (sym (own_fetched seen n due))
+        subst (λ event. IsSteady (after_changes event.1 n)) (sym (own_fetched seen n due))
         (named_steady n kind.Fetch (fetched seen n) idle going (read_lands (classified n.p) Instruction seen n _ due (λ word. (tt, (tt, (tt, tt))))))
 
-    runs : n.slot ≢ 4 → IsSteady (after (own_event seen n).1 n)
+    runs : n.slot ≢ 4 → IsSteady (after_changes (own_event seen n).1 n)
     runs other =
         let op = opcode n.i n.slot in
-        subst (λ event. IsSteady (after event.1 n)) (sym (own_ran seen n other))
+        subst (λ event. IsSteady (after_changes event.1 n)) (sym (own_ran seen n other))
         (named_steady n (kind.Run (code_of op)) (effect op seen n) idle going (effect_lands op seen n other))
 
 pub idle_when : (w : Wait) (stop : ℕ) → refused_by w stop ≡ None → (w ≡ wait.Nothing) × (stop ≡ 0)
@@ -178,7 +178,7 @@ pub sent_steady : (n : NodeRecord) → IsSteady (sent n)
 unfolding sent
 sent_steady n = tt
 
-taken_by : (w : Wait) (word : ℕ) (n : NodeRecord) → n.wait ≡ w → IsSteady n → IsSteady (after (taking w word) n)
+taken_by : (w : Wait) (word : ℕ) (n : NodeRecord) → n.wait ≡ w → IsSteady n → IsSteady (after_changes (taking w word) n)
 taken_by wait.Nothing word n e steady = steady
 taken_by (wait.Fetch sides) word n e steady = tt
 taken_by (wait.Read sides) word n e steady = tt

@@ -1,23 +1,7 @@
--- The places of a node: which of its stacks' places are which of its own, and how great their values are.
+-- The places of a node: how great their values are.
 use Rattle.std.specs.Prelude.{ℕ}
-use Rattle.ga_stacks.specs.declared.place.StackPlace.{StackPlace}
-use Rattle.ga_stacks.specs.declared.place.StackPlace.TheVariants as stack
 use Rattle.ga_node.specs.declared.place.Place.{Place}
 use Rattle.ga_node.specs.declared.place.Place.TheVariants.{T, S, DataCell, DataPointer, R, ReturnCell, ReturnPointer, Ram, Rom, A, B, P, I, Slot, Io, Carry, Wait, Stop}
-
--- a place of the data stack
-abbrev pub data_place : StackPlace → Place
-data_place stack.Pointer = DataPointer
-data_place stack.Top = T
-data_place stack.Second = S
-data_place (stack.Cell cell) = DataCell cell
-
--- a place of the return stack, which has one register
-abbrev pub return_place : StackPlace → Place
-return_place stack.Pointer = ReturnPointer
-return_place stack.Top = R
-return_place stack.Second = R
-return_place (stack.Cell cell) = ReturnCell cell
 
 -- the greatest value of a place
 abbrev pub greatest_of : Place → ℕ

@@ -2,7 +2,7 @@
 
 ghost use Rattle.std.specs.Prelude.{◌≡◌, ◌<◌, ◌^◌, ◌*◌, ◌/◌, ◌%◌};
 ghost use Rattle.ga_node.specs.State.{IsPlace};
-ghost use Rattle.ga_node.specs.Packed.{code_of, place_by, packed, unpacked};
+ghost use Rattle.ga_node.specs.kept.Packed.{code_of, place_by, packed, unpacked};
 
 use crate::place::Place;
 use arrayvec::ArrayVec;
@@ -19,7 +19,7 @@ pub struct Saved {
 impl Model for Saved {
     ghost use Rattle.std.specs.Prelude.{List, ℕ, map};
     ghost use Rattle.ga_node.specs.declared.place.Place.{Place};
-    ghost use Rattle.ga_node.specs.Packed.{unpacked, AreWords};
+    ghost use Rattle.ga_node.specs.kept.Packed.{unpacked, AreWords};
 
     ghost Value = { List (Place × ℕ) };
 

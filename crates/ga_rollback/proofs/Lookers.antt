@@ -8,9 +8,10 @@ use Rattle.ga_grid.specs.Grid.{neighbour_of}
 use Rattle.ga_grid.proofs.Links.{neighbour_of-other}
 use Rattle.ga_journal.specs.Histories.{Past, Book}
 use Rattle.ga_journal.specs.Kept.{has_looked_in}
-use Rattle.ga_journal.specs.Marks.{entry_at, mark_of, going_of, to_go, entries, ticked, lowered, AreMarks}
+use Rattle.ga_journal.specs.Marks.{entry_at, mark_of, going_of, entries, ticked, lowered, AreMarks}
+use Rattle.ga_journal.specs.kept.Marks.{to_go}
 use Rattle.ga_journal.specs.Looks.{IsLookToGo, SawNoneToGo, IsSought, Never, Once}
-use Rattle.ga_rollback.specs.Marked.{stamp_at, IsDue, Saw, AreLowered, Same, Further, Vain, AreLoweredBy, IsMarking, IsUnseen, IsDone}
+use Rattle.ga_rollback.specs.kept.Marked.{stamp_at, IsDue, Saw, AreLowered, Same, Further, Vain, AreLoweredBy, IsMarking, IsUnseen, IsDone}
 use Rattle.ga_rollback.proofs.Marking.{lowered_sound, lowered_other, lowered_go, lowered_line, line_grows, one_lowered, go_under, ticked_sound, marked_ticked, marking_fewer, marking_vain, marking_lowered, saw_lowered, done_lowered}
 
 -- what such marks leave as it was

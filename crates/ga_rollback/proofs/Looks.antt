@@ -7,7 +7,8 @@ use Rattle.std.proofs.lemmas.Option.{same_Some}
 use Rattle.ga_journal.specs.Histories.{Past, history}
 use Rattle.ga_journal.specs.Kept.{has_looked_in}
 use Rattle.ga_journal.specs.Looks.{HasLook}
-use Rattle.ga_rollback.specs.Marked.{looks_in, looks_of, staying}
+use Rattle.ga_rollback.specs.Marked.{looks_in, looks_of}
+use Rattle.ga_rollback.specs.kept.Marked.{staying}
 
 none_some : {A : Type 0} {x : A} → None ≡ Some x → ⊥
 none_some h = cc

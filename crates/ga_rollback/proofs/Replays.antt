@@ -2,15 +2,15 @@
 use Rattle.std.proofs.Common.{◌≡◌, ℕ, List, [], ◌∷◌, ◌++◌, length, Option, Some, None, sym, ◌∙◌, ap, subst}
 use Rattle.std.specs.Prelude.{option_map, option_and_then}
 use Rattle.std.proofs.lemmas.Option.{same_Some}
-use Rattle.ga_node.specs.State.{NodeState}
-use Rattle.ga_node.specs.Record.{NodeRecord}
+use Rattle.ga_node.specs.Record.{NodeState, NodeRecord}
 use Rattle.ga_grid.specs.Chip.{records_of}
 use Rattle.ga_event.specs.declared.event.Event.{Event}
 use Rattle.ga_event.specs.declared.event.Cause.{Cause}
 use Rattle.ga_event.specs.Apply.{Told, apply, cause_of, run, replay}
 use Rattle.ga_event.specs.Undo.{unapplied, told_of}
 use Rattle.ga_journal.specs.Histories.{Book}
-use Rattle.ga_journal.specs.Kept.{kept_of, events_told, events_of}
+use Rattle.ga_journal.specs.Kept.{kept_of, events_of}
+use Rattle.ga_event.specs.Told.{events_told}
 use Rattle.ga_journal.specs.Walked.{walked_chip}
 use Rattle.ga_journal.specs.Logs.{Stamped, built, IsLog}
 use Rattle.ga_journal.proofs.Logs.{tells_of, tellings, events_push, kept_log, length-built}

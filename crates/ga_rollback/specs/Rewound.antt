@@ -1,15 +1,16 @@
 -- What a rollback leaves. A step is taken back with all that it caused and nothing else, whatever else came later: an action may
 -- be undone once all its consequences are (Danos and Krivine, "Reversible Communicating Systems", 2004).
 use Rattle.std.specs.Prelude.{◌≡◌, ℕ, ◌+◌, ◌*◌, ◌<◌, ◌≤◌, List, length, Some}
-use Rattle.ga_node.specs.State.{NodeState}
+use Rattle.ga_node.specs.Record.{NodeState}
 use Rattle.ga_grid.specs.Chip.{records_of}
 use Rattle.ga_event.specs.Apply.{replay}
-use Rattle.ga_causal.specs.Steps.{rewound}
+use Rattle.ga_causal.specs.Dependence.{rewound_list}
 use Rattle.ga_journal.specs.Histories.{Book}
-use Rattle.ga_journal.specs.Kept.{causes_of, events_of, steps_of}
+use Rattle.ga_journal.specs.Kept.{causes_of, events_of}
+use Rattle.ga_event.specs.Told.{steps_of}
 use Rattle.ga_journal.specs.Walked.{walked_chip}
-use Rattle.ga_journal.specs.Marks.{entries, to_go, IsAtRest}
-use Rattle.ga_rollback.specs.Marked.{looks_of, staying}
+use Rattle.ga_journal.specs.Marks.{entries, IsAtRest}
+use Rattle.ga_rollback.specs.Marked.{looks_of}
 use Rattle.ga_rollback.specs.Tied.{IsTied}
 
 -- Node n was rolled back to its step k, which removed so many events. The events that are left are those that do not depend on
@@ -17,7 +18,7 @@ use Rattle.ga_rollback.specs.Tied.{IsTied}
 -- new chip.
 pub record IsRolledBack (old : Book) (chip : List NodeState) (n k : ℕ) (new : Book) (now : List NodeState) (removed : ℕ) : Type 0 where
   pub stands : (0 < k) × (k ≤ steps_of n (events_of old))
-  pub left : causes_of new ≡ rewound (causes_of old) n k
+  pub left : causes_of new ≡ rewound_list (causes_of old) n k
   pub load : walked_chip now new.histories ≡ walked_chip chip old.histories
   pub replays : replay (records_of (walked_chip chip old.histories)) (events_of new) ≡ Some (records_of now)
   pub number : removed + length (events_of new) ≡ length (events_of old)
@@ -25,16 +26,6 @@ pub record IsRolledBack (old : Book) (chip : List NodeState) (n k : ℕ) (new : 
   pub limit : new.limit ≡ old.limit
   pub tied : IsTied now new
   pub settled : IsAtRest new
-
--- How much lowering the marks did, where the entries that are to go are known.
-pub record AreCounted (old new : Book) : Type 0 where
-  pub found : ℕ
-  pub vain : ℕ
-  pub looks : looks_of (staying new.histories new.going) + found ≤ looks_of new.histories
-  pub searches : vain ≤ 4 * to_go new
-  pub blind : looks_of new.histories ≡ 0 → vain ≡ 0
-  pub least : old.ticks + to_go new + 2 ≤ new.ticks
-  pub most : new.ticks ≤ old.ticks + 3 * to_go new + found + vain
 
 -- How much a rollback did: at least two ticks for each entry that it removed and two more, and at most eight for each and one
 -- for each look among them, whatever else is kept; at most four for each where no kept entry was a look.

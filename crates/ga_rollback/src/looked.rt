@@ -15,7 +15,7 @@ pub(crate) struct Looked {
 
 impl Model for Looked {
     ghost use Rattle.std.specs.Prelude.{ℕ, List};
-    ghost use Rattle.ga_rollback.specs.Window.{IsWindow};
+    ghost use Rattle.ga_rollback.specs.kept.Window.{IsWindow};
 
     ghost Value = { List ℕ };
 

@@ -4,13 +4,13 @@ use Rattle.std.specs.Prelude.{Result, Ok, Err}
 use Rattle.ga_node.specs.declared.kind.NotReady.{NotReady}
 use Rattle.ga_event.specs.declared.event.Event.{Event}
 use Rattle.ga_event.specs.Next.{next}
-use Rattle.ga_journal.specs.declared.made.Made.{Made}
+use Rattle.ga_event.specs.declared.made.Made.{Made}
 use Rattle.ga_lab.specs.declared.fault.LabFault.{LabFault}
 use Rattle.ga_lab.specs.Machine.{State, chip_of, step_answer, with_event, unless_refused, answer_to as lab_answer_to, rewind_answer}
 use Rattle.ga_shared.specs.declared.call.Call.{Call}
 use Rattle.ga_shared.specs.declared.call.Call.TheVariants.{Step, Rewind}
 use Rattle.ga_shared.specs.declared.call.Answer.{Answer}
-use Rattle.ga_shared.specs.Calls.{answer_to, answer_of_step, answer_of_rewind, state_after}
+use Rattle.ga_shared.specs.Calls.{call_answer, answer_of_step, answer_of_rewind, state_after}
 use Rattle.ga_shared.specs.Log.{is_made}
 
 -- how many events an answer tells of: one where the call made one
@@ -50,6 +50,6 @@ added_by-rewind (Ok removed) = refl
 added_by-rewind (Err fault) = refl
 
 -- the lab counts the events that are answered
-pub state_after-made : (s : State) (call : Call) → (state_after s call).made ≡ s.made + added_by (answer_to s call)
+pub state_after-made : (s : State) (call : Call) → (state_after s call).made ≡ s.made + added_by (call_answer s call)
 state_after-made s (Step node) = made_by_step s (next (chip_of s) node) (step_answer s node) refl
 state_after-made s (Rewind node step) = omega (arith, added_by-rewind (rewind_answer s node.number step))

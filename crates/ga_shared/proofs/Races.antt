@@ -12,7 +12,8 @@ use Rattle.ga_node.specs.Record.{NodeRecord}
 use Rattle.ga_shared.specs.Log.{Worker, IsLegal, fresh_worker}
 use Rattle.ga_shared.specs.Opening.{receipts_of, WorkerAgrees}
 use Rattle.ga_shared.specs.Close.{IsSound, IsOpenedOn}
-use Rattle.ga_shared.specs.Race.{IsDone, Raced, calls_of}
+use Rattle.ga_shared.specs.kept.Race.{IsDone}
+use Rattle.ga_shared.specs.Race.{Raced, calls_of}
 
 branch : (b : Bool) (r : Receipt) (rs : List Receipt) (cs : List Call) → map (λ (r : Receipt). r.call) rs ≡ cs → map (λ (r : Receipt). r.call) (if b then r ∷ rs else rs) ≡ (if b then r.call ∷ cs else cs)
 branch true r rs cs same = ap (λ l. r.call ∷ l) same

@@ -2,5 +2,5 @@ pub mod Calls
 pub mod Log
 pub mod Opening
 pub mod Close
-pub mod Copies
 pub mod Race
+pub mod kept

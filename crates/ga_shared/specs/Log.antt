@@ -7,14 +7,14 @@ use Rattle.ga_shared.specs.declared.call.Answer.{Answer}
 use Rattle.ga_shared.specs.declared.call.Answer.TheVariants as answer
 use Rattle.ga_shared.specs.declared.call.Entry.{Entry}
 use Rattle.ga_shared.specs.declared.call.Receipt.{Receipt}
-use Rattle.ga_shared.specs.Calls.{answer_to, state_after}
+use Rattle.ga_shared.specs.Calls.{call_answer, state_after}
 
 -- The log is legal from one state of the machine to another: run over its calls, the machine gives its answers and ends in
 -- the other state. No answer in it is want of memory
 abbrev pub IsLegal : State → List Entry → State → Type 0
 IsLegal s [] t = s ≡ t
 IsLegal s (e ∷ es) t =
-    (e.answer ≡ answer_to s e.call) × (e.answer ≢ answer.Refused 4) × IsLegal (state_after s e.call) es t
+    (e.answer ≡ call_answer s e.call) × (e.answer ≢ answer.Refused 4) × IsLegal (state_after s e.call) es t
 
 -- whether a call made an event
 abbrev pub is_made : Answer → Bool
@@ -61,7 +61,7 @@ entry_of worker receipt = record { worker = worker.number; call = receipt.call; 
 -- One locked call: the answer and the new lab are the machine's, load and limit stay, and log, book, receipts and share grew
 -- by this call
 pub record Makes (old new : Desk) (was now : Worker) (call : Call) (receipt : Receipt) : Type 0 where
-  pub receipt_is : receipt ≡ record { place = length old.log; call = call; answer = answer_to old.lab call }
+  pub receipt_is : receipt ≡ record { place = length old.log; call = call; answer = call_answer old.lab call }
   pub lab : new.lab ≡ state_after old.lab call
   pub limit : new.lab.limit ≡ old.lab.limit
   pub load : new.load ≡ old.load

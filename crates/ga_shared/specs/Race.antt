@@ -6,21 +6,13 @@ use Rattle.ga_shared.specs.declared.call.Call.{Call}
 use Rattle.ga_shared.specs.declared.call.Entry.{Entry}
 use Rattle.ga_shared.specs.declared.call.Receipt.{Receipt}
 use Rattle.ga_shared.specs.declared.closing.Closed.{Closed}
-use Rattle.ga_shared.specs.Log.{Worker, IsLegal, fresh_worker, made_by}
+use Rattle.ga_shared.specs.Log.{Worker, IsLegal, made_by}
 
 -- a worker made these calls: it has one receipt more for each, in order
 abbrev pub Works : Worker → Worker → List Call → Type 0
 Works was now calls =
     (added : List Receipt) × (map (λ r. r.call) added ≡ calls)
     × (now ≡ record { number = was.number; receipts = was.receipts ++ added; calls = was.calls + length calls })
-
--- a worker made all calls of its list, and no others
-abbrev pub IsDone : List (List Call) → Worker → Type 0
-IsDone lists now = (calls : List Call) → slice_get lists now.number ≡ Some calls → Works (fresh_worker now.number) now calls
-
--- each worker did, and they stand in the order of their numbers
-abbrev pub AreDone : List (List Call) → List Worker → Type 0
-AreDone lists workers = (w : ℕ) (s : Worker) → slice_get workers w ≡ Some s → (s.number ≡ w) × IsDone lists s
 
 -- the calls that a log has of a worker, in order
 abbrev pub calls_of : ℕ → List Entry → List Call

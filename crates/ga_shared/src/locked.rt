@@ -1,7 +1,7 @@
 //! What stands under the one lock.
 
 ghost use Rattle.std.specs.Prelude.{◌≡◌, ◌≢◌, IfOk, OnOk, OnErr};
-ghost use Rattle.ga_shared.specs.Calls.{answer_to, state_after, number_of};
+ghost use Rattle.ga_shared.specs.Calls.{call_answer, state_after, refusal_number};
 
 use crate::call::{Answer, Call, Entry, Receipt, SharedFault};
 use crate::seat::Seat;
@@ -66,7 +66,7 @@ impl<L: Ledger> Locked<L> {
 
 /// Makes a call of the lab.
 fn answer(lab: &mut Lab, call: Call) -> Result<Answer, SharedFault>
-    ensures answer { IfOk result (λ answer. answer ≡ answer_to lab.old call) }
+    ensures answer { IfOk result (λ answer. answer ≡ call_answer lab.old call) }
     ensures given { IfOk result (λ answer. answer ≢ Answer.Refused 4) }
     ensures lab { OnOk result (lab.new ≡ state_after lab.old call) }
     ensures memory { OnErr result (lab.new ≡ lab.old) }
@@ -85,7 +85,7 @@ fn answer(lab: &mut Lab, call: Call) -> Result<Answer, SharedFault>
 
 /// A refusal is an answer, unless there was no memory.
 fn refused(fault: LabFault) -> Result<Answer, SharedFault>
-    ensures answer { IfOk result (λ answer. answer ≡ Answer.Refused (number_of fault)) }
+    ensures answer { IfOk result (λ answer. answer ≡ Answer.Refused (refusal_number fault)) }
     ensures given { IfOk result (λ answer. answer ≢ Answer.Refused 4) }
     ensures some { OnOk result (fault ≢ LabFault.Memory) }
     ensures memory { OnErr result (fault ≡ LabFault.Memory) }

@@ -3,11 +3,13 @@ use Rattle.std.proofs.Common.{◌≡◌, ◌≢◌, ◌∙◌, ℕ, ◌<◌, ref
 use Rattle.std.specs.List.{All}
 use Rattle.std.proofs.lemmas.List.{get_or-set_same, get_or-set_other}
 use Rattle.std.proofs.lemmas.List.Elements.{All-push, All-pop, All-weaker}
-use Rattle.ga_node.specs.State.{NodeState}
-use Rattle.ga_grid.specs.Chip.{nowhere, node_at, with_node, default_chip}
+use Rattle.ga_node.specs.Record.{NodeState}
+use Rattle.ga_grid.specs.Chip.{nowhere, node_at, with_node}
+use Rattle.ga_grid.specs.Load.{default_chip}
 use Rattle.ga_source.specs.declared.item.Program.{Program}
 use Rattle.std.proofs.lemmas.Bool.{cases_eq}
-use Rattle.ga_source.specs.Programs.{given_of, value_or, KeepsState, HasProgram, IsLoaded, IsUnnamed, HasBegun, AreLoaded}
+use Rattle.ga_source.specs.Programs.{given_of, value_or, KeepsState, HasProgram, IsLoaded, IsUnnamed}
+use Rattle.ga_source.specs.kept.Programs.{HasBegun, AreLoaded}
 
 -- a program marked as begun stands in another node than one that isn't
 apart : (begun : List Bool) (n : ℕ) (program : Program) → slice_index_or begun n false ≡ false → HasBegun begun program → program.node.number ≢ n

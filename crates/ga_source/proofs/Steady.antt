@@ -1,10 +1,9 @@
 -- A chip with programs is steady: none of its nodes waits.
 use Rattle.std.proofs.Common.{◌≡◌, ℕ, ◌<◌, List, subst, sym}
-use Rattle.ga_node.specs.State.{NodeState, fresh_node}
-use Rattle.ga_node.specs.Record.{record_of}
+use Rattle.ga_node.specs.Record.{NodeState, fresh_node, record_of}
 use Rattle.ga_node.specs.Steady.{FitsWait, IsSteady}
-use Rattle.ga_grid.specs.Chip.{node_at, default_chip, records_of}
-use Rattle.ga_grid.specs.Load.{load_p_of}
+use Rattle.ga_grid.specs.Chip.{node_at, records_of}
+use Rattle.ga_grid.specs.Load.{default_chip, load_p_of}
 use Rattle.ga_grid.specs.Steady.{AreSteady}
 use Rattle.ga_grid.proofs.Chips.{record_at-records_of, node_at-default_chip}
 use Rattle.ga_source.specs.declared.item.Program.{Program}

@@ -2,16 +2,15 @@
 use Rattle.std.specs.Prelude.{bit_xor}
 use Rattle.std.proofs.Common.{◌≡◌, ◌∙◌, ℕ, zero, suc, ◌<◌, ◌≤◌, arith, ◌+◌, ◌*◌, ◌/◌, ◌%◌, ◌^◌, true, Some, ap, sym, List, length, set, slice_index_or, inl, inr}
 use Rattle.std.proofs.lemmas.Nat.{xor_shr}
-use Rattle.std.proofs.lemmas.Bool.{eqb-true}
+use Rattle.std.proofs.lemmas.Bool.{eqb-true, cases_eq}
 use Rattle.ga_slots.specs.Codes.{op_of}
 use Rattle.ga_slots.specs.Slots.{opcode, opcode_mask, field_size, target}
 use Rattle.ga_slots.specs.declared.op.Op.{Op}
 use Rattle.ga_slots.specs.declared.op.Op.TheVariants.{Return}
 use Rattle.ga_source.specs.declared.item.Item.{Item}
-use Rattle.ga_source.specs.Words.{op_in, nothing}
+use Rattle.ga_source.specs.kept.Words.{op_in, nothing}
 use Rattle.ga_source.specs.Reading.{reaches}
 use Rattle.std.proofs.lemmas.List.{get_or-set_same, get_or-set_other}
-use Rattle.std.proofs.lemmas.Bool.{cases_eq}
 
 -- what stands above some bits decides the bits of the word without its mask above them
 above : (k v w : ℕ) → v / 2 ^ k ≡ w / 2 ^ k → bit_xor v opcode_mask / 2 ^ k ≡ bit_xor w opcode_mask / 2 ^ k

@@ -1,8 +1,9 @@
 -- Chips with programs (docs/REFERENCE.md, "Source"; the notation is this project's own).
-use Rattle.std.specs.Prelude.{ℕ, ◌≡◌, ◌≢◌, Bool, true, false, List, Option, Some, None, slice_index_or}
+use Rattle.std.specs.Prelude.{ℕ, ◌≡◌, ◌≢◌, true, List, Option, Some, None}
 use Rattle.std.specs.List.{All}
-use Rattle.ga_node.specs.State.{NodeState}
-use Rattle.ga_grid.specs.Chip.{node_at, default_chip}
+use Rattle.ga_node.specs.Record.{NodeState}
+use Rattle.ga_grid.specs.Chip.{node_at}
+use Rattle.ga_grid.specs.Load.{default_chip}
 use Rattle.ga_source.specs.declared.item.Given.{Given}
 use Rattle.ga_source.specs.declared.item.Registers.{Registers}
 use Rattle.ga_source.specs.declared.item.Program.{Program}
@@ -50,12 +51,3 @@ pub record IsAssembled (chip : List NodeState) (programs : List Program) : Type 
   pub each : All (IsLoaded chip) programs
   pub rest : (n : ℕ) → IsUnnamed programs n → node_at chip n ≡ node_at default_chip n
   pub state : (n : ℕ) → KeepsState (node_at default_chip n) (node_at chip n)
-
--- a program whose node is marked as begun
-abbrev pub HasBegun : List Bool → Program → Type 0
-HasBegun begun program = slice_index_or begun program.node.number false ≡ true
-
--- the programs so far, whose nodes are marked
-pub record AreLoaded (chip : List NodeState) (begun : List Bool) (programs : List Program) : Type 0 where
-  pub marked : All (HasBegun begun) programs
-  pub assembled : IsAssembled chip programs

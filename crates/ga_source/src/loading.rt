@@ -3,8 +3,9 @@
 ghost use Rattle.std.specs.Prelude.{◌≡◌, ◌<◌, ◌≤◌, ℕ, true, length, slice_index_or, OnOk, IfSome};
 ghost use Rattle.ga_slots.specs.Slots.{opcode as opcode_of, target as target_of};
 ghost use Rattle.ga_source.specs.Reading.{begin_at as begin_of, follows as follows_of, reaches};
-ghost use Rattle.ga_source.specs.Places.{IsCell, KeepsRest};
-ghost use Rattle.ga_source.specs.Words.{op_in, nothing};
+ghost use Rattle.ga_source.specs.kept.Places.{IsCell};
+ghost use Rattle.ga_source.specs.Places.{KeepsRest};
+ghost use Rattle.ga_source.specs.kept.Words.{op_in, nothing};
 
 use super::fault::{Cause, Fault, at};
 use super::item::{Asked, Group, Item, Value};

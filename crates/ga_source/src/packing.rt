@@ -1,7 +1,8 @@
 //! Requests packed into groups.
 
 ghost use Rattle.std.specs.Prelude.{◌≡◌, ◌<◌, ◌++◌, [], ◌∷◌, length, IsTrue, IfOk, OnOk};
-ghost use Rattle.ga_source.specs.Packing.{items_of, asked_items, group_items, so_far};
+ghost use Rattle.ga_source.specs.Packing.{items_of, asked_items, group_items};
+ghost use Rattle.ga_source.specs.kept.Packing.{so_far};
 
 use super::fault::{Cause, Fault, at};
 use super::item::{Asked, Group, Item, Request};

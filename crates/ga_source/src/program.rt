@@ -3,7 +3,8 @@
 ghost use Rattle.std.specs.Prelude.{◌≡◌, ◌≤◌, ◌<◌, true, length, IfOk, OnOk, IfSome};
 ghost use Rattle.ga_grid.specs.Chip.{records_of};
 ghost use Rattle.ga_grid.specs.Steady.{AreSteady};
-ghost use Rattle.ga_source.specs.Programs.{given_of, with_registers, HasProgram, AreLoaded, IsAssembled};
+ghost use Rattle.ga_source.specs.Programs.{given_of, with_registers, HasProgram, IsAssembled};
+ghost use Rattle.ga_source.specs.kept.Programs.{AreLoaded};
 
 use super::draft::{Draft, read_node};
 use super::fault::{Cause, Fault, at};

@@ -12,16 +12,16 @@ word_at ring Second = slice_index ring.registers 1
 word_at ring (Cell k) = slice_index ring.cells k
 
 -- the stack with another value at a place
-abbrev pub with_word : Ring → StackPlace → ℕ → Ring
-with_word ring Pointer value = record ring { pointer = value }
-with_word ring Top value = record ring { registers = slice_set ring.registers 0 value }
-with_word ring Second value = record ring { registers = slice_set ring.registers 1 value }
-with_word ring (Cell k) value = record ring { cells = slice_set ring.cells k value }
+abbrev pub with_stack_word : Ring → StackPlace → ℕ → Ring
+with_stack_word ring Pointer value = record ring { pointer = value }
+with_stack_word ring Top value = record ring { registers = slice_set ring.registers 0 value }
+with_stack_word ring Second value = record ring { registers = slice_set ring.registers 1 value }
+with_stack_word ring (Cell k) value = record ring { cells = slice_set ring.cells k value }
 
 -- the stack with its old values written back, the last of them first
 abbrev pub restored : Ring → List (StackPlace × ℕ) → Ring
 restored ring [] = ring
-restored ring (saved ∷ rest) = with_word (restored ring rest) saved.0 saved.1
+restored ring (saved ∷ rest) = with_stack_word (restored ring rest) saved.0 saved.1
 
 -- a place that a stack with so many registers has
 abbrev pub HasPlace : ℕ → StackPlace → Type 0

@@ -3,7 +3,7 @@
 ghost use Rattle.std.specs.Prelude.{◌≡◌, ◌<◌, ◌≤◌, ◌+◌, ◌%◌, [], ◌∷◌, slice_index, length};
 ghost use Rattle.ga_stacks.specs.declared.place.StackPlace.TheVariants.{Pointer, Top, Second, Cell};
 ghost use Rattle.ga_stacks.specs.Ring.{fresh_ring, listed, pushed, popped_data, topped};
-ghost use Rattle.ga_stacks.specs.Stack.{word_at, old_words, with_word, restored, HasPlace, FitsPlace, AreFit, IsOnce};
+ghost use Rattle.ga_stacks.specs.Stack.{word_at, old_words, with_stack_word, restored, HasPlace, FitsPlace, AreFit, IsOnce};
 
 use crate::place::{CELLS, FRESH_WORD, Overwritten, StackPlace};
 use arrayvec::ArrayVec;
@@ -173,7 +173,7 @@ impl DataStack {
     pub fn set(&mut self, place: StackPlace, value: u32)
         requires place { HasPlace 2 place }
         requires in_range { FitsPlace place value }
-        ensures { self.new ≡ with_word self.old place value }
+        ensures { self.new ≡ with_stack_word self.old place value }
     {
         match place {
             StackPlace::Top => self.top = Word18::truncated(value),

@@ -6,9 +6,9 @@ ghost use Rattle.ga_journal.specs.Logs.{IsWhole};
 ghost use Rattle.ga_journal.specs.Marks.{IsAtRest};
 ghost use Rattle.ga_journal.specs.Popped.{TakesBack};
 
-use ga_event::{Cause, Effect, Event, next_event};
+use ga_event::{Cause, Effect, Event, Made, next_event};
 use ga_grid::{Chip, NodeId};
-use ga_journal::{Chronicle, Journal, JournalFault, Made};
+use ga_journal::{Chronicle, Journal, JournalFault};
 use ga_node::{Kind, Place, Saved};
 use ga_ports::Side;
 use ga_word::Word18;

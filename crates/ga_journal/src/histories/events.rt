@@ -5,8 +5,7 @@ ghost use Rattle.ga_event.specs.Undo.{own_effect};
 
 use super::Histories;
 use crate::entry::{Act, Pass, Role, Taken};
-use crate::made::Made;
-use ga_event::{Deed, Effect, Event, apply_pass};
+use ga_event::{Deed, Effect, Event, Made, apply_pass};
 use ga_grid::{Chip, NodeId};
 use ga_node::Saved;
 use ga_ports::Side;
@@ -33,21 +32,21 @@ fn effect_of(deed: Deed, saved: Saved) -> Effect
 }
 
 impl Histories {
-    ghost use Rattle.std.specs.Prelude.{◌≡◌, ◌≢◌, ◌+◌, ◌<◌, ◌^◌, List, ◌∷◌, [], ◌++◌, ℕ, length, slice_set};
-    ghost use Rattle.std.specs.Prelude.{true, None};
+    ghost use Rattle.std.specs.Prelude.{◌≡◌, ◌≢◌, ◌+◌, ◌<◌, ◌^◌, List, ◌∷◌, [], ◌++◌, ℕ, length, slice_set, true, None};
     ghost use Rattle.ga_node.specs.Record.{record_of};
     ghost use Rattle.ga_node.specs.Table.{refusal};
     ghost use Rattle.ga_grid.specs.Chip.{records_of, record_at, node_at};
     ghost use Rattle.ga_event.specs.Apply.{refusal_of, is_open};
     ghost use Rattle.ga_event.specs.Undo.{IsOfKind, own_effect};
-    ghost use Rattle.ga_journal.specs.Histories.{past, past_of, lists_of, room_of, has_room, has_pass_room, HasRoom};
-    ghost use Rattle.ga_journal.specs.Histories.{history, bound_of, pushed, appended};
+    ghost use Rattle.ga_journal.specs.Histories.{past, has_room, has_pass_room, HasRoom, history, pushed, appended};
+    ghost use Rattle.ga_journal.specs.kept.Histories.{past_of, lists_of, room_of, bound_of};
     ghost use Rattle.ga_journal.specs.Logs.{Stamped, Records, IsWhole};
-    ghost use Rattle.ga_journal.specs.Newest.{IsTopmost};
-    ghost use Rattle.ga_journal.specs.Popped.{IsNewest, TakesBack, IsTakenOut};
-    ghost use Rattle.ga_journal.specs.Stored.{act_with};
-    ghost use Rattle.ga_journal.specs.Ends.{CanGoBack, IsGoneBack};
-    ghost use Rattle.ga_journal.specs.Making.{IsAdded};
+    ghost use Rattle.ga_journal.specs.kept.Newest.{IsTopmost};
+    ghost use Rattle.ga_journal.specs.Popped.{IsNewest, TakesBack};
+    ghost use Rattle.ga_journal.specs.kept.Popped.{IsTakenOut};
+    ghost use Rattle.ga_journal.specs.kept.Stored.{act_with};
+    ghost use Rattle.ga_journal.specs.kept.Ends.{CanGoBack, IsGoneBack};
+    ghost use Rattle.ga_journal.specs.kept.Making.{IsAdded};
 
     /// Adds an own event to one history.
     #[inline(always)]

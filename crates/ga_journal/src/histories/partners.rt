@@ -20,8 +20,10 @@ fn named_by(act: &Act) -> Option<(NodeId, u32)>
 
 impl Histories {
     ghost use Rattle.std.specs.Prelude.{◌≡◌, ◌<◌, ℕ, length, nat_lt, slice_index};
-    ghost use Rattle.ga_journal.specs.Histories.{lists_of, history};
-    ghost use Rattle.ga_journal.specs.Marks.{partner_of, named, partner_at, has_partner};
+    ghost use Rattle.ga_journal.specs.kept.Histories.{lists_of};
+    ghost use Rattle.ga_journal.specs.Histories.{history};
+    ghost use Rattle.ga_journal.specs.Marks.{partner_of, named, partner_at};
+    ghost use Rattle.ga_journal.specs.kept.Marks.{has_partner};
 
     /// The other entry of the pass of the entry at a position.
     pub(crate) fn partner(&self, node: NodeId, at: u32) -> Option<(NodeId, u32)>

@@ -5,9 +5,8 @@ ghost use Rattle.std.specs.Prelude.{◌≡◌, ◌++◌, ◌∷◌, [], false, O
 use super::Histories;
 use crate::entry::{Act, Head};
 use crate::fault::JournalFault;
-use crate::made::Made;
 use crate::since::Since;
-use ga_event::{Cause, Deed, Event};
+use ga_event::{Cause, Deed, Event, Made};
 use ga_grid::{NODES, NodeId};
 use ga_ports::Side;
 use ga_word::Word18;
@@ -63,14 +62,12 @@ fn passed(ends: (NodeId, NodeId), steps: (u32, u32), side: Side, word: Word18) -
 }
 
 impl Histories {
-    ghost use Rattle.std.specs.Prelude.{◌≡◌, ◌-◌, ◌<◌, ◌≤◌, ◌^◌, ℕ, List, length, drop, slice_index, false, IfOk, IfErr};
-    ghost use Rattle.ga_journal.specs.Histories.{lists_of, history, AllRise, bound_of};
+    ghost use Rattle.std.specs.Prelude.{◌≡◌, ◌-◌, ◌<◌, ◌≤◌, ◌^◌, ℕ, List, length, drop, slice_index, false, IfOk, IfErr, ◌+◌, [], ◌∷◌, ◌++◌, OnOk};
+    ghost use Rattle.ga_journal.specs.kept.Histories.{lists_of, AllRise, bound_of};
+    ghost use Rattle.ga_journal.specs.Histories.{history};
     ghost use Rattle.ga_journal.specs.Logs.{Stamped, Records};
-    ghost use Rattle.ga_journal.specs.Newest.{IsLatest};
-    ghost use Rattle.ga_journal.specs.Cuts.{cut, older_causes, WalksBack, IsCutWithin, IsShorter, IsFirst, IsWalked};
-    ghost use Rattle.std.specs.Prelude.{◌≡◌, ◌+◌, ◌<◌, ◌≤◌, ◌^◌, ℕ, List, [], ◌∷◌, ◌++◌, length, OnOk, IfOk, IfErr};
-    ghost use Rattle.ga_journal.specs.Histories.{lists_of, history};
-    ghost use Rattle.ga_journal.specs.Cuts.{older_causes};
+    ghost use Rattle.ga_journal.specs.kept.Newest.{IsLatest};
+    ghost use Rattle.ga_journal.specs.kept.Cuts.{cut, older_causes, WalksBack, IsCutWithin, IsShorter, IsFirst, IsWalked};
     ghost use Rattle.ga_journal.specs.Since.{IsSince};
 
     /// How many entries each node has.

@@ -2,20 +2,18 @@
 
 use super::Journal;
 use crate::fault::JournalFault;
-use crate::made::Made;
 use crate::since::Since;
-use ga_event::{Cause, Event};
+use ga_event::{Cause, Event, Made};
 use ga_grid::NodeId;
 use ga_node::Node;
 
 impl Journal {
-    ghost use Rattle.std.specs.Prelude.{◌≡◌, ◌<◌, ◌≤◌, ◌+◌, ◌^◌, ◌↔◌, length, take, drop};
-    ghost use Rattle.std.specs.Prelude.{IfOk, IfErr, IsNone};
+    ghost use Rattle.std.specs.Prelude.{◌≡◌, ◌<◌, ◌≤◌, ◌+◌, ◌^◌, ◌↔◌, length, take, drop, IfOk, IfErr, IsNone};
     ghost use Rattle.std.specs.List.{slice_get};
     ghost use Rattle.ga_journal.specs.Histories.{history};
     ghost use Rattle.ga_journal.specs.Walked.{walked, CanWalk};
-    ghost use Rattle.ga_journal.specs.Kept.{kept_of, causes_of, events_of, steps_of};
-    ghost use Rattle.ga_journal.specs.Told.{mades_of, made_in};
+    ghost use Rattle.ga_journal.specs.Kept.{kept_of, causes_of, events_of};
+    ghost use Rattle.ga_event.specs.Told.{steps_of, mades_of, made_in};
     ghost use Rattle.ga_journal.specs.Logs.{IsWhole};
     ghost use Rattle.ga_journal.specs.Since.{IsSince};
 

@@ -6,7 +6,7 @@ use ga_event::Cause;
 
 impl Lab {
     ghost use Rattle.std.specs.Prelude.{◌≡◌, ℕ, IfOk, IfErr, is_some, length};
-    ghost use Rattle.ga_causal.specs.Steps.{place_of};
+    ghost use Rattle.ga_causal.specs.Dependence.{place_of};
     ghost use Rattle.ga_lab.specs.Machine.{causes_of, stands};
 
     /// The kept events in order, each with whether it looked at the neighbours of its node. A step stands exactly where it has a

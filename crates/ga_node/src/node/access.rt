@@ -12,8 +12,9 @@ impl Node {
     ghost use Rattle.std.specs.Prelude.{◌≡◌, ◌≤◌, [], Ok, IfOk, IfErr, OnOk, length};
     ghost use Rattle.ga_ports.specs.Address.{classified};
     ghost use Rattle.ga_node.specs.Record.{record_of};
-    ghost use Rattle.ga_node.specs.Saving.{IsMade, IsDone, IsEnded};
-    ghost use Rattle.ga_node.specs.Table.{found, stored, posts, halts, IsRunning};
+    ghost use Rattle.ga_node.specs.kept.Saving.{IsMade, IsDone, IsEnded};
+    ghost use Rattle.ga_node.specs.Table.{found, stored, posts, halts};
+    ghost use Rattle.ga_node.specs.Ready.{IsRunning};
 
     /// The node waits, in place of the event's whole effect.
     #[inline(always)]

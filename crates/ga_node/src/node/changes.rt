@@ -2,7 +2,7 @@
 
 ghost use Rattle.std.specs.Prelude.{◌≡◌, ◌+◌, ◌≤◌, ◌++◌, length};
 ghost use Rattle.ga_stacks.specs.Stack.{AreFit};
-ghost use Rattle.ga_node.specs.Saving.{data_values, return_values};
+ghost use Rattle.ga_node.specs.kept.Saving.{data_values, return_values};
 
 use super::Node;
 use crate::place::Place;
@@ -40,8 +40,8 @@ impl Node {
     ghost use Rattle.ga_node.specs.State.{IsApart};
     ghost use Rattle.ga_node.specs.Record.{record_of};
     ghost use Rattle.ga_node.specs.Changes.{changed, PushData, PopData, SetTop, PopTo, PushReturn, PopReturn, SetTopReturn, SetP, SetA, SetB, SetI, SetIo, SetCarry, SetRam, GoOn, Skip, StartAgain, SetWait, SetStop};
-    ghost use Rattle.ga_node.specs.Saving.{Saves};
-    ghost use Rattle.ga_node.specs.Table.{IsRunning};
+    ghost use Rattle.ga_node.specs.kept.Saving.{Saves};
+    ghost use Rattle.ga_node.specs.Ready.{IsRunning};
 
     /// P gets an address.
     #[tactic(auto, unfolding(crate::specs::Record::record_of))]

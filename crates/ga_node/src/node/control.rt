@@ -8,8 +8,8 @@ use ga_word::Word18;
 impl Node {
     ghost use Rattle.std.specs.Prelude.{◌≡◌, ◌+◌, ◌<◌, ◌≤◌, [], length};
     ghost use Rattle.ga_node.specs.Record.{record_of};
-    ghost use Rattle.ga_node.specs.Changes.{after};
-    ghost use Rattle.ga_node.specs.Saving.{IsDoneBy, Saves, IsMade};
+    ghost use Rattle.ga_node.specs.Changes.{after_changes};
+    ghost use Rattle.ga_node.specs.kept.Saving.{IsDoneBy, Saves, IsMade};
     ghost use Rattle.ga_node.specs.Table.{does, jumps, jumps_where};
 
     /// P := the address that the slot names, and the rest of the word is passed over.
@@ -17,7 +17,7 @@ impl Node {
     fn jump(&mut self, saved: &mut Saved)
         requires slot { (record_of self.old).slot < 3 }
         requires room { length saved.old + 2 ≤ 7 }
-        ensures change { record_of self.new ≡ after (jumps (record_of self.old)) (record_of self.old) }
+        ensures change { record_of self.new ≡ after_changes (jumps (record_of self.old)) (record_of self.old) }
         ensures saves { Saves (jumps (record_of self.old)) self.old saved.old self.new saved.new }
     {
         let p = self.p();

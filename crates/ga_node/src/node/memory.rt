@@ -11,8 +11,9 @@ use ga_slots::Op;
 impl Node {
     ghost use Rattle.std.specs.Prelude.{◌≡◌, [], IfErr, OnOk};
     ghost use Rattle.ga_node.specs.Record.{record_of};
-    ghost use Rattle.ga_node.specs.Saving.{IsDone, IsDoneBy, IsEnded, IsEndedBy};
-    ghost use Rattle.ga_node.specs.Table.{does, effect, IsRunning};
+    ghost use Rattle.ga_node.specs.kept.Saving.{IsDone, IsDoneBy, IsEnded, IsEndedBy};
+    ghost use Rattle.ga_node.specs.Table.{does, effect};
+    ghost use Rattle.ga_node.specs.Ready.{IsRunning};
 
     /// `@p`, fetch p: the word at P is pushed, and P advances.
     pub(super) fn run_fetch_p(&mut self, seen: Seen, saved: &mut Saved) -> Result<(), Kind>

@@ -10,7 +10,8 @@ impl Node {
     ghost use Rattle.ga_node.specs.State.{IsApart};
     ghost use Rattle.ga_node.specs.Record.{record_of};
     ghost use Rattle.ga_node.specs.Saving.{Overwrites};
-    ghost use Rattle.ga_node.specs.Table.{t, sent, sending, taken, taking, IsWriting, IsReading};
+    ghost use Rattle.ga_node.specs.Table.{t, sent, sending, taken, taking};
+    ghost use Rattle.ga_node.specs.Ready.{IsWriting, IsReading};
 
     /// Completes the writer's side, as [`Node::send_half`] does, with the overwritten values put into an empty list that
     /// the caller keeps.

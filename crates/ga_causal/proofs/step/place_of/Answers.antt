@@ -1,5 +1,5 @@
 use Rattle.std.proofs.Common.{◌≡◌, sym, ◌∙◌, ap, ◌+◌, ◌-◌, suc, drop, arith}
-use Rattle.ga_causal.specs.Steps.{place_of}
+use Rattle.ga_causal.specs.Dependence.{place_of}
 use Rattle.ga_causal.proofs.Places.{place-zero, on_by, on_by-zero, on_found, on_touched, on_other, on_end}
 use Rattle.ga_causal.proofs.step.place_of.Goals.{then-touches+else-left-eq0, else-touches}
 use Rattle.ga_causal.proofs.step.place_of.Goals as goal

@@ -1,5 +1,5 @@
 use Rattle.std.proofs.Common.{◌≡◌, suc, drop}
-use Rattle.ga_causal.specs.Steps.{place_of}
+use Rattle.ga_causal.specs.Dependence.{place_of}
 use Rattle.ga_causal.proofs.Places.{on_by}
 use Rattle.ga_causal.proofs.step.place_of.Given as goal
 

@@ -1,6 +1,6 @@
 use Rattle.std.specs.Prelude.{option_map}
 use Rattle.std.proofs.Common.{Some, sym, ap, ◌∙◌, arith}
-use Rattle.ga_grid.specs.NodeId.{node_id}
+use Rattle.ga_grid.specs.Grid.{node_id}
 use Rattle.ga_grid.proofs.NodeIds.{node_id-number}
 use Rattle.ga_console.proofs.Taking.{numbered}
 use Rattle.ga_console.proofs.command.node_at.Goals as goal

@@ -1,7 +1,7 @@
 use Rattle.std.specs.Prelude.{codes}
 use Rattle.std.proofs.Common.{◌≡◌, ◌∙◌, ap, sym, arith}
 use Rattle.std.proofs.lemmas.Slice.Eq.{text_from_reads}
-use Rattle.ga_console.specs.Parsing.{with_arguments}
+use Rattle.ga_console.specs.kept.Parsing.{with_arguments}
 use Rattle.ga_console.proofs.command.with_arguments.Goals as goal
 
 pub returns-in-rewind : goal.returns-in-rewind

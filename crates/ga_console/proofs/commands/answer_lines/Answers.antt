@@ -1,7 +1,7 @@
 use Rattle.std.proofs.Common.{ℕ, ◌-◌, ◌++◌, [], List, refl, sym, ap, subst, ◌∙◌, arith}
 use Rattle.std.specs.Prelude.{Result, Ok}
 use Rattle.std.specs.Result.{IsErr}
-use Rattle.ga_console.specs.Ahead.{IsAhead}
+use Rattle.ga_console.specs.kept.Ahead.{IsAhead}
 use Rattle.ga_console.specs.Turns.{Answering}
 use Rattle.ga_console.specs.Session.{Serves, ServesCut}
 use Rattle.ga_console.specs.Texts.{no_input}

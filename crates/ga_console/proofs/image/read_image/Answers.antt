@@ -2,8 +2,10 @@ use Rattle.std.proofs.Common.{◌≡◌, ℕ, ◌-◌, Bool, true, false, List, 
 use Rattle.ga_console.proofs.PartLemmas.{where_err}
 use Rattle.std.proofs.lemmas.Bool.{false≢true}
 use Rattle.ga_console.specs.Lines.{ended}
-use Rattle.ga_console.specs.Input.{TakesPart, Unread}
-use Rattle.ga_console.specs.Image.{with_feed, end_line}
+use Rattle.ga_console.specs.kept.Input.{TakesPart}
+use Rattle.ga_console.specs.Input.{Unread}
+use Rattle.ga_console.specs.kept.Image.{with_feed}
+use Rattle.ga_console.specs.Image.{end_line}
 use Rattle.ga_console.proofs.ImageLemmas.{Body, body_more, body_line, line_range, no_end, over_piece, over_all, ended_piece}
 use Rattle.ga_console.proofs.image.read_image.Goals as goal
 

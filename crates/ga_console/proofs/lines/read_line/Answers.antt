@@ -1,7 +1,7 @@
 use Rattle.std.proofs.Common.{[], ◌∷◌, ◌++◌, sym, arith, length-append}
 use Rattle.ga_console.proofs.LineLemmas.{line_none, line_same, line_piece, line_all}
 use Rattle.std.specs.Prelude.{Result}
-use Rattle.ga_console.specs.ReadLine.{ReadsLine}
+use Rattle.ga_console.specs.kept.ReadLine.{ReadsLine}
 use Rattle.ga_console.specs.declared.output.WriteFailed.{WriteFailed}
 use Rattle.ga_console.specs.declared.lines.LineEnd.{LineEnd}
 use Rattle.ga_console.proofs.SaidLemmas.{at_err}

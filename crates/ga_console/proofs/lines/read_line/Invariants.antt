@@ -1,7 +1,7 @@
 use Rattle.std.proofs.Common.{◌≡◌, ℕ, ◌+◌, ◌-◌, ◌≤◌, List, ◌++◌, length, Some}
 use Rattle.ga_console.specs.Input.{IsWithin}
 use Rattle.ga_console.specs.Output.{IsSaid}
-use Rattle.ga_console.specs.ReadLine.{IsLine}
+use Rattle.ga_console.specs.kept.ReadLine.{IsLine}
 use Rattle.ga_console.proofs.lines.read_line.Given as goal
 
 -- what was taken so far holds no line feed

@@ -1,5 +1,5 @@
 use Rattle.std.proofs.Common.{◌∷◌, ◌++◌, [], ap, ◌∙◌, sym}
-use Rattle.ga_grid.specs.NodeId.{node_id}
+use Rattle.ga_grid.specs.Grid.{node_id}
 use Rattle.ga_grid.proofs.NodeIds.{node_id-number}
 use Rattle.ga_shared.specs.declared.call.Call.TheVariants.{Step}
 use Rattle.ga_console.specs.Race.{calls_by}

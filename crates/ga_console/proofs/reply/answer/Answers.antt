@@ -3,9 +3,9 @@ use Rattle.std.specs.Result.{IsErr}
 use Rattle.std.proofs.lemmas.List.{take_all}
 use Rattle.ga_lab.specs.Machine.{State}
 use Rattle.ga_console.specs.Texts.{no_long, no_syntax}
-use Rattle.ga_console.specs.Commands.{Spells}
+use Rattle.ga_console.specs.Commands.{SpellsCommand}
 use Rattle.ga_console.specs.Replies.{Answer, Does}
-use Rattle.ga_console.specs.Turns.{Turns, AnswersLine}
+use Rattle.ga_console.specs.kept.Turns.{Turns, AnswersLine}
 use Rattle.ga_console.specs.Replies.Answer.{long, command, syntax}
 use Rattle.ga_console.specs.declared.output.WriteFailed.{WriteFailed}
 use Rattle.ga_console.specs.declared.responder.Turn.{Turn}
@@ -31,16 +31,16 @@ answers_long s line past = λ part kept.
     let long_part : 200 < length part = too_long line part kept past in
     (long long_part refl refl, λ e. absurd (omega (arith, ap length e)))
 
-answers_none : (s : State) (line given : List ℕ) → given ≡ line → length line ≤ 200 → ((d : Command) → ¬ Spells d given) → AnswersLine Answer s line no_syntax s
+answers_none : (s : State) (line given : List ℕ) → given ≡ line → length line ≤ 200 → ((d : Command) → ¬ SpellsCommand d given) → AnswersLine Answer s line no_syntax s
 answers_none s line given e short none = λ part kept.
     let same : part ≡ given = whole line part kept short ∙ sym e in
-    (syntax (omega (arith, ap length same, ap length e)) (λ d spelled. none d (subst (Spells d) same spelled)) refl refl, λ q. none Quit (sym same ∙ q))
+    (syntax (omega (arith, ap length same, ap length e)) (λ d spelled. none d (subst (SpellsCommand d) same spelled)) refl refl, λ q. none Quit (sym same ∙ q))
 
-answers_done : (s : State) (line given answer : List ℕ) (new : State) (d : Command) → given ≡ line → length line ≤ 200 → Spells d given
-    → ((other : Command) → Spells other given → other ≡ d) → d ≢ Quit → Does s d answer new → AnswersLine Answer s line answer new
+answers_done : (s : State) (line given answer : List ℕ) (new : State) (d : Command) → given ≡ line → length line ≤ 200 → SpellsCommand d given
+    → ((other : Command) → SpellsCommand other given → other ≡ d) → d ≢ Quit → Does s d answer new → AnswersLine Answer s line answer new
 answers_done s line given answer new d e short spelled only not_quit does = λ part kept.
     let same : part ≡ given = whole line part kept short ∙ sym e in
-    (command d (omega (arith, ap length same, ap length e)) (subst (Spells d) (sym same) spelled) does, λ q. not_quit (sym (only Quit (sym same ∙ q))))
+    (command d (omega (arith, ap length same, ap length e)) (subst (SpellsCommand d) (sym same) spelled) does, λ q. not_quit (sym (only Quit (sym same ∙ q))))
 
 pub returns-in_err-say : goal.returns-in_err-say
 returns-in_err-say g c = λ before said h.

@@ -1,8 +1,7 @@
 use Rattle.std.proofs.Common.{◌≡◌, ◌||◌, ◌+◌, ◌-◌, ◌<◌, Bool, length, Vec, Global, set, true, sym, ◌∙◌, ap, subst, arith}
 use Rattle.std.specs.List.{list_any}
 use Rattle.std.proofs.lemmas.List.{get_or_default}
-use Rattle.ga_causal.specs.Causes.{nodes_of}
-use Rattle.ga_causal.specs.Dependence.{is_marked, no_cause, event_at}
+use Rattle.ga_causal.specs.Dependence.{cause_nodes, is_marked, no_cause, event_at}
 use Rattle.ga_causal.specs.Equivalence.{sees}
 use Rattle.ga_drawing.proofs.Grounded.{AreGrounds, grounds_first, grounds_met, grounds_not}
 use Rattle.ga_drawing.proofs.before.grounds.Goals as goal
@@ -26,8 +25,8 @@ events-preserved c =
     let within : at < length c.args.events.now = omega arith in
     let before = subst (λ z. AreGrounds c.args.events.now c.args.place z c.events.flags.items (is_marked c.events.wanted)) next c.events.invariant in
     let here : event_at c.args.events.now at ≡ c.index-events-at.result = get_or_default c.args.events.now at no_cause c.index-events-at.result within ∙ sym c.index-events-at.is in
-    let met : list_any (is_marked c.events.wanted) (nodes_of (event_at c.args.events.now at)) ≡ c.met_by.result =
-    ap (λ z. list_any (is_marked c.events.wanted) (nodes_of z)) here ∙ sym c.met_by.ensures in
+    let met : list_any (is_marked c.events.wanted) (cause_nodes (event_at c.args.events.now at)) ≡ c.met_by.result =
+    ap (λ z. list_any (is_marked c.events.wanted) (cause_nodes z)) here ∙ sym c.met_by.ensures in
     elim c.if-met_by.branch [
       | then-met_by w ↦ (
           let flags : c.if-met_by.flags.items ≡ set c.events.flags.items at true = ap (λ (v : Vec Bool Global). v.items) w.flags-is in

@@ -1,4 +1,4 @@
-use Rattle.ga_explore.specs.Numbers.{has}
+use Rattle.ga_explore.specs.kept.Numbers.{has}
 use Rattle.ga_explore.proofs.Rounds.{ahead_is, behind_is}
 use Rattle.ga_explore.proofs.ready.first_from.Goals as goal
 

@@ -1,7 +1,7 @@
 use Rattle.std.proofs.Common.{sym, ◌∙◌, ap}
 use Rattle.std.specs.Prelude.{is_ok}
 use Rattle.ga_grid.specs.Chip.{records_of}
-use Rattle.ga_explore.specs.Ready.{IsRight}
+use Rattle.ga_explore.specs.kept.Ready.{IsRight}
 use Rattle.ga_explore.proofs.Looking.{can_go_is, looked_kept}
 use Rattle.ga_explore.proofs.ready.look.Goals as goal
 

@@ -1,4 +1,4 @@
-use Rattle.ga_explore.specs.Numbers.{has}
+use Rattle.ga_explore.specs.kept.Numbers.{has}
 use Rattle.ga_explore.proofs.Rounds.{within}
 use Rattle.ga_explore.proofs.ready.lowest_from.Goals as goal
 

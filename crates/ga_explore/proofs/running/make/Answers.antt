@@ -2,7 +2,7 @@ use Rattle.std.proofs.Common.{◌≡◌, ◌∙◌, ap, sym, subst}
 use Rattle.std.specs.Prelude.{is_some}
 use Rattle.ga_grid.specs.Chip.{records_of}
 use Rattle.ga_lab.specs.Machine.{chip_of, stepped, step_answer}
-use Rattle.ga_explore.specs.Ready.{HoldsReady, StaysRight, IsRefreshed}
+use Rattle.ga_explore.specs.kept.Ready.{HoldsReady, StaysRight, IsRefreshed}
 use Rattle.ga_explore.proofs.Stepping.{stepped_ready, answered_ok, answered_err}
 use Rattle.ga_explore.proofs.running.make.Goals as goal
 

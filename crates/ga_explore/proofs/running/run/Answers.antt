@@ -1,6 +1,6 @@
 use Rattle.std.proofs.Common.{◌≡◌, ◌∙◌, true, false, refl, ap, arith, sym, subst}
 use Rattle.std.specs.Prelude.{is_some}
-use Rattle.ga_explore.specs.Ready.{HoldsReady}
+use Rattle.ga_explore.specs.kept.Ready.{HoldsReady}
 use Rattle.ga_explore.specs.Running.{Running, running, holds_next}
 use Rattle.ga_explore.proofs.Events.{gone_on, made_more, never_more, holds_is, ended_reached, ended_halted}
 use Rattle.ga_explore.proofs.running.run.Goals as goal

@@ -2,7 +2,7 @@ use Rattle.std.proofs.Common.{◌≡◌, ◌-◌, ◌≤◌}
 use Rattle.std.specs.Prelude.{IsSome}
 use Rattle.ga_event.specs.Apply.{replay}
 use Rattle.ga_lab.specs.Machine.{chip_of}
-use Rattle.ga_explore.specs.Ready.{HoldsReady}
+use Rattle.ga_explore.specs.kept.Ready.{HoldsReady}
 use Rattle.ga_explore.specs.Running.{running, after, AreMade, NeverHolds}
 use Rattle.ga_explore.proofs.running.run.Given as goal
 

@@ -1,4 +1,4 @@
-use Rattle.ga_grid.specs.NodeId.{node_id}
+use Rattle.ga_grid.specs.Grid.{node_id}
 use Rattle.ga_grid.proofs.NodeIds.{NodeId-same}
 use Rattle.ga_explore.proofs.schedule.node_at.Goals as goal
 

@@ -1,6 +1,6 @@
 use Rattle.std.proofs.Common.{◌∙◌, ap}
 use Rattle.ga_node.specs.Record.{record_of}
-use Rattle.ga_flow.specs.Following.{settled}
+use Rattle.ga_flow.specs.kept.Following.{settled}
 use Rattle.ga_flow.proofs.Following.{due_found}
 use Rattle.ga_flow.proofs.flows.own_flow.Goals as goal
 

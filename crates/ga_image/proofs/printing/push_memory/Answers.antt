@@ -1,8 +1,9 @@
 use Rattle.std.proofs.Common.{ℕ, ◌≡◌, ◌*◌, ◌<◌, List, ◌++◌, take, flat_map, sym, ap, ◌∙◌, subst, arith}
 use Rattle.ga_node.specs.Record.{record_of}
 use Rattle.ga_image.specs.declared.field.Field.{Field}
-use Rattle.ga_image.specs.Forms.{field_in}
-use Rattle.ga_image.specs.Printing.{AreWords, fields_text, line_unless, row_at, row_cells, memory_in}
+use Rattle.ga_image.specs.kept.Forms.{field_in}
+use Rattle.ga_image.specs.Printing.{AreWords, line_unless, row_at, row_cells}
+use Rattle.ga_image.specs.kept.Printing.{fields_text, memory_in}
 use Rattle.ga_image.proofs.Pieces.{lines_grown, rows_more, row_cell}
 use Rattle.ga_image.proofs.PrintedSound.{rows_words, memory_words}
 use Rattle.ga_image.proofs.printing.push_memory.Goals as goal

@@ -1,7 +1,8 @@
 use Rattle.std.proofs.Common.{◌≡◌, ◌*◌, ◌<◌, ◌++◌, length, take, flat_map}
 use Rattle.ga_node.specs.Record.{record_of}
-use Rattle.ga_image.specs.Forms.{field_in}
-use Rattle.ga_image.specs.Printing.{AreWords, fields_text, line_unless, row_at, row_cells, memory_in}
+use Rattle.ga_image.specs.kept.Forms.{field_in}
+use Rattle.ga_image.specs.Printing.{AreWords, line_unless, row_at, row_cells}
+use Rattle.ga_image.specs.kept.Printing.{fields_text, memory_in}
 use Rattle.ga_image.proofs.printing.push_memory.Given as goal
 
 abbrev pub invariant-rows : goal.invariant-rows

@@ -1,7 +1,8 @@
 use Rattle.std.proofs.Common.{◌≡◌, ◌<◌, ◌≤◌, length, get_or, drop, sym, ◌∙◌, arith, length-drop}
 use Rattle.std.proofs.lemmas.List.{get_or-take, get_or-drop, length-take-le}
 use Rattle.ga_node.specs.Record.{record_of}
-use Rattle.ga_image.specs.Printing.{memory_in, row_at}
+use Rattle.ga_image.specs.kept.Printing.{memory_in}
+use Rattle.ga_image.specs.Printing.{row_at}
 use Rattle.ga_image.proofs.Pieces.{filled_more, filled_whole, words_push}
 use Rattle.ga_image.proofs.printing.row.Goals as goal
 

@@ -1,6 +1,7 @@
 use Rattle.std.proofs.Common.{◌≡◌, ◌<◌, length}
 use Rattle.ga_node.specs.Record.{record_of}
-use Rattle.ga_image.specs.Printing.{AreWords, memory_in, row_at}
+use Rattle.ga_image.specs.Printing.{AreWords, row_at}
+use Rattle.ga_image.specs.kept.Printing.{memory_in}
 use Rattle.ga_image.proofs.Pieces.{IsFilled}
 use Rattle.ga_image.proofs.printing.row.Given as goal
 

@@ -1,5 +1,5 @@
 use Rattle.std.proofs.Common.{◌≡◌, ℕ, length, ◌∙◌, ap, refl}
-use Rattle.ga_node.specs.State.{NodeState, fresh_node}
+use Rattle.ga_node.specs.Record.{NodeState, fresh_node}
 use Rattle.ga_shared.proofs.NodeCopies.{record_of-copied}
 use Rattle.ga_shared.proofs.copies.copy_node.Goals as goal
 

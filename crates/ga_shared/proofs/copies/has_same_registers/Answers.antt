@@ -2,7 +2,7 @@ use Rattle.std.proofs.Common.{◌≡◌, ◌∙◌, ap, sym}
 use Rattle.std.proofs.lemmas.Bool.{eqb-true, eq-eqb}
 use Rattle.ga_node.specs.Record.{record_of}
 use Rattle.ga_node.specs.Waits.{wait_code, wait_of}
-use Rattle.ga_shared.specs.Copies.{registers_of}
+use Rattle.ga_shared.specs.kept.Copies.{registers_of}
 use Rattle.ga_shared.proofs.copies.has_same_registers.Goals as goal
 
 pub returns : goal.returns

@@ -1,7 +1,7 @@
 use Rattle.std.proofs.Common.{◌==◌, ◌||◌, sym, ◌∙◌, ap}
 use Rattle.ga_ports.specs.declared.side.Side.TheVariants.{Down, Left, Up}
 use Rattle.ga_grid.specs.Grid.{neighbour_of}
-use Rattle.ga_causal.specs.Causes.{any_of}
+use Rattle.ga_causal.specs.kept.Firsts.{any_of}
 use Rattle.ga_causal.specs.Dependence.{is_marked}
 use Rattle.ga_causal.proofs.Looks.{any_neighbours}
 use Rattle.ga_drawing.proofs.Flags.{four_sides}

@@ -1,5 +1,5 @@
 use Rattle.std.proofs.Common.{◌≡◌, ℕ, ◌+◌, ◌*◌, ◌<◌, ◌≤◌, false}
-use Rattle.ga_explore.specs.Numbers.{has}
+use Rattle.ga_explore.specs.kept.Numbers.{has}
 use Rattle.ga_explore.proofs.numbers.Numbers.lowest_from.Given as goal
 
 abbrev pub invariant-loop-index : goal.invariant-loop-index

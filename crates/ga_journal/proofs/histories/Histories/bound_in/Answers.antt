@@ -1,7 +1,8 @@
 use Rattle.std.proofs.Common.{◌≡◌, ◌+◌, ◌-◌, ◌<◌, ◌∙◌, refl, sym, ap, arith}
 use Rattle.std.specs.Prelude.{slice_index}
-use Rattle.ga_journal.specs.Histories.{lists_of, history, bound_of}
-use Rattle.ga_journal.specs.Cuts.{cut}
+use Rattle.ga_journal.specs.kept.Histories.{lists_of, bound_of}
+use Rattle.ga_journal.specs.Histories.{history}
+use Rattle.ga_journal.specs.kept.Cuts.{cut}
 use Rattle.ga_journal.proofs.Heads.{bound_le}
 use Rattle.ga_journal.proofs.Rooms.{read_at}
 use Rattle.ga_journal.proofs.Cutting.{found_at, cut_bound, cut_empty, cut_within}

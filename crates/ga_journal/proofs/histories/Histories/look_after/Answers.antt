@@ -1,5 +1,6 @@
 use Rattle.std.proofs.Common.{◌<◌, ◌≤◌, sym, subst, arith}
-use Rattle.ga_journal.specs.Histories.{lists_of, history, Rises}
+use Rattle.ga_journal.specs.kept.Histories.{lists_of, Rises}
+use Rattle.ga_journal.specs.Histories.{history}
 use Rattle.ga_journal.specs.Looks.{IsLookAfter, HasNoLookAfter}
 use Rattle.ga_journal.proofs.Rooms.{history_read}
 use Rattle.ga_journal.proofs.Looking.{look_first, look_before}

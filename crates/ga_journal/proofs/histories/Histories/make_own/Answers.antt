@@ -2,10 +2,10 @@ use Rattle.std.proofs.Common.{◌+◌, ◌∙◌, ap, sym, Some}
 use Rattle.std.specs.Prelude.{Option}
 use Rattle.ga_event.specs.declared.event.Event.TheVariants as event
 use Rattle.ga_event.specs.Undo.{own_effect}
-use Rattle.ga_journal.specs.declared.made.Made.{Made}
-use Rattle.ga_journal.specs.declared.made.Made.TheVariants as made
-use Rattle.ga_journal.specs.Histories.{lists_of}
-use Rattle.ga_journal.specs.Making.{made_over}
+use Rattle.ga_event.specs.declared.made.Made.{Made}
+use Rattle.ga_event.specs.declared.made.Made.TheVariants as made
+use Rattle.ga_journal.specs.kept.Histories.{lists_of}
+use Rattle.ga_journal.specs.kept.Making.{made_over}
 use Rattle.ga_journal.proofs.Heads.{appended_own, told_own}
 use Rattle.ga_journal.proofs.Rooms.{lists_pushed}
 use Rattle.ga_journal.proofs.histories.Histories.make_own.Goals as goal

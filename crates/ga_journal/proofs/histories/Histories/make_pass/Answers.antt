@@ -1,10 +1,10 @@
 use Rattle.std.proofs.Common.{◌+◌, ◌∙◌, ap, sym, Some}
-use Rattle.std.specs.Prelude.{Option}
+use Rattle.std.specs.Prelude.{Option, length}
 use Rattle.ga_event.specs.declared.event.Effect.TheVariants as effect
-use Rattle.ga_journal.specs.declared.made.Made.{Made}
-use Rattle.ga_journal.specs.declared.made.Made.TheVariants as made
-use Rattle.ga_journal.specs.Histories.{lists_of, history}
-use Rattle.std.specs.Prelude.{length}
+use Rattle.ga_event.specs.declared.made.Made.{Made}
+use Rattle.ga_event.specs.declared.made.Made.TheVariants as made
+use Rattle.ga_journal.specs.kept.Histories.{lists_of}
+use Rattle.ga_journal.specs.Histories.{history}
 use Rattle.ga_journal.proofs.histories.Histories.make_pass.Goals as goal
 
 pub returns-clause-added : goal.returns-clause-added

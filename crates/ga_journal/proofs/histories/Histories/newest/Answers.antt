@@ -1,5 +1,6 @@
 use Rattle.std.proofs.Common.{◌≡◌, ◌∙◌, sym}
-use Rattle.ga_journal.specs.Histories.{lists_of, history, bound_of}
+use Rattle.ga_journal.specs.kept.Histories.{lists_of, bound_of}
+use Rattle.ga_journal.specs.Histories.{history}
 use Rattle.ga_journal.proofs.Heads.{bound_le}
 use Rattle.ga_journal.proofs.histories.Histories.newest.Goals as goal
 

@@ -1,7 +1,7 @@
 use Rattle.std.proofs.Common.{◌≡◌, ◌+◌, ◌-◌, ◌∙◌, suc, drop, subst, arith}
 use Rattle.std.proofs.lemmas.List.{length-map}
-use Rattle.ga_journal.specs.Histories.{lists_of, pasts_of}
-use Rattle.ga_journal.specs.Cuts.{WalksBack}
+use Rattle.ga_journal.specs.kept.Histories.{lists_of, pasts_of}
+use Rattle.ga_journal.specs.kept.Cuts.{WalksBack}
 use Rattle.ga_journal.proofs.Recalling.{walk_whole, walked_drop}
 use Rattle.ga_journal.proofs.histories.Histories.recall.Goals as goal
 

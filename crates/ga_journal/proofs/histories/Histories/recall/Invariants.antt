@@ -1,7 +1,7 @@
 use Rattle.std.proofs.Common.{◌≤◌, ◌-◌, List, length, drop}
-use Rattle.ga_journal.specs.Histories.{lists_of}
+use Rattle.ga_journal.specs.kept.Histories.{lists_of}
 use Rattle.ga_journal.specs.Logs.{Stamped, Records}
-use Rattle.ga_journal.specs.Cuts.{WalksBack}
+use Rattle.ga_journal.specs.kept.Cuts.{WalksBack}
 use Rattle.ga_journal.proofs.histories.Histories.recall.Given as goal
 
 abbrev pub invariant-loop : goal.invariant-loop

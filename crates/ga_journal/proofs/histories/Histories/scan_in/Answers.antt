@@ -1,8 +1,9 @@
 use Rattle.std.proofs.Common.{◌≡◌, ◌∙◌, ⊎_elim, arith}
 use Rattle.std.proofs.lemmas.Bool.{cases_lt}
 use Rattle.std.proofs.lemmas.List.{length-map}
-use Rattle.ga_journal.specs.Histories.{lists_of, history, bound_of, pasts_of}
-use Rattle.ga_journal.specs.Cuts.{cut}
+use Rattle.ga_journal.specs.kept.Histories.{lists_of, bound_of, pasts_of}
+use Rattle.ga_journal.specs.Histories.{history}
+use Rattle.ga_journal.specs.kept.Cuts.{cut}
 use Rattle.ga_journal.proofs.Cutting.{bound_past}
 use Rattle.ga_journal.proofs.histories.Histories.scan_in.Goals as goal
 

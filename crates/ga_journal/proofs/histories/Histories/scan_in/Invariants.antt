@@ -1,6 +1,7 @@
 use Rattle.std.proofs.Common.{◌≡◌, ◌<◌, ◌≤◌, ℕ}
-use Rattle.ga_journal.specs.Histories.{lists_of, history, bound_of}
-use Rattle.ga_journal.specs.Cuts.{cut}
+use Rattle.ga_journal.specs.kept.Histories.{lists_of, bound_of}
+use Rattle.ga_journal.specs.Histories.{history}
+use Rattle.ga_journal.specs.kept.Cuts.{cut}
 use Rattle.ga_journal.proofs.histories.Histories.scan_in.Given as goal
 
 abbrev pub invariant-loop-number : goal.invariant-loop-number

@@ -1,7 +1,7 @@
 use Rattle.std.proofs.Common.{◌≡◌, ◌-◌, ◌∙◌, List, length, sym, ap, arith, map}
 use Rattle.ga_journal.specs.declared.entry.Entry.{Entry}
-use Rattle.ga_journal.specs.Histories.{Held, bound_of}
-use Rattle.ga_journal.specs.Stored.{past_in}
+use Rattle.ga_journal.specs.kept.Histories.{Held, bound_of}
+use Rattle.ga_journal.specs.kept.Stored.{past_in}
 use Rattle.ga_journal.proofs.Storing.{none_bound, last_bound}
 use Rattle.ga_journal.proofs.history.History.last.Goals as goal
 

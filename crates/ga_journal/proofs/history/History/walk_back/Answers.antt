@@ -1,10 +1,12 @@
 use Rattle.std.proofs.Common.{◌≡◌, ℕ, ◌+◌, ◌-◌, ◌∙◌, Some, length, take, drop, length-take, sym, ap, subst, arith}
 use Rattle.std.specs.Prelude.{slice_get}
 use Rattle.std.proofs.lemmas.List.{length-map, drop_all}
-use Rattle.ga_node.specs.State.{NodeState, restored, IsApart}
+use Rattle.ga_node.specs.Record.{NodeState}
+use Rattle.ga_node.specs.State.{restored, IsApart}
 use Rattle.ga_event.specs.Undo.{CanRestore}
-use Rattle.ga_journal.specs.Histories.{Past, Held}
-use Rattle.ga_journal.specs.Stored.{past_in}
+use Rattle.ga_journal.specs.Histories.{Past}
+use Rattle.ga_journal.specs.kept.Histories.{Held}
+use Rattle.ga_journal.specs.kept.Stored.{past_in}
 use Rattle.ga_journal.specs.Walked.{walked}
 use Rattle.ga_journal.proofs.Storing.{pasts_at}
 use Rattle.ga_journal.proofs.Walks.{walked_one, can_one, can_later, entry_in_front}

@@ -2,15 +2,14 @@ use Rattle.std.proofs.Common.{◌≡◌, ◌<◌, ℕ, ◌∙◌, Some, None, ta
 use Rattle.std.proofs.lemmas.List.{take_all}
 use Rattle.std.specs.Prelude.{◌↔◌, IsNone, drop}
 use Rattle.ga_node.specs.declared.node.Node.{Node}
-use Rattle.ga_node.specs.State.{NodeState}
-use Rattle.ga_node.specs.Record.{record_of}
+use Rattle.ga_node.specs.Record.{NodeState, record_of}
 use Rattle.ga_grid.specs.Chip.{record_at}
 use Rattle.ga_event.specs.Apply.{replay}
 use Rattle.ga_journal.specs.Histories.{history}
-use Rattle.ga_journal.specs.Kept.{steps_of}
+use Rattle.ga_event.specs.Told.{steps_of}
 use Rattle.ga_journal.specs.Walked.{walked, CanWalk}
 use Rattle.ga_lab.specs.Machine.{State, chip_of, earlier}
-use Rattle.ga_lab.specs.Tied.{state_of}
+use Rattle.ga_lab.specs.kept.Tied.{state_of}
 use Rattle.ga_lab.proofs.Stepping.{whole_of}
 use Rattle.ga_lab.proofs.Peeking.{can_peek, replays_earlier, peeked, kept_steps, none_past, some_within}
 use Rattle.ga_lab.proofs.lab.Lab.peek.Goals as goal

@@ -1,7 +1,7 @@
 use Rattle.std.proofs.Common.{refl, ap, [], ◌∷◌}
 use Rattle.ga_stacks.specs.Ring.{Ring}
 use Rattle.ga_stacks.specs.declared.place.StackPlace.TheVariants.{Pointer, Top, Second}
-use Rattle.ga_node.specs.State.{NodeState}
+use Rattle.ga_node.specs.Record.{NodeState}
 use Rattle.ga_node.proofs.Saving.{saves_data}
 use Rattle.ga_node.proofs.node.Node.pop_data.Goals as goal
 

@@ -1,0 +1,21 @@
+-- What was said to an output, which gathers it before it writes.
+use Rattle.std.specs.Prelude.{ℕ, List, ◌++◌, Option, Result}
+use Rattle.ga_console.specs.declared.output.WriteFailed.{WriteFailed}
+use Rattle.ga_console.specs.Output.{IsSaid, IsSaidOrCut}
+
+-- Such a text is said, or cut short by a failed write: contents and pending are what the writer holds and what waits before
+-- the call, held and left the same after it.
+abbrev pub Says : {T : Type 0}
+    → Result T WriteFailed
+    → (List ℕ → Type 0)
+    → Option (List ℕ)
+    → List ℕ
+    → Option (List ℕ)
+    → List ℕ
+    → Type 0
+Says result IsText contents pending held left =
+    (before said : List ℕ)
+    → IsSaid contents before said pending
+    → (text : List ℕ)
+    × IsText text
+    × IsSaidOrCut result held before (said ++ text) left

@@ -1,0 +1,5 @@
+pub mod Fields
+pub mod Forms
+pub mod Printing
+pub mod Progress
+pub mod Spelling

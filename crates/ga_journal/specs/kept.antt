@@ -1,0 +1,13 @@
+pub mod Cuts
+pub mod Ends
+pub mod Entries
+pub mod Histories
+pub mod Lending
+pub mod Looks
+pub mod Making
+pub mod Marks
+pub mod Newest
+pub mod Popped
+pub mod Sound
+pub mod Stored
+pub mod Window

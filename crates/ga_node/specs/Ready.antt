@@ -1,0 +1,30 @@
+-- What is asked of a node for the halves of an event: that it runs and can carry this out, that it waits to write or to read.
+use Rattle.std.specs.Prelude.{◌<◌, ◌%◌, ◌≡◌}
+use Rattle.ga_slots.specs.Codes.{code_of}
+use Rattle.ga_node.specs.Record.{NodeRecord}
+use Rattle.ga_node.specs.declared.wait.Wait.{Wait}
+use Rattle.ga_node.specs.declared.wait.Wait.TheVariants.{Nothing, Read, Write, Fetch as FetchWait}
+use Rattle.ga_node.specs.declared.due.Due.{Due}
+use Rattle.ga_node.specs.declared.due.Due.TheVariants as due
+
+-- neither a wait nor a stop
+abbrev pub IsRunning : NodeRecord → Type 0
+IsRunning n = (n.wait ≡ Nothing) × (n.stop ≡ 0)
+
+-- the node runs, and this can be what it carries out: an opcode stands in a slot, and in the last one its code is a multiple of 4
+abbrev pub CanDo : Due → NodeRecord → Type 0
+CanDo due.Fetch n = IsRunning n
+CanDo (due.Run op) n = IsRunning n × (n.slot < 4) × (n.slot ≡ 3 → code_of op % 4 ≡ 0)
+
+-- who waits to write, and who waits to read
+abbrev pub IsWriting : Wait → Type 0
+IsWriting (Write side) = Unit {0}
+IsWriting Nothing = ⊥
+IsWriting (FetchWait sides) = ⊥
+IsWriting (Read sides) = ⊥
+
+abbrev pub IsReading : Wait → Type 0
+IsReading (FetchWait sides) = Unit {0}
+IsReading (Read sides) = Unit {0}
+IsReading Nothing = ⊥
+IsReading (Write side) = ⊥

@@ -1,0 +1,3 @@
+pub mod Saving
+pub mod Packed
+pub mod Table

@@ -1,0 +1,66 @@
+-- What each method of a node makes and saves.
+use Rattle.ga_stacks.specs.declared.place.StackPlace.{StackPlace}
+use Rattle.ga_stacks.specs.declared.place.StackPlace.TheVariants as stack
+use Rattle.ga_node.specs.declared.place.Place.{Place}
+use Rattle.ga_node.specs.declared.place.Place.TheVariants.{T, S, DataCell, DataPointer, R, ReturnCell, ReturnPointer}
+use Rattle.std.specs.Prelude.{◌≡◌, ℕ, List, ◌++◌, map, Result, Ok, Err}
+use Rattle.ga_node.specs.Record.{NodeState, record_of}
+use Rattle.ga_node.specs.State.{restored, AreFit}
+use Rattle.ga_node.specs.Changes.{Change, after_changes}
+use Rattle.ga_node.specs.Table.{Access, Plain, Reads, Writes, wrote_at}
+use Rattle.ga_node.specs.declared.kind.Kind.{Kind}
+use Rattle.ga_node.specs.Saving.{written, old_values, Overwrites}
+
+-- a place of the data stack
+abbrev pub data_place : StackPlace → Place
+data_place stack.Pointer = DataPointer
+data_place stack.Top = T
+data_place stack.Second = S
+data_place (stack.Cell cell) = DataCell cell
+
+-- a place of the return stack, which has one register
+abbrev pub return_place : StackPlace → Place
+return_place stack.Pointer = ReturnPointer
+return_place stack.Top = R
+return_place stack.Second = R
+return_place (stack.Cell cell) = ReturnCell cell
+
+-- These changes were made, and these values saved.
+pub record IsMade (changes : List Change) (old new : NodeState) (saved : List (Place × ℕ)) : Type 0 where
+  pub effect : record_of new ≡ after_changes changes (record_of old)
+  pub saves : Overwrites changes old new saved
+
+-- What the table says was made: the changes, or else the event that an access has become.
+abbrev pub IsDone : Result (List Change) (Kind × List Change) → NodeState → NodeState → List (Place × ℕ) → Type 0
+IsDone (Ok changes) old new saved = IsMade changes old new saved
+IsDone (Err event) old new saved = ⊥
+
+-- What the table says was made in place of what an access was for: an event of this kind, and its changes.
+abbrev pub IsEnded : {A : Type 0} → Result A (Kind × List Change) → Kind → NodeState → NodeState → List (Place × ℕ) → Type 0
+IsEnded (Ok given) kind old new saved = ⊥
+IsEnded (Err event) kind old new saved = (event.0 ≡ kind) × IsMade event.1 old new saved
+
+-- What an event that reads nothing is for was made: its changes, those of its write first.
+abbrev pub IsDoneBy : Access → NodeState → NodeState → List (Place × ℕ) → Type 0
+IsDoneBy (Plain changes) old new saved = IsMade changes old new saved
+IsDoneBy (Reads address more) old new saved = ⊥
+IsDoneBy (Writes address more) old new saved = IsDone (wrote_at address more (record_of old)) old new saved
+
+-- Its write was the whole event.
+abbrev pub IsEndedBy : Access → Kind → NodeState → NodeState → List (Place × ℕ) → Type 0
+IsEndedBy (Plain changes) kind old new saved = ⊥
+IsEndedBy (Reads address more) kind old new saved = ⊥
+IsEndedBy (Writes address more) kind old new saved = IsEnded (wrote_at address more (record_of old)) kind old new saved
+
+-- One change more: its old values come after those before.
+pub record Saves (changes : List Change) (old : NodeState) (before : List (Place × ℕ)) (new : NodeState) (later : List (Place × ℕ)) : Type 0 where
+  pub exact : later ≡ before ++ old_values old (written changes old)
+  pub undone : restored new (old_values old (written changes old)) ≡ old
+  pub fit : AreFit (old_values old (written changes old))
+
+-- the values of a stack as values of its node
+abbrev pub data_values : List (StackPlace × ℕ) → List (Place × ℕ)
+data_values values = map (λ v. (data_place v.0, v.1)) values
+
+abbrev pub return_values : List (StackPlace × ℕ) → List (Place × ℕ)
+return_values values = map (λ v. (return_place v.0, v.1)) values

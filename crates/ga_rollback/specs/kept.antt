@@ -1,0 +1,4 @@
+pub mod Ends
+pub mod Marked
+pub mod Rewound
+pub mod Window

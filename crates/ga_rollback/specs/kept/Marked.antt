@@ -1,0 +1,93 @@
+-- Why an entry is to go, and the marks while they are lowered.
+use Rattle.std.specs.Prelude.{◌≡◌, ℕ, ◌+◌, ◌-◌, ◌*◌, ◌<◌, ◌≤◌, true, false, List, [], ◌∷◌, length, take, Option, Some, None, slice_index}
+use Rattle.std.specs.List.{sum_by}
+use Rattle.ga_ports.specs.declared.side.Side.{Side}
+use Rattle.ga_grid.specs.Grid.{neighbour_of}
+use Rattle.ga_journal.specs.Histories.{Past, Book, history}
+use Rattle.ga_journal.specs.Kept.{has_looked_in}
+use Rattle.ga_journal.specs.Marks.{partner_of, partner_at, entry_at, mark_of, going_of, waits, ticked, lowered, AreMarks}
+use Rattle.ga_journal.specs.kept.Marks.{to_go, in_line}
+use Rattle.ga_journal.specs.Looks.{HasLook, IsLookToGo, SawNoneToGo}
+use Rattle.ga_rollback.specs.Marked.{looks_of}
+
+-- from where on a node's entries were looked at
+abbrev pub looked_to : Book → List ℕ → ℕ → ℕ
+looked_to book seen m = length (history book.histories m) - slice_index seen m
+
+abbrev pub stamp_of : Option Past → ℕ
+stamp_of None = 0
+stamp_of (Some e) = e.stamp
+
+-- the stamp of a node's entry at a position
+abbrev pub stamp_at : Book → ℕ → ℕ → ℕ
+stamp_at book n p = stamp_of (entry_at book.histories n p)
+
+-- why an entry is to go: it is of the event with stamp s, or an earlier entry is to go, of one of its event's nodes or of a
+-- neighbour at which it looked
+pub data IsDue (book : Book) (s m p : ℕ) (e : Past) : Type 0 where
+  Start : e.stamp ≡ s → IsDue book s m p e
+  Later : mark_of book m < p → IsDue book s m p e
+  Other : (j q : ℕ) → partner_of e.act ≡ Some (j, q) → mark_of book j < q → IsDue book s m p e
+  Saw : (j q : ℕ) (side : Side) (f : Past) → has_looked_in e.act ≡ true → neighbour_of m side ≡ Some j
+      → entry_at book.histories j q ≡ Some f → mark_of book j ≤ q → f.stamp < e.stamp → IsDue book s m p e
+
+-- the marks of a rollback of node n from its entry at k on: each entry to go has a cause, and what an entry that was looked at
+-- names is to go with it
+pub record IsMarked (book : Book) (seen : List ℕ) (n k : ℕ) : Type 0 where
+  pub sound : AreMarks book
+  pub start : mark_of book n ≤ k
+  pub caused : (m p : ℕ) (e : Past) → entry_at book.histories m p ≡ Some e → mark_of book m ≤ p
+      → IsDue book (stamp_at book n k) m p e
+  pub whole : (m p j q : ℕ) → looked_to book seen m ≤ p → partner_at book.histories m p ≡ Some (j, q) → mark_of book j ≤ q
+
+-- an entry looked at: the mark of the node that it names is low enough, or is lowered
+pub data IsFollowed (old : Book) (m p : ℕ) (new : Book) : Type 0 where
+  Passed : ((j q : ℕ) → partner_at old.histories m p ≡ Some (j, q) → mark_of old j ≤ q)
+      → new ≡ ticked old → IsFollowed old m p new
+  Lowered : (j q : ℕ) → partner_at old.histories m p ≡ Some (j, q) → q < mark_of old j
+      → new ≡ lowered (ticked old) j q → IsFollowed old m p new
+
+-- no look of a neighbour that is to stay came after an entry of node j that is to go
+abbrev pub IsUnseen : Book → ℕ → Type 0
+IsUnseen book j = (m : ℕ) (side : Side) → neighbour_of j side ≡ Some m → SawNoneToGo book j m
+
+-- marks of a node's neighbours lowered one after another, each to a look that came after an entry of the node that is to go, in
+-- two ticks; and so many searches that found none, each of a node that has a look, in one tick
+pub data AreLowered (old : Book) (node : ℕ) : ℕ → Book → Type 0 where
+  Same : {vain : ℕ} {new : Book} → vain ≡ 0 → new ≡ old → AreLowered old node vain new
+  Further : {vain : ℕ} {new : Book} (book : Book) (m p : ℕ) (side : Side) → AreLowered old node vain book
+      → neighbour_of m side ≡ Some node → IsLookToGo book node m p → new ≡ lowered (ticked book) m p
+      → AreLowered old node vain new
+  Vain : {vain : ℕ} {new : Book} (book : Book) (before m : ℕ) → AreLowered old node before book
+      → HasLook (history book.histories m) → vain ≡ before + 1 → new ≡ ticked book → AreLowered old node vain new
+
+-- the same, with at most so many such searches
+pub record AreLoweredBy (most : ℕ) (old : Book) (node : ℕ) (new : Book) : Type 0 where
+  pub vain : ℕ
+  pub few : vain ≤ most
+  pub chain : AreLowered old node vain new
+
+-- the entries that are to stay, where so many at the end of each history are to go
+abbrev pub staying : List (List Past) → List ℕ → List (List Past)
+staying [] going = []
+staying (h ∷ hs) [] = h ∷ staying hs []
+staying (h ∷ hs) (k ∷ going) = take (length h - k) h ∷ staying hs going
+
+-- the marks while they are lowered: no entry that stays was looked at, and each tick was a node taken up, an entry looked at, a
+-- search for a look that is to go or a mark lowered; for each node that waits, four searches in vain may come, and so many more
+pub record IsMarking (first : Book) (n k : ℕ) (book : Book) (seen : List ℕ) (more : ℕ) : Type 0 where
+  pub marked : IsMarked book seen n k
+  pub others : book ≡ record first { going = book.going; waiting = book.waiting; ticks = book.ticks }
+  pub size : length seen ≡ 144
+  pub fits : (m : ℕ) → slice_index seen m ≤ going_of book m
+  pub found : ℕ
+  pub vain : ℕ
+  pub looks : looks_of (staying book.histories book.going) + found ≤ looks_of book.histories
+  pub searches : vain + 4 * in_line book + more ≤ 4 * to_go book
+  pub blind : looks_of book.histories ≡ 0 → vain ≡ 0
+  pub least : first.ticks + 2 + sum_by (λ (x : ℕ). x) seen ≤ book.ticks + in_line book
+  pub bound : book.ticks + in_line book ≤ first.ticks + 2 * to_go book + sum_by (λ (x : ℕ). x) seen + found + vain
+
+-- of a node that does not wait all entries to go were looked at, and no look that is to stay saw one of them
+abbrev pub IsDone : Book → List ℕ → ℕ → Type 0
+IsDone book seen m = waits book m ≡ false → (going_of book m ≤ slice_index seen m) × IsUnseen book m

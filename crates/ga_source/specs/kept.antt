@@ -1,0 +1,4 @@
+pub mod Packing
+pub mod Places
+pub mod Programs
+pub mod Words
