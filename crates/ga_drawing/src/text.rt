@@ -3,8 +3,8 @@
 use crate::placing::{Drawing, Shape};
 use crate::shade::Shade;
 use crate::tracks::Tracks;
-use ga_grid::{NodeId, neighbour};
 use ga_event::Made;
+use ga_grid::{NodeId, neighbour};
 use ga_node::Kind;
 use ga_ports::Side;
 use ga_slots::Op;
