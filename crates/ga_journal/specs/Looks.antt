@@ -1,7 +1,7 @@
 -- Looks that saw what is to go: an own event that looked saw of each neighbour just the entries with stamps below its own.
 use Rattle.std.specs.Prelude.{◌≡◌, ℕ, ◌<◌, ◌≤◌, true, false, List, length, Some, slice_get}
 use Rattle.ga_journal.specs.Histories.{Past, Book, history}
-use Rattle.ga_journal.specs.Kept.{has_looked_in}
+use Rattle.ga_journal.specs.Events.{has_looked_in}
 use Rattle.ga_journal.specs.Marks.{mark_of, ticked}
 
 -- the newest look among the first entries of a history, as many as the mark says

@@ -6,7 +6,7 @@ use Rattle.ga_event.specs.declared.event.Effect.{Effect}
 use Rattle.ga_event.specs.Undo.{IsApplied, told_of}
 use Rattle.ga_event.specs.declared.made.Made.{Made}
 use Rattle.ga_journal.specs.Histories.{Book, with_event}
-use Rattle.ga_journal.specs.Kept.{events_of}
+use Rattle.ga_journal.specs.Events.{events_of}
 use Rattle.ga_event.specs.Told.{made_after}
 
 -- The event was applied to the chip with some effect and appended to the kept events, and this is told of it.

@@ -7,7 +7,7 @@ use Rattle.std.proofs.lemmas.List.FromFn.{get_or-map-range_with_len, length-map-
 use Rattle.std.proofs.lemmas.List.Sums.{sum-map}
 use Rattle.ga_node.specs.Record.{NodeState}
 use Rattle.ga_journal.specs.Histories.{Book}
-use Rattle.ga_journal.specs.Kept.{events_of}
+use Rattle.ga_journal.specs.Events.{events_of}
 use Rattle.ga_event.specs.Told.{steps_of}
 use Rattle.ga_journal.specs.Marks.{entries}
 use Rattle.ga_journal.proofs.Logs.{length-built}

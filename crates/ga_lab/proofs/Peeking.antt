@@ -14,7 +14,7 @@ use Rattle.ga_event.specs.Touches.{touches}
 use Rattle.ga_event.specs.Undo.{unapplied}
 use Rattle.ga_journal.specs.Histories.{Book, history}
 use Rattle.ga_event.specs.Told.{events_told, steps_of}
-use Rattle.ga_journal.specs.Kept.{events_of}
+use Rattle.ga_journal.specs.Events.{events_of}
 use Rattle.ga_journal.specs.Walked.{walked, walked_chip, CanWalk}
 use Rattle.ga_journal.specs.Logs.{Stamped, built, IsLog}
 use Rattle.ga_journal.proofs.Logs.{tells_of, tellings, events_push, kept_log, length-built, history-no_histories, steps_built}

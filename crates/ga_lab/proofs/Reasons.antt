@@ -5,7 +5,7 @@ use Rattle.std.proofs.lemmas.Bool.{cases_lt, leb-true, le-leb, lt-leb, lt-ltb, l
 use Rattle.ga_event.specs.declared.event.Cause.{Cause}
 use Rattle.ga_node.specs.Record.{NodeState}
 use Rattle.ga_journal.specs.Histories.{Book}
-use Rattle.ga_journal.specs.Kept.{events_of}
+use Rattle.ga_journal.specs.Events.{events_of}
 use Rattle.ga_event.specs.Told.{steps_of}
 use Rattle.ga_causal.specs.Steps.{touching}
 use Rattle.ga_causal.specs.Dependence.{place_of}

@@ -7,7 +7,7 @@ use Rattle.ga_ports.specs.declared.side.Side.TheVariants.{Right, Down, Left, Up}
 use Rattle.ga_grid.specs.Grid.{neighbour_of}
 use Rattle.ga_grid.proofs.Links.{neighbour_of-other}
 use Rattle.ga_journal.specs.Histories.{Past, Book}
-use Rattle.ga_journal.specs.Kept.{has_looked_in}
+use Rattle.ga_journal.specs.Events.{has_looked_in}
 use Rattle.ga_journal.specs.Marks.{entry_at, mark_of, going_of, entries, ticked, lowered, AreMarks}
 use Rattle.ga_journal.specs.kept.Marks.{to_go}
 use Rattle.ga_journal.specs.Looks.{IsLookToGo, SawNoneToGo, IsSought, Never, Once}

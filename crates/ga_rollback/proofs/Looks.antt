@@ -5,7 +5,7 @@ use Rattle.std.specs.List.{sum_by}
 use Rattle.std.proofs.lemmas.List.Sums.{sum_by-cons}
 use Rattle.std.proofs.lemmas.Option.{same_Some}
 use Rattle.ga_journal.specs.Histories.{Past, history}
-use Rattle.ga_journal.specs.Kept.{has_looked_in}
+use Rattle.ga_journal.specs.Events.{has_looked_in}
 use Rattle.ga_journal.specs.Looks.{HasLook}
 use Rattle.ga_rollback.specs.Marked.{looks_in, looks_of}
 use Rattle.ga_rollback.specs.kept.Marked.{staying}

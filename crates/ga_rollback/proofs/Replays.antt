@@ -9,7 +9,7 @@ use Rattle.ga_event.specs.declared.event.Cause.{Cause}
 use Rattle.ga_event.specs.Apply.{Told, apply, cause_of, run, replay}
 use Rattle.ga_event.specs.Undo.{unapplied, told_of}
 use Rattle.ga_journal.specs.Histories.{Book}
-use Rattle.ga_journal.specs.Kept.{kept_of, events_of}
+use Rattle.ga_journal.specs.Events.{kept_of, events_of}
 use Rattle.ga_event.specs.Told.{events_told}
 use Rattle.ga_journal.specs.Walked.{walked_chip}
 use Rattle.ga_journal.specs.Logs.{Stamped, built, IsLog}

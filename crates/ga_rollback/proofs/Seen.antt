@@ -16,7 +16,7 @@ use Rattle.ga_event.proofs.Locality.{meets-touched}
 use Rattle.ga_causal.specs.kept.Firsts.{any_of}
 use Rattle.ga_causal.proofs.Looks.{any_neighbours, meets_parts}
 use Rattle.ga_journal.specs.Histories.{Past}
-use Rattle.ga_journal.specs.Kept.{has_looked_in}
+use Rattle.ga_journal.specs.Events.{has_looked_in}
 use Rattle.ga_journal.proofs.Logs.{touches_here}
 use Rattle.ga_journal.proofs.Parts.{part_of, touches_writer}
 

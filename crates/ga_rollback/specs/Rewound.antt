@@ -6,7 +6,7 @@ use Rattle.ga_grid.specs.Chip.{records_of}
 use Rattle.ga_event.specs.Apply.{replay}
 use Rattle.ga_causal.specs.Dependence.{rewound_list}
 use Rattle.ga_journal.specs.Histories.{Book}
-use Rattle.ga_journal.specs.Kept.{causes_of, events_of}
+use Rattle.ga_journal.specs.Events.{causes_of, events_of}
 use Rattle.ga_event.specs.Told.{steps_of}
 use Rattle.ga_journal.specs.Walked.{walked_chip}
 use Rattle.ga_journal.specs.Marks.{entries, IsAtRest}

@@ -1,7 +1,7 @@
 -- What each journal keeps at every moment, in a rollback too.
 use Rattle.std.specs.Prelude.{◌≡◌, ℕ, ◌<◌, ◌≤◌, ◌^◌, Bool, List, length}
 use Rattle.ga_journal.specs.kept.Histories.{Held, lists_of, AllRise}
-use Rattle.ga_journal.specs.Kept.{kept_before}
+use Rattle.ga_journal.specs.Events.{kept_before}
 use Rattle.ga_journal.specs.Marks.{GoWithin, AreMatched}
 
 -- There is a history for each node, its stamps rise below the top, and so many events have an entry left.

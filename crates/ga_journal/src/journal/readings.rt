@@ -12,7 +12,7 @@ impl Journal {
     ghost use Rattle.std.specs.List.{slice_get};
     ghost use Rattle.ga_journal.specs.Histories.{history};
     ghost use Rattle.ga_journal.specs.Walked.{walked, CanWalk};
-    ghost use Rattle.ga_journal.specs.Kept.{kept_of, causes_of, events_of};
+    ghost use Rattle.ga_journal.specs.Events.{kept_of, causes_of, events_of};
     ghost use Rattle.ga_event.specs.Told.{steps_of, mades_of, made_in};
     ghost use Rattle.ga_journal.specs.Logs.{IsWhole};
     ghost use Rattle.ga_journal.specs.Since.{IsSince};

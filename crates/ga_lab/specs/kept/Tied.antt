@@ -3,7 +3,7 @@ use Rattle.std.specs.Prelude.{List}
 use Rattle.ga_node.specs.Record.{NodeState}
 use Rattle.ga_grid.specs.Chip.{records_of}
 use Rattle.ga_journal.specs.Histories.{Book}
-use Rattle.ga_journal.specs.Kept.{events_of}
+use Rattle.ga_journal.specs.Events.{events_of}
 use Rattle.ga_journal.specs.Walked.{walked_chip}
 use Rattle.ga_journal.specs.Marks.{IsAtRest}
 pub use Rattle.ga_rollback.specs.Tied.{LeadsBack, IsTied}

@@ -4,7 +4,7 @@ use Rattle.std.specs.List.{sum_by}
 use Rattle.ga_ports.specs.declared.side.Side.{Side}
 use Rattle.ga_grid.specs.Grid.{neighbour_of}
 use Rattle.ga_journal.specs.Histories.{Past, Book, history}
-use Rattle.ga_journal.specs.Kept.{has_looked_in}
+use Rattle.ga_journal.specs.Events.{has_looked_in}
 use Rattle.ga_journal.specs.Marks.{partner_of, partner_at, entry_at, mark_of, going_of, waits, ticked, lowered, AreMarks}
 use Rattle.ga_journal.specs.kept.Marks.{to_go, in_line}
 use Rattle.ga_journal.specs.Looks.{HasLook, IsLookToGo, SawNoneToGo}

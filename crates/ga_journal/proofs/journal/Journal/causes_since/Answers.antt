@@ -1,7 +1,7 @@
 use Rattle.std.proofs.Common.{◌≡◌, ◌≤◌, length, sym, ◌∙◌, ap, subst}
 use Rattle.ga_journal.specs.Histories.{Book, history}
 use Rattle.ga_journal.specs.kept.Histories.{lists_of}
-use Rattle.ga_journal.specs.Kept.{causes_of, events_of}
+use Rattle.ga_journal.specs.Events.{causes_of, events_of}
 use Rattle.ga_event.specs.Told.{steps_of}
 use Rattle.ga_journal.specs.Logs.{IsWhole}
 use Rattle.ga_journal.proofs.Down.{since_kept, since_short}

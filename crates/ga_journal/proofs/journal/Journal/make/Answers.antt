@@ -3,7 +3,7 @@ use Rattle.std.proofs.lemmas.List.{length-map}
 use Rattle.ga_journal.specs.Histories.{Book}
 use Rattle.ga_journal.specs.kept.Histories.{lists_of, pasts_of}
 use Rattle.ga_journal.specs.Logs.{IsWhole}
-use Rattle.ga_journal.specs.Kept.{kept_of}
+use Rattle.ga_journal.specs.Events.{kept_of}
 use Rattle.ga_journal.proofs.Counts.{count_within}
 use Rattle.ga_journal.proofs.Keeping.{append_keeps}
 use Rattle.ga_journal.proofs.Marking.{append_within, append_matched}

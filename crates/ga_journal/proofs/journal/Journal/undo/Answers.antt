@@ -1,7 +1,7 @@
 use Rattle.std.proofs.Common.{◌≡◌, ℕ, get_or, sym, ap, subst, []}
 use Rattle.ga_journal.specs.Histories.{Book}
 use Rattle.ga_journal.specs.kept.Histories.{lists_of, room_of}
-use Rattle.ga_journal.specs.Kept.{kept_of}
+use Rattle.ga_journal.specs.Events.{kept_of}
 use Rattle.ga_journal.specs.Logs.{Records, IsWhole}
 use Rattle.ga_journal.specs.Popped.{TakesBack}
 use Rattle.ga_journal.proofs.Keeping.{none_kept, newest_is, kept_more, pop_keeps, popped_by}
