@@ -1,0 +1,46 @@
+//! Source as one call: its image, and its listing.
+
+ghost use Rattle.std.specs.Prelude.{◌≡◌, ◌++◌, ℕ, List, length, take};
+ghost use Rattle.ga_console.specs.Source.{Assembles, Lists};
+ghost use Rattle.ga_console.specs.declared.run.Status.{Status as Ended};
+
+use crate::buffer::put_front;
+use ga_console::{assemble_source, list_source};
+use std::alloc::Global;
+
+/// The image of a source, as far as there is room for it; says how many bytes it has, 0 where the source is refused. Its fault
+/// or its warnings stand at the front of `told`, as far as there is room, and behind them `told` is as it was.
+#[unsafe(no_mangle)]
+pub extern "C" fn ga_assemble(
+    alloc: Global,
+    input: &[u8],
+    output: &mut [u8],
+    told: &mut [u8],
+) -> usize
+    ensures { (read rest text : List ℕ) × (status : Ended) × (input.now ≡ read ++ rest) × Assembles read rest text status
+        × (result ≡ length text) × (take result output.new ≡ take (length output.old) text) }
+{
+    let mut reader = input;
+    let mut image = Vec::new(alloc);
+    let mut faults = Vec::new(alloc);
+    let _status = assemble_source(alloc, &mut reader, &mut image, &mut faults);
+    let text = image.as_slice();
+    put_front(output, text);
+    put_front(told, faults.as_slice());
+    text.len()
+}
+
+/// The listing of a source, as far as there is room for it; says how many bytes it has, 0 where the source is refused.
+#[unsafe(no_mangle)]
+pub extern "C" fn ga_list(alloc: Global, input: &[u8], output: &mut [u8]) -> usize
+    ensures { (read rest text : List ℕ) × (status : Ended) × (input.now ≡ read ++ rest) × Lists read rest text status
+        × (result ≡ length text) × (take result output.new ≡ take (length output.old) text) }
+{
+    let mut reader = input;
+    let mut listing = Vec::new(alloc);
+    let mut faults = Vec::new(alloc);
+    let _status = list_source(alloc, &mut reader, &mut listing, &mut faults);
+    let text = listing.as_slice();
+    put_front(output, text);
+    text.len()
+}
