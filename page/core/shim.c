@@ -1,13 +1,19 @@
-// What the page calls. `room` gives a buffer for the input, `run` answers it, `answer` is where the answers are.
+// What the page calls. `room` gives a buffer for the input, a question answers it, `answer` is where the answer is, and `told`
+// what the assembler says. A question says how many bytes it answered, -1 where there is no memory for them.
 typedef unsigned long Size;
-unsigned char *heap_alloc(Size, Size);
-void heap_free(unsigned char *);
-Size ga_session(const unsigned char *, Size, unsigned char *, Size, unsigned);
+typedef unsigned char Byte;
+Byte *heap_alloc(Size, Size);
+void heap_free(Byte *);
+Size ga_session(const Byte *, Size, Byte *, Size, unsigned);
+Size ga_assemble(const Byte *, Size, Byte *, Size, Byte *, Size);
+Size ga_list(const Byte *, Size, Byte *, Size);
+Size ga_shades(const Byte *, Size, const Byte *, Size, unsigned, Byte *, Size);
+#define PAGE(name) __attribute__((export_name(#name)))
 
-static unsigned char *input, *output;
+static Byte *input, *output, faults[4096];
 static Size input_room, output_room;
 
-static unsigned char *at_least(unsigned char **buffer, Size *room, Size count) {
+static Byte *at_least(Byte **buffer, Size *room, Size count) {
     if (*buffer && *room >= count) return *buffer;
     if (*buffer) heap_free(*buffer);
     *room = count < 65536 ? 65536 : 2 * count;
@@ -17,15 +23,24 @@ static unsigned char *at_least(unsigned char **buffer, Size *room, Size count) {
 }
 
 // Null where there is no memory.
-__attribute__((export_name("room"))) unsigned char *room(Size count) { return at_least(&input, &input_room, count); }
+PAGE(room) Byte *room(Size count) { return at_least(&input, &input_room, count); }
+PAGE(answer) Byte *answer(void) { return output; }
+// Up to its first 0.
+PAGE(told) Byte *told(void) { return faults; }
 
-__attribute__((export_name("answer"))) unsigned char *answer(void) { return output; }
+// Asks once more where the answer had no room.
+#define ANSWER(call) \
+    if (!at_least(&output, &output_room, 65536)) return -1; \
+    Size made = call; \
+    if (made <= output_room) return made; \
+    if (!at_least(&output, &output_room, made)) return -1; \
+    return call;
 
-// How many bytes were answered; -1 where there is no memory for them.
-__attribute__((export_name("run"))) Size run(Size count, unsigned limit) {
-    if (!at_least(&output, &output_room, 65536)) return -1;
-    Size made = ga_session(input, count, output, output_room, limit);
-    if (made <= output_room) return made;
-    if (!at_least(&output, &output_room, made)) return -1;
-    return ga_session(input, count, output, output_room, limit);
+PAGE(run) Size run(Size count, unsigned limit) { ANSWER(ga_session(input, count, output, output_room, limit)) }
+PAGE(assemble) Size assemble(Size count) {
+    __builtin_memset(faults, 0, sizeof faults);
+    ANSWER(ga_assemble(input, count, output, output_room, faults, sizeof faults - 1))
 }
+PAGE(list) Size list(Size count) { ANSWER(ga_list(input, count, output, output_room)) }
+// The input is an image, and behind it the numbers of the nodes.
+PAGE(shades) Size shades(Size image, Size nodes, unsigned place) { ANSWER(ga_shades(input, image, input + image, nodes, place, output, output_room)) }

@@ -1,31 +1,39 @@
 #!/usr/bin/env python3
-"""Tests page/out/ga144.html in a headless browser: page.py [SHOTS], where SHOTS is a folder for pictures.
+"""Tests page/out/ga144.html in a headless browser: page.py [SHOTS], where SHOTS is a folder for pictures, and times are told then.
 
-1. examples/* and generated sessions, whose answers are known, byte for byte, by the page's own call.
-2. Clicks at random. What the page says will go has to be what goes, the chip of its preview the chip then, and at the end the
-   session that it keeps has to give its chip anew: in the page, and in the program where `rt ci` left one.
-3. A small heap: `no 4 memory`, and the session goes on.
+1. examples/*, sessions/* and generated sessions, whose answers are known, and generated sources, whose image, faults and listing
+   the second reading in model/ tells: byte for byte, by the page's own calls.
+2. Clicks at random. What the page says will go has to be what goes, the chip of its preview the chip then, its causes those that
+   `why` tells, and at the end the session that it keeps has to give its chip anew: in the page, and in the program where `rt ci`
+   left one.
+3. Source lines as worked by hand, keys, the session in the address, a small heap: `no 4 memory`, and the session goes on.
 """
 import json, os, random, subprocess, sys, tempfile, time
 
 sys.dont_write_bytecode = True
-from browser import Browser
-
 TOP = os.path.dirname(os.path.dirname(os.path.dirname(os.path.abspath(__file__))))
+sys.path.insert(0, f"{TOP}/model")
+from browser import Browser
+from listing import listed
+from looks import shots, times
+from source import asm
+from sources import Generator, changed
+
 PAGE = f"file://{TOP}/page/out/ga144.html"
 PROGRAM = f"{TOP}/crates/ga144/out/ga144"
-SESSIONS, CLICKS = 120, 40
-faults = []
+SESSIONS, SOURCES, CLICKS, WHYS = 80, 150, 30, 12
 LOOP = "ga144 1\nnode 000\np 000000\nram 00 010000\nend\n"
+faults = []
 
 
 def check(holds, what):
     if not holds:
         faults.append(what)
-        print(f"page: {what}", file=sys.stderr)
+        print(f"page: {what[:600]}", file=sys.stderr)
 
 
 def ready(browser, address):
+    browser.open("about:blank")
     browser.open(address)
     until = time.time() + 20
     while browser.run("return document.title") != "GA144: ready":
@@ -36,37 +44,64 @@ def ready(browser, address):
 
 def cases(room):
     subprocess.run([sys.executable, "-B", f"{TOP}/model/sessions.py", "--write", room, "0", str(SESSIONS)], check=True, stdout=subprocess.DEVNULL)
-    for folder in (f"{TOP}/examples", room):
+    for folder in (f"{TOP}/examples", f"{TOP}/sessions", room):
         for name in sorted(os.listdir(folder)):
             if name.endswith(".stdout"):
                 with open(f"{folder}/{name}", "rb") as wanted, open(f"{folder}/{name[:-7]}", "rb") as asked:
                     yield name[:-7], asked.read().decode("latin1"), wanted.read().decode("latin1")
 
 
+def bytes_of(text):
+    return f"Uint8Array.from({json.dumps(text)}, it => it.charCodeAt(0))"
+
+
 def conformance(browser):
     count = 0
     with tempfile.TemporaryDirectory() as room:
         for name, asked, wanted in cases(room):
-            got = browser.run(f"return page.core.answer(Uint8Array.from({json.dumps(asked)}, it => it.charCodeAt(0)), 1000000)")
-            check(got == wanted, f"{name} is answered otherwise")
+            check(browser.run(f"return page.core.answer({bytes_of(asked)}, 1000000)") == wanted, f"{name} is answered otherwise")
             count += 1
-    check(count >= 40, f"{count} sessions only")
+    check(count >= 120, f"{count} sessions only")
     return count
 
 
-TAKE = """
-const it = page.session.events[%d], step = it.ends[%d %% it.ends.length];
+def sources(browser):
+    texts = [read for seed in range(SOURCES) for read in (Generator(seed).source(), changed(seed))]
+    for name in sorted(os.listdir(f"{TOP}/sources")):
+        if name.endswith(".f18"):
+            with open(f"{TOP}/sources/{name}", encoding="latin1") as it:
+                texts.append(it.read())
+    for at, text in enumerate(texts):
+        image, told, _ = asm(text)
+        got = browser.run(f"const it = {bytes_of(text)}, made = page.core.assemble(it); return [made.image, made.told, page.core.list(it)]")
+        check(got == [image, told, listed(text)[0]], f"source {at} is assembled otherwise: {got} and not {[image, told]}")
+    return len(texts)
+
+
+CHOOSE = """
+const it = page.session.events[%d], step = it.ends[%d %% it.ends.length], marks = Array.from(page.session.marks(step));
 page.forget();
 page.choose(step);
-const stay = page.session.events.filter(e => page.mark(e) !== 'goes').map(e => e.text), goes = page.would_go();
-const said = page.preview.said, nodes = JSON.stringify(page.preview.nodes), button = document.getElementById('take').textContent;
-if (!%s) return { goes, said, button };
+const stay = page.session.events.filter(e => marks[e.place] !== 2).map(e => e.text), goes = page.goes, others = %s;
+const asked = others.map(at => page.session.events[at].ends[0]), why = page.session.ask(asked.map(([n, k]) => `why ${n} ${k} ${step[0]} ${step[1]}`)).map(it => it[0].startsWith('chain '));
+const causes = others.every((at, i) => marks[at] === 2 ? at === it.place || !why[i] : (marks[at] === 1) === why[i]);
+const said = page.said, nodes = JSON.stringify(page.then), button = document.getElementById('take').textContent;
+if (!%s) return { goes, said, button, causes };
 document.getElementById('take').click();
 const left = page.session.events.map(e => e.text), told = new Set();
 for (const n of NAMES) for (const line of page.session.ask(['trace ' + n])[0].slice(1)) told.add(line);
-return { goes, said, button, same: JSON.stringify(stay) === JSON.stringify(left), told: told.size === new Set(left).size && left.every(e => told.has(e)),
+return { goes, said, button, causes, same: JSON.stringify(stay) === JSON.stringify(left), told: told.size === new Set(left).size && left.every(e => told.has(e)),
     chip: JSON.stringify(page.seen.nodes) === nodes, logged: document.getElementById('log').textContent };
 """
+
+
+def choose(browser, name, dice, events, take):
+    others = [dice.randrange(events) for _ in range(WHYS)]
+    said = browser.run(CHOOSE % (dice.randrange(events), dice.randrange(2), json.dumps(others), json.dumps(take)))
+    check(said["said"].startswith(f"removed {said['goes']} kept ") and said["button"].endswith(f": {said['goes']} events"), f"{name}: {said}")
+    check(said["causes"], f"{name}: other causes than why tells: {said}")
+    if take:
+        check(said["same"] and said["told"] and said["chip"] and said["logged"].endswith(said["said"] + "\n"), f"{name}: taken back otherwise: {said}")
 
 
 def clicks(browser, name, dice):
@@ -82,19 +117,58 @@ def clicks(browser, name, dice):
         elif what in ("round", "back"):
             browser.run(f"document.getElementById('{what}').click()")
         elif events:
-            said = browser.run(TAKE % (dice.randrange(events), dice.randrange(2), json.dumps(what == "take")))
-            check(said["said"].startswith(f"removed {said['goes']} kept ") and said["button"].endswith(f": {said['goes']} events"), f"{name}: {said}")
-            if what == "take":
-                taken += 1
-                check(said["same"] and said["told"] and said["chip"] and said["logged"].endswith(said["said"] + "\n"), f"{name}: taken back otherwise: {said}")
+            taken += what == "take"
+            choose(browser, name, dice, events, what == "take")
         count = browser.run("return [page.session.events.length, page.seen.count]")
         check(count[1].startswith(f"kept {count[0]} made "), f"{name}: the page draws {count[0]}, the session says {count[1]}")
-    text, said, dump = browser.run("return [page.session.text, page.session.said, page.session.ask(['dump'])[0].join('\\n') + '\\n']")
-    check(browser.run(f"return page.core.answer({json.dumps(text + 'dump' + chr(10))}, 1000000)") == said + dump, f"{name}: its session gives another chip")
+    text, script, said, dump = browser.run("return [page.session.text, page.session.script, page.session.said, page.session.ask(['dump'])[0].join('\\n') + '\\n']")
+    check(browser.run(f"return page.core.answer({json.dumps(script + 'dump' + chr(10))}, 1000000)") == said + dump, f"{name}: its session gives another chip")
+    check(browser.run(f"page.open({json.dumps(text)}); return page.session.ask(['dump'])[0].join('\\n') + '\\n'") == dump, f"{name}: its text gives another chip")
     if os.path.exists(PROGRAM):
-        ran = subprocess.run([PROGRAM, "debug"], input=(text + "dump\n").encode(), capture_output=True)
+        ran = subprocess.run([PROGRAM, "debug"], input=(script + "dump\n").encode(), capture_output=True)
         check(ran.stdout.decode() == said + dump, f"{name}: the program answers its session otherwise")
     return taken
+
+
+# `@p dup + .` stands in cell 0 and its literal in cell 1, so the fetch of step 6 is of cell 2, which no source names.
+def source_lines(browser):
+    said = browser.run("""
+page.open("node 000\\n: main 3 dup +\\n");
+for (let i = 0; i < 6; i++) page.command("step 000");
+const rows = [...find("trace").children].map(it => (it.querySelector(".source") || { textContent: "" }).textContent);
+page.forget(); page.open("node 000\\n: main 3 dup +\\n");
+return { rows, here: find("node").querySelector(".source").textContent, text: page.session.text };""")
+    line = "main : main 3 dup +"
+    check(said == {"rows": [line] * 5 + [""], "here": line, "text": "node 000\n: main 3 dup +\nend\n"}, f"source lines: {said}")
+    said = browser.run("""
+const opened = page.open("node 000\\n: main foo\\n"), box = find("text");
+return [opened, find("log").textContent, box.value.slice(box.selectionStart, box.selectionEnd), page.session.text];""")
+    check(said[:3] == [False, "> source\nga144: line 2: what is foo\n", ": main foo"] and said[3].startswith("node 000\n: main 3"), f"a refused source: {said}")
+    browser.run("document.activeElement.blur(); find('examples').value = 'first.f18'; find('examples').onchange()")
+
+
+def keys(browser):
+    said = browser.run("""
+const press = key => document.body.dispatchEvent(new KeyboardEvent("keydown", { key, bubbles: true })), counts = [], count = () => counts.push(page.session.events.length);
+page.open("node 000\\n: main right b! 42 !b\\nnode 001\\n: main right b! @b\\n");
+press("s"); count(); press("r"); count(); press("b"); count();
+for (let i = 0; i < 30; i++) press("r");
+const pass = page.session.events.find(it => it.pass), [writer, reader] = pass.ends;
+press("Home"); const first = page.chosen; press("."); const second = page.chosen; press(","); const third = page.chosen; press("End"); press("Escape"); const none = page.chosen;
+page.choose(writer); press("p"); const across = page.chosen; count(); press("t"); count();
+press("ArrowRight"); const beside = page.selected; press("ArrowUp"); const above = page.selected;
+const wide = page.picture.wide; press("+"); const near = page.picture.wide; press("0");
+return { counts, first, second, third, none, across, reader, beside, above, zoomed: near < wide, kept: page.session.events.some(it => it.pass) };""")
+    counts = said.pop("counts")
+    check(counts[:3] == [1, 3, 2] and counts[4] < counts[3], f"keys: {counts}")
+    wanted = {"first": ["000", 1], "second": ["000", 2], "third": ["000", 1], "none": None, "across": said["reader"], "beside": "002", "above": "102", "zoomed": True, "kept": False}
+    check({it: said[it] for it in wanted} == wanted, f"keys: {said}")
+
+
+def address(browser):
+    before = browser.run("find('link').click(); return [location.hash, page.session.text, page.session.events.map(it => it.text)]")
+    ready(browser, PAGE + before[0])
+    check(browser.run("return [location.hash, page.session.text, page.session.events.map(it => it.text)]") == before, "the address holds another session")
 
 
 def small_heap(browser):
@@ -110,43 +184,25 @@ return {{ made, step, count, back, again, node, kept, log: document.getElementBy
     return said["made"]
 
 
-def times(browser):
-    for count in (1000, 10000, 100000):
-        yield count, browser.run(f"""
-page.open({json.dumps(LOOP)}); let t = performance.now(); page.go({count}); const go = performance.now() - t;
-t = performance.now(); page.command('step 000'); const step = performance.now() - t;
-t = performance.now(); page.choose(['000', {count} / 2]); const choose = performance.now() - t;
-t = performance.now(); page.session.preview(['000', {count} / 2]); const cone = performance.now() - t;
-page.picture.fit(); t = performance.now(); page.draw_picture(); const draw = performance.now() - t;
-return [go, step, cone, choose, draw].map(it => Math.round(it));""")
-
-
-def shots(browser, folder):
-    os.makedirs(folder, exist_ok=True)
-    for name, width, height in (("wide", 1280, 720), ("phone", 390, 1600)):
-        browser.call("Emulation.setDeviceMetricsOverride", width=width, height=height, deviceScaleFactor=1, mobile=name == "phone")
-        for theme in ("dark", "light"):
-            browser.run(f"document.documentElement.dataset.theme = '{theme}'; find('examples').value = 'fault'; find('examples').onchange(); page.choose(['000', 7]);")
-            browser.shot(f"{folder}/{name}-{theme}.png")
-
-
 def main():
     start = time.time()
     with Browser(size=(1280, 720)) as browser:
         ready(browser, PAGE)
         began = time.time() - start
-        compared = conformance(browser)
+        compared, assembled = conformance(browser), sources(browser)
         dice, taken = random.Random(7), 0
         for name in browser.run("return [...document.getElementById('examples').options].map(it => it.value)"):
             taken += clicks(browser, name, dice)
+        source_lines(browser)
+        keys(browser)
+        address(browser)
         made = small_heap(browser)
         if len(sys.argv) > 1:
-            for count, said in times(browser):
-                print(f"page: {count} events: go, step, cone, click, picture: {said} ms")
+            times(browser)
             shots(browser, sys.argv[1])
         thrown = [it for it in browser.heard if it.get("method") == "Runtime.exceptionThrown"]
         check(not thrown, f"exceptions: {thrown[:2]}")
-    print(f"page: ready after {began:.2f} s; {compared} sessions answered alike; {taken} steps taken back; no memory at {made} events; {len(faults)} faults")
+    print(f"page: ready after {began:.2f} s; {compared} sessions and {assembled} sources answered alike; {taken} steps taken back; no memory at {made} events; {len(faults)} faults")
     sys.exit(bool(faults))
 
 

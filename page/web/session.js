@@ -1,36 +1,19 @@
-"use strict";
-// The proved session as the page asks it. Nothing here decides what the chip does or what depends on what: each is an answer.
+// The session as the page asks it. Nothing here decides what the chip does or what depends on what: each is an answer.
 const NAMES = [];
 for (let y = 0; y < 8; y++) for (let x = 0; x < 18; x++) NAMES.push(`${y}${String(x).padStart(2, "0")}`);
+const NUMBER = Object.fromEntries(NAMES.map((name, i) => [name, i]));
+const NODES = NAMES.map(n => "node " + n);
 
-// A whole session anew for each question: text in, answers out, nothing kept in between.
-class Core {
-  constructor(bytes, heap = 0) { this.module = new WebAssembly.Module(bytes); this.heap = heap; }
-  // Null where there is no memory for the question itself.
-  answer(text, limit) {
-    const core = new WebAssembly.Instance(this.module, {}).exports;
-    if (this.heap) core.heap_limit(BigInt(this.heap));
-    const input = typeof text === "string" ? new TextEncoder().encode(text) : text, at = core.room(BigInt(input.length));
-    if (!at) return null;
-    new Uint8Array(core.memory.buffer).set(input, Number(at));
-    const count = Number(BigInt.asIntN(64, core.run(BigInt(input.length), limit)));
-    if (count < 0) return null;
-    return new TextDecoder("latin1").decode(new Uint8Array(core.memory.buffer, Number(core.answer()), count));
-  }
-}
-
-const EVENT = /^(?:(\d{3}) (\d+) (fetch|run ([0-9a-f]{2})|wait|stop (\d+))|pass (\d{3}) (\d+) (\d{3}) (\d+) ([0-9a-f]{6})|(\w+) .*)$/;
-const MADE = /^(\d{3}|pass|look) /;
+const EVENT = /^(?:(\d{3}) (\d+) (fetch|run ([0-9a-f]{2})|wait|stop (\d+))|pass (\d{3}) (\d+) (\d{3}) (\d+) ([0-9a-f]{6}))$/;
 const NODE = /^node (\d{3}) (run|stop (\d)|(fetch|read|write) ([rdlu-]{4})) p (\w+) a (\w+) b (\w+) i (\w+) slot (\d) carry (\d) io (\w+) d (.*) r (.*)$/;
+// How an event stands to the chosen step: that depends on it, or would go with it.
+const PAST = 1, GOES = 2;
+const KEEPS = /^(step|back|rewind)\b/;
 
 // An event as its answer tells it: its text, and its nodes with the step of each.
 function event_of(line) {
-  if (!line || !MADE.test(line)) return null;
-  const m = EVENT.exec(line);
-  if (!m || m[11]) {
-    const ends = [...line.matchAll(/\b(\d{3}) (\d+)\b/g)].map(it => [it[1], +it[2]]);
-    return ends.length ? { text: line, ends, label: line.split(" ")[0] } : null;
-  }
+  const m = line && EVENT.exec(line);
+  if (!m) return null;
   if (m[1]) return { text: line, ends: [[m[1], +m[2]]], label: m[4] ? OPCODES[parseInt(m[4], 16)] : m[3] };
   return { text: line, ends: [[m[6], +m[7]], [m[8], +m[9]]], label: m[10], pass: true };
 }
@@ -41,22 +24,35 @@ function node_of(line) {
   return { state: m[2], stop: m[3], wait: m[4], set: m[5], p: m[6], a: m[7], b: m[8], i: m[9], slot: +m[10], carry: m[11], io: m[12], d: m[13].split(" "), r: m[14].split(" ") };
 }
 
+const cells_of = name => Array.from({ length: 64 }, (_, i) => `mem ${name} ${i.toString(16).padStart(2, "0")}`);
+const word_of = rows => parseInt(rows[0].split(" ")[3], 16);
+
 // The session so far as text, and what it made. Commands that changed nothing are not kept.
 class Session {
   constructor(core, limit = 1000000) { this.core = core; this.limit = limit; }
 
-  // Says why an image is refused, or null.
-  open(image) {
-    const text = image.endsWith("\n") ? image : image + "\n";
-    const said = this.core.answer(text, this.limit);
+  // Opens source or an image, up to its line `end`. Says why it is refused, or null; `told` has the assembler's warnings.
+  open(load) {
+    let image = load, told = "", listing = null;
+    if (is_source(load)) {
+      ({ image, told } = this.core.assemble(load));
+      if (!image) return told.trim() || "no source";
+      listing = listing_of(this.core.list(load));
+      if (!/^end$/m.test(load)) load += "end\n";
+    }
+    const said = this.core.answer(image, this.limit);
     if (said !== "ready\n") return said === null ? "no 4 memory" : said.trim() || "no image";
-    Object.assign(this, { image: text, text, said, events: [], steps: {} });
+    Object.assign(this, { load, image, told: told.trim(), listing, commands: "", lines: [], said, events: [], steps: {}, traces: {}, loaded: {} });
     return null;
   }
 
+  // As it was given, with the commands; and as `ga144 debug` reads it.
+  get text() { return this.load + this.commands; }
+  get script() { return this.image + this.commands; }
+
   // Asks on a second run of the session. Null where the session so far could not be answered again for want of memory.
   ask(lines) {
-    const all = this.core.answer(this.text + lines.map(it => it + "\n").join(""), this.limit);
+    const all = this.core.answer(this.script + lines.map(it => it + "\n").join(""), this.limit);
     if (all === null || !all.startsWith(this.said)) return null;
     const rows = all.slice(this.said.length).split("\n");
     rows.pop();
@@ -71,90 +67,61 @@ class Session {
     });
   }
 
-  // Gives commands, and keeps those that made or removed events. `most` ends it behind so many events.
-  obey(lines, most = Infinity) {
-    const answers = this.ask(lines);
-    if (!answers) return lines.map(() => ["no 4 memory"]);
-    let made = 0, removed = false, kept = "", said = "";
-    for (let i = 0; i < lines.length && made < most; i++) {
-      const event = /^step /.test(lines[i]) && event_of(answers[i][0]);
-      if (!event && !/^removed /.test(answers[i][0])) continue;
-      if (event) { this.events.push(event); for (const [n, k] of event.ends) this.steps[n] = k; made++; } else removed = true;
-      kept += lines[i] + "\n";
-      said += answers[i].join("\n") + "\n";
+  // Gives commands, and keeps those that made or removed events. `most` ends it behind so many events. What is asked behind
+  // them is answered in `more`, unless it was ended.
+  obey(lines, most = Infinity, questions = []) {
+    const all = this.ask([...lines, ...questions]);
+    if (!all) return { answers: lines.map(() => ["no 4 memory"]), more: null };
+    const answers = all.slice(0, lines.length), kept = [], said = [];
+    let made = 0, i = 0;
+    for (; i < lines.length && made < most; i++) {
+      const event = lines[i].startsWith("step ") && event_of(answers[i][0]), taken = /^removed (\d+)/.exec(answers[i][0]);
+      if (event) { this.keep(event, this.lines.length + kept.length); made++; } else if (!taken) continue;
+      else if (lines[i] === "back") this.drop();
+      else if (!this.remove(lines[i], +taken[1])) { answers[i] = ["no 4 memory"]; break; }
+      kept.push(lines[i]);
+      said.push(answers[i][0]);
     }
-    this.text += kept;
-    this.said += said;
-    if (removed) this.recount();
-    return answers;
+    if (kept.length) { this.commands += kept.join("\n") + "\n"; this.said += said.join("\n") + "\n"; for (const it of kept) this.lines.push(it); }
+    return { answers, more: i === lines.length ? all.slice(lines.length) : null };
   }
 
-  // How many steps each node has after these commands, by its trace.
-  counts(lines, more = []) {
-    const names = Object.keys(this.steps), answers = this.ask([...lines, ...names.map(n => "trace " + n), ...more]);
-    if (!answers) return null;
-    const steps = {};
-    names.forEach((n, i) => { steps[n] = +answers[lines.length + i][0].split(" ")[2]; });
-    return { steps, first: answers.slice(0, lines.length), more: answers.slice(lines.length + names.length) };
+  keep(event, line) {
+    event.place = this.events.length; event.line = line;
+    this.events.push(event);
+    for (const [n, k] of event.ends) { this.steps[n] = k; (this.traces[n] = this.traces[n] || []).push(event); }
+  }
+  drop() { for (const [n, k] of this.events.pop().ends) { this.steps[n] = k - 1; this.traces[n].pop(); } }
+
+  // Drops what a rollback removed. False where there is no memory to ask what that is.
+  remove(line, count) {
+    const [, name, step] = line.split(" "), marks = this.marks([name, +step]), events = this.events;
+    if (!marks || marks.reduce((sum, it) => sum + (it === GOES), 0) !== count) return false;
+    Object.assign(this, { events: [], steps: {}, traces: {} });
+    for (const it of events) if (marks[it.place] !== GOES) this.keep(it, it.line);
+    return true;
   }
 
-  recount() {
-    const found = this.counts([]);
-    if (!found) return;
-    this.events = this.events.filter(e => e.ends.every(([n, k]) => k <= found.steps[n]));
-    this.steps = {};
-    for (const e of this.events) for (const [n, k] of e.ends) this.steps[n] = k;
-  }
+  event_at([name, step]) { return (this.traces[name] || [])[step - 1]; }
 
-  // What `rewind` would take: of each node the first step that goes, how many events, and the chip as it would be.
-  preview([name, step]) {
-    const found = this.counts([`rewind ${name} ${step}`], NAMES.map(n => "node " + n));
-    if (!found) return null;
-    const goes = new Map();
-    for (const n in found.steps) if (found.steps[n] < this.steps[n]) goes.set(n, found.steps[n] + 1);
-    return { goes, said: found.first[0][0], nodes: found.more.map(it => node_of(it[0])) };
-  }
-
-  // Of each node the last step on which a step depends, by `why`. A node's steps depend on one another, so it is searched in parts.
-  causes([name, step]) {
-    const low = {}, high = {}, found = new Map();
-    for (const n in this.steps) { low[n] = 0; high[n] = this.steps[n]; }
-    for (;;) {
-      const asked = [];
-      for (const n in low) if (low[n] < high[n]) {
-        const width = high[n] - low[n], parts = Math.min(8, width);
-        for (let i = 1; i <= parts; i++) asked.push([n, low[n] + Math.ceil(width * i / parts)]);
-      }
-      if (!asked.length) break;
-      const answers = this.ask(asked.map(([n, k]) => `why ${n} ${k} ${name} ${step}`));
-      if (!answers) return found;
-      const depends = {}, independent = {};
-      asked.forEach(([n, k], i) => {
-        if (answers[i][0].startsWith("chain ")) depends[n] = Math.max(depends[n] || 0, k);
-        else independent[n] = Math.min(independent[n] || Infinity, k);
-      });
-      for (const [n] of asked) {
-        if (depends[n]) low[n] = Math.max(low[n], depends[n]);
-        if (independent[n]) high[n] = Math.min(high[n], independent[n] - 1);
-      }
-    }
-    for (const n in low) if (low[n]) found.set(n, low[n]);
-    return found;
+  // Of each kept event, how it stands to that of a step: 2 would go with it, 1 leads to it, 0 neither. Null for want of memory.
+  marks(step) {
+    const nodes = Uint8Array.from(this.events, it => NUMBER[it.ends[0][0]]);
+    return this.core.shades(this.image, nodes, this.event_at(step).place);
   }
 
   // Lets each node of the list that has an event make one, in order, until so many events were made.
   rounds(names, most) {
-    let made = 0, rounds = 1, room = Math.max(1, Math.floor(20000 / names.length));
+    let made = 0, rounds = 1, room = Math.max(1, Math.floor(60000 / names.length));
     while (made < most) {
-      const before = this.events.length, lines = [];
+      const lines = [];
       for (let i = 0; i < rounds; i++) for (const n of names) lines.push("step " + n);
-      const answers = this.obey(lines, most - made), now = this.events.length - before;
+      const before = this.events.length, { answers } = this.obey(lines, most - made), now = this.events.length - before;
       made += now;
       if (answers.some(it => it[0] === "no 4 memory")) {
         // A long question takes memory too.
         if (rounds === 1) return { made, why: "no 4 memory" };
-        rounds = Math.ceil(rounds / 4);
-        room = rounds;
+        rounds = room = Math.ceil(rounds / 4);
         continue;
       }
       if (!now) return { made, why: "quiet" };
@@ -163,16 +130,30 @@ class Session {
     return { made, why: "" };
   }
 
-  look(name) {
-    const cells = [];
-    for (let i = 0; i < 64; i++) cells.push(`mem ${name} ${i.toString(16).padStart(2, "0")}`);
-    const answers = this.ask([...NAMES.map(n => "node " + n), ...cells, "trace " + name, "count"]);
-    if (!answers) return null;
-    const value = it => parseInt(it[0].split(" ")[3], 16);
-    const loaded = this.core.answer(this.image + cells.join("\n") + "\n", this.limit);
-    return {
-      nodes: answers.slice(0, 144).map(it => node_of(it[0])), cells: answers.slice(144, 208).map(value),
-      loaded: (loaded || "").split("\n").slice(1, 65).map(it => value([it])), trace: answers[208].slice(1), count: answers[209][0],
-    };
+  // What is drawn: all nodes, one node's cells, the counts; and with a step the chip as it would be without it.
+  questions(name, step = null) { return [...NODES, ...cells_of(name), "count", ...(step ? [`rewind ${step[0]} ${step[1]}`, ...NODES] : [])]; }
+
+  seen(name, answers) {
+    const nodes = list => list.map(it => node_of(it[0])), cells = answers.slice(144, 208).map(word_of);
+    if (!this.loaded[name]) this.loaded[name] = (this.core.answer(this.image + cells_of(name).join("\n") + "\n", this.limit) || "").split("\n").slice(1, 65).map(it => word_of([it]));
+    return { name, nodes: nodes(answers.slice(0, 144)), cells, loaded: this.loaded[name], count: answers[208][0], said: answers[209] && answers[209][0], then: answers[209] && nodes(answers.slice(210)) };
+  }
+
+  look(name, step = null) { const answers = this.ask(this.questions(name, step)); return answers && this.seen(name, answers); }
+
+  // Of each of a node's steps the address that its instruction word was fetched from: P right before the last fetch, or
+  // the wait for one. Of the steps from one on and up to another, where one of them or of the 40 before was a fetch.
+  fetched(name, from, to) {
+    const trace = this.traces[name] || [], start = Math.max(1, from - 40), found = new Map(), asked = [];
+    for (let k = start; k <= Math.min(to, trace.length); k++) if (/^(fetch|wait)$/.test(trace[k - 1].label)) asked.push(k);
+    if (!asked.length) return found;
+    const parts = [], counts = [];
+    let at = 0;
+    for (const k of asked) { const upto = trace[k - 1].line; parts.push(...this.lines.slice(at, upto), "node " + name); counts.push(upto); at = upto; }
+    const rows = (this.core.answer(this.image + parts.join("\n") + "\n", this.limit) || "").split("\n");
+    asked.forEach((k, i) => { const node = node_of(rows[1 + counts[i] + i] || ""); if (node && node.slot === 4) found.set(k, parseInt(node.p, 16)); });
+    let p = null;
+    for (let k = start; k <= Math.min(to, trace.length); k++) { if (found.has(k)) p = found.get(k); else if (p !== null) found.set(k, p); }
+    return found;
   }
 }

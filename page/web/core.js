@@ -1,0 +1,47 @@
+"use strict";
+// The proved calls, each a question to a module of its own: text in, an answer out, nothing kept in between. Null is answered
+// where there is no memory for the question itself.
+const bytes_of = text => typeof text === "string" ? new TextEncoder().encode(text) : text;
+// Source may have any bytes.
+function text_of(bytes) { try { return new TextDecoder("utf-8", { fatal: true, ignoreBOM: true }).decode(bytes); } catch { return Array.from(bytes, it => String.fromCharCode(it)).join(""); } }
+
+class Core {
+  constructor(bytes, heap = 0) { this.module = new WebAssembly.Module(bytes); this.heap = heap; }
+
+  question(input, ask, more = () => null) {
+    const core = new WebAssembly.Instance(this.module, {}).exports;
+    if (this.heap) core.heap_limit(BigInt(this.heap));
+    const at = core.room(BigInt(input.length));
+    if (!at) return null;
+    new Uint8Array(core.memory.buffer).set(input, Number(at));
+    const count = Number(BigInt.asIntN(64, ask(core, BigInt(input.length))));
+    if (count < 0) return null;
+    return { bytes: new Uint8Array(core.memory.buffer, Number(core.answer()), count), more: more(core) };
+  }
+
+  // What a session of `ga144 debug` answers.
+  answer(text, limit) {
+    const said = this.question(bytes_of(text), (core, count) => core.run(count, limit));
+    return said && text_of(said.bytes);
+  }
+
+  // The image of a source, empty where it is refused; and its fault, or its warnings.
+  assemble(source) {
+    const told = core => { const from = Number(core.told()), all = new Uint8Array(core.memory.buffer, from, 4096); return text_of(all.subarray(0, all.indexOf(0))); };
+    const said = this.question(bytes_of(source), (core, count) => core.assemble(count), told);
+    return said ? { image: text_of(said.bytes), told: said.more } : { image: "", told: "no 4 memory\n" };
+  }
+
+  list(source) {
+    const said = this.question(bytes_of(source), (core, count) => core.list(count));
+    return said ? text_of(said.bytes) : "";
+  }
+
+  // Of each event that these nodes make in turn, how it stands to the one at a place: 2 depends on it, 1 leads to it, 0 neither.
+  shades(image, nodes, place) {
+    const front = bytes_of(image), input = new Uint8Array(front.length + nodes.length);
+    input.set(front); input.set(nodes, front.length);
+    const said = this.question(input, core => core.shades(BigInt(front.length), BigInt(nodes.length), place));
+    return said && said.bytes.length === nodes.length ? said.bytes : null;
+  }
+}

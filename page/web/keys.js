@@ -1,0 +1,101 @@
+// Keys, buttons, files and the mouse.
+
+// An example as it is before its own rollbacks: those are left to do.
+function steps_of(text) {
+  const { load, commands } = parted(text);
+  return load + commands.filter(it => it.startsWith("step ")).map(it => it + "\n").join("");
+}
+
+// A session in the address: short ones alone, since browsers cut long addresses.
+function link_of(text) { return text.length <= 6000 ? "#" + encodeURIComponent(text) : null; }
+
+function listen(page, examples) {
+  const theme = () => { const root = document.documentElement; root.dataset.theme = root.dataset.theme === "light" ? "dark" : "light"; page.draw(); };
+  const look = act => () => { act(); page.draw_picture(); };
+  const copy = text => { navigator.clipboard.writeText(text).catch(() => {}); page.say("copy", [`${text.length} bytes`]); };
+  const save = () => { const it = document.createElement("a"); it.href = URL.createObjectURL(new Blob([page.session.text])); it.download = "session"; it.click(); };
+  const link = () => { const it = link_of(page.session.text); if (it) history.replaceState(null, "", it); page.say("link", [it ? "the address holds the session" : "too long for an address: save it"]); };
+  const acts = {
+    s: () => page.command("step " + page.selected), r: () => page.round(), g: () => page.go(Math.max(1, +find("most").value || 1)), b: () => page.command("back"),
+    t: () => page.take(), Enter: () => page.take(), w: () => page.why(), Escape: () => { page.forget(); page.draw(); },
+    ",": () => page.along(-1), ".": () => page.along(1), PageUp: () => page.along(-20), PageDown: () => page.along(20), Home: () => page.along(-1e9), End: () => page.along(1e9), p: () => page.across(),
+    ArrowLeft: () => page.beside(-1, 0), ArrowRight: () => page.beside(1, 0), ArrowUp: () => page.beside(0, 1), ArrowDown: () => page.beside(0, -1),
+    "+": look(() => page.picture.zoom(.6)), "-": look(() => page.picture.zoom(1.6)), "0": look(() => page.picture.fit()), "[": look(() => page.picture.move(-.4)), "]": look(() => page.picture.move(.4)),
+    e: () => find("examples").focus(), a: () => find("idle").click(), n: () => find("most").focus(), "/": () => find("line").focus(), l: theme, "?": () => find("keys").showModal(),
+    c: () => copy(page.session.text), d: () => copy(page.session.script), x: save, o: () => find("file").click(), "#": link, i: () => { find("session").open = true; find("text").focus(); },
+  };
+  const buttons = { step: "s", round: "r", go: "g", back: "b", take: "t", theme: "l", help: "?", in: "+", out: "-", fit: "0", earlier: "[", later: "]", copy: "c", plain: "d", save: "x", load: "o", link: "#" };
+  for (const id in buttons) find(id).onclick = () => acts[buttons[id]]();
+  document.onkeydown = event => {
+    const typed = /INPUT|TEXTAREA|SELECT/.test(event.target.tagName) && event.target.type !== "checkbox";
+    if (event.key === "Escape" && typed) return event.target.blur();
+    if (event.ctrlKey || event.metaKey || event.altKey || typed || !acts[event.key] || find("keys").open) return;
+    if (event.key === "Enter" && event.target.tagName !== "BODY" && event.target.id !== "chip") return;
+    event.preventDefault(); acts[event.key]();
+  };
+  find("line").onkeydown = event => { if (event.key === "Enter") { page.command(find("line").value); find("line").value = ""; } };
+  find("text").onkeydown = event => { if (event.key === "Enter" && event.ctrlKey) page.open(find("text").value); };
+  find("examples").onchange = () => choose_example(page, examples);
+  find("open").onclick = () => page.open(find("text").value);
+  find("file").onchange = async () => page.open(await find("file").files[0].text());
+  document.ondragover = event => event.preventDefault();
+  document.ondrop = async event => {
+    event.preventDefault();
+    const { files } = event.dataTransfer, text = files[0] ? await files[0].text() : event.dataTransfer.getData("text");
+    if (text) page.open(text);
+  };
+  document.onpaste = event => { if (!/INPUT|TEXTAREA/.test(event.target.tagName)) page.open(event.clipboardData.getData("text")); };
+  listen_to_picture(page);
+}
+
+// Source runs until it is quiet, or for some events, so that there is something to see.
+function choose_example(page, examples) {
+  const text = examples[find("examples").value];
+  if (!is_source(text)) page.open(steps_of(text));
+  else if (page.open(text)) { page.session.rounds(page.stepping(), 100); page.after(); page.picture.begin(); page.draw_picture(); }
+}
+
+function listen_to_picture(page) {
+  const canvas = find("time");
+  let held = null, due = false;
+  // At most once for each picture of the screen.
+  const redraw = () => { if (!due) { due = true; requestAnimationFrame(() => { due = false; page.draw_picture(); }); } };
+  canvas.onpointerdown = event => { held = { x: event.offsetX, from: page.picture.from, moved: false }; };
+  canvas.onpointermove = event => {
+    if (!held) { const it = page.picture.near(event.offsetX, event.offsetY); canvas.title = it ? it[4].text : ""; return; }
+    if (Math.abs(event.offsetX - held.x) > 4) held.moved = true;
+    if (held.moved) { page.picture.from = Math.max(0, held.from - (event.offsetX - held.x) / canvas.clientWidth * page.picture.wide); redraw(); }
+  };
+  canvas.onpointerup = event => {
+    const it = held && !held.moved && page.picture.near(event.offsetX, event.offsetY);
+    held = null;
+    // The second click on the same step takes it back, whichever of its nodes it meets.
+    if (it) page.choose(page.chosen && it[4] === page.event ? page.chosen : [it[2], it[3]]);
+  };
+  canvas.onpointerleave = () => { held = null; };
+  canvas.addEventListener("wheel", event => {
+    event.preventDefault();
+    if (event.shiftKey || event.deltaX) page.picture.move((event.deltaX || event.deltaY) / 800); else page.picture.zoom(event.deltaY > 0 ? 1.25 : .8, event.offsetX / canvas.clientWidth);
+    redraw();
+  }, { passive: false });
+  window.addEventListener("resize", redraw);
+}
+
+function begin() {
+  document.documentElement.dataset.theme = matchMedia("(prefers-color-scheme: light)").matches ? "light" : "dark";
+  const examples = JSON.parse(find("sessions").textContent);
+  let core;
+  try { core = new Core(Uint8Array.from(atob(find("module").textContent), it => it.charCodeAt(0))); } catch (fault) {
+    find("status").textContent = "this browser has no WebAssembly with memories of 64 bits: take a newer Chromium or Firefox";
+    return;
+  }
+  const page = window.page = new Page(core), groups = { source: document.createElement("optgroup"), sessions: document.createElement("optgroup") };
+  for (const name in groups) { groups[name].label = name; find("examples").append(groups[name]); }
+  for (const name in examples) { const option = document.createElement("option"); option.textContent = name; groups[is_source(examples[name]) ? "source" : "sessions"].append(option); }
+  find("examples").value = "fault.f18";
+  listen(page, examples);
+  const given = location.hash.length > 1 ? decodeURIComponent(location.hash.slice(1)) : "";
+  if (!given || !page.open(given)) choose_example(page, examples);
+  document.title = "GA144: ready";
+}
+begin();

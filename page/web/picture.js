@@ -1,0 +1,112 @@
+// The space-time picture: nodes are lines, time runs to the right. What would go is a cross, a cause a diamond, others are dots.
+
+// Events in the order of their depth: 1 behind the deepest of the events before it on its nodes. For drawing alone.
+function placed(events) {
+  const depth = {}, xs = new Uint32Array(events.length);
+  let deepest = 0;
+  events.forEach((event, at) => {
+    let x = 0;
+    for (const [n] of event.ends) x = Math.max(x, depth[n] || 0);
+    for (const [n] of event.ends) depth[n] = x + 1;
+    xs[at] = x + 1;
+    deepest = Math.max(deepest, x + 1);
+  });
+  // In one walk, since all depths are small numbers.
+  const starts = new Uint32Array(deepest + 2), order = new Uint32Array(events.length);
+  for (const x of xs) starts[x + 1]++;
+  for (let x = 1; x < starts.length; x++) starts[x] += starts[x - 1];
+  for (let at = 0; at < xs.length; at++) order[starts[xs[at]]++] = at;
+  return { xs, order, deepest: Math.max(1, deepest) };
+}
+
+class Picture {
+  constructor(canvas) { this.canvas = canvas; this.from = 0; this.wide = 60; this.set([], {}); }
+  set(events, steps) {
+    this.events = events;
+    Object.assign(this, placed(events));
+    this.names = Object.keys(steps).filter(n => steps[n]).sort();
+  }
+  show(x) { if (x < this.from + 2 || x > this.from + this.wide - 2) this.from = Math.max(0, x - this.wide * .8); }
+  zoom(by, around = .5) {
+    const wide = Math.max(8, Math.min(this.wide * by, Math.max(30, this.deepest + 4)));
+    this.from = Math.max(0, this.from + (this.wide - wide) * around); this.wide = wide;
+  }
+  // The beginning, so that its events can be told apart; and all of it.
+  begin() { this.from = 0; this.wide = Math.max(30, Math.min(this.deepest + 4, this.canvas.clientWidth / 9)); }
+  fit() { this.from = 0; this.wide = Math.max(30, this.deepest + 4); }
+  move(part) { this.from = Math.max(0, Math.min(this.from + part * this.wide, this.deepest - this.wide / 2)); }
+
+  // The first place in the order whose depth is at least x.
+  first_at(x) {
+    let low = 0, high = this.order.length;
+    while (low < high) { const mid = (low + high) >> 1; if (this.xs[this.order[mid]] < x) low = mid + 1; else high = mid; }
+    return low;
+  }
+
+  draw(marks, chosen, selected) {
+    const { canvas } = this, ratio = window.devicePixelRatio || 1, width = canvas.clientWidth, many = this.names.length;
+    const height = Math.max(120, Math.min(900, 16 + many * (many > 30 ? 9 : 22)));
+    canvas.style.height = height + "px"; canvas.width = width * ratio; canvas.height = height * ratio;
+    const g = canvas.getContext("2d"), style = getComputedStyle(document.documentElement), colour = name => style.getPropertyValue("--" + name).trim();
+    g.scale(ratio, ratio); g.textBaseline = "middle"; g.font = "10px DejaVu Sans Mono, monospace";
+    const left = 34, row = (height - 12) / Math.max(1, many), unit = (width - left) / this.wide;
+    const colours = [colour("dim"), colour("past"), colour("goes")], back = colour("card"), text = colour("text"), pick = colour("pick");
+    const line = Object.fromEntries(this.names.map((n, i) => [n, 10 + row * (i + .4)]));
+    for (const n of this.names) {
+      g.strokeStyle = colour("line"); g.lineWidth = 1; g.beginPath(); g.moveTo(left, line[n]); g.lineTo(width, line[n]); g.stroke();
+      if (row > 8) { g.fillStyle = n === selected ? pick : colours[0]; g.fillText(n, 6, line[n]); }
+    }
+    this.spots = [];
+    const from = this.first_at(this.from), upto = this.first_at(this.from + this.wide + 1), labels = [];
+    if (unit < 2) { this.draw_far(g, marks, from, upto, line, left, unit, colours); if (chosen) this.draw_pick(g, chosen, line, left, unit, pick); return; }
+    for (let i = from; i < upto; i++) {
+      const at = this.order[i], event = this.events[at], kind = marks ? marks[at] : 0, px = left + (this.xs[at] - this.from) * unit;
+      g.strokeStyle = g.fillStyle = colours[kind];
+      if (event.pass) {
+        const [one, other] = event.ends.map(([n]) => line[n]), way = Math.sign(other - one);
+        g.setLineDash(kind === GOES ? [4, 3] : []); g.lineWidth = kind === PAST ? 2.5 : 1; g.beginPath(); g.moveTo(px, one); g.lineTo(px, other); g.stroke(); g.setLineDash([]);
+        if (unit > 5) { g.beginPath(); g.moveTo(px, other - 4 * way); g.lineTo(px - 3, other - 10 * way); g.lineTo(px + 3, other - 10 * way); g.fill(); }
+        if (unit > 24) labels.push([event.label.replace(/^0+(?=.)/, ""), px + 4, (one + other) / 2, text, "left"]);
+      }
+      for (const [n, k] of event.ends) {
+        const size = Math.min(4, Math.max(.6, unit / 3));
+        if (size < 2) g.fillRect(px, line[n] - 2, Math.max(1, unit), 4); else shape(g, kind, px, line[n], size, event.label === "wait");
+        this.spots.push([px, line[n], n, k, event]);
+      }
+      if (!event.pass && row > 18 && unit > 24) labels.push([event.label, px, line[event.ends[0][0]] - 9, colours[0], "center"]);
+    }
+    for (const [label, x, y, tint, align] of labels) { g.textAlign = align; lettered(g, label, x, y, tint, back); }
+    g.textAlign = "left";
+    if (chosen) this.draw_pick(g, chosen, line, left, unit, pick);
+  }
+
+  // From afar: of each node and each kind one mark for a column of the screen, the kinds of most weight last.
+  draw_far(g, marks, from, upto, line, left, unit, colours) {
+    const wide = Math.max(1, unit);
+    for (const kind of marks ? [0, PAST, GOES] : [0]) {
+      const drawn = {};
+      g.fillStyle = g.strokeStyle = colours[kind]; g.lineWidth = 1; g.beginPath();
+      for (let i = from; i < upto; i++) {
+        const at = this.order[i];
+        if (marks && marks[at] !== kind) continue;
+        const px = Math.floor(left + (this.xs[at] - this.from) * unit), { ends, pass } = this.events[at];
+        for (const [n] of ends) if (drawn[n] !== px) { drawn[n] = px; g.fillRect(px, line[n] - 2 - kind, wide, 4 + 2 * kind); }
+        const key = pass && ends[0][0] + ends[1][0];
+        if (key && drawn[key] !== px) { drawn[key] = px; g.moveTo(px + .5, line[ends[0][0]]); g.lineTo(px + .5, line[ends[1][0]]); }
+      }
+      g.stroke();
+    }
+  }
+
+  draw_pick(g, chosen, line, left, unit, pick) {
+    const px = left + (this.xs[chosen.place] - this.from) * unit;
+    g.lineWidth = 2; g.strokeStyle = pick;
+    for (const [n] of chosen.ends) g.strokeRect(px - 7, line[n] - 7, 14, 14);
+  }
+
+  near(x, y) {
+    let best = null, least = 300;
+    for (const it of this.spots) { const far = (it[0] - x) ** 2 + (it[1] - y) ** 2; if (far < least) { least = far; best = it; } }
+    return best;
+  }
+}
