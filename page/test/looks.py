@@ -27,6 +27,15 @@ return out;""")
             print(f"page: {title}, {count} events: {told} ms")
 
 
+def commands(browser):
+    """Commands a second: one by one without and with what is drawn, and in one question."""
+    told = browser.run(f"""
+const rate = (count, act) => {{ page.open({json.dumps(LOOP)}); const t = performance.now(); act(count); return Math.round(count / (performance.now() - t) * 1000); }};
+return {{ alone: rate(1000, n => {{ for (let i = 0; i < n; i++) page.session.obey(["step 000"]); }}), drawn: rate(300, n => {{ for (let i = 0; i < n; i++) page.command("step 000"); }}),
+    together: rate(100000, n => page.session.obey(Array(n).fill("step 000"))), asked: rate(100000, n => page.session.ask(Array(n).fill("node 000"))) }};""")
+    print(f"page: commands a second: {told}")
+
+
 def shots(browser, folder):
     os.makedirs(folder, exist_ok=True)
     for name, width, height in (("wide", 1280, 720), ("phone", 390, 1600)):

@@ -15,7 +15,7 @@ TOP = os.path.dirname(os.path.dirname(os.path.dirname(os.path.abspath(__file__))
 sys.path.insert(0, f"{TOP}/model")
 from browser import Browser
 from listing import listed
-from looks import shots, times
+from looks import commands, shots, times
 from source import asm
 from sources import Generator, changed
 
@@ -166,9 +166,23 @@ return { counts, first, second, third, none, across, reader, beside, above, zoom
 
 
 def address(browser):
-    before = browser.run("find('link').click(); return [location.hash, page.session.text, page.session.events.map(it => it.text)]")
-    ready(browser, PAGE + before[0])
-    check(browser.run("return [location.hash, page.session.text, page.session.events.map(it => it.text)]") == before, "the address holds another session")
+    for example, packed in (("transfer", False), ("pipeline.f18", True)):
+        browser.run(f"find('examples').value = '{example}'; find('examples').onchange(); find('link').click()")
+        until = time.time() + 5
+        while "the address holds" not in browser.run("return find('log').textContent") and time.time() < until:
+            time.sleep(0.02)
+        before = browser.run("return [location.hash, page.session.text, page.session.events.map(it => it.text)]")
+        check(before[0].startswith("#z,") == packed and len(before[0]) > 3, f"an address: {before[0]}")
+        ready(browser, PAGE + before[0])
+        check(browser.run("return [location.hash, page.session.text, page.session.events.map(it => it.text)]") == before, "the address holds another session")
+
+
+def widths(browser):
+    for width, height in ((1280, 720), (390, 800)):
+        browser.call("Emulation.setDeviceMetricsOverride", width=width, height=height, deviceScaleFactor=1, mobile=width < 800)
+        wide = browser.run("page.draw(); return Math.max(document.documentElement.scrollWidth, document.body.scrollWidth)")
+        check(wide <= width, f"{wide} wide at {width}")
+    browser.call("Emulation.setDeviceMetricsOverride", width=1280, height=720, deviceScaleFactor=1, mobile=False)
 
 
 def small_heap(browser):
@@ -196,9 +210,11 @@ def main():
         source_lines(browser)
         keys(browser)
         address(browser)
+        widths(browser)
         made = small_heap(browser)
         if len(sys.argv) > 1:
             times(browser)
+            commands(browser)
             shots(browser, sys.argv[1])
         thrown = [it for it in browser.heard if it.get("method") == "Runtime.exceptionThrown"]
         check(not thrown, f"exceptions: {thrown[:2]}")

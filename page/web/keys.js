@@ -6,15 +6,35 @@ function steps_of(text) {
   return load + commands.filter(it => it.startsWith("step ")).map(it => it + "\n").join("");
 }
 
-// A session in the address: short ones alone, since browsers cut long addresses.
-function link_of(text) { return text.length <= 6000 ? "#" + encodeURIComponent(text) : null; }
+// A session in the address: a long one compressed, unless it is too long for an address even so.
+const LONGEST = 30000;
+async function piped(bytes, way) { return new Uint8Array(await new Response(new Blob([bytes]).stream().pipeThrough(way)).arrayBuffer()); }
+
+async function link_of(text) {
+  const plain = "#" + encodeURIComponent(text);
+  if (plain.length <= 2000) return plain;
+  const packed = await piped(bytes_of(text), new CompressionStream("deflate-raw"));
+  const link = "#z," + btoa(Array.from(packed, it => String.fromCharCode(it)).join("")).replace(/\+/g, "-").replace(/\//g, "_").replace(/=+$/, "");
+  return link.length <= LONGEST ? link : null;
+}
+
+async function text_in(link) {
+  if (!link.startsWith("#z,")) return decodeURIComponent(link.slice(1));
+  const packed = Uint8Array.from(atob(link.slice(3).replace(/-/g, "+").replace(/_/g, "/")), it => it.charCodeAt(0));
+  return text_of(await piped(packed, new DecompressionStream("deflate-raw")));
+}
 
 function listen(page, examples) {
   const theme = () => { const root = document.documentElement; root.dataset.theme = root.dataset.theme === "light" ? "dark" : "light"; page.draw(); };
   const look = act => () => { act(); page.draw_picture(); };
-  const copy = text => { navigator.clipboard.writeText(text).catch(() => {}); page.say("copy", [`${text.length} bytes`]); };
+  // Where the browser gives no clipboard, the text is selected to be copied.
+  const copy = async text => {
+    try { await navigator.clipboard.writeText(text); page.say("copy", [`${text.length} bytes`]); } catch {
+      find("session").open = true; find("text").focus(); find("text").value = text; find("text").select();
+    }
+  };
   const save = () => { const it = document.createElement("a"); it.href = URL.createObjectURL(new Blob([page.session.text])); it.download = "session"; it.click(); };
-  const link = () => { const it = link_of(page.session.text); if (it) history.replaceState(null, "", it); page.say("link", [it ? "the address holds the session" : "too long for an address: save it"]); };
+  const link = async () => { const it = await link_of(page.session.text); if (it) history.replaceState(null, "", it); page.say("link", [it ? "the address holds the session" : "too long for an address: save it"]); };
   const acts = {
     s: () => page.command("step " + page.selected), r: () => page.round(), g: () => page.go(Math.max(1, +find("most").value || 1)), b: () => page.command("back"),
     t: () => page.take(), Enter: () => page.take(), w: () => page.why(), Escape: () => { page.forget(); page.draw(); },
@@ -67,10 +87,11 @@ function listen_to_picture(page) {
     if (held.moved) { page.picture.from = Math.max(0, held.from - (event.offsetX - held.x) / canvas.clientWidth * page.picture.wide); redraw(); }
   };
   canvas.onpointerup = event => {
-    const it = held && !held.moved && page.picture.near(event.offsetX, event.offsetY);
+    const clicked = held && !held.moved, it = clicked && page.picture.near(event.offsetX, event.offsetY);
     held = null;
     // The second click on the same step takes it back, whichever of its nodes it meets.
     if (it) page.choose(page.chosen && it[4] === page.event ? page.chosen : [it[2], it[3]]);
+    else if (clicked && page.picture.far) { page.picture.zoom(.2, event.offsetX / canvas.clientWidth); page.draw_picture(); }
   };
   canvas.onpointerleave = () => { held = null; };
   canvas.addEventListener("wheel", event => {
@@ -81,7 +102,7 @@ function listen_to_picture(page) {
   window.addEventListener("resize", redraw);
 }
 
-function begin() {
+async function begin() {
   document.documentElement.dataset.theme = matchMedia("(prefers-color-scheme: light)").matches ? "light" : "dark";
   const examples = JSON.parse(find("sessions").textContent);
   let core;
@@ -94,7 +115,7 @@ function begin() {
   for (const name in examples) { const option = document.createElement("option"); option.textContent = name; groups[is_source(examples[name]) ? "source" : "sessions"].append(option); }
   find("examples").value = "fault.f18";
   listen(page, examples);
-  const given = location.hash.length > 1 ? decodeURIComponent(location.hash.slice(1)) : "";
+  const given = location.hash.length > 1 ? await text_in(location.hash).catch(() => "") : "";
   if (!given || !page.open(given)) choose_example(page, examples);
   document.title = "GA144: ready";
 }

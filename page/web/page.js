@@ -32,7 +32,7 @@ class Page {
     if (line) {
       find("session").open = true;
       const from = lines.slice(0, line - 1).join("\n").length + (line > 1);
-      box.focus(); box.setSelectionRange(from, from + lines[line - 1].length);
+      box.focus(); box.setSelectionRange(from, from + (lines[line - 1] || "").length);
       box.scrollTop = Math.max(0, line - 4) * 18;
     }
     return false;
@@ -149,10 +149,13 @@ class Page {
     const [, past, goes] = this.touched;
     NAMES.forEach((name, i) => {
       const node = nodes[i], cell = find("n" + name), steps = this.session.steps[name] || 0, active = steps || this.working.includes(name);
-      cell.className = ["cell", active && "active", node.stop && "stop", name === this.selected && "selected", goes.has(name) ? "goes" : past.has(name) && "past"].filter(it => it).join(" ");
+      const kind = ["cell", active && "active", node.stop && "stop", name === this.selected && "selected", goes.has(name) ? "goes" : past.has(name) && "past"].filter(it => it).join(" ");
+      const title = `node ${name}: ${doing(node)}, ${steps} steps\nP ${node.p} A ${node.a} B ${node.b} T ${node.d[0]} S ${node.d[1]} R ${node.r[0]}`;
+      // What is as it was needs no drawing.
+      if (cell.className === kind && cell.title === title) return;
+      cell.className = kind; cell.title = title;
       cell.innerHTML = `<span class="name">${name} <span class="more">${steps || ""}</span><br></span><span class="what">${safe(active ? doing(node) : "·")}</span>`;
       if (node.wait && active) for (const side of "rdlu") if (node.set.includes(side)) { const bar = document.createElement("i"); bar.className = `side ${compass(name, side)}${node.wait === "write" ? " write" : ""}`; cell.append(bar); }
-      cell.title = `node ${name}: ${doing(node)}, ${steps} steps\nP ${node.p} A ${node.a} B ${node.b} T ${node.d[0]} S ${node.d[1]} R ${node.r[0]}`;
     });
   }
 
@@ -165,11 +168,12 @@ class Page {
   draw_node() {
     const name = this.selected, { nodes, cells, loaded } = this.seen, node = nodes[NUMBER[name]], trace = this.session.traces[name] || [], pointer = parseInt(node.p, 16);
     const slots = node.slot === 4 ? "fetch is due" : decode(parseInt(node.i, 16)).names.map((it, i) => i === node.slot ? `<span class="due">${safe(it)}</span>` : safe(it)).join(" ");
+    const then = this.then && this.then[NUMBER[name]], after = then ? `<tr><td class=goes>then<td colspan=5>${doing(then)} P ${then.p} T ${then.d[0]} S ${then.d[1]} R ${then.r[0]}` : "";
     const here = this.source_at(pointer), source = here ? `<tr><td class=dim>source<td colspan=5 class=source><b>${safe(here.label)}</b> ${safe(here.line)}` : "";
     find("node").innerHTML = `<h2>Node ${name}: ${doing(node)} (${trace.length} steps)</h2><table>
       <tr><td class=dim>P<td>${node.p}<td class=dim>A<td>${node.a}<td class=dim>B<td>${node.b}${source}<tr><td class=dim>I<td>${node.i}<td class=dim>io<td>${node.io}<td class=dim>carry<td>${node.carry}
       <tr><td class=dim>slots<td colspan=5>${slots}<tr><td class=dim>T S<td colspan=5>${node.d.slice(0, 2).join(" ")}<tr><td class=dim>data<td colspan=5>${node.d.slice(2, 6).join(" ")}<br>${node.d.slice(6).join(" ")}
-      <tr><td class=dim>R<td colspan=5>${node.r[0]}<tr><td class=dim>return<td colspan=5>${node.r.slice(1, 5).join(" ")}<br>${node.r.slice(5).join(" ")}</table>`;
+      <tr><td class=dim>R<td colspan=5>${node.r[0]}<tr><td class=dim>return<td colspan=5>${node.r.slice(1, 5).join(" ")}<br>${node.r.slice(5).join(" ")}${after}</table>`;
     this.draw_memory(cells, loaded, pointer);
     this.draw_trace(name, trace);
   }

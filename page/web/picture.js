@@ -58,7 +58,8 @@ class Picture {
     }
     this.spots = [];
     const from = this.first_at(this.from), upto = this.first_at(this.from + this.wide + 1), labels = [];
-    if (unit < 2) { this.draw_far(g, marks, from, upto, line, left, unit, colours); if (chosen) this.draw_pick(g, chosen, line, left, unit, pick); return; }
+    this.far = unit < 2;
+    if (this.far) { this.draw_far(g, marks, from, upto, line, left, unit, colours); if (chosen) this.draw_pick(g, chosen, line, left, unit, pick); return; }
     for (let i = from; i < upto; i++) {
       const at = this.order[i], event = this.events[at], kind = marks ? marks[at] : 0, px = left + (this.xs[at] - this.from) * unit;
       g.strokeStyle = g.fillStyle = colours[kind];

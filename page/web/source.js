@@ -11,8 +11,8 @@ function parted(text) {
 // Source is what doesn't begin as an image does.
 function is_source(text) { return text.trim().split(/\s+/)[0] !== "ga144"; }
 
-// The line of a fault, as `ga144: line 14: ..` tells it.
-function line_told(told) { const found = /^ga144: line (\d+):/.exec(told); return found ? +found[1] : 0; }
+// The line of a fault, as `ga144: line 14: ..` tells it of source, and `no 12 line line 14` of an image.
+function line_told(told) { const found = /^ga144: line (\d+):/.exec(told) || /^no \d+ \w+ line (\d+)$/.exec(told); return found ? +found[1] : 0; }
 
 // Of each node each cell that the listing has: its label, how many cells it is behind that, and the words of the source's line.
 function listing_of(text) {
