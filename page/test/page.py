@@ -55,11 +55,24 @@ def bytes_of(text):
     return f"Uint8Array.from({json.dumps(text)}, it => it.charCodeAt(0))"
 
 
+# The session opened as a person opens it: its chip is that of the whole session, and each event that it draws is kept.
+OPENED = """
+const text = %s, whole = page.core.answer(text.replace(/^quit(\\n|$)/m, "\\0").split("\\0")[0].replace(/\\n?$/, "\\n") + "dump\\n", 1000000);
+if (!page.open(text)) return "refused";
+const told = new Set();
+for (const n of NAMES) for (const line of page.session.ask(["trace " + n])[0].slice(1)) told.add(line);
+return [whole.endsWith("\\n" + page.session.ask(["dump"])[0].join("\\n") + "\\n"), told.size === page.session.events.length && page.session.events.every(it => told.has(it.text))];
+"""
+
+
 def conformance(browser):
     count = 0
     with tempfile.TemporaryDirectory() as room:
         for name, asked, wanted in cases(room):
             check(browser.run(f"return page.core.answer({bytes_of(asked)}, 1000000)") == wanted, f"{name} is answered otherwise")
+            if wanted.startswith("ready\n") and "no 4 memory" not in wanted:
+                opened = browser.run(OPENED % json.dumps(asked))
+                check(opened == [True, True], f"{name} is opened otherwise: {opened}")
             count += 1
     check(count >= 120, f"{count} sessions only")
     return count

@@ -11,7 +11,7 @@ class Page {
     find("log").textContent = "";
     if (refused) return this.refuse(text, refused);
     this.session = session;
-    const lines = commands.filter(it => KEEPS.test(it));
+    const end = commands.indexOf("quit"), lines = commands.slice(0, end < 0 ? commands.length : end).filter(it => KEEPS.test(it));
     if (session.told) this.say("source", session.told.split("\n"));
     if (lines.length) session.obey(lines);
     this.working = NAMES.filter(n => new RegExp(`^node ${n}$`, "m").test(session.image));

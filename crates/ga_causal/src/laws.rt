@@ -150,7 +150,7 @@ pub fn account_kept()
     ensures told { (chip last : List NodeRecord) (events : List Event) (steps : List (Cause × Told)) (n k : ℕ) →
         run chip events ≡ Some (last, steps) →
         let causes = map (λ (s : Cause × Told). s.0) steps in
-        (now : List NodeRecord) × (left : List (Cause × Told)) × (run chip (events_in (rewound causes n k)) ≡ Some (now, left))
+        (now : List NodeRecord) × (left : List (Cause × Told)) × (run chip (events_in (rewound_list causes n k)) ≡ Some (now, left))
         × ((m : ℕ) → (later : List ((Cause × List ℕ) × Told)) × (account_told m steps ≡ account_told m left ++ later)) }
 {}
 

@@ -1,7 +1,6 @@
 -- How the events of a list stand to one of them, a byte for each.
 use Rattle.std.specs.Prelude.{◌≡◌, ℕ, List, map, Some}
-use Rattle.ga_node.specs.State.{NodeState}
-use Rattle.ga_node.specs.Record.{NodeRecord}
+use Rattle.ga_node.specs.Record.{NodeState, NodeRecord}
 use Rattle.ga_grid.specs.Chip.{records_of}
 use Rattle.ga_event.specs.declared.event.Cause.{Cause}
 use Rattle.ga_image.specs.Lines.{lines_of}
@@ -9,7 +8,7 @@ use Rattle.ga_image.specs.Grammar.{IsImage}
 use Rattle.ga_drawing.specs.Drawing.{AreShades}
 use Rattle.ga_drawing.specs.declared.shade.Shade.{Shade}
 use Rattle.ga_drawing.specs.declared.shade.Shade.TheVariants.{Black, Grey, Red}
-use Rattle.ga_page.specs.Made.{MakesAll}
+use Rattle.ga_page.specs.kept.Made.{MakesAll}
 
 abbrev pub code_of : Shade → ℕ
 code_of Grey = 0
