@@ -132,8 +132,8 @@ def clicks(browser, name, dice):
         elif events:
             taken += what == "take"
             choose(browser, name, dice, events, what == "take")
-        count = browser.run("return [page.session.events.length, page.seen.count]")
-        check(count[1].startswith(f"kept {count[0]} made "), f"{name}: the page draws {count[0]}, the session says {count[1]}")
+        count = browser.run("return [page.session.events.length, page.seen.count, page.session.ask(NAMES.map(n => 'trace ' + n)).every(([it]) => (page.session.steps[it.split(' ')[1]] || 0) === +it.split(' ')[2])]")
+        check(count[1].startswith(f"kept {count[0]} made ") and count[2], f"{name}: the page draws {count[0]}, the session says {count[1]}")
     text, script, said, dump = browser.run("return [page.session.text, page.session.script, page.session.said, page.session.ask(['dump'])[0].join('\\n') + '\\n']")
     check(browser.run(f"return page.core.answer({json.dumps(script + 'dump' + chr(10))}, 1000000)") == said + dump, f"{name}: its session gives another chip")
     check(browser.run(f"page.open({json.dumps(text)}); return page.session.ask(['dump'])[0].join('\\n') + '\\n'") == dump, f"{name}: its text gives another chip")
