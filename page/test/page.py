@@ -157,6 +157,13 @@ return { rows, here: find("node").querySelector(".source").textContent, text: pa
 const opened = page.open("node 000\\n: main foo\\n"), box = find("text");
 return [opened, find("log").textContent, box.value.slice(box.selectionStart, box.selectionEnd), page.session.text];""")
     check(said[:3] == [False, "> source\nga144: line 2: what is foo\n", ": main foo"] and said[3].startswith("node 000\n: main 3"), f"a refused source: {said}")
+    # Eight steps a turn: a fetch and four opcodes of cell 0, a fetch and two opcodes of cell 1.
+    said = browser.run("""
+page.open("node 000\\n: main dup dup dup dup drop main ;\\n"); page.go(400); page.choose(["000", 150]);
+return [...find("trace").children].map(it => [+it.textContent.split(" ")[2], it.querySelector(".source b").textContent]);""")
+    check(len(said) == 120 and all(label == ("main" if (step - 1) % 8 < 5 else "main+1") for step, label in said), f"source lines of a loop: {said}")
+    said = browser.run("page.open('ga144 1\\nnode 000\\np 000000\\nend\\nstep 000\\nquit\\nstep 000\\n'); return page.session.events.map(it => it.text)")
+    check(said == ["000 1 fetch"], f"behind quit: {said}")
     browser.run("document.activeElement.blur(); find('examples').value = 'first.f18'; find('examples').onchange()")
 
 
