@@ -57,7 +57,7 @@ class Picture {
       if (row > 8) { g.fillStyle = n === selected ? pick : colours[0]; g.fillText(n, 6, line[n]); }
     }
     this.spots = [];
-    const from = this.first_at(this.from), upto = this.first_at(this.from + this.wide + 1), labels = [];
+    const from = this.first_at(this.from), upto = this.first_at(this.from + this.wide + 1), labels = [], dots = [];
     this.far = unit < 2;
     if (this.far) { this.draw_far(g, marks, from, upto, line, left, unit, colours); if (chosen) this.draw_pick(g, chosen, line, left, unit, pick); return; }
     for (let i = from; i < upto; i++) {
@@ -70,14 +70,19 @@ class Picture {
         if (unit > 24) labels.push([event.label.replace(/^0+(?=.)/, ""), px + 4, (one + other) / 2, text, "left"]);
       }
       for (const [n, k] of event.ends) {
-        const size = Math.min(4, Math.max(.6, unit / 3));
-        if (size < 2) g.fillRect(px, line[n] - 2, Math.max(1, unit), 4); else shape(g, kind, px, line[n], size, event.label === "wait");
+        dots.push([kind, px, line[n], event.label === "wait"]);
         this.spots.push([px, line[n], n, k, event]);
       }
-      if (!event.pass && row > 18 && unit > 24) labels.push([event.label, px, line[event.ends[0][0]] - 9, colours[0], "center"]);
+      if (!event.pass && row > 18 && unit > 24) labels.push([event.label, px, line[event.ends[0][0]] - 11, colours[0], "center"]);
     }
+    // Over the lines the labels, and over these the events.
     for (const [label, x, y, tint, align] of labels) { g.textAlign = align; lettered(g, label, x, y, tint, back); }
     g.textAlign = "left";
+    const size = Math.min(4, Math.max(.6, unit / 3));
+    for (const [kind, x, y, hollow] of dots) {
+      g.strokeStyle = g.fillStyle = colours[kind];
+      if (size < 2) g.fillRect(x, y - 2, Math.max(1, unit), 4); else shape(g, kind, x, y, size, hollow);
+    }
     if (chosen) this.draw_pick(g, chosen, line, left, unit, pick);
   }
 
