@@ -218,6 +218,24 @@ return {{ made, step, count, back, again, node, kept, log: document.getElementBy
     return said["made"]
 
 
+# Heaps of all sizes from none to enough: each call answers as with enough, or refuses for want of memory.
+def every_heap(browser):
+    said = browser.run("""
+const source = "node 000\\n: main 3 dup +\\nnode 001\\n: main 4 dup + ;\\n", bytes = Uint8Array.from(atob(find("module").textContent), it => it.charCodeAt(0));
+const ask = (core, image) => [core.assemble(source), core.list(source), core.shades(image, [0, 1, 0, 0, 1], 2), core.answer(image + "step 000\\nnode 000\\n", 9)];
+const image = page.core.assemble(source).image, enough = ask(page.core, image).map(it => JSON.stringify(it)), core = new Core(bytes), counts = enough.map(() => [0, 0]), other = [];
+for (let size = 1 << 20; size < 1 << 22; size += 1 << 14) {
+  core.heap = size;
+  ask(core, image).forEach((it, i) => {
+    if (JSON.stringify(it) === enough[i]) counts[i][0]++;
+    else if (it === null || it === "" || (it.image === "" && it.told.endsWith("memory\\n")) || it === "no 19 memory line 0\\n" || (i === 3 && it.startsWith("ready\\nno 4 memory\\n"))) counts[i][1]++;
+    else other.push([size, i, it]);
+  });
+}
+return [counts, other];""")
+    check(not said[1] and all(right > 9 and refused > 3 for right, refused in said[0]), f"heaps of all sizes: {said}")
+
+
 def main():
     start = time.time()
     with Browser(size=(1280, 720)) as browser:
@@ -231,6 +249,7 @@ def main():
         keys(browser)
         address(browser)
         widths(browser)
+        every_heap(browser)
         made = small_heap(browser)
         if len(sys.argv) > 1:
             times(browser)
