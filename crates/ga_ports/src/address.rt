@@ -22,6 +22,7 @@ pub enum Target {
 }
 
 /// What the low nine bits of a number name.
+#[inline(always)]
 pub fn classify(address: u32) -> Target
     ensures value { result ≡ classified address }
     ensures in_range { IsTarget result }

@@ -39,7 +39,7 @@ impl Node {
     ghost use Rattle.std.specs.Prelude.{◌≡◌, ◌+◌, ◌<◌, ◌≤◌, ◌^◌, [], ◌∷◌, length};
     ghost use Rattle.ga_node.specs.State.{IsApart};
     ghost use Rattle.ga_node.specs.Record.{record_of};
-    ghost use Rattle.ga_node.specs.Changes.{changed, PushData, PopData, SetTop, PopTo, PushReturn, PopReturn, SetTopReturn, SetP, SetA, SetB, SetI, SetIo, SetCarry, SetRam, GoOn, Skip, StartAgain, SetWait, SetStop};
+    ghost use Rattle.ga_node.specs.Changes.{after_changes, changed, PushData, PopData, SetTop, PopTo, PushReturn, PopReturn, SetTopReturn, SetP, SetA, SetB, SetI, SetIo, SetCarry, SetRam, GoOn, Skip, StartAgain, SetWait, SetStop};
     ghost use Rattle.ga_node.specs.kept.Saving.{Saves};
     ghost use Rattle.ga_node.specs.Ready.{IsRunning};
 
@@ -134,6 +134,39 @@ impl Node {
     {
         saved.push(Place::Slot, self.slot as u32);
         self.slot = 4;
+    }
+
+    /// P gets an address, and the rest of the word is passed over.
+    #[tactic(auto, unfolding(crate::specs::Record::record_of))]
+    #[inline(always)]
+    pub(super) fn leave(&mut self, saved: &mut Saved, p: u32)
+        requires in_range { p < 2 ^ 10 }
+        requires room { length saved.old + 2 ≤ 7 }
+        ensures change { record_of self.new ≡ after_changes (SetP p ∷ Skip ∷ []) (record_of self.old) }
+        ensures saves { Saves (SetP p ∷ Skip ∷ []) self.old saved.old self.new saved.new }
+        ensures count { length saved.new ≡ length saved.old + 2 }
+    {
+        saved.push(Place::P, self.p);
+        saved.push(Place::Slot, self.slot as u32);
+        self.p = p;
+        self.slot = 4;
+    }
+
+    /// The word and P are others, and the first slot comes.
+    #[tactic(auto, unfolding(crate::specs::Record::record_of))]
+    #[inline(always)]
+    pub(super) fn begin(&mut self, saved: &mut Saved, i: Word18, p: u32)
+        requires in_range { p < 2 ^ 10 }
+        requires room { length saved.old + 3 ≤ 7 }
+        ensures change { record_of self.new ≡ after_changes (SetI i ∷ SetP p ∷ StartAgain ∷ []) (record_of self.old) }
+        ensures saves { Saves (SetI i ∷ SetP p ∷ StartAgain ∷ []) self.old saved.old self.new saved.new }
+    {
+        saved.push(Place::I, self.i.get());
+        saved.push(Place::P, self.p);
+        saved.push(Place::Slot, self.slot as u32);
+        self.i = i;
+        self.p = p;
+        self.slot = 0;
     }
 
     /// The first slot comes.

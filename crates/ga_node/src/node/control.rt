@@ -24,8 +24,7 @@ impl Node {
         let i = self.i();
         let slot = self.slot();
         let to = target(p, i, slot);
-        self.set_p(saved, to);
-        self.skip(saved);
+        self.leave(saved, to);
     }
 
     /// A jump where a condition holds; else the rest of the word is passed over.
@@ -68,6 +67,7 @@ impl Node {
     }
 
     /// `jump`: P := the address that the slot names.
+    #[inline(always)]
     pub(super) fn run_jump(&mut self, saved: &mut Saved)
         requires slot { (record_of self.old).slot < 3 }
         requires empty { saved.old ≡ [] }

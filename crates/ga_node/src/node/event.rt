@@ -108,9 +108,7 @@ impl Node {
     {
         let p = self.p();
         let word = self.read(seen, saved, p, Reader::Instruction)?;
-        self.set_i(saved, word);
-        self.set_p(saved, advance_p(p));
-        self.start_again(saved);
+        self.begin(saved, word, advance_p(p));
         Ok(())
     }
 
