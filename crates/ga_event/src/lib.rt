@@ -12,4 +12,4 @@ pub use back::{restore, unapply};
 pub use event::{Cause, Deed, Effect, Event, cause_with, touches};
 pub use forward::{apply, apply_own, apply_pass, cause_of, seen_from};
 pub use made::Made;
-pub use next::next_event;
+pub use next::{next_event, runs};
