@@ -106,6 +106,17 @@ fn looked_with(looked: u32, at: usize, part: Part) -> u32
     }
 }
 
+/// Where a node's own event at this position is a look, it is the newest one from now on.
+#[inline(always)]
+fn note_look(looked: &mut u32, at: usize, deed: Deed)
+    requires { at + 1 < 2 ^ 32 }
+    ensures { looked.new ≡ looked_after looked.old at (own_part deed) }
+{
+    if deed.look {
+        *looked = at as u32 + 1;
+    }
+}
+
 /// Takes the last pass out, where the part is an end of one.
 #[inline(always)]
 fn drop_pass(passes: &mut Vec<Pass>, part: Part)
@@ -214,7 +225,22 @@ impl History {
     }
 
     /// Makes the growth for an own event.
+    #[inline(always)]
     pub fn grow(&mut self) -> Result<(), JournalFault>
+        ensures same { self.new.items ≡ self.old.items }
+        ensures room { OnOk result (IsTrue self.new.room.entry) }
+        ensures full { OnErr result (¬ IsTrue self.old.room.entry) }
+        ensures err { IfErr result (λ fault. fault ≡ JournalFault.Memory) }
+    {
+        if self.entries.len() < self.entries.capacity() {
+            return Ok(());
+        }
+        self.grow_entries()
+    }
+
+    // Makes the growth for an own event, whether there is room or not.
+    #[inline(never)]
+    fn grow_entries(&mut self) -> Result<(), JournalFault>
         ensures same { self.new.items ≡ self.old.items }
         ensures room { OnOk result (IsTrue self.new.room.entry) }
         ensures full { OnErr result (¬ IsTrue self.old.room.entry) }
@@ -300,7 +326,7 @@ impl History {
         let deed = apply_own(chip, node, &mut entry.saved);
         let part = part_of(deed);
         entry.part = part;
-        self.looked = looked_with(self.looked, last, part);
+        note_look(&mut self.looked, last, deed);
         deed
     }
 

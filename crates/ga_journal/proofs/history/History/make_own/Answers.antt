@@ -3,7 +3,7 @@ use Rattle.ga_journal.specs.declared.entry.Entry.{Entry}
 use Rattle.ga_journal.specs.declared.entry.Act.TheVariants as act
 use Rattle.ga_journal.specs.kept.Histories.{Held}
 use Rattle.ga_journal.specs.Histories.{past}
-use Rattle.ga_journal.specs.kept.Stored.{IsHistory, past_in, looked_after}
+use Rattle.ga_journal.specs.kept.Stored.{IsHistory, past_in, looked_after, own_part}
 use Rattle.ga_journal.proofs.Looking.{own_more}
 use Rattle.ga_journal.proofs.Storing.{pasts_deed, read_last, set_last}
 use Rattle.ga_journal.proofs.history.History.make_own.Goals as goal
@@ -17,12 +17,11 @@ invariant_of-self c =
     let here : length c.as_slice.result.now ≡ length c.push_reserved.new.self.items = ap length c.as_slice.ensures.value in
     let more : length c.push_reserved.new.self.items ≡ length es + 1 = ap length c.push_reserved.ensures.items ∙ length-append es _ in
     let read = read_last es c.push_reserved.new.self.items _ first (length c.as_slice.result.now - 1) c.push_reserved.ensures.items (omega (arith, here, more)) c.index_mut-entry.ensures.value in
-    subst (λ z. IsHistory z ps c.looked_with-self-inside.result)
+    subst (λ z. IsHistory z ps c.note_look.new.looked)
     (sym (set_last es c.push_reserved.new.self.items _ e (length c.as_slice.result.now - 1) c.push_reserved.ensures.items (omega (arith, here, more))))
     (subst (λ z. IsHistory (es ++ e ∷ []) ps z)
-    (sym (c.looked_with-self-inside.ensures
-    ∙ ap (λ z. looked_after c.self.inside.looked z c.part_of-part.result) (let q : length c.as_slice.result.now - 1 ≡ length es = omega (arith, here, more) in q)
-    ∙ ap (looked_after c.self.inside.looked (length es)) c.part_of-part.ensures))
+    (sym (c.note_look.ensures
+    ∙ ap (λ z. looked_after c.self.inside.looked z (own_part c.apply_own-deed.result)) (let q : length c.as_slice.result.now - 1 ≡ length es = omega (arith, here, more) in q)))
     (own_more es ps c.self.inside.looked e c.apply_own-deed.result.kind c.apply_own-deed.result.look c.self.invariant c.part_of-part.ensures (ap (λ (z : Entry). z.place) read)))
 
 pub returns : goal.returns
