@@ -4,3 +4,4 @@ pub mod Touched
 pub mod Lined
 pub mod Drawn
 pub mod Shaded
+pub mod Grouped

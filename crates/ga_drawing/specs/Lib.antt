@@ -1,2 +1,4 @@
 pub mod Drawing
+pub mod Svg
+pub mod Picture
 pub mod kept

@@ -4,14 +4,18 @@
 
 mod before;
 mod lines;
+mod marks;
 mod placing;
+mod reports;
 mod shade;
 mod text;
 mod tracks;
 mod used;
+mod view;
 mod wanted;
 
 pub use before::grounds;
 pub use placing::{Drawing, Shape, layout};
 pub use shade::{Shade, shades};
 pub use text::svg;
+pub use view::{Step, View, draw, picture};

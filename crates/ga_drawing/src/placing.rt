@@ -22,6 +22,18 @@ pub enum Shape {
     Arrow { from: u8, to: u8, shade: Shade },
 }
 
+impl Shape {
+    /// In which colour it is drawn.
+    pub fn shade(&self) -> Shade
+        ensures { result ≡ shade_of self.now }
+    {
+        match self {
+            Shape::Mark { shade, .. } => *shade,
+            Shape::Arrow { shade, .. } => *shade,
+        }
+    }
+}
+
 /// A picture of some events.
 #[derive(Drop)]
 pub struct Drawing {

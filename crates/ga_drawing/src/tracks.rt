@@ -3,6 +3,9 @@
 use crate::text::x_of;
 use std::alloc::{AllocError, Global};
 
+/// Where the picture of the events begins.
+const TOP: u64 = 36;
+
 /// How a node stands since a height of the picture.
 #[derive(Clone, Copy)]
 struct Track {
@@ -53,12 +56,10 @@ impl Tracks {
         Ok(())
     }
 
-    /// A pass in which a node has a part: its wait ends.
+    /// A pass in which a node has a part: its wait ends, which began above the picture where no event of it came before.
     pub(crate) fn passed(&mut self, text: &mut String, line: u8, y: u64) -> Result<(), AllocError> {
         if let Some(track) = self.tracks.get_mut(line as usize) {
-            if let Some(since) = track.since {
-                push_wait(text, x_of(line), since, y)?;
-            }
+            push_wait(text, x_of(line), track.since.unwrap_or(TOP), y)?;
             track.since = Some(y);
             track.waits = false;
             track.last = y;
@@ -82,12 +83,15 @@ impl Tracks {
     }
 }
 
-/// Adds a line from one height to another.
+/// Adds a line from one height to another, unless these are the same.
 fn push_run(text: &mut String, x: u32, from: u64, to: u64) -> Result<(), AllocError> {
-    write!(text, "<path class=\"t\" d=\"M{x} {from}V{to}\"/>\n")
+    if from == to {
+        return Ok(());
+    }
+    write!(text, "<path class='t' d='M{x} {from}V{to}'/>\n")
 }
 
 /// Adds a dotted line from one height to another.
 fn push_wait(text: &mut String, x: u32, from: u64, to: u64) -> Result<(), AllocError> {
-    write!(text, "<path class=\"w\" d=\"M{x} {from}V{to}\"/>\n")
+    write!(text, "<path class='w' d='M{x} {from}V{to}'/>\n")
 }

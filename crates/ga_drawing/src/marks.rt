@@ -1,0 +1,227 @@
+//! What stands in the group of an event: its title, its mark or arrow, and its label.
+
+use crate::placing::{Drawing, Shape};
+use crate::text::x_of;
+use ga_grid::{NodeId, neighbour};
+use ga_event::Made;
+use ga_node::Kind;
+use ga_ports::Side;
+use ga_slots::Op;
+use ga_word::Word18;
+use std::alloc::AllocError;
+
+/// Adds what is drawn of an event at a height, behind a title that tells of it.
+pub(crate) fn push_event(
+    text: &mut String,
+    drawing: &Drawing,
+    y: u64,
+    shape: Shape,
+    made: Option<&Made>,
+) -> Result<(), AllocError> {
+    match shape {
+        Shape::Mark { line, look, .. } => push_own(text, drawing, (x_of(line), y), look, made),
+        Shape::Arrow { from, to, .. } => push_pass(text, x_of(from), x_of(to), y, made),
+    }
+}
+
+/// Adds an own event at a place.
+fn push_own(
+    text: &mut String,
+    drawing: &Drawing,
+    at: (u32, u64),
+    look: bool,
+    made: Option<&Made>,
+) -> Result<(), AllocError> {
+    let (x, y) = at;
+    match made {
+        Some(Made::Own { node, step, kind }) => {
+            push_own_title(text, *node, *step, *kind)?;
+            if look {
+                push_looks(text, drawing, x, y, *node)?;
+            }
+            push_mark(text, x, y, *kind)?;
+            push_label(text, x, y, *step, *kind)
+        }
+        _ => push_mark(text, x, y, Kind::Run(0)),
+    }
+}
+
+/// Adds a pass from one line to another.
+fn push_pass(
+    text: &mut String,
+    from: u32,
+    to: u32,
+    y: u64,
+    made: Option<&Made>,
+) -> Result<(), AllocError> {
+    match made {
+        Some(
+            Made::Pass {
+                writer,
+                writer_step,
+                reader,
+                reader_step,
+                word,
+            },
+        ) => {
+            push_pass_title(
+                text,
+                (*writer, *writer_step),
+                (*reader, *reader_step),
+                *word,
+            )?;
+            push_arrow(text, from, to, y)?;
+            push_word(text, from / 2 + to / 2, y, *word)?;
+            if from < to {
+                push_ends(text, (from, *writer_step), (to, *reader_step), y)
+            } else {
+                push_ends(text, (to, *reader_step), (from, *writer_step), y)
+            }
+        }
+        _ => push_arrow(text, from, to, y),
+    }
+}
+
+/// What an own event was, in a word: an opcode by its name.
+fn word_of(kind: Kind) -> &'static str {
+    match kind {
+        Kind::Fetch => "fetch",
+        Kind::Run(code) => Op::from_code(code % 32).name(),
+        Kind::Wait => "wait",
+        Kind::Stop(_) => "stop",
+    }
+}
+
+/// Adds the text of an own event as a session tells it, with the opcode's name.
+fn push_own_title(
+    text: &mut String,
+    node: NodeId,
+    step: u32,
+    kind: Kind,
+) -> Result<(), AllocError> {
+    let name = node.yxx();
+    let word = word_of(kind);
+    match kind {
+        Kind::Run(code) => write!(
+            text,
+            "<title>{name:03} {step} run {code:02x} {word}</title>"
+        ),
+        Kind::Stop(number) => write!(text, "<title>{name:03} {step} stop {number}</title>"),
+        _ => write!(text, "<title>{name:03} {step} {word}</title>"),
+    }
+}
+
+/// Adds the text of a pass as a session tells it.
+fn push_pass_title(
+    text: &mut String,
+    writer: (NodeId, u32),
+    reader: (NodeId, u32),
+    word: Word18,
+) -> Result<(), AllocError> {
+    let (from, to) = (writer.0.yxx(), reader.0.yxx());
+    let (writer_step, reader_step) = (writer.1, reader.1);
+    let word = word.get();
+    write!(
+        text,
+        "<title>pass {from:03} {writer_step} {to:03} {reader_step} {word:06x}</title>"
+    )
+}
+
+/// Adds the mark of an own event: a ring for a fetch, a dot for an opcode, a bar for a wait, a cross for a stop.
+fn push_mark(text: &mut String, x: u32, y: u64, kind: Kind) -> Result<(), AllocError> {
+    match kind {
+        Kind::Fetch => write!(text, "<circle class='o' cx='{x}' cy='{y}' r='3.4'/>"),
+        Kind::Run(_) => write!(text, "<circle class='f' cx='{x}' cy='{y}' r='3'/>"),
+        Kind::Wait => write!(text, "<path d='M{x} {y}m-6 0h12'/>"),
+        Kind::Stop(_) => write!(text, "<path d='M{x} {y}m-5 -5l10 10m-10 0l10 -10'/>"),
+    }
+}
+
+/// Adds the number of a step with what it was.
+fn push_label(text: &mut String, x: u32, y: u64, step: u32, kind: Kind) -> Result<(), AllocError> {
+    let (left, below) = (x.saturating_add(10), y.saturating_add(4));
+    let word = word_of(kind);
+    match kind {
+        Kind::Stop(number) => write!(
+            text,
+            "<text x='{left}' y='{below}'>{step} stop {number}</text>"
+        ),
+        _ => write!(text, "<text x='{left}' y='{below}'>{step} {word}</text>"),
+    }
+}
+
+/// Adds dashed lines to the lines of the neighbours.
+fn push_looks(
+    text: &mut String,
+    drawing: &Drawing,
+    x: u32,
+    y: u64,
+    node: NodeId,
+) -> Result<(), AllocError> {
+    push_look(text, drawing, x, y, neighbour(node, Side::Right))?;
+    push_look(text, drawing, x, y, neighbour(node, Side::Down))?;
+    push_look(text, drawing, x, y, neighbour(node, Side::Left))?;
+    push_look(text, drawing, x, y, neighbour(node, Side::Up))
+}
+
+/// Adds a dashed line to the line of a node, where it has one.
+fn push_look(
+    text: &mut String,
+    drawing: &Drawing,
+    x: u32,
+    y: u64,
+    other: Option<NodeId>,
+) -> Result<(), AllocError> {
+    let Some(other) = other else {
+        return Ok(());
+    };
+    for (line, node) in drawing.lines.iter().take(144).enumerate() {
+        if node.number == other.number {
+            let to = x_of(line as u8);
+            write!(text, "<path class='d' d='M{x} {y}H{to}'/>")?;
+        }
+    }
+    Ok(())
+}
+
+/// Adds an arrow from one line to another.
+fn push_arrow(text: &mut String, from: u32, to: u32, y: u64) -> Result<(), AllocError> {
+    if from < to {
+        write!(
+            text,
+            "<path d='M{from} {y}H{to}'/><path class='f' d='M{to} {y}l-8 -4v8z'/>"
+        )
+    } else {
+        write!(
+            text,
+            "<path d='M{from} {y}H{to}'/><path class='f' d='M{to} {y}l8 -4v8z'/>"
+        )
+    }
+}
+
+/// Adds the word of a pass above its arrow.
+fn push_word(text: &mut String, middle: u32, y: u64, word: Word18) -> Result<(), AllocError> {
+    let above = y.saturating_sub(4);
+    let word = word.get();
+    write!(
+        text,
+        "<text class='m' x='{middle}' y='{above}'>{word:06x}</text>"
+    )
+}
+
+/// Adds the numbers of two steps at the ends of an arrow, the left one first.
+fn push_ends(
+    text: &mut String,
+    left: (u32, u32),
+    right: (u32, u32),
+    y: u64,
+) -> Result<(), AllocError> {
+    let below = y.saturating_add(4);
+    let (start, end) = (left.0.saturating_sub(8), right.0.saturating_add(10));
+    let (first, second) = (left.1, right.1);
+    write!(
+        text,
+        "<text class='e' x='{start}' y='{below}'>{first}</text>"
+    )?;
+    write!(text, "<text x='{end}' y='{below}'>{second}</text>")
+}
