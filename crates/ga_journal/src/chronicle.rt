@@ -36,6 +36,14 @@ impl Chronicle {
         self.journal.history(node)
     }
 
+    /// What is told of the kept event at a place of those that touch a node, from 0 on; none past their end.
+    pub fn told(&self, node: NodeId, place: u32) -> Option<Made>
+        requires { IsWhole self.now.journal.histories self.now.journal.made }
+        ensures { result ≡ slice_get (mades_of (kept_of self.now.journal) node.number) place }
+    {
+        self.journal.told(node, place)
+    }
+
     /// Writes back to a node what its entries from the position `to` on and below `from` overwrote, those of the last entry
     /// first: to the node as it was after `from` of its steps, so that it is as it was after `to` of them.
     pub fn walk_back(&self, node: NodeId, now: &mut Node, from: u32, to: u32)

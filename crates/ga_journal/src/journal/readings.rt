@@ -29,6 +29,14 @@ impl Journal {
         self.histories.mades(node)
     }
 
+    /// What is told of the event at a place of those that touch a node, from 0 on; none past their end.
+    pub(crate) fn told(&self, node: NodeId, place: u32) -> Option<Made>
+        requires { IsWhole self.now.histories self.now.made }
+        ensures { result ≡ slice_get (mades_of (kept_of self.now) node.number) place }
+    {
+        self.histories.made_of(node, place)
+    }
+
     /// Writes back to a node what its entries from the position `to` on and below `from` overwrote, those of the last entry
     /// first: to the node as it was after `from` of its steps, so that it is as it was after `to` of them.
     pub(crate) fn walk_back(&self, node: NodeId, now: &mut Node, from: u32, to: u32)
