@@ -2,8 +2,8 @@
 
 use crate::placing::{Drawing, Shape};
 use crate::text::x_of;
-use ga_grid::{NodeId, neighbour};
 use ga_event::Made;
+use ga_grid::{NodeId, neighbour};
 use ga_node::Kind;
 use ga_ports::Side;
 use ga_slots::Op;

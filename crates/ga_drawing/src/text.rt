@@ -7,8 +7,8 @@ use crate::marks::push_event;
 use crate::placing::{Drawing, Shape};
 use crate::shade::Shade;
 use crate::tracks::Tracks;
-use ga_grid::NodeId;
 use ga_event::Made;
+use ga_grid::NodeId;
 use ga_node::Kind;
 use std::alloc::{AllocError, Global};
 

@@ -12,10 +12,11 @@ returns-then-not-stands-clause-refused c = (λ e. sym c.stands.ensures.value ∙
 
 pub returns-in-Ok-clause-ok : goal.returns-in-Ok-clause-ok
 returns-in-Ok-clause-ok c =
-    let s = c.in-Ok.ensures.ok in
-    (c.in-Ok.since.before,
-    cause_place (causes_of c.args.self.now) c.args.node.number c.args.step c.args.node.number c.in-Ok.since.causes.items c.in-Ok.since.before c.in-Ok.since.steps s,
-    sym (tail_is (causes_of c.args.self.now) c.args.node.number c.args.step c.args.node.number c.in-Ok.since.causes.items c.in-Ok.since.before c.in-Ok.since.steps s))
+    let s = c.in-Ok.ensures.ok in (
+      c.in-Ok.since.before,
+      cause_place (causes_of c.args.self.now) c.args.node.number c.args.step c.args.node.number c.in-Ok.since.causes.items c.in-Ok.since.before c.in-Ok.since.steps s,
+      sym (tail_is (causes_of c.args.self.now) c.args.node.number c.args.step c.args.node.number c.in-Ok.since.causes.items c.in-Ok.since.before c.in-Ok.since.steps s),
+    )
 
 pub returns-in-Ok-clause-refused : goal.returns-in-Ok-clause-refused
 returns-in-Ok-clause-refused c =
