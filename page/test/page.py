@@ -175,13 +175,15 @@ press("s"); count(); press("r"); count(); press("b"); count();
 for (let i = 0; i < 30; i++) press("r");
 const pass = page.session.events.find(it => it.pass), [writer, reader] = pass.ends;
 press("Home"); const first = page.chosen; press("."); const second = page.chosen; press(","); const third = page.chosen; press("End"); press("Escape"); const none = page.chosen;
-page.choose(writer); press("p"); const across = page.chosen; count(); press("t"); count();
+page.choose(writer); press("p"); const across = page.chosen; count(); press("t"); count(); const kept = page.session.events.some(it => it.pass);
 press("ArrowRight"); const beside = page.selected; press("ArrowUp"); const above = page.selected;
+press("n"); find("most").value = 3; find("most").dispatchEvent(new KeyboardEvent("keydown", { key: "Enter", bubbles: true })); count();
+find("examples").focus(); const there = document.activeElement.id; find("examples").onchange(); const free = document.activeElement === document.body;
 const wide = page.picture.wide; press("+"); const near = page.picture.wide; press("0");
-return { counts, first, second, third, none, across, reader, beside, above, zoomed: near < wide, kept: page.session.events.some(it => it.pass) };""")
+return { counts, first, second, third, none, across, reader, beside, above, zoomed: near < wide, kept, there, free };""")
     counts = said.pop("counts")
-    check(counts[:3] == [1, 3, 2] and counts[4] < counts[3], f"keys: {counts}")
-    wanted = {"first": ["000", 1], "second": ["000", 2], "third": ["000", 1], "none": None, "across": said["reader"], "beside": "002", "above": "102", "zoomed": True, "kept": False}
+    check(counts[:3] == [1, 3, 2] and counts[4] < counts[3] and counts[5] == counts[4] + 3, f"keys: {counts}")
+    wanted = {"first": ["000", 1], "second": ["000", 2], "third": ["000", 1], "none": None, "across": said["reader"], "beside": "002", "above": "102", "zoomed": True, "kept": False, "there": "examples", "free": True}
     check({it: said[it] for it in wanted} == wanted, f"keys: {said}")
 
 

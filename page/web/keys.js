@@ -55,7 +55,9 @@ function listen(page, examples) {
   };
   find("line").onkeydown = event => { if (event.key === "Enter") { page.command(find("line").value); find("line").value = ""; } };
   find("text").onkeydown = event => { if (event.key === "Enter" && event.ctrlKey) page.open(find("text").value); };
-  find("examples").onchange = () => choose_example(page, examples);
+  find("most").onkeydown = event => { if (event.key === "Enter") { find("most").blur(); acts.g(); } };
+  // (The keys are the page's again.)
+  find("examples").onchange = () => { find("examples").blur(); choose_example(page, examples); };
   find("open").onclick = () => page.open(find("text").value);
   find("file").onchange = async () => page.open(await find("file").files[0].text());
   document.ondragover = event => event.preventDefault();
