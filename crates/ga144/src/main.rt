@@ -1,5 +1,6 @@
 //! `ga144 debug`: a session with a GA144 over standard input and output. `ga144 race`: workers that race for its nodes.
-//! `ga144 asm`, `ga144 list`, `ga144 dis`: source made into an image, listed, and made of an image.
+//! `ga144 asm`, `ga144 list`, `ga144 dis`: source made into an image, listed, and made of an image. `ga144 draw`: a session's
+//! picture.
 #![tactic(auto)]
 
 ghost use Rattle.std.specs.Prelude.{IfOk};
@@ -9,6 +10,8 @@ use ga_console::{
     LineFault, Settings, Status, arguments, assemble_source, disassemble, list_source, race_report,
     session,
 };
+use ga_draw::draw_session;
+use ga_drawing::View;
 use std::process::ExitCode;
 use std::{env, io};
 
@@ -38,6 +41,22 @@ fn main(rt: HostRuntime) -> ExitCode {
         Ok(Settings::Assemble) => assembled(&rt),
         Ok(Settings::List) => listed(&rt),
         Ok(Settings::Disassemble) => disassembled(&rt),
+        Ok(
+            Settings::Draw {
+                cause,
+                rewind,
+                from,
+                to,
+            },
+        ) => drawn(
+            &rt,
+            View {
+                cause,
+                rewind,
+                from: from - 1,
+                to,
+            },
+        ),
         Err(LineFault::Refused) => refused(&rt),
         Err(LineFault::Help(text)) => help(&rt, text.as_str()),
     }
@@ -92,6 +111,12 @@ fn listed(rt: &HostRuntime) -> ExitCode {
 fn disassembled(rt: &HostRuntime) -> ExitCode {
     let (mut reader, mut writer) = (rt.stdin(), rt.stdout());
     exit(rt, disassemble(rt.alloc(), &mut reader, &mut writer))
+}
+
+/// Draws the session on standard input.
+fn drawn(rt: &HostRuntime, view: View) -> ExitCode {
+    let (mut reader, mut writer) = (rt.stdin(), rt.stdout());
+    exit(rt, draw_session(rt.alloc(), &mut reader, &mut writer, view))
 }
 
 /// Writes the help that was asked for.

@@ -1,7 +1,7 @@
--- The ranges of the settings (docs/REFERENCE.md, "Sessions" and "Races"; this project's own).
+-- The ranges of the settings (docs/REFERENCE.md, "Sessions", "Races" and "Pictures"; this project's own).
 use Rattle.std.specs.Prelude.{ℕ, ◌≤◌}
 use Rattle.ga_console.specs.declared.settings.Settings.{Settings}
-use Rattle.ga_console.specs.declared.settings.Settings.TheVariants.{Debug, Race, Assemble, List, Disassemble}
+use Rattle.ga_console.specs.declared.settings.Settings.TheVariants.{Debug, Race, Assemble, List, Disassemble, Draw}
 
 abbrev pub Within : ℕ → ℕ → ℕ → Type 0
 Within least greatest n = (least ≤ n) × (n ≤ greatest)
@@ -13,3 +13,4 @@ AreInRange (Race workers calls limit) = Within 1 16 workers × Within 1 100000 c
 AreInRange Assemble = Unit {0}
 AreInRange List = Unit {0}
 AreInRange Disassemble = Unit {0}
+AreInRange (Draw cause rewind from to) = Within 1 4294967295 from × Within 1 4294967295 to

@@ -2,8 +2,10 @@
 ghost use Rattle.std.specs.Prelude.{IfOk};
 ghost use Rattle.ga_console.specs.Settings.{AreInRange, Within};
 
+use super::command::{node_of, number_of};
 use clap::error::ErrorKind;
 use clap::{Arg, ArgMatches, Command};
+use ga_grid::NodeId;
 use std::alloc::{AllocError, Global};
 use thiserror::Error;
 
@@ -31,6 +33,14 @@ const RACES: &str = "\
 Reads an image (lines `ga144 1` to `end`) from standard input. Worker w, from 0 on, steps the node with the number w.
 
 Exit status: 0 done, 1 image refused, 2 a stream failed, 3 command line refused, 4 race not finished.";
+
+/// What `ga144 draw --help` says behind the options.
+const PICTURES: &str = "\
+Reads what debug reads: an image (lines `ga144 1` to `end`), then commands, one a line. Carries them out without an answer,
+and at their end writes one SVG: a line down for each node, its own events as marks, passes as arrows with their word,
+waits dotted, looks dashed. An event's title says what debug says of it, and the name of its opcode.
+
+Exit status: 0 done, 1 image or step refused, 2 a stream failed, 3 command line refused.";
 
 /// How many events are kept where no limit is given.
 const DEFAULT_LIMIT: u32 = 1_000_000;
@@ -75,6 +85,14 @@ pub enum Settings {
     List,
     /// Write source of an image.
     Disassemble,
+    /// Draw the kept events of a session from one place of their list on and up to another, both counted from 1. Shown are the
+    /// causes of a step, and what a rollback of a step would take; each step is a node and a number, counted from 1.
+    Draw {
+        cause: Option<(NodeId, u32)>,
+        rewind: Option<(NodeId, u32)>,
+        from: u32,
+        to: u32,
+    },
 }
 
 /// Why there are no settings.
@@ -138,13 +156,36 @@ fn program<'a>(alloc: Global) -> Result<Command<'a>, AllocError> {
     let disassembler = Command::new(alloc, "dis").about(
         "Read an image, and write source of the same memories, A, B and P",
     );
+    let draw = Command::new(alloc, "draw")
+        .about("Carry out a session's commands, and draw the events that are kept then")
+        .after_help(PICTURES)
+        .arg(step_option(
+            alloc,
+            "cause",
+            "Grey all but the events on which step K of the node NNN depends",
+        ))?
+        .arg(step_option(
+            alloc,
+            "rewind",
+            "Red what a rollback of step K of the node NNN would take",
+        ))?
+        .arg(number_option(
+            alloc,
+            "from",
+            "Draw from the Pth kept event on, counted from 1",
+        )
+        .value_name("P"))?
+        .arg(number_option(alloc, "to", "Draw up to the Pth kept event, counted from 1").value_name(
+            "P",
+        ))?;
     Command::new(alloc, "ga144")
         .about("Simulates the GreenArrays GA144, with a debugger that takes steps back")
         .subcommand(debug)?
         .subcommand(race)?
         .subcommand(assembler)?
         .subcommand(list)?
-        .subcommand(disassembler)
+        .subcommand(disassembler)?
+        .subcommand(draw)
 }
 
 fn limit_option<'a>(alloc: Global) -> Arg<'a> {
@@ -153,6 +194,17 @@ fn limit_option<'a>(alloc: Global) -> Arg<'a> {
         "limit",
         "How many events are kept at most, 1 to 4000000 [default: 1000000]",
     )
+}
+
+/// A step: its node, and its number.
+const STEP: [&str; 2] = ["NNN", "K"];
+
+fn step_option<'a>(alloc: Global, name: &'a str, help: &'a str) -> Arg<'a> {
+    Arg::new(alloc, name)
+        .long(name)
+        .help(help)
+        .num_args(2)
+        .value_names(&STEP)
 }
 
 fn number_option<'a>(alloc: Global, name: &'a str, help: &'a str) -> Arg<'a> {
@@ -178,6 +230,16 @@ fn chosen(matches: &ArgMatches<'_>) -> Result<Settings, LineFault>
         Some(("asm", _)) => Ok(Settings::Assemble),
         Some(("list", _)) => Ok(Settings::List),
         Some(("dis", _)) => Ok(Settings::Disassemble),
+        Some(("draw", draw)) => {
+            let from = place(draw.get_str("from"), 1)?;
+            let to = place(draw.get_str("to"), u32::MAX)?;
+            Ok(Settings::Draw {
+                cause: step(draw, "cause")?,
+                rewind: step(draw, "rewind")?,
+                from,
+                to,
+            })
+        }
         _ => Err(LineFault::Refused),
     }
 }
@@ -188,6 +250,31 @@ fn limit(matches: &ArgMatches<'_>) -> Result<u32, LineFault>
     match matches.get_str("limit") {
         None => Ok(DEFAULT_LIMIT),
         given => number(given, GREATEST_LIMIT),
+    }
+}
+
+/// A place of a list, counted from 1, or this one where none is given.
+fn place(text: Option<&str>, usual: u32) -> Result<u32, LineFault>
+    requires { Within 1 4294967295 usual }
+    ensures in_range { IfOk result (λ n. Within 1 4294967295 n) }
+{
+    match text {
+        None => Ok(usual),
+        given => number(given, u32::MAX),
+    }
+}
+
+/// A step, where one is given: a node and a number, spelled as in a command.
+fn step(matches: &ArgMatches<'_>, name: &str) -> Result<Option<(NodeId, u32)>, LineFault> {
+    let Some(words) = matches.get_strs(name) else {
+        return Ok(None);
+    };
+    let [node, number] = words else {
+        return Err(LineFault::Refused);
+    };
+    match (node_of(node.as_bytes()), number_of(number.as_bytes())) {
+        (Some(node), Some(number)) => Ok(Some((node, number))),
+        _ => Err(LineFault::Refused),
     }
 }
 

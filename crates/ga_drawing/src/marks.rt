@@ -40,7 +40,13 @@ fn push_own(
                 push_looks(text, drawing, x, y, *node)?;
             }
             push_mark(text, x, y, *kind)?;
-            push_label(text, x, y, *step, *kind)
+            // Above the dashed lines of a look.
+            let base = if look {
+                y.saturating_sub(4)
+            } else {
+                y.saturating_add(4)
+            };
+            push_label(text, x, base, *step, *kind)
         }
         _ => push_mark(text, x, y, Kind::Run(0)),
     }
@@ -137,16 +143,22 @@ fn push_mark(text: &mut String, x: u32, y: u64, kind: Kind) -> Result<(), AllocE
     }
 }
 
-/// Adds the number of a step with what it was.
-fn push_label(text: &mut String, x: u32, y: u64, step: u32, kind: Kind) -> Result<(), AllocError> {
-    let (left, below) = (x.saturating_add(10), y.saturating_add(4));
+/// Adds the number of a step with what it was, right of a mark, on a base line.
+fn push_label(
+    text: &mut String,
+    x: u32,
+    base: u64,
+    step: u32,
+    kind: Kind,
+) -> Result<(), AllocError> {
+    let left = x.saturating_add(10);
     let word = word_of(kind);
     match kind {
         Kind::Stop(number) => write!(
             text,
-            "<text x='{left}' y='{below}'>{step} stop {number}</text>"
+            "<text x='{left}' y='{base}'>{step} stop {number}</text>"
         ),
-        _ => write!(text, "<text x='{left}' y='{below}'>{step} {word}</text>"),
+        _ => write!(text, "<text x='{left}' y='{base}'>{step} {word}</text>"),
     }
 }
 
