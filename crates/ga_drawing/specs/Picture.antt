@@ -1,5 +1,5 @@
 -- What a picture shows of a machine's kept events (docs/REFERENCE.md, "Pictures"; this project's own).
-use Rattle.std.specs.Prelude.{◌≡◌, ℕ, Bool, true, ◌&&◌, List, length, min, Option, Some, None}
+use Rattle.std.specs.Prelude.{ℕ, Bool, true, ◌&&◌, List, length, min, Option, Some, None}
 use Rattle.ga_grid.specs.declared.node_id.NodeId.{NodeId}
 use Rattle.ga_event.specs.declared.event.Cause.{Cause}
 use Rattle.ga_causal.specs.Dependence.{place_of}
