@@ -10,6 +10,7 @@ mod causes;
 mod images;
 mod labs;
 mod outcome;
+mod pictures;
 mod sessions;
 mod shared;
 mod turns;
@@ -85,6 +86,7 @@ fn run_of<R: Threads + Wait + Sync>(rt: &R, alloc: Global, run: &str) -> Outcome
         "session-looks" => sessions::session_with_looks(alloc),
         "session-fetches" => sessions::session_with_fetches(alloc),
         "session-format-2" => sessions::session_of_second_format(alloc),
+        "draw" => pictures::picture(alloc),
         "shared" => shared::calls_repeated(rt, alloc),
         "shared-broken-off" => shared::calls_broken_off(rt, alloc),
         "race" => shared::race_of_one(rt, alloc),

@@ -8,6 +8,8 @@ mod causal;
 #[cfg(test)]
 mod console;
 #[cfg(test)]
+mod drawing;
+#[cfg(test)]
 mod event;
 #[cfg(test)]
 mod flow;

@@ -1,0 +1,103 @@
+//! Pictures: one worked by hand, and those that are refused or can't be written.
+
+use ga_console::Status;
+use ga_draw::draw_session;
+use ga_drawing::View;
+use ga_grid::NodeId;
+use std::io::{Error, ErrorKind, Result, Write};
+use std::test::Fail;
+
+/// A chip whose node 000 waits to write to node 001, and three events of it, in the second of which 001 takes the word.
+const INPUT: &[u8] =
+    b"ga144 2\nnode 000\nb 0001d5\np 000004\nslot 0\ni 0089b2\nwait write r---\nend\nstep 001\nmem 000 00\nstep 001\nstep\nstep 000\nquit\nback";
+
+/// Its picture behind the classes: the lines of 000 and 001 at 70 and 190, and rows 18 apart from 52 on. 000 waits from above the
+/// picture on and 001 from the first row on, both up to the pass in the second.
+const PICTURE: &[u8] = b"<rect width='100%' height='100%' fill='#fff'/>
+<text class='n' x='70' y='24'>000</text><line class='l' x1='70' y1='32' x2='70' y2='94'/>
+<text class='n' x='190' y='24'>001</text><line class='l' x1='190' y1='32' x2='190' y2='94'/>
+<path class='w' d='M70 36V70'/>
+<path class='w' d='M190 52V70'/>
+<path class='t' d='M70 70V88'/>
+<g class='k'><title>001 1 wait</title><path d='M190 52m-6 0h12'/><text x='200' y='56'>1 wait</text></g>
+<g class='g'><title>pass 000 1 001 2 015555</title><path d='M70 70H190'/><path class='f' d='M190 70l-8 -4v8z'/><text class='m' x='130' y='66'>015555</text><text class='e' x='62' y='74'>1</text><text x='200' y='74'>2</text></g>
+<g class='r'><title>000 2 run 1c .</title><circle class='f' cx='70' cy='88' r='3'/><text x='80' y='92'>2 .</text></g>
+</svg>
+";
+
+/// The causes of step 1 of node 001, and what a rollback of this step of node 000 would take.
+fn view(rewind: u32) -> View {
+    View {
+        cause: Some((NodeId::new(1), 1)),
+        rewind: Some((NodeId::new(0), rewind)),
+        from: 0,
+        to: u32::MAX,
+    }
+}
+
+/// Takes so many bytes, and then fails.
+#[derive(Drop)]
+struct Short {
+    room: usize,
+}
+
+impl Write for Short {
+    fn write(&mut self, buf: &[u8]) -> Result<usize> {
+        if self.room == 0 {
+            return Err(Error::from(ErrorKind::Other));
+        }
+        let count = self.room.min(buf.len());
+        self.room -= count;
+        Ok(count)
+    }
+
+    fn flush(&mut self) -> Result<()> {
+        Ok(())
+    }
+}
+
+#[test]
+fn three_events(rt: HostRuntime) -> std::result::Result<(), Fail> {
+    let mut reader = INPUT;
+    let mut output = Vec::new(rt.alloc());
+    let status = draw_session(rt.alloc(), &mut reader, &mut output, view(2));
+    assert_eq!(rt; status, Status::Done);
+    assert!(rt;
+        output.as_slice().starts_with(
+            b"<svg xmlns='http://www.w3.org/2000/svg' viewBox='0 0 290 106'"
+        )
+    );
+    assert!(rt; output.as_slice().ends_with(PICTURE));
+    Ok(())
+}
+
+#[test]
+fn no_such_step(rt: HostRuntime) -> std::result::Result<(), Fail> {
+    let mut reader = INPUT;
+    let mut output = Vec::new(rt.alloc());
+    let status = draw_session(rt.alloc(), &mut reader, &mut output, view(3));
+    assert_eq!(rt; status, Status::ImageRefused);
+    assert_eq!(rt; output.as_slice(), b"no 6 nostep\n".as_slice());
+    Ok(())
+}
+
+#[test]
+fn a_refused_image(rt: HostRuntime) -> std::result::Result<(), Fail> {
+    let mut reader = b"ga144 1\nnode 000\nx\nend\nstep 000\n".as_slice();
+    let mut output = Vec::new(rt.alloc());
+    let status = draw_session(rt.alloc(), &mut reader, &mut output, view(1));
+    assert_eq!(rt; status, Status::ImageRefused);
+    assert_eq!(rt; output.as_slice(), b"no 12 line line 3\n".as_slice());
+    Ok(())
+}
+
+#[test]
+fn a_write_fails(rt: HostRuntime) -> std::result::Result<(), Fail> {
+    for room in [0, 1, 1000] {
+        let mut reader = INPUT;
+        let mut writer = Short { room };
+        let status = draw_session(rt.alloc(), &mut reader, &mut writer, view(1));
+        assert_eq!(rt; status, Status::StreamFault, "after {room} bytes");
+    }
+    Ok(())
+}
