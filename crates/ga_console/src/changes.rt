@@ -10,6 +10,7 @@ use ga_lab::Lab;
 use std::io::Write;
 
 /// `step NNN`: makes the node's next event.
+#[inline(always)]
 pub fn step<W: Write>(
     lab: &mut Lab,
     node: NodeId,
