@@ -6,3 +6,6 @@ pub mod Looking
 pub mod Stepping
 pub mod Events
 pub mod Stuck
+pub mod Taking
+pub mod Freeing
+pub mod Telling

@@ -4,4 +4,7 @@ pub mod Near
 pub mod Ready
 pub mod Running
 pub mod Stuck
+pub mod Effects
+pub mod Freed
+pub mod Words
 pub mod kept

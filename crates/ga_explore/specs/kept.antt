@@ -1,2 +1,4 @@
+pub mod Effects
+pub mod Freed
 pub mod Numbers
 pub mod Ready

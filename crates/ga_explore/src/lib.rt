@@ -2,12 +2,18 @@
 #![tactic(auto)]
 
 mod condition;
+mod effects;
+mod freed;
 pub mod laws;
 mod numbers;
 mod ready;
 mod running;
 mod schedule;
+mod words;
 
 pub use condition::Condition;
+pub use effects::{Effect, Effects, find_effects};
+pub use freed::find_stuck;
 pub use running::{End, Ran, run};
 pub use schedule::{Order, Schedule};
+pub use words::{Sent, Words};

@@ -12,6 +12,8 @@ mod drawing;
 #[cfg(test)]
 mod event;
 #[cfg(test)]
+mod explore;
+#[cfg(test)]
 mod flow;
 #[cfg(test)]
 mod given;

@@ -1,0 +1,33 @@
+-- The words that went over a link (G144A12 Chip Reference DB002, links), numbered in their order.
+use Rattle.std.specs.Prelude.{ℕ, ◌+◌, ◌==◌, ◌&&◌, if◌then◌else◌, List, [], ◌∷◌, ◌++◌, drop}
+use Rattle.ga_event.specs.declared.made.Made.{Made}
+use Rattle.ga_event.specs.declared.made.Made.TheVariants as made
+use Rattle.ga_lab.specs.Machine.{State, history_of}
+use Rattle.ga_explore.specs.declared.words.Sent.{Sent}
+use Rattle.ga_explore.specs.declared.words.Words.{Words}
+
+-- the word that an event carried over a link, with this number; nothing where it carried none there
+abbrev pub carried_as : ℕ → ℕ → ℕ → Made → List Sent
+carried_as writer reader number (made.Own n k kind) = []
+carried_as writer reader number (made.Pass w k r j carried) =
+    if (w.number == writer) && (r.number == reader)
+    then record { number = number; writer_step = k; reader_step = j; word = carried } ∷ [] else []
+
+-- one where the event carried a word over the link
+abbrev pub one_over : ℕ → ℕ → Made → ℕ
+one_over writer reader (made.Own n k kind) = 0
+one_over writer reader (made.Pass w k r j carried) = if (w.number == writer) && (r.number == reader) then 1 else 0
+
+-- the words that these events carried, where so many came before
+abbrev pub words_after : ℕ → ℕ → ℕ → List Made → List Sent
+words_after writer reader before [] = []
+words_after writer reader before (told ∷ rest) =
+    carried_as writer reader (before + 1) told ++ words_after writer reader (before + one_over writer reader told) rest
+
+-- the words that went from one node to another, of all events that are kept
+abbrev pub words_of : State → ℕ → ℕ → List Sent
+words_of s writer reader = words_after writer reader 0 (history_of s writer)
+
+-- those that were not told yet
+abbrev pub words_left : State → Words → List Sent
+words_left s words = words_after words.writer.number words.reader.number words.before (drop words.place (history_of s words.writer.number))

@@ -1,0 +1,33 @@
+//! The words that went over a link.
+
+ghost use Rattle.std.specs.Prelude.{◌≤◌};
+
+use ga_grid::NodeId;
+use ga_word::Word18;
+
+mod telling;
+
+/// A word that went over a link.
+#[derive(Clone, Copy, PartialEq, Eq, Debug)]
+pub struct Sent {
+    /// Which of the words over this link, from 1 on.
+    pub number: u32,
+    /// The step of the writer.
+    pub writer_step: u32,
+    /// The step of the reader.
+    pub reader_step: u32,
+    /// The word.
+    pub word: Word18,
+}
+
+/// The words that went from one node to another, told one after another. It is to be asked with one lab, of which nothing is taken
+/// back meanwhile.
+#[derive(Clone, Copy, PartialEq, Eq, Debug)]
+pub struct Words {
+    writer: NodeId,
+    reader: NodeId,
+    // How many of the writer's steps were read, and how many words were among them.
+    place: u32,
+    before: u32,
+    ghost fits: { before ≤ place },
+}

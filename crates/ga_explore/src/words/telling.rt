@@ -1,0 +1,79 @@
+//! Telling the words that went over a link one after another.
+
+ghost use Rattle.std.specs.Prelude.{◌≡◌, option_to_list};
+ghost use Rattle.ga_explore.specs.Words.{carried_as};
+
+use super::{Sent, Words};
+use ga_grid::NodeId;
+use ga_lab::{Lab, Made};
+
+// The word that an event carried over the link, with this number.
+fn sent_as(made: &Made, writer: NodeId, reader: NodeId, number: u32) -> Option<Sent>
+    ensures { option_to_list result ≡ carried_as writer.number reader.number number made.now }
+{
+    match made {
+        Made::Own { .. } => None,
+        Made::Pass {
+            writer: from,
+            writer_step,
+            reader: to,
+            reader_step,
+            word,
+        } => {
+            if from.number == writer.number && to.number == reader.number {
+                Some(Sent {
+                    number,
+                    writer_step: *writer_step,
+                    reader_step: *reader_step,
+                    word: *word,
+                })
+            } else {
+                None
+            }
+        }
+    }
+}
+
+impl Words {
+    ghost use Rattle.std.specs.Prelude.{◌≡◌, ◌++◌, [], option_to_list, IfNone};
+    ghost use Rattle.ga_lab.specs.Machine.{State};
+    ghost use Rattle.ga_explore.specs.Words.{words_of, words_left};
+
+    /// All words from the writer to the reader, of which none is told yet.
+    pub fn new(writer: NodeId, reader: NodeId) -> Self
+        ensures { (s : State) → words_left s result ≡ words_of s writer.number reader.number }
+    {
+        Words {
+            writer,
+            reader,
+            place: 0,
+            before: 0,
+        }
+    }
+
+    /// The next word; none where all are told. Takes time by the writer's steps between the words.
+    pub fn next(&mut self, lab: &Lab) -> Option<Sent>
+        ensures word { words_left lab.now self.old ≡ option_to_list result ++ words_left lab.now self.new }
+        ensures end { IfNone result (words_left lab.now self.old ≡ []) }
+    {
+        let (writer, reader, before) = (self.writer, self.reader, self.before);
+        let steps = lab.steps(writer);
+        for place in self.place..steps {
+            match lab.told(writer, place) {
+                Some(made) => {
+                    if let Some(sent) = sent_as(&made, writer, reader, before + 1) {
+                        *self = Words {
+                            writer,
+                            reader,
+                            place: place + 1,
+                            before: before + 1,
+                        };
+                        return Some(sent);
+                    }
+                }
+                None => return None,
+            }
+        }
+        None
+    }
+}
