@@ -10,9 +10,11 @@ mod causes;
 mod images;
 mod labs;
 mod outcome;
+mod page;
 mod pictures;
 mod sessions;
 mod shared;
+mod sources;
 mod turns;
 
 use outcome::Outcome;
@@ -91,6 +93,9 @@ fn run_of<R: Threads + Wait + Sync>(rt: &R, alloc: Global, run: &str) -> Outcome
         "shared-broken-off" => shared::calls_broken_off(rt, alloc),
         "race" => shared::race_of_one(rt, alloc),
         "race-report" => shared::report_of_one(rt, alloc),
+        "asm" => sources::assembled(alloc),
+        "list" => sources::listed(alloc),
+        "dis" => sources::disassembled(alloc),
         "arguments" => shared::command_line(alloc),
         _ => Outcome::Wrong("there is no such run"),
     }

@@ -5,15 +5,13 @@ ghost use Rattle.std.specs.Prelude.{◌≡◌, ◌<◌, ◌^◌, All, IfOk, vec_
 use crate::images::SENDER_AND_TAKER;
 use crate::labs::{LIMIT, linked};
 use crate::outcome::Outcome;
-use arrayvec::ArrayVec;
+use crate::page::Page;
 use ga_console::{LineFault, Settings, Status, arguments, race_report};
 use ga_grid::NodeId;
 use ga_lab::Made;
 use ga_node::Kind;
 use ga_shared::{Answer, Call, Closed, Free, RaceFault, Receipt, Seat, Shared, race};
 use std::alloc::{AllocError, Global};
-use std::io;
-use std::io::Write;
 use std::marker::Brand;
 use std::sync::Wait;
 use std::sync::ledger::{Blank, Ledger};
@@ -186,14 +184,11 @@ fn one_list(alloc: Global) -> Result<Vec<Vec<Call>>, AllocError>
 /// The report of a race of one worker. Nothing is written where it is not finished.
 pub fn report_of_one<R: Threads + Wait + Sync>(rt: &R, alloc: Global) -> Outcome {
     let mut reader = SENDER_AND_TAKER;
-    let mut writer = Page {
-        text: ArrayVec::new(),
-    };
+    let mut writer = Page::new();
     let status = race_report(rt, alloc, &mut reader, &mut writer, 1, 8, LIMIT);
-    let text = writer.text.as_slice();
-    if status == Status::NotFinished && text.is_empty() {
+    if status == Status::NotFinished && writer.holds(b"") {
         Outcome::Refused("race")
-    } else if status == Status::Done && text == b"calls 8\nmade 7\nkept 7\n".as_slice() {
+    } else if status == Status::Done && writer.holds(b"calls 8\nmade 7\nkept 7\n") {
         Outcome::Answered
     } else {
         Outcome::Wrong("another report")
@@ -208,24 +203,5 @@ pub fn command_line(alloc: Global) -> Outcome {
         Ok(_) => Outcome::Wrong("other settings"),
         Err(LineFault::Refused) => Outcome::Refused("command line"),
         Err(LineFault::Help(_)) => Outcome::Wrong("help"),
-    }
-}
-
-/// Keeps what is written, without memory of its own.
-#[derive(Drop)]
-struct Page {
-    text: ArrayVec<u8, 256>,
-}
-
-impl Write for Page {
-    fn write(&mut self, buf: &[u8]) -> io::Result<usize> {
-        if self.text.try_extend_from_slice(buf).is_err() {
-            return Ok(0);
-        }
-        Ok(buf.len())
-    }
-
-    fn flush(&mut self) -> io::Result<()> {
-        Ok(())
     }
 }
