@@ -4,7 +4,7 @@
 files.py FILE..: prints what the machine answers to each.
 files.py --compare FILE..: compares that with FILE.stdout. A file is skipped where FILE.stdout says that its image is refused or
 that one of its lines is no command; just such a file may not be read here.
-The limit is N for a file in a folder limit-N.
+The limit is N for a file in a folder limit-N. A session in a folder explore is one of `ga144 explore`.
 """
 
 import os
@@ -12,6 +12,7 @@ import re
 import sys
 from itertools import zip_longest
 
+from explore import Explorer
 from machine import Machine, NODES, name
 from node import Node, SIDES, WORD
 from sessions import DEFAULT_LIMIT
@@ -77,6 +78,9 @@ def load_of(lines):
 
 
 def answer(machine, line):
+    explored = machine.explored(line) if isinstance(machine, Explorer) else None
+    if explored is not None:
+        return explored
     demand(re.fullmatch(COMMAND, line), line)
     command, *words = line.split(" ")
     if command == "mem":
@@ -94,7 +98,8 @@ def answers_of(path):
     with open(path, encoding="latin-1", newline="") as file:
         lines = file.read().removesuffix("\n").split("\n")
     past = lines.index("end") + 1 if "end" in lines else len(lines)
-    machine = Machine(load_of(lines[:past]), limit)
+    kind = Explorer if "explore" in path.split(os.sep) else Machine
+    machine = kind(load_of(lines[:past]), limit)
     commands = lines[past:]
     if "quit" in commands:
         commands = commands[: commands.index("quit")]

@@ -1,6 +1,6 @@
-//! `ga144 debug`: a session with a GA144 over standard input and output. `ga144 race`: workers that race for its nodes.
-//! `ga144 asm`, `ga144 list`, `ga144 dis`: source made into an image, listed, and made of an image. `ga144 draw`: a session's
-//! picture.
+//! `ga144 debug`: a session with a GA144 over standard input and output. `ga144 explore`: one that runs up to a condition.
+//! `ga144 race`: workers that race for its nodes. `ga144 draw`: a session's picture.
+//! `ga144 asm`, `ga144 list`, `ga144 dis`: source made into an image, listed, and made of an image.
 #![tactic(auto)]
 
 ghost use Rattle.std.specs.Prelude.{IfOk};
@@ -12,12 +12,14 @@ use ga_console::{
 };
 use ga_draw::draw_session;
 use ga_drawing::View;
+use ga_exploring::explore;
 use std::process::ExitCode;
 use std::{env, io};
 
 fn main(rt: HostRuntime) -> ExitCode {
     match settings(&rt) {
         Ok(Settings::Debug { limit }) => debug(&rt, limit),
+        Ok(Settings::Explore { limit }) => exploring(&rt, limit),
         Ok(
             Settings::Race {
                 workers,
@@ -87,6 +89,13 @@ fn debug(rt: &HostRuntime, limit: u32) -> ExitCode {
     let mut reader = rt.stdin();
     let mut writer = rt.stdout();
     exit(rt, session(rt.alloc(), &mut reader, &mut writer, limit))
+}
+
+/// Serves a session of exploring over the standard streams.
+fn exploring(rt: &HostRuntime, limit: u32) -> ExitCode {
+    let mut reader = rt.stdin();
+    let mut writer = rt.stdout();
+    exit(rt, explore(rt.alloc(), &mut reader, &mut writer, limit))
 }
 
 /// Makes an image of the source on standard input.

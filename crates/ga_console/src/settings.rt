@@ -28,6 +28,28 @@ Commands (NNN is a node, three decimal digits; K a step, counted from 1; HH two 
 
 Exit status: 0 done, 1 image refused, 2 a stream failed, 3 command line refused.";
 
+/// What `ga144 explore --help` says behind the options.
+const EXPLORING: &str = "\
+Reads from standard input what ga144 debug reads, an image and then commands, and knows each command of that. So a person at a
+terminal types: cat IMAGE - | ga144 explore
+
+Further commands (N is a number of events; NNN and MMM are nodes, K a step, HH two and W and X six hexadecimal digits):
+  run [N] [until COND]   make events in rounds: each node that has an event makes one, in the order of their names
+  run greedy ..          each node as far as it goes
+  run random SEED ..     nodes drawn by a generator with this seed
+  chip                   show what each node does
+  help                   show the commands
+
+COND is one of:
+  pass NNN MMM = W       the word W went from NNN to MMM
+  step NNN K             step K of NNN was made
+  stop, stop NNN         a node, or NNN, stopped
+  wait NNN               NNN came to wait
+  mem NNN HH = W         the word of its memory is W
+  p NNN X                its P is X
+
+Exit status: 0 done, 1 image refused, 2 a stream failed, 3 command line refused.";
+
 /// What `ga144 race --help` says behind the options.
 const RACES: &str = "\
 Reads an image (lines `ga144 1` to `end`) from standard input. Worker w, from 0 on, steps the node with the number w.
@@ -71,6 +93,10 @@ const NOTATION: &str = "Source, words apart by blanks, tabs and line ends:
 pub enum Settings {
     /// Serve a session that keeps up to this many events, 1 to 4000000.
     Debug {
+        limit: u32,
+    },
+    /// Serve a session of exploring that keeps up to this many events, 1 to 4000000.
+    Explore {
         limit: u32,
     },
     /// Run 1 to 16 workers, of which each makes 1 to 100000 calls, over a chip that keeps up to this many events, 1 to 4000000.
@@ -136,6 +162,10 @@ fn program<'a>(alloc: Global) -> Result<Command<'a>, AllocError> {
         .about("Load an image, step its nodes, and take any step back with all that depends on it")
         .after_help(COMMANDS)
         .arg(limit_option(alloc))?;
+    let explorer = Command::new(alloc, "explore")
+        .about("Debug, and make events up to a condition")
+        .after_help(EXPLORING)
+        .arg(limit_option(alloc))?;
     let race = Command::new(alloc, "race")
         .about("Let workers step the nodes at the same time")
         .after_help(RACES)
@@ -181,6 +211,7 @@ fn program<'a>(alloc: Global) -> Result<Command<'a>, AllocError> {
     Command::new(alloc, "ga144")
         .about("Simulates the GreenArrays GA144, with a debugger that takes steps back")
         .subcommand(debug)?
+        .subcommand(explorer)?
         .subcommand(race)?
         .subcommand(assembler)?
         .subcommand(list)?
@@ -217,6 +248,9 @@ fn chosen(matches: &ArgMatches<'_>) -> Result<Settings, LineFault>
     match matches.subcommand() {
         Some(("debug", debug)) => Ok(Settings::Debug {
             limit: limit(debug)?,
+        }),
+        Some(("explore", explorer)) => Ok(Settings::Explore {
+            limit: limit(explorer)?,
         }),
         Some(("race", race)) => {
             let workers = number(race.get_str("workers"), MOST_WORKERS)?;

@@ -11,7 +11,7 @@ struct CommandLine {
 }
 
 /// The command lines with what they ask for.
-fn lines() -> [CommandLine; 23] {
+fn lines() -> [CommandLine; 26] {
     [
         CommandLine {
             words: &["ga144", "debug"],
@@ -100,6 +100,18 @@ fn lines() -> [CommandLine; 23] {
         },
         CommandLine {
             words: &["ga144", "race", "--workers", "1"],
+            settings: None,
+        },
+        CommandLine {
+            words: &["ga144", "explore"],
+            settings: Some(Settings::Explore { limit: 1_000_000 }),
+        },
+        CommandLine {
+            words: &["ga144", "explore", "--limit", "7"],
+            settings: Some(Settings::Explore { limit: 7 }),
+        },
+        CommandLine {
+            words: &["ga144", "explore", "--limit", "4000001"],
             settings: None,
         },
         CommandLine {

@@ -1,0 +1,5 @@
+pub mod Apart
+pub mod Done
+pub mod LineAnswers
+pub mod Rows
+pub mod Told

@@ -1,0 +1,56 @@
+-- How exploring answers a line, of which the first bytes are here.
+use Rattle.std.proofs.Common.{◌≡◌, ◌≢◌, ◌≤◌, ℕ, List, take, length, Some, None, sym, ap, ◌∙◌, arith, rules, length-take, Result, Ok, Err}
+use Rattle.std.specs.Result.{IsErr}
+use Rattle.std.proofs.lemmas.List.{take_all}
+use Rattle.ga_lab.specs.Machine.{State}
+use Rattle.ga_console.specs.Replies.{Answer}
+use Rattle.ga_console.specs.kept.Turns.{Turns, AnswersLine}
+use Rattle.ga_console.specs.Turns.{quit_line}
+use Rattle.ga_console.specs.declared.command.Command.TheVariants.{Quit}
+use Rattle.ga_console.specs.declared.output.WriteFailed.{WriteFailed}
+use Rattle.ga_console.specs.declared.responder.Turn.{Turn}
+use Rattle.ga_console.specs.declared.responder.Turn.TheVariants as turn
+use Rattle.ga_exploring.specs.Reading.{request_in}
+use Rattle.ga_exploring.specs.Answers.{Explores, Explored}
+use Rattle.ga_exploring.specs.Answers.Explores.{explored, debugged}
+use Rattle.ga_exploring.specs.declared.request.Request.{Request}
+use Rattle.ga_exploring.proofs.Apart.{debugger_alone}
+
+whole : (line part : List ℕ) → line ≡ take 201 part → length line ≤ 200 → part ≡ line
+whole line part e h = sym (e ∙ take_all 201 part (omega (arith, ap length e, length-take 201 part)))
+
+short : (line part : List ℕ) → line ≡ take 201 part → length part ≤ 200 → length line ≤ 200
+short line part e h = omega (arith, ap length e, length-take 201 part)
+
+none_some : (asked : Request) → None ≡ Some asked → ⊥
+none_some asked e = absurd cc
+
+not_quit : (line : List ℕ) (asked : Request) → request_in line ≡ Some asked → line ≢ quit_line
+not_quit line asked found = λ q. none_some asked (sym (debugger_alone Quit line q) ∙ found)
+
+-- it spells a command of exploring
+pub explored_line : (s : State) (line : List ℕ) (asked : Request) (answer : List ℕ) (new : State) → length line ≤ 200 → request_in line ≡ Some asked
+    → Explored s asked answer new → AnswersLine Explores s line answer new
+explored_line s line asked answer new fits found done = λ part kept.
+    let same : part ≡ line = whole line part kept fits in
+    let spelled : request_in part ≡ Some asked = ap request_in same ∙ found in
+    (explored asked (omega (arith, fits, ap length same)) spelled done, not_quit part asked spelled)
+
+-- it spells none
+debugged_line : (s : State) (line answer : List ℕ) (new : State) → (length line ≤ 200 → request_in line ≡ None)
+    → AnswersLine Answer s line answer new → AnswersLine Explores s line answer new
+debugged_line s line answer new none done = λ part kept.
+    let answered = done part kept in
+    (debugged (λ fits. let within : length line ≤ 200 = short line part kept fits in ap request_in (whole line part kept within) ∙ none within) answered.0, answered.1)
+
+pub debugged_turn : (s : State) (line : List ℕ) (new : State) (result : Result Turn WriteFailed) (answer : List ℕ) → (length line ≤ 200 → request_in line ≡ None)
+    → Turns Answer s line new result answer → Turns Explores s line new result answer
+debugged_turn s line new (Ok turn.Answered) answer none done = debugged_line s line answer new none done
+debugged_turn s line new (Ok turn.Quit) answer none done = done
+debugged_turn s line new (Err failed) answer none done = debugged_line s line answer new none done
+
+-- a failed write changes nothing of what the answer is
+pub explored_err : (s : State) (line : List ℕ) (new : State) (result : Result Turn WriteFailed) (answer : List ℕ) → IsErr result
+    → AnswersLine Explores s line answer new → Turns Explores s line new result answer
+explored_err s line new (Ok turn) answer is h = absurd (search rules)
+explored_err s line new (Err why) answer is h = h

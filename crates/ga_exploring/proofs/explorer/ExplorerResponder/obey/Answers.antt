@@ -1,0 +1,14 @@
+use Rattle.std.proofs.Common.{subst}
+use Rattle.ga_console.specs.Replies.{Answer}
+use Rattle.ga_exploring.specs.Answers.Explores.{debugged}
+use Rattle.ga_exploring.proofs.Apart.{debugger_alone}
+use Rattle.ga_exploring.proofs.explorer.ExplorerResponder.obey.Goals as goal
+
+pub returns : goal.returns
+returns g c = λ before said h.
+    let done = c.obey.ensures before said h in (
+      done.0,
+      λ line short spelled. debugged (λ fits. debugger_alone c.args.command line spelled)
+          (subst (λ s. Answer s line done.0 c.obey.new.self) c.self.view_is (done.1 line short spelled)),
+      done.2,
+    )

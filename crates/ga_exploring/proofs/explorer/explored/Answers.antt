@@ -1,0 +1,31 @@
+use Rattle.std.proofs.Common.{◌∙◌}
+use Rattle.ga_exploring.specs.Texts.{run_text, chip_text, help_text}
+use Rattle.ga_exploring.proofs.Done.{run_done, chip_done, help_done}
+use Rattle.ga_exploring.proofs.Told.{told_as}
+use Rattle.ga_exploring.proofs.explorer.explored.Goals as goal
+
+pub returns-in-Run : goal.returns-in-Run
+returns-in-Run g c = λ before said h.
+    let ran = c.run-ran.result in (
+      run_text ran.events ran.end,
+      run_done c.args.lab.now c.args.asked c.in-Run.schedule c.in-Run.most c.from.result c.in-Run.until ran.events ran.end c.run-ran.new.lab
+          c.in-Run.is c.from.ensures c.run-ran.ensures.made c.run-ran.ensures.most c.run-ran.ensures.end c.run-ran.ensures.state,
+      told_as c.say_blocks.result _ before said c.as_slice.result.now (run_text ran.events ran.end) c.say_blocks.new.self
+          (c.as_slice.ensures.value ∙ c.ran_text.ensures) (c.say_blocks.ensures before said h),
+    )
+
+pub returns-in-Chip : goal.returns-in-Chip
+returns-in-Chip g c = λ before said h. (
+  chip_text c.args.lab.now,
+  chip_done c.args.lab.now c.args.asked c.in-Chip.is,
+  told_as c.say_blocks-in-Chip.result _ before said c.as_slice-in-Chip.result.now (chip_text c.args.lab.now) c.say_blocks-in-Chip.new.self
+      (c.as_slice-in-Chip.ensures.value ∙ c.glance.ensures) (c.say_blocks-in-Chip.ensures before said h),
+)
+
+pub returns-in-Help : goal.returns-in-Help
+returns-in-Help g c = λ before said h. (
+  help_text,
+  help_done c.args.lab.now c.args.asked c.in-Help.is,
+  told_as c.say_blocks-in-Help.result _ before said c.help.result.now help_text c.say_blocks-in-Help.new.self
+      c.help.ensures (c.say_blocks-in-Help.ensures before said h),
+)

@@ -1,0 +1,175 @@
+-- The commands of exploring, and how a line is read as one: words with one space between two of them (docs/REFERENCE.md,
+-- "Exploring"; this project's own). Nodes and numbers are spelled as in the debugger's commands.
+use Rattle.std.specs.Prelude.{ℕ, ◌+◌, ◌*◌, ◌^◌, nat_eq, nat_lt, if◌then◌else◌, List, [], ◌∷◌, codes, Option, Some, None, option_map}
+use Rattle.std.specs.Cmp.Lexicographic.{pointwise}
+use Rattle.ga_image.specs.Steps.{◌>>=◌}
+use Rattle.ga_console.specs.Parsing.{cut, node_in, number_in, byte_in}
+use Rattle.ga_explore.specs.Schedules.{in_rounds, greedily, at_random}
+use Rattle.ga_explore.specs.declared.schedule.Schedule.{Schedule}
+use Rattle.ga_explore.specs.declared.condition.Condition.{Condition}
+use Rattle.ga_explore.specs.declared.condition.Condition.TheVariants.{Never, Passes, Steps, Stops, StopsAt, WaitsAt, Holds, ComesTo}
+use Rattle.ga_exploring.specs.declared.request.Request.{Request}
+use Rattle.ga_exploring.specs.declared.request.Request.TheVariants.{Run, Chip, Help}
+
+-- how many events are made at most where no number is given
+abbrev pub most_events : ℕ
+most_events = 4294967295
+
+-- ---- a condition
+
+-- a number that fits in a word
+abbrev pub in_word : ℕ → Option ℕ
+in_word n = if nat_lt n (2 ^ 18) then Some n else None
+
+-- a word of six hexadecimal digits, in either case
+unfoldable pub word_in : List ℕ → Option ℕ
+word_in (a ∷ b ∷ c ∷ d ∷ e ∷ f ∷ []) = do
+  high ← byte_in (a ∷ b ∷ [])
+  middle ← byte_in (c ∷ d ∷ [])
+  low ← byte_in (e ∷ f ∷ [])
+  in_word (65536 * high + 256 * middle + low)
+word_in _ = None
+
+-- `= W`
+unfoldable pub equal_in : List ℕ → Option ℕ
+equal_in text = do
+  parts ← cut text
+  if pointwise nat_eq parts.0 (codes "=") then word_in parts.1 else None
+
+-- `NNN K`
+unfoldable pub steps_in : List ℕ → Option Condition
+steps_in text = do
+  parts ← cut text
+  node ← node_in parts.0
+  step ← number_in parts.1
+  Some (Steps node step)
+
+-- `NNN MMM = W`
+unfoldable pub passes_in : List ℕ → Option Condition
+passes_in text = do
+  first ← cut text
+  second ← cut first.1
+  writer ← node_in first.0
+  reader ← node_in second.0
+  word ← equal_in second.1
+  Some (Passes writer reader word)
+
+-- `NNN HH = W`
+unfoldable pub holds_in : List ℕ → Option Condition
+holds_in text = do
+  first ← cut text
+  second ← cut first.1
+  node ← node_in first.0
+  address ← byte_in second.0
+  word ← equal_in second.1
+  Some (Holds node address word)
+
+-- `NNN X`
+unfoldable pub comes_in : List ℕ → Option Condition
+comes_in text = do
+  parts ← cut text
+  node ← node_in parts.0
+  address ← word_in parts.1
+  Some (ComesTo node address)
+
+-- a condition of one word
+unfoldable pub lone_condition : List ℕ → Option Condition
+lone_condition name = if pointwise nat_eq name (codes "stop") then Some Stops else None
+
+-- a condition of a word and what stands behind it
+unfoldable pub named_condition : List ℕ → List ℕ → Option Condition
+named_condition name text =
+    if pointwise nat_eq name (codes "stop") then option_map StopsAt (node_in text)
+    else if pointwise nat_eq name (codes "wait") then option_map WaitsAt (node_in text)
+    else if pointwise nat_eq name (codes "step") then steps_in text
+    else if pointwise nat_eq name (codes "pass") then passes_in text
+    else if pointwise nat_eq name (codes "mem") then holds_in text
+    else if pointwise nat_eq name (codes "p") then comes_in text
+    else None
+
+abbrev pub condition_by : Option (List ℕ × List ℕ) → List ℕ → Option Condition
+condition_by None text = lone_condition text
+condition_by (Some parts) text = named_condition parts.0 parts.1
+
+abbrev pub condition_in : List ℕ → Option Condition
+condition_in text = condition_by (cut text) text
+
+-- ---- `run`
+
+abbrev pub run_until : Schedule → ℕ → List ℕ → Option Request
+run_until schedule most text = option_map (Run schedule most) (condition_in text)
+
+-- `until COND` behind a number
+unfoldable pub until_in : Schedule → ℕ → List ℕ → Option Request
+until_in schedule most text = do
+  parts ← cut text
+  if pointwise nat_eq parts.0 (codes "until") then run_until schedule most parts.1 else None
+
+-- `until COND`, or a number and `until COND`
+unfoldable pub bounded_by : Schedule → List ℕ → List ℕ → Option Request
+bounded_by schedule name text =
+    if pointwise nat_eq name (codes "until") then run_until schedule most_events text
+    else (do
+      most ← number_in name
+      until_in schedule most text)
+
+abbrev pub bounded_cut : Option (List ℕ × List ℕ) → Schedule → List ℕ → Option Request
+bounded_cut None schedule text = option_map (λ most. Run schedule most Never) (number_in text)
+bounded_cut (Some parts) schedule text = bounded_by schedule parts.0 parts.1
+
+-- a number, `until COND`, or both
+abbrev pub bounded_in : Schedule → List ℕ → Option Request
+bounded_in schedule text = bounded_cut (cut text) schedule text
+
+abbrev pub seeded_cut : Option (List ℕ × List ℕ) → List ℕ → Option Request
+seeded_cut None text = option_map (λ seed. Run (at_random seed) most_events Never) (number_in text)
+seeded_cut (Some parts) text = do
+  seed ← number_in parts.0
+  bounded_in (at_random seed) parts.1
+
+-- a seed, and what bounds the run
+abbrev pub seeded_in : List ℕ → Option Request
+seeded_in text = seeded_cut (cut text) text
+
+-- an order of one word, or what bounds a run in rounds
+unfoldable pub lone_order : List ℕ → Option Request
+lone_order text = if pointwise nat_eq text (codes "greedy") then Some (Run greedily most_events Never) else bounded_in in_rounds text
+
+-- an order with what stands behind it, or what bounds a run in rounds
+unfoldable pub named_order : List ℕ → List ℕ → List ℕ → Option Request
+named_order name rest text =
+    if pointwise nat_eq name (codes "greedy") then bounded_in greedily rest
+    else if pointwise nat_eq name (codes "random") then seeded_in rest
+    else bounded_in in_rounds text
+
+abbrev pub run_by : Option (List ℕ × List ℕ) → List ℕ → Option Request
+run_by None text = lone_order text
+run_by (Some parts) text = named_order parts.0 parts.1 text
+
+-- what stands behind `run`
+abbrev pub run_in : List ℕ → Option Request
+run_in text = run_by (cut text) text
+
+-- ---- a line
+
+-- a command of one word
+unfoldable pub lone_request : List ℕ → Option Request
+lone_request name =
+    if pointwise nat_eq name (codes "run") then Some (Run in_rounds most_events Never)
+    else if pointwise nat_eq name (codes "chip") then Some Chip
+    else if pointwise nat_eq name (codes "help") then Some Help
+    else None
+
+-- a command of a word and what stands behind it
+unfoldable pub named_request : List ℕ → List ℕ → Option Request
+named_request name text =
+    if pointwise nat_eq name (codes "run") then run_in text
+    else None
+
+abbrev pub request_by : Option (List ℕ × List ℕ) → List ℕ → Option Request
+request_by None line = lone_request line
+request_by (Some parts) line = named_request parts.0 parts.1
+
+-- the command of exploring that a line spells, where it spells one
+abbrev pub request_in : List ℕ → Option Request
+request_in line = request_by (cut line) line

@@ -1,0 +1,78 @@
+-- The texts of exploring's answers, each line ended by a line feed (docs/REFERENCE.md, "Exploring"; this project's own).
+use Rattle.std.specs.Prelude.{ℕ, zero, suc, ◌+◌, ◌*◌, ◌==◌, nat_lt, if◌then◌else◌, List, [], ◌++◌, codes, decimal}
+use Rattle.ga_ports.specs.Address.{only}
+use Rattle.ga_node.specs.declared.wait.Wait.{Wait}
+use Rattle.ga_node.specs.declared.wait.Wait.TheVariants as wait
+use Rattle.ga_grid.specs.Chip.{record_at}
+use Rattle.ga_event.specs.Told.{steps_of}
+use Rattle.ga_lab.specs.Machine.{State, chip_of}
+use Rattle.ga_lab.specs.declared.fault.LabFault.{LabFault}
+use Rattle.ga_lab.specs.declared.fault.LabFault.TheVariants.{Waiting, Stopped, Full, Memory, Empty, NoStep, Spent}
+use Rattle.ga_explore.specs.declared.running.End.{End}
+use Rattle.ga_explore.specs.declared.running.End.TheVariants.{Reached, Made, Quiet, Refused}
+use Rattle.ga_console.specs.Texts.{made_text}
+
+-- ---- `run`
+
+-- why a step was refused
+abbrev pub fault_word : LabFault → List ℕ
+fault_word Waiting = codes "waiting "
+fault_word Stopped = codes "stopped "
+fault_word Full = codes "full "
+fault_word Memory = codes "memory "
+fault_word Empty = codes "empty "
+fault_word NoStep = codes "nostep "
+fault_word Spent = codes "spent "
+
+-- how many events were made, and why no more
+abbrev pub run_text : ℕ → End → List ℕ
+run_text events (Reached made) = codes "reached " ++ decimal events ++ codes " " ++ made_text made
+run_text events Made = codes "made " ++ decimal events ++ codes "\n"
+run_text events Quiet = codes "quiet " ++ decimal events ++ codes "\n"
+run_text events (Refused why) = fault_word why ++ decimal events ++ codes "\n"
+
+-- ---- `chip`
+
+-- the letter of a set's side, where it has one alone
+abbrev pub side_letter : ℕ → List ℕ
+side_letter sides =
+    if sides == 8 then codes "r"
+    else if sides == 4 then codes "d"
+    else if sides == 2 then codes "l"
+    else if sides == 1 then codes "u"
+    else codes "+"
+
+-- what a node does: it waits for code, reads or writes, by the side; runs; or is stopped
+abbrev pub doing_text : Wait → ℕ → List ℕ
+doing_text (wait.Fetch sides) stop = codes " @" ++ side_letter sides
+doing_text (wait.Read sides) stop = codes " ?" ++ side_letter sides
+doing_text (wait.Write side) stop = codes " !" ++ side_letter (only side)
+doing_text wait.Nothing stop = if stop == 0 then codes "  *" else codes "  x"
+
+-- of a node that made no step, that it is as at load
+abbrev pub cell_text : State → ℕ → List ℕ
+cell_text s n =
+    if nat_lt (steps_of n s.kept) 1 then codes "  ."
+    else doing_text (record_at (chip_of s) n).wait (record_at (chip_of s) n).stop
+
+-- so many nodes of a row, from this one on
+unfoldable pub cells_text : State → ℕ → ℕ → List ℕ
+cells_text s n zero = []
+cells_text s n (suc more) = cell_text s n ++ cells_text s (n + 1) more
+
+-- a row: its number and its eighteen nodes
+abbrev pub row_text : State → ℕ → List ℕ
+row_text s row = decimal row ++ cells_text s (18 * row) 18 ++ codes "\n"
+
+-- the rows below this one, the upmost first
+unfoldable pub rows_text : State → ℕ → List ℕ
+rows_text s zero = []
+rows_text s (suc row) = row_text s row ++ rows_text s row
+
+abbrev pub chip_text : State → List ℕ
+chip_text s = rows_text s 8
+
+-- ---- `help`
+
+abbrev pub help_text : List ℕ
+help_text = codes "run [N] [until COND]  make up to N events, in rounds\nrun greedy ..         each node as far as it goes\nrun random SEED ..    nodes drawn by a generator\nCOND: pass NNN MMM = W, step NNN K, stop, stop NNN, wait NNN, mem NNN HH = W, p NNN X\nchip                  what each node does\nhelp                  these lines\nand the commands of debug: step back rewind node mem trace why count dump quit\n"

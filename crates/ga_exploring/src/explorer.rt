@@ -1,0 +1,128 @@
+//! The session of exploring.
+
+ghost use Rattle.std.specs.Prelude.{◌≡◌, ◌++◌, ◌≤◌, ℕ, List, length, Some, None, IfSome, IfNone};
+ghost use Rattle.ga_console.specs.kept.Output.{Says};
+ghost use Rattle.ga_console.specs.Run.{RunsBy};
+ghost use Rattle.ga_exploring.specs.Reading.{request_in};
+ghost use Rattle.ga_exploring.specs.Answers.{Explores, Explored};
+
+use crate::chip_text::glance;
+use crate::help::help;
+use crate::request::{Request, request_of};
+use crate::run_text::ran_text;
+use ga_console::{Command, Line, Output, Responder, Status, Turn, WriteFailed, session_with};
+use ga_explore::run;
+use ga_image::LINE_LIMIT;
+use ga_lab::Lab;
+use std::alloc::Global;
+use std::io::{Read, Write};
+use std::marker::Model;
+
+/// A lab that is explored.
+#[derive(Drop)]
+pub struct Explorer {
+    lab: Lab,
+}
+
+impl Model for Explorer {
+    ghost use Rattle.ga_lab.specs.Machine.{State};
+
+    ghost Value = { State };
+
+    ghost view = { λ e. e.lab };
+}
+
+impl Responder for Explorer {
+    ghost use Rattle.ga_exploring.specs.Answers.{Explores};
+
+    ghost answers = { Explores };
+
+    ghost begin = { λ s. s };
+
+    fn open(lab: Lab) -> Self {
+        Explorer { lab }
+    }
+
+    fn answer<W: Write>(
+        &mut self,
+        alloc: Global,
+        line: &Line,
+        output: &mut Output,
+        writer: &mut W,
+    ) -> Result<Turn, WriteFailed> {
+        match asked_by(line) {
+            Some(asked) => {
+                explored(&mut self.lab, asked, output, writer)?;
+                Ok(Turn::Answered)
+            }
+            None => self.lab.answer(alloc, line, output, writer),
+        }
+    }
+
+    #[inline(always)]
+    fn obey<W: Write>(
+        &mut self,
+        alloc: Global,
+        command: Command,
+        output: &mut Output,
+        writer: &mut W,
+    ) -> Result<(), WriteFailed> {
+        self.lab.obey(alloc, command, output, writer)
+    }
+}
+
+/// The command of exploring that a line spells, where it is not too long.
+fn asked_by(line: &Line) -> Option<Request>
+    ensures some { IfSome result (λ asked. (length line.now.items ≤ LINE_LIMIT) × (request_in line.now.items ≡ Some asked)) }
+    ensures none { IfNone result (length line.now.items ≤ LINE_LIMIT → request_in line.now.items ≡ None) }
+{
+    if line.len() <= LINE_LIMIT {
+        request_of(line.as_slice())
+    } else {
+        None
+    }
+}
+
+/// Carries a command of exploring out.
+///
+/// # Errors
+/// A write failed.
+fn explored<W: Write>(
+    lab: &mut Lab,
+    asked: Request,
+    output: &mut Output,
+    writer: &mut W,
+) -> Result<(), WriteFailed>
+    ensures { Says result (λ text. Explored lab.old asked text lab.new)
+        (W.contents writer.old) output.old (W.contents writer.new) output.new }
+{
+    match asked {
+        Request::Run {
+            schedule,
+            most,
+            until,
+        } => {
+            let ran = run(lab, schedule, u64::from(most), &until);
+            output.say_blocks(writer, ran_text(&ran).as_slice())
+        }
+        Request::Chip => output.say_blocks(writer, glance(lab).as_slice()),
+        Request::Help => output.say_blocks(writer, help()),
+    }
+}
+
+/// Reads an image and then commands, and answers them as `ga_console::session` does. It knows the debugger's commands, and those
+/// of exploring besides.
+pub fn explore<R: Read, W: Write>(
+    alloc: Global,
+    reader: &mut R,
+    writer: &mut W,
+    limit: u32,
+) -> Status
+    // Where the streams tell their bytes: what was read, and what was written for it by the status.
+    ensures { (left before : List ℕ) →
+        R.remaining reader.old ≡ Some left → W.contents writer.old ≡ Some before →
+        (read rest text : List ℕ) × (left ≡ read ++ rest) × (R.remaining reader.new ≡ Some rest)
+        × (W.contents writer.new ≡ Some (before ++ text)) × RunsBy Explores (λ s. s) limit read rest text result }
+{
+    session_with::<Explorer, R, W>(alloc, reader, writer, limit)
+}

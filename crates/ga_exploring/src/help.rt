@@ -1,0 +1,11 @@
+//! The text of `help`.
+
+ghost use Rattle.std.specs.Prelude.{◌≡◌};
+ghost use Rattle.ga_exploring.specs.Texts.{help_text};
+
+/// What `help` answers.
+pub(crate) fn help() -> &'static [u8]
+    ensures { result.now ≡ help_text }
+{
+    b"run [N] [until COND]  make up to N events, in rounds\nrun greedy ..         each node as far as it goes\nrun random SEED ..    nodes drawn by a generator\nCOND: pass NNN MMM = W, step NNN K, stop, stop NNN, wait NNN, mem NNN HH = W, p NNN X\nchip                  what each node does\nhelp                  these lines\nand the commands of debug: step back rewind node mem trace why count dump quit\n"
+}
