@@ -14,7 +14,10 @@ use std::test::Fail;
 fn lab_of(alloc: Global, left: [u32; 5], right: [u32; 5]) -> Result<Lab, Fail> {
     let mut chip = Chip::new(alloc)?;
     for number in 2..144u8 {
-        chip.node_mut(NodeId::new(number)).set(Place::Stop, 1);
+        let node = chip.node_mut(NodeId::new(number));
+        // only a node that doesn't wait can be stopped, and at load none waits
+        node.set(Place::Wait, 0);
+        node.set(Place::Stop, 1);
     }
     load(&mut chip, NodeId::new(0), left);
     load(&mut chip, NodeId::new(1), right);
