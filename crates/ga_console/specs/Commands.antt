@@ -2,6 +2,7 @@
 -- project's own).
 use Rattle.std.specs.Prelude.{◌≡◌, ℕ, ◌^◌, ◌<◌, List, [], ◌∷◌, ◌++◌, codes, decimal}
 use Rattle.std.specs.Str.{str_to_ascii_lowercase}
+use Rattle.ga_image.specs.Lines.{Text, Line}
 use Rattle.ga_image.specs.Spelling.{hex2_of}
 use Rattle.ga_console.specs.Texts.{name_of}
 use Rattle.ga_console.specs.declared.command.Command.{Command}
@@ -12,24 +13,24 @@ abbrev pub IsNumber : ℕ → Type 0
 IsNumber k = k < 2 ^ 32
 
 -- an address has two hexadecimal digits, of either case
-pub record SpellsAddress (address : ℕ) (word : List ℕ) : Type 0 where
+pub record SpellsAddress (address : ℕ) (word : Text) : Type 0 where
   pub in_range : address < 256
   pub digits : str_to_ascii_lowercase word ≡ hex2_of address
 
 -- words with one space between two of them
-abbrev pub spaced : List (List ℕ) → List ℕ
+abbrev pub spaced : List Text → Text
 spaced [] = []
 spaced (word ∷ []) = word
 spaced (word ∷ more) = word ++ 32 ∷ spaced more
 
 -- the line spells the command; numbers are decimal, without leading zeros
-abbrev pub SpellsCommand : Command → List ℕ → Type 0
+abbrev pub SpellsCommand : Command → Line → Type 0
 SpellsCommand (Step node) line = line ≡ spaced (codes "step" ∷ name_of node ∷ [])
 SpellsCommand Back line = line ≡ codes "back"
 SpellsCommand (Rewind node k) line = IsNumber k × (line ≡ spaced (codes "rewind" ∷ name_of node ∷ decimal k ∷ []))
 SpellsCommand (Node node) line = line ≡ spaced (codes "node" ∷ name_of node ∷ [])
 SpellsCommand (Memory node address) line =
-    (word : List ℕ)
+    (word : Text)
     × SpellsAddress address word
     × (line ≡ spaced (codes "mem" ∷ name_of node ∷ word ∷ []))
 SpellsCommand (Trace node) line = line ≡ spaced (codes "trace" ∷ name_of node ∷ [])

@@ -1,9 +1,10 @@
 -- How much of an input is taken, and in which blocks.
 use Rattle.std.specs.Prelude.{ℕ, ◌+◌, ◌≤◌, List, length}
+use Rattle.ga_image.specs.Lines.{Bytes}
 
 -- what was read and is not taken yet, and how many bytes were taken
 pub record Unread : Type 0 where
-  pub bytes : List ℕ
+  pub bytes : Bytes
   pub taken : ℕ
 
 -- the most bytes that an input has

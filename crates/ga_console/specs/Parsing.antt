@@ -1,22 +1,23 @@
 -- Parsing a line: the command that it spells.
 use Rattle.std.specs.Prelude.{ℕ, ◌+◌, ◌*◌, ◌^◌, ◌==◌, nat_lt, if◌then◌else◌, List, [], ◌∷◌, Option, Some, None, option_map}
+use Rattle.ga_image.specs.Lines.{Text}
 use Rattle.ga_grid.specs.Grid.{node_of, node_id}
 use Rattle.ga_grid.specs.declared.node_id.NodeId.{NodeId}
 use Rattle.ga_image.specs.Digits.{decimal_digit, node_number, cell_number}
 use Rattle.ga_image.specs.Steps.{◌>>=◌}
 
 -- a byte more in front of the first part
-abbrev pub in_front : ℕ → Option (List ℕ × List ℕ) → Option (List ℕ × List ℕ)
+abbrev pub in_front : ℕ → Option (Text × Text) → Option (Text × Text)
 in_front b None = None
 in_front b (Some parts) = Some (b ∷ parts.0, parts.1)
 
 -- what stands before the first space, and what stands behind it
-abbrev pub cut : List ℕ → Option (List ℕ × List ℕ)
+abbrev pub cut : Text → Option (Text × Text)
 cut [] = None
 cut (b ∷ text) = if b == 32 then Some ([], text) else in_front b (cut text)
 
 -- the node of three decimal digits
-unfoldable pub node_in : List ℕ → Option NodeId
+unfoldable pub node_in : Text → Option NodeId
 node_in word = do
   yxx ← node_number word
   option_map node_id (node_of yxx)
@@ -34,19 +35,19 @@ with_digit n byte =
       fitting (10 * n + digit))
 
 -- with all of these digits more
-abbrev pub with_digits : ℕ → List ℕ → Option ℕ
+abbrev pub with_digits : ℕ → Text → Option ℕ
 with_digits n [] = Some n
 with_digits n (byte ∷ text) = do
   more ← with_digit n byte
   with_digits more text
 
 -- the number of decimal digits without leading zeros
-abbrev pub number_in : List ℕ → Option ℕ
+abbrev pub number_in : Text → Option ℕ
 number_in [] = None
 number_in (byte ∷ text) = do
   digit ← decimal_digit byte
   with_digits digit text
 
 -- the number of two hexadecimal digits
-abbrev pub byte_in : List ℕ → Option ℕ
+abbrev pub byte_in : Text → Option ℕ
 byte_in word = cell_number word

@@ -3,7 +3,7 @@ use Rattle.std.specs.Prelude.{◌≡◌, ℕ, ◌<◌, ◌*◌, ◌⊎◌, List,
 use Rattle.ga_node.specs.Record.{NodeState, NodeRecord}
 use Rattle.ga_grid.specs.Chip.{records_of}
 use Rattle.ga_grid.specs.Grid.{node_id}
-use Rattle.ga_image.specs.Lines.{lines_of}
+use Rattle.ga_image.specs.Lines.{Bytes, Text, lines_of}
 use Rattle.ga_image.specs.Grammar.{IsImage}
 use Rattle.ga_image.specs.FirstFault.{IsFirstFault}
 use Rattle.ga_image.specs.declared.fault.ImageFault.{ImageFault}
@@ -32,12 +32,12 @@ pub record IsRace (load : List NodeRecord) (limit workers calls : ℕ) (lab : St
   pub count : length log ≡ workers * calls
 
 -- how many calls were made, how many events, and how many of them are kept
-abbrev pub report_text : ℕ → ℕ → ℕ → List ℕ
+abbrev pub report_text : ℕ → ℕ → ℕ → Text
 report_text calls made kept =
     codes "calls " ++ decimal calls ++ codes "\nmade " ++ decimal made ++ codes "\nkept " ++ decimal kept ++ codes "\n"
 
 -- the text is an image, and this reports a race on its chip
-pub record IsReport (limit workers calls : ℕ) (image text : List ℕ) : Type 0 where
+pub record IsReport (limit workers calls : ℕ) (image text : Text) : Type 0 where
   pub chip : List NodeState
   pub lab : State
   pub accepted : IsImage (lines_of image) chip
@@ -45,23 +45,23 @@ pub record IsReport (limit workers calls : ℕ) (image text : List ℕ) : Type 0
   pub told : text ≡ report_text (workers * calls) lab.made (length lab.kept)
 
 -- the text is no image, and this tells its first fault
-pub record IsRefusal (image text : List ℕ) : Type 0 where
+pub record IsRefusal (image text : Text) : Type 0 where
   pub fault : ImageFault
   pub first : IsFirstFault (lines_of image) fault
   pub told : text ≡ image_fault_text fault
 
 -- a write failed within such a text
-pub record IsCutShort (IsText : List ℕ → Type 0) (text : List ℕ) : Type 0 where
-  pub whole : List ℕ
+pub record IsCutShort (IsText : Text → Type 0) (text : Text) : Type 0 where
+  pub whole : Text
   pub is_text : IsText whole
   pub front : Begins whole text
 
 -- P holds of the image that was read, and nothing was read behind it
-abbrev pub OfImage : List ℕ → List ℕ → (List ℕ → Type 0) → Type 0
-OfImage read rest P = (image : List ℕ) × (ahead : List ℕ) × (read ≡ image ++ ahead) × IsReadAlone image ahead rest × P image
+abbrev pub OfImage : Bytes → Bytes → (Text → Type 0) → Type 0
+OfImage read rest P = (image : Text) × (ahead : Bytes) × (read ≡ image ++ ahead) × IsReadAlone image ahead rest × P image
 
 -- What a race may have written, where read was read of its input and rest is left of it.
-abbrev pub Reports : ℕ → ℕ → ℕ → List ℕ → List ℕ → List ℕ → Status → Type 0
+abbrev pub Reports : ℕ → ℕ → ℕ → Bytes → Bytes → Text → Status → Type 0
 Reports limit workers calls read rest text Done = OfImage read rest (λ image. IsReport limit workers calls image text)
 Reports limit workers calls read rest text ImageRefused = OfImage read rest (λ image. IsRefusal image text)
 -- a read in the image failed, or a write of the report or of the refusal

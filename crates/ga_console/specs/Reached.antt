@@ -1,9 +1,10 @@
 -- The machines to which a session comes.
 use Rattle.std.specs.Prelude.{◌≡◌, ℕ, List, [], ◌∷◌}
+use Rattle.ga_image.specs.Lines.{Text, Line}
 use Rattle.ga_lab.specs.Machine.{State}
 use Rattle.ga_console.specs.Replies.{Answer}
 
 -- From this machine, answers to the lines lead to that one.
-abbrev pub Reaches : State → List (List ℕ) → State → Type 0
+abbrev pub Reaches : State → List Line → State → Type 0
 Reaches m [] last = last ≡ m
-Reaches m (line ∷ lines) last = (answer : List ℕ) × (next : State) × Answer m line answer next × Reaches next lines last
+Reaches m (line ∷ lines) last = (answer : Text) × (next : State) × Answer m line answer next × Reaches next lines last

@@ -3,7 +3,7 @@ use Rattle.std.specs.Prelude.{◌≡◌, ℕ, ◌<◌, ◌≤◌, ◌⊎◌, IsO
 use Rattle.ga_grid.specs.Chip.{record_at}
 use Rattle.ga_grid.specs.declared.node_id.NodeId.{NodeId}
 use Rattle.ga_causal.specs.declared.chain.Link.{Link}
-use Rattle.ga_image.specs.Lines.{longest}
+use Rattle.ga_image.specs.Lines.{Text, Line, longest}
 use Rattle.ga_image.specs.Printing.{printed}
 use Rattle.ga_event.specs.Told.{made_in}
 use Rattle.ga_event.specs.declared.made.Made.{Made}
@@ -17,7 +17,7 @@ use Rattle.ga_console.specs.declared.command.Command.TheVariants.{Step, Back, Re
 
 -- an answer, and the machine after it
 abbrev pub Reply : Type 0
-Reply = List ℕ × State
+Reply = Text × State
 
 abbrev pub step_reply : State → NodeId → Result Made LabFault → Reply
 step_reply s node (Ok made) = (made_text made, stepped s node)
@@ -33,23 +33,23 @@ rewind_reply before after (Ok removed) = (removed_text removed (length after.kep
 rewind_reply before after (Err why) = (refusal_text why, before)
 
 -- the steps of a node: how many, and a line for each
-abbrev pub steps_text : NodeId → List Made → List ℕ
+abbrev pub steps_text : NodeId → List Made → Text
 steps_text node steps = trace_text node (length steps) ++ flat_map made_text steps
 
 -- what is told of the event at a place
-abbrev pub told_text : Option Made → List ℕ
+abbrev pub told_text : Option Made → Text
 told_text None = []
 told_text (Some made) = made_text made
 
 -- what is told of the event of a link
-abbrev pub link_text : State → Link → List ℕ
+abbrev pub link_text : State → Link → Text
 link_text s link = told_text (made_in (told_of_kept s) link.place)
 
 -- the events of a chain: how many, and a line for each
-abbrev pub links_text : State → List Link → List ℕ
+abbrev pub links_text : State → List Link → Text
 links_text s links = chain_text (length links) ++ flat_map (link_text s) links
 
-abbrev pub why_text : State → Result (Option (List Link)) LabFault → List ℕ
+abbrev pub why_text : State → Result (Option (List Link)) LabFault → Text
 why_text s (Ok None) = independent
 why_text s (Ok (Some links)) = links_text s links
 why_text s (Err why) = refusal_text why
@@ -81,11 +81,11 @@ Grows s Dump = Unit {0}
 Grows s Quit = ⊥
 
 -- The reply to a command. Where memory is wanting, a command that needs it is refused and changes nothing.
-abbrev pub Does : State → Command → List ℕ → State → Type 0
+abbrev pub Does : State → Command → Text → State → Type 0
 Does s asked answer new = ((answer, new) ≡ reply s asked) ⊎ (Grows s asked × (answer ≡ refusal_text fault.Memory) × (new ≡ s))
 
 -- The answer to a line: it is too long, or spells a command, or spells none.
-pub data Answer (s : State) (line answer : List ℕ) (new : State) : Type 0 where
+pub data Answer (s : State) (line : Line) (answer : Text) (new : State) : Type 0 where
   long : longest < length line → answer ≡ no_long → new ≡ s → Answer s line answer new
   command : (c : Command) → length line ≤ longest → SpellsCommand c line → Does s c answer new → Answer s line answer new
   syntax : length line ≤ longest → ((c : Command) → ¬ SpellsCommand c line) → answer ≡ no_syntax → new ≡ s → Answer s line answer new

@@ -3,7 +3,7 @@
 use Rattle.std.specs.Prelude.{◌≡◌, ℕ, ◌-◌, ◌<◌, ◌⊎◌, List, [], ◌++◌, length, Result, Ok, Err}
 use Rattle.ga_node.specs.Record.{NodeState}
 use Rattle.ga_grid.specs.Chip.{records_of}
-use Rattle.ga_image.specs.Lines.{lines_of}
+use Rattle.ga_image.specs.Lines.{Bytes, Text, lines_of}
 use Rattle.ga_image.specs.Grammar.{IsImage}
 use Rattle.ga_image.specs.Fault.{no_memory}
 use Rattle.ga_image.specs.FirstFault.{IsFirstFault}
@@ -23,24 +23,24 @@ use Rattle.ga_console.specs.declared.run.Status.{Status}
 use Rattle.ga_console.specs.declared.run.Status.TheVariants.{Done, ImageRefused, StreamFault, NotFinished}
 
 -- The image is what was read up to the first line `end`, or all of an input in which none was read, or all that is within the bound.
-abbrev pub IsImagePart : List ℕ → List ℕ → List ℕ → Type 0
+abbrev pub IsImagePart : Text → Bytes → Bytes → Type 0
 IsImagePart image commands rest = EndsAtEnd image
     ⊎ ((commands ≡ []) × (rest ≡ []) × HasNoEnd image)
     ⊎ ((length image ≡ input_limit) × HasNoEnd image)
 
 -- Nothing is read that the image doesn't need: behind its line `end` only what the same read brought, behind all that is within
 -- the bound the byte that goes past it.
-abbrev pub IsReadAlone : List ℕ → List ℕ → List ℕ → Type 0
+abbrev pub IsReadAlone : Text → Bytes → Bytes → Type 0
 IsReadAlone image ahead rest = (EndsAtEnd image × (length ahead < block_size))
     ⊎ ((ahead ≡ []) × (rest ≡ []) × HasNoEnd image)
     ⊎ ((length image ≡ input_limit) × (length ahead ≡ 1) × HasNoEnd image)
 
 -- the image was accepted, and the commands behind it were served to this ending
-pub record Served {M : Type 0} (A : Answering M) (begin : State → M) (limit : ℕ) (read rest text : List ℕ) (ending : Result Ending WriteFailed) : Type 0 where
-  pub image : List ℕ
-  pub commands : List ℕ
+pub record Served {M : Type 0} (A : Answering M) (begin : State → M) (limit : ℕ) (read rest : Bytes) (text : Text) (ending : Result Ending WriteFailed) : Type 0 where
+  pub image : Text
+  pub commands : Bytes
   pub chip : List NodeState
-  pub said : List ℕ
+  pub said : Text
   pub splits : read ≡ image ++ commands
   pub part : IsImagePart image commands rest
   pub accepted : IsImage (lines_of image) chip
@@ -49,15 +49,15 @@ pub record Served {M : Type 0} (A : Answering M) (begin : State → M) (limit : 
   pub written : Written ending (ready ++ said) text
 
 -- the image was refused with its first fault, and nothing was read behind it
-pub record Faulty (read rest : List ℕ) (fault : ImageFault) : Type 0 where
-  pub image : List ℕ
-  pub ahead : List ℕ
+pub record Faulty (read rest : Bytes) (fault : ImageFault) : Type 0 where
+  pub image : Text
+  pub ahead : Bytes
   pub splits : read ≡ image ++ ahead
   pub part : IsReadAlone image ahead rest
   pub faulty : IsFirstFault (lines_of image) fault
 
 -- or for want of memory
-abbrev pub Refused : List ℕ → List ℕ → ImageFault → Type 0
+abbrev pub Refused : Bytes → Bytes → ImageFault → Type 0
 Refused read rest fault = (fault ≡ no_memory) ⊎ Faulty read rest fault
 
 abbrev pub status_of : Result Ending WriteFailed → Status
@@ -68,7 +68,7 @@ status_of (Ok ReadFailed) = StreamFault
 status_of (Err failed) = StreamFault
 
 -- What a session may have written, where read was read of its input and rest is left of it.
-abbrev pub RunsBy : {M : Type 0} → Answering M → (State → M) → ℕ → List ℕ → List ℕ → List ℕ → Status → Type 0
+abbrev pub RunsBy : {M : Type 0} → Answering M → (State → M) → ℕ → Bytes → Bytes → Text → Status → Type 0
 RunsBy A begin limit read rest text Done = (ending : Result Ending WriteFailed) × (status_of ending ≡ Done) × Served A begin limit read rest text ending
 RunsBy A begin limit read rest text ImageRefused = (fault : ImageFault) × Refused read rest fault × (text ≡ image_fault_text fault)
 -- the command part failed, or a read in the image part, or a write of the refusal
@@ -81,20 +81,20 @@ RunsBy A begin limit read rest text StreamFault =
 RunsBy A begin limit read rest text NotFinished = ⊥
 
 -- The debugger's session.
-abbrev pub Runs : ℕ → List ℕ → List ℕ → List ℕ → Status → Type 0
+abbrev pub Runs : ℕ → Bytes → Bytes → Text → Status → Type 0
 Runs limit read rest text status = RunsBy Answer (λ s. s) limit read rest text status
 
 -- a refusal was written whole, or that failed
-abbrev pub Refuses : ImageFault → List ℕ → Status → Type 0
+abbrev pub Refuses : ImageFault → Text → Status → Type 0
 Refuses fault text Done = ⊥
 Refuses fault text ImageRefused = text ≡ image_fault_text fault
 Refuses fault text StreamFault = Begins (image_fault_text fault) text
 Refuses fault text NotFinished = ⊥
 
 -- an image was accepted, and the machine has its chip as its load
-abbrev pub Opens : List ℕ → ℕ → State → Type 0
+abbrev pub Opens : Text → ℕ → State → Type 0
 Opens image limit machine = (chip : List NodeState) × IsImage (lines_of image) chip × (machine ≡ first (records_of chip) limit)
 
 -- an image is refused with its first fault, or for want of memory
-abbrev pub IsFault : List ℕ → ImageFault → Type 0
+abbrev pub IsFault : Text → ImageFault → Type 0
 IsFault image fault = (fault ≡ no_memory) ⊎ IsFirstFault (lines_of image) fault

@@ -2,7 +2,7 @@
 -- project's own). A is how the session answers a line: of the debugger's it is Answer.
 use Rattle.std.specs.Prelude.{◌≡◌, ◌≢◌, ℕ, ◌+◌, ◌<◌, ◌≤◌, ◌⊎◌, List, [], ◌∷◌, ◌++◌, length, take, nat_le, if◌then◌else◌, Result, Ok, Err}
 use Rattle.std.specs.List.{AllByRecursion}
-use Rattle.ga_image.specs.Lines.{lines_of}
+use Rattle.ga_image.specs.Lines.{Bytes, Text, Line, lines_of}
 use Rattle.ga_console.specs.Lines.{ended_lines}
 use Rattle.ga_console.specs.Output.{Begins}
 use Rattle.ga_console.specs.Texts.{no_input}
@@ -11,82 +11,82 @@ use Rattle.ga_console.specs.declared.commands.Ending.{Ending}
 use Rattle.ga_console.specs.declared.commands.Ending.TheVariants.{Ended, Quit, Past, ReadFailed}
 use Rattle.ga_console.specs.declared.output.WriteFailed.{WriteFailed}
 
-abbrev pub HasNoQuit : List (List ℕ) → Type 0
+abbrev pub HasNoQuit : List Line → Type 0
 HasNoQuit lines = AllByRecursion (λ line. line ≢ quit_line) lines
 
 -- From this machine the lines may be answered by this text, one after the other, and lead to that one.
-abbrev pub Answers : {M : Type 0} → Answering M → M → List (List ℕ) → List ℕ → M → Type 0
+abbrev pub Answers : {M : Type 0} → Answering M → M → List Line → Text → M → Type 0
 Answers A m [] text last = (text ≡ []) × (last ≡ m)
 Answers {M} A m (line ∷ lines) text last =
-    (answer : List ℕ)
+    (answer : Text)
     × (next : M)
-    × (more : List ℕ)
+    × (more : Text)
     × A m line answer next
     × Answers A next lines more last
     × (text ≡ answer ++ more)
 
 -- The lines within the bound of what was read. Where that ends within the bound, a last line without a line feed is one of them.
-abbrev pub heard_lines : ℕ → List ℕ → List (List ℕ)
+abbrev pub heard_lines : ℕ → Bytes → List Line
 heard_lines room read = if nat_le (length read) room then lines_of read else ended_lines (take room read)
 
 -- All that may be said to these lines: their answers, and where the input goes past its bound behind them, that it does.
-abbrev pub Script : {M : Type 0} → Answering M → ℕ → M → List ℕ → List (List ℕ) → List ℕ → M → Type 0
+abbrev pub Script : {M : Type 0} → Answering M → ℕ → M → Bytes → List Line → Text → M → Type 0
 Script A room m read lines text last = Answers A m lines text last
-    ⊎ ((room < length read) × (lines ≡ ended_lines (take room read)) × (said : List ℕ) × Answers A m lines said last × (text ≡ said ++ no_input))
+    ⊎ ((room < length read) × (lines ≡ ended_lines (take room read)) × (said : Text) × Answers A m lines said last × (text ≡ said ++ no_input))
 
 -- A last line without a line feed is heard only where nothing is left to read.
-abbrev pub HearsWholeLines : ℕ → List ℕ → List ℕ → List (List ℕ) → Type 0
-HearsWholeLines room read rest heard = (rest ≡ []) ⊎ ((more : List (List ℕ)) × (ended_lines (take room read) ≡ heard ++ more))
+abbrev pub HearsWholeLines : ℕ → Bytes → Bytes → List Line → Type 0
+HearsWholeLines room read rest heard = (rest ≡ []) ⊎ ((more : List Line) × (ended_lines (take room read) ≡ heard ++ more))
 
 -- In what follows, read was read of the commands and rest is left of them, text was said, up to room bytes are within the bound,
 -- and last is the machine after the lines that were answered.
 
 -- the input ended: each line was answered
-pub record ServesToEnd {M : Type 0} (A : Answering M) (room : ℕ) (m : M) (read rest text : List ℕ) (last : M) : Type 0 where
+pub record ServesToEnd {M : Type 0} (A : Answering M) (room : ℕ) (m : M) (read rest : Bytes) (text : Text) (last : M) : Type 0 where
   pub within : length read ≤ room
   pub at_end : rest ≡ []
   pub no_quit : HasNoQuit (lines_of read)
   pub answers : Answers A m (lines_of read) text last
 
 -- the line `quit` stands behind these lines
-abbrev pub QuitsAfter : List ℕ → List ℕ → List (List ℕ) → List (List ℕ) → Type 0
+abbrev pub QuitsAfter : Bytes → Bytes → List Line → List Line → Type 0
 QuitsAfter read rest heard after =
     (ended_lines read ≡ heard ++ quit_line ∷ after) ⊎ ((rest ≡ []) × (lines_of read ≡ heard ++ quit_line ∷ []))
 
 -- a line `quit` came: each line before the first was answered
-pub record ServesToQuit {M : Type 0} (A : Answering M) (room : ℕ) (m : M) (read rest text : List ℕ) (last : M) : Type 0 where
+pub record ServesToQuit {M : Type 0} (A : Answering M) (room : ℕ) (m : M) (read rest : Bytes) (text : Text) (last : M) : Type 0 where
   pub within : length read ≤ room
-  pub heard : List (List ℕ)
-  pub after : List (List ℕ)
+  pub heard : List Line
+  pub after : List Line
   pub no_quit : HasNoQuit heard
   pub answers : Answers A m heard text last
   pub quits : QuitsAfter read rest heard after
 
 -- the input went past its bound: each line within it was answered, and then that was said
-pub record ServesToBound {M : Type 0} (A : Answering M) (room : ℕ) (m : M) (read rest text : List ℕ) (last : M) : Type 0 where
+pub record ServesToBound {M : Type 0} (A : Answering M) (room : ℕ) (m : M) (read rest : Bytes) (text : Text) (last : M) : Type 0 where
   pub over : length read ≡ room + 1
   pub no_quit : HasNoQuit (ended_lines (take room read))
-  pub said : List ℕ
+  pub said : Text
   pub answers : Answers A m (ended_lines (take room read)) said last
   pub told : text ≡ said ++ no_input
 
 -- a read failed: each line that was read whole was answered
-pub record ServesToFault {M : Type 0} (A : Answering M) (room : ℕ) (m : M) (read rest text : List ℕ) (last : M) : Type 0 where
+pub record ServesToFault {M : Type 0} (A : Answering M) (room : ℕ) (m : M) (read rest : Bytes) (text : Text) (last : M) : Type 0 where
   pub within : length read ≤ room
   pub no_quit : HasNoQuit (ended_lines read)
   pub answers : Answers A m (ended_lines read) text last
 
 -- a write failed: some lines were answered, of which none was quit
-pub record ServesCut {M : Type 0} (A : Answering M) (room : ℕ) (m : M) (read rest text : List ℕ) (last : M) : Type 0 where
-  pub heard : List (List ℕ)
-  pub after : List (List ℕ)
+pub record ServesCut {M : Type 0} (A : Answering M) (room : ℕ) (m : M) (read rest : Bytes) (text : Text) (last : M) : Type 0 where
+  pub heard : List Line
+  pub after : List Line
   pub front : heard_lines room read ≡ heard ++ after
   pub no_quit : HasNoQuit heard
   pub script : Script A room m read heard text last
   pub whole : HearsWholeLines room read rest heard
 
 -- This text may have been said at this ending.
-abbrev pub Serves : {M : Type 0} → Answering M → ℕ → M → List ℕ → List ℕ → List ℕ → M → Result Ending WriteFailed → Type 0
+abbrev pub Serves : {M : Type 0} → Answering M → ℕ → M → Bytes → Bytes → Text → M → Result Ending WriteFailed → Type 0
 Serves A room m read rest text last (Ok Ended) = ServesToEnd A room m read rest text last
 Serves A room m read rest text last (Ok Quit) = ServesToQuit A room m read rest text last
 Serves A room m read rest text last (Ok Past) = ServesToBound A room m read rest text last
@@ -94,6 +94,6 @@ Serves A room m read rest text last (Ok ReadFailed) = ServesToFault A room m rea
 Serves A room m read rest text last (Err failed) = ServesCut A room m read rest text last
 
 -- What is written of all that was said: the whole, or where a write failed, a front of it.
-abbrev pub Written : Result Ending WriteFailed → List ℕ → List ℕ → Type 0
+abbrev pub Written : Result Ending WriteFailed → Text → Bytes → Type 0
 Written (Ok ending) said text = text ≡ said
 Written (Err failed) said text = Begins said text

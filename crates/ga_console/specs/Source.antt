@@ -2,7 +2,7 @@
 use Rattle.std.specs.Prelude.{◌≡◌, ℕ, ◌⊎◌, List, []}
 use Rattle.ga_node.specs.Record.{NodeState}
 use Rattle.ga_grid.specs.Chip.{records_of}
-use Rattle.ga_image.specs.Lines.{lines_of}
+use Rattle.ga_image.specs.Lines.{Bytes, Text, lines_of}
 use Rattle.ga_image.specs.Grammar.{IsImage}
 use Rattle.ga_image.specs.Printing.{printed}
 use Rattle.ga_image.specs.ReadBack.{Describes}
@@ -18,7 +18,7 @@ use Rattle.ga_console.specs.declared.run.Status.{Status}
 use Rattle.ga_console.specs.declared.run.Status.TheVariants.{Done, ImageRefused, StreamFault, NotFinished}
 
 -- The text is the image, as it is dumped, of a chip with programs; and what reads images accepts it with this chip.
-pub record IsAssembly (text : List ℕ) : Type 0 where
+pub record IsAssembly (text : Text) : Type 0 where
   pub chip : List NodeState
   pub programs : List Program
   pub assembled : IsAssembled chip programs
@@ -26,25 +26,25 @@ pub record IsAssembly (text : List ℕ) : Type 0 where
   pub back : Describes (lines_of text) (records_of chip)
 
 -- What `asm` may have written, where read was read of its input and rest is left of it. Source ends as an image does.
-abbrev pub Assembles : List ℕ → List ℕ → List ℕ → Status → Type 0
+abbrev pub Assembles : Bytes → Bytes → Bytes → Status → Type 0
 Assembles read rest text Done = OfImage read rest (λ source. IsAssembly text)
 Assembles read rest text ImageRefused = text ≡ []
 Assembles read rest text StreamFault = ((text ≡ []) × HasNoEnd read) ⊎ IsCutShort IsAssembly text
 Assembles read rest text NotFinished = ⊥
 
 -- What `list` may have written: source ends as an image does.
-abbrev pub Lists : List ℕ → List ℕ → List ℕ → Status → Type 0
+abbrev pub Lists : Bytes → Bytes → Bytes → Status → Type 0
 Lists read rest text Done = OfImage read rest (λ source. Unit {0})
 Lists read rest text ImageRefused = text ≡ []
 Lists read rest text StreamFault = ((text ≡ []) × HasNoEnd read) ⊎ OfImage read rest (λ source. Unit {0})
 Lists read rest text NotFinished = ⊥
 
 -- the text is an image
-abbrev pub IsAccepted : List ℕ → Type 0
+abbrev pub IsAccepted : Bytes → Type 0
 IsAccepted image = (chip : List NodeState) × IsImage (lines_of image) chip
 
 -- What `dis` may have written, where read was read of its input and rest is left of it.
-abbrev pub Disassembles : List ℕ → List ℕ → List ℕ → Status → Type 0
+abbrev pub Disassembles : Bytes → Bytes → Bytes → Status → Type 0
 Disassembles read rest text Done = OfImage read rest IsAccepted
 Disassembles read rest text ImageRefused = (fault : ImageFault) × Refused read rest fault × (text ≡ image_fault_text fault)
 Disassembles read rest text StreamFault =

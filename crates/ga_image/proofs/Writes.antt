@@ -1,7 +1,6 @@
 -- The words of a field line, one after the other.
-use Rattle.std.specs.Prelude.{nat_lt, ◌==◌, ◌-◌}
-use Rattle.std.specs.List.{list_any}
-use Rattle.std.proofs.Common.{◌≡◌, sym, ◌∙◌, cond, ℕ, ◌+◌, ◌<◌, ◌≤◌, Bool, true, false, List, [], ◌∷◌, zero, suc, length, drop, get_or, set, Some, refl, ap, arith}
+use Rattle.std.specs.Prelude.{◌==◌, ◌-◌}
+use Rattle.std.proofs.Common.{◌≡◌, sym, ◌∙◌, cond, ℕ, ◌+◌, ◌<◌, Bool, true, false, List, [], ◌∷◌, length, drop, get_or, set, Some, refl, ap, arith}
 use Rattle.std.proofs.lemmas.Bool.Decides.{nat_tests}
 use Rattle.std.proofs.lemmas.List.{drop_more}
 use Rattle.ga_node.specs.declared.place.Place.TheVariants as place
@@ -14,7 +13,6 @@ use Rattle.ga_image.specs.Fields.{goes_past, greatest, next_field, number_of, wr
 use Rattle.ga_image.specs.kept.Spelling.{HoldsCode, AreCodes}
 use Rattle.ga_image.specs.Progress.{Progress}
 use Rattle.ga_image.specs.Reading.{words_fault, with_write, with_writes}
-use Rattle.ga_image.proofs.Flags.{or_false}
 
 -- where the words fit, the first has a cell
 pub has_cell : (field : Field) (count : ℕ) → 0 < count → goes_past field count ≡ false → HasCell field

@@ -1,6 +1,7 @@
 -- The causes of a refusal: the number and the word by which each is reported (docs/REFERENCE.md, "Images"; this project's
 -- own).
-use Rattle.std.specs.Prelude.{ℕ, List, codes}
+use Rattle.std.specs.Prelude.{ℕ, codes}
+use Rattle.ga_image.specs.Lines.{Text}
 use Rattle.ga_image.specs.declared.fault.ImageCause.{ImageCause}
 use Rattle.ga_image.specs.declared.fault.ImageCause.TheVariants.{Header, Line, Node, Word, Repeated, Place, Truncated, Long, Memory, State}
 use Rattle.ga_image.specs.declared.fault.ImageCause.TheVariants as cause
@@ -20,7 +21,7 @@ cause_number Memory = 19
 cause_number State = 20
 
 -- its word
-abbrev pub cause_word : ImageCause → List ℕ
+abbrev pub cause_word : ImageCause → Text
 cause_word Header = codes "header"
 cause_word Line = codes "line"
 cause_word Node = codes "node"

@@ -11,7 +11,7 @@ use Rattle.ga_image.specs.declared.field.Format.{Format}
 use Rattle.ga_image.specs.declared.field.Format.TheVariants.{One}
 use Rattle.ga_image.specs.Fields.{writes, greatest}
 use Rattle.ga_image.specs.Held.{runs, held_after, is_unsteady}
-use Rattle.ga_image.specs.Lines.{longest}
+use Rattle.ga_image.specs.Lines.{Line, longest}
 use Rattle.ga_image.specs.Spelling.{Form, Node, Words, End, Spells, SpellsIn}
 use Rattle.ga_image.specs.Grammar.{header, format_of, field_line_form, all_writes, Fits}
 
@@ -22,70 +22,70 @@ OneOf P (x ∷ xs) = P x ⊎ OneOf P xs
 
 -- ---- what a line is
 
-abbrev pub IsEnd : List ℕ → Type 0
+abbrev pub IsEnd : Line → Type 0
 IsEnd line = Spells line End
 
 -- it begins the block of the node with this row and column
-abbrev pub BeginsBlockOf : ℕ → List ℕ → Type 0
+abbrev pub BeginsBlockOf : ℕ → Line → Type 0
 BeginsBlockOf yxx line = Spells line (Node yxx)
 
 -- it begins a block
-abbrev pub BeginsBlock : List ℕ → Type 0
+abbrev pub BeginsBlock : Line → Type 0
 BeginsBlock line = (yxx : ℕ) × BeginsBlockOf yxx line
 
 -- it is a field line
-abbrev pub GivesWords : List ℕ → Type 0
+abbrev pub GivesWords : Line → Type 0
 GivesWords line = (field : Field) × (words : List ℕ) × Spells line (Words field words)
 
 -- it gives a word for this field
-abbrev pub GivesField : Field → List ℕ → Type 0
+abbrev pub GivesField : Field → Line → Type 0
 GivesField field line = (first : Field) × (words : List ℕ) × Spells line (Words first words) × OneOf (λ w. w.0 ≡ field) (writes first words)
 
 -- One of these lines gives the field, and behind it no block begins.
-abbrev pub WasGiven : List (List ℕ) → Field → Type 0
+abbrev pub WasGiven : List Line → Field → Type 0
 WasGiven [] field = ⊥
 WasGiven (line ∷ lines) field = WasGiven lines field ⊎ (GivesField field line × ¬ OneOf BeginsBlock lines)
 
 -- these lines are field lines, with these fields and words
-abbrev pub SpellFields : List (List ℕ) → List (Field × List ℕ) → Type 0
+abbrev pub SpellFields : List Line → List (Field × List ℕ) → Type 0
 SpellFields [] [] = Unit {0}
 SpellFields (line ∷ lines) (field_line ∷ field_lines) = Spells line (field_line_form field_line) × SpellFields lines field_lines
 SpellFields _ _ = ⊥
 
 -- The last of these blocks has these field lines, up to the last line.
-abbrev pub GivesLines : List (List ℕ) → List (Field × List ℕ) → Type 0
+abbrev pub GivesLines : List Line → List (Field × List ℕ) → Type 0
 GivesLines [] field_lines = ⊥
 GivesLines (line ∷ lines) field_lines = GivesLines lines field_lines ⊎ (BeginsBlock line × SpellFields lines field_lines)
 
 -- the format that the first of these lines names
-abbrev pub format_in : List (List ℕ) → Format
+abbrev pub format_in : List Line → Format
 format_in [] = One
 format_in (line ∷ lines) = format_of line
 
 -- ---- what may be wrong with a line, behind the lines before it
 
 -- it has more than 200 bytes
-abbrev pub IsLong : List ℕ → Type 0
+abbrev pub IsLong : Line → Type 0
 IsLong line = longest < length line
 
 -- it is the first line, and not the header of a format
-abbrev pub IsOtherHeader : List (List ℕ) → List ℕ → Type 0
+abbrev pub IsOtherHeader : List Line → Line → Type 0
 IsOtherHeader before line = (before ≡ []) × ((format : Format) → line ≢ header format)
 
 -- it has none of the format's forms
-abbrev pub HasNoForm : Format → List ℕ → Type 0
+abbrev pub HasNoForm : Format → Line → Type 0
 HasNoForm format line = (form : Form) → ¬ SpellsIn format line form
 
 -- it is a field line before the first block
-abbrev pub IsBeforeBlocks : List (List ℕ) → List ℕ → Type 0
+abbrev pub IsBeforeBlocks : List Line → Line → Type 0
 IsBeforeBlocks before line = GivesWords line × ¬ OneOf BeginsBlock before
 
 -- behind the header it has no form, or may not stand there
-abbrev pub IsNoLine : List (List ℕ) → List ℕ → Type 0
+abbrev pub IsNoLine : List Line → Line → Type 0
 IsNoLine before line = (before ≢ []) × (HasNoForm (format_in before) line ⊎ IsBeforeBlocks before line ⊎ OneOf IsEnd before)
 
 -- it ends a block whose wait, stop and slot can't stand together
-abbrev pub EndsUnsteady : List (List ℕ) → List ℕ → Type 0
+abbrev pub EndsUnsteady : List Line → Line → Type 0
 EndsUnsteady before line =
     (BeginsBlock line ⊎ IsEnd line)
     × ((field_lines : List (Field × List ℕ))
@@ -93,29 +93,29 @@ EndsUnsteady before line =
     × (is_unsteady (held_after runs (all_writes field_lines)) ≡ true))
 
 -- it begins the block of no node of the grid
-abbrev pub NamesNoNode : List ℕ → Type 0
+abbrev pub NamesNoNode : Line → Type 0
 NamesNoNode line = (yxx : ℕ) × BeginsBlockOf yxx line × (node_of yxx ≡ None)
 
 -- it gives a cell past the last of its memory
-abbrev pub GivesNoCell : List ℕ → Type 0
+abbrev pub GivesNoCell : Line → Type 0
 GivesNoCell line = (field : Field) × (words : List ℕ) × Spells line (Words field words) × ¬ Fits field (length words)
 
 -- it gives a word past the greatest of its field
-abbrev pub GivesGreatWord : List ℕ → Type 0
+abbrev pub GivesGreatWord : Line → Type 0
 GivesGreatWord line = (field : Field) × (words : List ℕ) × Spells line (Words field words) × OneOf (λ word. greatest field < word) words
 
 -- it begins a block of a node that has one
-abbrev pub RepeatsNode : List (List ℕ) → List ℕ → Type 0
+abbrev pub RepeatsNode : List Line → Line → Type 0
 RepeatsNode before line = (yxx : ℕ) × BeginsBlockOf yxx line × OneOf (BeginsBlockOf yxx) before
 
 -- it gives a field that this block gave before
-abbrev pub RepeatsField : List (List ℕ) → List ℕ → Type 0
+abbrev pub RepeatsField : List Line → Line → Type 0
 RepeatsField before line = (field : Field) × GivesField field line × WasGiven before field
 
 -- ---- the first fault
 
 -- a line has this cause of refusal, behind the lines before it
-abbrev pub HasCause : List (List ℕ) → List ℕ → ImageCause → Type 0
+abbrev pub HasCause : List Line → Line → ImageCause → Type 0
 HasCause before line cause.Long = IsLong line
 HasCause before line cause.Header = IsOtherHeader before line
 HasCause before line cause.Line = IsNoLine before line
@@ -133,36 +133,36 @@ causes =
     cause.Long ∷ cause.Header ∷ cause.Line ∷ cause.State ∷ cause.Node ∷ cause.Place ∷ cause.Word ∷ cause.Repeated ∷ []
 
 -- the first of these causes that a line has
-abbrev pub IsFirstCause : List (List ℕ) → List ℕ → List ImageCause → ImageCause → Type 0
+abbrev pub IsFirstCause : List Line → Line → List ImageCause → ImageCause → Type 0
 IsFirstCause before line [] first = ⊥
 IsFirstCause before line (cause ∷ others) first = ((first ≡ cause) × HasCause before line cause) ⊎ (¬ HasCause before line cause × IsFirstCause before line others first)
 
 -- a line has none of these causes
-abbrev pub HasNone : List (List ℕ) → List ℕ → List ImageCause → Type 0
+abbrev pub HasNone : List Line → Line → List ImageCause → Type 0
 HasNone before line others = AllByRecursion (λ cause. ¬ HasCause before line cause) others
 
 -- none of these lines has a cause, each behind those before it
-abbrev pub AreFaultless : List (List ℕ) → List (List ℕ) → Type 0
+abbrev pub AreFaultless : List Line → List Line → Type 0
 AreFaultless before [] = Unit {0}
 AreFaultless before (line ∷ lines) = HasNone before line causes × AreFaultless (before ++ line ∷ []) lines
 
 -- The fault is the first cause of a line before which no line has a cause.
-pub record IsAtLine (texts : List (List ℕ)) (fault : ImageFault) : Type 0 where
-  pub before : List (List ℕ)
-  pub line : List ℕ
-  pub after : List (List ℕ)
+pub record IsAtLine (texts : List Line) (fault : ImageFault) : Type 0 where
+  pub before : List Line
+  pub line : Line
+  pub after : List Line
   pub parts : texts ≡ before ++ line ∷ after
   pub faultless : AreFaultless [] before
   pub cause : IsFirstCause before line causes fault.cause
   pub number : fault.line ≡ length before + 1
 
 -- No line has a cause, and none is `end`.
-pub record IsAtEnd (texts : List (List ℕ)) (fault : ImageFault) : Type 0 where
+pub record IsAtEnd (texts : List Line) (fault : ImageFault) : Type 0 where
   pub faultless : AreFaultless [] texts
   pub unended : ¬ OneOf IsEnd texts
   pub cause : fault.cause ≡ cause.Truncated
   pub number : fault.line ≡ length texts + 1
 
 -- the first fault of a text, by its lines
-abbrev pub IsFirstFault : List (List ℕ) → ImageFault → Type 0
+abbrev pub IsFirstFault : List Line → ImageFault → Type 0
 IsFirstFault texts fault = IsAtLine texts fault ⊎ IsAtEnd texts fault

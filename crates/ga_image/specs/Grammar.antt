@@ -2,6 +2,7 @@
 use Rattle.std.specs.Prelude.{◌≡◌, ℕ, ◌+◌, ◌<◌, ◌≤◌, nat_eq, Bool, false, if◌then◌else◌, List, [], ◌∷◌, ◌++◌, length, codes, map, flat_map}
 use Rattle.std.specs.Cmp.Lexicographic.{pointwise}
 use Rattle.std.specs.List.{AllByRecursion, IsDistinct}
+use Rattle.ga_image.specs.Lines.{Line}
 use Rattle.ga_node.specs.Record.{NodeState}
 use Rattle.ga_node.specs.State.{with_value}
 use Rattle.ga_grid.specs.Load.{default_chip}
@@ -18,16 +19,16 @@ use Rattle.ga_image.specs.Held.{runs, held_after, is_unsteady}
 use Rattle.ga_image.specs.Spelling.{Form, Node, Words, End, SpellsIn}
 
 -- the first line, which names the format
-abbrev pub header : Format → List ℕ
+abbrev pub header : Format → Line
 header One = codes "ga144 1"
 header Two = codes "ga144 2"
 
 -- a line is the header of this format
-abbrev pub names : List ℕ → Format → Bool
+abbrev pub names : Line → Format → Bool
 names text format = pointwise nat_eq text (header format)
 
 -- the format of a header
-abbrev pub format_of : List ℕ → Format
+abbrev pub format_of : Line → Format
 format_of text = if names text One then One else Two
 
 -- a block: its node, and its field lines, each with a field and the words for it and for those after it
@@ -89,16 +90,16 @@ loaded chip [] = chip
 loaded chip (block ∷ blocks) = loaded (written block.node chip (all_writes block.field_lines)) blocks
 
 -- lines of the format spell these forms, one each
-abbrev pub Spell : Format → List (List ℕ) → List Form → Type 0
+abbrev pub Spell : Format → List Line → List Form → Type 0
 Spell format [] [] = Unit {0}
 Spell format (text ∷ texts) (form ∷ forms) = SpellsIn format text form × Spell format texts forms
 Spell format [] (form ∷ forms) = ⊥
 Spell format (text ∷ texts) [] = ⊥
 
 -- The lines are the header, blocks and `end`; the chip has what the blocks give, and else its defaults.
-pub record IsImage (texts : List (List ℕ)) (chip : List NodeState) : Type 0 where
+pub record IsImage (texts : List Line) (chip : List NodeState) : Type 0 where
   pub format : Format
-  pub lines : List (List ℕ)
+  pub lines : List Line
   pub blocks : List Block
   pub starts : texts ≡ header format ∷ lines
   pub spelled : Spell format lines (flat_map block_forms blocks ++ End ∷ [])

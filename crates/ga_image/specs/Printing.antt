@@ -2,6 +2,7 @@
 use Rattle.std.specs.Prelude.{ℕ, ◌+◌, ◌^◌, ◌<◌, ◌==◌, if◌then◌else◌, List, [], ◌∷◌, ◌++◌, take, drop, slice_index, codes, map, flat_map}
 use Rattle.std.specs.List.{AllByRecursion, list_all}
 use Rattle.std.specs.Int.{from_bool}
+use Rattle.ga_image.specs.Lines.{Text, Line}
 use Rattle.ga_stacks.specs.Ring.{fresh_word}
 use Rattle.ga_node.specs.Record.{NodeRecord, fresh_record}
 use Rattle.ga_node.specs.Waits.{wait_code}
@@ -15,7 +16,7 @@ use Rattle.ga_image.specs.Grammar.{header, Block, block_forms}
 -- ---- lines
 
 -- a field line, with its digits in lower case
-abbrev pub field_text : Field → List ℕ → List ℕ
+abbrev pub field_text : Field → List ℕ → Text
 field_text Carry words = field_name Carry ++ code_text Carry (slice_index words 0)
 field_text Slot words = field_name Slot ++ code_text Slot (slice_index words 0)
 field_text Wait words = field_name Wait ++ code_text Wait (slice_index words 0)
@@ -23,13 +24,13 @@ field_text Stop words = field_name Stop ++ code_text Stop (slice_index words 0)
 field_text field words = field_name field ++ numbers_of field words
 
 -- any line behind the header
-abbrev pub line_text : Form → List ℕ
+abbrev pub line_text : Form → Line
 line_text (Node yxx) = codes "node " ++ decimal3_of yxx
 line_text (Words field words) = field_text field words
 line_text End = codes "end"
 
 -- lines, each ended by a line feed
-abbrev pub lines_text : List (List ℕ) → List ℕ
+abbrev pub lines_text : List Line → Text
 lines_text lines = flat_map (λ line. line ++ 10 ∷ []) lines
 
 -- words of 18 bits
@@ -105,5 +106,5 @@ abbrev pub forms_of : List NodeRecord → List Form
 forms_of nodes = flat_map block_forms (blocks_from 0 nodes) ++ End ∷ []
 
 -- the whole text
-unfoldable pub printed : List NodeRecord → List ℕ
+unfoldable pub printed : List NodeRecord → Text
 printed nodes = lines_text (header Two ∷ map line_text (forms_of nodes))

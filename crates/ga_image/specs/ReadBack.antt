@@ -1,6 +1,7 @@
 -- A text that describes a chip, and the chips that a text in format 2, a format of this project's own, can describe.
 use Rattle.std.specs.Prelude.{ℕ, ◌≡◌, ◌^◌, ◌<◌, ◌≤◌, List, length}
 use Rattle.std.specs.List.{AllByRecursion}
+use Rattle.ga_image.specs.Lines.{Line}
 use Rattle.ga_node.specs.declared.wait.Wait.{Wait}
 use Rattle.ga_node.specs.declared.wait.Wait.TheVariants.{Nothing, Fetch, Read, Write}
 use Rattle.ga_node.specs.Record.{NodeState, NodeRecord}
@@ -48,5 +49,5 @@ pub record AreSound (nodes : List NodeRecord) : Type 0 where
   pub each : AllByRecursion IsSound nodes
 
 -- the lines are an image of a chip with these records
-abbrev pub Describes : List (List ℕ) → List NodeRecord → Type 0
+abbrev pub Describes : List Line → List NodeRecord → Type 0
 Describes texts nodes = (chip : List NodeState) × IsImage texts chip × (records_of chip ≡ nodes)

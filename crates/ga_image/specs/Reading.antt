@@ -14,7 +14,7 @@ use Rattle.ga_image.specs.Held.{runs, with_held, is_unsteady}
 use Rattle.ga_image.specs.Fields.{field_count, has_field, number_of, writes, goes_past, is_too_great, repeats}
 use Rattle.ga_image.specs.Spelling.{Form, Node, Words, End}
 use Rattle.ga_image.specs.Forms.{form}
-use Rattle.ga_image.specs.Lines.{longest}
+use Rattle.ga_image.specs.Lines.{Line, longest}
 use Rattle.ga_image.specs.Grammar.{names, format_of, with_word}
 use Rattle.ga_image.specs.Progress.{Stage, Header, Open, Block, Ended, Progress}
 use Rattle.ga_image.specs.Fault.{no_memory}
@@ -35,7 +35,7 @@ start = record {
 }
 
 -- the first line is a header
-abbrev pub is_header : List ℕ → Bool
+abbrev pub is_header : Line → Bool
 is_header text = names text One || names text Two
 
 -- the form of a line, if the format has it
@@ -43,7 +43,7 @@ abbrev pub kept_in : Format → Option Form → Option Form
 kept_in format (Some (Words field words)) = if has_field format field then Some (Words field words) else None
 kept_in format other = other
 
-abbrev pub form_in : Format → List ℕ → Option Form
+abbrev pub form_in : Format → Line → Option Form
 form_in format text = kept_in format (form text)
 
 -- the line has no form, or is a field line before the first block, or stands behind the end
@@ -99,12 +99,12 @@ later_fault progress form =
     else form_fault progress form
 
 -- and with any line.
-abbrev pub line_fault : Stage → Progress → List ℕ → Option ImageCause
+abbrev pub line_fault : Stage → Progress → Line → Option ImageCause
 line_fault Header progress text = if is_header text then None else Some cause.Header
 line_fault _ progress text = later_fault progress (form_in progress.format text)
 
 -- The first fault of a line; that it is too long comes before all others.
-unfoldable pub fault_of : Progress → List ℕ → Option ImageCause
+unfoldable pub fault_of : Progress → Line → Option ImageCause
 fault_of progress text = if nat_lt longest (length text) then Some cause.Long else line_fault progress.stage progress text
 
 -- the node whose block it is
@@ -143,12 +143,12 @@ after_form progress (Some End) = record progress { stage = Ended }
 after_form progress None = progress
 
 -- after a line at this stage
-abbrev pub after_stage : Stage → Progress → List ℕ → Progress
+abbrev pub after_stage : Stage → Progress → Line → Progress
 after_stage Header progress text = record progress { format = format_of text; stage = Open }
 after_stage _ progress text = after_form progress (form_in progress.format text)
 
 -- after a line with no fault
-unfoldable pub after_line : Progress → List ℕ → Progress
+unfoldable pub after_line : Progress → Line → Progress
 after_line progress text = after_stage progress.stage progress text
 
 -- a line's fault, or what the lines after it give
@@ -162,7 +162,7 @@ at_end Ended chip line = Ok chip
 at_end _ chip line = Err (record { line = line; cause = cause.Truncated })
 
 -- the chip, or the first fault with its line
-unfoldable pub reading : Progress → ℕ → List (List ℕ) → Result (List NodeState) ImageFault
+unfoldable pub reading : Progress → ℕ → List Line → Result (List NodeState) ImageFault
 reading progress line [] = at_end progress.stage progress.chip line
 reading progress line (text ∷ lines) = refused (fault_of progress text) line (reading (after_line progress text) (line + 1) lines)
 

@@ -2,6 +2,7 @@
 use Rattle.std.specs.Prelude.{◌≡◌, ◌≢◌, ℕ, ◌+◌, ◌-◌, ◌/◌, ◌%◌, ◌^◌, ◌<◌, ◌≤◌, ◌==◌, nat_lt, if◌then◌else◌, true, ◌++◌, List, [], ◌∷◌, length, codes, flat_map}
 use Rattle.std.specs.List.{AllByRecursion}
 use Rattle.std.specs.Str.{str_to_ascii_lowercase}
+use Rattle.ga_image.specs.Lines.{Text, Line}
 use Rattle.ga_word.specs.Word.{hex_digit, hex6_of}
 use Rattle.ga_node.specs.Waits.{IsWaitCode}
 use Rattle.ga_image.specs.declared.field.Field.{Field}
@@ -17,15 +18,15 @@ pub data Form : Type 0 where
   End : Form
 
 -- three decimal digits
-abbrev pub decimal3_of : ℕ → List ℕ
+abbrev pub decimal3_of : ℕ → Text
 decimal3_of n = (48 + n / 100) ∷ (48 + n / 10 % 10) ∷ (48 + n % 10) ∷ []
 
 -- two hexadecimal digits
-abbrev pub hex2_of : ℕ → List ℕ
+abbrev pub hex2_of : ℕ → Text
 hex2_of n = hex_digit n 1 ∷ hex_digit n 0 ∷ []
 
 -- words of six digits, each behind one space
-abbrev pub words_text : List ℕ → List ℕ
+abbrev pub words_text : List ℕ → Text
 words_text words = flat_map (λ word. 32 ∷ hex6_of word) words
 
 -- the letter of a side in a set, or a hyphen where the set lacks it
@@ -33,18 +34,18 @@ abbrev pub letter : ℕ → ℕ → ℕ
 letter name bit = if bit == 1 then name else 45
 
 -- a set of sides: r for right, d for down, l for left and u for up
-abbrev pub set_text : ℕ → List ℕ
+abbrev pub set_text : ℕ → Text
 set_text sides = letter 114 (sides / 8 % 2) ∷ letter 100 (sides / 4 % 2) ∷ letter 108 (sides / 2 % 2) ∷ letter 117 (sides % 2) ∷ []
 
 -- what a node waits for, by the number of the wait
-abbrev pub wait_text : ℕ → List ℕ
+abbrev pub wait_text : ℕ → Text
 wait_text code =
     if nat_lt code 32 then codes "fetch " ++ set_text (code - 16)
     else if nat_lt code 48 then codes "read " ++ set_text (code - 32)
     else codes "write " ++ set_text (code - 48)
 
 -- what a field line begins with
-abbrev pub field_name : Field → List ℕ
+abbrev pub field_name : Field → Text
 field_name A = codes "a"
 field_name B = codes "b"
 field_name P = codes "p"
@@ -75,7 +76,7 @@ HasCount (Rom cell) count = (cell < 256) × (1 ≤ count) × (count ≤ 16)
 HasCount _ count = count ≡ 1
 
 -- a field line of words, whose digits may be of either case
-pub record SpellsWords (text : List ℕ) (field : Field) (words : List ℕ) : Type 0 where
+pub record SpellsWords (text : Text) (field : Field) (words : List ℕ) : Type 0 where
   pub count : HasCount field (length words)
   pub six_digits : AllByRecursion (λ word. word < 2 ^ 24) words
   pub numbers : List ℕ
@@ -91,19 +92,19 @@ IsCode Stop code = (1 ≤ code) × (code ≤ 3)
 IsCode _ code = ⊥
 
 -- and how they are spelled: one decimal digit, or what the node waits for
-abbrev pub code_text : Field → ℕ → List ℕ
+abbrev pub code_text : Field → ℕ → Text
 code_text Wait code = wait_text code
 code_text _ code = (48 + code) ∷ []
 
 -- a line of a carry, a slot, a wait or a stop
-pub record SpellsCode (text : List ℕ) (field : Field) (words : List ℕ) : Type 0 where
+pub record SpellsCode (text : Text) (field : Field) (words : List ℕ) : Type 0 where
   pub code : ℕ
   pub one : words ≡ code ∷ []
   pub valid : IsCode field code
   pub parts : text ≡ field_name field ++ code_text field code
 
 -- any field line
-abbrev pub SpellsField : List ℕ → Field → List ℕ → Type 0
+abbrev pub SpellsField : Text → Field → List ℕ → Type 0
 SpellsField text Carry words = SpellsCode text Carry words
 SpellsField text Slot words = SpellsCode text Slot words
 SpellsField text Wait words = SpellsCode text Wait words
@@ -111,7 +112,7 @@ SpellsField text Stop words = SpellsCode text Stop words
 SpellsField text field words = SpellsWords text field words
 
 -- the text of a line behind the header
-abbrev pub Spells : List ℕ → Form → Type 0
+abbrev pub Spells : Line → Form → Type 0
 Spells text (Node yxx) = (yxx < 1000) × (text ≡ codes "node " ++ decimal3_of yxx)
 Spells text (Words field words) = SpellsField text field words
 Spells text End = text ≡ codes "end"
@@ -122,5 +123,5 @@ IsFormOf format (Words field words) = has_field format field ≡ true
 IsFormOf format _ = Unit {0}
 
 -- the text of a line of the format
-abbrev pub SpellsIn : Format → List ℕ → Form → Type 0
+abbrev pub SpellsIn : Format → Line → Form → Type 0
 SpellsIn format text form = Spells text form × IsFormOf format form

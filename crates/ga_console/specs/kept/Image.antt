@@ -1,8 +1,9 @@
 -- What reading the image part does.
 use Rattle.std.specs.Prelude.{ℕ, Bool, true, false, List}
+use Rattle.ga_image.specs.Lines.{Text, Line}
 use Rattle.ga_console.specs.Lines.{ended}
 
 -- a part with its line feed, if it has one
-abbrev pub with_feed : List ℕ → Bool → List ℕ
+abbrev pub with_feed : Line → Bool → Text
 with_feed part true = ended part
 with_feed part false = part

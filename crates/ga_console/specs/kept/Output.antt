@@ -1,5 +1,6 @@
 -- What was said to an output, which gathers it before it writes.
 use Rattle.std.specs.Prelude.{ℕ, List, ◌++◌, Option, Result}
+use Rattle.ga_image.specs.Lines.{Bytes, Text}
 use Rattle.ga_console.specs.declared.output.WriteFailed.{WriteFailed}
 use Rattle.ga_console.specs.Output.{IsSaid, IsSaidOrCut}
 
@@ -7,15 +8,15 @@ use Rattle.ga_console.specs.Output.{IsSaid, IsSaidOrCut}
 -- the call, held and left the same after it.
 abbrev pub Says : {T : Type 0}
     → Result T WriteFailed
-    → (List ℕ → Type 0)
-    → Option (List ℕ)
-    → List ℕ
-    → Option (List ℕ)
-    → List ℕ
+    → (Text → Type 0)
+    → Option Bytes
+    → Text
+    → Option Bytes
+    → Text
     → Type 0
 Says result IsText contents pending held left =
-    (before said : List ℕ)
+    (before said : Text)
     → IsSaid contents before said pending
-    → (text : List ℕ)
+    → (text : Text)
     × IsText text
     × IsSaidOrCut result held before (said ++ text) left

@@ -1,6 +1,7 @@
 -- What private contracts, invariants and bridges cite.
 use Rattle.std.specs.Prelude.{ℕ, nat_eq, if◌then◌else◌, List, codes, Option, Some, None, option_map}
 use Rattle.std.specs.Cmp.Lexicographic.{pointwise}
+use Rattle.ga_image.specs.Lines.{Text, Line}
 use Rattle.ga_grid.specs.declared.node_id.NodeId.{NodeId}
 use Rattle.ga_image.specs.Steps.{◌>>=◌}
 use Rattle.ga_console.specs.declared.command.Command.{Command}
@@ -8,24 +9,24 @@ use Rattle.ga_console.specs.declared.command.Command.TheVariants.{Step, Back, Re
 use Rattle.ga_console.specs.Parsing.{cut, node_in, number_in, byte_in}
 
 -- a node and a step of it
-unfoldable pub step_in : List ℕ → Option (NodeId × ℕ)
+unfoldable pub step_in : Text → Option (NodeId × ℕ)
 step_in text = do
   parts ← cut text
   node ← node_in parts.0
   step ← number_in parts.1
   Some (node, step)
 
-unfoldable pub rewind_in : List ℕ → Option Command
+unfoldable pub rewind_in : Text → Option Command
 rewind_in text = option_map (λ step. Rewind step.0 step.1) (step_in text)
 
-unfoldable pub memory_in : List ℕ → Option Command
+unfoldable pub memory_in : Text → Option Command
 memory_in text = do
   parts ← cut text
   node ← node_in parts.0
   address ← byte_in parts.1
   Some (Memory node address)
 
-unfoldable pub why_in : List ℕ → Option Command
+unfoldable pub why_in : Text → Option Command
 why_in text = do
   first ← cut text
   second ← cut first.1
@@ -35,7 +36,7 @@ why_in text = do
   Some (Why from from_step to.0 to.1)
 
 -- a command without arguments
-unfoldable pub alone : List ℕ → Option Command
+unfoldable pub alone : Line → Option Command
 alone name =
     if pointwise nat_eq name (codes "back") then Some Back
     else if pointwise nat_eq name (codes "count") then Some Count
@@ -44,7 +45,7 @@ alone name =
     else None
 
 -- a command with arguments
-unfoldable pub with_arguments : List ℕ → List ℕ → Option Command
+unfoldable pub with_arguments : Text → Text → Option Command
 with_arguments name text =
     if pointwise nat_eq name (codes "step") then option_map Step (node_in text)
     else if pointwise nat_eq name (codes "rewind") then rewind_in text
@@ -54,10 +55,10 @@ with_arguments name text =
     else if pointwise nat_eq name (codes "why") then why_in text
     else None
 
-abbrev pub command_by : Option (List ℕ × List ℕ) → List ℕ → Option Command
+abbrev pub command_by : Option (Text × Text) → Text → Option Command
 command_by None line = alone line
 command_by (Some parts) line = with_arguments parts.0 parts.1
 
 -- the command that a line spells
-abbrev pub command_in : List ℕ → Option Command
+abbrev pub command_in : Line → Option Command
 command_in line = command_by (cut line) line

@@ -1,6 +1,6 @@
 -- What the reading of one line does.
 use Rattle.std.specs.Prelude.{◌≡◌, ℕ, ◌+◌, List, [], ◌∷◌, ◌++◌, length, take, Result, Ok, Err}
-use Rattle.ga_image.specs.Lines.{longest}
+use Rattle.ga_image.specs.Lines.{Bytes, Line, longest}
 use Rattle.ga_console.specs.Lines.{HasNoFeed}
 use Rattle.ga_console.specs.Input.{Unread, input_limit}
 use Rattle.ga_console.specs.declared.output.WriteFailed.{WriteFailed}
@@ -8,32 +8,32 @@ use Rattle.ga_console.specs.declared.lines.LineEnd.{LineEnd}
 use Rattle.ga_console.specs.declared.lines.LineEnd.TheVariants.{Feed, Last, Past, ReadFailed}
 
 -- the part stands at the front of the whole, more is left, and the first `longest + 1` bytes of the part are in line
-pub record IsLine (whole line part more : List ℕ) : Type 0 where
+pub record IsLine (whole line part more : Bytes) : Type 0 where
   pub splits : whole ≡ part ++ more
   pub no_feed : HasNoFeed part
   pub kept : line ≡ take (longest + 1) part
 
 -- a line was taken, with the line feed behind it
-pub record TakesLine (old : Unread) (input line : List ℕ) (new : Unread) (rest : List ℕ) : Type 0 where
-  pub part : List ℕ
+pub record TakesLine (old : Unread) (input : Bytes) (line : Line) (new : Unread) (rest : Bytes) : Type 0 where
+  pub part : Bytes
   pub is_line : IsLine (old.bytes ++ input) line part (10 ∷ (new.bytes ++ rest))
   pub counts : new.taken ≡ old.taken + length part + 1
 
 -- all was taken that was read, and there is no line feed in it
-pub record TakesAll (old : Unread) (input line : List ℕ) (new : Unread) (more : List ℕ) : Type 0 where
-  pub part : List ℕ
+pub record TakesAll (old : Unread) (input : Bytes) (line : Line) (new : Unread) (more : Bytes) : Type 0 where
+  pub part : Bytes
   pub is_line : IsLine (old.bytes ++ input) line part more
   pub counts : new.taken ≡ old.taken + length part
   pub none_left : new.bytes ≡ []
 
 -- the byte past the bound was read
-pub record TakesOne (old : Unread) (input line : List ℕ) (new : Unread) (rest : List ℕ) : Type 0 where
+pub record TakesOne (old : Unread) (input : Bytes) (line : Line) (new : Unread) (rest : Bytes) : Type 0 where
   pub byte : ℕ
   pub takes : TakesAll old input line new (byte ∷ rest)
   pub full : new.taken ≡ input_limit
 
 -- Input is what the reader has left before the call, rest what it has left afterwards.
-abbrev pub ReadsLine : Unread → List ℕ → List ℕ → Unread → List ℕ → Result LineEnd WriteFailed → Type 0
+abbrev pub ReadsLine : Unread → Bytes → Line → Unread → Bytes → Result LineEnd WriteFailed → Type 0
 ReadsLine old input line new rest (Ok Feed) = TakesLine old input line new rest
 ReadsLine old input line new rest (Ok Last) = TakesAll old input line new [] × (rest ≡ [])
 ReadsLine old input line new rest (Ok Past) = TakesOne old input line new rest

@@ -1,5 +1,6 @@
 -- What is written once a source or an image was read.
 use Rattle.std.specs.Prelude.{◌≡◌, ℕ, ◌⊎◌, List, []}
+use Rattle.ga_image.specs.Lines.{Text}
 use Rattle.ga_image.specs.declared.fault.ImageFault.{ImageFault}
 use Rattle.ga_console.specs.Output.{Begins}
 use Rattle.ga_console.specs.Texts.{image_fault_text}
@@ -10,21 +11,21 @@ use Rattle.ga_console.specs.declared.run.Status.TheVariants.{Done, ImageRefused,
 use Rattle.ga_console.specs.Source.{IsAssembly, IsAccepted}
 
 -- What may be written once the source was read: nothing where it is refused.
-abbrev pub Assembly : List ℕ → Status → Type 0
+abbrev pub Assembly : Text → Status → Type 0
 Assembly text Done = IsAssembly text
 Assembly text ImageRefused = text ≡ []
 Assembly text StreamFault = IsCutShort IsAssembly text
 Assembly text NotFinished = ⊥
 
 -- What may be written of a listing once the source was read: nothing where it is refused. The listing itself is not defined.
-abbrev pub Listing : List ℕ → Status → Type 0
+abbrev pub Listing : Text → Status → Type 0
 Listing text Done = Unit {0}
 Listing text ImageRefused = text ≡ []
 Listing text StreamFault = Unit {0}
 Listing text NotFinished = ⊥
 
 -- What may be written once an image was read: its source, which is not defined, or its refusal.
-abbrev pub Disassembly : List ℕ → List ℕ → Status → Type 0
+abbrev pub Disassembly : Text → Text → Status → Type 0
 Disassembly image text Done = IsAccepted image
 Disassembly image text ImageRefused = (fault : ImageFault) × IsFault image fault × (text ≡ image_fault_text fault)
 Disassembly image text StreamFault = IsAccepted image ⊎ ((fault : ImageFault) × IsFault image fault × Begins (image_fault_text fault) text)

@@ -1,5 +1,6 @@
 -- The text of fields and blocks as it is put together.
 use Rattle.std.specs.Prelude.{ℕ, List, map, flat_map}
+use Rattle.ga_image.specs.Lines.{Text}
 use Rattle.ga_node.specs.Record.{NodeRecord}
 use Rattle.ga_image.specs.declared.field.Bank.{Bank}
 use Rattle.ga_image.specs.declared.field.Bank.TheVariants as bank
@@ -9,11 +10,11 @@ use Rattle.ga_image.specs.Grammar.{Block, block_forms}
 use Rattle.ga_image.specs.Printing.{field_text, line_text, lines_text}
 
 -- the text of field lines
-abbrev pub fields_text : List (Field × List ℕ) → List ℕ
+abbrev pub fields_text : List (Field × List ℕ) → Text
 fields_text lines = lines_text (map (λ line. field_text line.0 line.1) lines)
 
 -- the text of blocks
-abbrev pub blocks_text : List Block → List ℕ
+abbrev pub blocks_text : List Block → Text
 blocks_text blocks = lines_text (map line_text (flat_map block_forms blocks))
 
 -- the fields whose lines give words, and those whose lines give one digit
