@@ -1,14 +1,11 @@
 //! Chips and images.
 
 use crate::outcome::Outcome;
+use ga_given::{SENDER_AND_TAKER, WAITING};
 use ga_grid::{Chip, Memory, NodeId};
 use ga_image::{ImageCause, ImageFault, parse, print};
 use ga_node::Place;
 use std::alloc::Global;
-
-/// Node 000 sends 2a to the right, node 001 takes a word from there.
-pub const SENDER_AND_TAKER: &[u8] =
-    b"ga144 1\nnode 000\np 000000\nram 00 004b12 0001d5 00002a 0089b2\nnode 001\np 000000\nram 00 004b02 0001d5\nend\n";
 
 /// Node 000 sends 2a to the right, node 001 reads `io`, and so looks at it.
 pub const SENDER_AND_LOOKER: &[u8] =
@@ -17,10 +14,6 @@ pub const SENDER_AND_LOOKER: &[u8] =
 /// Node 000 sends 2a to the right, node 001 fetches from `io` first, and so looks at it.
 pub const SENDER_AND_FETCHER: &[u8] =
     b"ga144 1\nnode 000\np 000000\nram 00 004b12 0001d5 00002a 0089b2\nnode 001\np 00015d\nend\n";
-
-/// The sender as it waits.
-pub const WAITING: &str =
-    "ga144 2\nnode 000\nb 0001d5\np 000004\ni 0089b2\nslot 0\nd 00002a 015555 015555 015555 015555 015555 015555 015555 015555 015555\nwait write r---\nram 00 004b12 0001d5 00002a 0089b2 000000 000000 000000 000000\nend\n";
 
 /// Want of memory.
 const MEMORY: ImageFault = ImageFault {

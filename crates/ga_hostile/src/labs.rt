@@ -1,7 +1,7 @@
 //! A lab: steps, readings, and what takes no memory.
 
-use crate::images::SENDER_AND_TAKER;
 use crate::outcome::Outcome;
+use ga_given::SENDER_AND_TAKER;
 use ga_grid::{Chip, NodeId};
 use ga_image::parse;
 use ga_lab::{Lab, LabFault, Link, Made};

@@ -100,6 +100,3 @@ fn run_of<R: Threads + Wait + Sync>(rt: &R, alloc: Global, run: &str) -> Outcome
         _ => Outcome::Wrong("there is no such run"),
     }
 }
-
-#[cfg(test)]
-mod tests;

@@ -1,11 +1,11 @@
 //! A picture that is asked for again at once where memory was refused.
 
-use crate::images::WAITING;
 use crate::outcome::Outcome;
 use arrayvec::ArrayVec;
 use ga_console::Status;
 use ga_draw::draw_session;
 use ga_drawing::View;
+use ga_given::WAITING;
 use ga_grid::NodeId;
 use std::alloc::Global;
 use std::io::{self, Read, Write};

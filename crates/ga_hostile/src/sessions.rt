@@ -2,12 +2,13 @@
 
 ghost use Rattle.std.specs.Prelude.{◌≤◌, length};
 
-use crate::images::{SENDER_AND_FETCHER, SENDER_AND_LOOKER, SENDER_AND_TAKER, WAITING};
+use crate::images::{SENDER_AND_FETCHER, SENDER_AND_LOOKER};
 use crate::labs::LIMIT;
 use crate::outcome::Outcome;
 use crate::turns::{FETCHES, LISTS, LOOKS, READINGS, STEPS, TRANSFER, TRANSFERRED, Turns};
 use arrayvec::ArrayVec;
 use ga_console::{Status, session};
+use ga_given::{SENDER_AND_TAKER, WAITING};
 use std::alloc::Global;
 use std::cell::Cell;
 use std::io::{Read, Result, Write};

@@ -2,11 +2,11 @@
 
 ghost use Rattle.std.specs.Prelude.{◌≡◌, ◌<◌, ◌^◌, All, IfOk, vec_len};
 
-use crate::images::SENDER_AND_TAKER;
 use crate::labs::{LIMIT, linked};
 use crate::outcome::Outcome;
 use crate::page::Page;
 use ga_console::{LineFault, Settings, Status, arguments, race_report};
+use ga_given::SENDER_AND_TAKER;
 use ga_grid::NodeId;
 use ga_lab::Made;
 use ga_node::Kind;

@@ -1,6 +1,6 @@
 //! What sessions are asked, and what they have to answer.
 
-use crate::images::WAITING;
+use ga_given::WAITING;
 
 /// A command; where it may be refused for want of memory, how many events are kept and made before it; and its answer.
 pub(crate) type Turn = (&'static str, Option<&'static str>, &'static str);

@@ -1,7 +1,7 @@
-use crate::given::{load, reader_of_io, sender, taker};
 use ga_event::{
     Cause, Effect, Event, apply, cause_of, cause_with, next_event, seen_from, touches, unapply,
 };
+use ga_given::{load, reader_of_io, sender, taker};
 use ga_grid::{Chip, NodeId, neighbour};
 use ga_node::{Beside, Kind, NotReady, Place, Seen, Wait};
 use ga_ports::Side;

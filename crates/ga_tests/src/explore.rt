@@ -1,7 +1,7 @@
-use crate::given::{load, sender, taker};
 use ga_explore::{
     Condition, Effect, End, Ran, Schedule, Sent, Words, find_effects, find_stuck, run,
 };
+use ga_given::{load, sender, taker};
 use ga_grid::{Chip, NodeId};
 use ga_lab::{Lab, LabFault, Made};
 use ga_node::{Kind, Place};

@@ -1,4 +1,4 @@
-use crate::given::{first_difference, is_same, load, sender, taker};
+use ga_given::{first_difference, is_same, load, sender, taker};
 use ga_grid::{Chip, NodeId};
 use ga_lab::{Lab, LabFault, Made};
 use ga_node::{Kind, Place};

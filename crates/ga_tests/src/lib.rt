@@ -1,4 +1,4 @@
-//! The tests of the crates, each through what its crate offers to others.
+//! The tests of the crates from words up to exploring, each through what its crate offers to others.
 //!
 //! A check of a crate with tests of its own proves the whole crate once more. Here only the tests are left to prove.
 #![tactic(auto)]
@@ -6,21 +6,13 @@
 #[cfg(test)]
 mod causal;
 #[cfg(test)]
-mod console;
-#[cfg(test)]
-mod drawing;
-#[cfg(test)]
 mod event;
 #[cfg(test)]
 mod explore;
 #[cfg(test)]
 mod flow;
 #[cfg(test)]
-mod given;
-#[cfg(test)]
 mod grid;
-#[cfg(test)]
-mod image;
 #[cfg(test)]
 mod journal;
 #[cfg(test)]
@@ -33,8 +25,6 @@ mod ports;
 mod shared;
 #[cfg(test)]
 mod slots;
-#[cfg(test)]
-mod source;
 #[cfg(test)]
 mod stacks;
 #[cfg(test)]

@@ -1,7 +1,7 @@
 //! Rollbacks of a busy chip, and what they cost.
 
 use super::{Act, LIMIT, assert_same, pair, play, steps};
-use crate::given::{load, reader_of_io, sender, taker};
+use ga_given::{load, reader_of_io, sender, taker};
 use ga_grid::{Chip, NodeId};
 use ga_lab::{Lab, LabFault, Made, Ticks};
 use std::alloc::Global;

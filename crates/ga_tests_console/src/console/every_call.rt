@@ -1,12 +1,14 @@
 //! Readers that fail, and writers that take one byte at a time and fail, at each of their calls.
 
-use crate::images::{SENDER_AND_TAKER, WAITING};
-use crate::labs::LIMIT;
 use ga_console::{Status, session};
+use ga_given::{SENDER_AND_TAKER, WAITING};
 use std::alloc::{AllocError, Global};
 use std::io::{Error, ErrorKind, Read, Result, Write};
 use std::process::Abort;
 use std::test::Fail;
+
+/// How many events may be kept.
+const LIMIT: u32 = 1_000_000;
 
 /// An image, and the commands behind it with their answers.
 #[derive(Clone, Copy)]

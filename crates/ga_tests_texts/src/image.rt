@@ -1,5 +1,6 @@
 //! Images that are read, refused and printed.
 
+mod bytes;
 mod faults;
 mod lines;
 mod printing;

@@ -1,7 +1,8 @@
 //! Commands that are changed or added to.
 
-use super::{STRANGE, changed, inserted, is_answered};
+use super::{STRANGE, is_answered};
 use ga_console::Status;
+use ga_given::{changed, inserted};
 use std::alloc::{AllocError, Global};
 use std::test::Fail;
 

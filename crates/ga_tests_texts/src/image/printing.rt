@@ -2,7 +2,7 @@
 
 ghost use Rattle.std.specs.Prelude.{◌<◌, ◌^◌};
 
-use crate::given::first_difference;
+use ga_given::first_difference;
 use ga_grid::{Chip, NodeId};
 use ga_image::{parse, print};
 use ga_node::{Node, Place};

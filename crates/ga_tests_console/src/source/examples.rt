@@ -1,7 +1,7 @@
 //! The examples' images from source, word for word, and what listings and sources of images look like.
 
-use crate::given::is_same;
 use ga_console::{Status, assemble_source, disassemble, list_source};
+use ga_given::is_same;
 use ga_grid::{Chip, NODES, NodeId};
 use ga_image::{parse, print};
 use ga_node::Place;

@@ -1,7 +1,8 @@
 //! Images that are cut or added to.
 
-use super::{STRANGE, inserted, is_answered};
+use super::{STRANGE, is_answered};
 use ga_console::Status;
+use ga_given::inserted;
 use std::alloc::{AllocError, Global};
 use std::process::Abort;
 use std::test::Fail;

@@ -1,6 +1,7 @@
 //! Images in which one byte is changed.
 
-use super::changed;
+use super::refusal;
+use ga_given::changed;
 use ga_grid::{Chip, NodeId};
 use ga_image::{ImageCause, parse};
 use ga_node::Place;
@@ -61,15 +62,7 @@ const STATES: (&[u8], &[Places]) = (
     ],
 );
 
-/// The number of the cause and the line, where a text is refused.
-fn refusal(alloc: Global, text: &[u8]) -> Option<(u8, u32)> {
-    match parse(alloc, text) {
-        Ok(_) => None,
-        Err(fault) => Some((fault.cause.number(), fault.line)),
-    }
-}
-
-/// The same, and 0 and 0 where the text is accepted and its chip does not hold what the text says.
+/// The number of the cause and the line where a text is refused, and 0 and 0 where the text is accepted and its chip does not hold what the text says.
 fn outcome(alloc: Global, text: &[u8], says: Says) -> Option<(u8, u32)> {
     match parse(alloc, text) {
         Ok(chip) => {

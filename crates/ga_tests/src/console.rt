@@ -1,4 +1,0 @@
-mod library;
-mod races;
-mod settings;
-mod streams;

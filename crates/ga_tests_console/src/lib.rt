@@ -1,0 +1,9 @@
+//! The tests of sessions, races, command lines, source as `asm`, `list` and `dis` take it, and pictures.
+#![tactic(auto)]
+
+#[cfg(test)]
+mod console;
+#[cfg(test)]
+mod drawing;
+#[cfg(test)]
+mod source;

@@ -1,0 +1,7 @@
+//! The tests of images and source, through what their crates offer to others.
+#![tactic(auto)]
+
+#[cfg(test)]
+mod image;
+#[cfg(test)]
+mod source;

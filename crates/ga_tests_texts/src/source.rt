@@ -1,0 +1,4 @@
+//! Source that is assembled or refused.
+
+mod faults;
+mod words;
