@@ -1,6 +1,6 @@
 //! Chains of direct dependence.
 
-ghost use Rattle.std.specs.Prelude.{◌≡◌, ◌≢◌, ◌↔◌, ◌<◌, ◌≤◌, ◌+◌, ◌^◌, true, false, List, length, drop, slice_get, slice_index_or, IfOk, IsTrue, [], ◌∷◌};
+ghost use Rattle.std.specs.Prelude.{◌≡◌, ◌≢◌, ◌↔◌, ◌<◌, ◌≤◌, ◌+◌, ◌^◌, true, false, List, length, map, drop, slice_get, slice_index_or, IfOk, IsTrue, [], ◌∷◌};
 ghost use Rattle.ga_event.specs.declared.event.Cause.{Cause};
 ghost use Rattle.ga_causal.specs.Dependence.{dependents};
 ghost use Rattle.ga_causal.specs.kept.Firsts.{first_at, IsFirsts};
@@ -50,6 +50,15 @@ impl Chain {
         ensures { result.now ≡ self.now }
     {
         self.links.as_slice()
+    }
+
+    /// The places of the links, in their order.
+    pub fn places(&self) -> Result<Vec<u32>, Memory>
+        ensures { IfOk result (λ list. list.items ≡ map (λ link. link.place) self.now) }
+    {
+        let alloc = *self.links.allocator();
+        let places: Vec<u32> = self.links.iter().map(|link| link.place).collect(alloc)?;
+        Ok(places)
     }
 
     /// The link at an index, 0 for the first.

@@ -8,6 +8,7 @@ pub mod Making
 pub mod Marks
 pub mod Newest
 pub mod Popped
+pub mod Recalled
 pub mod Sound
 pub mod Stored
 pub mod Window

@@ -15,8 +15,9 @@ pub struct Chronicle {
 }
 
 impl Chronicle {
-    ghost use Rattle.std.specs.Prelude.{◌≡◌, ◌<◌, ◌≤◌, ◌+◌, ◌^◌, ◌↔◌, length, take, drop, IfOk, IfErr, IsNone};
-    ghost use Rattle.std.specs.List.{slice_get};
+    ghost use Rattle.std.specs.Prelude.{◌≡◌, ◌<◌, ◌≤◌, ◌+◌, ◌^◌, ◌↔◌, length, map, take, drop, Some, IfOk, IfErr, IsNone};
+    ghost use Rattle.std.specs.List.{slice_get, All};
+    ghost use Rattle.std.specs.List.Sorted.{IsStrictlyIncreasing};
     ghost use Rattle.ga_journal.specs.Histories.{history};
     ghost use Rattle.ga_journal.specs.Walked.{walked, CanWalk};
     ghost use Rattle.ga_journal.specs.Events.{kept_of, causes_of, events_of};
@@ -72,6 +73,21 @@ impl Chronicle {
         ensures past { IsNone result ↔ (length (kept_of self.now.journal) ≤ place) }
     {
         self.journal.made_at(place)
+    }
+
+    /// What is told of the kept events at these places of their list, each above the one before. It walks back once, from the
+    /// newest to the first of them, and takes memory for what it tells alone.
+    ///
+    /// # Errors
+    /// `Memory` alone.
+    pub fn mades_at(&self, places: &[u32]) -> Result<Vec<Made>, JournalFault>
+        requires whole { IsWhole self.now.journal.histories self.now.journal.made }
+        requires rise { IsStrictlyIncreasing places.now }
+        requires within { All (λ place. place < length (kept_of self.now.journal)) places.now }
+        ensures ok { IfOk result (λ list. map Some list.items ≡ map (made_in (kept_of self.now.journal)) places.now) }
+        ensures err { IfErr result (λ fault. fault ≡ JournalFault.Memory) }
+    {
+        self.journal.mades_at(places)
     }
 
     /// The kept events in order, each with whether it looked.

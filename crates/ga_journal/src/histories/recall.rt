@@ -68,7 +68,10 @@ impl Histories {
     ghost use Rattle.ga_journal.specs.Logs.{Stamped, Records};
     ghost use Rattle.ga_journal.specs.kept.Newest.{IsLatest};
     ghost use Rattle.ga_journal.specs.kept.Cuts.{cut, older_causes, WalksBack, IsCutWithin, IsShorter, IsFirst, IsWalked};
+    ghost use Rattle.ga_journal.specs.kept.Recalled.{AreTold};
     ghost use Rattle.ga_journal.specs.Since.{IsSince};
+    ghost use Rattle.std.specs.List.{All};
+    ghost use Rattle.std.specs.List.Sorted.{IsStrictlyIncreasing};
 
     /// How many entries each node has.
     pub(crate) fn lengths_of(&self) -> [u32; 144]
@@ -191,6 +194,31 @@ impl Histories {
         }
     }
 
+    /// Walks back over so many events, and tells of the last of them.
+    fn back_over(
+        &self,
+        lengths: &mut [u32; 144],
+        top: &mut u64,
+        hint: &mut NodeId,
+        count: u32,
+    ) -> (Cause, Made)
+        requires some { 0 < count }
+        requires walk { (log : List Stamped) × (count ≤ length log)
+            × WalksBack (lists_of self.now) lengths.old top.old log }
+        ensures first { (log : List Stamped) → count ≤ length log →
+            WalksBack (lists_of self.now) lengths.old top.old log →
+            IsFirst (drop (count - 1) log) result.0 result.1 }
+        ensures left { (log : List Stamped) → count ≤ length log →
+            WalksBack (lists_of self.now) lengths.old top.old log →
+            WalksBack (lists_of self.now) lengths.new top.new (drop count log) }
+        ensures size { length lengths.new ≡ 144 }
+    {
+        for _ in 1..count {
+            self.back(lengths, top, hint);
+        }
+        self.back(lengths, top, hint)
+    }
+
     /// The event so many from the newest one on, counted from 1, with what is told of it.
     pub(crate) fn recall(&self, top: u64, hint: NodeId, back_by: u32) -> (Cause, Made)
         requires fits { (n : ℕ) → length (history (lists_of self.now) n) < 2 ^ 32 }
@@ -204,10 +232,43 @@ impl Histories {
         let mut lengths = self.lengths_of();
         let mut top = top;
         let mut hint = hint;
-        for _ in 1..back_by {
-            self.back(&mut lengths, &mut top, &mut hint);
+        self.back_over(&mut lengths, &mut top, &mut hint, back_by)
+    }
+
+    /// What is told of the events at these places of a log of this length, the oldest at place 0, in one walk back.
+    pub(crate) fn recall_all(
+        &self,
+        top: u64,
+        hint: NodeId,
+        kept: u32,
+        places: &[u32],
+    ) -> Result<Vec<Made>, JournalFault>
+        requires fits { (n : ℕ) → length (history (lists_of self.now) n) < 2 ^ 32 }
+        requires walk { (log : List Stamped) × (kept ≡ length log) × Records log (lists_of self.now) top }
+        requires rise { IsStrictlyIncreasing places.now }
+        requires within { All (λ place. place < kept) places.now }
+        ensures ok { IfOk result (λ list. (log : List Stamped) → kept ≡ length log →
+            Records log (lists_of self.now) top → AreTold log places.now list.items) }
+        ensures err { IfErr result (λ fault. fault ≡ JournalFault.Memory) }
+    {
+        let mut list = Vec::new(self.alloc());
+        if list.reserve(places.len()).is_err() {
+            return Err(JournalFault::Memory);
         }
-        self.back(&mut lengths, &mut top, &mut hint)
+        let mut lengths = self.lengths_of();
+        let mut top = top;
+        let mut hint = hint;
+        let mut left = kept;
+        let mut at = places.len();
+        while at > 0 {
+            at -= 1;
+            let place = places[at];
+            let (_, made) = self.back_over(&mut lengths, &mut top, &mut hint, left - place);
+            list.push_reserved(made);
+            left = place;
+        }
+        list.reverse();
+        Ok(list)
     }
 
     /// The events of a log of this length, in order, each with whether it looked.

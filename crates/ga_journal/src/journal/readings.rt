@@ -8,8 +8,9 @@ use ga_grid::NodeId;
 use ga_node::Node;
 
 impl Journal {
-    ghost use Rattle.std.specs.Prelude.{◌≡◌, ◌<◌, ◌≤◌, ◌+◌, ◌^◌, ◌↔◌, length, take, drop, IfOk, IfErr, IsNone};
-    ghost use Rattle.std.specs.List.{slice_get};
+    ghost use Rattle.std.specs.Prelude.{◌≡◌, ◌<◌, ◌≤◌, ◌+◌, ◌^◌, ◌↔◌, length, map, take, drop, Some, IfOk, IfErr, IsNone};
+    ghost use Rattle.std.specs.List.{slice_get, All};
+    ghost use Rattle.std.specs.List.Sorted.{IsStrictlyIncreasing};
     ghost use Rattle.ga_journal.specs.Histories.{history};
     ghost use Rattle.ga_journal.specs.Walked.{walked, CanWalk};
     ghost use Rattle.ga_journal.specs.Events.{kept_of, causes_of, events_of};
@@ -77,6 +78,22 @@ impl Journal {
         } else {
             None
         }
+    }
+
+    /// What is told of the kept events at these places of their list, each above the one before. It walks back once, from the
+    /// newest to the first of them, and takes memory for what it tells alone.
+    ///
+    /// # Errors
+    /// `Memory` alone.
+    pub(crate) fn mades_at(&self, places: &[u32]) -> Result<Vec<Made>, JournalFault>
+        requires whole { IsWhole self.now.histories self.now.made }
+        requires rise { IsStrictlyIncreasing places.now }
+        requires within { All (λ place. place < length (kept_of self.now)) places.now }
+        ensures ok { IfOk result (λ list. map Some list.items ≡ map (made_in (kept_of self.now)) places.now) }
+        ensures err { IfErr result (λ fault. fault ≡ JournalFault.Memory) }
+    {
+        self.histories
+            .recall_all(self.top, self.hint, self.kept, places)
     }
 
     /// The kept events in order, each with whether it looked.

@@ -1,0 +1,28 @@
+use Rattle.std.proofs.Common.{◌≡◌, ◌∙◌, ◌<◌, ℕ, length, map, Some, All, IfOk, ap, sym, subst}
+use Rattle.ga_event.specs.Told.{made_in}
+use Rattle.ga_journal.specs.Histories.{Book}
+use Rattle.ga_journal.specs.kept.Histories.{lists_of}
+use Rattle.ga_journal.specs.Events.{kept_of}
+use Rattle.ga_journal.specs.Logs.{IsWhole}
+use Rattle.ga_journal.proofs.Keeping.{fits}
+use Rattle.ga_journal.proofs.Placed.{placed}
+use Rattle.ga_journal.proofs.Recalling.{WalkOf, walk_of}
+use Rattle.ga_journal.proofs.journal.Journal.mades_at.Goals as goal
+
+pub recall_all-requires-clause-fits : goal.recall_all-requires-clause-fits
+recall_all-requires-clause-fits c n = fits c.self.inside.histories c.self.inside.top c.self.inside.made c.self.inside.kept c.self.inside.limit n c.self.invariant.keeps
+
+pub recall_all-requires-clause-walk : goal.recall_all-requires-clause-walk
+recall_all-requires-clause-walk c =
+    let whole : IsWhole (lists_of c.self.inside.histories) c.self.inside.made = subst (λ (b : Book). IsWhole b.histories b.made) (sym c.self.view_is) c.requires.whole in
+    let w : WalkOf c.self.inside.histories c.self.inside.top c.self.inside.made c.self.inside.kept = walk_of c.self.inside.histories c.self.inside.top c.self.inside.made c.self.inside.kept c.self.inside.limit c.self.invariant.keeps whole in
+    (w.log, w.long, w.below)
+
+pub returns-clause-ok : goal.returns-clause-ok
+returns-clause-ok c =
+    let whole : IsWhole (lists_of c.self.inside.histories) c.self.inside.made = subst (λ (b : Book). IsWhole b.histories b.made) (sym c.self.view_is) c.requires.whole in
+    let w : WalkOf c.self.inside.histories c.self.inside.top c.self.inside.made c.self.inside.kept = walk_of c.self.inside.histories c.self.inside.top c.self.inside.made c.self.inside.kept c.self.inside.limit c.self.invariant.keeps whole in
+    let count : length (kept_of c.args.self.now) ≡ c.self.inside.kept = ap (λ (b : Book). length (kept_of b)) (sym c.self.view_is) ∙ sym c.self.invariant.keeps.count in
+    subst (λ (b : Book). IfOk c.recall_all.result (λ list. map Some list.items ≡ map (made_in (kept_of b)) c.args.places.now)) c.self.view_is
+    (placed c.recall_all.result c.self.inside.histories c.self.inside.top c.self.inside.made c.self.inside.kept c.args.places.now w
+    (subst (λ (n : ℕ). All (λ (place : ℕ). place < n) c.args.places.now) count c.requires.within) c.recall_all.ensures.ok)
