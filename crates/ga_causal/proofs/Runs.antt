@@ -56,7 +56,7 @@ pub keeps_of : (c : List NodeRecord) (e : Event) (d : List NodeRecord) (t : Told
 keeps_of c e d t h = subst (λ o. IfSome o (λ done. Agree (cause_touches (cause_of c e)) c done.0)) h (apply_keeps c e)
 
 -- the marks go on
-Agree-marked : (marks : ℕ → Bool) (e : Event) (c d b : List NodeRecord) (t : Told) → Agree marks c b → apply c e ≡ Some (d, t) → Agree (λ n. marks n || cause_touches (cause_of c e) n) d b
+pub Agree-marked : (marks : ℕ → Bool) (e : Event) (c d b : List NodeRecord) (t : Told) → Agree marks c b → apply c e ≡ Some (d, t) → Agree (λ n. marks n || cause_touches (cause_of c e) n) d b
 Agree-marked marks e c d b t a h =
     let k : Agree (cause_touches (cause_of c e)) c d = keeps_of c e d t h in
     record {

@@ -13,40 +13,12 @@ use Rattle.ga_event.specs.Agree.{Agree}
 use Rattle.ga_event.proofs.Locality.{Agree-sym}
 use Rattle.ga_causal.specs.Dependence.{events_in, cause_touches, dependents_after, without, rest, place_of, rest_from}
 use Rattle.ga_causal.specs.Steps.{touching}
-use Rattle.ga_causal.proofs.Runs.{kept, run_more, FirstOf, keeps_of, Same, same_of}
+use Rattle.ga_causal.proofs.Runs.{kept, run_more, FirstOf, first_of_run, keeps_of, Agree-marked, Same, same_of}
 use Rattle.ga_causal.proofs.Places.{touching_in}
 use Rattle.ga_event.specs.Told.{steps_of}
 use Rattle.ga_lab.specs.Machine.{State, chip_of, told_by, causes_of, rewound}
 use Rattle.ga_lab.proofs.Answering.{Ran, ran, chip_is}
 use Rattle.ga_lab.proofs.Reasoned.{causes, replayed}
-
-first_of_run : (c : List NodeRecord) (e : Event) (es : List Event) (last : List NodeRecord) (ts : List (Cause × Told)) → run c (e ∷ es) ≡ Some (last, ts) → FirstOf c e es last ts
-first_of_run c e es last ts = at_first (apply c e) refl
-  where
-    at_rest : (done : List NodeRecord × Told) → apply c e ≡ Some done → (r : Option (List NodeRecord × List (Cause × Told))) → run done.0 es ≡ r → option_map {U = List NodeRecord × List (Cause × Told)} (λ rest. (rest.0, (cause_of c e, done.1) ∷ rest.1)) r ≡ Some (last, ts) → FirstOf c e es last ts
-    at_rest done h None k g = absurd (cc)
-    at_rest done h (Some r) k g =
-        let p : (r.0, (cause_of c e, done.1) ∷ r.1) ≡ (last, ts) = same_Some _ _ g in
-        record {
-          mid = done.0;
-          told = done.1;
-          others = r.1;
-          first = h;
-          then = subst (λ z. run done.0 es ≡ Some (z, r.1)) (ap (λ z. z.0) p) k;
-          all = sym (ap (λ z. z.1) p);
-        }
-
-    at_first : (o : Option (List NodeRecord × Told)) → apply c e ≡ o → option_and_then {U = List NodeRecord × List (Cause × Told)} (λ first. option_map {U = List NodeRecord × List (Cause × Told)} (λ rest. (rest.0, (cause_of c e, first.1) ∷ rest.1)) (run first.0 es)) o ≡ Some (last, ts) → FirstOf c e es last ts
-    at_first None h g = absurd (cc)
-    at_first (Some done) h g = at_rest done h (run done.0 es) refl g
-
-Agree-marked : (marks : ℕ → Bool) (e : Event) (c d b : List NodeRecord) (t : Told) → Agree marks c b → apply c e ≡ Some (d, t) → Agree (λ n. marks n || cause_touches (cause_of c e) n) d b
-Agree-marked marks e c d b t a h =
-    let k : Agree (cause_touches (cause_of c e)) c d = keeps_of c e d t h in
-    record {
-      size = sym k.size ∙ a.size;
-      same = λ n free. let p : (marks n ≡ false) × (cause_touches (cause_of c e) n ≡ false) = or_parts (marks n) (cause_touches (cause_of c e) n) free in sym (k.same n p.1) ∙ a.same n p.0;
-    }
 
 one : Bool → ℕ
 one b = cond b 1 0
