@@ -19,8 +19,9 @@ IsSource part = IsPart part
 
 abbrev pub AreParts : List Part → Type 0
 AreParts [] = Unit {0}
-AreParts (part ∷ rest) = IsSource part × AreParts rest
+AreParts (part ∷ rest) = IsPart part × AreParts rest
 
+-- The word from outside stands nowhere in a flow but as what a part becomes: nothing is computed from it in the event that brings it.
 abbrev pub AreSources : Flow → Type 0
 AreSources (Same part) = IsSource part
 AreSources (From parts) = AreParts parts

@@ -12,7 +12,8 @@ use arrayvec::ArrayVec;
 pub enum Flow {
     /// It is the value of this part before.
     Same(Part),
-    /// It is computed from the values of these parts before and from nothing else, given what decides the event.
+    /// It is computed from the values of these parts before and from nothing else, given what decides the event. The word from
+    /// outside is never among them.
     From(ArrayVec<Part, 3>),
 }
 

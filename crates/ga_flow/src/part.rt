@@ -36,7 +36,7 @@ pub enum Part {
 }
 
 impl Part {
-    ghost use Rattle.std.specs.Prelude.{◌≡◌};
+    ghost use Rattle.std.specs.Prelude.{◌≡◌, ◌↔◌, IsTrue};
     ghost use Rattle.ga_flow.specs.Flow.{kind_of, index_of, is_same};
 
     /// T, the top of the data stack.
@@ -82,8 +82,9 @@ impl Part {
     }
 
     /// Whether the two are the same part.
-    pub(crate) fn is_same(self, other: Part) -> bool
-        ensures { result ≡ is_same self other }
+    pub fn is_same(self, other: Part) -> bool
+        ensures value { result ≡ is_same self other }
+        ensures same { IsTrue result ↔ (self ≡ other) }
     {
         self.kind() == other.kind() && self.index() == other.index()
     }

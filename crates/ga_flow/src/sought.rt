@@ -14,9 +14,9 @@ pub(crate) enum Sought {
 
 impl Sought {
     ghost use Rattle.std.specs.Prelude.{◌≡◌, ◌∷◌, [], if◌then◌else◌};
-    ghost use Rattle.ga_flow.specs.Flow.{From, GoOn, Skip, StartAgain, SetWait, SetStop, jump_moves, top_return};
+    ghost use Rattle.ga_flow.specs.Flow.{From, GoOn, Skip, StartAgain, SetWait, SetStop, jump_moves, top_return, IsPart};
     ghost use Rattle.ga_flow.specs.Flow as move;
-    ghost use Rattle.ga_flow.specs.Following.{flow_of, AreSources, IsSource};
+    ghost use Rattle.ga_flow.specs.Following.{flow_of, AreSources};
     ghost use Rattle.ga_flow.specs.kept.Following.{sought_of, set_at, push_data, pop_data, push_return, pop_return, before, before_all, settled, IsSought};
 
     /// Before a part got a word that comes from there.
@@ -166,7 +166,7 @@ impl Sought {
     /// Before the address in a register advanced.
     pub(crate) fn advance(self, register: Part) -> Sought
         requires known { IsSought (sought_of self) }
-        requires source { IsSource register }
+        requires part { IsPart register }
         ensures value { sought_of result ≡ set_at register (From (register ∷ [])) (sought_of self) }
         ensures known { IsSought (sought_of result) }
     {

@@ -2,7 +2,6 @@
 use Rattle.std.specs.Prelude.{◌+◌, ◌-◌, ◌==◌, if◌then◌else◌, List, [], ◌∷◌}
 use Rattle.ga_flow.specs.declared.part.Part.{Part}
 use Rattle.ga_flow.specs.declared.part.Part.TheVariants.{Data, Return, Ram, Rom, A, B, P, I, Io, Carry, Slot, Wait, Stop, Outside}
-use Rattle.ga_flow.specs.declared.flow.Flow.TheVariants as flow
 use Rattle.ga_flow.specs.declared.sought.Sought.{Sought}
 use Rattle.ga_flow.specs.declared.sought.Sought.TheVariants as sought
 use Rattle.ga_ports.specs.Address.{is_single}
