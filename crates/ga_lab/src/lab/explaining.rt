@@ -1,0 +1,60 @@
+//! A chain of causes, told.
+
+use super::Lab;
+use crate::fault::LabFault;
+use ga_causal::Chain;
+use ga_event::Made;
+use ga_grid::NodeId;
+
+impl Lab {
+    ghost use Rattle.std.specs.Prelude.{◌≡◌, ◌⊎◌, ◌↔◌, ◌&&◌, false, List, map, Some, None, Ok, Err, IfOk, IfErr, IsOk, MatchOption};
+    ghost use Rattle.ga_causal.specs.declared.chain.Link.{Link};
+    ghost use Rattle.ga_causal.specs.Chains.{IsChain};
+    ghost use Rattle.ga_event.specs.Told.{made_in};
+    ghost use Rattle.ga_lab.specs.Machine.{told_of_kept, causes_of, stands, why_answer};
+
+    /// The chain that `why` answers, told: of each link, in their order, what `made_at` tells of its place. None where the second
+    /// step does not depend on the first. It walks back twice to the first step, however long the chain is, and takes memory by
+    /// what came after that step.
+    ///
+    /// # Errors
+    /// `NoStep`, where a node has no such step; then `Memory`.
+    pub fn explain(
+        &self,
+        from: (NodeId, u32),
+        to: (NodeId, u32),
+    ) -> Result<Option<Vec<Made>>, LabFault>
+        ensures ok { let answer = why_answer self.now from.0.number from.1 to.0.number to.1 in
+            IfOk result (λ told. MatchOption told (answer ≡ Ok None) (λ list. (links : List Link) × (answer ≡ Ok (Some links))
+            × (map Some list.items ≡ map (λ link. made_in (told_of_kept self.now) link.place) links))) }
+        ensures err { let answer = why_answer self.now from.0.number from.1 to.0.number to.1 in
+            IfErr result (λ why. (answer ≡ Err why) ⊎ ((why ≡ LabFault.Memory) × IsOk answer)) }
+        ensures refused { (result ≡ Err LabFault.NoStep)
+            ↔ ((stands self.now from.0.number from.1 && stands self.now to.0.number to.1) ≡ false) }
+    {
+        match self.why(from, to) {
+            Ok(Some(chain)) => match self.tell(&chain) {
+                Ok(list) => Ok(Some(list)),
+                Err(why) => Err(why),
+            },
+            Ok(None) => Ok(None),
+            Err(why) => Err(why),
+        }
+    }
+
+    // What is told of the links of a chain, in one walk.
+    fn tell(&self, chain: &Chain) -> Result<Vec<Made>, LabFault>
+        requires { IsChain (causes_of self.now) chain.now }
+        ensures ok { IfOk result (λ list.
+            map Some list.items ≡ map (λ link. made_in (told_of_kept self.now) link.place) chain.now) }
+        ensures err { IfErr result (λ why. why ≡ LabFault.Memory) }
+    {
+        match chain.places() {
+            Ok(places) => match self.chronicle.mades_at(places.as_slice()) {
+                Ok(list) => Ok(list),
+                Err(_) => Err(LabFault::Memory),
+            },
+            Err(_) => Err(LabFault::Memory),
+        }
+    }
+}
