@@ -9,3 +9,5 @@ pub mod Stuck
 pub mod Taking
 pub mod Freeing
 pub mod Telling
+pub mod WordCounts
+pub mod Refusing

@@ -29,17 +29,17 @@ use Rattle.ga_explore.proofs.Looking.{IsOf, refreshed, none_past}
 use Rattle.ga_explore.proofs.Rounds.{first_same, none_of}
 
 -- the event of a step that was made
-record StepIs (s : State) (n : NodeId) (m : Made) : Type 0 where
-  what : Event
-  is : next (chip_of s) n ≡ Ok what
-  told : told_next s what ≡ m
+pub record StepIs (s : State) (n : NodeId) (m : Made) : Type 0 where
+  pub what : Event
+  pub is : next (chip_of s) n ≡ Ok what
+  pub told : told_next s what ≡ m
 
 told_is : (a b : Bool) (here m : Made) → cond a (Err Full) (cond b (Err Spent) (Ok here)) ≡ Ok m → here ≡ m
 told_is true b here m h = absurd (cc)
 told_is false true here m h = absurd (cc)
 told_is false false here m h = cc
 
-step_is : (s : State) (n : NodeId) (m : Made) → step_answer s n ≡ Ok m → StepIs s n m
+pub step_is : (s : State) (n : NodeId) (m : Made) → step_answer s n ≡ Ok m → StepIs s n m
 step_is s n m h = go (next (chip_of s) n) refl h
   where
     go : (o : Result Event NotReady) → next (chip_of s) n ≡ o → answer_to s o ≡ Ok m → StepIs s n m
@@ -55,7 +55,7 @@ chip_with s e some can =
     (run_snoc s.load r.last (after r.last e).0 s.kept r.told e (after r.last e).1 r.run_is made)
     ∙ ap (λ z. (after z e).0) (sym (chip_is s r))
 
-stepped_is : (s : State) (n : NodeId) (m : Made) (e : Event) → step_answer s n ≡ Ok m → next (chip_of s) n ≡ Ok e → stepped s n ≡ with_event s (Ok e)
+pub stepped_is : (s : State) (n : NodeId) (m : Made) (e : Event) → step_answer s n ≡ Ok m → next (chip_of s) n ≡ Ok e → stepped s n ≡ with_event s (Ok e)
 stepped_is s n m e h is =
     ap (λ (a : Result Made LabFault). unless_refused s a (with_event s (next (chip_of s) n))) h
     ∙ ap (with_event s) is

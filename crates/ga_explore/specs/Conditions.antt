@@ -6,8 +6,9 @@ use Rattle.ga_node.specs.declared.kind.Kind.TheVariants as kind
 use Rattle.ga_event.specs.declared.made.Made.{Made}
 use Rattle.ga_event.specs.declared.made.Made.TheVariants as made
 use Rattle.ga_lab.specs.Machine.{State, chip_of, word_at}
+use Rattle.ga_explore.specs.Words.{is_over, word_count}
 use Rattle.ga_explore.specs.declared.condition.Condition.{Condition}
-use Rattle.ga_explore.specs.declared.condition.Condition.TheVariants.{Never, Passes, Steps, Stops, StopsAt, WaitsAt, Holds, ComesTo}
+use Rattle.ga_explore.specs.declared.condition.Condition.TheVariants.{Never, Passes, PassesNumber, Steps, Stops, StopsAt, WaitsAt, Holds, ComesTo}
 
 -- a word went over this link
 abbrev pub is_pass : ℕ → ℕ → ℕ → Made → Bool
@@ -44,6 +45,7 @@ is_own_at node test (made.Pass w k r j carried) = false
 abbrev pub holds : Condition → Made → State → Bool
 holds Never told s = false
 holds (Passes writer reader word) told s = is_pass writer.number reader.number word told
+holds (PassesNumber writer reader number) told s = is_over writer.number reader.number told && (word_count s writer.number reader.number == number)
 holds (Steps node step) told s = is_step node.number step told
 holds Stops told s = is_own is_stop told
 holds (StopsAt node) told s = is_own_at node.number is_stop told

@@ -1,10 +1,15 @@
 -- The words that went over a link (G144A12 Chip Reference DB002, links), numbered in their order.
-use Rattle.std.specs.Prelude.{ℕ, ◌+◌, ◌==◌, ◌&&◌, if◌then◌else◌, List, [], ◌∷◌, ◌++◌, drop}
+use Rattle.std.specs.Prelude.{ℕ, ◌+◌, ◌==◌, Bool, false, ◌&&◌, if◌then◌else◌, List, [], ◌∷◌, ◌++◌, drop, length}
 use Rattle.ga_event.specs.declared.made.Made.{Made}
 use Rattle.ga_event.specs.declared.made.Made.TheVariants as made
 use Rattle.ga_lab.specs.Machine.{State, history_of}
 use Rattle.ga_explore.specs.declared.words.Sent.{Sent}
 use Rattle.ga_explore.specs.declared.words.Words.{Words}
+
+-- the event carried a word over a link
+abbrev pub is_over : ℕ → ℕ → Made → Bool
+is_over writer reader (made.Own n k kind) = false
+is_over writer reader (made.Pass w k r j carried) = (w.number == writer) && (r.number == reader)
 
 -- the word that an event carried over a link, with this number; nothing where it carried none there
 abbrev pub carried_as : ℕ → ℕ → ℕ → Made → List Sent
@@ -15,8 +20,7 @@ carried_as writer reader number (made.Pass w k r j carried) =
 
 -- one where the event carried a word over the link
 abbrev pub one_over : ℕ → ℕ → Made → ℕ
-one_over writer reader (made.Own n k kind) = 0
-one_over writer reader (made.Pass w k r j carried) = if (w.number == writer) && (r.number == reader) then 1 else 0
+one_over writer reader told = if is_over writer reader told then 1 else 0
 
 -- the words that these events carried, where so many came before
 abbrev pub words_after : ℕ → ℕ → ℕ → List Made → List Sent
@@ -27,6 +31,10 @@ words_after writer reader before (told ∷ rest) =
 -- the words that went from one node to another, of all events that are kept
 abbrev pub words_of : State → ℕ → ℕ → List Sent
 words_of s writer reader = words_after writer reader 0 (history_of s writer)
+
+-- how many these are
+abbrev pub word_count : State → ℕ → ℕ → ℕ
+word_count s writer reader = length (words_of s writer reader)
 
 -- those that were not told yet
 abbrev pub words_left : State → Words → List Sent

@@ -1,3 +1,4 @@
+pub mod Counted
 pub mod Effects
 pub mod Freed
 pub mod Numbers

@@ -1,6 +1,6 @@
 //! What a rollback would take, without taking it.
 
-ghost use Rattle.std.specs.Prelude.{◌≡◌, ◌⊎◌, ◌↔◌, ◌+◌, ◌<◌, ◌≤◌, ◌^◌, ℕ, false, [], ◌∷◌, ◌++◌, length, slice_index, Ok, Err, IfOk, OnOk, IfErr};
+ghost use Rattle.std.specs.Prelude.{◌≡◌, ◌⊎◌, ◌↔◌, ◌+◌, ◌<◌, ◌≤◌, ◌^◌, ℕ, false, [], ◌∷◌, ◌++◌, length, slice_index, Ok, Err, IsOk, IfOk, OnOk, IfErr};
 ghost use Rattle.ga_event.specs.Told.{steps_of};
 ghost use Rattle.ga_lab.specs.Machine.{rewind_answer, stands};
 ghost use Rattle.ga_explore.specs.Effects.{kept_steps, effect_on, effects_below, effects_of};
@@ -183,7 +183,8 @@ fn listed(alloc: Global, lab: &Lab, taken: &Taken) -> Result<Vec<Effect>, LabFau
 pub fn find_effects(lab: &Lab, node: NodeId, step: u32) -> Result<Effects, LabFault>
     ensures events { IfOk result (λ effects. rewind_answer lab.now node.number step ≡ Ok effects.events) }
     ensures nodes { IfOk result (λ effects. effects.nodes.items ≡ effects_of lab.now node.number step) }
-    ensures err { IfErr result (λ why. (why ≡ LabFault.NoStep) ⊎ (why ≡ LabFault.Memory)) }
+    ensures err { IfErr result (λ why. (rewind_answer lab.now node.number step ≡ Err why)
+        ⊎ ((why ≡ LabFault.Memory) × IsOk (rewind_answer lab.now node.number step))) }
     ensures refused { (result ≡ Err LabFault.NoStep) ↔ (stands lab.now node.number step ≡ false) }
 {
     match lab.causes_from(node, step) {

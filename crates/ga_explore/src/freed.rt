@@ -4,7 +4,7 @@ ghost use Rattle.std.specs.Prelude.{◌≡◌, ◌<◌, ℕ, Bool, true, false, 
 ghost use Rattle.ga_grid.specs.Chip.{records_of};
 ghost use Rattle.ga_event.specs.Apply.{writes_to, reads_from};
 ghost use Rattle.ga_causal.specs.Dependence.{is_marked};
-ghost use Rattle.ga_explore.specs.Stuck.{AreStuck};
+ghost use Rattle.ga_explore.specs.Stuck.{AreStuck, awaits};
 ghost use Rattle.ga_explore.specs.kept.Freed.{is_freed_on, is_freed, MarksHalted, IsSettled};
 ghost use Rattle.ga_explore.specs.Freed.{IsWithin};
 
@@ -34,6 +34,15 @@ fn is_reading(wait: &Wait, side: Side) -> bool
         Wait::Read(sides) => sides.has(side),
         Wait::Write(_) => false,
     }
+}
+
+/// Whether a node that waits so awaits the neighbour on this side: it writes the side, or reads a set that has it.
+pub fn awaits(wait: &Wait, side: Side) -> bool
+    ensures { result ≡ awaits wait.now side }
+{
+    let writes = is_writing(wait, side);
+    let reads = is_reading(wait, side);
+    writes || reads
 }
 
 // Whether the node awaits a neighbour on a side that may let it go on.

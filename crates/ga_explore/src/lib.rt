@@ -2,6 +2,7 @@
 #![tactic(auto)]
 
 mod condition;
+mod counting;
 mod effects;
 mod freed;
 pub mod laws;
@@ -12,8 +13,9 @@ mod schedule;
 mod words;
 
 pub use condition::Condition;
+pub use counting::{are_linked, count_words};
 pub use effects::{Effect, Effects, find_effects};
-pub use freed::find_stuck;
+pub use freed::{awaits, find_stuck};
 pub use running::{End, Ran, run};
 pub use schedule::{Order, Schedule};
 pub use words::{Sent, Words};

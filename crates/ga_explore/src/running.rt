@@ -1,8 +1,9 @@
 //! Events in the order of a schedule.
 
-ghost use Rattle.std.specs.Prelude.{◌≡◌, ◌≤◌, Ok, IfOk, IfErr, IsSome, OnOk, OnErr, Some};
+ghost use Rattle.std.specs.Prelude.{◌≡◌, ◌≤◌, ◌+◌, ℕ, Ok, IfOk, IfErr, IsSome, OnOk, OnErr, Some};
 ghost use Rattle.ga_event.specs.Apply.{replay};
 ghost use Rattle.ga_lab.specs.Machine.{chip_of, step_answer, stepped};
+ghost use Rattle.ga_explore.specs.Words.{one_over, word_count};
 ghost use Rattle.ga_explore.specs.kept.Ready.{HoldsReady};
 ghost use Rattle.ga_explore.specs.Schedules.{passed_on};
 ghost use Rattle.ga_explore.specs.Running.{running, told, moved, after, AreMade, IsRefusedFor, IsHalted, HasEnded};
@@ -49,6 +50,8 @@ fn make(
     ensures state { OnOk result (lab.new ≡ stepped lab.old node) }
     ensures schedule { OnOk result (schedule.new ≡ passed_on schedule.old node) }
     ensures ready { OnOk result (HoldsReady (chip_of lab.new) ready.new) }
+    ensures words { IfOk result (λ made. (writer reader : ℕ) →
+        word_count lab.new writer reader ≡ word_count lab.old writer reader + one_over writer reader made) }
     ensures replays { OnOk result (IsSome (replay lab.new.load lab.new.kept)) }
     ensures refused { IfErr result (λ why. IsRefusedFor why (step_answer lab.old node)) }
     ensures same { OnErr result (lab.new ≡ lab.old) }
@@ -70,6 +73,8 @@ fn advance(lab: &mut Lab, ready: &mut Numbers, schedule: &mut Schedule) -> Resul
     ensures told { IfOk result (λ made. told (running lab.old schedule.old) ≡ Some made) }
     ensures moved { OnOk result (running lab.new schedule.new ≡ moved (running lab.old schedule.old)) }
     ensures ready { OnOk result (HoldsReady (chip_of lab.new) ready.new) }
+    ensures words { IfOk result (λ made. (writer reader : ℕ) →
+        word_count lab.new writer reader ≡ word_count lab.old writer reader + one_over writer reader made) }
     ensures replays { OnOk result (IsSome (replay lab.new.load lab.new.kept)) }
     ensures halted { IfErr result (IsHalted (running lab.old schedule.old)) }
     ensures same { OnErr result (lab.new ≡ lab.old) }
@@ -84,7 +89,7 @@ fn advance(lab: &mut Lab, ready: &mut Numbers, schedule: &mut Schedule) -> Resul
 }
 
 /// Makes events in the order of a schedule: at most so many, up to the first after which the condition holds. Takes time by the
-/// events that are made, and not by how many nodes wait.
+/// events that are made, and not by how many nodes wait; a condition that counts words reads the writer's steps once before.
 pub fn run(lab: &mut Lab, mut schedule: Schedule, most: u64, until: &Condition) -> Ran
     ensures state { lab.new ≡ (after (running lab.old schedule) result.events).state }
     ensures made { AreMade (running lab.old schedule) result.events }
@@ -92,12 +97,14 @@ pub fn run(lab: &mut Lab, mut schedule: Schedule, most: u64, until: &Condition) 
     ensures end { HasEnded (running lab.old schedule) most until.now result.events result.end }
 {
     let mut ready = ready_nodes(lab.chip());
+    let mut words = until.count(lab);
     let mut events = 0;
     while events < most {
         match advance(lab, &mut ready, &mut schedule) {
             Ok(made) => {
                 events += 1;
-                if until.holds(&made, lab) {
+                words = until.count_on(words, &made, lab);
+                if until.holds(&made, lab, words) {
                     let end = End::Reached(made);
                     return Ran { events, end };
                 }

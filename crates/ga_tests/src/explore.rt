@@ -1,5 +1,6 @@
 use ga_explore::{
-    Condition, Effect, End, Ran, Schedule, Sent, Words, find_effects, find_stuck, run,
+    Condition, Effect, End, Ran, Schedule, Sent, Words, are_linked, count_words, find_effects,
+    find_stuck, run,
 };
 use ga_given::{load, sender, taker};
 use ga_grid::{Chip, NodeId};
@@ -236,6 +237,47 @@ fn tells_words(rt: HostRuntime) -> Result<(), Fail> {
     }
     assert_eq!(rt; words.next(&lab), None);
     assert_eq!(rt; Words::new(reader, writer).next(&lab), None);
+    Ok(())
+}
+
+// The second word goes in step 21 of the writer and step 9 of the reader: with both passes a step of two nodes, event 28. The word
+// that is kept before the run counts, and one that was taken back doesn't.
+#[test]
+fn counts_words(rt: HostRuntime) -> Result<(), Fail> {
+    let mut lab = pair(rt.alloc())?;
+    let (writer, reader) = (NodeId::new(0), NodeId::new(1));
+    let until = Condition::PassesNumber {
+        writer,
+        reader,
+        number: 2,
+    };
+    run(&mut lab, Schedule::in_rounds(), 12, &until);
+    assert_eq!(rt; count_words(&lab, writer, reader), 1);
+    let made = Made::Pass {
+        writer,
+        writer_step: 21,
+        reader,
+        reader_step: 9,
+        word: Word18::truncated(0x2a),
+    };
+    let ran = run(&mut lab, Schedule::in_rounds(), 100, &until);
+    let (events, end) = (16, End::Reached(made));
+    assert_eq!(rt; ran, Ran { events, end });
+    assert_eq!(rt; count_words(&lab, writer, reader), 2);
+    assert_eq!(rt; count_words(&lab, reader, writer), 0);
+    lab.undo()?;
+    assert_eq!(rt; count_words(&lab, writer, reader), 1);
+    Ok(())
+}
+
+// Node 000 has neighbours to the right and below alone: 001 and 100.
+#[test]
+fn tells_neighbours(rt: HostRuntime) -> Result<(), Fail> {
+    let node = NodeId::new(0);
+    assert!(rt; are_linked(node, NodeId::new(1)) && are_linked(NodeId::new(1), node));
+    assert!(rt; are_linked(node, NodeId::new(18)) && are_linked(NodeId::new(1), NodeId::new(2)));
+    assert!(rt; !are_linked(node, node) && !are_linked(node, NodeId::new(2)));
+    assert!(rt; !are_linked(node, NodeId::new(17)) && !are_linked(node, NodeId::new(19)));
     Ok(())
 }
 

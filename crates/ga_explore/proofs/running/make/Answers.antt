@@ -1,8 +1,10 @@
-use Rattle.std.proofs.Common.{◌≡◌, ◌∙◌, ap, sym, subst}
+use Rattle.std.proofs.Common.{◌≡◌, ◌∙◌, ℕ, ◌+◌, ap, sym, subst}
 use Rattle.std.specs.Prelude.{is_some}
 use Rattle.ga_grid.specs.Chip.{records_of}
 use Rattle.ga_lab.specs.Machine.{chip_of, stepped, step_answer}
 use Rattle.ga_explore.specs.kept.Ready.{HoldsReady, StaysRight, IsRefreshed}
+use Rattle.ga_explore.specs.Words.{one_over, word_count}
+use Rattle.ga_explore.proofs.WordCounts.{counted_step}
 use Rattle.ga_explore.proofs.Stepping.{stepped_ready, answered_ok, answered_err}
 use Rattle.ga_explore.proofs.running.make.Goals as goal
 
@@ -23,3 +25,9 @@ returns-in-Ok-clause-replays c = ap is_some c.chip.ensures.replays
 
 pub returns-in-Err-clause-refused : goal.returns-in-Err-clause-refused
 returns-in-Err-clause-refused c = answered_err (step_answer c.args.lab.now c.args.node) c.in-Err.why c.in-Err.ensures.answer
+
+pub returns-in-Ok-clause-words : goal.returns-in-Ok-clause-words
+returns-in-Ok-clause-words c =
+    subst (λ z. (writer reader : ℕ) → word_count z writer reader ≡ word_count c.args.lab.now writer reader + one_over writer reader c.in-Ok.made) (sym c.in-Ok.ensures.ok)
+    (counted_step c.args.lab.now c.args.node c.in-Ok.made c.requires.replays
+    (answered_ok (step_answer c.args.lab.now c.args.node) c.in-Ok.made c.in-Ok.ensures.answer))

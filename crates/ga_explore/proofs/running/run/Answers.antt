@@ -1,6 +1,8 @@
-use Rattle.std.proofs.Common.{◌≡◌, ◌∙◌, true, false, refl, ap, arith, sym, subst}
+use Rattle.std.proofs.Common.{◌≡◌, ◌∙◌, ℕ, ◌+◌, true, false, refl, ap, arith, sym, subst}
 use Rattle.std.specs.Prelude.{is_some}
 use Rattle.ga_explore.specs.kept.Ready.{HoldsReady}
+use Rattle.ga_explore.specs.kept.Counted.{counted_by}
+use Rattle.ga_explore.proofs.WordCounts.{counted_on}
 use Rattle.ga_explore.specs.Running.{Running, running, holds_next}
 use Rattle.ga_explore.proofs.Events.{gone_on, made_more, never_more, holds_is, ended_reached, ended_halted}
 use Rattle.ga_explore.proofs.running.run.Goals as goal
@@ -18,6 +20,7 @@ loop-events-preserved c =
       made = made_more start here c.loop-events.events c.in-Ok.made i.at c.in-Ok.ensures.told i.made;
       never = never_more c.args.until.now start here c.loop-events.events i.at unmet i.never;
       ready = c.in-Ok.ensures.ready;
+      words = sym c.count_on-words.ensures;
       replays = c.in-Ok.ensures.replays;
       most = omega arith;
     }
@@ -28,6 +31,7 @@ loop-events-init c = record {
   made = λ k l. absurd (omega arith);
   never = λ k l. absurd (omega arith);
   ready = subst (λ z. HoldsReady z c.ready_nodes-ready.result) c.chip.ensures.value c.ready_nodes-ready.ensures;
+  words = sym c.count-words.ensures;
   replays = ap is_some c.chip.ensures.replays;
   most = omega arith;
 }
@@ -62,3 +66,8 @@ returns-clause-state c = ap (λ (z : Running). z.state) c.loop-events.invariant.
 
 pub returns-clause-end : goal.returns-clause-end
 returns-clause-end c = (omega (arith, c.loop-events.invariant.most, c.loop-events-test.false), c.loop-events.invariant.never)
+
+pub count_on-words-requires : goal.count_on-words-requires
+count_on-words-requires c =
+    counted_on c.args.until.now c.loop-events.lab c.advance.new.lab c.in-Ok.made c.in-Ok.ensures.words
+    ∙ ap (λ (z : ℕ). z + counted_by c.args.until.now c.in-Ok.made) c.loop-events.invariant.words

@@ -3,6 +3,7 @@ use Rattle.std.specs.Prelude.{IsSome}
 use Rattle.ga_event.specs.Apply.{replay}
 use Rattle.ga_lab.specs.Machine.{chip_of}
 use Rattle.ga_explore.specs.kept.Ready.{HoldsReady}
+use Rattle.ga_explore.specs.kept.Counted.{counted}
 use Rattle.ga_explore.specs.Running.{running, after, AreMade, NeverHolds}
 use Rattle.ga_explore.proofs.running.run.Given as goal
 
@@ -12,6 +13,7 @@ invariant-loop-events l = record {
   made : AreMade (running l.initial.lab l.initial.schedule) l.events;
   never : NeverHolds l.until (running l.initial.lab l.initial.schedule) l.events;
   ready : HoldsReady (chip_of l.lab) l.ready;
+  words : counted l.until l.lab ≡ l.words;
   replays : IsSome (replay l.lab.load l.lab.kept);
   most : l.events ≤ l.most;
 }
