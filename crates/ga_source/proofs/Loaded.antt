@@ -8,7 +8,7 @@ use Rattle.ga_grid.specs.Chip.{nowhere, node_at, with_node}
 use Rattle.ga_grid.specs.Load.{default_chip}
 use Rattle.ga_source.specs.declared.item.Program.{Program}
 use Rattle.std.proofs.lemmas.Bool.{cases_eq}
-use Rattle.ga_source.specs.Programs.{given_of, value_or, KeepsState, HasProgram, IsLoaded, IsUnnamed}
+use Rattle.ga_source.specs.Programs.{given_of, value_or, has_cells, at_load, KeepsState, HasProgram, IsLoaded, IsUnnamed}
 use Rattle.ga_source.specs.kept.Programs.{HasBegun, AreLoaded}
 
 -- a program marked as begun stands in another node than one that isn't
@@ -44,7 +44,7 @@ kept_of before after ram rom p a b e = subst (λ node. KeepsState before node) (
 kept_by : (before after : NodeState) (program : Program) → HasProgram before after program → KeepsState before after
 kept_by before after program has =
     let labels = program.labels.items in
-    let registers = program.registers in
+    let registers = at_load program.registers program.names.items (has_cells program.asked.items) in
     kept_of before after after.ram after.rom (value_or (given_of labels registers.p) before.p) (value_or (given_of labels registers.a) before.a)
     (value_or (given_of labels registers.b) before.b) has.rest
 

@@ -1,13 +1,21 @@
 -- Chips with programs (docs/REFERENCE.md, "Source"; the notation is this project's own).
-use Rattle.std.specs.Prelude.{ℕ, ◌≡◌, ◌≢◌, true, List, Option, Some, None}
-use Rattle.std.specs.List.{All}
+use Rattle.std.specs.Prelude.{ℕ, ◌≡◌, ◌≢◌, Bool, true, false, List, Option, Some, None, codes, position, bytes_eq}
+use Rattle.std.specs.List.{All, list_any}
+use Rattle.std.specs.Option.{option_map_or}
 use Rattle.ga_node.specs.Record.{NodeState}
 use Rattle.ga_grid.specs.Chip.{node_at}
 use Rattle.ga_grid.specs.Load.{default_chip}
 use Rattle.ga_source.specs.declared.item.Given.{Given}
 use Rattle.ga_source.specs.declared.item.Registers.{Registers}
 use Rattle.ga_source.specs.declared.item.Program.{Program}
+use Rattle.ga_source.specs.declared.item.Value.{Value}
+use Rattle.ga_source.specs.declared.item.Value.TheVariants.{Number, Label as LabelOf}
+use Rattle.ga_source.specs.declared.item.Request.{Request}
+use Rattle.ga_source.specs.declared.item.Request.TheVariants.{Put, Unext}
+use Rattle.ga_source.specs.declared.item.Asked.{Asked}
+use Rattle.ga_source.specs.declared.labels.Label.{Label}
 use Rattle.ga_source.specs.Reading.{resolved, begin_at, follows}
+use Rattle.ga_source.specs.Cells.{names, KeepsElsewhere}
 
 -- the value that a register is given
 abbrev pub given_of : List (Option ℕ) → Option Given → Option ℕ
@@ -27,11 +35,38 @@ with_registers node labels registers = record node {
   b = value_or (given_of labels registers.b) node.b;
 }
 
--- From address 0 on, the cells of the node read as what the program asks of it. Its registers are those that the program gives,
--- and what is left is as it was before.
+-- the request asks for an item
+abbrev pub is_item : Request → Bool
+is_item (Put _) = true
+is_item (Unext _) = true
+is_item _ = false
+
+-- one of the requests asks for an item, and so for a cell
+abbrev pub has_cells : List Asked → Bool
+has_cells asked = list_any (λ one. is_item one.request) asked
+
+-- the label has this name
+abbrev pub is_named : List ℕ → Label → Bool
+is_named name label = bytes_eq label.name.now name
+
+-- P where no line gives it: the address of the label `main` where there is one, else 0
+abbrev pub start_of : List Label → Value
+start_of labels = option_map_or LabelOf (position (is_named (codes "main")) labels) (Number 0)
+
+abbrev pub or_start : Option Given → List Label → Bool → Option Given
+or_start None labels true = Some (record { line = 0; value = start_of labels })
+or_start given _ _ = given
+
+-- the registers of a program at load: those that it gives, and where it has cells and gives no P, the one that it has then
+abbrev pub at_load : Registers → List Label → Bool → Registers
+at_load given labels has = record given { p = or_start given.p labels has }
+
+-- From address 0 on, the cells of the node read as what the program asks of it, and each cell that it doesn't name is as it was.
+-- Its registers are those of the program at load, and what is left is as it was before.
 pub record HasProgram (before after : NodeState) (program : Program) : Type 0 where
   pub reads : follows after program.labels.items (begin_at 0) program.asked.items ≡ true
-  pub rest : after ≡ with_registers (record before { ram = after.ram; rom = after.rom }) program.labels.items program.registers
+  pub elsewhere : KeepsElsewhere (names program) before after
+  pub rest : after ≡ with_registers (record before { ram = after.ram; rom = after.rom }) program.labels.items (at_load program.registers program.names.items (has_cells program.asked.items))
 
 -- the program's node has it, and was as at load before
 abbrev pub IsLoaded : List NodeState → Program → Type 0

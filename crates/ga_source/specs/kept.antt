@@ -1,4 +1,5 @@
 pub mod Packing
 pub mod Places
 pub mod Programs
+pub mod Vocabulary
 pub mod Words

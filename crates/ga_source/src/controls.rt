@@ -17,7 +17,7 @@ pub(crate) enum Open {
 
 impl Open {
     /// The line of the control word.
-    pub fn line(self) -> u32 {
+    pub(crate) fn line(self) -> u32 {
         match self {
             Open::Loop(line, _) | Open::Ahead(line, _) => line,
         }
@@ -26,7 +26,7 @@ impl Open {
 
 impl<'s> Draft<'s> {
     /// What a control word asks for.
-    pub fn control(&mut self, line: u32, word: Control) -> Result<(), Fault<'s>> {
+    pub(crate) fn control(&mut self, line: u32, word: Control) -> Result<(), Fault<'s>> {
         match word {
             Control::Begin => self.begin(line)?,
             Control::For => {

@@ -55,13 +55,13 @@ impl<'s> Draft<'s> {
         }
     }
 
-    pub fn ask(&mut self, line: u32, request: Request) -> Result<(), Fault<'s>> {
+    pub(crate) fn ask(&mut self, line: u32, request: Request) -> Result<(), Fault<'s>> {
         self.asked.push(Asked { line, request })?;
         Ok(())
     }
 
     /// Asks for an opcode with the address of a label.
-    pub fn jump(&mut self, line: u32, op: Op, label: usize) -> Result<(), Fault<'s>> {
+    pub(crate) fn jump(&mut self, line: u32, op: Op, label: usize) -> Result<(), Fault<'s>> {
         let item = if self.labels.is_marked(label) {
             Item::Back(op, label)
         } else {
@@ -71,7 +71,7 @@ impl<'s> Draft<'s> {
     }
 
     /// The label stands here.
-    pub fn mark(&mut self, line: u32, label: usize) -> Result<(), Fault<'s>> {
+    pub(crate) fn mark(&mut self, line: u32, label: usize) -> Result<(), Fault<'s>> {
         if !self.labels.mark(label) {
             return Err(at(line, Cause::LabelTwice));
         }

@@ -1,5 +1,7 @@
 //! Why a text is no program.
 
+ghost use Rattle.std.specs.Prelude.{◌≡◌};
+
 use std::alloc::{AllocError, AllocFailed};
 use thiserror::Error;
 
@@ -68,6 +70,9 @@ impl<'s, T: Drop> From<AllocFailed<T>> for Fault<'s> {
 }
 
 /// A fault at a line.
-pub(crate) fn at(line: u32, cause: Cause<'_>) -> Fault<'_> {
+pub(crate) fn at(line: u32, cause: Cause<'_>) -> Fault<'_>
+    ensures line { result.line ≡ line }
+    ensures cause { result.cause ≡ cause.entry }
+{
     Fault { line, cause }
 }

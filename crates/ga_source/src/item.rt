@@ -1,5 +1,8 @@
 //! What a program asks of a node.
 
+ghost use Rattle.std.specs.Prelude.{◌≡◌, slice_index};
+ghost use Rattle.ga_source.specs.kept.Words.{is_data as is_data_of};
+
 use super::labels::Label;
 use arrayvec::ArrayVec;
 use ga_grid::NodeId;
@@ -57,14 +60,14 @@ pub struct Asked {
     pub request: Request,
 }
 
-/// A register's value at load, and the line that gives it; 0 where no line does.
+/// A register's value at load, and the line that gives it; line 0 where none does.
 #[derive(Clone, Copy, PartialEq, Eq, Debug)]
 pub struct Given {
     pub line: u32,
     pub value: Value,
 }
 
-/// What a program gives its registers at load.
+/// What the source gives a node's registers at load.
 #[derive(Clone, Copy, PartialEq, Eq, Debug)]
 pub struct Registers {
     pub p: Option<Given>,
@@ -84,18 +87,24 @@ pub struct Group {
 }
 
 impl Group {
-    /// The line of the first item.
-    pub fn line(&self) -> u32 {
+    /// The line of the first item; a group that is packed has one.
+    pub fn line(&self) -> u32
+        ensures { result ≡ slice_index self.now.lines.items 0 }
+    {
         self.line_of(0)
     }
 
-    /// The line of an item.
-    pub fn line_of(&self, item: usize) -> u32 {
+    /// The line of an item, 0 where there is none.
+    pub(crate) fn line_of(&self, item: usize) -> u32
+        ensures { result ≡ slice_index self.now.lines.items item }
+    {
         self.lines.get(item).copied().unwrap_or(0)
     }
 
     /// Whether it is a cell of data.
-    pub fn is_data(&self) -> bool {
+    pub(crate) fn is_data(&self) -> bool
+        ensures { result ≡ is_data_of self.now.items.items }
+    {
         if let [Item::Cell(_)] = self.items.as_slice() {
             true
         } else {

@@ -23,7 +23,7 @@ pub(crate) struct Labels<'s> {
 }
 
 impl<'s> Labels<'s> {
-    pub fn new(alloc: Global) -> Self {
+    pub(crate) fn new(alloc: Global) -> Self {
         Labels {
             list: Vec::new(alloc),
             names: HashMap::new(alloc),
@@ -31,12 +31,12 @@ impl<'s> Labels<'s> {
     }
 
     /// The number of the label with this name, where there is one.
-    pub fn find(&self, name: &'s [u8]) -> Option<usize> {
+    pub(crate) fn find(&self, name: &'s [u8]) -> Option<usize> {
         self.names.get(name).copied()
     }
 
     /// The number of the label with this name; a new one where there is none.
-    pub fn named(&mut self, line: u32, name: &'s [u8]) -> Result<usize, AllocError> {
+    pub(crate) fn named(&mut self, line: u32, name: &'s [u8]) -> Result<usize, AllocError> {
         if let Some(label) = self.find(name) {
             return Ok(label);
         }
@@ -46,7 +46,7 @@ impl<'s> Labels<'s> {
     }
 
     /// A new label without a name.
-    pub fn nameless(&mut self, line: u32, is_marked: bool) -> Result<usize, AllocError> {
+    pub(crate) fn nameless(&mut self, line: u32, is_marked: bool) -> Result<usize, AllocError> {
         self.add(line, &[], is_marked)
     }
 
@@ -61,7 +61,7 @@ impl<'s> Labels<'s> {
     }
 
     /// Whether the label's place was met.
-    pub fn is_marked(&self, label: usize) -> bool {
+    pub(crate) fn is_marked(&self, label: usize) -> bool {
         match self.list.get(label) {
             Some(found) => found.is_marked,
             None => false,
@@ -69,7 +69,7 @@ impl<'s> Labels<'s> {
     }
 
     /// The label's place is met. False where it was met before.
-    pub fn mark(&mut self, label: usize) -> bool {
+    pub(crate) fn mark(&mut self, label: usize) -> bool {
         match self.list.get_mut(label) {
             Some(found) => {
                 let is_first = !found.is_marked;
@@ -81,7 +81,7 @@ impl<'s> Labels<'s> {
     }
 
     /// The first name that no place has.
-    pub fn check(&self) -> Result<(), Fault<'s>> {
+    pub(crate) fn check(&self) -> Result<(), Fault<'s>> {
         for label in &self.list {
             if !label.name.is_empty() && !label.is_marked {
                 return Err(at(label.line, Cause::Unknown(label.name)));

@@ -1,14 +1,16 @@
 //! Groups loaded into a node.
 
-ghost use Rattle.std.specs.Prelude.{◌≡◌, ◌<◌, ◌≤◌, ℕ, true, length, slice_index_or, OnOk, IfSome};
+ghost use Rattle.std.specs.Prelude.{◌≡◌, ◌<◌, ◌≤◌, ℕ, true, false, length, slice_index_or, OnOk, IfSome};
 ghost use Rattle.ga_slots.specs.Slots.{opcode as opcode_of, target as target_of};
 ghost use Rattle.ga_source.specs.Reading.{begin_at as begin_of, follows as follows_of, reaches};
 ghost use Rattle.ga_source.specs.kept.Places.{IsCell};
-ghost use Rattle.ga_source.specs.Places.{KeepsRest};
-ghost use Rattle.ga_source.specs.kept.Words.{op_in, nothing};
+ghost use Rattle.ga_source.specs.kept.Places.{KeepsRest};
+ghost use Rattle.ga_source.specs.Cells.{KeepsElsewhere, is_asked};
+ghost use Rattle.ga_source.specs.kept.Words.{op_in, label_of, nothing};
 
 use super::fault::{Cause, Fault, at};
 use super::item::{Asked, Group, Item, Value};
+use super::naming::{CELLS, named_cells};
 use super::packing::Packed;
 use super::reading::{begin_at, follows, resolve};
 use ga_node::{Node, Place};
@@ -18,7 +20,7 @@ use ga_word::Word18;
 
 /// The place of the cell at an address, where there is one.
 pub(crate) fn place_of(address: u32) -> Option<Place>
-    ensures { IfSome result IsCell }
+    ensures { IfSome result (IsCell address) }
 {
     let low = address % 512;
     if low < 64 {
@@ -59,7 +61,9 @@ fn opcode_in(item: Item) -> Op
 }
 
 /// The label of a jump.
-fn label_in(item: Item) -> Option<usize> {
+fn label_in(item: Item) -> Option<usize>
+    ensures { result ≡ label_of item }
+{
     match item {
         Item::Back(_, label) | Item::Ahead(_, label) => Some(label),
         _ => None,
@@ -103,27 +107,32 @@ fn word_of(labels: &[Option<u32>], items: &[Item]) -> Option<Word18> {
     }
 }
 
-/// Writes a cell that wasn't given before.
+/// Writes a cell that the requests name and that wasn't given before.
 fn write(
     node: &mut Node,
     given: &mut [u32],
+    named: &[bool],
     line: u32,
     address: u32,
     word: u32,
 ) -> Result<(), Fault<'static>>
-    ensures { OnOk result (KeepsRest node.old node.new) }
+    ensures rest { OnOk result (KeepsRest node.old node.new) }
+    ensures elsewhere { OnOk result (KeepsElsewhere (λ k. slice_index_or named.now k false) node.old node.new) }
 {
     let Some(place) = place_of(address) else {
         return Err(at(line, Cause::Past));
     };
-    let index = (address % 256) as usize;
-    if index >= given.len() {
+    let cell = (address % 512) as usize;
+    if cell >= given.len() || cell >= named.len() {
         return Err(at(line, Cause::Past));
     }
-    if given[index] != 0 {
-        return Err(at(line, Cause::CellTwice(given[index])));
+    if given[cell] != 0 {
+        return Err(at(line, Cause::CellTwice(given[cell])));
     }
-    given[index] = line;
+    if !named[cell] {
+        return Err(at(line, Cause::Differs));
+    }
+    given[cell] = line;
     node.set(place, Word18::truncated(word).get());
     Ok(())
 }
@@ -132,10 +141,12 @@ fn write(
 fn write_group(
     node: &mut Node,
     given: &mut [u32],
+    named: &[bool],
     labels: &[Option<u32>],
     group: &Group,
 ) -> Result<(), Fault<'static>>
-    ensures { OnOk result (KeepsRest node.old node.new) }
+    ensures rest { OnOk result (KeepsRest node.old node.new) }
+    ensures elsewhere { OnOk result (KeepsElsewhere (λ k. slice_index_or named.now k false) node.old node.new) }
 {
     if let Some(line) = group.broken {
         return Err(at(line, Cause::Loop));
@@ -144,14 +155,14 @@ fn write_group(
     let Some(word) = word_of(labels, items) else {
         return Err(at(group.line(), Cause::Differs));
     };
-    write(node, given, group.line(), group.address, word.get())?;
+    write(node, given, named, group.line(), group.address, word.get())?;
     let mut p = advance_p(group.address);
     for (i, item) in items.iter().enumerate() {
         if let Item::Literal(value) = item {
             let Some(number) = resolve(labels, *value) else {
                 return Err(at(group.line_of(i), Cause::Differs));
             };
-            write(node, given, group.line_of(i), p, number)?;
+            write(node, given, named, group.line_of(i), p, number)?;
             p = advance_p(p);
         }
     }
@@ -177,14 +188,16 @@ fn misses(labels: &[Option<u32>], items: &[Item], p: u32) -> bool {
 }
 
 /// Loads packed groups into a node, whose cells then read as what was asked. Its registers stay.
-pub fn load(node: &mut Node, packed: &Packed, asked: &[Asked]) -> Result<(), Fault<'static>>
+pub(crate) fn load(node: &mut Node, packed: &Packed, asked: &[Asked]) -> Result<(), Fault<'static>>
     ensures follows { OnOk result (follows_of node.new packed.now.labels.items (begin_of 0) asked.now ≡ true) }
-    ensures keeps { OnOk result (KeepsRest node.old node.new) }
+    ensures rest { OnOk result (KeepsRest node.old node.new) }
+    ensures elsewhere { OnOk result (KeepsElsewhere (is_asked packed.now.labels.items (begin_of 0) asked.now) node.old node.new) }
 {
     let labels = packed.labels.as_slice();
-    let mut given = [0u32; 192];
+    let named = named_cells(labels, asked);
+    let mut given = [0u32; CELLS];
     for group in &packed.groups {
-        write_group(node, &mut given, labels, group)?;
+        write_group(node, &mut given, &named, labels, group)?;
     }
     if follows(node, labels, begin_at(0), asked) {
         Ok(())

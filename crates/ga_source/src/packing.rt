@@ -1,7 +1,7 @@
 //! Requests packed into groups.
 
 ghost use Rattle.std.specs.Prelude.{◌≡◌, ◌<◌, ◌++◌, [], ◌∷◌, length, IsTrue, IfOk, OnOk};
-ghost use Rattle.ga_source.specs.Packing.{items_of, asked_items, group_items};
+ghost use Rattle.ga_source.specs.kept.Packing.{items_of, asked_items, group_items};
 ghost use Rattle.ga_source.specs.kept.Packing.{so_far};
 
 use super::fault::{Cause, Fault, at};
@@ -16,7 +16,7 @@ use std::mem;
 
 /// Groups in their order, and the addresses of labels by their numbers.
 #[derive(Drop)]
-pub struct Packed {
+pub(crate) struct Packed {
     pub groups: Vec<Group>,
     pub labels: Vec<Option<u32>>,
 }
@@ -160,7 +160,7 @@ impl Packer {
 }
 
 /// Packs requests, which name so many labels.
-pub fn pack(alloc: Global, asked: &[Asked], labels: usize) -> Result<Packed, Fault<'static>>
+pub(crate) fn pack(alloc: Global, asked: &[Asked], labels: usize) -> Result<Packed, Fault<'static>>
     ensures { IfOk result (λ packed. group_items packed.groups.items ≡ asked_items asked.now) }
 {
     let mut packer = Packer {

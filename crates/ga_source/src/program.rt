@@ -1,14 +1,16 @@
 //! A text as a chip.
 
-ghost use Rattle.std.specs.Prelude.{◌≡◌, ◌≤◌, ◌<◌, true, length, IfOk, OnOk, IfSome};
+ghost use Rattle.std.specs.Prelude.{◌≡◌, ◌≤◌, ◌<◌, true, length, codes, position, IfOk, OnOk, IfSome};
 ghost use Rattle.ga_grid.specs.Chip.{records_of};
 ghost use Rattle.ga_grid.specs.Steady.{AreSteady};
-ghost use Rattle.ga_source.specs.Programs.{given_of, with_registers, HasProgram, IsAssembled};
+ghost use Rattle.ga_source.specs.Programs.{given_of, with_registers, has_cells as has_cells_of, is_item as is_item_of, start_of as start, is_named, at_load, HasProgram, IsAssembled};
+ghost use Rattle.ga_source.specs.Cells.{IsEmptyElsewhere};
 ghost use Rattle.ga_source.specs.kept.Programs.{AreLoaded};
 
-use super::draft::{Draft, read_node};
+use super::draft::read_node;
 use super::fault::{Cause, Fault, at};
-use super::item::{Given, Program, Registers, Value};
+use super::item::{Asked, Given, Program, Registers, Request, Value};
+use super::labels::Label;
 use super::loading::load;
 use super::packing::pack;
 use super::reading::resolve;
@@ -45,15 +47,57 @@ fn body_length(tokens: &[Token]) -> usize
     tokens.len()
 }
 
-/// The registers at load of a program: where it has cells and gives no P, that is the label `main`, or else 0.
-fn registers_of<'s>(found: &Draft<'s>, has_cells: bool) -> Registers {
-    let mut registers = found.registers;
+/// Whether one of the requests asks for an item, and so for a cell.
+fn has_cells(asked: &[Asked]) -> bool
+    ensures { result ≡ has_cells_of asked.now }
+{
+    asked.iter().any(|one| is_item(one.request))
+}
+
+/// Whether a request asks for an item.
+fn is_item(request: Request) -> bool
+    ensures { result ≡ is_item_of request }
+{
+    match request {
+        Request::Put(_) | Request::Unext(_) => true,
+        _ => false,
+    }
+}
+
+/// Whether the label's name is `main`.
+fn is_main(label: &Label<'_>) -> bool
+    ensures { result ≡ is_named (codes "main") label.now }
+{
+    label.name == b"main".as_slice()
+}
+
+/// The first label `main`.
+fn main_among(labels: &[Label<'_>]) -> Option<usize>
+    ensures { result ≡ position (is_named (codes "main")) labels.now }
+{
+    labels.iter().position(|label| is_main(label))
+}
+
+/// P where no line gives it: the label `main` where there is one, or else 0.
+fn start_of(labels: &[Label<'_>]) -> Value
+    ensures { result ≡ start labels.now }
+{
+    match main_among(labels) {
+        Some(label) => Value::Label(label),
+        None => Value::Number(0),
+    }
+}
+
+/// The registers of a program at load, where it gives these.
+fn registers_of(given: Registers, labels: &[Label<'_>], has_cells: bool) -> Registers
+    ensures { result ≡ at_load given labels.now has_cells }
+{
+    let mut registers = given;
     if registers.p.is_none() && has_cells {
-        let value = match found.labels.find(b"main") {
-            Some(label) => Value::Label(label),
-            None => Value::Number(0),
-        };
-        registers.p = Some(Given { line: 0, value });
+        registers.p = Some(Given {
+            line: 0,
+            value: start_of(labels),
+        });
     }
     registers
 }
@@ -116,7 +160,12 @@ fn assemble_node<'s>(
 {
     let found = read_node(alloc, line, tokens)?;
     let packed = pack(alloc, found.asked.as_slice(), found.labels.list.len())?;
-    let registers = registers_of(&found, !packed.groups.is_empty());
+    let given = found.registers;
+    let registers = registers_of(
+        given,
+        found.labels.list.as_slice(),
+        has_cells(found.asked.as_slice()),
+    );
     set_registers(node, packed.labels.as_slice(), registers)?;
     load(node, &packed, found.asked.as_slice())?;
     Ok(Program {
@@ -124,7 +173,7 @@ fn assemble_node<'s>(
         asked: found.asked,
         labels: packed.labels,
         names: found.labels.list,
-        registers,
+        registers: given,
         groups: packed.groups,
     })
 }
@@ -174,7 +223,10 @@ pub fn assemble(alloc: Global, source: &[u8]) -> Result<Assembled<'_>, Fault<'_>
     // Each node that is named has its program and its registers, and all else of the chip is as at load.
     ensures programs { IfOk result (λ all. IsAssembled all.chip all.programs.items) }
 
-    // So no node waits, and the chip has an image.
+    // So each cell that nobody names is 0.
+    ensures empty { IfOk result (λ all. IsEmptyElsewhere all.chip all.programs.items) }
+
+    // And no node waits, so that the chip has an image.
     ensures steady { IfOk result (λ all. AreSteady (records_of all.chip)) }
 {
     let tokens = scan(alloc, source)?;

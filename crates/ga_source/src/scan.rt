@@ -1,6 +1,8 @@
 //! A text as words.
 
-ghost use Rattle.std.specs.Prelude.{◌<◌, length};
+ghost use Rattle.std.specs.Prelude.{◌≡◌, ◌<◌, ◌==◌, ◌||◌, length, IsOkAnd, IsErrAnd};
+ghost use Rattle.ga_source.specs.declared.scan.Kind.TheVariants.{Word, LongLine, OpenComment};
+ghost use Rattle.ga_source.specs.declared.fault.Cause.TheVariants.{LongLine as TooLong, OpenComment as LeftOpen};
 
 use super::fault::{Cause, Fault, at};
 use std::alloc::{AllocError, Global};
@@ -25,7 +27,11 @@ pub(crate) enum Kind {
 
 impl<'s> Token<'s> {
     /// The word, or the line's fault.
-    pub fn word(self) -> Result<&'s [u8], Fault<'s>> {
+    pub(crate) fn word(self) -> Result<&'s [u8], Fault<'s>>
+        ensures word { self.entry.kind ≡ Word → IsOkAnd result (λ text. text.now ≡ self.entry.text.now) }
+        ensures long { self.entry.kind ≡ LongLine → IsErrAnd result (λ fault. (fault.line ≡ self.entry.line) × (fault.cause ≡ TooLong)) }
+        ensures open { self.entry.kind ≡ OpenComment → IsErrAnd result (λ fault. (fault.line ≡ self.entry.line) × (fault.cause ≡ LeftOpen)) }
+    {
         match self.kind {
             Kind::Word => Ok(self.text),
             Kind::LongLine => Err(at(self.line, Cause::LongLine)),
@@ -45,7 +51,9 @@ enum Comment {
     Closed,
 }
 
-fn is_blank(byte: u8) -> bool {
+fn is_blank(byte: u8) -> bool
+    ensures { result ≡ (byte == 32 || byte == 9) }
+{
     byte == b' ' || byte == b'\t'
 }
 

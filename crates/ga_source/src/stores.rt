@@ -1,5 +1,7 @@
 //! Stores of a constant address over the code of their own node.
 
+ghost use Rattle.std.specs.Prelude.{◌≡◌, None};
+
 use super::item::{Group, Item, Program, Request};
 use super::reading::resolve;
 use ga_ports::advance_p;
@@ -135,7 +137,9 @@ fn known_behind(program: &Program<'_>, known: Known, request: Request) -> Known 
     }
 }
 
-fn without_a(known: Known) -> Known {
+fn without_a(known: Known) -> Known
+    ensures { result ≡ record { a = None; b = known.b; literal = None } }
+{
     Known {
         a: None,
         b: known.b,

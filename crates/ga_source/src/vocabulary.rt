@@ -1,6 +1,8 @@
 //! The words that stand for themselves.
 
-ghost use Rattle.std.specs.Prelude.{◌≤◌, IfSome};
+ghost use Rattle.std.specs.Prelude.{◌≡◌, ◌+◌, ◌≤◌, IfSome};
+ghost use Rattle.ga_node.specs.Places.{greatest_of};
+ghost use Rattle.ga_source.specs.kept.Vocabulary.{by_name, closings, controls, directives, place_of};
 
 use ga_slots::Op;
 
@@ -89,7 +91,9 @@ pub(crate) enum Register {
 
 impl Register {
     /// The register's values are below this.
-    pub fn bound(self) -> u32 {
+    pub(crate) fn bound(self) -> u32
+        ensures { result ≡ greatest_of (place_of self) + 1 }
+    {
         match self {
             Register::P => 0x400,
             Register::A => 0x4_0000,
@@ -99,7 +103,9 @@ impl Register {
 }
 
 /// The directive of a name.
-pub(crate) fn directive_named(text: &[u8]) -> Option<Directive> {
+pub(crate) fn directive_named(text: &[u8]) -> Option<Directive>
+    ensures { result ≡ by_name directives text.now }
+{
     if text == b":".as_slice() {
         Some(Directive::Label)
     } else if text == b"org".as_slice() {
@@ -122,7 +128,9 @@ pub(crate) fn directive_named(text: &[u8]) -> Option<Directive> {
 }
 
 /// The control word of a name.
-pub(crate) fn control_named(text: &[u8]) -> Option<Control> {
+pub(crate) fn control_named(text: &[u8]) -> Option<Control>
+    ensures { result ≡ by_name controls text.now }
+{
     if text == b"begin".as_slice() {
         Some(Control::Begin)
     } else if text == b"for".as_slice() {
@@ -142,7 +150,9 @@ pub(crate) fn control_named(text: &[u8]) -> Option<Control> {
     }
 }
 
-fn closing_named(text: &[u8]) -> Option<Control> {
+fn closing_named(text: &[u8]) -> Option<Control>
+    ensures { result ≡ by_name closings text.now }
+{
     if text == b"again".as_slice() {
         Some(Control::Again)
     } else if text == b"until".as_slice() {

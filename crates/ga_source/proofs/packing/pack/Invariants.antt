@@ -1,5 +1,5 @@
 use Rattle.std.proofs.Common.{◌≡◌, take}
-use Rattle.ga_source.specs.Packing.{asked_items}
+use Rattle.ga_source.specs.kept.Packing.{asked_items}
 use Rattle.ga_source.specs.kept.Packing.{so_far}
 use Rattle.ga_source.proofs.packing.pack.Given as goal
 
