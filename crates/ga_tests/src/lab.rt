@@ -324,15 +324,21 @@ fn explains_a_step(rt: HostRuntime) -> Result<(), Fail> {
     steps(&mut lab, n001, 1)?;
     let the_pass = pass((n000, 8), (n001, 5), 0x2a);
     let told = lab.explain((n000, 7), (n001, 6))?.ok_or("independent")?;
-    let wanted = [own(n000, 7, Kind::Wait), the_pass, own(n001, 6, Kind::Run(0x1c))];
-    assert_eq!(rt; told.as_slice(), &wanted);
+    let wanted = [
+        own(n000, 7, Kind::Wait),
+        the_pass,
+        own(n001, 6, Kind::Run(0x1c)),
+    ];
+    assert_eq!(rt; told.as_slice(), wanted.as_slice());
     // the pass depends on the first step of its writer directly, and on that of its reader
     let told = lab.explain((n000, 1), (n001, 5))?.ok_or("independent")?;
-    assert_eq!(rt; told.as_slice(), &[own(n000, 1, Kind::Fetch), the_pass]);
+    let wanted = [own(n000, 1, Kind::Fetch), the_pass];
+    assert_eq!(rt; told.as_slice(), wanted.as_slice());
     let told = lab.explain((n001, 1), (n000, 8))?.ok_or("independent")?;
-    assert_eq!(rt; told.as_slice(), &[own(n001, 1, Kind::Fetch), the_pass]);
+    let wanted = [own(n001, 1, Kind::Fetch), the_pass];
+    assert_eq!(rt; told.as_slice(), wanted.as_slice());
     let told = lab.explain((n000, 8), (n001, 5))?.ok_or("independent")?;
-    assert_eq!(rt; told.as_slice(), &[the_pass]);
+    assert_eq!(rt; told.as_slice(), [the_pass].as_slice());
     assert!(rt; lab.explain((n001, 1), (n000, 7))?.is_none());
     for (from, to) in [((n000, 9), (n001, 1)), ((n001, 1), (n000, 0))] {
         assert_eq!(rt; lab.explain(from, to).err(), Some(LabFault::NoStep));
