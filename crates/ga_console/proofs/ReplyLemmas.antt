@@ -1,17 +1,19 @@
 -- What a call of the lab means for the command.
-use Rattle.std.proofs.Common.{◌≡◌, ℕ, ◌-◌, ◌⊎◌, List, [], ◌∷◌, length, take, Option, Result, Ok, Err, inl, inr, refl, sym, ap, ◌∙◌}
-use Rattle.std.specs.Prelude.{IsOk}
+use Rattle.std.proofs.Common.{◌≡◌, ℕ, ◌-◌, ◌⊎◌, List, [], ◌∷◌, ◌++◌, length, map, take, Option, Some, None, Result, Ok, Err, inl, inr, refl, sym, ap, ◌∙◌}
+use Rattle.std.specs.Prelude.{IsOk, flat_map}
+use Rattle.std.proofs.lemmas.List.{length-map}
 use Rattle.ga_node.specs.Record.{NodeRecord}
 use Rattle.ga_grid.specs.declared.node_id.NodeId.{NodeId}
 use Rattle.ga_image.specs.Printing.{printed}
 use Rattle.ga_event.specs.declared.event.Event.{Event}
 use Rattle.ga_causal.specs.declared.chain.Link.{Link}
 use Rattle.ga_event.specs.declared.made.Made.{Made}
-use Rattle.ga_lab.specs.Machine.{State, chip_of, step_answer, stepped, undone, rewind_answer, rewound, undo_answer, dropped_answer, history_of, why_answer}
+use Rattle.ga_event.specs.Told.{made_in}
+use Rattle.ga_lab.specs.Machine.{State, chip_of, step_answer, stepped, undone, rewind_answer, rewound, undo_answer, dropped_answer, history_of, told_of_kept, why_answer}
 use Rattle.ga_lab.specs.declared.fault.LabFault.{LabFault}
 use Rattle.ga_lab.specs.declared.fault.LabFault.TheVariants as fault
-use Rattle.ga_console.specs.Texts.{made_text, removed_text, refusal_text}
-use Rattle.ga_console.specs.Replies.{Reply, Does, step_reply, back_reply, rewind_reply, steps_text, why_text}
+use Rattle.ga_console.specs.Texts.{made_text, removed_text, refusal_text, chain_text, independent}
+use Rattle.ga_console.specs.Replies.{Reply, Does, step_reply, back_reply, rewind_reply, steps_text, told_text, link_text, why_text}
 use Rattle.ga_console.specs.declared.command.Command.TheVariants.{Step, Back, Rewind, Trace, Why, Dump}
 
 -- an answer with a machine
@@ -97,9 +99,39 @@ dump_refused s text t = inr (tt, t, refl)
 
 -- ---- why
 
-pub why_done : (s : State) (from to : NodeId) (k j : ℕ) (answer : Result (Option (List Link)) LabFault) (text : List ℕ)
+why_done : (s : State) (from to : NodeId) (k j : ℕ) (answer : Result (Option (List Link)) LabFault) (text : List ℕ)
     → IsAnswer (why_answer s from.number k to.number j) answer
     → text ≡ why_text s answer → Does s (Why from k to j) text s
 why_done s from to k j answer text (inl e) t =
     inl (replies text (why_text s (why_answer s from.number k to.number j)) s s (t ∙ ap (why_text s) e) refl)
 why_done s from to k j answer text (inr e) t = inr (e.1, t ∙ ap (why_text s) e.0, refl)
+
+pub why_independent : (s : State) (from to : NodeId) (k j : ℕ) → why_answer s from.number k to.number j ≡ Ok None → Does s (Why from k to j) independent s
+why_independent s from to k j e = why_done s from to k j (Ok None) independent (inl (sym e)) refl
+
+-- the texts of what is told of a chain are those of its links
+told_texts : (s : State) (told : List Made) (links : List Link) → map Some told ≡ map (λ (link : Link). made_in (told_of_kept s) link.place) links
+    → flat_map made_text told ≡ flat_map (link_text s) links
+told_texts s [] [] e = refl
+told_texts s [] (link ∷ links) e = absurd (cc)
+told_texts s (made ∷ told) [] e = absurd (cc)
+told_texts s (made ∷ told) (link ∷ links) e =
+    let first : Some made ≡ made_in (told_of_kept s) link.place = cc in
+    let others : map Some told ≡ map (λ (link : Link). made_in (told_of_kept s) link.place) links = cc in
+    ap (λ (o : Option Made). told_text o ++ flat_map made_text told) first ∙ ap (λ z. link_text s link ++ z) (told_texts s told links others)
+
+pub why_told : (s : State) (from to : NodeId) (k j : ℕ) (links : List Link) (told said : List Made) (text : List ℕ)
+    → why_answer s from.number k to.number j ≡ Ok (Some links) → map Some told ≡ map (λ (link : Link). made_in (told_of_kept s) link.place) links
+    → said ≡ told → text ≡ chain_text (length said) ++ flat_map made_text said → Does s (Why from k to j) text s
+why_told s from to k j links told said text e same is t =
+    let long : length told ≡ length links =
+    sym (length-map told (λ (made : Made). Some made)) ∙ ap length same ∙ length-map links (λ (link : Link). made_in (told_of_kept s) link.place) in
+    why_done s from to k j (Ok (Some links)) text (inl (sym e))
+    (t ∙ ap (λ z. chain_text (length z) ++ flat_map made_text z) is ∙ ap (λ (n : ℕ). chain_text n ++ flat_map made_text told) long
+    ∙ ap (λ z. chain_text (length links) ++ z) (told_texts s told links same))
+
+pub why_refused : (s : State) (from to : NodeId) (k j : ℕ) (why : LabFault) (text : List ℕ)
+    → (why_answer s from.number k to.number j ≡ Err why) ⊎ ((why ≡ fault.Memory) × IsOk (why_answer s from.number k to.number j))
+    → text ≡ refusal_text why → Does s (Why from k to j) text s
+why_refused s from to k j why text (inl e) t = why_done s from to k j (Err why) text (inl (sym e)) t
+why_refused s from to k j why text (inr e) t = inr (e.1, t ∙ ap refusal_text e.0, refl)

@@ -1,14 +1,12 @@
 //! The commands that read the machine and leave it as it is.
-ghost use Rattle.std.specs.Prelude.{◌≡◌};
-ghost use Rattle.ga_event.specs.Told.{made_in};
-ghost use Rattle.ga_lab.specs.Machine.{told_of_kept};
+ghost use Rattle.std.specs.Prelude.{◌≡◌, ◌++◌, length, flat_map};
 ghost use Rattle.ga_console.specs.kept.Output.{Says};
-ghost use Rattle.ga_console.specs.Replies.{Does, steps_text, told_text, links_text};
+ghost use Rattle.ga_console.specs.Texts.{made_text, chain_text};
+ghost use Rattle.ga_console.specs.Replies.{Does, steps_text};
 ghost use Rattle.ga_console.specs.declared.command.Command.TheVariants.{Node, Memory, Trace, Why, Count, Dump};
 
 use super::event::refusal;
 use super::output::{Output, WriteFailed};
-use ga_causal::Link;
 use ga_grid::NodeId;
 use ga_image::print;
 use ga_lab::{Lab, LabFault, Made};
@@ -94,44 +92,27 @@ pub fn why<W: Write>(
     ensures { Says result (λ text. Does lab.now (Why from.0 from.1 to.0 to.1) text lab.now)
         (W.contents writer.old) output.old (W.contents writer.new) output.new }
 {
-    match lab.why(from, to) {
+    match lab.explain(from, to) {
         Ok(None) => output.say(writer, b"independent\n"),
-        Ok(Some(chain)) => say_links(lab, chain.links(), output, writer),
+        Ok(Some(chain)) => say_chain(chain.as_slice(), output, writer),
         Err(fault) => output.say(writer, refusal(fault)),
     }
 }
 
-/// Says how many events a chain has, then each of them.
-fn say_links<W: Write>(
-    lab: &Lab,
-    links: &[Link],
+/// Says how many events a chain has, then what is told of each of them.
+fn say_chain<W: Write>(
+    events: &[Made],
     output: &mut Output,
     writer: &mut W,
 ) -> Result<(), WriteFailed>
-    ensures { Says result (λ text. text ≡ links_text lab.now links.now)
+    ensures { Says result (λ text. text ≡ chain_text (length events.now) ++ flat_map made_text events.now)
         (W.contents writer.old) output.old (W.contents writer.new) output.new }
 {
-    output.say_chain(writer, links.len())?;
-    'links: for link in links {
-        say_link(lab, link.place, output, writer)?;
+    output.say_chain(writer, events.len())?;
+    'events: for made in events {
+        output.say_made(writer, *made)?;
     }
     Ok(())
-}
-
-/// Says what is told of the event at a place, where there is one.
-fn say_link<W: Write>(
-    lab: &Lab,
-    place: u32,
-    output: &mut Output,
-    writer: &mut W,
-) -> Result<(), WriteFailed>
-    ensures { Says result (λ text. text ≡ told_text (made_in (told_of_kept lab.now) place))
-        (W.contents writer.old) output.old (W.contents writer.new) output.new }
-{
-    match lab.made_at(place) {
-        Some(made) => output.say_made(writer, made),
-        None => Ok(()),
-    }
 }
 
 /// `dump`: shows the chip as an image.

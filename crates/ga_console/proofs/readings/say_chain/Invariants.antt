@@ -1,0 +1,9 @@
+use Rattle.std.proofs.Common.{ℕ, List, ◌++◌, length, take}
+use Rattle.std.specs.Prelude.{flat_map}
+use Rattle.ga_console.specs.Output.{IsSaid}
+use Rattle.ga_console.specs.Texts.{made_text, chain_text}
+use Rattle.ga_console.proofs.readings.say_chain.Given as goal
+
+abbrev pub invariant-events : goal.invariant-events
+invariant-events g l = (before said : List ℕ) → IsSaid (g.W.Write.contents l.fn.writer) before said l.fn.output
+    → IsSaid (g.W.Write.contents l.writer) before (said ++ (chain_text (length l.events) ++ flat_map made_text (take l.made-index l.events))) l.output
