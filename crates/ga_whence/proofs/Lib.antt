@@ -1,0 +1,6 @@
+pub mod Made
+pub mod Sources
+pub mod Telling
+pub mod Causes
+pub mod Walking
+pub mod Closed

@@ -1,0 +1,107 @@
+-- Where a value was made.
+use Rattle.std.proofs.Common.{◌≡◌, ℕ, zero, suc, ◌+◌, ◌<◌, ◌≤◌, Bool, true, false, cond, List, [], ◌∷◌, length, take, Some, None, refl, sym, ◌∙◌, ap, arith}
+use Rattle.std.specs.Prelude.{Option, option_map, unwrap_or}
+use Rattle.std.specs.List.{slice_get}
+use Rattle.std.proofs.lemmas.List.Sums.{sum_by-cons}
+use Rattle.ga_grid.specs.declared.node_id.NodeId.{NodeId}
+use Rattle.ga_node.specs.Record.{NodeRecord}
+use Rattle.ga_event.specs.declared.event.Event.{Event}
+use Rattle.ga_event.specs.declared.made.Made.{Made}
+use Rattle.ga_event.specs.Touches.{touches}
+use Rattle.ga_event.specs.Told.{steps_of}
+use Rattle.ga_lab.specs.Machine.{State, history_of}
+use Rattle.ga_flow.specs.declared.part.Part.{Part}
+use Rattle.ga_flow.specs.declared.part.Part.TheVariants.{Data, Return, Ram, Rom, A, B, P, I, Io, Carry, Slot, Wait, Stop, Outside}
+use Rattle.ga_flow.specs.Flow.{Flow, Same, IsPart}
+use Rattle.ga_flow.specs.Following.{IsSource}
+use Rattle.ga_whence.specs.declared.value.Value.{Value}
+use Rattle.ga_whence.specs.Origins.{place_after, node_after, told_flow, flow_told, flow_at, moved_from, moved_at, told_part, value_at, origin_from}
+
+steps-cons : (n : ℕ) (e : Event) (es : List Event) → steps_of n (e ∷ es) ≡ cond (touches e n) 1 0 + steps_of n es
+steps-cons n e es = sum_by-cons (λ (x : Event). cond (touches x n) 1 0) e es
+
+-- the first events that hold so many steps of a node hold just so many
+pub place_holds : (events : List Event) (n k : ℕ) → k ≤ steps_of n events → steps_of n (take (place_after events n k) events) ≡ k
+place_holds [] n k l = omega (arith, l)
+place_holds (e ∷ es) n zero l = refl
+place_holds (e ∷ es) n (suc k) l = go (touches e n) (place_holds es n) (steps-cons n e)
+  where
+    go : (b : Bool) → ((j : ℕ) → j ≤ steps_of n es → steps_of n (take (place_after es n j) es) ≡ j) → ((xs : List Event) → steps_of n (e ∷ xs) ≡ cond b 1 0 + steps_of n xs)
+        → steps_of n (e ∷ take (place_after es n (cond b k (suc k))) es) ≡ suc k
+    go true holds cons =
+        let all = cons es in
+        let held = holds k (omega (arith, l, all)) in
+        let front = cons (take (place_after es n k) es) in omega (arith, held, front)
+    go false holds cons =
+        let all = cons es in
+        let held = holds (suc k) (omega (arith, l, all)) in
+        let front = cons (take (place_after es n (suc k)) es) in omega (arith, held, front)
+
+-- what is read past the end
+pub none_past : (list : List Made) (i : ℕ) → length list ≤ i → slice_get list i ≡ None
+none_past [] zero l = refl
+none_past [] (suc i) l = refl
+none_past (x ∷ xs) zero l = absurd (omega arith)
+none_past (x ∷ xs) (suc i) l = none_past xs i (omega (arith, l))
+
+none_some : {A : Type 0} {x : A} → None ≡ Some x → ⊥
+none_some h = cc
+
+pub some_within : (list : List Made) (i : ℕ) → i < length list → None ≡ slice_get list i → ⊥
+some_within [] i l h = omega (arith, l)
+some_within (x ∷ xs) zero l h = none_some h
+some_within (x ∷ xs) (suc i) l h = some_within xs i (omega (arith, l)) h
+
+-- a part of a node is a source
+pub is_source : (at : Part) → IsPart at → IsSource at
+is_source (Data k) is = is
+is_source (Return k) is = is
+is_source (Ram k) is = is
+is_source (Rom k) is = is
+is_source A is = is
+is_source B is = is
+is_source P is = is
+is_source I is = is
+is_source Io is = is
+is_source Carry is = is
+is_source Slot is = is
+is_source Wait is = is
+is_source Stop is = is
+is_source Outside is = absurd is
+
+-- past the steps of a node its parts stay
+pub flow_past : (s : State) (n k : ℕ) (at : Part) → length (history_of s n) ≤ k → Same at ≡ flow_at s n k at
+flow_past s n k at l = sym (ap (λ told. flow_told told (node_after s n k) n at) (none_past (history_of s n) k l))
+
+-- of a step that is told
+pub flow_within : (s : State) (n k : ℕ) (at : Part) (told : Made) (before : NodeRecord) (flow : Flow) → Some told ≡ slice_get (history_of s n) k → before ≡ node_after s n k
+    → flow ≡ told_flow told before n at → flow ≡ flow_at s n k at
+flow_within s n k at told before flow is node e =
+    e ∙ ap (λ (z : NodeRecord). told_flow told z n at) node ∙ ap (λ o. flow_told o (node_after s n k) n at) is
+
+-- a step that moved the value, and one that made it
+pub moved_on : (s : State) (node : NodeId) (k : ℕ) (at from : Part) → moved_at s node.number k at ≡ Some from → origin_from s node (suc k) at ≡ origin_from s node k from
+moved_on s node k at from e = ap (λ o. unwrap_or (option_map (origin_from s node k) o) (value_at node (suc k) (told_part (flow_at s node.number k at) at))) e
+
+pub made_there : (s : State) (node : NodeId) (k : ℕ) (at : Part) → moved_at s node.number k at ≡ None → origin_from s node (suc k) at ≡ value_at node (suc k) (told_part (flow_at s node.number k at) at)
+made_there s node k at e = ap (λ o. unwrap_or (option_map (origin_from s node k) o) (value_at node (suc k) (told_part (flow_at s node.number k at) at))) e
+
+pub moved_by : (s : State) (n k : ℕ) (at : Part) (flow : Flow) (o : Option Part) → flow ≡ flow_at s n k at → o ≡ moved_from flow at → moved_at s n k at ≡ o
+moved_by s n k at flow o is e = ap (λ (z : Flow). moved_from z at) (sym is) ∙ sym e
+
+-- the walk back goes on, and ends at the step or at the load
+pub back_on : (s : State) (node : NodeId) (step k : ℕ) (at from : Part) (flow : Flow) (value : Value) → suc k ≡ step → flow ≡ flow_at s node.number k at → Some from ≡ moved_from flow at
+    → origin_from s node step at ≡ value → origin_from s node k from ≡ value
+back_on s node step k at from flow value is e moved same =
+    sym (moved_on s node k at from (moved_by s node.number k at flow (Some from) e moved)) ∙ ap (λ (z : ℕ). origin_from s node z at) is ∙ same
+
+pub back_end : (s : State) (node : NodeId) (step k : ℕ) (at told : Part) (flow : Flow) (value : Value) → suc k ≡ step → flow ≡ flow_at s node.number k at → None ≡ moved_from flow at → told ≡ told_part flow at
+    → origin_from s node step at ≡ value → value_at node step told ≡ value
+back_end s node step k at told flow value is e moved part same =
+    ap (λ (z : ℕ). value_at node z told) (sym is)
+    ∙ ap (value_at node (suc k)) (part ∙ ap (λ (z : Flow). told_part z at) e)
+    ∙ sym (made_there s node k at (moved_by s node.number k at flow None e moved))
+    ∙ ap (λ (z : ℕ). origin_from s node z at) is ∙ same
+
+pub back_load : (s : State) (node : NodeId) (step : ℕ) (at : Part) (value : Value) → step ≡ 0 → origin_from s node step at ≡ value → value_at node step at ≡ value
+back_load s node step at value is same = ap (λ (z : ℕ). value_at node z at) is ∙ ap (λ (z : ℕ). origin_from s node z at) (sym is) ∙ same

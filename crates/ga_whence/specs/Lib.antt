@@ -1,0 +1,4 @@
+pub mod Causes
+pub mod Origins
+pub mod Rows
+pub mod kept

@@ -1,0 +1,25 @@
+//! Laws of the definitions, each the contract of a function that does nothing.
+
+ghost use Rattle.std.specs.Prelude.{◌≡◌, ℕ, List, [], ◌∷◌, Bool, true, All, Some};
+ghost use Rattle.ga_causal.specs.Dependence.{place_of};
+ghost use Rattle.ga_lab.specs.Machine.{State, causes_of};
+ghost use Rattle.ga_whence.specs.declared.value.Value.{Value};
+ghost use Rattle.ga_whence.specs.declared.listing.Row.{Row};
+ghost use Rattle.ga_whence.specs.Rows.{row_at, sources_of, IsToldIn, AreRows};
+ghost use Rattle.ga_whence.specs.Causes.{IsNamedFor};
+
+/// Each step that is told is one on which the step asked for depends, so that `why` leads from it there. What else is told was
+/// loaded. The step asked for must be kept, as each of a node's is.
+pub fn named_steps_are_causes()
+    ensures { (s : State) (value : Value) (place : ℕ) (rows : List Row) (whole : Bool) →
+        place_of (causes_of s) value.node.number value.step ≡ Some place →
+        AreRows s [] (row_at 0 value ∷ []) rows whole → All (λ (row : Row). IsNamedFor s value row.value) rows }
+{}
+
+/// Where all rows are told, none is missing: the step that made the value asked for is told, and with each row the steps that made
+/// the values from which its own came.
+pub fn whole_listings_miss_nothing()
+    ensures asked { (s : State) (value : Value) (rows : List Row) → AreRows s [] (row_at 0 value ∷ []) rows true → IsToldIn s rows value }
+    ensures sources { (s : State) (value : Value) (rows : List Row) → AreRows s [] (row_at 0 value ∷ []) rows true →
+        All (λ (row : Row). All (IsToldIn s rows) (sources_of s row.value)) rows }
+{}

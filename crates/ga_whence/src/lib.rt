@@ -1,0 +1,11 @@
+//! Where a value came from: the steps whose values went into it, through stacks, memories, registers and links, down to the load.
+#![tactic(auto)]
+
+pub mod laws;
+mod listing;
+mod origin;
+mod value;
+
+pub use listing::{Listing, Row, whence};
+pub use origin::origin_of;
+pub use value::Value;

@@ -1,0 +1,193 @@
+//! The steps whose values went into a value, as a tree.
+
+ghost use Rattle.std.specs.Prelude.{◌≡◌, ◌⊎◌, ◌↔◌, ◌<◌, ◌≤◌, ◌+◌, ◌^◌, ◌++◌, ◌∷◌, [], false, Err, IfOk, IfErr, OnOk, All, length, map, reverse, option_to_list};
+ghost use Rattle.ga_event.specs.Told.{steps_of};
+ghost use Rattle.ga_flow.specs.Flow.{IsPart, Same};
+ghost use Rattle.ga_whence.specs.Origins.{value_at};
+ghost use Rattle.ga_whence.specs.Rows.{is_named, row_at, sender_in, sources_by, below, AreRows};
+ghost use Rattle.ga_whence.specs.kept.Open.{IsOpen};
+
+use crate::origin::{flow_at, origin_of};
+use crate::value::Value;
+use arrayvec::ArrayVec;
+use ga_event::Made;
+use ga_flow::{Flow, Part};
+use ga_grid::NodeId;
+use ga_lab::{Lab, LabFault};
+use std::alloc::{AllocError, Global};
+
+/// A row of a listing: a value that a step made, or that was loaded.
+#[derive(Clone, Copy, PartialEq, Eq, Debug)]
+pub struct Row {
+    /// How many steps lead from the value asked for to this one: 0 for the step that made the value itself.
+    pub depth: u32,
+    /// The value, right after the step that made it.
+    pub value: Value,
+}
+
+/// The steps whose values went into a value, as a tree, of which each step is told once.
+#[derive(Debug, Drop)]
+pub struct Listing {
+    /// Each with those below it behind it, in the order in which its step reads them.
+    pub rows: Vec<Row>,
+    /// Whether these are all.
+    pub is_whole: bool,
+}
+
+// Whether the value is among those that were told.
+fn is_named(rows: &[Row], value: Value) -> bool
+    ensures { result ≡ is_named rows.now value }
+{
+    rows.iter().any(|row| row.value.is_same(value))
+}
+
+// What a word came from that an event carried: T of the writer before.
+fn sender_in(made: Option<Made>) -> Option<Value>
+    ensures { result ≡ sender_in made }
+{
+    match made {
+        Some(
+            Made::Pass {
+                writer,
+                writer_step,
+                ..
+            },
+        ) => Some(Value {
+            node: writer,
+            step: writer_step.saturating_sub(1),
+            part: Part::T,
+        }),
+        Some(Made::Own { .. }) => None,
+        None => None,
+    }
+}
+
+// The value from which one was moved or read, by the part where it stood before.
+fn source_in(node: NodeId, step: u32, told: Option<Made>, from: Part) -> Option<Value>
+    ensures { option_to_list result ≡ sources_by node step told (Same from) }
+{
+    match from {
+        Part::Outside => sender_in(told),
+        _ => Some(Value {
+            node,
+            step,
+            part: from,
+        }),
+    }
+}
+
+// Puts a value on the top, where there is one.
+fn push_some(todo: &mut Vec<Row>, depth: u32, value: Option<Value>) -> Result<(), AllocError>
+    ensures ok { OnOk result (reverse todo.new.items ≡ map (row_at depth) (option_to_list value) ++ reverse todo.old.items) }
+    ensures few { OnOk result (length todo.new.items ≤ length todo.old.items + 3) }
+{
+    match value {
+        Some(value) => {
+            todo.push(Row { depth, value })?;
+            Ok(())
+        }
+        None => Ok(()),
+    }
+}
+
+// Puts the values of some parts of a node on the top, the first uppermost.
+fn push_parts(
+    todo: &mut Vec<Row>,
+    depth: u32,
+    node: NodeId,
+    step: u32,
+    parts: ArrayVec<Part, 3>,
+) -> Result<(), AllocError>
+    ensures ok { OnOk result
+        (reverse todo.new.items ≡ map (row_at depth) (map (value_at node step) parts.items) ++ reverse todo.old.items) }
+    ensures few { OnOk result (length todo.new.items ≤ length todo.old.items + 3) }
+{
+    let count = parts.len();
+    prove!(count <= 3);
+    let mut left = parts;
+    'pushing: while let Some(part) = left.pop() {
+        let value = Value { node, step, part };
+        todo.push(Row { depth, value })?;
+    }
+    Ok(())
+}
+
+// Puts what a row's value came from on the top, the first uppermost.
+fn push_below(todo: &mut Vec<Row>, lab: &Lab, row: Row) -> Result<(), AllocError>
+    requires part { IsPart row.value.part }
+    requires deep { row.depth + 1 < 2 ^ 32 }
+    ensures ok { OnOk result (reverse todo.new.items ≡ below lab.now row ++ reverse todo.old.items) }
+    ensures few { OnOk result (length todo.new.items ≤ length todo.old.items + 3) }
+    ensures ready { OnOk result (All (IsOpen (row.depth + 1)) (below lab.now row)) }
+{
+    let Value { node, step, part } = row.value;
+    if step == 0 {
+        return Ok(());
+    }
+    let place = step - 1;
+    let depth = row.depth + 1;
+    match flow_at(lab, node, place, part) {
+        Flow::Same(from) => {
+            let told = lab.told(node, place);
+            push_some(todo, depth, source_in(node, place, told, from))
+        }
+        Flow::From(parts) => push_parts(todo, depth, node, place, parts),
+    }
+}
+
+// The rows of a value, at most so many.
+fn listed(alloc: Global, lab: &Lab, value: Value, most: u32) -> Result<Listing, AllocError>
+    requires { IsPart value.part }
+    ensures rows { IfOk result (λ listing. AreRows lab.now [] (row_at 0 value ∷ []) listing.rows.items listing.is_whole) }
+    ensures most { IfOk result (λ listing. length listing.rows.items ≤ most) }
+    ensures cut { IfOk result (λ listing. listing.is_whole ≡ false → length listing.rows.items ≡ most) }
+{
+    let mut rows: Vec<Row> = Vec::new(alloc);
+    let mut todo: Vec<Row> = Vec::new(alloc);
+    todo.push(Row { depth: 0, value })?;
+    'telling: while let Some(next) = todo.pop() {
+        let value = origin_of(lab, next.value);
+        let row = Row {
+            depth: next.depth,
+            value,
+        };
+        if is_named(&rows, value) {
+            continue 'telling;
+        }
+        if rows.as_slice().len() == most as usize {
+            return Ok(Listing {
+                rows,
+                is_whole: false,
+            });
+        }
+        push_below(&mut todo, lab, row)?;
+        rows.push(row)?;
+    }
+    Ok(Listing {
+        rows,
+        is_whole: true,
+    })
+}
+
+/// The steps whose values went into a value, through stacks, memories, registers and links, down to the load: as a tree, of which
+/// each is told once, and at most so many. Takes memory by how many are told. Each step of a node that is gone back over takes time
+/// by how many the node made since.
+///
+/// # Errors
+/// `NoStep`, where the node has no such step; then `Memory`.
+pub fn whence(alloc: Global, lab: &Lab, value: Value, most: u32) -> Result<Listing, LabFault>
+    requires { IsPart value.part }
+    ensures rows { IfOk result (λ listing. AreRows lab.now [] (row_at 0 value ∷ []) listing.rows.items listing.is_whole) }
+    ensures most { IfOk result (λ listing. length listing.rows.items ≤ most) }
+    ensures cut { IfOk result (λ listing. listing.is_whole ≡ false → length listing.rows.items ≡ most) }
+    ensures err { IfErr result (λ why. (why ≡ LabFault.NoStep) ⊎ (why ≡ LabFault.Memory)) }
+    ensures refused { (result ≡ Err LabFault.NoStep) ↔ (steps_of value.node.number lab.now.kept < value.step) }
+{
+    if value.step > lab.steps(value.node) {
+        return Err(LabFault::NoStep);
+    }
+    match listed(alloc, lab, value, most) {
+        Ok(listing) => Ok(listing),
+        Err(_) => Err(LabFault::Memory),
+    }
+}
