@@ -12,7 +12,8 @@ use Rattle.ga_journal.specs.Marks.{entry_at, mark_of, going_of, entries, ticked,
 use Rattle.ga_journal.specs.kept.Marks.{to_go}
 use Rattle.ga_journal.specs.Looks.{IsLookToGo, SawNoneToGo, IsSought, Never, Once}
 use Rattle.ga_rollback.specs.kept.Marked.{stamp_at, IsDue, Saw, AreLowered, Same, Further, Vain, AreLoweredBy, IsMarking, IsUnseen, IsDone}
-use Rattle.ga_rollback.proofs.Marking.{lowered_sound, lowered_other, lowered_go, lowered_line, line_grows, one_lowered, go_under, ticked_sound, marked_ticked, marking_fewer, marking_vain, marking_lowered, saw_lowered, done_lowered}
+use Rattle.ga_rollback.proofs.Lowering.{lowered_sound, lowered_other, lowered_go, lowered_line, line_grows, one_lowered, ticked_sound, marked_ticked, saw_lowered}
+use Rattle.ga_rollback.proofs.Marking.{go_under, marking_fewer, marking_vain, marking_lowered, done_lowered}
 
 -- what such marks leave as it was
 pub record AreAfter (old : Book) (node vain : ℕ) (new : Book) : Type 0 where
@@ -102,18 +103,18 @@ due_look book s node m p side f beside look found =
     Saw node (mark_of book node) side look.gone (subst (λ (z : Past). has_looked_in z.act ≡ true) same look.look.looked) beside look.first (omega arith)
     (subst (λ (z : Past). look.gone.stamp < z.stamp) same look.after)
 
-look_found : (first : Book) (n k : ℕ) (book : Book) (seen : List ℕ) (more node m p : ℕ) (side : Side) → IsMarking first n k book seen more → neighbour_of m side ≡ Some node → IsLookToGo book node m p
-    → IsMarking first n k (lowered (ticked book) m p) seen more
-look_found first n k book seen more node m p side marking beside look =
+look_found : (first : Book) (n k : ℕ) (book : Book) (visited : List ℕ) (more node m p : ℕ) (side : Side) → IsMarking first n k book visited more → neighbour_of m side ≡ Some node → IsLookToGo book node m p
+    → IsMarking first n k (lowered (ticked book) m p) visited more
+look_found first n k book visited more node m p side marking beside look =
     let sound : AreMarks book = marking.marked.sound in
     let low : p < mark_of book m = look.look.below in
-    let next : IsMarking first n k (lowered book m p) seen more =
-    marking_lowered first n k book seen more m p marking low (λ f found. due_look book (stamp_at book n k) node m p side f beside look found) in
+    let next : IsMarking first n k (lowered book m p) visited more =
+    marking_lowered first n k book visited more m p marking low (λ f found. due_look book (stamp_at book n k) node m p side f beside look found) in
     let line = lowered_line book m p sound low in
     let grows = line_grows book m p sound low in
     let go = lowered_go book m p sound low in
     record {
-      marked = marked_ticked (lowered book m p) seen n k next.marked;
+      marked = marked_ticked (lowered book m p) visited n k next.marked;
       others = ap (λ (b : Book). record b { ticks = book.ticks + 1 + 1 }) next.others;
       size = next.size;
       fits = next.fits;
@@ -126,33 +127,33 @@ look_found first n k book seen more node m p side marking beside look =
       bound = let a = marking.bound in omega arith;
     }
 
-marking_chain : (first : Book) (n k : ℕ) (old : Book) (seen : List ℕ) (node more all vain : ℕ) (new : Book) → all ≡ more + vain → IsMarking first n k old seen all → AreLowered old node vain new → IsMarking first n k new seen more
-marking_chain first n k old seen node more all vain new sum marking (Same none same) =
-    subst (λ z. IsMarking first n k z seen more) (sym same) (marking_fewer first n k old seen all more (omega arith) marking)
-marking_chain first n k old seen node more all vain new sum marking (Further book m p side chain beside look same) =
-    subst (λ z. IsMarking first n k z seen more) (sym same)
-    (look_found first n k book seen more node m p side (marking_chain first n k old seen node more all vain book sum marking chain) beside look)
-marking_chain first n k old seen node more all vain new sum marking (Vain book before m chain look one same) =
-    subst (λ z. IsMarking first n k z seen more) (sym same)
-    (marking_vain first n k book seen more m (marking_chain first n k old seen node (more + 1) all before book (omega arith) marking chain) look)
+marking_chain : (first : Book) (n k : ℕ) (old : Book) (visited : List ℕ) (node more all vain : ℕ) (new : Book) → all ≡ more + vain → IsMarking first n k old visited all → AreLowered old node vain new → IsMarking first n k new visited more
+marking_chain first n k old visited node more all vain new sum marking (Same none same) =
+    subst (λ z. IsMarking first n k z visited more) (sym same) (marking_fewer first n k old visited all more (omega arith) marking)
+marking_chain first n k old visited node more all vain new sum marking (Further book m p side chain beside look same) =
+    subst (λ z. IsMarking first n k z visited more) (sym same)
+    (look_found first n k book visited more node m p side (marking_chain first n k old visited node more all vain book sum marking chain) beside look)
+marking_chain first n k old visited node more all vain new sum marking (Vain book before m chain look one same) =
+    subst (λ z. IsMarking first n k z visited more) (sym same)
+    (marking_vain first n k book visited more m (marking_chain first n k old visited node (more + 1) all before book (omega arith) marking chain) look)
 
-pub marking_after : (first : Book) (n k : ℕ) (old : Book) (seen : List ℕ) (node : ℕ) (new : Book) → IsMarking first n k old seen 4 → AreLoweredBy 4 old node new → IsMarking first n k new seen 0
-marking_after first n k old seen node new marking by =
-    marking_chain first n k old seen node 0 by.vain by.vain new (omega arith) (marking_fewer first n k old seen 4 by.vain by.few marking) by.chain
+pub marking_after : (first : Book) (n k : ℕ) (old : Book) (visited : List ℕ) (node : ℕ) (new : Book) → IsMarking first n k old visited 4 → AreLoweredBy 4 old node new → IsMarking first n k new visited 0
+marking_after first n k old visited node new marking by =
+    marking_chain first n k old visited node 0 by.vain by.vain new (omega arith) (marking_fewer first n k old visited 4 by.vain by.few marking) by.chain
 
 -- the nodes that do not wait are done
-still_done : (old : Book) (node vain : ℕ) (new : Book) (seen : List ℕ) (x : ℕ) → AreMarks old → AreLowered old node vain new → IsDone old seen x → IsDone new seen x
-still_done old node vain new seen x sound (Same none same) done = subst (λ z. IsDone z seen x) (sym same) done
-still_done old node vain new seen x sound (Further book m p side chain beside look same) done =
-    subst (λ z. IsDone z seen x) (sym same)
-    (done_lowered book seen m p x ((after_lowered old node vain book sound chain).sound) look.look.below (still_done old node vain book seen x sound chain done))
-still_done old node vain new seen x sound (Vain book before m chain look one same) done = subst (λ z. IsDone z seen x) (sym same) (still_done old node before book seen x sound chain done)
+still_done : (old : Book) (node vain : ℕ) (new : Book) (visited : List ℕ) (x : ℕ) → AreMarks old → AreLowered old node vain new → IsDone old visited x → IsDone new visited x
+still_done old node vain new visited x sound (Same none same) done = subst (λ z. IsDone z visited x) (sym same) done
+still_done old node vain new visited x sound (Further book m p side chain beside look same) done =
+    subst (λ z. IsDone z visited x) (sym same)
+    (done_lowered book visited m p x ((after_lowered old node vain book sound chain).sound) look.look.below (still_done old node vain book visited x sound chain done))
+still_done old node vain new visited x sound (Vain book before m chain look one same) done = subst (λ z. IsDone z visited x) (sym same) (still_done old node before book visited x sound chain done)
 
-pub all_done : (most : ℕ) (old : Book) (node : ℕ) (new : Book) (seen : List ℕ) → AreMarks old → AreLoweredBy most old node new → going_of old node ≤ get_or seen node 0 → IsUnseen new node → ((x : ℕ) → x ≢ node → IsDone old seen x)
-    → (x : ℕ) → IsDone new seen x
-all_done most old node new seen sound by all unseen done x = ⊎_elim
-    (λ same. subst (λ z. IsDone new seen z) (sym same) (λ idle. ((let a = (after_lowered old node by.vain new sound by.chain).going in omega arith), unseen)))
-    (λ ne. still_done old node by.vain new seen x sound by.chain (done x ne))
+pub all_done : (most : ℕ) (old : Book) (node : ℕ) (new : Book) (visited : List ℕ) → AreMarks old → AreLoweredBy most old node new → going_of old node ≤ get_or visited node 0 → IsUnseen new node → ((x : ℕ) → x ≢ node → IsDone old visited x)
+    → (x : ℕ) → IsDone new visited x
+all_done most old node new visited sound by all unseen done x = ⊎_elim
+    (λ same. subst (λ z. IsDone new visited z) (sym same) (λ idle. ((let a = (after_lowered old node by.vain new sound by.chain).going in omega arith), unseen)))
+    (λ ne. still_done old node by.vain new visited x sound by.chain (done x ne))
     (cases_eq x node)
 
 -- and the ticks fit, for more of them too

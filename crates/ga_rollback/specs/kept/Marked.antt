@@ -10,9 +10,9 @@ use Rattle.ga_journal.specs.kept.Marks.{to_go, in_line}
 use Rattle.ga_journal.specs.Looks.{HasLook, IsLookToGo, SawNoneToGo}
 use Rattle.ga_rollback.specs.Marked.{looks_of}
 
--- from where on a node's entries were looked at
-abbrev pub looked_to : Book → List ℕ → ℕ → ℕ
-looked_to book seen m = length (history book.histories m) - slice_index seen m
+-- from where on a node's entries were visited
+abbrev pub visited_to : Book → List ℕ → ℕ → ℕ
+visited_to book visited m = length (history book.histories m) - slice_index visited m
 
 abbrev pub stamp_of : Option Past → ℕ
 stamp_of None = 0
@@ -31,16 +31,16 @@ pub data IsDue (book : Book) (s m p : ℕ) (e : Past) : Type 0 where
   Saw : (j q : ℕ) (side : Side) (f : Past) → has_looked_in e.act ≡ true → neighbour_of m side ≡ Some j
       → entry_at book.histories j q ≡ Some f → mark_of book j ≤ q → f.stamp < e.stamp → IsDue book s m p e
 
--- the marks of a rollback of node n from its entry at k on: each entry to go has a cause, and what an entry that was looked at
+-- the marks of a rollback of node n from its entry at k on: each entry to go has a cause, and what an entry that was visited
 -- names is to go with it
-pub record IsMarked (book : Book) (seen : List ℕ) (n k : ℕ) : Type 0 where
+pub record IsMarked (book : Book) (visited : List ℕ) (n k : ℕ) : Type 0 where
   pub sound : AreMarks book
   pub start : mark_of book n ≤ k
   pub caused : (m p : ℕ) (e : Past) → entry_at book.histories m p ≡ Some e → mark_of book m ≤ p
       → IsDue book (stamp_at book n k) m p e
-  pub whole : (m p j q : ℕ) → looked_to book seen m ≤ p → partner_at book.histories m p ≡ Some (j, q) → mark_of book j ≤ q
+  pub whole : (m p j q : ℕ) → visited_to book visited m ≤ p → partner_at book.histories m p ≡ Some (j, q) → mark_of book j ≤ q
 
--- an entry looked at: the mark of the node that it names is low enough, or is lowered
+-- an entry visited: the mark of the node that it names is low enough, or is lowered
 pub data IsFollowed (old : Book) (m p : ℕ) (new : Book) : Type 0 where
   Passed : ((j q : ℕ) → partner_at old.histories m p ≡ Some (j, q) → mark_of old j ≤ q)
       → new ≡ ticked old → IsFollowed old m p new
@@ -73,21 +73,21 @@ staying [] going = []
 staying (h ∷ hs) [] = h ∷ staying hs []
 staying (h ∷ hs) (k ∷ going) = take (length h - k) h ∷ staying hs going
 
--- the marks while they are lowered: no entry that stays was looked at, and each tick was a node taken up, an entry looked at, a
+-- the marks while they are lowered: no entry that stays was visited, and each tick was a node taken up, an entry visited, a
 -- search for a look that is to go or a mark lowered; for each node that waits, four searches in vain may come, and so many more
-pub record IsMarking (first : Book) (n k : ℕ) (book : Book) (seen : List ℕ) (more : ℕ) : Type 0 where
-  pub marked : IsMarked book seen n k
+pub record IsMarking (first : Book) (n k : ℕ) (book : Book) (visited : List ℕ) (more : ℕ) : Type 0 where
+  pub marked : IsMarked book visited n k
   pub others : book ≡ record first { going = book.going; waiting = book.waiting; ticks = book.ticks }
-  pub size : length seen ≡ 144
-  pub fits : (m : ℕ) → slice_index seen m ≤ going_of book m
+  pub size : length visited ≡ 144
+  pub fits : (m : ℕ) → slice_index visited m ≤ going_of book m
   pub found : ℕ
   pub vain : ℕ
   pub looks : looks_of (staying book.histories book.going) + found ≤ looks_of book.histories
   pub searches : vain + 4 * in_line book + more ≤ 4 * to_go book
   pub blind : looks_of book.histories ≡ 0 → vain ≡ 0
-  pub least : first.ticks + 2 + sum_by (λ (x : ℕ). x) seen ≤ book.ticks + in_line book
-  pub bound : book.ticks + in_line book ≤ first.ticks + 2 * to_go book + sum_by (λ (x : ℕ). x) seen + found + vain
+  pub least : first.ticks + 2 + sum_by (λ (x : ℕ). x) visited ≤ book.ticks + in_line book
+  pub bound : book.ticks + in_line book ≤ first.ticks + 2 * to_go book + sum_by (λ (x : ℕ). x) visited + found + vain
 
--- of a node that does not wait all entries to go were looked at, and no look that is to stay saw one of them
+-- of a node that does not wait all entries to go were visited, and no look that is to stay saw one of them
 abbrev pub IsDone : Book → List ℕ → ℕ → Type 0
-IsDone book seen m = waits book m ≡ false → (going_of book m ≤ slice_index seen m) × IsUnseen book m
+IsDone book visited m = waits book m ≡ false → (going_of book m ≤ slice_index visited m) × IsUnseen book m

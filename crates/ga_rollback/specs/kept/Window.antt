@@ -1,4 +1,4 @@
--- Where the nodes stand of which entries were looked at.
+-- Where the nodes stand of which entries were visited.
 use Rattle.std.specs.Prelude.{◌≡◌, ℕ, ◌<◌, ◌≤◌, List, length, slice_index}
 
 -- each count that is not 0 stands from the first place on and below the end

@@ -1,19 +1,19 @@
-//! How many entries of each node were looked at.
+//! How many entries of each node were visited.
 
 use ga_grid::NodeId;
 use std::marker::Model;
 
-/// How many entries of each node were looked at, from its last one on, and a window in which all nodes with some stand, so that
-/// not every count is looked at.
+/// How many entries of each node were visited, from its last one on, and a window in which all nodes with some stand, so that
+/// not every count is read.
 #[derive(Drop)]
-pub(crate) struct Looked {
+pub(crate) struct Visited {
     counts: [u32; 144],
     // The least node that may have some, and one past the greatest.
     first: u8,
     past: u8,
 }
 
-impl Model for Looked {
+impl Model for Visited {
     ghost use Rattle.std.specs.Prelude.{ℕ, List};
     ghost use Rattle.ga_rollback.specs.kept.Window.{IsWindow};
 
@@ -24,7 +24,7 @@ impl Model for Looked {
     ghost invariant = { λ s. IsWindow s.counts s.first s.past };
 }
 
-impl Looked {
+impl Visited {
     ghost use Rattle.std.specs.Prelude.{◌≡◌, ◌+◌, ◌<◌, ◌≤◌, ◌^◌, ℕ, length, slice_index, slice_set};
 
     /// None of any node.
@@ -32,7 +32,7 @@ impl Looked {
         ensures size { length result ≡ 144 }
         ensures zero { (n : ℕ) → slice_index result n ≡ 0 }
     {
-        Looked {
+        Visited {
             counts: [0; 144],
             first: 144,
             past: 0,

@@ -1,7 +1,7 @@
 use Rattle.std.proofs.Common.{◌≡◌, ℕ, slice_index, replicate, refl, arith, ⊎_elim}
 use Rattle.std.proofs.lemmas.Bool.{cases_lt}
 use Rattle.std.proofs.lemmas.List.{get_or-replicate, get_or_past, length-replicate}
-use Rattle.ga_rollback.proofs.looked.Looked.none.Goals as goal
+use Rattle.ga_rollback.proofs.visited.Visited.none.Goals as goal
 
 -- each count is 0
 zero : (n : ℕ) → slice_index (replicate 144 0) n ≡ 0

@@ -1,0 +1,171 @@
+-- Marks lowered.
+use Rattle.std.proofs.Common.{◌≡◌, ◌≢◌, ℕ, ◌+◌, ◌-◌, ◌<◌, ◌≤◌, Bool, true, false, cond, List, [], length, take, get_or, set, Some, None, refl, sym, ◌∙◌, ap, subst, arith, ⊎_elim, length-set, get_or-set_same, get_or-set_other}
+use Rattle.std.specs.List.{sum_by, count_by}
+use Rattle.std.specs.Prelude.{slice_get}
+use Rattle.std.proofs.lemmas.Bool.{cases_eq, cases_lt, cases_order, both_ways}
+use Rattle.std.proofs.lemmas.Option.{some_pair_parts}
+use Rattle.std.proofs.lemmas.List.{get_or_past}
+use Rattle.std.proofs.lemmas.List.Sums.{sum_by-set}
+use Rattle.ga_journal.specs.declared.entry.Act.{Act}
+use Rattle.ga_journal.specs.declared.entry.Act.TheVariants.{Own, Sent, Took}
+use Rattle.ga_journal.specs.Histories.{Past, Book, history}
+use Rattle.ga_journal.specs.Marks.{partner_of, entry_at, mark_of, going_of, waits, ticked, lowered, AreMarks}
+use Rattle.ga_journal.specs.kept.Marks.{to_go, in_line}
+use Rattle.ga_journal.specs.Events.{has_looked_in}
+use Rattle.ga_journal.specs.Looks.{SawNoneToGo}
+use Rattle.ga_rollback.specs.kept.Marked.{stamp_at, IsDue, Start, Later, Other, Saw, IsMarked, staying, IsUnseen}
+use Rattle.ga_rollback.specs.Marked.{looks_in, looks_of}
+use Rattle.ga_rollback.proofs.Looks.{one_most, looks_less, looks_one, looks_set}
+
+none_some : {A : Type 0} {x : A} → None ≡ Some x → ⊥
+none_some h = cc
+
+pub node_within : (hs : List (List Past)) (n k : ℕ) → k < length (history hs n) → n < length hs
+node_within hs n k l = ⊎_elim (λ q. q) (λ q. absurd (let j : length (history hs n) ≡ 0 = ap length (get_or_past hs n [] q) in omega arith)) (cases_lt n (length hs))
+
+-- a mark lowered
+pub lowered_same : (book : Book) (j q : ℕ) → AreMarks book → q < mark_of book j → (going_of (lowered book j q) j ≡ length (history book.histories j) - q) × (mark_of (lowered book j q) j ≡ q) × (waits (lowered book j q) j ≡ true)
+lowered_same book j q sound l =
+    let in_book : j < length book.histories = node_within book.histories j q (omega arith) in
+    let g : get_or (set book.going j (length (history book.histories j) - q)) j 0 ≡ length (history book.histories j) - q = get_or-set_same book.going j (length (history book.histories j) - q) 0 (let a = sound.size in let b = sound.going_size in omega arith) in
+    (g, omega arith, get_or-set_same book.waiting j true false (let a = sound.size in let b = sound.waiting_size in omega arith))
+
+pub lowered_other : (book : Book) (j q m : ℕ) → m ≢ j → (going_of (lowered book j q) m ≡ going_of book m) × (mark_of (lowered book j q) m ≡ mark_of book m) × (waits (lowered book j q) m ≡ waits book m)
+lowered_other book j q m ne =
+    let g : get_or (set book.going j (length (history book.histories j) - q)) m 0 ≡ get_or book.going m 0 = get_or-set_other book.going j m (length (history book.histories j) - q) 0 ne in
+    (g, ap (λ z. length (history book.histories m) - z) g, get_or-set_other book.waiting j m true false ne)
+
+pub lowered_sound : (book : Book) (j q : ℕ) → AreMarks book → q < mark_of book j → AreMarks (lowered book j q)
+lowered_sound book j q sound l = record {
+  size = sound.size;
+  matched = sound.matched;
+  going_size = length-set book.going j (length (history book.histories j) - q) ∙ sound.going_size;
+  waiting_size = length-set book.waiting j true ∙ sound.waiting_size;
+  within = λ m. ⊎_elim
+      (λ same. subst (λ z. going_of (lowered book j q) z ≤ length (history book.histories z)) (sym same) (let k = (lowered_same book j q sound l).0 in omega arith))
+      (λ ne. let k = (lowered_other book j q m ne).0 in let w = sound.within m in omega arith)
+      (cases_eq m j);
+}
+
+pub lowered_falls : (book : Book) (j q m : ℕ) → AreMarks book → q < mark_of book j → mark_of (lowered book j q) m ≤ mark_of book m
+lowered_falls book j q m sound l = ⊎_elim
+    (λ same. subst (λ z. mark_of (lowered book j q) z ≤ mark_of book z) (sym same) (let k = (lowered_same book j q sound l).1 in omega arith))
+    (λ ne. let k = (lowered_other book j q m ne).1 in omega arith)
+    (cases_eq m j)
+
+due_lowered : (book : Book) (j q s m p : ℕ) (e : Past) → AreMarks book → q < mark_of book j → IsDue book s m p e → IsDue (lowered book j q) s m p e
+due_lowered book j q s m p e sound l (Start h) = Start h
+due_lowered book j q s m p e sound l (Later h) = Later (let k = lowered_falls book j q m sound l in omega arith)
+due_lowered book j q s m p e sound l (Other i r names h) = Other i r names (let k = lowered_falls book j q i sound l in omega arith)
+due_lowered book j q s m p e sound l (Saw i r side f looked beside there h before) = Saw i r side f looked beside there (let k = lowered_falls book j q i sound l in omega arith) before
+
+-- a look names no other entry
+look_alone : (act : Act) (x : ℕ × ℕ) → has_looked_in act ≡ true → partner_of act ≡ Some x → ⊥
+look_alone (Own deed) x looked names = none_some names
+look_alone (Sent to side at word) x looked names = both_ways false refl looked
+look_alone (Took from side at word) x looked names = both_ways false refl looked
+
+-- the other entry of a pass is due as the one is
+pub due_partner : (book : Book) (s m p j q : ℕ) (e f : Past) → AreMarks book → q < mark_of book j → entry_at book.histories m p ≡ Some e → partner_of e.act ≡ Some (j, q) → entry_at book.histories j q ≡ Some f → IsDue book s m p e → IsDue (lowered book j q) s j q f
+due_partner book s m p j q e f sound l found names there (Start h) = Start (sym (sound.matched.same m p j q e f found names there) ∙ h)
+due_partner book s m p j q e f sound l found names there (Later h) =
+    let apart : j ≢ m = sound.matched.other m p j q e found names in
+    Other m p (sound.matched.linked j q m p f e apart there found (sym (sound.matched.same m p j q e f found names there)))
+    (let k = (lowered_other book j q m (λ z. apart (sym z))).1 in omega arith)
+due_partner book s m p j q e f sound l found names there (Other i r other h) =
+    let same = some_pair_parts _ _ _ _ (sym names ∙ other) in
+    absurd (let k : mark_of book j < q = subst (λ z. mark_of book z < q) (sym same.0) (subst (λ z. mark_of book i < z) (sym same.1) h) in omega arith)
+due_partner book s m p j q e f sound l found names there (Saw i r side g looked beside visited h before) = absurd (look_alone e.act (j, q) looked names)
+
+-- a mark lowered to an entry that is due then
+pub marked_lowered : (book : Book) (visited : List ℕ) (n k j q : ℕ) → IsMarked book visited n k → q < mark_of book j → ((f : Past) → entry_at book.histories j q ≡ Some f → IsDue (lowered book j q) (stamp_at book n k) j q f) → IsMarked (lowered book j q) visited n k
+marked_lowered book visited n k j q marked l due = record {
+  sound = lowered_sound book j q marked.sound l;
+  start = let f = lowered_falls book j q n marked.sound l in let b = marked.start in omega arith;
+  caused = λ x r f there to_go. ⊎_elim
+      (λ same. ⊎_elim
+      (λ here. subst (λ z. IsDue (lowered book j q) (stamp_at book n k) z r f) (sym same)
+      (subst (λ z. IsDue (lowered book j q) (stamp_at book n k) j z f) (sym here)
+      (due f (ap (λ z. slice_get (history book.histories z) q) (sym same) ∙ ap (λ z. entry_at book.histories x z) (sym here) ∙ there))))
+      (λ off. ⊎_elim
+      (λ below. absurd (let a : mark_of (lowered book j q) j ≤ r = subst (λ z. mark_of (lowered book j q) z ≤ r) same to_go in let b = (lowered_same book j q marked.sound l).1 in omega arith))
+      (λ above. Later (subst (λ z. mark_of (lowered book j q) z < r) (sym same) (let b = (lowered_same book j q marked.sound l).1 in omega arith)))
+      off)
+      (cases_order r q))
+      (λ ne. due_lowered book j q (stamp_at book n k) x r f marked.sound l (marked.caused x r f there (let b = (lowered_other book j q x ne).1 in omega arith)))
+      (cases_eq x j);
+  whole = λ x r i t looked named. let a = marked.whole x r i t looked named in let b = lowered_falls book j q i marked.sound l in omega arith;
+}
+
+-- what it comes to in ticks
+pub lowered_line : (book : Book) (j q : ℕ) → AreMarks book → q < mark_of book j → in_line (lowered book j q) ≤ in_line book + 1
+lowered_line book j q sound l =
+    let in_book : j < length book.histories = node_within book.histories j q (omega arith) in
+    let k : count_by (λ (b : Bool). b) (set book.waiting j true) + cond (get_or book.waiting j false) 1 0 ≡ count_by (λ (b : Bool). b) book.waiting + 1 =
+    sum_by-set (λ (b : Bool). cond b 1 0) book.waiting j true false (let a = sound.size in let b = sound.waiting_size in omega arith) in
+    omega arith
+
+pub line_grows : (book : Book) (j q : ℕ) → AreMarks book → q < mark_of book j → in_line book ≤ in_line (lowered book j q)
+line_grows book j q sound l =
+    let in_book : j < length book.histories = node_within book.histories j q (omega arith) in
+    let k : count_by (λ (b : Bool). b) (set book.waiting j true) + cond (get_or book.waiting j false) 1 0 ≡ count_by (λ (b : Bool). b) book.waiting + 1 =
+    sum_by-set (λ (b : Bool). cond b 1 0) book.waiting j true false (let a = sound.size in let b = sound.waiting_size in omega arith) in
+    let one = one_most (get_or book.waiting j false) in
+    omega arith
+
+pub lowered_go : (book : Book) (j q : ℕ) → AreMarks book → q < mark_of book j → to_go book + 1 ≤ to_go (lowered book j q)
+lowered_go book j q sound l =
+    let in_book : j < length book.histories = node_within book.histories j q (omega arith) in
+    let k : sum_by (λ (x : ℕ). x) (set book.going j (length (history book.histories j) - q)) + get_or book.going j 0 ≡ sum_by (λ (x : ℕ). x) book.going + (length (history book.histories j) - q) =
+    sum_by-set (λ (x : ℕ). x) book.going j (length (history book.histories j) - q) 0 (let a = sound.size in let b = sound.going_size in omega arith) in
+    omega arith
+
+-- how many looks stay then
+looks_lowered : (book : Book) (j q : ℕ) → AreMarks book → q < mark_of book j
+    → looks_of (staying book.histories (lowered book j q).going) + looks_in (take (mark_of book j) (history book.histories j)) ≡ looks_of (staying book.histories book.going) + looks_in (take q (history book.histories j))
+looks_lowered book j q sound l =
+    let in_book : j < length book.histories = node_within book.histories j q (omega arith) in
+    let place : length (history book.histories j) - (length (history book.histories j) - q) ≡ q = omega arith in
+    looks_set book.histories book.going j (length (history book.histories j) - q) (sound.size ∙ sym sound.going_size) in_book
+    ∙ ap (λ z. looks_of (staying book.histories book.going) + looks_in (take z (history book.histories j))) place
+
+pub fewer_lowered : (book : Book) (j q : ℕ) → AreMarks book → q < mark_of book j → looks_of (staying book.histories (lowered book j q).going) ≤ looks_of (staying book.histories book.going)
+fewer_lowered book j q sound l =
+    let a = looks_lowered book j q sound l in let b = looks_less q (mark_of book j) (history book.histories j) (omega arith) in omega arith
+
+pub one_lowered : (book : Book) (j q : ℕ) (e : Past) → AreMarks book → q < mark_of book j → entry_at book.histories j q ≡ Some e → has_looked_in e.act ≡ true
+    → looks_of (staying book.histories (lowered book j q).going) + 1 ≤ looks_of (staying book.histories book.going)
+one_lowered book j q e sound l found looked =
+    let a = looks_lowered book j q sound l in let b = looks_one q (mark_of book j) (history book.histories j) e found looked l in omega arith
+
+-- a tick more changes no mark
+pub ticked_sound : (book : Book) → AreMarks book → AreMarks (ticked book)
+ticked_sound book sound = record {
+  size = sound.size;
+  matched = sound.matched;
+  going_size = sound.going_size;
+  waiting_size = sound.waiting_size;
+  within = sound.within;
+}
+
+pub due_ticked : (book : Book) (s m p : ℕ) (e : Past) → IsDue book s m p e → IsDue (ticked book) s m p e
+due_ticked book s m p e (Start h) = Start h
+due_ticked book s m p e (Later h) = Later h
+due_ticked book s m p e (Other i r names h) = Other i r names h
+due_ticked book s m p e (Saw i r side f looked beside there h before) = Saw i r side f looked beside there h before
+
+pub marked_ticked : (book : Book) (visited : List ℕ) (n k : ℕ) → IsMarked book visited n k → IsMarked (ticked book) visited n k
+marked_ticked book visited n k marked = record {
+  sound = ticked_sound book marked.sound;
+  start = marked.start;
+  caused = λ x p e found due. due_ticked book (stamp_at book n k) x p e (marked.caused x p e found due);
+  whole = marked.whole;
+}
+
+-- what no look saw stays unseen
+pub saw_lowered : (book : Book) (j q node m : ℕ) → AreMarks book → q < mark_of book j → node ≢ j → SawNoneToGo book node m → SawNoneToGo (lowered book j q) node m
+saw_lowered book j q node m sound l ne saw p e f below found looked first =
+    saw p e f (let k = lowered_falls book j q m sound l in omega arith) found looked (subst (λ z. entry_at book.histories node z ≡ Some f) ((lowered_other book j q node ne).1) first)
+
+pub unseen_lowered : (book : Book) (j q node : ℕ) → AreMarks book → q < mark_of book j → node ≢ j → IsUnseen book node → IsUnseen (lowered book j q) node
+unseen_lowered book j q node sound l ne unseen m side beside = saw_lowered book j q node m sound l ne (unseen m side beside)
