@@ -128,7 +128,7 @@ history_kept s n k m some =
     (b.0, ap (λ z. mades_of z m) (told_is s r) ∙ b.1 ∙ ap (λ z. mades_of z m ++ b.0) (sym left))
 
 -- The newest event is a step of each of its nodes on which nothing depends: to undo it is to roll it back.
-events_run : (c last : List NodeRecord) (es : List Event) (ts : List (Cause × Told)) → run c es ≡ Some (last, ts) → events_in (causes ts) ≡ es
+pub events_run : (c last : List NodeRecord) (es : List Event) (ts : List (Cause × Told)) → run c es ≡ Some (last, ts) → events_in (causes ts) ≡ es
 events_run c last es ts h = (made_of c last es ts h).1
 
 -- the last of a list of causes, of a list of events

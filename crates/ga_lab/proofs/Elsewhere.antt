@@ -17,7 +17,7 @@ use Rattle.ga_causal.proofs.Runs.{kept, run_more, FirstOf, first_of_run, keeps_o
 use Rattle.ga_causal.proofs.Places.{touching_in}
 use Rattle.ga_event.specs.Told.{steps_of}
 use Rattle.ga_lab.specs.Machine.{State, chip_of, told_by, causes_of, rewound}
-use Rattle.ga_lab.proofs.Answering.{Ran, ran, chip_is}
+use Rattle.ga_lab.proofs.Called.{Runs, runs_of, chip_is}
 use Rattle.ga_lab.proofs.Reasoned.{causes, replayed}
 
 one : Bool → ℕ
@@ -118,7 +118,7 @@ stays_elsewhere s n k m some count = go (place_of (causes_of s) n k) refl
     go None is = ap (λ (o : Option ℕ). record_at (unwrap_or (replay s.load (events_in (rest_from (causes_of s) o))) []) m) is
         ∙ ap (λ z. record_at (unwrap_or (replay s.load z) []) m) (replayed s some)
     go (Some i) is =
-        let r : Ran s = ran s some in
+        let r : Runs s = runs_of s some in
         let told : causes_of s ≡ causes r.told = ap (λ o. causes (told_by o)) r.run_is in
         let here : (rewound s n k).kept ≡ events_in (rest (causes r.told) i) = ap (λ (o : Option ℕ). events_in (rest_from (causes_of s) o)) is ∙ ap (λ z. events_in (rest z i)) told in
         let there : s.kept ≡ events_in (causes r.told) = sym (replayed s some) ∙ ap events_in told in

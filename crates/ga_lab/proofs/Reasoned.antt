@@ -16,7 +16,7 @@ use Rattle.ga_lab.specs.declared.fault.LabFault.{LabFault}
 use Rattle.ga_lab.specs.Machine.{State, told_by, causes_of, stands, rewound, why_between, why_answer}
 use Rattle.ga_lab.proofs.Replays.{IsReplayed}
 use Rattle.ga_lab.proofs.Reasons.{stands_place}
-use Rattle.ga_lab.proofs.Answering.{run_events, Ran, ran}
+use Rattle.ga_lab.proofs.Called.{events_run, Runs, runs_of}
 
 abbrev pub causes : List (Cause × Told) → List Cause
 causes ts = map (λ (x : Cause × Told). x.0) ts
@@ -31,13 +31,13 @@ causes_without (false ∷ flags) (x ∷ ts) = ap (λ z. x.0 ∷ z) (causes_witho
 -- a machine whose list can be replayed
 pub replayed : (s : State) → IsSome (replay s.load s.kept) → IsReplayed s
 replayed s some =
-    let r : Ran s = ran s some in
-    ap (λ o. events_in (causes (told_by o))) r.run_is ∙ run_events s.load r.last s.kept r.told r.run_is
+    let r : Runs s = runs_of s some in
+    ap (λ o. events_in (causes (told_by o))) r.run_is ∙ events_run s.load r.last s.kept r.told r.run_is
 
 -- the causes that a rollback leaves
 pub rewound_causes : (s : State) (n k i : ℕ) → IsSome (replay s.load s.kept) → place_of (causes_of s) n k ≡ Some i → causes_of (rewound s n k) ≡ rest (causes_of s) i
 rewound_causes s n k i some is =
-    let r : Ran s = ran s some in
+    let r : Runs s = runs_of s some in
     let told : causes_of s ≡ causes r.told = ap (λ o. causes (told_by o)) r.run_is in
     let left = run_rest s.load s.kept i r.last r.told r.run_is in
     ap (λ (o : Option ℕ). causes (told_by (run s.load (events_in (rest_from (causes_of s) o))))) is
