@@ -56,8 +56,12 @@ impl Chain {
     pub fn places(&self) -> Result<Vec<u32>, Memory>
         ensures { IfOk result (λ list. list.items ≡ map (λ link. link.place) self.now) }
     {
-        let alloc = *self.links.allocator();
-        let places: Vec<u32> = self.links.iter().map(|link| link.place).collect(alloc)?;
+        let links = self.links();
+        let mut places = Vec::new(*self.links.allocator());
+        places.reserve(links.len())?;
+        'each: for link in links {
+            places.push_reserved(link.place);
+        }
         Ok(places)
     }
 
