@@ -2,21 +2,28 @@
 
 import re
 
-from machine import Machine, NODES
+from machine import Machine, NODES, name
+from node import SIDES, neighbour
 
 NODE, W, HH = "[0-7](?:0[0-9]|1[0-7])", "0[0-3][0-9a-fA-F]{4}", "[0-9a-fA-F]{2}"
 NUMBER = "(?:0|[1-9][0-9]{0,9})"
 MOST = (1 << 32) - 1
 CONDITION = (
-    rf"pass {NODE} {NODE} = {W}|step {NODE} {NUMBER}|stop|stop {NODE}|wait {NODE}|mem {NODE} {HH} = {W}|p {NODE} {W}"
+    rf"pass {NODE} {NODE} (?:= {W}|{NUMBER})|step {NODE} {NUMBER}|stop|stop {NODE}|wait {NODE}|mem {NODE} {HH} = {W}|p {NODE} {W}"
 )
 RUN = re.compile(rf"run(?: (greedy|random ({NUMBER})))?(?: ({NUMBER}))?(?: until ({CONDITION}))?")
+ASKED = re.compile(rf"(effects) ({NODE}) ({NUMBER})|(words) ({NODE}) ({NODE})")
 HELP = """\
 run [N] [until COND]  make up to N events, in rounds
 run greedy ..         each node as far as it goes
 run random SEED ..    nodes drawn by a generator
-COND: pass NNN MMM = W, step NNN K, stop, stop NNN, wait NNN, mem NNN HH = W, p NNN X
+COND: pass NNN MMM = W, pass NNN MMM J, step NNN K, stop, stop NNN, wait NNN,
+      mem NNN HH = W, p NNN X
 chip                  what each node does
+who                   who waits for whom, and which nodes can never go on
+effects NNN K         what rewind NNN K would take
+words NNN MMM         the words that went from NNN to MMM
+save                  the kept events as lines of debug
 help                  these lines
 and the commands of debug: step back rewind node mem trace why count dump quit"""
 
@@ -42,8 +49,19 @@ class Explorer(Machine):
             return self.glance()
         if line == "help":
             return HELP
+        if line == "who":
+            return "\n".join(self.who())
+        if line == "save":
+            return "\n".join(f"step {name(event[0])}" for event in self.events)
+        if any(int(it) > MOST for it in re.findall("[0-9]{10,}", line)):
+            return None
+        asked = ASKED.fullmatch(line)
+        if asked:
+            words = [it for it in asked.groups() if it]
+            node = number_of(words[1])
+            return self.effects(node, int(words[2])) if words[0] == "effects" else self.words(node, number_of(words[2]))
         found = RUN.fullmatch(line)
-        if not found or any(int(it) > MOST for it in re.findall("[0-9]{10,}", line)):
+        if not found:
             return None
         order, seed, most, condition = found.groups()
         return self.run(order and order.split(" ")[0], seed and int(seed), int(most) if most else MOST, condition)
@@ -74,8 +92,12 @@ class Explorer(Machine):
         kind, *words = condition.split(" ")
         event = told.split(" ")
         own = event[0] != "pass"
+        if kind == "pass" and (own or (event[1], event[3]) != (words[0], words[1])):
+            return False
+        if kind == "pass" and len(words) == 3:
+            return len(self.sent(*map(number_of, words[:2]))) == int(words[2])
         if kind == "pass":
-            return not own and (event[1], event[3], event[5]) == (words[0], words[1], words[3].lower())
+            return event[5] == words[3].lower()
         if kind == "step":
             ends = [event[:2]] if own else [event[1:3], event[3:5]]
             return words in ends
@@ -98,3 +120,53 @@ class Explorer(Machine):
 
     def glance(self):
         return "\n".join(f"{row}" + "".join(self.doing(18 * row + column) for column in range(18)) for row in range(7, -1, -1))
+
+    def effects(self, node, step):
+        place = self.place(node, step)
+        if place is None:
+            return "no 6 nostep"
+        goes = self.dependents(place)
+        left = [sum(at in event for event, gone in zip(self.events, goes) if not gone) for at in range(NODES)]
+        lines = [f"{name(at)} {left[at] + 1} {self.steps[at] - left[at]}" for at in range(NODES) if left[at] < self.steps[at]]
+        return "\n".join([f"effects {sum(goes)} {len(lines)}"] + lines)
+
+    def sent(self, writer, reader):
+        """What is told of the events by which words went from one node to another."""
+        return [told for event, told in zip(self.events, self.told) if event == (writer, reader)]
+
+    def words(self, writer, reader):
+        if all(neighbour(writer, side) != reader for side in SIDES):
+            return "no 34 nolink"
+        sent = [told.split(" ")[1:] for told in self.sent(writer, reader)]
+        lines = [" ".join([str(number)] + words) for number, words in enumerate(sent, 1)]
+        return "\n".join([f"words {name(writer)} {name(reader)} {len(lines)}"] + lines)
+
+    def does(self, node):
+        it = self.chip[node]
+        if it.wait:
+            return {"fetch": "fetches", "read": "reads", "write": "writes"}[it.wait[0]]
+        return "stopped" if it.stop else "runs"
+
+    def awaited(self, node):
+        """The sides on which a node awaits a neighbour, with that one."""
+        beside = [(side, neighbour(node, side)) for side in (self.chip[node].wait or ("", ""))[1]]
+        return [(side, other) for side, other in beside if other is not None]
+
+    def stuck(self):
+        """The greatest set of nodes that wait or are stopped, await none but these and can pass one another no word."""
+        marked = {node for node in range(NODES) if self.chip[node].wait or self.chip[node].stop}
+        while True:
+            ready = {event for event in map(self.next, marked) if event and set(event) <= marked}
+            freed = {node for node in marked if any(other not in marked for side, other in self.awaited(node))}
+            freed |= {event[0] for event in ready}
+            if not freed:
+                return sorted(marked)
+            marked -= freed
+
+    def who(self):
+        for node in range(NODES):
+            if self.chip[node].wait:
+                beside = "".join(f" {side} {name(other)} {self.does(other)}" for side, other in self.awaited(node))
+                yield f"{name(node)} {self.does(node)}{beside}"
+        if self.stuck():
+            yield "stuck " + " ".join(map(name, self.stuck()))

@@ -103,7 +103,8 @@ def answers_of(path):
     commands = lines[past:]
     if "quit" in commands:
         commands = commands[: commands.index("quit")]
-    return "".join(line + "\n" for line in ["ready"] + [answer(machine, it) for it in commands])
+    # where nothing is kept, `save` says nothing
+    return "".join(line + "\n" for line in ["ready"] + [answer(machine, it) for it in commands] if line)
 
 
 def difference(path):

@@ -1,14 +1,16 @@
 -- A command of exploring that was carried out.
-use Rattle.std.proofs.Common.{◌≡◌, ◌≤◌, ℕ, refl, sym, subst}
+use Rattle.std.proofs.Common.{◌≡◌, ◌≤◌, ℕ, List, refl, sym, subst}
+use Rattle.ga_grid.specs.declared.node_id.NodeId.{NodeId}
 use Rattle.ga_lab.specs.Machine.{State}
 use Rattle.ga_explore.specs.Running.{running, after, AreMade, HasEnded}
 use Rattle.ga_explore.specs.declared.schedule.Schedule.{Schedule}
 use Rattle.ga_explore.specs.declared.condition.Condition.{Condition}
 use Rattle.ga_explore.specs.declared.running.End.{End}
-use Rattle.ga_exploring.specs.Texts.{run_text, chip_text, help_text}
-use Rattle.ga_exploring.specs.Answers.{Explored}
+use Rattle.ga_exploring.specs.Texts.{run_text, words_text, chip_text, help_text}
+use Rattle.ga_exploring.specs.Saved.{saved_text}
+use Rattle.ga_exploring.specs.Answers.{TellsEffects, TellsWho, Explored}
 use Rattle.ga_exploring.specs.declared.request.Request.{Request}
-use Rattle.ga_exploring.specs.declared.request.Request.TheVariants.{Run, Chip, Help}
+use Rattle.ga_exploring.specs.declared.request.Request.TheVariants.{Run, Effects, Words, Who, Chip, Save, Help}
 
 pub run_done : (s : State) (asked : Request) (schedule : Schedule) (most bound : ℕ) (until : Condition) (events : ℕ) (end : End) (new : State)
     → asked ≡ Run schedule most until → bound ≡ most → AreMade (running s schedule) events → events ≤ bound
@@ -24,6 +26,18 @@ run_done s asked schedule most bound until events end new e f made within ended 
       state = state;
       text = refl;
     })
+
+pub effects_done : (s : State) (asked : Request) (node : NodeId) (step : ℕ) (text : List ℕ) → asked ≡ Effects node step → TellsEffects s node step text → Explored s asked text s
+effects_done s asked node step text e h = subst (λ z. Explored s z text s) (sym e) (h, refl)
+
+pub words_done : (s : State) (asked : Request) (from to : NodeId) (text : List ℕ) → asked ≡ Words from to → text ≡ words_text s from to → Explored s asked text s
+words_done s asked from to text e h = subst (λ z. Explored s z text s) (sym e) (h, refl)
+
+pub who_done : (s : State) (asked : Request) (text : List ℕ) → asked ≡ Who → TellsWho s text → Explored s asked text s
+who_done s asked text e h = subst (λ z. Explored s z text s) (sym e) (h, refl)
+
+pub save_done : (s : State) (asked : Request) (text : List ℕ) → asked ≡ Save → text ≡ saved_text s → Explored s asked text s
+save_done s asked text e h = subst (λ z. Explored s z text s) (sym e) (h, refl)
 
 pub chip_done : (s : State) (asked : Request) → asked ≡ Chip → Explored s asked (chip_text s) s
 chip_done s asked e = subst (λ z. Explored s z (chip_text s) s) (sym e) (refl, refl)

@@ -3,3 +3,7 @@ pub mod Done
 pub mod LineAnswers
 pub mod Rows
 pub mod Told
+pub mod Saying
+pub mod Answering
+pub mod WaitingLines
+pub mod Saving

@@ -1,16 +1,24 @@
 -- What exploring answers to a line (docs/REFERENCE.md, "Exploring"; this project's own).
-use Rattle.std.specs.Prelude.{◌≡◌, ℕ, ◌≤◌, List, length, Some, None}
+use Rattle.std.specs.Prelude.{◌≡◌, ℕ, ◌≤◌, ◌⊎◌, Bool, IsOk, List, length, Some, None}
 use Rattle.ga_image.specs.Lines.{longest}
-use Rattle.ga_lab.specs.Machine.{State}
+use Rattle.ga_grid.specs.declared.node_id.NodeId.{NodeId}
+use Rattle.ga_lab.specs.Machine.{State, chip_of, rewind_answer}
+use Rattle.ga_lab.specs.declared.fault.LabFault.TheVariants.{Memory}
+use Rattle.ga_explore.specs.Effects.{effects_of}
+use Rattle.ga_explore.specs.Stuck.{AreStuck}
+use Rattle.ga_explore.specs.Freed.{IsWithin}
 use Rattle.ga_explore.specs.Running.{running, after, AreMade, HasEnded}
 use Rattle.ga_explore.specs.declared.schedule.Schedule.{Schedule}
 use Rattle.ga_explore.specs.declared.condition.Condition.{Condition}
 use Rattle.ga_explore.specs.declared.running.End.{End}
+use Rattle.ga_console.specs.Texts.{refusal_text}
 use Rattle.ga_console.specs.Replies.{Answer}
 use Rattle.ga_exploring.specs.Reading.{request_in}
-use Rattle.ga_exploring.specs.Texts.{run_text, chip_text, help_text}
+use Rattle.ga_exploring.specs.Texts.{run_text, effects_answer, words_text, chip_text, help_text}
+use Rattle.ga_exploring.specs.Waiting.{who_text}
+use Rattle.ga_exploring.specs.Saved.{saved_text}
 use Rattle.ga_exploring.specs.declared.request.Request.{Request}
-use Rattle.ga_exploring.specs.declared.request.Request.TheVariants.{Run, Chip, Help}
+use Rattle.ga_exploring.specs.declared.request.Request.TheVariants.{Run, Effects, Words, Who, Chip, Save, Help}
 
 -- Events were made in the order of the schedule, at most so many, up to the first after which the condition holds: the text says
 -- how many and why no more, and the machine is the one after them.
@@ -23,10 +31,27 @@ pub record IsRun (s : State) (schedule : Schedule) (most : ℕ) (until : Conditi
   pub state : new ≡ (after (running s schedule) events).state
   pub text : answer ≡ run_text events end
 
+-- It is told what a rollback would take, or memory is wanting where one could be made.
+abbrev pub TellsEffects : State → NodeId → ℕ → List ℕ → Type 0
+TellsEffects s node step answer =
+    (answer ≡ effects_answer (effects_of s node.number step) (rewind_answer s node.number step))
+    ⊎ (IsOk (rewind_answer s node.number step) × (answer ≡ refusal_text Memory))
+
+-- Of each node that waits it is told for whom, and which nodes can never go on: of all such sets of nodes the greatest.
+pub record TellsWho (s : State) (answer : List ℕ) : Type 0 where
+  pub marks : ℕ → Bool
+  pub stuck : AreStuck (chip_of s) marks
+  pub greatest : (others : ℕ → Bool) → AreStuck (chip_of s) others → IsWithin others marks
+  pub text : answer ≡ who_text (chip_of s) marks
+
 -- what is answered to a command of exploring, and the machine after it
 abbrev pub Explored : State → Request → List ℕ → State → Type 0
 Explored s (Run schedule most until) answer new = IsRun s schedule most until answer new
+Explored s (Effects node step) answer new = TellsEffects s node step answer × (new ≡ s)
+Explored s (Words from to) answer new = (answer ≡ words_text s from to) × (new ≡ s)
+Explored s Who answer new = TellsWho s answer × (new ≡ s)
 Explored s Chip answer new = (answer ≡ chip_text s) × (new ≡ s)
+Explored s Save answer new = (answer ≡ saved_text s) × (new ≡ s)
 Explored s Help answer new = (answer ≡ help_text) × (new ≡ s)
 
 -- The answer to a line: it spells a command of exploring, or is answered as the debugger answers it.

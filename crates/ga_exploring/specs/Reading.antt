@@ -2,14 +2,15 @@
 -- "Exploring"; this project's own). Nodes and numbers are spelled as in the debugger's commands.
 use Rattle.std.specs.Prelude.{ℕ, ◌+◌, ◌*◌, ◌^◌, nat_eq, nat_lt, if◌then◌else◌, List, [], ◌∷◌, codes, Option, Some, None, option_map}
 use Rattle.std.specs.Cmp.Lexicographic.{pointwise}
+use Rattle.ga_grid.specs.declared.node_id.NodeId.{NodeId}
 use Rattle.ga_image.specs.Steps.{◌>>=◌}
 use Rattle.ga_console.specs.Parsing.{cut, node_in, number_in, byte_in}
 use Rattle.ga_explore.specs.Schedules.{in_rounds, greedily, at_random}
 use Rattle.ga_explore.specs.declared.schedule.Schedule.{Schedule}
 use Rattle.ga_explore.specs.declared.condition.Condition.{Condition}
-use Rattle.ga_explore.specs.declared.condition.Condition.TheVariants.{Never, Passes, Steps, Stops, StopsAt, WaitsAt, Holds, ComesTo}
+use Rattle.ga_explore.specs.declared.condition.Condition.TheVariants.{Never, Passes, PassesNumber, Steps, Stops, StopsAt, WaitsAt, Holds, ComesTo}
 use Rattle.ga_exploring.specs.declared.request.Request.{Request}
-use Rattle.ga_exploring.specs.declared.request.Request.TheVariants.{Run, Chip, Help}
+use Rattle.ga_exploring.specs.declared.request.Request.TheVariants.{Run, Effects, Words, Who, Chip, Save, Help}
 
 -- how many events are made at most where no number is given
 abbrev pub most_events : ℕ
@@ -44,15 +45,22 @@ steps_in text = do
   step ← number_in parts.1
   Some (Steps node step)
 
--- `NNN MMM = W`
+-- `= W` or `J` behind `NNN MMM`
+abbrev pub passed_cut : NodeId → NodeId → Option (List ℕ × List ℕ) → List ℕ → Option Condition
+passed_cut writer reader None text = option_map (PassesNumber writer reader) (number_in text)
+passed_cut writer reader (Some parts) text = option_map (Passes writer reader) (equal_in text)
+
+abbrev pub passed_in : NodeId → NodeId → List ℕ → Option Condition
+passed_in writer reader text = passed_cut writer reader (cut text) text
+
+-- `NNN MMM = W` or `NNN MMM J`
 unfoldable pub passes_in : List ℕ → Option Condition
 passes_in text = do
   first ← cut text
   second ← cut first.1
   writer ← node_in first.0
   reader ← node_in second.0
-  word ← equal_in second.1
-  Some (Passes writer reader word)
+  passed_in writer reader second.1
 
 -- `NNN HH = W`
 unfoldable pub holds_in : List ℕ → Option Condition
@@ -150,13 +158,33 @@ run_by (Some parts) text = named_order parts.0 parts.1 text
 abbrev pub run_in : List ℕ → Option Request
 run_in text = run_by (cut text) text
 
+-- ---- `effects` and `words`
+
+-- `NNN K`
+unfoldable pub effects_in : List ℕ → Option Request
+effects_in text = do
+  parts ← cut text
+  node ← node_in parts.0
+  step ← number_in parts.1
+  Some (Effects node step)
+
+-- `NNN MMM`
+unfoldable pub words_in : List ℕ → Option Request
+words_in text = do
+  parts ← cut text
+  from ← node_in parts.0
+  to ← node_in parts.1
+  Some (Words from to)
+
 -- ---- a line
 
 -- a command of one word
 unfoldable pub lone_request : List ℕ → Option Request
 lone_request name =
     if pointwise nat_eq name (codes "run") then Some (Run in_rounds most_events Never)
+    else if pointwise nat_eq name (codes "who") then Some Who
     else if pointwise nat_eq name (codes "chip") then Some Chip
+    else if pointwise nat_eq name (codes "save") then Some Save
     else if pointwise nat_eq name (codes "help") then Some Help
     else None
 
@@ -164,6 +192,8 @@ lone_request name =
 unfoldable pub named_request : List ℕ → List ℕ → Option Request
 named_request name text =
     if pointwise nat_eq name (codes "run") then run_in text
+    else if pointwise nat_eq name (codes "effects") then effects_in text
+    else if pointwise nat_eq name (codes "words") then words_in text
     else None
 
 abbrev pub request_by : Option (List ℕ × List ℕ) → List ℕ → Option Request

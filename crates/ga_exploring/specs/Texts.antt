@@ -1,16 +1,22 @@
 -- The texts of exploring's answers, each line ended by a line feed (docs/REFERENCE.md, "Exploring"; this project's own).
-use Rattle.std.specs.Prelude.{ℕ, zero, suc, ◌+◌, ◌*◌, ◌==◌, nat_lt, if◌then◌else◌, List, [], ◌++◌, codes, decimal}
+use Rattle.std.specs.Prelude.{ℕ, zero, suc, ◌+◌, ◌*◌, ◌==◌, nat_lt, if◌then◌else◌, List, [], ◌++◌, length, flat_map, codes, decimal, Result, Ok, Err}
+use Rattle.ga_word.specs.Word.{hex6_of}
 use Rattle.ga_ports.specs.Address.{only}
 use Rattle.ga_node.specs.declared.wait.Wait.{Wait}
 use Rattle.ga_node.specs.declared.wait.Wait.TheVariants as wait
 use Rattle.ga_grid.specs.Chip.{record_at}
+use Rattle.ga_grid.specs.declared.node_id.NodeId.{NodeId}
 use Rattle.ga_event.specs.Told.{steps_of}
 use Rattle.ga_lab.specs.Machine.{State, chip_of}
 use Rattle.ga_lab.specs.declared.fault.LabFault.{LabFault}
 use Rattle.ga_lab.specs.declared.fault.LabFault.TheVariants.{Waiting, Stopped, Full, Memory, Empty, NoStep, Spent}
+use Rattle.ga_explore.specs.Near.{are_linked}
+use Rattle.ga_explore.specs.Words.{words_of, word_count}
+use Rattle.ga_explore.specs.declared.effects.Effect.{Effect}
+use Rattle.ga_explore.specs.declared.words.Sent.{Sent}
 use Rattle.ga_explore.specs.declared.running.End.{End}
 use Rattle.ga_explore.specs.declared.running.End.TheVariants.{Reached, Made, Quiet, Refused}
-use Rattle.ga_console.specs.Texts.{made_text}
+use Rattle.ga_console.specs.Texts.{made_text, name_of, step_text, refusal_text}
 
 -- ---- `run`
 
@@ -72,7 +78,48 @@ rows_text s (suc row) = row_text s row ++ rows_text s row
 abbrev pub chip_text : State → List ℕ
 chip_text s = rows_text s 8
 
+-- ---- `effects`
+
+-- what would go of a node: its first step that would, and how many would
+abbrev pub effect_text : Effect → List ℕ
+effect_text effect = step_text effect.node effect.first ++ codes " " ++ decimal effect.steps ++ codes "\n"
+
+-- how many events would go, and of how many nodes
+abbrev pub effects_head : ℕ → ℕ → List ℕ
+effects_head events nodes = codes "effects " ++ decimal events ++ codes " " ++ decimal nodes ++ codes "\n"
+
+abbrev pub effects_text : ℕ → List Effect → List ℕ
+effects_text events effects = effects_head events (length effects) ++ flat_map effect_text effects
+
+-- by what `rewind` would answer
+abbrev pub effects_answer : List Effect → Result ℕ LabFault → List ℕ
+effects_answer effects (Ok events) = effects_text events effects
+effects_answer effects (Err why) = refusal_text why
+
+-- ---- `words`
+
+-- a word: its number, the steps of both ends and itself
+abbrev pub sent_text : NodeId → NodeId → Sent → List ℕ
+sent_text from to sent =
+    decimal sent.number ++ codes " " ++ step_text from sent.writer_step ++ codes " " ++ step_text to sent.reader_step ++ codes " " ++ hex6_of sent.word
+    ++ codes "\n"
+
+-- the link, and how many words of it are kept
+abbrev pub words_head : NodeId → NodeId → ℕ → List ℕ
+words_head from to count = codes "words " ++ name_of from ++ codes " " ++ name_of to ++ codes " " ++ decimal count ++ codes "\n"
+
+-- the nodes are no neighbours
+abbrev pub no_link : List ℕ
+no_link = codes "no 34 nolink\n"
+
+-- between neighbours
+abbrev pub linked_text : State → NodeId → NodeId → List ℕ
+linked_text s from to = words_head from to (word_count s from.number to.number) ++ flat_map (sent_text from to) (words_of s from.number to.number)
+
+abbrev pub words_text : State → NodeId → NodeId → List ℕ
+words_text s from to = if are_linked from.number to.number then linked_text s from to else no_link
+
 -- ---- `help`
 
 abbrev pub help_text : List ℕ
-help_text = codes "run [N] [until COND]  make up to N events, in rounds\nrun greedy ..         each node as far as it goes\nrun random SEED ..    nodes drawn by a generator\nCOND: pass NNN MMM = W, step NNN K, stop, stop NNN, wait NNN, mem NNN HH = W, p NNN X\nchip                  what each node does\nhelp                  these lines\nand the commands of debug: step back rewind node mem trace why count dump quit\n"
+help_text = codes "run [N] [until COND]  make up to N events, in rounds\nrun greedy ..         each node as far as it goes\nrun random SEED ..    nodes drawn by a generator\nCOND: pass NNN MMM = W, pass NNN MMM J, step NNN K, stop, stop NNN, wait NNN,\n      mem NNN HH = W, p NNN X\nchip                  what each node does\nwho                   who waits for whom, and which nodes can never go on\neffects NNN K         what rewind NNN K would take\nwords NNN MMM         the words that went from NNN to MMM\nsave                  the kept events as lines of debug\nhelp                  these lines\nand the commands of debug: step back rewind node mem trace why count dump quit\n"

@@ -1,10 +1,11 @@
 //! Conditions, as lines spell them.
 
 ghost use Rattle.std.specs.Prelude.{◌≡◌};
-ghost use Rattle.ga_exploring.specs.Reading.{condition_in, lone_condition, named_condition, steps_in, passes_in, holds_in, comes_in, equal_in, word_in};
+ghost use Rattle.ga_exploring.specs.Reading.{condition_in, lone_condition, named_condition, steps_in, passes_in, passed_in, holds_in, comes_in, equal_in, word_in};
 
 use ga_console::{byte_of, cut, node_of, number_of};
 use ga_explore::Condition;
+use ga_grid::NodeId;
 use ga_word::Word18;
 
 /// The condition that a text spells, or none.
@@ -60,18 +61,32 @@ fn steps_of(text: &[u8]) -> Option<Condition>
     })
 }
 
-/// `NNN MMM = W`
+/// `NNN MMM = W` or `NNN MMM J`
 #[tactic(auto, unfolding(crate::specs::Reading::passes_in))]
 fn passes_of(text: &[u8]) -> Option<Condition>
     ensures { result ≡ passes_in text.now }
 {
     let (writer, rest) = cut(text)?;
     let (reader, rest) = cut(rest)?;
-    Some(Condition::Passes {
-        writer: node_of(writer)?,
-        reader: node_of(reader)?,
-        word: equal_of(rest)?,
-    })
+    passed_of(node_of(writer)?, node_of(reader)?, rest)
+}
+
+/// `= W` or `J`
+fn passed_of(writer: NodeId, reader: NodeId, text: &[u8]) -> Option<Condition>
+    ensures { result ≡ passed_in writer reader text.now }
+{
+    match cut(text) {
+        Some(_) => Some(Condition::Passes {
+            writer,
+            reader,
+            word: equal_of(text)?,
+        }),
+        None => Some(Condition::PassesNumber {
+            writer,
+            reader,
+            number: number_of(text)?,
+        }),
+    }
 }
 
 /// `NNN HH = W`

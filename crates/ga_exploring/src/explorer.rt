@@ -7,9 +7,13 @@ ghost use Rattle.ga_exploring.specs.Reading.{request_in};
 ghost use Rattle.ga_exploring.specs.Answers.{Explores, Explored};
 
 use crate::chip_text::glance;
+use crate::effects_text::say_effects;
 use crate::help::help;
 use crate::request::{Request, request_of};
 use crate::run_text::ran_text;
+use crate::saved_text::say_saved;
+use crate::who_text::say_who;
+use crate::words_text::say_words;
 use ga_console::{Command, Line, Output, Responder, Status, Turn, WriteFailed, session_with};
 use ga_explore::run;
 use ga_image::LINE_LIMIT;
@@ -105,7 +109,11 @@ fn explored<W: Write>(
             let ran = run(lab, schedule, u64::from(most), &until);
             output.say_blocks(writer, ran_text(&ran).as_slice())
         }
+        Request::Effects { node, step } => say_effects(lab, node, step, output, writer),
+        Request::Words { from, to } => say_words(lab, from, to, output, writer),
+        Request::Who => say_who(lab, output, writer),
         Request::Chip => output.say_blocks(writer, glance(lab).as_slice()),
+        Request::Save => say_saved(lab, output, writer),
         Request::Help => output.say_blocks(writer, help()),
     }
 }

@@ -7,5 +7,5 @@ ghost use Rattle.ga_exploring.specs.Texts.{help_text};
 pub(crate) fn help() -> &'static [u8]
     ensures { result.now ≡ help_text }
 {
-    b"run [N] [until COND]  make up to N events, in rounds\nrun greedy ..         each node as far as it goes\nrun random SEED ..    nodes drawn by a generator\nCOND: pass NNN MMM = W, step NNN K, stop, stop NNN, wait NNN, mem NNN HH = W, p NNN X\nchip                  what each node does\nhelp                  these lines\nand the commands of debug: step back rewind node mem trace why count dump quit\n"
+    b"run [N] [until COND]  make up to N events, in rounds\nrun greedy ..         each node as far as it goes\nrun random SEED ..    nodes drawn by a generator\nCOND: pass NNN MMM = W, pass NNN MMM J, step NNN K, stop, stop NNN, wait NNN,\n      mem NNN HH = W, p NNN X\nchip                  what each node does\nwho                   who waits for whom, and which nodes can never go on\neffects NNN K         what rewind NNN K would take\nwords NNN MMM         the words that went from NNN to MMM\nsave                  the kept events as lines of debug\nhelp                  these lines\nand the commands of debug: step back rewind node mem trace why count dump quit\n"
 }

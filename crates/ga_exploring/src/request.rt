@@ -1,11 +1,12 @@
 //! The commands of exploring, as lines spell them.
 
 ghost use Rattle.std.specs.Prelude.{◌≡◌};
-ghost use Rattle.ga_exploring.specs.Reading.{request_in, lone_request, named_request};
+ghost use Rattle.ga_exploring.specs.Reading.{request_in, lone_request, named_request, effects_in, words_in};
 
 use crate::run_request::run_of;
-use ga_console::cut;
+use ga_console::{cut, node_of, number_of};
 use ga_explore::{Condition, Schedule};
+use ga_grid::NodeId;
 
 /// How many events are made at most where no number is given.
 pub(crate) const MOST_EVENTS: u32 = u32::MAX;
@@ -19,8 +20,22 @@ pub enum Request {
         most: u32,
         until: Condition,
     },
+    /// `effects`: tells what a rollback of a step would take, without taking it.
+    Effects {
+        node: NodeId,
+        step: u32,
+    },
+    /// `words`: tells the words that went from one node to another.
+    Words {
+        from: NodeId,
+        to: NodeId,
+    },
+    /// `who`: tells who waits for whom, and which nodes can never go on.
+    Who,
     /// `chip`: shows what each node does.
     Chip,
+    /// `save`: tells lines of the debugger that make the kept events again.
+    Save,
     /// `help`: shows the commands.
     Help,
 }
@@ -46,7 +61,9 @@ fn lone_request(name: &[u8]) -> Option<Request>
             most: MOST_EVENTS,
             until: Condition::Never,
         }),
+        b"who" => Some(Request::Who),
         b"chip" => Some(Request::Chip),
+        b"save" => Some(Request::Save),
         b"help" => Some(Request::Help),
         _ => None,
     }
@@ -57,8 +74,37 @@ fn lone_request(name: &[u8]) -> Option<Request>
 fn named_request(name: &[u8], arguments: &[u8]) -> Option<Request>
     ensures { result ≡ named_request name.now arguments.now }
 {
-    match name {
-        b"run" => run_of(arguments),
-        _ => None,
+    if name == b"run".as_slice() {
+        run_of(arguments)
+    } else if name == b"effects".as_slice() {
+        effects_of(arguments)
+    } else if name == b"words".as_slice() {
+        words_of(arguments)
+    } else {
+        None
     }
+}
+
+/// `NNN K`
+#[tactic(auto, unfolding(crate::specs::Reading::effects_in))]
+fn effects_of(text: &[u8]) -> Option<Request>
+    ensures { result ≡ effects_in text.now }
+{
+    let (node, step) = cut(text)?;
+    Some(Request::Effects {
+        node: node_of(node)?,
+        step: number_of(step)?,
+    })
+}
+
+/// `NNN MMM`
+#[tactic(auto, unfolding(crate::specs::Reading::words_in))]
+fn words_of(text: &[u8]) -> Option<Request>
+    ensures { result ≡ words_in text.now }
+{
+    let (from, to) = cut(text)?;
+    Some(Request::Words {
+        from: node_of(from)?,
+        to: node_of(to)?,
+    })
 }

@@ -1,6 +1,6 @@
 use Rattle.std.proofs.Common.{◌∙◌}
 use Rattle.ga_exploring.specs.Texts.{run_text, chip_text, help_text}
-use Rattle.ga_exploring.proofs.Done.{run_done, chip_done, help_done}
+use Rattle.ga_exploring.proofs.Done.{run_done, effects_done, words_done, who_done, save_done, chip_done, help_done}
 use Rattle.ga_exploring.proofs.Told.{told_as}
 use Rattle.ga_exploring.proofs.explorer.explored.Goals as goal
 
@@ -13,6 +13,26 @@ returns-in-Run g c = λ before said h.
       told_as c.say_blocks.result _ before said c.as_slice.result.now (run_text ran.events ran.end) c.say_blocks.new.self
           (c.as_slice.ensures.value ∙ c.ran_text.ensures) (c.say_blocks.ensures before said h),
     )
+
+pub returns-in-Effects : goal.returns-in-Effects
+returns-in-Effects g c = λ before said h.
+    let done = c.say_effects.ensures before said h in
+    (done.0, effects_done c.args.lab.now c.args.asked c.in-Effects.node c.in-Effects.step done.0 c.in-Effects.is done.1, done.2)
+
+pub returns-in-Words : goal.returns-in-Words
+returns-in-Words g c = λ before said h.
+    let done = c.say_words.ensures before said h in
+    (done.0, words_done c.args.lab.now c.args.asked c.in-Words.from c.in-Words.to done.0 c.in-Words.is done.1, done.2)
+
+pub returns-in-Who : goal.returns-in-Who
+returns-in-Who g c = λ before said h.
+    let done = c.say_who.ensures before said h in
+    (done.0, who_done c.args.lab.now c.args.asked done.0 c.in-Who.is done.1, done.2)
+
+pub returns-in-Save : goal.returns-in-Save
+returns-in-Save g c = λ before said h.
+    let done = c.say_saved.ensures before said h in
+    (done.0, save_done c.args.lab.now c.args.asked done.0 c.in-Save.is done.1, done.2)
 
 pub returns-in-Chip : goal.returns-in-Chip
 returns-in-Chip g c = λ before said h. (

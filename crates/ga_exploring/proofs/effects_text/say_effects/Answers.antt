@@ -1,0 +1,18 @@
+use Rattle.ga_exploring.proofs.Answering.{effects_found, effects_refused}
+use Rattle.ga_exploring.proofs.effects_text.say_effects.Goals as goal
+
+pub returns-in-Ok : goal.returns-in-Ok
+returns-in-Ok g c = λ before said h.
+    let done = c.say_found.ensures before said h in (
+      done.0,
+      effects_found c.args.lab.now c.args.node c.args.step c.in-Ok.effects.events c.in-Ok.effects.nodes.items done.0
+          c.in-Ok.ensures.events c.in-Ok.ensures.nodes done.1,
+      done.2,
+    )
+
+pub returns-in-Err : goal.returns-in-Err
+returns-in-Err g c = λ before said h. (
+  c.refusal.result.now,
+  effects_refused c.args.lab.now c.args.node c.args.step c.in-Err.fault c.refusal.result.now c.in-Err.ensures.err c.refusal.ensures.text,
+  c.say.ensures before said h,
+)
