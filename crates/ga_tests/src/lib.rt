@@ -28,4 +28,6 @@ mod slots;
 #[cfg(test)]
 mod stacks;
 #[cfg(test)]
+mod whence;
+#[cfg(test)]
 mod word;
