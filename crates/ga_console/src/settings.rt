@@ -38,10 +38,15 @@ Further commands (N is a number of events; NNN and MMM are nodes, K a step, HH t
   run greedy ..          each node as far as it goes
   run random SEED ..     nodes drawn by a generator with this seed
   chip                   show what each node does
+  who                    show who waits for whom, and which nodes can never go on
+  effects NNN K          show what rewind NNN K would take, and take nothing
+  words NNN MMM          show the words that went from NNN to MMM
+  save                   show the kept events as lines step NNN
   help                   show the commands
 
 COND is one of:
   pass NNN MMM = W       the word W went from NNN to MMM
+  pass NNN MMM J         the word with the number J went from NNN to MMM
   step NNN K             step K of NNN was made
   stop, stop NNN         a node, or NNN, stopped
   wait NNN               NNN came to wait
