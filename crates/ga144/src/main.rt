@@ -16,6 +16,9 @@ use ga_exploring::explore;
 use std::process::ExitCode;
 use std::{env, io};
 
+/// How many events are kept at most where a session is drawn.
+const DRAWN_LIMIT: u32 = 1_000_000;
+
 fn main(rt: HostRuntime) -> ExitCode {
     match settings(&rt) {
         Ok(Settings::Debug { limit }) => debug(&rt, limit),
@@ -125,7 +128,10 @@ fn disassembled(rt: &HostRuntime) -> ExitCode {
 /// Draws the session on standard input.
 fn drawn(rt: &HostRuntime, view: View) -> ExitCode {
     let (mut reader, mut writer) = (rt.stdin(), rt.stdout());
-    exit(rt, draw_session(rt.alloc(), &mut reader, &mut writer, view))
+    exit(
+        rt,
+        draw_session(rt.alloc(), &mut reader, &mut writer, view, DRAWN_LIMIT),
+    )
 }
 
 /// Writes the help that was asked for.

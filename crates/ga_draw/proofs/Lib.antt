@@ -1,1 +1,4 @@
+pub mod Following
+pub mod Reached
+pub mod Going
 pub mod Hearing

@@ -1,2 +1,3 @@
-pub mod Silence
+pub mod Following
+pub mod Drawn
 pub mod kept

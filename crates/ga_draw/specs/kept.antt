@@ -1,1 +1,1 @@
-pub mod Silence
+pub mod Following

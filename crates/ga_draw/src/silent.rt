@@ -1,115 +1,118 @@
 //! A session that says nothing.
-ghost use Rattle.ga_console.specs.declared.command.Command.TheVariants.{Step, Back, Rewind};
-ghost use Rattle.ga_draw.specs.Silence.{Hears};
+ghost use Rattle.std.specs.Prelude.{◌≡◌, ◌↔◌, ℕ, List, [], Some, Ok, IsTrue};
+ghost use Rattle.ga_console.specs.Output.{IsSaid};
+ghost use Rattle.ga_console.specs.declared.responder.Turn.TheVariants.{Quit};
+ghost use Rattle.ga_console.specs.kept.Turns.{Turns, AnswersCommand};
+ghost use Rattle.ga_draw.specs.Following.{IsShort};
+ghost use Rattle.ga_draw.specs.kept.Following.{Notes};
+ghost use Rattle.ga_exploring.specs.Answers.{Explores};
 
-use ga_console::{Command, Line, Output, Responder, Turn, WriteFailed, command_of};
-use ga_grid::NodeId;
-use ga_image::LINE_LIMIT;
-use ga_lab::{Lab, LabFault};
+use ga_console::{Command, Line, Output, Responder, Turn, WriteFailed};
+use ga_exploring::Explorer;
+use ga_lab::Lab;
 use std::alloc::Global;
 use std::io::Write;
 
-/// A session that carries out what the debugger would, and answers nothing.
+/// A session that carries out what exploring would, and says none of its answers.
 #[derive(Drop)]
 pub struct Silent {
-    /// The machine.
-    pub lab: Lab,
-    /// Memory was refused to a step.
+    /// What answers.
+    pub explorer: Explorer,
+    /// Memory was wanting for an answer, or for what it tells.
     pub short: bool,
 }
 
 impl Silent {
-    /// Carries a command out. What asks for an answer alone asks for nothing here.
-    pub fn hear(&mut self, command: Command)
-        ensures { Hears self.old.lab command self.new.lab }
+    /// Answers a line, of which at least the first 201 bytes are here, and says nothing.
+    fn hear(&mut self, alloc: Global, line: &Line) -> Turn
+        ensures heard { (answer : List ℕ) × Turns Explores self.old.explorer line.now.items self.new.explorer (Ok result) answer
+            × Notes self.old.short answer self.new.short }
+        ensures ends { result ≡ Quit → self.new.short ≡ self.old.short }
     {
-        match command {
-            Command::Step(node) => self.step(node),
-            Command::Back => self.back(),
-            Command::Rewind(node, step) => self.rewind(node, step),
-            Command::Node(_) => {}
-            Command::Memory(_, _) => {}
-            Command::Trace(_) => {}
-            Command::Why { .. } => {}
-            Command::Count => {}
-            Command::Dump => {}
-            Command::Quit => {}
+        let mut output = Output::new();
+        let mut said = Vec::new(alloc);
+        match self.explorer.answer(alloc, line, &mut output, &mut said) {
+            Ok(Turn::Answered) => {
+                self.note(&mut output, &mut said);
+                Turn::Answered
+            }
+            Ok(Turn::Quit) => Turn::Quit,
+            Err(WriteFailed) => {
+                self.short = true;
+                Turn::Answered
+            }
         }
     }
 
-    // `step NNN`.
-    fn step(&mut self, node: NodeId)
-        ensures { Hears self.old.lab (Step node) self.new.lab }
+    /// Answers a line that spells a command of the debugger, and says nothing.
+    fn hear_command(&mut self, alloc: Global, command: Command)
+        ensures { (answer : List ℕ) × AnswersCommand Explores self.old.explorer command self.new.explorer answer
+            × Notes self.old.short answer self.new.short }
     {
-        match self.lab.step(node) {
-            Ok(_made) => {}
-            Err(fault) => self.short = self.short || matches!(fault, LabFault::Memory),
+        let mut output = Output::new();
+        let mut said = Vec::new(alloc);
+        match self.explorer.obey(alloc, command, &mut output, &mut said) {
+            Ok(()) => self.note(&mut output, &mut said),
+            Err(WriteFailed) => self.short = true,
         }
     }
 
-    // `back`.
-    fn back(&mut self)
-        ensures { Hears self.old.lab Back self.new.lab }
+    /// Takes note of an answer that tells of want of memory.
+    fn note(&mut self, output: &mut Output, said: &mut Vec<u8>)
+        ensures same { self.new.explorer ≡ self.old.explorer }
+        ensures noted { (answer : List ℕ) → IsSaid (Some said.old.items) [] answer output.old → Notes self.old.short answer self.new.short }
     {
-        match self.lab.undo() {
-            Ok(()) => {}
-            Err(_fault) => {}
-        }
-    }
-
-    // `rewind NNN K`.
-    fn rewind(&mut self, node: NodeId, step: u32)
-        ensures { Hears self.old.lab (Rewind node step) self.new.lab }
-    {
-        match self.lab.rewind(node, step) {
-            Ok(_removed) => {}
-            Err(_fault) => {}
+        match output.send(said) {
+            Ok(()) => self.short = self.short || is_short(said.as_slice()),
+            Err(WriteFailed) => self.short = true,
         }
     }
 }
 
+/// Whether an answer tells that memory was wanting.
+fn is_short(answer: &[u8]) -> bool
+    ensures { IsTrue result ↔ IsShort answer.now }
+{
+    if answer.len() < 7 {
+        return false;
+    }
+    let (front, _) = answer.split_at(7);
+    front == b"memory ".as_slice() || answer == b"no 4 memory\n".as_slice()
+}
+
 impl Responder for Silent {
     ghost use Rattle.std.specs.Prelude.{false};
-    ghost use Rattle.ga_draw.specs.kept.Silence.{HearsLine};
+    ghost use Rattle.ga_draw.specs.kept.Following.{HearsLine};
 
-    ghost answers = { λ m line answer new. HearsLine m.lab line answer new.lab };
+    ghost answers = { λ m line said new. HearsLine m.explorer m.short line said new.explorer new.short };
 
-    ghost begin = { λ s. record { lab = s; short = false } };
+    ghost begin = { λ s. record { explorer = s; short = false } };
 
     fn open(lab: Lab) -> Self {
-        Silent { lab, short: false }
+        Silent {
+            explorer: Explorer::open(lab),
+            short: false,
+        }
     }
 
     fn answer<W: Write>(
         &mut self,
-        _alloc: Global,
+        alloc: Global,
         line: &Line,
         _output: &mut Output,
         _writer: &mut W,
     ) -> Result<Turn, WriteFailed> {
-        if line.len() > LINE_LIMIT {
-            return Ok(Turn::Answered);
-        }
-        match command_of(line.as_slice()) {
-            None => Ok(Turn::Answered),
-            Some(command) => match command {
-                Command::Quit => Ok(Turn::Quit),
-                _ => {
-                    self.hear(command);
-                    Ok(Turn::Answered)
-                }
-            },
-        }
+        Ok(self.hear(alloc, line))
     }
 
     fn obey<W: Write>(
         &mut self,
-        _alloc: Global,
+        alloc: Global,
         command: Command,
         _output: &mut Output,
         _writer: &mut W,
     ) -> Result<(), WriteFailed> {
-        self.hear(command);
+        self.hear_command(alloc, command);
         Ok(())
     }
 }

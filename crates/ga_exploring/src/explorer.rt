@@ -36,6 +36,15 @@ impl Model for Explorer {
     ghost view = { λ e. e.lab };
 }
 
+impl Explorer {
+    /// The lab.
+    pub fn lab(&self) -> &Lab
+        ensures { result.now ≡ self.now }
+    {
+        &self.lab
+    }
+}
+
 impl Responder for Explorer {
     ghost use Rattle.ga_exploring.specs.Answers.{Explores};
 

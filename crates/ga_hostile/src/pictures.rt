@@ -50,7 +50,7 @@ fn drawn(alloc: Global) -> (Status, Sheet) {
         from: 0,
         to: u32::MAX,
     };
-    let status = draw_session(alloc, &mut session, &mut sheet, view);
+    let status = draw_session(alloc, &mut session, &mut sheet, view, 1_000_000);
     (status, sheet)
 }
 

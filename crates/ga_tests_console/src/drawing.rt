@@ -4,12 +4,16 @@ use ga_console::Status;
 use ga_draw::draw_session;
 use ga_drawing::View;
 use ga_grid::NodeId;
-use std::io::{Error, ErrorKind, Result, Write};
+use std::io::{Error, ErrorKind, Read, Result, Write};
 use std::test::Fail;
 
 /// A chip whose node 000 waits to write to node 001, and three events of it, in the second of which 001 takes the word.
 const INPUT: &[u8] =
     b"ga144 2\nnode 000\nb 0001d5\np 000004\nslot 0\ni 0089b2\nwait write r---\nend\nstep 001\nmem 000 00\nstep 001\nstep\nstep 000\nquit\nback";
+
+/// Its image.
+const IMAGE: &[u8] =
+    b"ga144 2\nnode 000\nb 0001d5\np 000004\nslot 0\ni 0089b2\nwait write r---\nend\n";
 
 /// Its picture behind the classes: the lines of 000 and 001 at 70 and 190, and rows 18 apart from 52 on. 000 waits from above the
 /// picture on and 001 from the first row on, both up to the pass in the second.
@@ -60,7 +64,7 @@ impl Write for Short {
 fn three_events(rt: HostRuntime) -> std::result::Result<(), Fail> {
     let mut reader = INPUT;
     let mut output = Vec::new(rt.alloc());
-    let status = draw_session(rt.alloc(), &mut reader, &mut output, view(2));
+    let status = draw_session(rt.alloc(), &mut reader, &mut output, view(2), 9);
     assert_eq!(rt; status, Status::Done);
     assert!(rt;
         output.as_slice().starts_with(
@@ -71,11 +75,82 @@ fn three_events(rt: HostRuntime) -> std::result::Result<(), Fail> {
     Ok(())
 }
 
+/// What is drawn of the events behind these commands, at most so many of which are kept.
+fn drawn(
+    rt: &HostRuntime,
+    commands: &str,
+    limit: u32,
+) -> std::result::Result<(Status, Vec<u8>), Fail> {
+    let mut input = Vec::new(rt.alloc());
+    input.extend_from_slice(IMAGE)?;
+    input.extend_from_slice(commands.as_bytes())?;
+    let mut reader = input.as_slice();
+    let mut output = Vec::new(rt.alloc());
+    let view = View {
+        cause: None,
+        rewind: None,
+        from: 0,
+        to: u32::MAX,
+    };
+    let status = draw_session(rt.alloc(), &mut reader, &mut output, view, limit);
+    Ok((status, output))
+}
+
+#[test]
+fn a_run_is_followed(rt: HostRuntime) -> std::result::Result<(), Fail> {
+    // Node 000 waits, so 001 and 002 are the first that have an event.
+    let ran = drawn(&rt, "run 2\nchip\nrun 2 until\n", 9)?;
+    let stepped = drawn(&rt, "step 001\nstep 002\n", 9)?;
+    assert_eq!(rt; ran.0, Status::Done);
+    assert_eq!(rt; ran.1.as_slice(), stepped.1.as_slice());
+    Ok(())
+}
+
+#[test]
+fn no_more_events_than_the_limit(rt: HostRuntime) -> std::result::Result<(), Fail> {
+    let full = drawn(&rt, "step 001\nstep 001\nrun\n", 1)?;
+    let one = drawn(&rt, "step 001\n", 9)?;
+    assert_eq!(rt; full.0, Status::Done);
+    assert_eq!(rt; full.1.as_slice(), one.1.as_slice());
+    Ok(())
+}
+
+/// Gives what is left of the input, and then fails.
+#[derive(Drop)]
+struct Broken {
+    left: &'static [u8],
+}
+
+impl Read for Broken {
+    fn read(&mut self, buf: &mut [u8]) -> Result<usize> {
+        if self.left.is_empty() {
+            return Err(Error::from(ErrorKind::Other));
+        }
+        let (front, rest) = self.left.split_at(self.left.len().min(buf.len()));
+        buf[..front.len()].copy_from_slice(front);
+        self.left = rest;
+        Ok(front.len())
+    }
+}
+
+#[test]
+fn a_read_fails(rt: HostRuntime) -> std::result::Result<(), Fail> {
+    let inputs: [&'static [u8]; 3] = [b"", b"ga144 1\nend\n", b"ga144 1\nend\nstep 000\n"];
+    for left in inputs {
+        let mut reader = Broken { left };
+        let mut output = Vec::new(rt.alloc());
+        let status = draw_session(rt.alloc(), &mut reader, &mut output, view(1), 9);
+        assert_eq!(rt; status, Status::StreamFault, "after {} bytes", left.len());
+        assert_eq!(rt; output.len(), 0);
+    }
+    Ok(())
+}
+
 #[test]
 fn no_such_step(rt: HostRuntime) -> std::result::Result<(), Fail> {
     let mut reader = INPUT;
     let mut output = Vec::new(rt.alloc());
-    let status = draw_session(rt.alloc(), &mut reader, &mut output, view(3));
+    let status = draw_session(rt.alloc(), &mut reader, &mut output, view(3), 9);
     assert_eq!(rt; status, Status::ImageRefused);
     assert_eq!(rt; output.as_slice(), b"no 6 nostep\n".as_slice());
     Ok(())
@@ -85,7 +160,7 @@ fn no_such_step(rt: HostRuntime) -> std::result::Result<(), Fail> {
 fn a_refused_image(rt: HostRuntime) -> std::result::Result<(), Fail> {
     let mut reader = b"ga144 1\nnode 000\nx\nend\nstep 000\n".as_slice();
     let mut output = Vec::new(rt.alloc());
-    let status = draw_session(rt.alloc(), &mut reader, &mut output, view(1));
+    let status = draw_session(rt.alloc(), &mut reader, &mut output, view(1), 9);
     assert_eq!(rt; status, Status::ImageRefused);
     assert_eq!(rt; output.as_slice(), b"no 12 line line 3\n".as_slice());
     Ok(())
@@ -96,7 +171,7 @@ fn a_write_fails(rt: HostRuntime) -> std::result::Result<(), Fail> {
     for room in [0, 1, 1000] {
         let mut reader = INPUT;
         let mut writer = Short { room };
-        let status = draw_session(rt.alloc(), &mut reader, &mut writer, view(1));
+        let status = draw_session(rt.alloc(), &mut reader, &mut writer, view(1), 9);
         assert_eq!(rt; status, Status::StreamFault, "after {room} bytes");
     }
     Ok(())

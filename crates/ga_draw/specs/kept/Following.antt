@@ -1,0 +1,43 @@
+-- What private contracts, invariants and bridges cite.
+use Rattle.std.specs.Prelude.{◌≡◌, ℕ, ◌-◌, ◌⊎◌, Bool, false, List, [], Result, Ok, Err}
+use Rattle.ga_image.specs.Lines.{Bytes, Text, Line}
+use Rattle.ga_image.specs.declared.fault.ImageFault.{ImageFault}
+use Rattle.ga_lab.specs.Machine.{State}
+use Rattle.ga_lab.specs.declared.fault.LabFault.TheVariants.{Memory}
+use Rattle.ga_console.specs.Input.{input_limit}
+use Rattle.ga_console.specs.Run.{Refuses, Opens, IsFault, status_of}
+use Rattle.ga_console.specs.Session.{Serves, Written}
+use Rattle.ga_console.specs.declared.commands.Ending.{Ending}
+use Rattle.ga_console.specs.declared.output.WriteFailed.{WriteFailed}
+use Rattle.ga_console.specs.declared.run.Status.{Status}
+use Rattle.ga_console.specs.declared.run.Status.TheVariants.{Done, StreamFault}
+use Rattle.ga_exploring.specs.Answers.{Explores}
+use Rattle.ga_draw.specs.Following.{IsShort, Hears, Follows, Declines}
+
+-- where memory is not told to be wanting afterwards, it was not before, nor for this answer
+abbrev pub Notes : Bool → Text → Bool → Type 0
+Notes before answer after = after ≡ false → (before ≡ false) × (¬ IsShort answer)
+
+-- it may answer the line so, here nothing is said, and it is noted whether memory was wanting
+abbrev pub HearsLine : State → Bool → Line → Text → State → Bool → Type 0
+HearsLine s before line said new after = (said ≡ []) × (answer : Text) × Explores s line answer new × Notes before answer after
+
+-- From this machine the commands are followed, up to so many bytes of them.
+abbrev pub Goes : ℕ → State → Bytes → Bytes → Text → Result State Status → Type 0
+Goes room s read rest text (Ok last) =
+    (text ≡ []) × (ending : Result Ending WriteFailed) × (status_of ending ≡ Done) × Serves Follows room s read rest [] last ending
+Goes room s read rest text (Err status) = (last : State) × (ending : Result Ending WriteFailed)
+    × (((status_of ending ≡ StreamFault) × (status ≡ StreamFault) × (said : Text) × Serves Hears room s read rest said last ending × Written ending said text)
+    ⊎ ((status_of ending ≡ Done) × Serves Hears room s read rest [] last ending × Declines Memory text status))
+
+-- What may come after the image was read, of which so many bytes were taken: ahead is what was read with it. Where it is refused,
+-- no more is read.
+abbrev pub GoesOn : ℕ → Text → ℕ → Bytes → Bytes → Bytes → Text → Result State Status → Type 0
+GoesOn limit image taken ahead read rest text result =
+    ((machine : State) × Opens image limit machine × Goes (input_limit - taken) machine read rest text result)
+    ⊎ ((fault : ImageFault) × IsFault image fault × (status : Status) × (result ≡ Err status) × Refuses fault text status × (read ≡ ahead))
+
+-- What comes of a machine that was reached.
+abbrev pub Ends : State → Bool → Text → Result State Status → Type 0
+Ends s short text (Ok last) = (last ≡ s) × (short ≡ false) × (text ≡ [])
+Ends s short text (Err status) = Declines Memory text status
