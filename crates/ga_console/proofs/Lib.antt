@@ -17,4 +17,5 @@ pub mod Heard
 pub mod RunLemmas
 pub mod Races
 pub mod Reaching
+pub mod Wholes
 pub mod Sources

@@ -89,8 +89,8 @@ first_fault image fault (inl e) other = absurd (other (ap (λ f. f.cause) e))
 first_fault image fault (inr first) other = first
 
 -- what is said of the image that was read
-pub reports : (limit workers calls : ℕ) (image ahead rest text : List ℕ) (status : Status) → IsReadAlone image ahead rest → Races limit workers calls image text status → Reports limit workers calls (image ++ ahead) rest text status
-reports limit workers calls image ahead rest text Done part races = (image, ahead, refl, part, races)
-reports limit workers calls image ahead rest text ImageRefused part races = (image, ahead, refl, part, races)
-reports limit workers calls image ahead rest text StreamFault part races = inr (image, ahead, refl, part, races)
-reports limit workers calls image ahead rest text NotFinished part races = races
+pub reports : (limit workers calls : ℕ) (image ahead read rest text : List ℕ) (status : Status) → read ≡ image ++ ahead → IsReadAlone image ahead rest → Races limit workers calls image text status → Reports limit workers calls read rest text status
+reports limit workers calls image ahead read rest text Done e part races = (image, ahead, e, part, races)
+reports limit workers calls image ahead read rest text ImageRefused e part races = (image, ahead, e, part, races)
+reports limit workers calls image ahead read rest text StreamFault e part races = inr (image, ahead, e, part, races)
+reports limit workers calls image ahead read rest text NotFinished e part races = races

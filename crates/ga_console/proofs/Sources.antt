@@ -1,10 +1,10 @@
 -- From the image of a source to what is written.
-use Rattle.std.proofs.Common.{ℕ, List, ◌++◌, inl, inr, refl, sym, subst}
+use Rattle.std.proofs.Common.{◌≡◌, ℕ, List, ◌++◌, inl, inr, refl, sym, subst}
 use Rattle.ga_image.specs.Fault.{no_memory}
 use Rattle.ga_image.specs.declared.fault.ImageFault.{ImageFault}
-use Rattle.ga_console.specs.Run.{IsReadAlone, IsFault, Refuses}
+use Rattle.ga_console.specs.Run.{IsReadAlone, IsFault, Refused, Refuses}
 use Rattle.ga_console.specs.kept.Race.{Writes}
-use Rattle.ga_console.specs.Source.{IsAssembly, Assembles, Lists, IsAccepted, Disassembles}
+use Rattle.ga_console.specs.Source.{IsAssembly, IsReadWhole, Assembles, Lists, IsAccepted, Disassembles}
 use Rattle.ga_console.specs.kept.Source.{Assembly, Listing, Disassembly}
 use Rattle.ga_console.specs.declared.run.Status.{Status}
 use Rattle.ga_console.specs.declared.run.Status.TheVariants.{Done, ImageRefused, StreamFault, NotFinished}
@@ -18,11 +18,11 @@ assembly_written whole text ImageRefused image written = absurd written
 assembly_written whole text NotFinished image written = absurd written
 
 -- what was written for the source that was read
-pub assembles : (source ahead rest text : List ℕ) (status : Status) → IsReadAlone source ahead rest → Assembly text status → Assembles (source ++ ahead) rest text status
-assembles source ahead rest text Done part written = (source, ahead, refl, part, written)
-assembles source ahead rest text ImageRefused part written = written
-assembles source ahead rest text StreamFault part written = inr written
-assembles source ahead rest text NotFinished part written = written
+pub assembles : (source ahead read rest text : List ℕ) (status : Status) → read ≡ source ++ ahead → IsReadWhole source ahead rest → Assembly text status → Assembles read rest text status
+assembles source ahead read rest text Done e part written = (source, ahead, e, part, written)
+assembles source ahead read rest text ImageRefused e part written = written
+assembles source ahead read rest text StreamFault e part written = inr (source, ahead, e, part, written)
+assembles source ahead read rest text NotFinished e part written = written
 
 -- the listing was written, or a front of it
 pub listing_written : (whole text : List ℕ) (status : Status) → Writes whole text status → Listing text status
@@ -32,11 +32,11 @@ listing_written whole text ImageRefused written = absurd written
 listing_written whole text NotFinished written = absurd written
 
 -- what was listed of the source that was read
-pub lists : (source ahead rest text : List ℕ) (status : Status) → IsReadAlone source ahead rest → Listing text status → Lists (source ++ ahead) rest text status
-lists source ahead rest text Done part written = (source, ahead, refl, part, tt)
-lists source ahead rest text ImageRefused part written = written
-lists source ahead rest text StreamFault part written = inr (source, ahead, refl, part, tt)
-lists source ahead rest text NotFinished part written = written
+pub lists : (source ahead read rest text : List ℕ) (status : Status) → read ≡ source ++ ahead → IsReadWhole source ahead rest → Listing text status → Lists read rest text status
+lists source ahead read rest text Done e part written = (source, ahead, e, part, tt)
+lists source ahead read rest text ImageRefused e part written = written
+lists source ahead read rest text StreamFault e part written = inr (source, ahead, e, part, tt)
+lists source ahead read rest text NotFinished e part written = written
 
 -- source of an image was written, or a front of it
 pub source_written : (image whole text : List ℕ) (status : Status) → IsAccepted image → Writes whole text status → Disassembly image text status
@@ -52,13 +52,18 @@ refusal_written image text fault ImageRefused is written = (fault, is, written)
 refusal_written image text fault StreamFault is written = inr (fault, is, written)
 refusal_written image text fault NotFinished is written = absurd written
 
+-- an image that was read is refused
+refused_of : (image ahead read rest : List ℕ) (fault : ImageFault) → read ≡ image ++ ahead → IsReadAlone image ahead rest → IsFault image fault → Refused read rest fault
+refused_of image ahead read rest fault e part is =
+    let P : List ℕ → Type 0 = λ r. Refused r rest fault in subst P (sym e) (refused_in image ahead rest fault part is)
+
 -- what was written for the image that was read
-pub disassembles : (image ahead rest text : List ℕ) (status : Status) → IsReadAlone image ahead rest → Disassembly image text status → Disassembles (image ++ ahead) rest text status
-disassembles image ahead rest text Done part written = (image, ahead, refl, part, written)
-disassembles image ahead rest text ImageRefused part written = (written.0, refused_in image ahead rest written.0 part written.1, written.2)
-disassembles image ahead rest text StreamFault part (inl accepted) = inr (inl (image, ahead, refl, part, accepted))
-disassembles image ahead rest text StreamFault part (inr refused) = inr (inr (refused.0, refused_in image ahead rest refused.0 part refused.1, refused.2))
-disassembles image ahead rest text NotFinished part written = written
+pub disassembles : (image ahead read rest text : List ℕ) (status : Status) → read ≡ image ++ ahead → IsReadAlone image ahead rest → Disassembly image text status → Disassembles read rest text status
+disassembles image ahead read rest text Done e part written = (image, ahead, e, part, written)
+disassembles image ahead read rest text ImageRefused e part written = (written.0, refused_of image ahead read rest written.0 e part written.1, written.2)
+disassembles image ahead read rest text StreamFault e part (inl accepted) = inr (inl (image, ahead, e, part, accepted))
+disassembles image ahead read rest text StreamFault e part (inr refused) = inr (inr (refused.0, refused_of image ahead read rest refused.0 e part refused.1, refused.2))
+disassembles image ahead read rest text NotFinished e part written = written
 
 -- memory was wanting while an image was read
 pub disassembles_nothing : (read rest text : List ℕ) (status : Status) → Refuses no_memory text status → Disassembles read rest text status

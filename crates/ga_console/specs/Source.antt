@@ -1,5 +1,5 @@
 -- What may be written for source (docs/REFERENCE.md, "Source"; this project's own).
-use Rattle.std.specs.Prelude.{◌≡◌, ℕ, ◌⊎◌, List, []}
+use Rattle.std.specs.Prelude.{◌≡◌, ℕ, ◌<◌, ◌⊎◌, List, [], ◌++◌, length}
 use Rattle.ga_node.specs.Record.{NodeState}
 use Rattle.ga_grid.specs.Chip.{records_of}
 use Rattle.ga_image.specs.Lines.{Bytes, Text, lines_of}
@@ -9,7 +9,8 @@ use Rattle.ga_image.specs.ReadBack.{Describes}
 use Rattle.ga_image.specs.declared.fault.ImageFault.{ImageFault}
 use Rattle.ga_source.specs.declared.item.Program.{Program}
 use Rattle.ga_source.specs.Programs.{IsAssembled}
-use Rattle.ga_console.specs.Image.{HasNoEnd}
+use Rattle.ga_console.specs.Input.{block_size}
+use Rattle.ga_console.specs.Image.{EndsAtEnd, HasNoEnd}
 use Rattle.ga_console.specs.Output.{Begins}
 use Rattle.ga_console.specs.Texts.{image_fault_text}
 use Rattle.ga_console.specs.Run.{Refused}
@@ -25,18 +26,27 @@ pub record IsAssembly (text : Text) : Type 0 where
   pub told : text ≡ printed (records_of chip)
   pub back : Describes (lines_of text) (records_of chip)
 
--- What `asm` may have written, where read was read of its input and rest is left of it. Source ends as an image does.
+-- The source goes up to its line `end`, and behind that only what the same read brought was read; or it is all of an input in
+-- which no line is `end`.
+abbrev pub IsReadWhole : Text → Bytes → Bytes → Type 0
+IsReadWhole source ahead rest = (EndsAtEnd source × (length ahead < block_size)) ⊎ ((ahead ≡ []) × (rest ≡ []) × HasNoEnd source)
+
+-- P holds of the source that was read, and nothing was read behind it
+abbrev pub OfSource : Bytes → Bytes → (Text → Type 0) → Type 0
+OfSource read rest P = (source : Text) × (ahead : Bytes) × (read ≡ source ++ ahead) × IsReadWhole source ahead rest × P source
+
+-- What `asm` may have written, where read was read of its input and rest is left of it.
 abbrev pub Assembles : Bytes → Bytes → Bytes → Status → Type 0
-Assembles read rest text Done = OfImage read rest (λ source. IsAssembly text)
+Assembles read rest text Done = OfSource read rest (λ source. IsAssembly text)
 Assembles read rest text ImageRefused = text ≡ []
-Assembles read rest text StreamFault = ((text ≡ []) × HasNoEnd read) ⊎ IsCutShort IsAssembly text
+Assembles read rest text StreamFault = ((text ≡ []) × HasNoEnd read) ⊎ OfSource read rest (λ source. IsCutShort IsAssembly text)
 Assembles read rest text NotFinished = ⊥
 
--- What `list` may have written: source ends as an image does.
+-- What `list` may have written.
 abbrev pub Lists : Bytes → Bytes → Bytes → Status → Type 0
-Lists read rest text Done = OfImage read rest (λ source. Unit {0})
+Lists read rest text Done = OfSource read rest (λ source. Unit {0})
 Lists read rest text ImageRefused = text ≡ []
-Lists read rest text StreamFault = ((text ≡ []) × HasNoEnd read) ⊎ OfImage read rest (λ source. Unit {0})
+Lists read rest text StreamFault = ((text ≡ []) × HasNoEnd read) ⊎ OfSource read rest (λ source. Unit {0})
 Lists read rest text NotFinished = ⊥
 
 -- the text is an image

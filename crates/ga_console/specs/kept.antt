@@ -9,3 +9,4 @@ pub mod Run
 pub mod Source
 pub mod Texts
 pub mod Turns
+pub mod Whole

@@ -5,10 +5,9 @@ ghost use Rattle.ga_console.specs.Source.{IsAssembly, Assembles};
 ghost use Rattle.ga_console.specs.kept.Source.{Assembly};
 
 use super::faults::{tell_fault, tell_long, tell_memory, tell_store};
-use super::image::{ImageEnd, read_image};
-use super::input::Input;
 use super::output::{WriteFailed, write_all};
 use super::run::Status;
+use super::whole::{WholeRead, read_whole};
 use ga_image::print;
 use ga_source::{Assembled, assemble, stores_over_code};
 use std::alloc::Global;
@@ -29,20 +28,17 @@ pub fn assemble_source<R: Read, W: Write, E: Write>(
         (read rest text : List ℕ) × (left ≡ read ++ rest) × (R.remaining reader.new ≡ Some rest)
         × (W.contents writer.new ≡ Some (before ++ text)) × Assembles read rest text result }
 {
-    let mut input = Input::new();
-    let mut source = Vec::new(alloc);
-    match read_image(&mut input, reader, &mut source) {
-        Err(_) => {
-            tell_memory(errors);
-            Status::ImageRefused
-        }
-        Ok(ImageEnd::Failed) => Status::StreamFault,
-        Ok(ImageEnd::Past) => {
+    match read_whole(alloc, reader) {
+        WholeRead::Whole(source) => assemble_text(alloc, writer, errors, source),
+        WholeRead::TooLong(_) => {
             tell_long(errors);
             Status::ImageRefused
         }
-        Ok(ImageEnd::Ended) => assemble_text(alloc, writer, errors, source),
-        Ok(ImageEnd::EndLine) => assemble_text(alloc, writer, errors, source),
+        WholeRead::ReadFailed => Status::StreamFault,
+        WholeRead::NoMemory => {
+            tell_memory(errors);
+            Status::ImageRefused
+        }
     }
 }
 
@@ -99,7 +95,7 @@ fn image_of<E: Write>(alloc: Global, errors: &mut E, source: Vec<u8>) -> Option<
 }
 
 /// Tells the stores over code of all programs, or that memory was refused, and then it is false.
-fn tell_stores<E: Write>(alloc: Global, errors: &mut E, assembled: &Assembled<'_>) -> bool {
+pub fn tell_stores<E: Write>(alloc: Global, errors: &mut E, assembled: &Assembled<'_>) -> bool {
     for program in &assembled.programs {
         let Ok(stores) = stores_over_code(alloc, program) else {
             tell_memory(errors);

@@ -5,10 +5,9 @@ ghost use Rattle.ga_console.specs.Source.{IsAccepted, Disassembles};
 ghost use Rattle.ga_console.specs.kept.Source.{Disassembly};
 
 use super::assembling::write_text;
-use super::image::{ImageEnd, read_image};
-use super::input::Input;
 use super::listing::{push_hex, push_node};
 use super::run::{Status, refuse};
+use super::whole::{WholeRead, read_whole};
 use ga_grid::{Chip, NODES, NodeId, load_p};
 use ga_image::{ImageCause, ImageFault, parse};
 use ga_node::{Node, Place};
@@ -33,15 +32,12 @@ pub fn disassemble<R: Read, W: Write>(alloc: Global, reader: &mut R, writer: &mu
         (read rest text : List ℕ) × (left ≡ read ++ rest) × (R.remaining reader.new ≡ Some rest)
         × (W.contents writer.new ≡ Some (before ++ text)) × Disassembles read rest text result }
 {
-    let mut input = Input::new();
-    let mut image = Vec::new(alloc);
-    match read_image(&mut input, reader, &mut image) {
-        Err(_) => refuse(writer, NO_MEMORY),
-        Ok(ImageEnd::Failed) => Status::StreamFault,
+    match read_whole(alloc, reader) {
+        WholeRead::Whole(image) => disassemble_text(alloc, writer, image),
         // No image that is accepted is so long.
-        Ok(ImageEnd::Past) => disassemble_text(alloc, writer, image),
-        Ok(ImageEnd::Ended) => disassemble_text(alloc, writer, image),
-        Ok(ImageEnd::EndLine) => disassemble_text(alloc, writer, image),
+        WholeRead::TooLong(image) => disassemble_text(alloc, writer, image),
+        WholeRead::ReadFailed => Status::StreamFault,
+        WholeRead::NoMemory => refuse(writer, NO_MEMORY),
     }
 }
 

@@ -26,12 +26,14 @@ mod responder;
 mod run;
 mod settings;
 mod text;
+mod whole;
 
-pub use assembling::assemble_source;
+pub use assembling::{assemble_source, tell_stores};
 pub use command::{Command, byte_of, command_of, cut, node_of, number_of};
 pub use commands::{Ending, serve};
 pub use disassembly::disassemble;
 pub use event::{push_made, refusal};
+pub use faults::{tell_fault, tell_long, tell_memory};
 pub use image::{ImageEnd, read_image};
 pub use input::Input;
 pub use lines::Line;

@@ -5,12 +5,12 @@ ghost use Rattle.ga_console.specs.Source.{Lists};
 
 use super::assembling::write_text;
 use super::faults::{tell_fault, tell_long, tell_memory};
-use super::image::{ImageEnd, read_image};
-use super::input::Input;
 use super::run::Status;
+use super::whole::{WholeRead, read_whole};
 use ga_grid::{Chip, NodeId};
 use ga_node::Place;
 use ga_ports::{Target, advance_p, classify};
+use ga_slots::Op;
 use ga_source::{Assembled, Group, Item, Program, Request, Value, assemble};
 use std::alloc::{AllocError, Global};
 use std::io::{Read, Write};
@@ -29,20 +29,17 @@ pub fn list_source<R: Read, W: Write, E: Write>(
         (read rest text : List ℕ) × (left ≡ read ++ rest) × (R.remaining reader.new ≡ Some rest)
         × (W.contents writer.new ≡ Some (before ++ text)) × Lists read rest text result }
 {
-    let mut input = Input::new();
-    let mut source = Vec::new(alloc);
-    match read_image(&mut input, reader, &mut source) {
-        Err(_) => {
-            tell_memory(errors);
-            Status::ImageRefused
-        }
-        Ok(ImageEnd::Failed) => Status::StreamFault,
-        Ok(ImageEnd::Past) => {
+    match read_whole(alloc, reader) {
+        WholeRead::Whole(source) => list_text(alloc, writer, errors, source),
+        WholeRead::TooLong(_) => {
             tell_long(errors);
             Status::ImageRefused
         }
-        Ok(ImageEnd::Ended) => list_text(alloc, writer, errors, source),
-        Ok(ImageEnd::EndLine) => list_text(alloc, writer, errors, source),
+        WholeRead::ReadFailed => Status::StreamFault,
+        WholeRead::NoMemory => {
+            tell_memory(errors);
+            Status::ImageRefused
+        }
     }
 }
 
@@ -235,7 +232,7 @@ fn push_cell(
 fn push_item(text: &mut Vec<u8>, program: &Program<'_>, item: Item) -> Result<(), AllocError> {
     match item {
         Item::Opcode(op) => text.extend_from_slice(op.name().as_bytes()),
-        Item::Literal(_) => text.extend_from_slice(b"@p"),
+        Item::Literal(_) => text.extend_from_slice(Op::FetchP.name().as_bytes()),
         Item::Back(op, label) | Item::Ahead(op, label) => {
             text.extend_from_slice(op.name().as_bytes())?;
             text.push(b' ')?;

@@ -4,11 +4,10 @@ ghost use Rattle.ga_grid.specs.Chip.{records_of};
 ghost use Rattle.ga_console.specs.Race.{calls_by, report_text, IsRace, Reports};
 ghost use Rattle.ga_console.specs.kept.Race.{Races, Writes};
 
-use super::image::{ImageEnd, read_image};
-use super::input::Input;
 use super::output::{WriteFailed, write_all};
 use super::run::{Status, refuse};
 use super::text::{Text, push_number, push_text};
+use super::whole::{WholeRead, read_whole};
 use ga_grid::{Chip, NodeId};
 use ga_image::{ImageCause, parse};
 use ga_shared::{Call, Closed, Free, race};
@@ -35,15 +34,12 @@ pub fn race_report<T: Threads + Wait + Sync, R: Read, W: Write>(
         (read rest text : List ℕ) × (left ≡ read ++ rest) × (R.remaining reader.new ≡ Some rest)
         × (W.contents writer.new ≡ Some (before ++ text)) × Reports limit workers calls read rest text result }
 {
-    let mut input = Input::new();
-    let mut image = Vec::new(alloc);
-    match read_image(&mut input, reader, &mut image) {
-        Err(_) => Status::NotFinished,
-        Ok(ImageEnd::Failed) => Status::StreamFault,
+    match read_whole(alloc, reader) {
+        WholeRead::Whole(image) => run_image(rt, alloc, writer, image, workers, calls, limit),
         // No image that is accepted is so long.
-        Ok(ImageEnd::Past) => run_image(rt, alloc, writer, image, workers, calls, limit),
-        Ok(ImageEnd::Ended) => run_image(rt, alloc, writer, image, workers, calls, limit),
-        Ok(ImageEnd::EndLine) => run_image(rt, alloc, writer, image, workers, calls, limit),
+        WholeRead::TooLong(image) => run_image(rt, alloc, writer, image, workers, calls, limit),
+        WholeRead::ReadFailed => Status::StreamFault,
+        WholeRead::NoMemory => Status::NotFinished,
     }
 }
 

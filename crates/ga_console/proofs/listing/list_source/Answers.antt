@@ -1,70 +1,32 @@
-use Rattle.std.proofs.Common.{◌≡◌, ℕ, List, [], ◌∷◌, ◌++◌, Some, Ok, inl, inr, refl, sym, ap, ◌∙◌, append_assoc}
+use Rattle.std.proofs.Common.{[], Some, inl, refl, sym, ap, ◌∙◌}
 use Rattle.std.proofs.lemmas.List.{append-nil}
-use Rattle.ga_console.specs.Input.{Unread}
 use Rattle.ga_console.proofs.Sources.{lists}
 use Rattle.ga_console.proofs.listing.list_source.Goals as goal
 
--- at the start nothing is read
-from_start : (u : Unread) (left xs : List ℕ) → u ≡ record { bytes = []; taken = 0 } → u.bytes ++ left ≡ xs → left ≡ xs
-from_start u left xs e h = ap (λ (v : Unread). v.bytes ++ left) (sym e) ∙ h
-
-pub returns-in-Ok-Failed : goal.returns-in-Ok-Failed
-returns-in-Ok-Failed g c = λ left before known held.
-    let reads = rw c.in-Ok-Failed.field-0-is at c.in-Ok-Failed.ensures.reads in
-    let got = reads left known in
-    let text : List ℕ = c.read_image.new.text.items in (
-      text,
-      got.0,
-      [],
-      from_start c.new-input.result left (text ++ got.0) c.new-input.ensures got.2.1,
-      got.1,
-      held ∙ ap Some (sym (append-nil before)),
-      inl (refl, got.2.0),
-    )
-
-pub returns-in-Ok-Past : goal.returns-in-Ok-Past
-returns-in-Ok-Past g c = λ left before known held.
-    let reads = rw c.in-Ok-Past.field-0-is at c.in-Ok-Past.ensures.reads in
-    let got = reads left known in
-    let text : List ℕ = c.read_image.new.text.items in
-    let ahead : List ℕ = got.2.1.byte ∷ [] in (
-      text ++ ahead,
-      got.0,
-      [],
-      from_start c.new-input.result left (text ++ got.2.1.byte ∷ got.0) c.new-input.ensures got.2.1.takes.splits ∙ sym (append_assoc text ahead got.0),
-      got.1,
-      held ∙ ap Some (sym (append-nil before)),
-      refl,
-    )
-
-pub returns-in-Ok-Ended : goal.returns-in-Ok-Ended
-returns-in-Ok-Ended g c = λ left before known held.
-    let reads = rw c.in-Ok-Ended.field-0-is at c.in-Ok-Ended.ensures.reads in
-    let got = reads left known in
-    let text : List ℕ = c.read_image.new.text.items in
+pub returns-in-Whole : goal.returns-in-Whole
+returns-in-Whole g c = λ left before known held.
+    let got = c.in-Whole.ensures left known in
     let done = c.list_text.ensures before held in (
-      text ++ [],
       got.0,
-      done.0,
-      from_start c.new-input.result left (text ++ []) c.new-input.ensures got.2.1.splits ∙ sym (append-nil (text ++ [])) ∙ ap (λ (l : List ℕ). (text ++ []) ++ l) (sym got.2.3),
       got.1,
+      done.0,
+      got.2,
+      got.3,
       done.1,
-      lists text [] got.0 done.0 c.list_text.result (inr (inl (refl, got.2.3, got.2.0))) done.2,
+      lists c.in-Whole.source.items got.4.0 got.0 got.1 done.0 c.list_text.result got.4.1 got.4.2 done.2,
     )
 
-pub returns-in-Ok-EndLine : goal.returns-in-Ok-EndLine
-returns-in-Ok-EndLine g c = λ left before known held.
-    let reads = rw c.in-Ok-EndLine.field-0-is at c.in-Ok-EndLine.ensures.reads in
-    let got = reads left known in
-    let text : List ℕ = c.read_image.new.text.items in
-    let ahead : List ℕ = c.read_image.new.input.bytes in
-    let done = c.list_text-in-Ok-EndLine.ensures before held in (
-      text ++ ahead,
-      got.0,
-      done.0,
-      from_start c.new-input.result left (text ++ (ahead ++ got.0)) c.new-input.ensures got.2.1.splits ∙ sym (append_assoc text ahead got.0),
-      got.1,
-      done.1,
-      lists text ahead got.0 done.0 c.list_text-in-Ok-EndLine.result
-          (inl (got.2.0, c.in-Ok-EndLine.ensures.behind (ap Ok c.in-Ok-EndLine.field-0-is))) done.2,
-    )
+pub returns-in-TooLong : goal.returns-in-TooLong
+returns-in-TooLong g c = λ left before known held.
+    let got = c.in-TooLong.ensures left known in
+    (got.0, got.1, [], got.2, got.3, held ∙ ap Some (sym (append-nil before)), refl)
+
+pub returns-in-ReadFailed : goal.returns-in-ReadFailed
+returns-in-ReadFailed g c = λ left before known held.
+    let got = c.in-ReadFailed.ensures left known in
+    (got.0, got.1, [], got.2, got.3, held ∙ ap Some (sym (append-nil before)), inl (refl, got.4))
+
+pub returns : goal.returns
+returns g c = λ left before known held.
+    let got = c.in-NoMemory.ensures left known in
+    (got.0, got.1, [], got.2, got.3, held ∙ ap Some (sym (append-nil before)), refl)
