@@ -1,0 +1,89 @@
+//! A node of a lab that is walked back through its steps.
+
+use super::Lab;
+use ga_grid::{Chip, NodeId};
+use ga_journal::Chronicle;
+use ga_node::Node;
+use std::marker::Model;
+
+/// A copy of a node as it was right after one of its steps, which goes back step by step. Of the lab nothing is taken back. A
+/// contract sees the lab's machine, the node, and how many steps it had made.
+#[derive(Drop)]
+pub struct Walk<'l> {
+    chip: &'l Chip,
+    chronicle: &'l Chronicle,
+    id: NodeId,
+    step: u32,
+    node: Node,
+}
+
+impl<'l> Model for Walk<'l> {
+    ghost use Rattle.ga_lab.specs.Machine.{Standing};
+    ghost use Rattle.ga_lab.specs.kept.Walking.{standing_of, IsWalk};
+
+    ghost Value = { Standing };
+
+    ghost view = { λ w. standing_of w.chip.now w.chronicle.now.journal w.id w.step };
+
+    ghost invariant = { λ w. IsWalk w.chip.now w.chronicle.now.journal w.id w.step w.node };
+}
+
+impl<'l> Walk<'l> {
+    ghost use Rattle.std.specs.Prelude.{◌≡◌, ◌<◌, ◌≤◌, ◌-◌, ℕ, take};
+    ghost use Rattle.ga_node.specs.Record.{record_of};
+    ghost use Rattle.ga_grid.specs.Chip.{record_at};
+    ghost use Rattle.ga_event.specs.Told.{steps_of};
+    ghost use Rattle.ga_lab.specs.Machine.{chip_of, earlier};
+
+    /// How many steps the node had made.
+    pub fn step(&self) -> u32
+        ensures value { result ≡ self.now.step }
+        ensures within { result ≤ steps_of self.now.node.number self.now.machine.kept }
+    {
+        self.step
+    }
+
+    /// The node as it was then: at each place of the list of kept events at which it had made so many steps, it is the node to
+    /// which replaying the events before the place leads.
+    pub fn node(&self) -> &Node
+        ensures { (place : ℕ) → steps_of self.now.node.number (take place self.now.machine.kept) ≡ self.now.step
+            → record_of result.now ≡ record_at (chip_of (earlier self.now.machine place)) self.now.node.number }
+    {
+        &self.node
+    }
+
+    /// Goes back by a step. Takes no memory, and as long whatever is kept.
+    pub fn back(&mut self)
+        requires { 0 < self.old.step }
+        ensures { self.new ≡ record self.old { step = self.old.step - 1 } }
+    {
+        let before = self.step - 1;
+        self.chronicle
+            .walk_back(self.id, &mut self.node, self.step, before);
+        self.step = before;
+    }
+}
+
+impl Lab {
+    ghost use Rattle.std.specs.Prelude.{◌≡◌, ◌≤◌};
+    ghost use Rattle.ga_event.specs.Told.{steps_of};
+    ghost use Rattle.ga_lab.specs.Machine.{standing};
+
+    /// A node as it was right after its step, or at load for step 0, to be walked back from there. Takes no memory, and time by how
+    /// many steps the node made since.
+    pub fn walk(&self, node: NodeId, step: u32) -> Walk<'_>
+        requires { step ≤ steps_of node.number self.now.kept }
+        ensures { result ≡ standing self.now node step }
+    {
+        let mut copy = self.chip.node(node).copy();
+        let steps = self.chronicle.journal.steps_of(node);
+        self.chronicle.walk_back(node, &mut copy, steps, step);
+        Walk {
+            chip: &self.chip,
+            chronicle: &self.chronicle,
+            id: node,
+            step,
+            node: copy,
+        }
+    }
+}
