@@ -4,3 +4,4 @@ pub mod Telling
 pub mod Causes
 pub mod Walking
 pub mod Closed
+pub mod Stored

@@ -1,5 +1,5 @@
 -- Where a value was made.
-use Rattle.std.proofs.Common.{◌≡◌, ℕ, zero, suc, ◌+◌, ◌<◌, ◌≤◌, Bool, true, false, cond, List, [], ◌∷◌, length, take, Some, None, refl, sym, ◌∙◌, ap, arith}
+use Rattle.std.proofs.Common.{◌≡◌, ℕ, zero, suc, ◌+◌, ◌-◌, ◌<◌, ◌≤◌, Bool, true, false, cond, List, [], ◌∷◌, length, take, Some, None, refl, sym, ◌∙◌, ap, arith}
 use Rattle.std.specs.Prelude.{Option, option_map, unwrap_or}
 use Rattle.std.specs.List.{slice_get}
 use Rattle.std.proofs.lemmas.List.Sums.{sum_by-cons}
@@ -9,7 +9,8 @@ use Rattle.ga_event.specs.declared.event.Event.{Event}
 use Rattle.ga_event.specs.declared.made.Made.{Made}
 use Rattle.ga_event.specs.Touches.{touches}
 use Rattle.ga_event.specs.Told.{steps_of}
-use Rattle.ga_lab.specs.Machine.{State, history_of}
+use Rattle.ga_grid.specs.Chip.{record_at}
+use Rattle.ga_lab.specs.Machine.{State, Standing, standing, chip_of, earlier, history_of}
 use Rattle.ga_flow.specs.declared.part.Part.{Part}
 use Rattle.ga_flow.specs.declared.part.Part.TheVariants.{Data, Return, Ram, Rom, A, B, P, I, Io, Carry, Slot, Wait, Stop, Outside}
 use Rattle.ga_flow.specs.Flow.{Flow, Same, IsPart}
@@ -95,13 +96,61 @@ pub back_on : (s : State) (node : NodeId) (step k : ℕ) (at from : Part) (flow 
 back_on s node step k at from flow value is e moved same =
     sym (moved_on s node k at from (moved_by s node.number k at flow (Some from) e moved)) ∙ ap (λ (z : ℕ). origin_from s node z at) is ∙ same
 
-pub back_end : (s : State) (node : NodeId) (step k : ℕ) (at told : Part) (flow : Flow) (value : Value) → suc k ≡ step → flow ≡ flow_at s node.number k at → None ≡ moved_from flow at → told ≡ told_part flow at
-    → origin_from s node step at ≡ value → value_at node step told ≡ value
-back_end s node step k at told flow value is e moved part same =
-    ap (λ (z : ℕ). value_at node z told) (sym is)
+pub back_end : (s : State) (node : NodeId) (step end k : ℕ) (at told : Part) (flow : Flow) (value : Value) → end ≡ suc k → suc k ≡ step → flow ≡ flow_at s node.number k at → None ≡ moved_from flow at
+    → told ≡ told_part flow at → origin_from s node step at ≡ value → value_at node end told ≡ value
+back_end s node step end k at told flow value ends is e moved part same =
+    ap (λ (z : ℕ). value_at node z told) ends
     ∙ ap (value_at node (suc k)) (part ∙ ap (λ (z : Flow). told_part z at) e)
     ∙ sym (made_there s node k at (moved_by s node.number k at flow None e moved))
     ∙ ap (λ (z : ℕ). origin_from s node z at) is ∙ same
 
-pub back_load : (s : State) (node : NodeId) (step : ℕ) (at : Part) (value : Value) → step ≡ 0 → origin_from s node step at ≡ value → value_at node step at ≡ value
-back_load s node step at value is same = ap (λ (z : ℕ). value_at node z at) is ∙ ap (λ (z : ℕ). origin_from s node z at) (sym is) ∙ same
+pub back_load : (s : State) (node : NodeId) (step : ℕ) (at : Part) (value : Value) → step ≡ 0 → origin_from s node step at ≡ value → value_at node 0 at ≡ value
+back_load s node step at value is same = ap (λ (z : ℕ). origin_from s node z at) (sym is) ∙ same
+
+-- a node that is walked back to so many of its steps
+pub stands_so : (s : State) (node : NodeId) (step : ℕ) (walk : Standing) → walk ≡ standing s node step → walk ≡ standing s node walk.step
+stands_so s node step walk e = e ∙ ap (standing s node) (sym (ap (λ (z : Standing). z.step) e))
+
+pub back_so : (s : State) (node : NodeId) (old new : Standing) → old ≡ standing s node old.step → new ≡ record old { step = old.step - 1 } → new ≡ standing s node (old.step - 1)
+back_so s node old new e f = f ∙ ap (λ (z : Standing). record z { step = old.step - 1 }) e
+
+pub then_of : (s : State) (node : NodeId) (walk : Standing) (behind : NodeRecord) → walk ≡ standing s node walk.step → walk.step ≤ steps_of walk.node.number walk.machine.kept
+    → ((place : ℕ) → steps_of walk.node.number (take place walk.machine.kept) ≡ walk.step → behind ≡ record_at (chip_of (earlier walk.machine place)) walk.node.number)
+    → behind ≡ node_after s node.number walk.step
+then_of s node walk behind e within h =
+    h (place_after walk.machine.kept walk.node.number walk.step) (place_holds walk.machine.kept walk.node.number walk.step within)
+    ∙ ap (λ (z : Standing). node_after z.machine z.node.number walk.step) e
+
+pub flow_none : (s : State) (n k j : ℕ) (at : Part) → None ≡ slice_get (history_of s n) j → j ≡ k → Same at ≡ flow_at s n k at
+flow_none s n k j at h e = ap (λ told. flow_told told (node_after s n k) n at) (h ∙ ap (slice_get (history_of s n)) e)
+
+-- what stays is passed over, and so is all past the steps of a node
+stays : (at : Part) → IsPart at → Some at ≡ moved_from (Same at) at
+stays (Data k) is = refl
+stays (Return k) is = refl
+stays (Ram k) is = refl
+stays (Rom k) is = refl
+stays A is = refl
+stays B is = refl
+stays P is = refl
+stays I is = refl
+stays Io is = refl
+stays Carry is = refl
+stays Slot is = refl
+stays Wait is = refl
+stays Stop is = refl
+stays Outside is = absurd is
+
+origin_past : (s : State) (node : NodeId) (steps : ℕ) (at : Part) → IsPart at → steps ≡ length (history_of s node.number) → (more : ℕ)
+    → origin_from s node steps at ≡ origin_from s node (more + steps) at
+origin_past s node steps at is e zero = ap (λ (z : ℕ). origin_from s node z at) (let f : steps ≡ 0 + steps = omega arith in f)
+origin_past s node steps at is e (suc more) =
+    origin_past s node steps at is e more
+    ∙ sym (moved_on s node (more + steps) at at (moved_by s node.number (more + steps) at (Same at) (Some at) (flow_past s node.number (more + steps) at (omega (arith, e))) (stays at is)))
+    ∙ ap (λ (z : ℕ). origin_from s node z at) (let f : suc (more + steps) ≡ suc more + steps = omega arith in f)
+
+pub origin_last : (s : State) (node : NodeId) (step steps : ℕ) (at : Part) → IsPart at → steps ≡ length (history_of s node.number) → steps ≤ step
+    → origin_from s node steps at ≡ origin_from s node step at
+origin_last s node step steps at is e l =
+    origin_past s node steps at is e (step - steps)
+    ∙ ap (λ (z : ℕ). origin_from s node z at) (let f : (step - steps) + steps ≡ step = omega (arith, l) in f)

@@ -1,4 +1,5 @@
 pub mod Causes
 pub mod Origins
 pub mod Rows
+pub mod Writes
 pub mod kept

@@ -5,7 +5,9 @@ pub mod laws;
 mod listing;
 mod origin;
 mod value;
+mod writes;
 
 pub use listing::{Listing, Row, whence};
 pub use origin::origin_of;
 pub use value::Value;
+pub use writes::{Written, back_over};

@@ -170,8 +170,8 @@ fn listed(alloc: Global, lab: &Lab, value: Value, most: u32) -> Result<Listing, 
 }
 
 /// The steps whose values went into a value, through stacks, memories, registers and links, down to the load: as a tree, of which
-/// each is told once, and at most so many. Takes memory by how many are told. Each step of a node that is gone back over takes time
-/// by how many the node made since.
+/// each is told once, and at most so many. Takes memory by how many are told, and for each value time by how many steps its
+/// node made since.
 ///
 /// # Errors
 /// `NoStep`, where the node has no such step; then `Memory`.

@@ -1,21 +1,22 @@
 //! The step that made a value.
 
-ghost use Rattle.std.specs.Prelude.{◌≡◌, ◌<◌, length, IfSome, IfNone, IsSome};
+ghost use Rattle.std.specs.Prelude.{◌≡◌, ◌≤◌, IfSome};
 ghost use Rattle.ga_node.specs.Record.{record_of};
-ghost use Rattle.ga_lab.specs.Machine.{history_of};
+ghost use Rattle.ga_event.specs.Told.{steps_of};
+ghost use Rattle.ga_lab.specs.Machine.{standing};
 ghost use Rattle.ga_flow.specs.Flow.{IsPart};
 ghost use Rattle.ga_flow.specs.Following.{flow_of, AreSources};
-ghost use Rattle.ga_whence.specs.Origins.{is_cell, crosses, moved_from, is_of_three, told_part, told_flow, flow_at, origin_of};
+ghost use Rattle.ga_whence.specs.Origins.{is_cell, crosses, moved_from, is_of_three, told_part, told_flow, flow_at, origin_from, origin_of};
 
 use crate::value::Value;
 use ga_event::Made;
 use ga_flow::{Flow, Part, own_flow, send_flow, take_flow};
 use ga_grid::NodeId;
-use ga_lab::Lab;
+use ga_lab::{Lab, Walk};
 use ga_node::Node;
 
 // Whether the part is a cell of memory.
-fn is_cell(part: Part) -> bool
+pub(crate) fn is_cell(part: Part) -> bool
     ensures { result ≡ is_cell part }
 {
     match part {
@@ -96,7 +97,20 @@ fn told_flow(made: &Made, before: &Node, node: NodeId, part: Part) -> Flow
     }
 }
 
-// The same of a node's step that is kept, the first of which is at place 0.
+// The same of the step behind those that a node had made where it is walked back to; past its steps all stays.
+pub(crate) fn flow_behind(lab: &Lab, walk: &Walk<'_>, node: NodeId, part: Part) -> Flow
+    requires part { IsPart part }
+    requires walk { walk.now ≡ standing lab.now node walk.now.step }
+    ensures value { flow_of result ≡ flow_at lab.now node.number walk.now.step part }
+    ensures sources { AreSources (flow_of result) }
+{
+    match lab.told(node, walk.step()) {
+        Some(made) => told_flow(&made, walk.node(), node, part),
+        None => Flow::Same(part),
+    }
+}
+
+// The same of a node's step, the first of which is at place 0.
 pub(crate) fn flow_at(lab: &Lab, node: NodeId, place: u32, part: Part) -> Flow
     requires { IsPart part }
     ensures value { flow_of result ≡ flow_at lab.now node.number place part }
@@ -105,37 +119,49 @@ pub(crate) fn flow_at(lab: &Lab, node: NodeId, place: u32, part: Part) -> Flow
     if place >= lab.steps(node) {
         return Flow::Same(part);
     }
-    match lab.told(node, place) {
-        Some(made) => match lab.peek(node, place) {
-            Some(before) => told_flow(&made, &before, node, part),
-            None => unreachable!(),
-        },
-        None => unreachable!(),
+    flow_behind(lab, &lab.walk(node, place), node, part)
+}
+
+// The value's step, or the last of the node where it made fewer: behind that nothing is made.
+fn kept_step(lab: &Lab, value: Value) -> u32
+    requires { IsPart value.part }
+    ensures same { origin_from lab.now value.node result value.part ≡ origin_of lab.now value }
+    ensures within { result ≤ steps_of value.node.number lab.now.kept }
+{
+    let steps = lab.steps(value.node);
+    if value.step < steps {
+        value.step
+    } else {
+        steps
     }
 }
 
 /// The newest step up to the value's own that made it, with the part in which it stood then, or step 0 where the value was loaded.
-/// What moved the value from part to part of the node alone, as `dup` or `push`, made nothing.
+/// What moved the value from part to part of the node alone, as `dup` or `push`, made nothing. Takes time by how many steps the node
+/// made since.
 pub fn origin_of(lab: &Lab, value: Value) -> Value
     requires { IsPart value.part }
     ensures value { result ≡ origin_of lab.now value }
     ensures part { IsPart result.part }
 {
     let node = value.node;
-    let mut step = value.step;
     let mut part = value.part;
-    'back: while step > 0 {
-        let flow = flow_at(lab, node, step - 1, part);
+    let mut walk = lab.walk(node, kept_step(lab, value));
+    'steps: while walk.step() > 0 {
+        walk.back();
+        let flow = flow_behind(lab, &walk, node, part);
         match moved_from(&flow, part) {
-            Some(from) => {
-                part = from;
-                step -= 1;
-            }
+            Some(from) => part = from,
             None => {
+                let step = walk.step() + 1;
                 let part = told_part(&flow, part);
                 return Value { node, step, part };
             }
         }
     }
-    Value { node, step, part }
+    Value {
+        node,
+        step: 0,
+        part,
+    }
 }
