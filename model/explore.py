@@ -2,17 +2,19 @@
 
 import re
 
+from listing import NAMES
 from machine import Machine, NODES, name
-from node import SIDES, neighbour
+from node import SIDES, neighbour, target_of
 
 NODE, W, HH = "[0-7](?:0[0-9]|1[0-7])", "0[0-3][0-9a-fA-F]{4}", "[0-9a-fA-F]{2}"
 NUMBER = "(?:0|[1-9][0-9]{0,9})"
 MOST = (1 << 32) - 1
+STORES = {"0c": ("!p", "p"), "0d": ("!+", "a"), "0e": ("!b", "b"), "0f": ("!", "a")}
 CONDITION = (
     rf"pass {NODE} {NODE} (?:= {W}|{NUMBER})|step {NODE} {NUMBER}|stop|stop {NODE}|wait {NODE}|mem {NODE} {HH} = {W}|p {NODE} {W}"
 )
 RUN = re.compile(rf"run(?: (greedy|random ({NUMBER})))?(?: ({NUMBER}))?(?: until ({CONDITION}))?")
-ASKED = re.compile(rf"(effects) ({NODE}) ({NUMBER})|(words) ({NODE}) ({NODE})")
+ASKED = re.compile(rf"(effects) ({NODE}) ({NUMBER})|(words) ({NODE}) ({NODE})|(writes) ({NODE}) ({HH})|(at) ({NODE}) ({NUMBER})(?: ([1-9]?[0-9]))?")
 HELP = """\
 run [N] [until COND]  make up to N events, in rounds
 run greedy ..         each node as far as it goes
@@ -23,6 +25,8 @@ chip                  what each node does
 who                   who waits for whom, and which nodes can never go on
 effects NNN K         what rewind NNN K would take
 words NNN MMM         the words that went from NNN to MMM
+writes NNN HH         the steps that wrote the cell HH of NNN, the newest first
+at NNN K [N]          N steps before and behind step K of NNN, with registers
 save                  the kept events as lines of debug
 help                  these lines
 and the commands of debug: step back rewind node mem trace why count dump quit"""
@@ -59,6 +63,10 @@ class Explorer(Machine):
         if asked:
             words = [it for it in asked.groups() if it]
             node = number_of(words[1])
+            if words[0] == "writes":
+                return "\n".join(reversed(self.writes(node, int(words[2], 16))))
+            if words[0] == "at":
+                return self.at(node, int(words[2]), int(words[3]) if len(words) > 3 else 3)
             return self.effects(node, int(words[2])) if words[0] == "effects" else self.words(node, number_of(words[2]))
         found = RUN.fullmatch(line)
         if not found:
@@ -140,6 +148,43 @@ class Explorer(Machine):
         sent = [told.split(" ")[1:] for told in self.sent(writer, reader)]
         lines = [" ".join([str(number)] + words) for number, words in enumerate(sent, 1)]
         return "\n".join([f"words {name(writer)} {name(reader)} {len(lines)}"] + lines)
+
+    def passed_through(self, node):
+        """Of each step of a node what is told of it, and the node before and behind it."""
+        again = Explorer(self.load, self.limit)
+        for event in self.events:
+            before = again.chip[node].copy()
+            again.apply(event)
+            if node in event:
+                yield again.told[-1], before, again.chip[node].copy()
+
+    def writes(self, node, address):
+        """The steps by which a node wrote a cell of its RAM: one of four opcodes, at an address that names the cell."""
+        lines = []
+        for step, (told, before, behind) in enumerate(self.passed_through(node), 1):
+            store = STORES.get(told.split(" ")[-1]) if " run " in told else None
+            if store and address < 0x80 and target_of(getattr(before, store[1])) == ("ram", address % 64):
+                lines.append(f"{name(node)} {step} {store[0]} {before.d[0]:06x}")
+        return lines
+
+    def deed(self, node, told):
+        """What a step of a node did."""
+        words = told.split(" ")
+        if words[0] == "pass":
+            _, writer, step, reader, its, word = words
+            return f"takes {word} from {writer} {step}" if reader == name(node) else f"sends {word} to {reader} {its}"
+        return NAMES[int(words[3], 16)] if words[2] == "run" else " ".join(words[2:])
+
+    def at(self, node, step, around):
+        if not 1 <= step <= self.steps[node]:
+            return "no 6 nostep"
+        lines = []
+        for number, (told, _, behind) in enumerate(self.passed_through(node), 1):
+            if abs(number - step) <= around:
+                seen = {"t": behind.d[0], "s": behind.d[1], "r": behind.r[0], "a": behind.a, "b": behind.b, "p": behind.p}
+                registers = "".join(f" {register} {word:06x}" for register, word in seen.items())
+                lines.append(f"{name(node)} {number} {self.deed(node, told)}{registers}")
+        return "\n".join(lines)
 
     def does(self, node):
         it = self.chip[node]

@@ -4,7 +4,7 @@
 files.py FILE..: prints what the machine answers to each.
 files.py --compare FILE..: compares that with FILE.stdout. A file is skipped where FILE.stdout says that its image is refused or
 that one of its lines is no command; just such a file may not be read here.
-The limit is N for a file in a folder limit-N. A session in a folder explore is one of `ga144 explore`.
+The limit is N for a file in a folder limit-N. A session in a folder explore is one of `ga144 explore`, which may begin with source.
 """
 
 import os
@@ -16,6 +16,7 @@ from explore import Explorer
 from machine import Machine, NODES, name
 from node import Node, SIDES, WORD
 from sessions import DEFAULT_LIMIT
+from source import asm
 
 NODE, W, HH = "[0-7](?:0[0-9]|1[0-7])", "[0-9a-fA-F]{6}", "[0-9a-fA-F]{2}"
 STEP = "(?:0|[1-9][0-9]{0,9})"
@@ -99,7 +100,10 @@ def answers_of(path):
         lines = file.read().removesuffix("\n").split("\n")
     past = lines.index("end") + 1 if "end" in lines else len(lines)
     kind = Explorer if "explore" in path.split(os.sep) else Machine
-    machine = kind(load_of(lines[:past]), limit)
+    load = lines[:past]
+    if kind is Explorer and not load[0].startswith("ga144"):
+        load = asm("".join(f"{line}\n" for line in load))[0].splitlines()
+    machine = kind(load_of(load), limit)
     commands = lines[past:]
     if "quit" in commands:
         commands = commands[: commands.index("quit")]

@@ -96,9 +96,11 @@ fn debug(rt: &HostRuntime, limit: u32) -> ExitCode {
 
 /// Serves a session of exploring over the standard streams.
 fn exploring(rt: &HostRuntime, limit: u32) -> ExitCode {
-    let mut reader = rt.stdin();
-    let mut writer = rt.stdout();
-    exit(rt, explore(rt.alloc(), &mut reader, &mut writer, limit))
+    let (mut reader, mut writer, mut errors) = (rt.stdin(), rt.stdout(), rt.stderr());
+    exit(
+        rt,
+        explore(rt.alloc(), &mut reader, &mut writer, &mut errors, limit),
+    )
 }
 
 /// Makes an image of the source on standard input.
@@ -127,10 +129,17 @@ fn disassembled(rt: &HostRuntime) -> ExitCode {
 
 /// Draws the session on standard input.
 fn drawn(rt: &HostRuntime, view: View) -> ExitCode {
-    let (mut reader, mut writer) = (rt.stdin(), rt.stdout());
+    let (mut reader, mut writer, mut errors) = (rt.stdin(), rt.stdout(), rt.stderr());
     exit(
         rt,
-        draw_session(rt.alloc(), &mut reader, &mut writer, view, DRAWN_LIMIT),
+        draw_session(
+            rt.alloc(),
+            &mut reader,
+            &mut writer,
+            &mut errors,
+            view,
+            DRAWN_LIMIT,
+        ),
     )
 }
 

@@ -30,8 +30,8 @@ Exit status: 0 done, 1 image refused, 2 a stream failed, 3 command line refused.
 
 /// What `ga144 explore --help` says behind the options.
 const EXPLORING: &str = "\
-Reads from standard input what ga144 debug reads, an image and then commands, and knows each command of that. So a person at a
-terminal types: cat IMAGE - | ga144 explore
+Reads an image or source (up to its line `end`) from standard input, and then commands, and knows each command of debug. So a
+person at a terminal types: cat IMAGE - | ga144 explore
 
 Further commands (N is a number of events; NNN and MMM are nodes, K a step, HH two and W and X six hexadecimal digits):
   run [N] [until COND]   make events in rounds: each node that has an event makes one, in the order of their names
@@ -41,6 +41,8 @@ Further commands (N is a number of events; NNN and MMM are nodes, K a step, HH t
   who                    show who waits for whom, and which nodes can never go on
   effects NNN K          show what rewind NNN K would take, and take nothing
   words NNN MMM          show the words that went from NNN to MMM
+  writes NNN HH          show the steps that wrote the cell HH of NNN, the newest first
+  at NNN K [N]           show the steps from K - N to K + N of NNN, each with registers behind it [N: 3]
   save                   show the kept events as lines step NNN
   help                   show the commands
 
@@ -63,7 +65,7 @@ Exit status: 0 done, 1 image refused, 2 a stream failed, 3 command line refused,
 
 /// What `ga144 draw --help` says behind the options.
 const PICTURES: &str = "\
-Reads what debug reads: an image (lines `ga144 1` to `end`), then commands, one a line. Carries them out without an answer,
+Reads what explore reads: an image or source up to its line `end`, then commands, one a line. Carries them out without an answer,
 and at their end writes one SVG: a line down for each node, its own events as marks, passes as arrows with their word,
 waits dotted, looks dashed. An event's title says what debug says of it, and the name of its opcode.
 
@@ -163,15 +165,33 @@ pub fn arguments(alloc: Global, words: &[&str]) -> Result<Settings, LineFault>
 
 /// The command lines of the program, as clap has them.
 fn program<'a>(alloc: Global) -> Result<Command<'a>, AllocError> {
-    let debug = Command::new(alloc, "debug")
+    Command::new(alloc, "ga144")
+        .about("Simulates the GreenArrays GA144, with a debugger that takes steps back")
+        .subcommand(debug_line(alloc)?)?
+        .subcommand(explore_line(alloc)?)?
+        .subcommand(race_line(alloc)?)?
+        .subcommand(source_line(alloc))?
+        .subcommand(list_line(alloc))?
+        .subcommand(image_line(alloc))?
+        .subcommand(draw_line(alloc)?)
+}
+
+fn debug_line<'a>(alloc: Global) -> Result<Command<'a>, AllocError> {
+    Command::new(alloc, "debug")
         .about("Load an image, step its nodes, and take any step back with all that depends on it")
         .after_help(COMMANDS)
-        .arg(limit_option(alloc))?;
-    let explorer = Command::new(alloc, "explore")
+        .arg(limit_option(alloc))
+}
+
+fn explore_line<'a>(alloc: Global) -> Result<Command<'a>, AllocError> {
+    Command::new(alloc, "explore")
         .about("Debug, and make events up to a condition")
         .after_help(EXPLORING)
-        .arg(limit_option(alloc))?;
-    let race = Command::new(alloc, "race")
+        .arg(limit_option(alloc))
+}
+
+fn race_line<'a>(alloc: Global) -> Result<Command<'a>, AllocError> {
+    Command::new(alloc, "race")
         .about("Let workers step the nodes at the same time")
         .after_help(RACES)
         .arg(number_option(alloc, "workers", "How many workers there are, 1 to 16").required(true))?
@@ -181,17 +201,29 @@ fn program<'a>(alloc: Global) -> Result<Command<'a>, AllocError> {
             "How many calls each worker makes, 1 to 100000",
         )
         .required(true))?
-        .arg(limit_option(alloc))?;
-    let assembler = Command::new(alloc, "asm")
+        .arg(limit_option(alloc))
+}
+
+fn source_line<'a>(alloc: Global) -> Command<'a> {
+    Command::new(alloc, "asm")
         .about("Read source up to its end or to a line 'end', and write the image of its chip")
-        .after_help(NOTATION);
-    let list = Command::new(alloc, "list")
+        .after_help(NOTATION)
+}
+
+fn list_line<'a>(alloc: Global) -> Command<'a> {
+    Command::new(alloc, "list")
         .about("Read source, and write each cell's address, word, opcodes and source line")
-        .after_help(NOTATION);
-    let disassembler = Command::new(alloc, "dis").about(
+        .after_help(NOTATION)
+}
+
+fn image_line<'a>(alloc: Global) -> Command<'a> {
+    Command::new(alloc, "dis").about(
         "Read an image, and write source of the same memories, A, B and P",
-    );
-    let draw = Command::new(alloc, "draw")
+    )
+}
+
+fn draw_line<'a>(alloc: Global) -> Result<Command<'a>, AllocError> {
+    Command::new(alloc, "draw")
         .about("Carry out a session's commands, and draw the events that are kept then")
         .after_help(PICTURES)
         .arg(step_option(
@@ -212,16 +244,7 @@ fn program<'a>(alloc: Global) -> Result<Command<'a>, AllocError> {
         .value_name("P"))?
         .arg(number_option(alloc, "to", "Draw up to the Pth kept event, counted from 1").value_name(
             "P",
-        ))?;
-    Command::new(alloc, "ga144")
-        .about("Simulates the GreenArrays GA144, with a debugger that takes steps back")
-        .subcommand(debug)?
-        .subcommand(explorer)?
-        .subcommand(race)?
-        .subcommand(assembler)?
-        .subcommand(list)?
-        .subcommand(disassembler)?
-        .subcommand(draw)
+        ))
 }
 
 fn limit_option<'a>(alloc: Global) -> Arg<'a> {

@@ -1,17 +1,12 @@
 -- A session whose answers are dropped (docs/REFERENCE.md, "Pictures"; this project's own).
-use Rattle.std.specs.Prelude.{◌≡◌, ℕ, ◌-◌, ◌⊎◌, List, [], ◌++◌, length, take, codes, Result, Ok, Err}
-use Rattle.ga_node.specs.Record.{NodeState}
-use Rattle.ga_grid.specs.Chip.{records_of}
-use Rattle.ga_image.specs.Lines.{Bytes, Text, Line, lines_of}
-use Rattle.ga_image.specs.Grammar.{IsImage}
-use Rattle.ga_image.specs.declared.fault.ImageFault.{ImageFault}
-use Rattle.ga_lab.specs.Machine.{State, first}
+use Rattle.std.specs.Prelude.{◌≡◌, ℕ, ◌-◌, ◌⊎◌, [], ◌++◌, length, take, codes, Result, Ok, Err}
+use Rattle.ga_image.specs.Lines.{Bytes, Text, Line}
+use Rattle.ga_lab.specs.Machine.{State}
 use Rattle.ga_lab.specs.declared.fault.LabFault.{LabFault}
 use Rattle.ga_lab.specs.declared.fault.LabFault.TheVariants.{Memory}
-use Rattle.ga_console.specs.Image.{HasNoEnd}
 use Rattle.ga_console.specs.Input.{input_limit}
 use Rattle.ga_console.specs.Output.{Begins}
-use Rattle.ga_console.specs.Run.{IsImagePart, Refused, Refuses, status_of}
+use Rattle.ga_console.specs.Run.{status_of}
 use Rattle.ga_console.specs.Session.{Serves, Written}
 use Rattle.ga_console.specs.Texts.{refusal_text}
 use Rattle.ga_console.specs.Turns.{Answering}
@@ -20,6 +15,7 @@ use Rattle.ga_console.specs.declared.output.WriteFailed.{WriteFailed}
 use Rattle.ga_console.specs.declared.run.Status.{Status}
 use Rattle.ga_console.specs.declared.run.Status.TheVariants.{Done, ImageRefused, StreamFault, NotFinished}
 use Rattle.ga_exploring.specs.Answers.{Explores}
+use Rattle.ga_exploring.specs.Opening.{Opens, IsFront, Unbegun}
 
 -- the answer tells that memory was wanting: to a command, or to an event of a run
 abbrev pub IsShort : Text → Type 0
@@ -33,17 +29,17 @@ Hears s line said new = (said ≡ []) × (answer : Text) × Explores s line answ
 abbrev pub Follows : State → Line → Text → State → Type 0
 Follows s line said new = (said ≡ []) × (answer : Text) × Explores s line answer new × (¬ IsShort answer)
 
--- The image was accepted, and the lines behind it were followed to this machine and this ending.
-pub record Followed (A : Answering State) (limit : ℕ) (read rest : Bytes) (text : Text) (last : State) (ending : Result Ending WriteFailed) : Type 0 where
-  pub image : Text
+-- The text, an image or source, was accepted, and the lines behind it were followed to this machine and this ending.
+pub record Followed (A : Answering State) (limit : ℕ) (read rest : Bytes) (written : Text) (last : State) (ending : Result Ending WriteFailed) : Type 0 where
+  pub text : Text
   pub commands : Bytes
-  pub chip : List NodeState
+  pub machine : State
   pub said : Text
-  pub splits : read ≡ image ++ commands
-  pub part : IsImagePart image commands rest
-  pub accepted : IsImage (lines_of image) chip
-  pub serves : Serves A (input_limit - length image) (first (records_of chip) limit) commands rest said last ending
-  pub written : Written ending said text
+  pub splits : read ≡ text ++ commands
+  pub front : IsFront text (commands ++ rest)
+  pub opens : Opens text limit machine
+  pub serves : Serves A (input_limit - length text) machine commands rest said last ending
+  pub out : Written ending said written
 
 -- a refusal was written whole, or that failed
 abbrev pub Declines : LabFault → Text → Status → Type 0
@@ -52,11 +48,10 @@ Declines fault text ImageRefused = text ≡ refusal_text fault
 Declines fault text StreamFault = Begins (refusal_text fault) text
 Declines fault text NotFinished = ⊥
 
--- Why no machine was reached: a read failed in the image; the image was refused; in the commands a read failed, or they went past
--- the bound of the input; or memory was wanting for one of them.
+-- Why no machine was reached: no session began; in the commands a read failed, or they went past the bound of the input; or
+-- memory was wanting for one of them.
 pub data Unreached (limit : ℕ) (read rest : Bytes) (text : Text) (status : Status) : Type 0 where
-  unread : text ≡ [] → HasNoEnd read → status ≡ StreamFault → Unreached limit read rest text status
-  refused : (fault : ImageFault) → Refused read rest fault → Refuses fault text status → Unreached limit read rest text status
+  unbegun : Unbegun read rest text status → Unreached limit read rest text status
   broken : (last : State) → (ending : Result Ending WriteFailed) → status_of ending ≡ StreamFault → status ≡ StreamFault
       → Followed Hears limit read rest text last ending → Unreached limit read rest text status
   short : (last : State) → (ending : Result Ending WriteFailed) → status_of ending ≡ Done → Followed Hears limit read rest [] last ending

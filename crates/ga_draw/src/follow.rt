@@ -2,36 +2,27 @@
 ghost use Rattle.std.specs.Prelude.{◌≡◌, ◌-◌, ◌++◌, ℕ, List, Some};
 ghost use Rattle.ga_console.specs.Input.{IsWithin, input_limit};
 ghost use Rattle.ga_draw.specs.Following.{Reaches, Declines};
-ghost use Rattle.ga_draw.specs.kept.Following.{Goes, GoesOn, Ends};
+ghost use Rattle.ga_draw.specs.kept.Following.{Goes, Ends};
 
 use super::silent::Silent;
-use ga_console::{
-    ImageEnd, Input, Output, Responder, Status, open_image, read_image, refusal, refuse, serve,
-    status_of, write_all,
-};
-use ga_exploring::Explorer;
-use ga_image::{ImageCause, ImageFault};
+use ga_console::{Input, Output, Responder, Status, refusal, serve, status_of, write_all};
+use ga_exploring::{Explorer, begin};
 use ga_lab::LabFault;
 use std::alloc::Global;
 use std::io::{Read, Write};
 
-/// The fault of an image for which memory was wanting.
-const NO_MEMORY: ImageFault = ImageFault {
-    line: 0,
-    cause: ImageCause::Memory,
-};
-
-/// Reads an image and then commands, as a session of exploring does, and carries them out without an answer, up to `quit` or the
-/// end of the input. Gives what stands then. Where that is not reached, it writes why, and gives the status: a refused image gets
-/// its refusal, and so does want of memory for a command; where a read fails, or the commands go past the input's bound, there
-/// is nothing to go on with.
+/// Reads an image or source and then commands, as a session of exploring does, and carries them out without an answer, up to `quit`
+/// or the end of the input. Gives what stands then. Where that is not reached, it writes why, and gives the status: a refused image
+/// gets its refusal, and so does want of memory for a command; of a fault in source `errors` is told; where a read fails, or the
+/// commands go past the input's bound, there is nothing to go on with.
 ///
 /// # Errors
 /// The status of a session that ends so.
-pub fn follow_session<R: Read, W: Write>(
+pub fn follow_session<R: Read, W: Write, E: Write>(
     alloc: Global,
     reader: &mut R,
     writer: &mut W,
+    errors: &mut E,
     limit: u32,
 ) -> Result<Explorer, Status>
     ensures { (left before : List ℕ) →
@@ -40,37 +31,9 @@ pub fn follow_session<R: Read, W: Write>(
         × (W.contents writer.new ≡ Some (before ++ text)) × Reaches limit read rest text result }
 {
     let mut input = Input::new();
-    let mut image = Vec::new(alloc);
-    match read_image(&mut input, reader, &mut image) {
-        Err(_) => Err(refuse(writer, NO_MEMORY)),
-        Ok(ImageEnd::Failed) => Err(Status::StreamFault),
-        // No image that is accepted is so long.
-        Ok(ImageEnd::Past) => after_image(alloc, &mut input, reader, writer, image, limit),
-        Ok(ImageEnd::Ended) => after_image(alloc, &mut input, reader, writer, image, limit),
-        Ok(ImageEnd::EndLine) => after_image(alloc, &mut input, reader, writer, image, limit),
-    }
-}
-
-/// Follows the commands after an accepted image, or refuses it.
-fn after_image<R: Read, W: Write>(
-    alloc: Global,
-    input: &mut Input,
-    reader: &mut R,
-    writer: &mut W,
-    image: Vec<u8>,
-    limit: u32,
-) -> Result<Explorer, Status>
-    requires { IsWithin input.old }
-    ensures { (left before : List ℕ) →
-        R.remaining reader.old ≡ Some left → W.contents writer.old ≡ Some before →
-        (read rest text : List ℕ)
-        × (input.old.bytes ++ left ≡ read ++ rest) × (R.remaining reader.new ≡ Some rest)
-        × (W.contents writer.new ≡ Some (before ++ text))
-        × GoesOn limit image.items input.old.taken input.old.bytes read rest text result }
-{
-    match open_image(alloc, image, limit) {
-        Ok(lab) => follow(alloc, input, reader, writer, Explorer::open(lab)),
-        Err(fault) => Err(refuse(writer, fault)),
+    match begin(alloc, &mut input, reader, writer, errors, limit) {
+        Ok(lab) => follow(alloc, &mut input, reader, writer, Explorer::open(lab)),
+        Err(status) => Err(status),
     }
 }
 

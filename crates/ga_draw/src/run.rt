@@ -9,13 +9,15 @@ use ga_lab::Lab;
 use std::alloc::Global;
 use std::io::{Read, Write};
 
-/// Reads an image and then commands, as a session of exploring does, and carries them out without an answer. At the end of the
-/// input, or at `quit`, it writes a picture of the kept events. A refused image gets its refusal, and so does a view of a step
-/// that doesn't stand, and want of memory for the picture or for a command. At most `limit` events are kept.
-pub fn draw_session<R: Read, W: Write>(
+/// Reads an image or source and then commands, as a session of exploring does, and carries them out without an answer. At the end
+/// of the input, or at `quit`, it writes a picture of the kept events. A refused image gets its refusal, and so does a view of a
+/// step that doesn't stand, and want of memory for the picture or for a command. Of a fault in source `errors` is told. At most
+/// `limit` events are kept.
+pub fn draw_session<R: Read, W: Write, E: Write>(
     alloc: Global,
     reader: &mut R,
     writer: &mut W,
+    errors: &mut E,
     view: View,
     limit: u32,
 ) -> Status
@@ -25,7 +27,7 @@ pub fn draw_session<R: Read, W: Write>(
         (read rest text : List ℕ) × (left ≡ read ++ rest) × (R.remaining reader.new ≡ Some rest)
         × (W.contents writer.new ≡ Some (before ++ text)) × Draws limit view read rest text result }
 {
-    match follow_session(alloc, reader, writer, limit) {
+    match follow_session(alloc, reader, writer, errors, limit) {
         Ok(explorer) => write_picture(writer, explorer.lab(), view),
         Err(status) => status,
     }

@@ -7,3 +7,7 @@ pub mod Saying
 pub mod Answering
 pub mod WaitingLines
 pub mod Saving
+pub mod Fronts
+pub mod Writing
+pub mod Around
+pub mod Names

@@ -17,8 +17,10 @@ use Rattle.ga_exploring.specs.Reading.{request_in}
 use Rattle.ga_exploring.specs.Texts.{run_text, effects_answer, words_text, chip_text, help_text}
 use Rattle.ga_exploring.specs.Waiting.{who_text}
 use Rattle.ga_exploring.specs.Saved.{saved_text}
+use Rattle.ga_exploring.specs.Writing.{writes_text}
+use Rattle.ga_exploring.specs.Around.{around_text}
 use Rattle.ga_exploring.specs.declared.request.Request.{Request}
-use Rattle.ga_exploring.specs.declared.request.Request.TheVariants.{Run, Effects, Words, Who, Chip, Save, Help}
+use Rattle.ga_exploring.specs.declared.request.Request.TheVariants.{Run, Effects, Words, Writes, At, Who, Chip, Save, Help}
 
 -- Events were made in the order of the schedule, at most so many, up to the first after which the condition holds: the text says
 -- how many and why no more, and the machine is the one after them.
@@ -49,6 +51,8 @@ abbrev pub Explored : State → Request → List ℕ → State → Type 0
 Explored s (Run schedule most until) answer new = IsRun s schedule most until answer new
 Explored s (Effects node step) answer new = TellsEffects s node step answer × (new ≡ s)
 Explored s (Words from to) answer new = (answer ≡ words_text s from to) × (new ≡ s)
+Explored s (Writes node address) answer new = (answer ≡ writes_text s node address) × (new ≡ s)
+Explored s (At node step around) answer new = (answer ≡ around_text s node step around) × (new ≡ s)
 Explored s Who answer new = TellsWho s answer × (new ≡ s)
 Explored s Chip answer new = (answer ≡ chip_text s) × (new ≡ s)
 Explored s Save answer new = (answer ≡ saved_text s) × (new ≡ s)

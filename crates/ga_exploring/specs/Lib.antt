@@ -1,6 +1,11 @@
 pub mod Reading
 pub mod Texts
+pub mod Deeds
+pub mod Writing
+pub mod Around
 pub mod Waiting
 pub mod Saved
 pub mod Answers
+pub mod Opening
+pub mod Session
 pub mod kept

@@ -1,6 +1,6 @@
 -- The commands of exploring, and how a line is read as one: words with one space between two of them (docs/REFERENCE.md,
 -- "Exploring"; this project's own). Nodes and numbers are spelled as in the debugger's commands.
-use Rattle.std.specs.Prelude.{ℕ, ◌+◌, ◌*◌, ◌^◌, nat_eq, nat_lt, if◌then◌else◌, List, [], ◌∷◌, codes, Option, Some, None, option_map}
+use Rattle.std.specs.Prelude.{ℕ, ◌+◌, ◌*◌, ◌^◌, nat_eq, nat_lt, nat_le, if◌then◌else◌, List, [], ◌∷◌, codes, Option, Some, None, option_map}
 use Rattle.std.specs.Cmp.Lexicographic.{pointwise}
 use Rattle.ga_grid.specs.declared.node_id.NodeId.{NodeId}
 use Rattle.ga_image.specs.Steps.{◌>>=◌}
@@ -10,7 +10,7 @@ use Rattle.ga_explore.specs.declared.schedule.Schedule.{Schedule}
 use Rattle.ga_explore.specs.declared.condition.Condition.{Condition}
 use Rattle.ga_explore.specs.declared.condition.Condition.TheVariants.{Never, Passes, PassesNumber, Steps, Stops, StopsAt, WaitsAt, Holds, ComesTo}
 use Rattle.ga_exploring.specs.declared.request.Request.{Request}
-use Rattle.ga_exploring.specs.declared.request.Request.TheVariants.{Run, Effects, Words, Who, Chip, Save, Help}
+use Rattle.ga_exploring.specs.declared.request.Request.TheVariants.{Run, Effects, Words, Writes, At, Who, Chip, Save, Help}
 
 -- how many events are made at most where no number is given
 abbrev pub most_events : ℕ
@@ -158,7 +158,7 @@ run_by (Some parts) text = named_order parts.0 parts.1 text
 abbrev pub run_in : List ℕ → Option Request
 run_in text = run_by (cut text) text
 
--- ---- `effects` and `words`
+-- ---- `effects`, `words`, `writes` and `at`
 
 -- `NNN K`
 unfoldable pub effects_in : List ℕ → Option Request
@@ -175,6 +175,42 @@ words_in text = do
   from ← node_in parts.0
   to ← node_in parts.1
   Some (Words from to)
+
+-- `NNN HH`
+unfoldable pub writes_in : List ℕ → Option Request
+writes_in text = do
+  parts ← cut text
+  node ← node_in parts.0
+  address ← byte_in parts.1
+  Some (Writes node address)
+
+-- how many steps `at` tells before and behind one where no number is given, and how many at most
+abbrev pub few_steps : ℕ
+few_steps = 3
+
+abbrev pub most_steps : ℕ
+most_steps = 99
+
+abbrev pub steps_around : NodeId → ℕ → ℕ → Option Request
+steps_around node step around = if nat_le around most_steps then Some (At node step around) else None
+
+-- `K` or `K N` behind a node
+abbrev pub around_cut : NodeId → Option (List ℕ × List ℕ) → List ℕ → Option Request
+around_cut node None text = option_map (λ step. At node step few_steps) (number_in text)
+around_cut node (Some parts) text = do
+  step ← number_in parts.0
+  around ← number_in parts.1
+  steps_around node step around
+
+abbrev pub around_in : NodeId → List ℕ → Option Request
+around_in node text = around_cut node (cut text) text
+
+-- `NNN K` or `NNN K N`
+unfoldable pub at_in : List ℕ → Option Request
+at_in text = do
+  parts ← cut text
+  node ← node_in parts.0
+  around_in node parts.1
 
 -- ---- a line
 
@@ -194,6 +230,8 @@ named_request name text =
     if pointwise nat_eq name (codes "run") then run_in text
     else if pointwise nat_eq name (codes "effects") then effects_in text
     else if pointwise nat_eq name (codes "words") then words_in text
+    else if pointwise nat_eq name (codes "writes") then writes_in text
+    else if pointwise nat_eq name (codes "at") then at_in text
     else None
 
 abbrev pub request_by : Option (List ℕ × List ℕ) → List ℕ → Option Request

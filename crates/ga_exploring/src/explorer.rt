@@ -1,11 +1,11 @@
-//! The session of exploring.
+//! What answers the lines of a session of exploring.
 
-ghost use Rattle.std.specs.Prelude.{◌≡◌, ◌++◌, ◌≤◌, ℕ, List, length, Some, None, IfSome, IfNone};
+ghost use Rattle.std.specs.Prelude.{◌≡◌, ◌≤◌, length, Some, None, IfSome, IfNone};
 ghost use Rattle.ga_console.specs.kept.Output.{Says};
-ghost use Rattle.ga_console.specs.Run.{RunsBy};
 ghost use Rattle.ga_exploring.specs.Reading.{request_in};
-ghost use Rattle.ga_exploring.specs.Answers.{Explores, Explored};
+ghost use Rattle.ga_exploring.specs.Answers.{Explored};
 
+use crate::at_text::say_around;
 use crate::chip_text::glance;
 use crate::effects_text::say_effects;
 use crate::help::help;
@@ -14,12 +14,13 @@ use crate::run_text::ran_text;
 use crate::saved_text::say_saved;
 use crate::who_text::say_who;
 use crate::words_text::say_words;
-use ga_console::{Command, Line, Output, Responder, Status, Turn, WriteFailed, session_with};
+use crate::writes_text::say_writes;
+use ga_console::{Command, Line, Output, Responder, Turn, WriteFailed};
 use ga_explore::run;
 use ga_image::LINE_LIMIT;
 use ga_lab::Lab;
 use std::alloc::Global;
-use std::io::{Read, Write};
+use std::io::Write;
 use std::marker::Model;
 
 /// A lab that is explored.
@@ -120,26 +121,11 @@ fn explored<W: Write>(
         }
         Request::Effects { node, step } => say_effects(lab, node, step, output, writer),
         Request::Words { from, to } => say_words(lab, from, to, output, writer),
+        Request::Writes { node, address } => say_writes(lab, node, address, output, writer),
+        Request::At { node, step, around } => say_around(lab, node, step, around, output, writer),
         Request::Who => say_who(lab, output, writer),
         Request::Chip => output.say_blocks(writer, glance(lab).as_slice()),
         Request::Save => say_saved(lab, output, writer),
         Request::Help => output.say_blocks(writer, help()),
     }
-}
-
-/// Reads an image and then commands, and answers them as `ga_console::session` does. It knows the debugger's commands, and those
-/// of exploring besides.
-pub fn explore<R: Read, W: Write>(
-    alloc: Global,
-    reader: &mut R,
-    writer: &mut W,
-    limit: u32,
-) -> Status
-    // Where the streams tell their bytes: what was read, and what was written for it by the status.
-    ensures { (left before : List ℕ) →
-        R.remaining reader.old ≡ Some left → W.contents writer.old ≡ Some before →
-        (read rest text : List ℕ) × (left ≡ read ++ rest) × (R.remaining reader.new ≡ Some rest)
-        × (W.contents writer.new ≡ Some (before ++ text)) × RunsBy Explores (λ s. s) limit read rest text result }
-{
-    session_with::<Explorer, R, W>(alloc, reader, writer, limit)
 }

@@ -1,18 +1,26 @@
 //! A session that explores: the commands of the debugger, events made up to a condition, and what a person asks of a lab besides.
 #![tactic(auto)]
 
+mod at_text;
+mod beginning;
 mod chip_text;
 mod condition_request;
+mod deed_text;
 mod effects_text;
 mod explorer;
 mod help;
 pub mod laws;
+mod opening;
 mod request;
 mod run_request;
 mod run_text;
 mod saved_text;
+mod session;
 mod who_text;
 mod words_text;
+mod writes_text;
 
-pub use explorer::{Explorer, explore};
+pub use beginning::begin;
+pub use explorer::Explorer;
 pub use request::Request;
+pub use session::explore;

@@ -1,15 +1,20 @@
 //! The commands of exploring, as lines spell them.
 
 ghost use Rattle.std.specs.Prelude.{◌≡◌};
-ghost use Rattle.ga_exploring.specs.Reading.{request_in, lone_request, named_request, effects_in, words_in};
+ghost use Rattle.ga_exploring.specs.Reading.{request_in, lone_request, named_request, effects_in, words_in, writes_in, at_in, around_in};
 
 use crate::run_request::run_of;
-use ga_console::{cut, node_of, number_of};
+use ga_console::{byte_of, cut, node_of, number_of};
 use ga_explore::{Condition, Schedule};
 use ga_grid::NodeId;
 
 /// How many events are made at most where no number is given.
 pub(crate) const MOST_EVENTS: u32 = u32::MAX;
+
+/// How many steps `at` tells before and behind one where no number is given, and how many at most.
+const FEW_STEPS: u32 = 3;
+
+const MOST_STEPS: u32 = 99;
 
 /// A command of exploring.
 #[derive(Clone, Copy, PartialEq, Eq, Debug)]
@@ -29,6 +34,17 @@ pub enum Request {
     Words {
         from: NodeId,
         to: NodeId,
+    },
+    /// `writes`: tells the steps of a node that wrote at an address of its memory.
+    Writes {
+        node: NodeId,
+        address: u8,
+    },
+    /// `at`: tells the steps of a node up to so many before and behind one, each with registers behind it.
+    At {
+        node: NodeId,
+        step: u32,
+        around: u32,
     },
     /// `who`: tells who waits for whom, and which nodes can never go on.
     Who,
@@ -80,6 +96,10 @@ fn named_request(name: &[u8], arguments: &[u8]) -> Option<Request>
         effects_of(arguments)
     } else if name == b"words".as_slice() {
         words_of(arguments)
+    } else if name == b"writes".as_slice() {
+        writes_of(arguments)
+    } else if name == b"at".as_slice() {
+        at_of(arguments)
     } else {
         None
     }
@@ -107,4 +127,47 @@ fn words_of(text: &[u8]) -> Option<Request>
         from: node_of(from)?,
         to: node_of(to)?,
     })
+}
+
+/// `NNN HH`
+#[tactic(auto, unfolding(crate::specs::Reading::writes_in))]
+fn writes_of(text: &[u8]) -> Option<Request>
+    ensures { result ≡ writes_in text.now }
+{
+    let (node, address) = cut(text)?;
+    Some(Request::Writes {
+        node: node_of(node)?,
+        address: byte_of(address)?,
+    })
+}
+
+/// `NNN K` or `NNN K N`
+#[tactic(auto, unfolding(crate::specs::Reading::at_in))]
+fn at_of(text: &[u8]) -> Option<Request>
+    ensures { result ≡ at_in text.now }
+{
+    let (node, rest) = cut(text)?;
+    around_of(node_of(node)?, rest)
+}
+
+/// `K` or `K N` behind a node
+fn around_of(node: NodeId, text: &[u8]) -> Option<Request>
+    ensures { result ≡ around_in node text.now }
+{
+    match cut(text) {
+        Some((step, around)) => {
+            let step = number_of(step)?;
+            let around = number_of(around)?;
+            if around <= MOST_STEPS {
+                Some(Request::At { node, step, around })
+            } else {
+                None
+            }
+        }
+        None => Some(Request::At {
+            node,
+            step: number_of(text)?,
+            around: FEW_STEPS,
+        }),
+    }
 }

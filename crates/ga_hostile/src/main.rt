@@ -1,9 +1,9 @@
 //! Runs in which one growth is refused. Standard input names a run and which of its growths is to be refused, from 1 on, as
 //! `lab 7`, or none by `lab 0`. The run asks again at once for what was refused, and one line says how it came out.
 //!
-//! The refusal comes from outside: the process's growth 1000 has to fail (`rt try --fail-alloc 1000`), and the growths before
-//! the run are made so many that this is the run's. A run is over only where the refused growth is still ahead, so a growth
-//! that is added later, and one whose refusal nobody tells, changes a line.
+//! The refusal comes from outside: the process's growth 1000 has to fail (`.ci/growths` sees to it, or `rt try --fail-alloc 1000`),
+//! and the growths before the run are made so many that this is the run's. A run is over only where the refused growth is still
+//! ahead, so a growth that is added later, and one whose refusal nobody tells, changes a line.
 #![tactic(auto)]
 
 mod causes;
@@ -88,6 +88,7 @@ fn run_of<R: Threads + Wait + Sync>(rt: &R, alloc: Global, run: &str) -> Outcome
         "session-looks" => sessions::session_with_looks(alloc),
         "session-fetches" => sessions::session_with_fetches(alloc),
         "session-format-2" => sessions::session_of_second_format(alloc),
+        "explore" => sessions::exploring(alloc),
         "draw" => pictures::picture(alloc),
         "shared" => shared::calls_repeated(rt, alloc),
         "shared-broken-off" => shared::calls_broken_off(rt, alloc),

@@ -50,7 +50,17 @@ fn drawn(alloc: Global) -> (Status, Sheet) {
         from: 0,
         to: u32::MAX,
     };
-    let status = draw_session(alloc, &mut session, &mut sheet, view, 1_000_000);
+    let mut errors = Sheet {
+        text: ArrayVec::new(),
+    };
+    let status = draw_session(
+        alloc,
+        &mut session,
+        &mut sheet,
+        &mut errors,
+        view,
+        1_000_000,
+    );
     (status, sheet)
 }
 

@@ -5,20 +5,46 @@ ghost use Rattle.std.specs.Prelude.{◌≤◌, length};
 use crate::images::{SENDER_AND_FETCHER, SENDER_AND_LOOKER};
 use crate::labs::LIMIT;
 use crate::outcome::Outcome;
-use crate::turns::{FETCHES, LISTS, LOOKS, READINGS, STEPS, TRANSFER, TRANSFERRED, Turns};
+use crate::turns::{
+    EXPLORED, Explored, FETCHES, LISTS, LOOKS, READINGS, STEPS, TRANSFER, TRANSFERRED, Turns,
+};
 use arrayvec::ArrayVec;
 use ga_console::{Status, session};
+use ga_exploring::explore;
 use ga_given::{SENDER_AND_TAKER, WAITING};
 use std::alloc::Global;
 use std::cell::Cell;
 use std::io::{Read, Result, Write};
+
+/// What is asked, one after another.
+#[derive(Clone, Copy)]
+enum Script {
+    Turns(Turns),
+    Explored(&'static [Explored]),
+}
+
+impl Script {
+    /// The command at a place, where there is one.
+    fn line(self, place: usize) -> Option<&'static str> {
+        match self {
+            Script::Turns(turns) => {
+                let (asks, _, _) = turns.at(place)?;
+                Some(*asks)
+            }
+            Script::Explored(list) => {
+                let asked = list.get(place)?;
+                Some(asked.asks)
+            }
+        }
+    }
+}
 
 /// Gives an image and then commands, one at a read. Where the last answer was a refusal for want of memory it gives `count`,
 /// and then the refused command again.
 #[derive(Drop)]
 struct Asking<'a> {
     image: &'static [u8],
-    turns: Turns,
+    script: Script,
     next: usize,
     is_refused: &'a Cell<bool>,
 }
@@ -36,7 +62,7 @@ impl<'a> Read for Asking<'a> {
             self.next = self.next.saturating_sub(1);
             return Ok(line_into(buf, "count"));
         }
-        let Some((asks, _, _)) = self.turns.at(self.next) else {
+        let Some(asks) = self.script.line(self.next) else {
             return Ok(0);
         };
         self.next = self.next.saturating_add(1);
@@ -70,7 +96,7 @@ impl<'a> Write for Kept<'a> {
         if self.text.try_extend_from_slice(buf).is_err() {
             return Ok(0);
         }
-        self.is_refused.set(buf.ends_with(b"no 4 memory\n"));
+        self.is_refused.set(buf.ends_with(b"no 4 memory\n") || buf.starts_with(b"memory "));
         Ok(buf.len())
     }
 
@@ -124,6 +150,64 @@ pub fn session_of_second_format(alloc: Global) -> Outcome {
     talked(alloc, WAITING.as_bytes(), turns)
 }
 
+/// A run up to a wait, who waits, a run up to a word that is counted, the words, what a rollback would take, and the session saved.
+pub fn exploring(alloc: Global) -> Outcome {
+    exploring_with(alloc, &Cell::new(false))
+}
+
+/// The same, with the note that its reader and its writer share.
+fn exploring_with(alloc: Global, is_refused: &Cell<bool>) -> Outcome {
+    let mut reader = Asking {
+        image: SENDER_AND_TAKER,
+        script: Script::Explored(&EXPLORED),
+        next: 0,
+        is_refused,
+    };
+    let mut writer = Kept {
+        text: ArrayVec::new(),
+        is_refused,
+    };
+    let mut errors = Vec::new(alloc);
+    let status = explore(alloc, &mut reader, &mut writer, &mut errors, LIMIT);
+    match answers_in(status, writer.text.as_slice()) {
+        Ok(answers) => explored(answers),
+        Err(outcome) => outcome,
+    }
+}
+
+/// The answer of each command of exploring, of which at most one was refused at first.
+fn explored(text: &[u8]) -> Outcome {
+    let mut rest = text;
+    let mut outcome = Outcome::Answered;
+    for asked in &EXPLORED {
+        match rest.strip_prefix(asked.answer.as_bytes()) {
+            Some(after) => rest = after,
+            None => {
+                let Some((number, after)) = after_refusal(asked, rest) else {
+                    return Outcome::Wrong(asked.asks);
+                };
+                outcome = outcome.and(Outcome::RefusedAt(asked.asks, number));
+                rest = after;
+            }
+        }
+    }
+    if rest.is_empty() {
+        outcome
+    } else {
+        Outcome::Wrong("more was written")
+    }
+}
+
+/// How many events the refused command had made, and what stands behind its answer when it was asked again.
+fn after_refusal<'a>(asked: &Explored, text: &'a [u8]) -> Option<(usize, &'a [u8])> {
+    for (made, refused) in asked.refusals {
+        if let Some(after) = text.strip_prefix(refused.as_bytes()) {
+            return Some((*made, after));
+        }
+    }
+    None
+}
+
 /// A session on an image.
 fn talked(alloc: Global, image: &'static [u8], turns: Turns) -> Outcome {
     talked_with(alloc, image, turns, &Cell::new(false))
@@ -138,7 +222,7 @@ fn talked_with(
 ) -> Outcome {
     let mut reader = Asking {
         image,
-        turns,
+        script: Script::Turns(turns),
         next: 0,
         is_refused,
     };
@@ -152,15 +236,26 @@ fn talked_with(
 
 /// What was written: the one refusal of the image, or the turns behind `ready`.
 fn judged(turns: Turns, status: Status, text: &[u8]) -> Outcome {
+    match answers_in(status, text) {
+        Ok(answers) => answered(turns, answers),
+        Err(outcome) => outcome,
+    }
+}
+
+/// What was written behind `ready`.
+///
+/// # Errors
+/// The image was refused for want of memory, or not for that alone.
+fn answers_in(status: Status, text: &[u8]) -> std::result::Result<&[u8], Outcome> {
     if status == Status::ImageRefused && text == b"no 19 memory line 0\n".as_slice() {
-        return Outcome::Refused("image");
+        return Err(Outcome::Refused("image"));
     }
     if status != Status::Done {
-        return Outcome::Wrong("another status");
+        return Err(Outcome::Wrong("another status"));
     }
     match text.strip_prefix(b"ready\n") {
-        Some(answers) => answered(turns, answers),
-        None => Outcome::Wrong("not ready"),
+        Some(answers) => Ok(answers),
+        None => Err(Outcome::Wrong("not ready")),
     }
 }
 

@@ -124,6 +124,75 @@ pub(crate) static TRANSFERRED: [Turn; 8] = [
     ("count", None, "kept 0 made 2 limit 1000000\n"),
 ];
 
+/// A command of exploring, its answer, and for each number of events that it may have made where memory is refused what is written
+/// then: the refusal, the answer of `count`, and the answer when it is asked again.
+pub(crate) struct Explored {
+    pub asks: &'static str,
+    pub answer: &'static str,
+    pub refusals: &'static [(usize, &'static str)],
+}
+
+/// What the sender and the taker make, and what is asked of it. Node 000 takes memory at its first and at its fifth event, node 001
+/// at its first and at its fifth, which is the pass.
+pub(crate) static EXPLORED: [Explored; 7] = [
+    Explored {
+        asks: "run greedy until wait 000",
+        answer: "reached 7 000 7 wait\n",
+        refusals: &[
+            (
+                0,
+                "memory 0\nkept 0 made 0 limit 1000000\nreached 7 000 7 wait\n",
+            ),
+            (
+                4,
+                "memory 4\nkept 4 made 4 limit 1000000\nreached 3 000 7 wait\n",
+            ),
+        ],
+    },
+    Explored {
+        asks: "who",
+        answer: "000 writes r 001 runs\n",
+        refusals: &[],
+    },
+    Explored {
+        asks: "run greedy until pass 000 001 1",
+        answer: "reached 5 pass 000 8 001 5 00002a\n",
+        refusals: &[
+            (
+                0,
+                "memory 0\nkept 7 made 7 limit 1000000\nreached 5 pass 000 8 001 5 00002a\n",
+            ),
+            (
+                4,
+                "memory 4\nkept 11 made 11 limit 1000000\nreached 1 pass 000 8 001 5 00002a\n",
+            ),
+        ],
+    },
+    Explored {
+        asks: "words 000 001",
+        answer: "words 000 001 1\n1 000 8 001 5 00002a\n",
+        refusals: &[],
+    },
+    Explored {
+        asks: "effects 000 1",
+        answer: "effects 8 2\n000 1 8\n001 5 1\n",
+        refusals: &[(
+            0,
+            "no 4 memory\nkept 12 made 12 limit 1000000\neffects 8 2\n000 1 8\n001 5 1\n",
+        )],
+    },
+    Explored {
+        asks: "save",
+        answer: "step 000\nstep 000\nstep 000\nstep 000\nstep 000\nstep 000\nstep 000\nstep 001\nstep 001\nstep 001\nstep 001\nstep 000\n",
+        refusals: &[],
+    },
+    Explored {
+        asks: "count",
+        answer: "kept 12 made 12 limit 1000000\n",
+        refusals: &[],
+    },
+];
+
 /// Steps, and what is asked behind them.
 #[derive(Clone, Copy)]
 pub(crate) struct Turns {

@@ -1,1 +1,2 @@
 pub mod Mades
+pub mod Tellings

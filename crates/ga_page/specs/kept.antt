@@ -1,2 +1,4 @@
+pub mod Ended
 pub mod Made
+pub mod Makers
 pub mod Shaded

@@ -1,23 +1,49 @@
-//! A whole session as one call: the bytes of an image and its commands in, the answers out.
+//! A whole session of exploring as one call: the bytes of an image and its commands in, the answers out.
 
-ghost use Rattle.std.specs.Prelude.{◌≡◌, ◌++◌, ℕ, List, length, take};
-ghost use Rattle.ga_console.specs.Run.{Runs};
+ghost use Rattle.std.specs.Prelude.{◌≡◌, ◌++◌, ◌∷◌, ℕ, List, [], length, take};
 ghost use Rattle.ga_console.specs.declared.run.Status.{Status as Ended};
+ghost use Rattle.ga_exploring.specs.Session.{Runs};
+ghost use Rattle.ga_page.specs.kept.Ended.{number_of};
 
 use crate::buffer::put_front;
-use ga_console::session;
+use ga_console::Status;
+use ga_exploring::explore;
 use std::alloc::Global;
 
-/// Answers a session that is given whole, as far as there is room for the answers, and says how many bytes they have.
+/// Answers a session that is given whole, as far as there is room for the answers, and says how many bytes they have. How it ended
+/// stands at the front of `ended`, where that has room, as the program's exit status tells it: 2 where memory was wanting for the
+/// answers, so that they end before the session does.
 #[unsafe(no_mangle)]
-pub extern "C" fn ga_session(alloc: Global, input: &[u8], output: &mut [u8], limit: u32) -> usize
-    ensures { (read rest text : List ℕ) × (status : Ended) × (input.now ≡ read ++ rest) × Runs limit read rest text status
-        × (result ≡ length text) × (take result output.new ≡ take (length output.old) text) }
+pub extern "C" fn ga_session(
+    alloc: Global,
+    input: &[u8],
+    output: &mut [u8],
+    ended: &mut [u8],
+    limit: u32,
+) -> usize
+    ensures { (read rest text : List ℕ) × (status : Ended) × (input.now ≡ read ++ rest)
+        × Runs limit read rest text status
+        × (result ≡ length text) × (take result output.new ≡ take (length output.old) text)
+        × (take 1 ended.new ≡ take (length ended.old) (number_of status ∷ [])) }
 {
     let mut reader = input;
     let mut answers = Vec::new(alloc);
-    let _status = session(alloc, &mut reader, &mut answers, limit);
+    let mut errors = Vec::new(alloc);
+    let status = explore(alloc, &mut reader, &mut answers, &mut errors, limit);
     let text = answers.as_slice();
     put_front(output, text);
+    put_front(ended, &[number(status)]);
     text.len()
+}
+
+/// The exit status of a session that ended so.
+fn number(status: Status) -> u8
+    ensures { result ≡ number_of status }
+{
+    match status {
+        Status::Done => 0,
+        Status::ImageRefused => 1,
+        Status::StreamFault => 2,
+        Status::NotFinished => 4,
+    }
 }

@@ -64,7 +64,15 @@ impl Write for Short {
 fn three_events(rt: HostRuntime) -> std::result::Result<(), Fail> {
     let mut reader = INPUT;
     let mut output = Vec::new(rt.alloc());
-    let status = draw_session(rt.alloc(), &mut reader, &mut output, view(2), 9);
+    let mut errors = Vec::new(rt.alloc());
+    let status = draw_session(
+        rt.alloc(),
+        &mut reader,
+        &mut output,
+        &mut errors,
+        view(2),
+        9,
+    );
     assert_eq!(rt; status, Status::Done);
     assert!(rt;
         output.as_slice().starts_with(
@@ -92,7 +100,15 @@ fn drawn(
         from: 0,
         to: u32::MAX,
     };
-    let status = draw_session(rt.alloc(), &mut reader, &mut output, view, limit);
+    let mut errors = Vec::new(rt.alloc());
+    let status = draw_session(
+        rt.alloc(),
+        &mut reader,
+        &mut output,
+        &mut errors,
+        view,
+        limit,
+    );
     Ok((status, output))
 }
 
@@ -139,7 +155,15 @@ fn a_read_fails(rt: HostRuntime) -> std::result::Result<(), Fail> {
     for left in inputs {
         let mut reader = Broken { left };
         let mut output = Vec::new(rt.alloc());
-        let status = draw_session(rt.alloc(), &mut reader, &mut output, view(1), 9);
+        let mut errors = Vec::new(rt.alloc());
+        let status = draw_session(
+            rt.alloc(),
+            &mut reader,
+            &mut output,
+            &mut errors,
+            view(1),
+            9,
+        );
         assert_eq!(rt; status, Status::StreamFault, "after {} bytes", left.len());
         assert_eq!(rt; output.len(), 0);
     }
@@ -150,7 +174,15 @@ fn a_read_fails(rt: HostRuntime) -> std::result::Result<(), Fail> {
 fn no_such_step(rt: HostRuntime) -> std::result::Result<(), Fail> {
     let mut reader = INPUT;
     let mut output = Vec::new(rt.alloc());
-    let status = draw_session(rt.alloc(), &mut reader, &mut output, view(3), 9);
+    let mut errors = Vec::new(rt.alloc());
+    let status = draw_session(
+        rt.alloc(),
+        &mut reader,
+        &mut output,
+        &mut errors,
+        view(3),
+        9,
+    );
     assert_eq!(rt; status, Status::ImageRefused);
     assert_eq!(rt; output.as_slice(), b"no 6 nostep\n".as_slice());
     Ok(())
@@ -160,9 +192,39 @@ fn no_such_step(rt: HostRuntime) -> std::result::Result<(), Fail> {
 fn a_refused_image(rt: HostRuntime) -> std::result::Result<(), Fail> {
     let mut reader = b"ga144 1\nnode 000\nx\nend\nstep 000\n".as_slice();
     let mut output = Vec::new(rt.alloc());
-    let status = draw_session(rt.alloc(), &mut reader, &mut output, view(1), 9);
+    let mut errors = Vec::new(rt.alloc());
+    let status = draw_session(
+        rt.alloc(),
+        &mut reader,
+        &mut output,
+        &mut errors,
+        view(1),
+        9,
+    );
     assert_eq!(rt; status, Status::ImageRefused);
     assert_eq!(rt; output.as_slice(), b"no 12 line line 3\n".as_slice());
+    Ok(())
+}
+
+#[test]
+fn source_with_a_fault(rt: HostRuntime) -> std::result::Result<(), Fail> {
+    let mut reader = b"node 000\nfoo\nend\nstep 000\n".as_slice();
+    let mut output = Vec::new(rt.alloc());
+    let mut errors = Vec::new(rt.alloc());
+    let status = draw_session(
+        rt.alloc(),
+        &mut reader,
+        &mut output,
+        &mut errors,
+        view(1),
+        9,
+    );
+    assert_eq!(rt; status, Status::ImageRefused);
+    assert_eq!(rt; output.len(), 0);
+    assert_eq!(rt;
+        errors.as_slice(),
+        b"ga144: line 2: what is foo\n".as_slice()
+    );
     Ok(())
 }
 
@@ -171,7 +233,15 @@ fn a_write_fails(rt: HostRuntime) -> std::result::Result<(), Fail> {
     for room in [0, 1, 1000] {
         let mut reader = INPUT;
         let mut writer = Short { room };
-        let status = draw_session(rt.alloc(), &mut reader, &mut writer, view(1), 9);
+        let mut errors = Vec::new(rt.alloc());
+        let status = draw_session(
+            rt.alloc(),
+            &mut reader,
+            &mut writer,
+            &mut errors,
+            view(1),
+            9,
+        );
         assert_eq!(rt; status, Status::StreamFault, "after {room} bytes");
     }
     Ok(())

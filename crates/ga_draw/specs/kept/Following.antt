@@ -1,11 +1,9 @@
 -- What private contracts, invariants and bridges cite.
-use Rattle.std.specs.Prelude.{◌≡◌, ℕ, ◌-◌, ◌⊎◌, Bool, false, List, [], Result, Ok, Err}
+use Rattle.std.specs.Prelude.{◌≡◌, ℕ, ◌⊎◌, Bool, false, [], Result, Ok, Err}
 use Rattle.ga_image.specs.Lines.{Bytes, Text, Line}
-use Rattle.ga_image.specs.declared.fault.ImageFault.{ImageFault}
 use Rattle.ga_lab.specs.Machine.{State}
 use Rattle.ga_lab.specs.declared.fault.LabFault.TheVariants.{Memory}
-use Rattle.ga_console.specs.Input.{input_limit}
-use Rattle.ga_console.specs.Run.{Refuses, Opens, IsFault, status_of}
+use Rattle.ga_console.specs.Run.{status_of}
 use Rattle.ga_console.specs.Session.{Serves, Written}
 use Rattle.ga_console.specs.declared.commands.Ending.{Ending}
 use Rattle.ga_console.specs.declared.output.WriteFailed.{WriteFailed}
@@ -29,13 +27,6 @@ Goes room s read rest text (Ok last) =
 Goes room s read rest text (Err status) = (last : State) × (ending : Result Ending WriteFailed)
     × (((status_of ending ≡ StreamFault) × (status ≡ StreamFault) × (said : Text) × Serves Hears room s read rest said last ending × Written ending said text)
     ⊎ ((status_of ending ≡ Done) × Serves Hears room s read rest [] last ending × Declines Memory text status))
-
--- What may come after the image was read, of which so many bytes were taken: ahead is what was read with it. Where it is refused,
--- no more is read.
-abbrev pub GoesOn : ℕ → Text → ℕ → Bytes → Bytes → Bytes → Text → Result State Status → Type 0
-GoesOn limit image taken ahead read rest text result =
-    ((machine : State) × Opens image limit machine × Goes (input_limit - taken) machine read rest text result)
-    ⊎ ((fault : ImageFault) × IsFault image fault × (status : Status) × (result ≡ Err status) × Refuses fault text status × (read ≡ ahead))
 
 -- What comes of a machine that was reached.
 abbrev pub Ends : State → Bool → Text → Result State Status → Type 0

@@ -1,6 +1,6 @@
 use Rattle.std.proofs.Common.{◌∙◌}
 use Rattle.ga_exploring.specs.Texts.{run_text, chip_text, help_text}
-use Rattle.ga_exploring.proofs.Done.{run_done, effects_done, words_done, who_done, save_done, chip_done, help_done}
+use Rattle.ga_exploring.proofs.Done.{run_done, effects_done, words_done, writes_done, at_done, who_done, save_done, chip_done, help_done}
 use Rattle.ga_exploring.proofs.Told.{told_as}
 use Rattle.ga_exploring.proofs.explorer.explored.Goals as goal
 
@@ -23,6 +23,16 @@ pub returns-in-Words : goal.returns-in-Words
 returns-in-Words g c = λ before said h.
     let done = c.say_words.ensures before said h in
     (done.0, words_done c.args.lab.now c.args.asked c.in-Words.from c.in-Words.to done.0 c.in-Words.is done.1, done.2)
+
+pub returns-in-Writes : goal.returns-in-Writes
+returns-in-Writes g c = λ before said h.
+    let done = c.say_writes.ensures before said h in
+    (done.0, writes_done c.args.lab.now c.args.asked c.in-Writes.node c.in-Writes.address done.0 c.in-Writes.is done.1, done.2)
+
+pub returns-in-At : goal.returns-in-At
+returns-in-At g c = λ before said h.
+    let done = c.say_around.ensures before said h in
+    (done.0, at_done c.args.lab.now c.args.asked c.in-At.node c.in-At.step c.in-At.around done.0 c.in-At.is done.1, done.2)
 
 pub returns-in-Who : goal.returns-in-Who
 returns-in-Who g c = λ before said h.

@@ -1,0 +1,60 @@
+-- What a session of exploring begins on: an image, or source (docs/REFERENCE.md, "Exploring"; this project's own).
+use Rattle.std.specs.Prelude.{◌≡◌, ℕ, ◌⊎◌, Bool, true, false, List, [], ◌++◌, length, take, codes, bytes_eq, Result, Ok, Err}
+use Rattle.ga_node.specs.Record.{NodeState}
+use Rattle.ga_grid.specs.Chip.{records_of}
+use Rattle.ga_image.specs.Lines.{Bytes, Text}
+use Rattle.ga_image.specs.Fault.{no_memory}
+use Rattle.ga_image.specs.declared.fault.ImageFault.{ImageFault}
+use Rattle.ga_source.specs.declared.item.Program.{Program}
+use Rattle.ga_source.specs.Programs.{IsAssembled}
+use Rattle.ga_lab.specs.Machine.{State, first}
+use Rattle.ga_console.specs.Input.{Unread}
+use Rattle.ga_console.specs.Image.{EndsAtEnd, HasNoEnd}
+use Rattle.ga_console.specs.Run.{Opens as OpensImage, IsReadAlone, Faulty, Refuses}
+use Rattle.ga_console.specs.declared.run.Status.{Status}
+use Rattle.ga_console.specs.declared.run.Status.TheVariants.{ImageRefused, StreamFault}
+
+-- the text is an image, and not source
+abbrev pub begins_as_image : Text → Bool
+begins_as_image text = bytes_eq (take 5 text) (codes "ga144")
+
+-- the machine has the chip of some programs as its load
+abbrev pub OpensSource : ℕ → State → Type 0
+OpensSource limit machine =
+    (chip : List NodeState) × (programs : List Program) × IsAssembled chip programs × (machine ≡ first (records_of chip) limit)
+
+-- the machine has the text's chip as its load
+abbrev pub Opens : Text → ℕ → State → Type 0
+Opens text limit machine = ((begins_as_image text ≡ true) × OpensImage text limit machine)
+    ⊎ ((begins_as_image text ≡ false) × OpensSource limit machine)
+
+-- The text goes up to its first line `end`; or no such line was read, and nothing is left behind it.
+abbrev pub IsFront : Text → Bytes → Type 0
+IsFront text behind = EndsAtEnd text ⊎ ((behind ≡ []) × HasNoEnd text)
+
+-- The image was refused with its first fault, and nothing was read behind it; or memory was wanting before.
+abbrev pub IsRefusedImage : Bytes → Bytes → ImageFault → Type 0
+IsRefusedImage read rest fault =
+    (fault ≡ no_memory) ⊎ ((faulty : Faulty read rest fault) × (begins_as_image faulty.image ≡ true))
+
+-- Source was read, and nothing behind it.
+pub record IsSourceAlone (read rest : Bytes) : Type 0 where
+  pub source : Text
+  pub ahead : Bytes
+  pub splits : read ≡ source ++ ahead
+  pub part : IsReadAlone source ahead rest
+  pub is_source : begins_as_image source ≡ false
+
+-- Why no session begins, what is written then, and the status: read was read of the input, and rest is left of it.
+pub data Unbegun (read rest : Bytes) (written : Text) (status : Status) : Type 0 where
+  image_refused : (fault : ImageFault) → IsRefusedImage read rest fault → Refuses fault written status → Unbegun read rest written status
+  -- standard error tells why
+  source_refused : IsSourceAlone read rest → written ≡ [] → status ≡ ImageRefused → Unbegun read rest written status
+  -- a read failed in the image or source
+  unread : HasNoEnd read → written ≡ [] → status ≡ StreamFault → Unbegun read rest written status
+
+-- A text was taken of what was left to read, and a machine opened on it; or no session begins.
+abbrev pub IsBegun : ℕ → Bytes → Unread → Bytes → Text → Result State Status → Type 0
+IsBegun limit left input rest written (Ok machine) = (written ≡ []) × (text : Text) × (left ≡ text ++ (input.bytes ++ rest))
+    × (input.taken ≡ length text) × IsFront text (input.bytes ++ rest) × Opens text limit machine
+IsBegun limit left input rest written (Err status) = (read : Bytes) × (left ≡ read ++ rest) × Unbegun read rest written status

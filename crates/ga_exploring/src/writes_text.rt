@@ -1,0 +1,84 @@
+//! The steps that wrote a cell, told line by line.
+
+ghost use Rattle.std.specs.Prelude.{◌≡◌, ◌<◌, ◌++◌, ℕ, List};
+ghost use Rattle.ga_event.specs.Told.{steps_of};
+ghost use Rattle.ga_console.specs.Output.{IsSaid, IsSaidOrCut};
+ghost use Rattle.ga_console.specs.kept.Output.{Says};
+ghost use Rattle.ga_exploring.specs.Writing.{written_text, cell_writes, writes_text};
+
+use crate::deed_text::push_deed;
+use arrayvec::ArrayVec;
+use ga_console::{Output, Text, WriteFailed, push_spaced, push_step, push_text};
+use ga_grid::NodeId;
+use ga_lab::Lab;
+use ga_whence::{Written, back_over};
+use std::io::Write;
+
+/// `writes NNN HH`: tells the steps of a node that wrote at an address of its memory, the newest first. Takes no memory.
+///
+/// # Errors
+/// A write failed.
+pub(crate) fn say_writes<W: Write>(
+    lab: &Lab,
+    node: NodeId,
+    address: u8,
+    output: &mut Output,
+    writer: &mut W,
+) -> Result<(), WriteFailed>
+    ensures { Says result (λ text. text ≡ writes_text lab.now node address)
+        (W.contents writer.old) output.old (W.contents writer.new) output.new }
+{
+    if address < 128 {
+        say_cell(lab, node, address % 64, output, writer)
+    } else {
+        Ok(())
+    }
+}
+
+/// Says the steps that wrote a cell of RAM.
+fn say_cell<W: Write>(
+    lab: &Lab,
+    node: NodeId,
+    cell: u8,
+    output: &mut Output,
+    writer: &mut W,
+) -> Result<(), WriteFailed>
+    requires { cell < 64 }
+    ensures { Says result (λ text. text ≡ cell_writes lab.now node cell (steps_of node.number lab.now.kept))
+        (W.contents writer.old) output.old (W.contents writer.new) output.new }
+{
+    let mut walk = lab.walk(node, lab.steps(node));
+    'going: while walk.step() > 0 {
+        let written = back_over(lab, &mut walk, node, cell);
+        say_written(node, written, output, writer)?;
+    }
+    Ok(())
+}
+
+/// Says a step, where it wrote.
+fn say_written<W: Write>(
+    node: NodeId,
+    written: Option<Written>,
+    output: &mut Output,
+    writer: &mut W,
+) -> Result<(), WriteFailed>
+    ensures { (before said : List ℕ) → IsSaid (W.contents writer.old) before said output.old →
+        IsSaidOrCut result (W.contents writer.new) before (said ++ written_text node written) output.new }
+{
+    output.say_blocks(writer, written_line(node, written).as_slice())
+}
+
+/// A step that wrote: its number, the opcode's name, and the word.
+fn written_line(node: NodeId, written: Option<Written>) -> Text
+    ensures { result.items ≡ written_text node written }
+{
+    let mut out = ArrayVec::new();
+    if let Some(Written { step, made, word }) = written {
+        push_step(&mut out, node, step);
+        push_text(&mut out, b" ");
+        push_deed(&mut out, made, node);
+        push_spaced(&mut out, word);
+        push_text(&mut out, b"\n");
+    }
+    out
+}

@@ -1,0 +1,75 @@
+//! Which nodes made the events that a session keeps, as one call.
+
+ghost use Rattle.std.specs.Prelude.{◌≡◌, ◌++◌, ◌⊎◌, ℕ, List, Ok, IfSome, length, map, take};
+ghost use Rattle.ga_lab.specs.Machine.{State};
+ghost use Rattle.ga_draw.specs.Following.{Reaches};
+ghost use Rattle.ga_page.specs.kept.Makers.{maker_of, makers_of};
+
+use crate::buffer::put_front;
+use ga_draw::follow_session;
+use ga_event::{Cause, Event};
+use ga_lab::Lab;
+use std::alloc::Global;
+
+/// Carries a session out that is given whole, and tells of each event that is kept at its end, in their order, the number of the
+/// node whose step makes it, of a pass that of the writer: a byte each, as far as there is room. Says how many they are; 0 where
+/// there are none, or the end isn't reached: the image or source is refused, the input is too long, or memory is refused.
+#[unsafe(no_mangle)]
+pub extern "C" fn ga_kept(alloc: Global, input: &[u8], output: &mut [u8], limit: u32) -> usize
+    ensures { (result ≡ 0) ⊎ ((read rest text : List ℕ) × (last : State) × (input.now ≡ read ++ rest)
+        × Reaches limit read rest text (Ok last) × (nodes : List ℕ) × (nodes ≡ makers_of last)
+        × (result ≡ length nodes) × (take result output.new ≡ take (length output.old) nodes)) }
+{
+    let mut reader = input;
+    let mut refusal = Vec::new(alloc);
+    let mut errors = Vec::new(alloc);
+    match follow_session(alloc, &mut reader, &mut refusal, &mut errors, limit) {
+        Ok(explorer) => tell(alloc, explorer.lab(), output),
+        Err(_) => 0,
+    }
+}
+
+/// Tells the nodes that made a lab's kept events.
+fn tell(alloc: Global, lab: &Lab, output: &mut [u8]) -> usize
+    ensures { (result ≡ 0) ⊎ ((nodes : List ℕ) × (nodes ≡ makers_of lab.now)
+        × (result ≡ length nodes) × (take result output.new ≡ take (length output.old) nodes)) }
+{
+    match makers(alloc, lab) {
+        Some(nodes) => {
+            let numbers = nodes.as_slice();
+            put_front(output, numbers);
+            numbers.len()
+        }
+        None => 0,
+    }
+}
+
+/// The nodes that made a lab's kept events.
+fn makers(alloc: Global, lab: &Lab) -> Option<Vec<u8>>
+    ensures { IfSome result (λ nodes. nodes.items ≡ makers_of lab.now) }
+{
+    match lab.causes() {
+        Ok(causes) => numbers(alloc, causes.as_slice()),
+        Err(_) => None,
+    }
+}
+
+/// The node of each event.
+fn numbers(alloc: Global, causes: &[Cause]) -> Option<Vec<u8>>
+    ensures { IfSome result (λ nodes. nodes.items ≡ map maker_of causes.now) }
+{
+    match causes.iter().map(|cause| maker(*cause)).collect(alloc) {
+        Ok(nodes) => Some(nodes),
+        Err(_) => None,
+    }
+}
+
+/// The node whose step makes an event.
+fn maker(cause: Cause) -> u8
+    ensures { result ≡ maker_of cause }
+{
+    match cause.event {
+        Event::Own(node) => node.number,
+        Event::Pass { writer, .. } => writer.number,
+    }
+}
