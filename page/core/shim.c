@@ -1,16 +1,18 @@
-// What the page calls. `room` gives a buffer for the input, a question answers it, `answer` is where the answer is, and `told`
-// what the assembler says. A question says how many bytes it answered, -1 where there is no memory for them.
+// What the page calls. `room` gives a buffer for the input, a question answers it, `answer` is where the answer is,
+// `ended` how a session ended, and `told` what the assembler says. A question says how many bytes it answered, -1 where there is no
+// memory for them.
 typedef unsigned long Size;
 typedef unsigned char Byte;
 Byte *heap_alloc(Size, Size);
 void heap_free(Byte *);
-Size ga_session(const Byte *, Size, Byte *, Size, unsigned);
+Size ga_session(const Byte *, Size, Byte *, Size, Byte *, Size, unsigned);
+Size ga_kept(const Byte *, Size, Byte *, Size, unsigned);
 Size ga_assemble(const Byte *, Size, Byte *, Size, Byte *, Size);
 Size ga_list(const Byte *, Size, Byte *, Size);
 Size ga_shades(const Byte *, Size, const Byte *, Size, unsigned, Byte *, Size);
 #define PAGE(name) __attribute__((export_name(#name)))
 
-static Byte *input, *output, faults[4096];
+static Byte *input, *output, faults[4096], end;
 static Size input_room, output_room;
 
 static Byte *at_least(Byte **buffer, Size *room, Size count) {
@@ -25,6 +27,8 @@ static Byte *at_least(Byte **buffer, Size *room, Size count) {
 // Null where there is no memory.
 PAGE(room) Byte *room(Size count) { return at_least(&input, &input_room, count); }
 PAGE(answer) Byte *answer(void) { return output; }
+// How the session ended, as an exit status.
+PAGE(ended) unsigned ended(void) { return end; }
 // Up to its first 0.
 PAGE(told) Byte *told(void) { return faults; }
 
@@ -36,7 +40,8 @@ PAGE(told) Byte *told(void) { return faults; }
     if (!at_least(&output, &output_room, made)) return -1; \
     return call;
 
-PAGE(run) Size run(Size count, unsigned limit) { ANSWER(ga_session(input, count, output, output_room, limit)) }
+PAGE(run) Size run(Size count, unsigned limit) { ANSWER(ga_session(input, count, output, output_room, &end, 1, limit)) }
+PAGE(kept) Size kept(Size count, unsigned limit) { ANSWER(ga_kept(input, count, output, output_room, limit)) }
 PAGE(assemble) Size assemble(Size count) {
     __builtin_memset(faults, 0, sizeof faults);
     ANSWER(ga_assemble(input, count, output, output_room, faults, sizeof faults - 1))

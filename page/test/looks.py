@@ -13,7 +13,7 @@ const now = () => performance.now(), out = {{}};
 let t;
 const time = (name, act) => {{ t = now(); const it = act(); out[name] = Math.round(10 * (now() - t)) / 10; return it; }};
 page.open({json.dumps(text)});
-time("go", () => page.go({count}));
+time("run", () => page.command("run {'greedy ' if title == 'one node' else ''}{count}"));
 time("step", () => page.command("step 000"));
 const step = page.session.events[{count} / 2].ends[0];
 time("marks", () => page.session.marks(step));
@@ -41,10 +41,10 @@ def shots(browser, folder):
     for name, width, height in (("wide", 1280, 720), ("phone", 390, 1600)):
         browser.call("Emulation.setDeviceMetricsOverride", width=width, height=height, deviceScaleFactor=1, mobile=name == "phone")
         for theme in ("dark", "light"):
-            browser.run(f"document.documentElement.dataset.theme = '{theme}'; find('examples').value = 'fault.f18'; find('examples').onchange(); page.choose(['000', 7]);")
+            browser.run(f"document.documentElement.dataset.theme = '{theme}'; find('examples').value = 'fault.f18'; find('examples').onchange(); page.choose(['000', 7]); page.effects();")
             browser.shot(f"{folder}/{name}-{theme}.png")
     browser.call("Emulation.setDeviceMetricsOverride", width=1280, height=720, deviceScaleFactor=1, mobile=False)
-    browser.run("find('examples').value = 'pipeline.f18'; find('examples').onchange(); page.go(700); page.choose(page.session.events[500].ends[0]);")
+    browser.run("find('examples').value = 'pipeline.f18'; find('examples').onchange(); page.command('run until stop'); page.choose(page.session.events[500].ends[0]);")
     browser.shot(f"{folder}/pipeline.png")
     browser.run("find('examples').value = 'look_again'; find('examples').onchange(); page.choose(page.session.events[3].ends[0]);")
     browser.shot(f"{folder}/look.png")

@@ -1,12 +1,14 @@
 #!/usr/bin/env python3
 """Tests page/out/ga144.html in a headless browser: page.py [SHOTS], where SHOTS is a folder for pictures, and times are told then.
 
-1. examples/*, sessions/* and generated sessions, whose answers are known, and generated sources, whose image, faults and listing
+1. examples/*, sessions/*, those of exploring and generated sessions, whose answers are known, and generated sources, whose image, faults and listing
    the second reading in model/ tells: byte for byte, by the page's own calls.
 2. Clicks at random. What the page says will go has to be what goes, the chip of its preview the chip then, its causes those that
    `why` tells, and at the end the session that it keeps has to give its chip anew: in the page, and in the program where `rt ci`
    left one.
-3. Source lines as worked by hand, keys, the session in the address, a small heap: `no 4 memory`, and the session goes on.
+3. Runs in each order and up to a condition, who waits for whom, what a rollback would take and the words of a link, each as the
+   core answers it to its line.
+4. Source lines as worked by hand, keys, the session in the address, a small heap: `no 4 memory`, and the session goes on.
 """
 import json, os, random, subprocess, sys, tempfile, time
 
@@ -14,6 +16,7 @@ sys.dont_write_bytecode = True
 TOP = os.path.dirname(os.path.dirname(os.path.dirname(os.path.abspath(__file__))))
 sys.path.insert(0, f"{TOP}/model")
 from browser import Browser
+from exploring import orders, until_stop, whence
 from listing import listed
 from looks import commands, shots, times
 from source import asm
@@ -44,7 +47,7 @@ def ready(browser, address):
 
 def cases(room):
     subprocess.run([sys.executable, "-B", f"{TOP}/model/sessions.py", "--write", room, "0", str(SESSIONS)], check=True, stdout=subprocess.DEVNULL)
-    for folder in (f"{TOP}/examples", f"{TOP}/sessions", room):
+    for folder in (f"{TOP}/examples", f"{TOP}/sessions", f"{TOP}/sessions/explore", room):
         for name in sorted(os.listdir(folder)):
             if name.endswith(".stdout"):
                 with open(f"{folder}/{name}", "rb") as wanted, open(f"{folder}/{name[:-7]}", "rb") as asked:
@@ -61,6 +64,8 @@ const text = %s, whole = page.core.answer(text.replace(/^quit(\\n|$)/m, "\\0").s
 if (!page.open(text)) return "refused";
 const told = new Set();
 for (const n of NAMES) for (const line of page.session.ask(["trace " + n])[0].slice(1)) told.add(line);
+const kept = page.core.kept(page.session.image + page.session.commands, 1000000) || [];
+if (Array.from(kept, n => "step " + NAMES[n]).join() !== saved(page.session.events).join()) return "other events";
 return [whole.endsWith("\\n" + page.session.ask(["dump"])[0].join("\\n") + "\\n"), told.size === page.session.events.length && page.session.events.every(it => told.has(it.text))];
 """
 
@@ -98,12 +103,13 @@ page.choose(step);
 const stay = page.session.events.filter(e => marks[e.place] !== 2).map(e => e.text), goes = page.goes, others = %s;
 const asked = others.map(at => page.session.events[at].ends[0]), why = page.session.ask(asked.map(([n, k]) => `why ${n} ${k} ${step[0]} ${step[1]}`)).map(it => it[0].startsWith('chain '));
 const causes = others.every((at, i) => marks[at] === 2 ? at === it.place || !why[i] : (marks[at] === 1) === why[i]);
-const said = page.said, nodes = JSON.stringify(page.then), button = document.getElementById('take').textContent;
-if (!%s) return { goes, said, button, causes };
+const said = page.said, nodes = JSON.stringify(page.then), button = document.getElementById('take').textContent, [head, ...rows] = page.takes;
+const firsts = Object.fromEntries(rows.map(row => row.split(' ').slice(0, 2))), effects = head === `effects ${goes} ${rows.length}` && page.session.events.every(e => e.ends.every(([n, k]) => (k >= firsts[n]) === (marks[e.place] === 2)));
+if (!%s) return { goes, said, button, causes, effects };
 document.getElementById('take').click();
 const left = page.session.events.map(e => e.text), told = new Set();
 for (const n of NAMES) for (const line of page.session.ask(['trace ' + n])[0].slice(1)) told.add(line);
-return { goes, said, button, causes, same: JSON.stringify(stay) === JSON.stringify(left), told: told.size === new Set(left).size && left.every(e => told.has(e)),
+return { goes, said, button, causes, effects, same: JSON.stringify(stay) === JSON.stringify(left), told: told.size === new Set(left).size && left.every(e => told.has(e)),
     chip: JSON.stringify(page.seen.nodes) === nodes, logged: document.getElementById('log').textContent };
 """
 
@@ -113,6 +119,7 @@ def choose(browser, name, dice, events, take):
     said = browser.run(CHOOSE % (dice.randrange(events), dice.randrange(2), json.dumps(others), json.dumps(take)))
     check(said["said"].startswith(f"removed {said['goes']} kept ") and said["button"].endswith(f": {said['goes']} events"), f"{name}: {said}")
     check(said["causes"], f"{name}: other causes than why tells: {said}")
+    check(said["effects"], f"{name}: effects tells otherwise what goes: {said}")
     if take:
         check(said["same"] and said["told"] and said["chip"] and said["logged"].endswith(said["said"] + "\n"), f"{name}: taken back otherwise: {said}")
 
@@ -121,12 +128,14 @@ def clicks(browser, name, dice):
     browser.run(f"const it = document.getElementById('examples'); it.value = {json.dumps(name)}; it.onchange()")
     taken = 0
     for _ in range(CLICKS):
-        what = dice.choices(["step", "round", "go", "choose", "take", "back"], [5, 2, 3, 3, 4, 1])[0]
+        what = dice.choices(["step", "round", "run", "until", "choose", "take", "back"], [5, 2, 2, 1, 3, 4, 1])[0]
         events = browser.run("return page.session.events.length")
         if what == "step":
             browser.run(f"document.getElementById('n{dice.randrange(8)}{dice.randrange(18):02d}').click(); document.getElementById('step').click()")
-        elif what == "go":
-            browser.run(f"document.getElementById('most').value = {dice.randrange(1, 90)}; document.getElementById('go').click()")
+        elif what in ("run", "until"):
+            order, until = dice.choice(("rounds", "greedy", "random")), dice.choice(("stop", "wait 000", "p 001 000002", f"step 000 {dice.randrange(1, 60)}"))
+            browser.run(f"find('order').value = '{order}'; find('seed').value = '{dice.randrange(9)}'; find('most').value = {dice.randrange(1, 90)}; find('until').value = '{until}'; "
+                        + ("find('run').click()" if what == "run" else "page.run(`90 until ${find('until').value}`)"))
         elif what in ("round", "back"):
             browser.run(f"document.getElementById('{what}').click()")
         elif events:
@@ -134,12 +143,14 @@ def clicks(browser, name, dice):
             choose(browser, name, dice, events, what == "take")
         count = browser.run("return [page.session.events.length, page.seen.count, page.session.ask(NAMES.map(n => 'trace ' + n)).every(([it]) => (page.session.steps[it.split(' ')[1]] || 0) === +it.split(' ')[2])]")
         check(count[1].startswith(f"kept {count[0]} made ") and count[2], f"{name}: the page draws {count[0]}, the session says {count[1]}")
-    text, script, said, dump = browser.run("return [page.session.text, page.session.script, page.session.said, page.session.ask(['dump'])[0].join('\\n') + '\\n']")
-    check(browser.run(f"return page.core.answer({json.dumps(script + 'dump' + chr(10))}, 1000000)") == said + dump, f"{name}: its session gives another chip")
+    text, commands, script, said, dump = browser.run("return [page.session.text, page.session.image + page.session.commands, page.session.script, page.session.said, page.session.ask(['dump'])[0].join('\\n') + '\\n']")
+    check(browser.run(f"return page.core.answer({json.dumps(commands + 'dump' + chr(10))}, 1000000)") == said + dump, f"{name}: its session gives another chip")
     check(browser.run(f"page.open({json.dumps(text)}); return page.session.ask(['dump'])[0].join('\\n') + '\\n'") == dump, f"{name}: its text gives another chip")
+    check(browser.run(f"return page.core.answer({json.dumps(script + 'dump' + chr(10))}, 1000000)").endswith("\n" + dump), f"{name}: for debug it gives another chip")
     if os.path.exists(PROGRAM):
-        ran = subprocess.run([PROGRAM, "debug"], input=(script + "dump\n").encode(), capture_output=True)
-        check(ran.stdout.decode() == said + dump, f"{name}: the program answers its session otherwise")
+        for mode, asked in (("explore", commands), ("debug", script)):
+            ran = subprocess.run([PROGRAM, mode], input=(asked + "dump\n").encode(), capture_output=True).stdout.decode()
+            check(ran == said + dump if mode == "explore" else ran.endswith("\n" + dump), f"{name}: the program's {mode} answers its session otherwise")
     return taken
 
 
@@ -159,7 +170,7 @@ return [opened, find("log").textContent, box.value.slice(box.selectionStart, box
     check(said[:3] == [False, "> source\nga144: line 2: what is foo\n", ": main foo"] and said[3].startswith("node 000\n: main 3"), f"a refused source: {said}")
     # Eight steps a turn: a fetch and four opcodes of cell 0, a fetch and two opcodes of cell 1.
     said = browser.run("""
-page.open("node 000\\n: main dup dup dup dup drop main ;\\n"); page.go(400); page.choose(["000", 150]);
+page.open("node 000\\n: main dup dup dup dup drop main ;\\n"); page.command("run greedy 400"); page.choose(["000", 150]);
 return [...find("trace").children].map(it => [+it.textContent.split(" ")[2], it.querySelector(".source b").textContent]);""")
     check(len(said) == 120 and all(label == ("main" if (step - 1) % 8 < 5 else "main+1") for step, label in said), f"source lines of a loop: {said}")
     said = browser.run("page.open('ga144 1\\nnode 000\\np 000000\\nend\\nstep 000\\nquit\\nstep 000\\n'); return page.session.events.map(it => it.text)")
@@ -177,19 +188,19 @@ const pass = page.session.events.find(it => it.pass), [writer, reader] = pass.en
 press("Home"); const first = page.chosen; press("."); const second = page.chosen; press(","); const third = page.chosen; press("End"); press("Escape"); const none = page.chosen;
 page.choose(writer); press("p"); const across = page.chosen; count(); press("t"); count(); const kept = page.session.events.some(it => it.pass);
 press("ArrowRight"); const beside = page.selected; press("ArrowUp"); const above = page.selected;
-press("n"); find("most").value = 3; find("most").dispatchEvent(new KeyboardEvent("keydown", { key: "Enter", bubbles: true })); count();
+press("n"); find("most").value = 143; find("most").dispatchEvent(new KeyboardEvent("keydown", { key: "Enter", bubbles: true })); count();
 find("examples").focus(); const there = document.activeElement.id; find("examples").onchange(); const free = document.activeElement === document.body;
 const wide = page.picture.wide; press("+"); const near = page.picture.wide; press("0");
 return { counts, first, second, third, none, across, reader, beside, above, zoomed: near < wide, kept, there, free };""")
     counts = said.pop("counts")
-    check(counts[:3] == [1, 3, 2] and counts[4] < counts[3] and counts[5] == counts[4] + 3, f"keys: {counts}")
+    check(counts[:3] == [1, 3, 2] and counts[4] < counts[3] and counts[5] == counts[4] + 143, f"keys: {counts}")
     wanted = {"first": ["000", 1], "second": ["000", 2], "third": ["000", 1], "none": None, "across": said["reader"], "beside": "002", "above": "102", "zoomed": True, "kept": False, "there": "examples", "free": True}
     check({it: said[it] for it in wanted} == wanted, f"keys: {said}")
 
 
 def address(browser):
     for example, packed in (("transfer", False), ("pipeline.f18", True)):
-        browser.run(f"find('examples').value = '{example}'; find('examples').onchange(); find('link').click()")
+        browser.run(f"find('examples').value = '{example}'; find('examples').onchange(); page.session.obey(Array({250 * packed}).fill('back')); page.after(); find('link').click()")
         until = time.time() + 5
         while "the address holds" not in browser.run("return find('log').textContent") and time.time() < until:
             time.sleep(0.02)
@@ -211,11 +222,18 @@ def small_heap(browser):
     said = browser.run(f"""
 const small = new Page(new Core(Uint8Array.from(atob(find('module').textContent), it => it.charCodeAt(0)), 6 << 20));
 small.open({json.dumps(LOOP)});
-const made = small.go(400000), step = small.command('step 000'), count = small.session.ask(['count'])[0][0], back = small.command('back'), again = small.command('step 000'), node = small.session.ask(['node 000'])[0][0];
+const ran = small.command("run greedy 400000"), first = small.session.events.length;
+// Then by steps as far as there is memory for them.
+for (const batch of [5000, 500, 50, 1]) for (let at = 0; at < 100; at++) {{
+  const before = small.session.events.length;
+  small.session.step(Array(batch).fill("step 000"), small.session.questions("000"));
+  if (small.session.events.length < before + batch) break;
+}}
+const made = small.session.events.length, step = small.command('step 000'), count = small.session.ask(['count'])[0][0], back = small.command('back'), again = small.command('step 000'), node = small.session.ask(['node 000'])[0][0];
 const kept = small.session.events.length;
 page.open(JSON.parse(find('sessions').textContent).fault);
-return {{ made, step, count, back, again, node, kept, log: document.getElementById('log').textContent }};""")
-    check(said["step"] == ["no 4 memory"] and said["count"].startswith(f"kept {said['made']} "), f"a small heap: {said}")
+return {{ ran, first, made, step, count, back, again, node, kept, log: document.getElementById('log').textContent }};""")
+    check(said["ran"][-1] == "no 4 memory" and said["first"] > 1000 and said["step"] == ["no 4 memory"] and said["count"].startswith(f"kept {said['made']} "), f"a small heap: {said}")
     check(said["back"] == [f"removed 1 kept {said['made'] - 1}"] and said["node"].startswith("node 000 run "), f"a small heap, then: {said}")
     return said["made"]
 
@@ -224,7 +242,7 @@ return {{ made, step, count, back, again, node, kept, log: document.getElementBy
 def every_heap(browser):
     said = browser.run("""
 const source = "node 000\\n: main 3 dup +\\nnode 001\\n: main 4 dup + ;\\n", bytes = Uint8Array.from(atob(find("module").textContent), it => it.charCodeAt(0));
-const ask = (core, image) => [core.assemble(source), core.list(source), core.shades(image, [0, 1, 0, 0, 1], 2), core.answer(image + "step 000\\nnode 000\\n", 9)];
+const ask = (core, image) => [core.assemble(source), core.list(source), core.shades(image, [0, 1, 0, 0, 1], 2), core.answer(image + "step 000\\nnode 000\\n", 9), core.kept(image + "run 40\\n", 90)];
 const image = page.core.assemble(source).image, enough = ask(page.core, image).map(it => JSON.stringify(it)), core = new Core(bytes), counts = enough.map(() => [0, 0]), other = [];
 for (let size = 1 << 20; size < 1 << 22; size += 1 << 14) {
   core.heap = size;
@@ -247,6 +265,8 @@ def main():
         dice, taken = random.Random(7), 0
         for name in browser.run("return [...document.getElementById('examples').options].map(it => it.value)"):
             taken += clicks(browser, name, dice)
+        for tried in (until_stop, orders, whence):
+            tried(browser, check)
         source_lines(browser)
         keys(browser)
         address(browser)

@@ -5,6 +5,9 @@ const bytes_of = text => typeof text === "string" ? new TextEncoder().encode(tex
 // Source may have any bytes.
 function text_of(bytes) { try { return new TextDecoder("utf-8", { fatal: true, ignoreBOM: true }).decode(bytes); } catch { return Array.from(bytes, it => String.fromCharCode(it)).join(""); } }
 
+// How a session ended whose answers were not all written: there was no memory for them, or the input is too long.
+const CUT = 2;
+
 class Core {
   constructor(bytes, heap = 0) { this.module = new WebAssembly.Module(bytes); this.heap = heap; }
 
@@ -19,10 +22,18 @@ class Core {
     return { bytes: new Uint8Array(core.memory.buffer, Number(core.answer()), count), more: more(core) };
   }
 
-  // What a session of `ga144 debug` answers.
+  // What a session of `ga144 explore` answers. Null too where memory was wanting for the answers.
   answer(text, limit) {
-    const said = this.question(bytes_of(text), (core, count) => core.run(count, limit));
-    return said && text_of(said.bytes);
+    const said = this.question(bytes_of(text), (core, count) => core.run(count, limit), core => core.ended());
+    if (!said) return null;
+    const told = text_of(said.bytes);
+    return said.more !== CUT || told.endsWith("no 33 input\n") ? told : null;
+  }
+
+  // The nodes that made the events kept at a session's end, in their order. Null where there are none, or for want of memory.
+  kept(text, limit) {
+    const said = this.question(bytes_of(text), (core, count) => core.kept(count, limit));
+    return said && said.bytes.length ? said.bytes : null;
   }
 
   // The image of a source, empty where it is refused; and its fault, or its warnings.

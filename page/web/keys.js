@@ -36,15 +36,15 @@ function listen(page, examples) {
   const save = () => { const it = document.createElement("a"); it.href = URL.createObjectURL(new Blob([page.session.text])); it.download = "session"; it.click(); };
   const link = async () => { const it = await link_of(page.session.text); if (it) history.replaceState(null, "", it); page.say("link", [it ? "the address holds the session" : "too long for an address: save it"]); };
   const acts = {
-    s: () => page.command("step " + page.selected), r: () => page.round(), g: () => page.go(Math.max(1, +find("most").value || 1)), b: () => page.command("back"),
-    t: () => page.take(), Enter: () => page.take(), w: () => page.why(), Escape: () => { page.forget(); page.draw(); },
+    s: () => page.command("step " + page.selected), r: () => page.round(), m: () => page.run(find("most").value.trim()), u: () => find("until").focus(), v: () => page.next_order(), b: () => page.command("back"),
+    t: () => page.take(), Enter: () => page.take(), w: () => page.why(), h: () => page.command("who"), f: () => page.effects(), y: () => page.words(), q: () => page.whence(), Escape: () => { page.forget(); page.draw(); },
     ",": () => page.along(-1), ".": () => page.along(1), PageUp: () => page.along(-20), PageDown: () => page.along(20), Home: () => page.along(-1e9), End: () => page.along(1e9), p: () => page.across(),
     ArrowLeft: () => page.beside(-1, 0), ArrowRight: () => page.beside(1, 0), ArrowUp: () => page.beside(0, 1), ArrowDown: () => page.beside(0, -1),
     "+": look(() => page.picture.zoom(.6)), "-": look(() => page.picture.zoom(1.6)), "0": look(() => page.picture.fit()), "[": look(() => page.picture.move(-.4)), "]": look(() => page.picture.move(.4)),
     e: () => find("examples").focus(), a: () => find("idle").click(), n: () => find("most").focus(), "/": () => find("line").focus(), l: theme, "?": () => find("keys").showModal(),
     c: () => copy(page.session.text), d: () => copy(page.session.script), x: save, o: () => find("file").click(), "#": link, i: () => { find("session").open = true; find("text").focus(); },
   };
-  const buttons = { step: "s", round: "r", go: "g", back: "b", take: "t", theme: "l", help: "?", in: "+", out: "-", fit: "0", earlier: "[", later: "]", copy: "c", plain: "d", save: "x", load: "o", link: "#" };
+  const buttons = { step: "s", round: "r", run: "m", back: "b", who: "h", effects: "f", words: "y", whence: "q", take: "t", theme: "l", help: "?", in: "+", out: "-", fit: "0", earlier: "[", later: "]", copy: "c", plain: "d", save: "x", load: "o", link: "#" };
   for (const id in buttons) find(id).onclick = () => acts[buttons[id]]();
   document.onkeydown = event => {
     const typed = /INPUT|TEXTAREA|SELECT/.test(event.target.tagName) && event.target.type !== "checkbox";
@@ -55,8 +55,13 @@ function listen(page, examples) {
   };
   find("line").onkeydown = event => { if (event.key === "Enter") { page.command(find("line").value); find("line").value = ""; } };
   find("text").onkeydown = event => { if (event.key === "Enter" && event.ctrlKey) page.open(find("text").value); };
-  find("most").onkeydown = event => { if (event.key === "Enter") { find("most").blur(); acts.g(); } };
-  // (The keys are the page's again.)
+  // (Then the keys are the page's again.)
+  const entered = (id, act) => { find(id).onkeydown = event => { if (event.key === "Enter") { find(id).blur(); act(); } }; };
+  const until = () => page.until(find("until").value.trim() || "stop");
+  entered("most", acts.m); entered("seed", acts.m); entered("until", until);
+  find("reach").onclick = until;
+  find("order").onchange = () => { find("order").blur(); find("seed").hidden = find("order").value !== "random"; };
+  find("idle").onchange = () => { page.arrange(); page.draw(); };
   find("examples").onchange = () => { find("examples").blur(); choose_example(page, examples); };
   find("open").onclick = () => page.open(find("text").value);
   find("file").onchange = async () => page.open(await find("file").files[0].text());
@@ -70,11 +75,11 @@ function listen(page, examples) {
   listen_to_picture(page);
 }
 
-// Source runs until it is quiet, or for some events, so that there is something to see.
+// Source runs until a node stops, or for some events, so that there is something to see.
 function choose_example(page, examples) {
   const text = examples[find("examples").value];
   if (!is_source(text)) page.open(steps_of(text));
-  else if (page.open(text)) { page.session.rounds(page.stepping(), 100); page.after(); page.picture.begin(); page.draw_picture(); }
+  else if (page.open(text)) { page.session.obey(["run 300 until stop"]); page.after(); page.picture.begin(); page.draw_picture(); }
 }
 
 function listen_to_picture(page) {

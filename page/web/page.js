@@ -1,5 +1,11 @@
 // What the page shows, and what it does for a person.
-const STEPS = 120;
+const STEPS = 120, LONGEST_RUN = 100000;
+
+// What `effects` told, as a sentence.
+function told_effects([head, ...rows]) {
+  const [, events, nodes] = head.split(" "), firsts = rows.slice(0, 6).map(row => row.replace(/ \d+$/, "")).join(", ");
+  return head.startsWith("effects ") ? `${events} events of ${nodes} node${nodes === "1" ? "" : "s"} gone, from ${firsts}${rows.length > 6 ? " .." : ""}` : head;
+}
 
 class Page {
   constructor(core) { this.core = core; this.picture = new Picture(find("time")); this.selected = "000"; this.forget(); }
@@ -11,16 +17,23 @@ class Page {
     find("log").textContent = "";
     if (refused) return this.refuse(text, refused);
     this.session = session;
+    if (this.tells_whence === undefined) this.offer_whence();
     const end = commands.indexOf("quit"), lines = commands.slice(0, end < 0 ? commands.length : end).filter(it => KEEPS.test(it));
     if (session.told) this.say("source", session.told.split("\n"));
     if (lines.length) session.obey(lines);
     this.working = NAMES.filter(n => new RegExp(`^node ${n}$`, "m").test(session.image));
     this.selected = this.working[0] || "000";
-    this.seen = null; this.places = null;
-    this.picture.set(session.events, session.steps);
+    this.arrange();
     this.picture.begin();
-    this.forget(); this.draw();
+    this.draw();
     return true;
+  }
+
+  // `whence` is offered where the core knows it.
+  offer_whence() {
+    const [[told] = []] = this.session.ask(["whence 000 1"]) || [];
+    this.tells_whence = !!told && !told.startsWith("no 31 ");
+    find("whence").hidden = !this.tells_whence;
   }
 
   // Says why a text is refused, and shows its line.
@@ -49,39 +62,49 @@ class Page {
   // Gives one command as a person does.
   command(line) {
     if (!KEEPS.test(line)) {
-      const answer = (this.session.ask([line]) || [["no 4 memory"]])[0];
+      const answer = (this.session.ask([line]) || [[NO_MEMORY]])[0];
       this.say(line, answer);
       return answer;
     }
-    const { answers, more } = this.session.obey([line], Infinity, this.session.questions(this.selected));
+    const { answers, more } = STEPS_ALONE.test(line) ? this.session.step([line], this.session.questions(this.selected)) : { answers: this.session.obey([line]), more: null };
     this.say(line, answers[0]);
     this.after(more && this.session.seen(this.selected, more));
     return answers[0];
   }
 
   after(seen = null) {
-    this.forget();
-    this.seen = seen; this.places = null;
-    this.picture.set(this.session.events, this.session.steps);
+    this.arrange(seen);
     this.picture.show(this.picture.deepest);
     this.draw();
   }
 
-  stepping() { return find("idle").checked ? NAMES : NAMES.filter(n => this.working.includes(n) || this.session.steps[n]); }
-
-  go(most) {
-    const { made, why } = this.session.rounds(this.stepping(), most);
-    this.say(`${most} events in rounds`, [`made ${made}${why ? ", then " + why : ""}`]);
-    this.after();
-    return made;
+  arrange(seen = null) {
+    this.forget();
+    this.seen = seen; this.places = null;
+    this.drawn = NAMES.filter(n => find("idle").checked ? this.session.steps[n] : this.session.is_busy(n));
+    this.picture.set(this.session.events, this.drawn);
   }
 
-  // One round: each node at most one event.
+  // A run in the order that is chosen: of so many events, or up to a condition.
+  run(bound) {
+    const order = { rounds: "", greedy: "greedy ", random: `random ${find("seed").value.trim()} ` }[find("order").value];
+    return this.command(`run ${order}${bound}`);
+  }
+  until(condition) { return this.run(`${LONGEST_RUN} until ${condition}`); }
+  next_order() { const it = find("order"); it.selectedIndex = (it.selectedIndex + 1) % 3; it.onchange(); }
+
+  // One round: each node that the image names or the picture has at most one event.
   round() {
-    const { answers } = this.session.obey(this.stepping().map(n => "step " + n)), made = answers.filter(it => event_of(it[0])).length;
-    this.say("a round", [`made ${made}`, ...new Set(answers.map(it => it[0]).filter(it => it === "no 4 memory"))]);
+    const names = NAMES.filter(n => this.working.includes(n) || this.drawn.includes(n));
+    const { answers } = this.session.step(names.map(n => "step " + n)), made = answers.filter(it => event_of(it[0])).length;
+    this.say("a round", [`made ${made}`, ...new Set(answers.map(it => it[0]).filter(it => it === NO_MEMORY))]);
     this.after();
   }
+
+  // The words of the pass that is chosen, or those that the node selected before sent to this one.
+  words() { const [[one], [other]] = this.chosen && this.event.pass ? this.event.ends : [[this.before], [this.selected]]; if (one) this.command(`words ${one} ${other}`); }
+  effects() { if (this.chosen) this.command(`effects ${this.chosen.join(" ")}`); }
+  whence() { if (this.chosen && this.tells_whence) this.command(`whence ${this.chosen.join(" ")}`); }
 
   // Chooses a step; chosen once more, it is taken back.
   choose(step) {
@@ -92,8 +115,8 @@ class Page {
     this.forget();
     this.selected = step[0];
     const marks = this.session.marks(step), seen = marks && this.session.look(step[0], step);
-    if (!seen) { find("status").textContent = "no 4 memory"; return this.draw(); }
-    Object.assign(this, { chosen: step, event, marks, seen, said: seen.said, then: seen.then });
+    if (!seen) { find("status").textContent = NO_MEMORY; return this.draw(); }
+    Object.assign(this, { chosen: step, event, marks, seen, said: seen.said, then: seen.then, takes: seen.effects });
     for (const { place, ends } of this.session.events) {
       for (const [n] of ends) this.touched[marks[place]].add(n);
       if (marks[place] === GOES) this.goes++;
@@ -104,7 +127,7 @@ class Page {
 
   take() { if (this.chosen) return this.command(`rewind ${this.chosen[0]} ${this.chosen[1]}`)[0]; }
   why() { if (this.chosen && this.earlier) this.command(`why ${this.earlier.join(" ")} ${this.chosen.join(" ")}`); }
-  select(name) { this.selected = name; this.draw(); }
+  select(name) { if (name !== this.selected) this.before = this.selected; this.selected = name; this.draw(); }
 
   // A step before or behind the chosen one, of the selected node; the other end of a pass.
   along(by) {
@@ -120,14 +143,15 @@ class Page {
 
   draw() {
     if (!this.seen || this.seen.name !== this.selected) this.seen = this.session.look(this.selected) || this.seen;
-    if (!this.seen) { find("status").textContent = "no 4 memory"; return; }
+    if (!this.seen) { find("status").textContent = NO_MEMORY; return; }
     this.draw_chip(this.then || this.seen.nodes);
     this.draw_node();
     this.draw_picture();
     const take = find("take");
     take.disabled = !this.chosen; take.className = this.chosen ? "ready" : "";
     take.textContent = this.chosen ? `take back ${this.chosen.join(" ")}: ${this.goes} events` : "take back";
-    find("chipnote").textContent = this.then ? "as it would be after the rollback" : "";
+    for (const id of ["effects", "whence"]) find(id).disabled = !this.chosen;
+    find("chipnote").textContent = this.then ? `as it would be: ${told_effects(this.takes)}` : "";
     find("status").textContent = this.seen.count;
     if (document.activeElement !== find("text")) find("text").value = this.session.text.length < 2e5 ? this.session.text : "";
   }
@@ -148,7 +172,7 @@ class Page {
     }
     const [, past, goes] = this.touched;
     NAMES.forEach((name, i) => {
-      const node = nodes[i], cell = find("n" + name), steps = this.session.steps[name] || 0, active = steps || this.working.includes(name);
+      const node = nodes[i], cell = find("n" + name), steps = this.session.steps[name] || 0, active = this.working.includes(name) || this.drawn.includes(name);
       const kind = ["cell", active && "active", node.stop && "stop", name === this.selected && "selected", goes.has(name) ? "goes" : past.has(name) && "past"].filter(it => it).join(" ");
       const title = `node ${name}: ${doing(node)}, ${steps} steps\nP ${node.p} A ${node.a} B ${node.b} T ${node.d[0]} S ${node.d[1]} R ${node.r[0]}`;
       // What is as it was needs no drawing.

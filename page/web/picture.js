@@ -20,12 +20,9 @@ function placed(events) {
 }
 
 class Picture {
-  constructor(canvas) { this.canvas = canvas; this.from = 0; this.wide = 60; this.set([], {}); }
-  set(events, steps) {
-    this.events = events;
-    Object.assign(this, placed(events));
-    this.names = Object.keys(steps).filter(n => steps[n]).sort();
-  }
+  constructor(canvas) { this.canvas = canvas; this.from = 0; this.wide = 60; this.set([], []); }
+  // The events, and the nodes that have a line.
+  set(events, names) { this.events = events; this.names = names; Object.assign(this, placed(events)); }
   show(x) { if (x < this.from + 2 || x > this.from + this.wide - 2) this.from = Math.max(0, x - this.wide * .8); }
   zoom(by, around = .5) {
     const wide = Math.max(8, Math.min(this.wide * by, Math.max(30, this.deepest + 4)));
@@ -62,6 +59,7 @@ class Picture {
     if (this.far) { this.draw_far(g, marks, from, upto, line, left, unit, colours); if (chosen) this.draw_pick(g, chosen, line, left, unit, pick); return; }
     for (let i = from; i < upto; i++) {
       const at = this.order[i], event = this.events[at], kind = marks ? marks[at] : 0, px = left + (this.xs[at] - this.from) * unit;
+      if (!(event.ends[0][0] in line)) continue;
       g.strokeStyle = g.fillStyle = colours[kind];
       if (event.pass) {
         const [one, other] = event.ends.map(([n]) => line[n]), way = Math.sign(other - one);
@@ -94,7 +92,7 @@ class Picture {
       g.fillStyle = g.strokeStyle = colours[kind]; g.lineWidth = 1; g.beginPath();
       for (let i = from; i < upto; i++) {
         const at = this.order[i];
-        if (marks && marks[at] !== kind) continue;
+        if (marks && marks[at] !== kind || !(this.events[at].ends[0][0] in line)) continue;
         const px = Math.floor(left + (this.xs[at] - this.from) * unit), { ends, pass } = this.events[at];
         for (const [n] of ends) if (drawn[n] !== px) { drawn[n] = px; g.fillRect(px, line[n] - 2 - kind, wide, 4 + 2 * kind); }
         const key = pass && ends[0][0] + ends[1][0];
@@ -107,7 +105,7 @@ class Picture {
   draw_pick(g, chosen, line, left, unit, pick) {
     const px = left + (this.xs[chosen.place] - this.from) * unit;
     g.lineWidth = 2; g.strokeStyle = pick;
-    for (const [n] of chosen.ends) g.strokeRect(px - 7, line[n] - 7, 14, 14);
+    for (const [n] of chosen.ends) if (n in line) g.strokeRect(px - 7, line[n] - 7, 14, 14);
   }
 
   near(x, y) {

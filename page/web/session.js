@@ -8,7 +8,11 @@ const EVENT = /^(?:(\d{3}) (\d+) (fetch|run ([0-9a-f]{2})|wait|stop (\d+))|pass 
 const NODE = /^node (\d{3}) (run|stop (\d)|(fetch|read|write) ([rdlu-]{4})) p (\w+) a (\w+) b (\w+) i (\w+) slot (\d) carry (\d) io (\w+) d (.*) r (.*)$/;
 // How an event stands to the chosen step: that depends on it, or would go with it.
 const PAST = 1, GOES = 2;
-const KEEPS = /^(step|back|rewind)\b/;
+const KEEPS = /^(step|back|rewind|run)\b/, STEPS_ALONE = /^(step|back)\b/;
+const RAN = /^(?:reached|made|quiet|full|memory|spent) (\d+)/;
+const NO_MEMORY = "no 4 memory";
+// An answer of which the first line tells how many stand behind it.
+const COUNTED = /^(?:trace \d{3}|chain|effects \d+|words \d{3} \d{3}) (\d+)$/;
 
 // An event as its answer tells it: its text, and its nodes with the step of each.
 function event_of(line) {
@@ -24,6 +28,11 @@ function node_of(line) {
   return { state: m[2], stop: m[3], wait: m[4], set: m[5], p: m[6], a: m[7], b: m[8], i: m[9], slot: +m[10], carry: m[11], io: m[12], d: m[13].split(" "), r: m[14].split(" ") };
 }
 
+// A run of the same order with so many events.
+const bounded = (line, count) => `${/^run(?: greedy| random \d+)?/.exec(line)[0]} ${count}`;
+// Lines that make events again, as `save` tells them.
+const saved = events => events.map(it => "step " + it.ends[0][0]);
+const lines_of = lines => lines.map(it => it + "\n").join("");
 const cells_of = name => Array.from({ length: 64 }, (_, i) => `mem ${name} ${i.toString(16).padStart(2, "0")}`);
 const word_of = rows => parseInt(rows[0].split(" ")[3], 16);
 
@@ -41,68 +50,92 @@ class Session {
       if (!/^end$/m.test(load)) load += "end\n";
     }
     const said = this.core.answer(image, this.limit);
-    if (said !== "ready\n") return said === null ? "no 4 memory" : said.trim() || "no image";
-    Object.assign(this, { load, image, told: told.trim(), listing, commands: "", lines: [], said, events: [], steps: {}, traces: {}, loaded: {} });
+    if (said !== "ready\n") return said === null ? NO_MEMORY : said.trim() || "no image";
+    Object.assign(this, { load, image, told: told.trim(), listing, commands: "", runs: false, said, events: [], steps: {}, traces: {}, loaded: {} });
     return null;
   }
 
-  // As it was given, with the commands; and as `ga144 debug` reads it.
+  // As it was given, with the commands; and as `ga144 debug` reads it, which makes the kept events step by step where there are runs.
   get text() { return this.load + this.commands; }
-  get script() { return this.image + this.commands; }
+  get script() { return this.image + (this.runs ? lines_of(saved(this.events)) : this.commands); }
 
-  // Asks on a second run of the session. Null where the session so far could not be answered again for want of memory.
+  // Asks on a second run of the session. The last answer has all lines that are left. Null for want of memory.
   ask(lines) {
-    const all = this.core.answer(this.script + lines.map(it => it + "\n").join(""), this.limit);
+    const all = this.core.answer(this.image + this.commands + lines_of(lines), this.limit);
     if (all === null || !all.startsWith(this.said)) return null;
     const rows = all.slice(this.said.length).split("\n");
     rows.pop();
     let at = 0;
-    return lines.map(line => {
-      const first = rows[at] || "", list = /^(?:trace \d{3}|chain) (\d+)$/.exec(first);
-      let count = list ? 1 + +list[1] : 1;
-      if (line === "dump" && first.startsWith("ga144")) count = rows.indexOf("end", at) - at + 1;
-      const answer = rows.slice(at, at + count);
-      at += count;
-      return answer.length ? answer : ["no 4 memory"];
+    return lines.map((_, i) => {
+      const counted = COUNTED.exec(rows[at] || ""), count = i + 1 === lines.length ? rows.length : counted ? 1 + +counted[1] : 1;
+      return rows.slice(at, at += count);
     });
   }
 
-  // Gives commands, and keeps those that made or removed events. `most` ends it behind so many events. What is asked behind
-  // them is answered in `more`, unless it was ended.
-  obey(lines, most = Infinity, questions = []) {
-    const all = this.ask([...lines, ...questions]);
-    if (!all) return { answers: lines.map(() => ["no 4 memory"]), more: null };
-    const answers = all.slice(0, lines.length), kept = [], said = [];
-    let made = 0, i = 0;
-    for (; i < lines.length && made < most; i++) {
-      const event = lines[i].startsWith("step ") && event_of(answers[i][0]), taken = /^removed (\d+)/.exec(answers[i][0]);
-      if (event) { this.keep(event, this.lines.length + kept.length); made++; } else if (!taken) continue;
-      else if (lines[i] === "back") this.drop();
-      else if (!this.remove(lines[i], +taken[1])) { answers[i] = ["no 4 memory"]; break; }
-      kept.push(lines[i]);
-      said.push(answers[i][0]);
+  // Gives commands that make or remove events, and tells the answer of each.
+  obey(lines) {
+    let answers = [], steps = [];
+    for (const line of [...lines, null]) {
+      if (line && STEPS_ALONE.test(line)) { steps.push(line); continue; }
+      if (steps.length) { answers = answers.concat(this.step(steps, this.questions("000")).answers); steps = []; }
+      if (line) answers.push(line.startsWith("run") ? this.run(line) : this.rewind(line));
     }
-    if (kept.length) { this.commands += kept.join("\n") + "\n"; this.said += said.join("\n") + "\n"; for (const it of kept) this.lines.push(it); }
-    return { answers, more: i === lines.length ? all.slice(lines.length) : null };
+    return answers;
   }
 
-  keep(event, line) {
-    event.place = this.events.length; event.line = line;
+  // Steps and undos together. What is asked behind them is answered in `more`; where there is no memory for that, and for some
+  // more behind a step, nothing is kept: so the session can be asked on, and steps taken back.
+  step(lines, questions = []) {
+    const reserve = lines.some(it => it.startsWith("step")) ? NODES : [], all = this.ask([...lines, ...questions, ...reserve]), kept = [], said = [];
+    if (!all) return { answers: lines.map(() => [NO_MEMORY]), more: null };
+    lines.forEach((line, i) => {
+      const [told = ""] = all[i], event = event_of(told);
+      if (event) this.keep(event); else if (told.startsWith("removed ")) this.drop(); else return;
+      kept.push(line); said.push(told);
+    });
+    this.record(kept, said);
+    return { answers: all.slice(0, lines.length), more: all.slice(lines.length, lines.length + questions.length) };
+  }
+
+  // A run. Its events are those that steps of the nodes make that the core tells of. Where there is no memory to ask, half as many
+  // are made.
+  run(line) {
+    const [[told = NO_MEMORY]] = this.ask([line]) || [[]], made = +(RAN.exec(told) || [0, 0])[1], ended = told.startsWith("memory ");
+    if (!made) return [told];
+    const kept = ended ? bounded(line, made) : line, nodes = this.core.kept(this.image + this.commands + lines_of([kept]), this.limit);
+    const steps = nodes && Array.from(nodes.subarray(this.events.length), n => "step " + NAMES[n]), answers = steps && this.ask([...steps, ...this.questions("000"), ...NODES]);
+    const events = (answers || []).slice(0, made).map(([it]) => event_of(it));
+    if (!answers || steps.length !== made || events.includes(null)) return made > 1 ? [...this.run(bounded(line, made >> 1)), NO_MEMORY] : [NO_MEMORY];
+    for (const it of events) this.keep(it);
+    this.record([kept], [ended ? "made " + made : told]);
+    this.runs = true;
+    return ended ? [told, NO_MEMORY] : [told];
+  }
+
+  // A rollback. `effects` tells what it takes.
+  rewind(line) {
+    const all = this.ask([line.replace("rewind", "effects"), line]), [told = NO_MEMORY] = all ? all[1] : [], removed = /^removed (\d+)/.exec(told), firsts = {};
+    if (!removed) return [told];
+    for (const row of all[0].slice(1)) { const [name, step] = row.split(" "); firsts[name] = +step; }
+    const left = this.events.filter(({ ends: [[name, step]] }) => !(step >= firsts[name]));
+    if (this.events.length - left.length !== +removed[1]) return [NO_MEMORY];
+    Object.assign(this, { events: [], steps: {}, traces: {} });
+    for (const it of left) this.keep(it);
+    this.record([line], [told]);
+    return [told];
+  }
+
+  record(lines, said) { this.commands += lines_of(lines); this.said += lines_of(said); }
+  keep(event) {
+    event.place = this.events.length;
     this.events.push(event);
     for (const [n, k] of event.ends) { this.steps[n] = k; (this.traces[n] = this.traces[n] || []).push(event); }
   }
   drop() { for (const [n, k] of this.events.pop().ends) { this.steps[n] = k - 1; this.traces[n].pop(); } }
 
-  // Drops what a rollback removed. False where there is no memory to ask what that is.
-  remove(line, count) {
-    const [, name, step] = line.split(" "), marks = this.marks([name, +step]), events = this.events;
-    if (!marks || marks.reduce((sum, it) => sum + (it === GOES), 0) !== count) return false;
-    Object.assign(this, { events: [], steps: {}, traces: {} });
-    for (const it of events) if (marks[it.place] !== GOES) this.keep(it, it.line);
-    return true;
-  }
-
   event_at([name, step]) { return (this.traces[name] || [])[step - 1]; }
+  // Whether a node did more than come to wait.
+  is_busy(name) { const [first, second] = this.traces[name] || []; return !!first && (!!second || first.label !== "wait"); }
 
   // Of each kept event, how it stands to that of a step: 2 would go with it, 1 leads to it, 0 neither. Null for want of memory.
   marks(step) {
@@ -110,33 +143,14 @@ class Session {
     return this.core.shades(this.image, nodes, this.event_at(step).place);
   }
 
-  // Lets each node of the list that has an event make one, in order, until so many events were made.
-  rounds(names, most) {
-    let made = 0, rounds = 1, room = Math.max(1, Math.floor(60000 / names.length));
-    while (made < most) {
-      const lines = [];
-      for (let i = 0; i < rounds; i++) for (const n of names) lines.push("step " + n);
-      const before = this.events.length, { answers } = this.obey(lines, most - made), now = this.events.length - before;
-      made += now;
-      if (answers.some(it => it[0] === "no 4 memory")) {
-        // A long question takes memory too.
-        if (rounds === 1) return { made, why: "no 4 memory" };
-        rounds = room = Math.ceil(rounds / 4);
-        continue;
-      }
-      if (!now) return { made, why: "quiet" };
-      rounds = Math.max(1, Math.min(Math.ceil((most - made) / now * rounds), room));
-    }
-    return { made, why: "" };
-  }
-
-  // What is drawn: all nodes, one node's cells, the counts; and with a step the chip as it would be without it.
-  questions(name, step = null) { return [...NODES, ...cells_of(name), "count", ...(step ? [`rewind ${step[0]} ${step[1]}`, ...NODES] : [])]; }
+  // What is drawn: all nodes, one node's cells, the counts; and with a step what its rollback would take, and the chip behind that.
+  questions(name, step = null) { return [...NODES, ...cells_of(name), "count", ...(step ? [`effects ${step.join(" ")}`, `rewind ${step.join(" ")}`, ...NODES] : [])]; }
 
   seen(name, answers) {
     const nodes = list => list.map(it => node_of(it[0])), cells = answers.slice(144, 208).map(word_of);
-    if (!this.loaded[name]) this.loaded[name] = (this.core.answer(this.image + cells_of(name).join("\n") + "\n", this.limit) || "").split("\n").slice(1, 65).map(it => word_of([it]));
-    return { name, nodes: nodes(answers.slice(0, 144)), cells, loaded: this.loaded[name], count: answers[208][0], said: answers[209] && answers[209][0], then: answers[209] && nodes(answers.slice(210)) };
+    if (!this.loaded[name]) this.loaded[name] = (this.core.answer(this.image + lines_of(cells_of(name)), this.limit) || "").split("\n").slice(1, 65).map(it => word_of([it]));
+    const seen = { name, nodes: nodes(answers.slice(0, 144)), cells, loaded: this.loaded[name], count: answers[208][0] };
+    return answers[209] ? { ...seen, effects: answers[209], said: answers[210][0], then: nodes(answers.slice(211)) } : seen;
   }
 
   look(name, step = null) { const answers = this.ask(this.questions(name, step)); return answers && this.seen(name, answers); }
@@ -147,11 +161,10 @@ class Session {
     const trace = this.traces[name] || [], start = Math.max(1, from - 40), found = new Map(), asked = [];
     for (let k = start; k <= Math.min(to, trace.length); k++) if (/^(fetch|wait)$/.test(trace[k - 1].label)) asked.push(k);
     if (!asked.length) return found;
-    const parts = [], counts = [];
-    let at = 0;
-    for (const k of asked) { const upto = trace[k - 1].line; parts.push(...this.lines.slice(at, upto), "node " + name); counts.push(upto); at = upto; }
-    const rows = (this.core.answer(this.image + parts.join("\n") + "\n", this.limit) || "").split("\n");
-    asked.forEach((k, i) => { const node = node_of(rows[1 + counts[i] + i] || ""); if (node && node.slot === 4) found.set(k, parseInt(node.p, 16)); });
+    const parts = [], places = [0, ...asked.map(k => trace[k - 1].place)];
+    asked.forEach((_, i) => parts.push(lines_of(saved(this.events.slice(places[i], places[i + 1]))), `node ${name}\n`));
+    const rows = (this.core.answer(this.image + parts.join(""), this.limit) || "").split("\n");
+    asked.forEach((k, i) => { const node = node_of(rows[1 + places[i + 1] + i] || ""); if (node && node.slot === 4) found.set(k, parseInt(node.p, 16)); });
     let p = null;
     for (let k = start; k <= Math.min(to, trace.length); k++) { if (found.has(k)) p = found.get(k); else if (p !== null) found.set(k, p); }
     return found;

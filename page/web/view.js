@@ -1,5 +1,4 @@
-// How nodes and events look. Opcodes are named here for reading alone.
-const OPCODES = "; ex jump call unext next if -if @p @+ @b @ !p !+ !b ! +* 2* 2/ - + and or drop dup pop over a . push b! a!".split(" ");
+// How nodes and events look. The names of opcodes, OPCODES, are those of the core; the build writes them into the page.
 const find = id => document.getElementById(id);
 const safe = text => text.replace(/&/g, "&amp;").replace(/</g, "&lt;");
 

@@ -1,0 +1,73 @@
+"""What the page asks of exploring, for page.py: runs up to a condition, who waits for whom, what a rollback would take, words."""
+import json, os
+
+TOP = os.path.dirname(os.path.dirname(os.path.dirname(os.path.abspath(__file__))))
+with open(f"{TOP}/examples/fault") as it:
+    FAULT = json.dumps(it.read().split("end\n")[0] + "end\n")
+
+# The buttons, the fields and the keys, as a person uses them. What is told last stands behind the last `>` of the log.
+USED = """
+const told = () => find("log").textContent.split("> ").pop().split("\\n").slice(1, -1);
+const press = (key, at = document.body) => at.dispatchEvent(new KeyboardEvent("keydown", { key, bubbles: true }));
+const asked = line => { const it = page.core.answer(page.session.image + page.session.commands + line + "\\n", 1000000); return it.slice(page.session.said.length).split("\\n").slice(0, -1); };
+"""
+
+
+def until_stop(browser, check):
+    said = browser.run(USED + """
+page.open(%s);
+press("u"); const there = document.activeElement.id;
+find("until").value = "stop"; press("Enter", find("until"));
+const reached = told(), free = document.activeElement === document.body, events = page.session.events.map(it => it.text), rows = page.core.answer(page.session.script, 1000000).split("\\n").slice(1, -1);
+const saved = page.session.ask(["save"])[0], script = page.session.script, commands = page.session.commands;
+find("who").click(); const who = told(), who_asked = asked("who");
+press("h"); const again = told();
+page.choose(["000", 7]); page.select("001"); page.select("000"); const note = find("chipnote").textContent, ready = !find("effects").disabled;
+find("effects").click(); const effects = told(), effects_asked = asked("effects 000 7");
+press("f"); const effects_again = told();
+page.forget(); page.choose(["001", 5]); find("words").click(); const words = told();
+page.forget(); page.select("000"); page.select("001"); press("y"); const words_again = told();
+page.forget(); page.choose(["000", 7]); press("t"); const taken = told(), left = page.session.events.length, kept = asked("count")[0];
+const text = page.session.text; page.open(text); const reopened = page.session.events.length;
+return { there, reached, free, last: events[events.length - 1], alike: JSON.stringify(events) === JSON.stringify(rows), saved: script.endsWith("end\\n" + saved.join("\\n") + "\\n"),
+    commands, who, who_asked, again, note, ready, effects, effects_asked, effects_again, words, words_again, taken, left, kept, events: events.length, reopened };
+""" % FAULT)
+    wanted = {
+        "there": "until", "free": True, "reached": ["reached 175 001 10 stop 2"], "last": "001 10 stop 2", "events": 175, "alike": True, "saved": True,
+        "commands": "run 100000 until stop\n", "ready": True, "note": "as it would be: 12 events of 2 nodes gone, from 000 7, 001 5",
+        "words": ["words 000 001 1", "1 000 9 001 5 000150"], "taken": ["removed 12 kept 163"], "left": 163, "reopened": 163,
+    }
+    check({it: said[it] for it in wanted} == wanted, f"run until stop: {said}")
+    check(said["kept"].startswith("kept 163 made 175 ") and said["words"] == said["words_again"], f"run until stop, then: {said}")
+    check(said["effects"] == said["effects_asked"] == said["effects_again"] and said["effects"][0] == "effects 12 2", f"effects: {said['effects']}")
+    check(said["who"] == said["who_asked"] == said["again"] and "000 reads r 001 stopped" in said["who"], f"who: {said['who']}")
+
+
+def orders(browser, check):
+    said = browser.run(USED + """
+page.open(%s);
+find("most").value = "60"; press("m"); const first = told();
+press("v"); find("run").click(); const second = told();
+press("v"); const seed = !find("seed").hidden; find("seed").value = "7"; press("Enter", find("seed")); const third = told();
+press("v"); const back = find("order").value, none = find("seed").hidden;
+page.command("run 5 until foo"); const refused = told(), commands = page.session.commands, count = page.seen.count.split(" ")[1] == page.session.events.length;
+page.open("ga144 1\\nend\\n"); page.command("run"); const quiet = told();
+return { first, second, third, seed, back, none, refused, quiet, commands, count };
+""" % FAULT)
+    wanted = {
+        "first": ["made 60"], "second": ["made 60"], "third": ["made 60"], "seed": True, "back": "rounds", "none": True, "refused": ["no 31 syntax"], "quiet": ["quiet 144"],
+        "commands": "run 60\nrun greedy 60\nrun random 7 60\n", "count": True,
+    }
+    check({it: said[it] for it in wanted} == wanted, f"orders: {said}")
+
+
+def whence(browser, check):
+    """The button is there where the core knows the command, and shows its answer as it comes."""
+    said = browser.run(USED + """
+page.open(%s); const [reached] = page.command("run greedy until stop"); page.choose(["001", 10]);
+const answer = asked("whence 001 10"), before = told(); press("q");
+return { reached, answer, before, now: told(), hidden: find("whence").hidden };
+""" % FAULT)
+    check(said["reached"] == "reached 18 001 10 stop 2", f"a greedy run: {said['reached']}")
+    unknown = said["answer"][0].startswith("no 31 ")
+    check(said["hidden"] == unknown and said["now"] == (said["before"] if unknown else said["answer"]), f"whence: {said}")
