@@ -5,8 +5,10 @@ TOP = os.path.dirname(os.path.dirname(os.path.dirname(os.path.abspath(__file__))
 with open(f"{TOP}/examples/fault") as it:
     FAULT = json.dumps(it.read().split("end\n")[0] + "end\n")
 
-# The buttons, the fields and the keys, as a person uses them. What is told last stands behind the last `>` of the log.
+# The buttons, the fields and the keys, as a person uses them, from the order that is there at first. What is told last stands behind the
+# last `>` of the log.
 USED = """
+find("order").value = "rounds"; find("order").onchange();
 const told = () => find("log").textContent.split("> ").pop().split("\\n").slice(1, -1);
 const press = (key, at = document.body) => at.dispatchEvent(new KeyboardEvent("keydown", { key, bubbles: true }));
 const asked = line => { const it = page.core.answer(page.session.image + page.session.commands + line + "\\n", 1000000); return it.slice(page.session.said.length).split("\\n").slice(0, -1); };

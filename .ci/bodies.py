@@ -1,0 +1,196 @@
+"""Wrong bodies, and the copies of a crate in which they are tried: which function an edit changes, how a copy of the function stands
+beside it, and how the bodies of the others are left out.
+"""
+import os
+import re
+from functools import cache
+
+FUNCTION = re.compile(r"^( *)(?:pub(?:\([a-z]+\))? )?(?:const )?(?:unsafe )?(?:extern \"C\" )?fn (\w+)", re.M)
+BLOCK = re.compile(r"^(?:impl(?:<[^\n]*?>)? (?:(\w+)(?:<[^\n]*>)? for )?|(?:pub )?(trait) )(\w+)", re.M)
+
+
+class Fault(Exception):
+    """Why wrong bodies can't be tried."""
+
+
+class Function:
+    """Where a function stands: its file, its path in the crate, its text with the attributes above it."""
+
+    def __init__(self, folder, path, text, found):
+        self.path, self.indent, self.name = path, found[1], found[2]
+        block = [*BLOCK.finditer(text, 0, found.start())][-1] if found[1] else None
+        self.is_of_trait = bool(block and (block[1] or block[2]))
+        self.type = f"{block[3]}{block[1] or ''}" if block else None
+        self.home = home_of(folder, block[3]) or path if block else path
+        self.start = found.start()
+        while True:
+            line = text.rfind("\n", 0, self.start - 1) + 1
+            if not re.match(r" *(#\[|//)", text[line : self.start]):
+                break
+            self.start = line
+        ended = re.compile(rf"^{self.indent}\{{?\}}\n", re.M).search(text, found.start())
+        self.end = ended.end() if ended else len(text)
+
+    def place(self):
+        """The path of the function as the check names it, without the crate: a method stands with its type."""
+        modules = [it for it in self.home[4:-3].split("/") if it not in ("lib", "main", "mod")]
+        return [*modules, *([self.type] if self.type else []), self.name]
+
+    def head(self, body):
+        """What stands before the body in a text of the function: its attributes, signature and contract."""
+        alone = body.find(f"\n{self.indent}{{\n")
+        return body[: alone if alone >= 0 else body.index("{\n")]
+
+    def short(self):
+        return "::".join(self.place()[-2:]) if self.type else "::".join(self.place())
+
+
+@cache
+def home_of(folder, name):
+    """The file of a crate in which a type is declared."""
+    for at, _, files in os.walk(f"{folder}/src"):
+        for file in (f"{at}/{it}" for it in sorted(files)):
+            if re.search(rf"^(?:pub(?:\([a-z]+\))? )?(?:struct|enum) {name}\b", read(file), re.M):
+                return os.path.relpath(file, folder)
+    return None
+
+
+def read(file):
+    with open(file, encoding="utf-8") as text:
+        return text.read()
+
+
+def write(file, text):
+    with open(file, "w", encoding="utf-8") as it:
+        it.write(text)
+
+
+def functions_of(folder, path, text):
+    return [Function(folder, path, text, it) for it in FUNCTION.finditer(text)]
+
+
+class Edit:
+    """A wrong body: the function that it changes, and the text of the function with it."""
+
+    def __init__(self, folder, name, text):
+        self.name, self.texts, self.is_alone = name, {}, False
+        path = within = old = None
+        for line in text.split("\n"):
+            word, _, rest = line.partition(": ")
+            if line == "alone":
+                self.is_alone = True
+            elif word == "file":
+                path, within = rest.strip(), None
+            elif word == "in":
+                within = rest.strip()
+            elif word == "old":
+                old = rest
+            elif line.startswith("new:"):
+                self.replace(folder, path, within, old, line[4:].removeprefix(" "))
+        changed = []
+        for path, (before, after) in self.texts.items():
+            pairs = zip(functions_of(folder, path, before), functions_of(folder, path, after))
+            changed += [(one, after[it.start : it.end]) for one, it in pairs if before[one.start : one.end] != after[it.start : it.end]]
+        if len(changed) != 1:
+            raise Fault(f"{self.name}: it changes {len(changed)} functions, and not one")
+        self.function, self.body = changed[0]
+        before, _ = self.texts[self.function.path]
+        if self.function.is_of_trait and not self.is_alone:
+            raise Fault(f"{self.name}: a method of a trait can't be copied: write `alone`")
+        if self.function.head(self.body) != self.function.head(before[self.function.start : self.function.end]):
+            raise Fault(f"{self.name}: it changes more than a body")
+
+    def replace(self, folder, path, within, old, new):
+        if path not in self.texts:
+            self.texts[path] = (read(f"{folder}/{path}"),) * 2
+        before, text = self.texts[path]
+        start, end = 0, len(text)
+        if within:
+            found = [it for it in functions_of(folder, path, text) if within in (it.name, it.short())]
+            if len(found) != 1:
+                raise Fault(f"{self.name}: {path} has {len(found)} functions {within}, and not one")
+            start, end = found[0].start, found[0].end
+        if not path.startswith("src/") or not old or text.count(old, start, end) != 1:
+            raise Fault(f"{self.name}: its text stands in {path} {text.count(old or '', start, end)} times, and not once")
+        place = text.index(old, start, end)
+        self.texts[path] = (before, text[:place] + new + text[place + len(old) :])
+
+
+class Copy:
+    """A copy of a function under another name, as it is or with an edit."""
+
+    def __init__(self, function, body, ending, edit):
+        self.function, self.edit, self.name = function, edit, f"{function.name}_{ending}"
+        body = re.sub(r"^ *(///.*|#\[no_mangle\]|#\[unsafe\(no_mangle\)\])\n", "", body, flags=re.M)
+        self.text = re.sub(rf"(?:extern \"C\" )?\bfn {function.name}\b", f"fn {self.name}", body, count=1)
+
+    def place(self):
+        return [*self.function.place()[:-1], self.name]
+
+    def write_proofs(self, folder):
+        """Writes the copy of what is written of the function's proof."""
+        old, new = self.function.place(), self.place()
+        there = f"{folder}/proofs/{'/'.join(old)}"
+        if not os.path.isdir(there):
+            return
+        os.makedirs(f"{folder}/proofs/{'/'.join(new)}")
+        for file in (it for it in os.listdir(there) if it.endswith(".antt")):
+            text = re.sub(rf"\bproofs\.{re.escape('.'.join(old))}\b", f"proofs.{'.'.join(new)}", read(f"{there}/{file}"))
+            write(f"{folder}/proofs/{'/'.join(new)}/{file}", text)
+
+
+def copies_of(folder, edits):
+    """A copy with each edit, and one of each edited function as it is where something is written of its proof."""
+    wrong, plain = [], {}
+    for number, edit in enumerate(edits):
+        place = edit.function.place()
+        if os.path.isdir(f"{folder}/proofs/{'/'.join(place)}"):
+            before, _ = edit.texts[edit.function.path]
+            plain[tuple(place)] = Copy(edit.function, before[edit.function.start : edit.function.end], "as_it_is", None)
+        wrong.append(Copy(edit.function, edit.body, f"wrong_{number}", edit))
+    return wrong, plain
+
+
+def write_copies(folder, copies):
+    written = {}
+    for copy in copies:
+        copy.write_proofs(folder)
+        written.setdefault(copy.function.path, []).append(copy)
+    for path, those in written.items():
+        text = read(f"{folder}/{path}")
+        for copy in sorted(those, key=lambda it: -it.function.start):
+            text = f"{text[: copy.function.end]}\n{copy.text}{text[copy.function.end :]}"
+        write(f"{folder}/{path}", text)
+
+
+# The proof of a body that is left out, with a hole where it would have to be shown that nobody comes there.
+HOLE = "use Rattle.{0}.Goals as goal\n\npub unreachable-requires : goal.unreachable-requires\nunreachable-requires c = ?\n"
+
+
+def hole_of(path):
+    """The name of the hole in the proof of a function whose body is left out."""
+    crate, *place = path.split("::")
+    return ".".join(["Rattle", crate, "proofs", *place, "Answers", "unreachable-requires"])
+
+
+def leave_out(folder, crate, kept):
+    """Leaves out the bodies of the functions of a copy of a crate that are not among those kept: each stands by its contract, which was
+    proved before. What a constant may need, and the methods of traits, stay. Answers the paths of what was left out."""
+    left = set()
+    for at, _, files in os.walk(f"{folder}/src"):
+        for path in (os.path.relpath(f"{at}/{it}", folder) for it in sorted(files) if it.endswith(".rt")):
+            text = read(f"{folder}/{path}")
+            for function in reversed(functions_of(folder, path, text)):
+                place, whole = function.place(), text[function.start : function.end]
+                if tuple(place) in kept or function.is_of_trait or "const fn " in whole or whole.endswith("{}\n"):
+                    continue
+                indent = function.indent
+                text = f"{text[: function.start]}{function.head(whole).rstrip()}\n{indent}{{\n{indent}    unreachable!()\n{indent}}}\n{text[function.end :]}"
+                there = f"{folder}/proofs/{'/'.join(place)}"
+                os.makedirs(there, exist_ok=True)
+                for file in (it for it in os.listdir(there) if it in ("Answers.antt", "Invariants.antt")):
+                    os.remove(f"{there}/{file}")
+                write(f"{there}/Answers.antt", HOLE.format(".".join([crate, "proofs", *place])))
+                left.add("::".join([crate, *place]))
+            write(f"{folder}/{path}", text)
+    return left
