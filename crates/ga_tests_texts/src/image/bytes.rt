@@ -1,6 +1,6 @@
 //! Images in which one byte is changed.
 
-use super::refusal;
+use super::assert_refusal;
 use ga_given::changed;
 use ga_grid::{Chip, NodeId};
 use ga_image::{ImageCause, parse};
@@ -208,9 +208,9 @@ fn longest_lines(rt: HostRuntime) -> Result<(), Fail> {
         for _ in 0..count {
             text.push(b'x')?;
         }
-        assert_eq!(rt; refusal(alloc, text.as_slice()), Some((number, 2)));
+        assert_refusal(&rt, alloc, text.as_slice(), Some((number, 2)));
         text.push(b'\n')?;
-        assert_eq!(rt; refusal(alloc, text.as_slice()), Some((number, 2)));
+        assert_refusal(&rt, alloc, text.as_slice(), Some((number, 2)));
     }
     Ok(())
 }

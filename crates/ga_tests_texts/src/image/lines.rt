@@ -1,6 +1,6 @@
 //! Lines that are cut off, too long or spelled oddly.
 
-use super::refusal;
+use super::{Refusal, assert_fronts, assert_refusal};
 use std::alloc::{AllocError, Global};
 use std::test::Fail;
 
@@ -23,31 +23,33 @@ fn repeated(
     Ok(text)
 }
 
+/// Lines that have no form.
+const STRANGE_LINES: &[&[u8]] = &[
+    b"p 000000\r",
+    b"p 000000 ",
+    b" p 000000",
+    b"p  000000",
+    b"ram 00 000000  000000",
+    b"ram  00 000000",
+    b"ram 00 000000 ",
+    b"RAM 00 000000",
+    b"p\t000000",
+    b"p 00000g",
+    b"p 0x0000",
+    b"\x00",
+    b"p 00000\x00",
+    b"\xff",
+    b"p 00000\xff",
+    b"",
+];
+
 #[test]
-fn strange_bytes(rt: HostRuntime) {
-    for line in [
-        b"p 000000\r".as_slice(),
-        b"p 000000 ".as_slice(),
-        b" p 000000".as_slice(),
-        b"p  000000".as_slice(),
-        b"ram 00 000000  000000".as_slice(),
-        b"ram  00 000000".as_slice(),
-        b"ram 00 000000 ".as_slice(),
-        b"RAM 00 000000".as_slice(),
-        b"p\t000000".as_slice(),
-        b"p 00000g".as_slice(),
-        b"p 0x0000".as_slice(),
-        b"\x00".as_slice(),
-        b"p 00000\x00".as_slice(),
-        b"\xff".as_slice(),
-        b"p 00000\xff".as_slice(),
-        b"".as_slice(),
-    ] {
-        match repeated(rt.alloc(), b"ga144 1\nnode 000\n", line, 1, b"\nend\n") {
-            Ok(text) => assert_eq!(rt; refusal(rt.alloc(), &text), Some((12, 3)), "at {line:?}"),
-            Err(_) => assert!(rt; false, "out of memory"),
-        }
+fn strange_bytes(rt: HostRuntime) -> Result<(), Fail> {
+    for line in STRANGE_LINES {
+        let text = repeated(rt.alloc(), b"ga144 1\nnode 000\n", line, 1, b"\nend\n")?;
+        assert_refusal(&rt, rt.alloc(), &text, Some((12, 3)));
     }
+    Ok(())
 }
 
 /// The first bytes of an image, for each count of them.
@@ -73,66 +75,27 @@ fn cut_off(rt: HostRuntime) {
         (62, Some((12, 5))),
         (64, None),
     ];
-    for count in 0..=SENDER.len() {
-        let mut wanted = None;
-        for (from, answer) in answers {
-            if from <= count {
-                wanted = answer;
-            }
-        }
-        assert_eq!(rt;
-            refusal(rt.alloc(), SENDER.split_at(count).0),
-            wanted,
-            "at {count}"
-        );
-    }
+    assert_fronts(&rt, rt.alloc(), SENDER, answers.as_slice());
 }
+
+/// Lines at their bound and past it: a front, a piece, and how often it stands there.
+const LONG_LINES: &[(&[u8], &[u8], u32, Refusal)] = &[
+    (b"", b"x", 200, Some((11, 1))),
+    (b"", b"x", 201, Some((18, 1))),
+    (b"ga144 1\n", b"x", 200, Some((12, 2))),
+    (b"ga144 1\n", b"x", 201, Some((18, 2))),
+    (b"ga144 1\nend\n", b"x", 201, Some((18, 3))),
+    (b"ga144 1\nnode 000\nram 00", b" 000001", 1, None),
+    (b"ga144 1\nnode 000\nram 30", b" 000001", 16, None),
+    (b"ga144 1\nnode 000\nram 30", b" 000001", 17, Some((12, 3))),
+    (b"ga144 1\nnode 000\nram 30", b" 040000", 30, Some((18, 3))),
+];
 
 #[test]
 fn long_lines(rt: HostRuntime) -> Result<(), Fail> {
-    let table = [
-        (b"".as_slice(), b"x".as_slice(), 200, Some((11, 1))),
-        (b"".as_slice(), b"x".as_slice(), 201, Some((18, 1))),
-        (b"ga144 1\n".as_slice(), b"x".as_slice(), 200, Some((12, 2))),
-        (b"ga144 1\n".as_slice(), b"x".as_slice(), 201, Some((18, 2))),
-        (
-            b"ga144 1\nend\n".as_slice(),
-            b"x".as_slice(),
-            201,
-            Some((18, 3)),
-        ),
-        (
-            b"ga144 1\nnode 000\nram 00".as_slice(),
-            b" 000001".as_slice(),
-            1,
-            None,
-        ),
-        (
-            b"ga144 1\nnode 000\nram 30".as_slice(),
-            b" 000001".as_slice(),
-            16,
-            None,
-        ),
-        (
-            b"ga144 1\nnode 000\nram 30".as_slice(),
-            b" 000001".as_slice(),
-            17,
-            Some((12, 3)),
-        ),
-        (
-            b"ga144 1\nnode 000\nram 30".as_slice(),
-            b" 040000".as_slice(),
-            30,
-            Some((18, 3)),
-        ),
-    ];
-    for (front, piece, count, wanted) in table {
-        let text = repeated(rt.alloc(), front, piece, count, b"\nend\n")?;
-        assert_eq!(rt;
-            refusal(rt.alloc(), &text),
-            wanted,
-            "at {count} of {piece:?}"
-        );
+    for (front, piece, count, wanted) in LONG_LINES {
+        let text = repeated(rt.alloc(), front, piece, *count, b"\nend\n")?;
+        assert_refusal(&rt, rt.alloc(), &text, *wanted);
     }
     Ok(())
 }

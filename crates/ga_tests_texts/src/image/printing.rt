@@ -2,6 +2,7 @@
 
 ghost use Rattle.std.specs.Prelude.{◌<◌, ◌^◌};
 
+use super::assert_fronts;
 use ga_given::first_difference;
 use ga_grid::{Chip, NodeId};
 use ga_image::{parse, print};
@@ -143,17 +144,5 @@ fn cut_off(rt: HostRuntime) {
         (136, Some((12, 8))),
         (138, None),
     ];
-    for count in 0..=text.len() {
-        let mut wanted = None;
-        for (from, answer) in answers {
-            if from <= count {
-                wanted = answer;
-            }
-        }
-        let found = match parse(rt.alloc(), text.split_at(count).0) {
-            Ok(_) => None,
-            Err(fault) => Some((fault.cause.number(), fault.line)),
-        };
-        assert_eq!(rt; found, wanted, "at {count}");
-    }
+    assert_fronts(&rt, rt.alloc(), text, answers.as_slice());
 }

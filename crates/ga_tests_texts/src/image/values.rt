@@ -1,11 +1,25 @@
 //! What the images of both formats give.
 
-use ga_grid::NodeId;
+ghost use Rattle.ga_node.specs.State.{IsPlace};
+
+use ga_grid::{Chip, NodeId};
 use ga_image::parse;
-use ga_node::Place;
+use ga_node::{Node, Place};
 use ga_word::Word18;
 use std::alloc::{AllocError, Global};
+use std::process::Abort;
 use std::test::Fail;
+
+/// Asserts what a place of a node holds, which is named by 100 times its row plus its column.
+fn assert_held(rt: &impl Abort, chip: &Chip, yxx: u32, place: Place, value: u32)
+    requires { IsPlace place }
+{
+    let held = match NodeId::from_yxx(yxx) {
+        Some(node) => Some(chip.node(node).get(place)),
+        None => None,
+    };
+    assert_eq!(rt; held, Some(value), "at {yxx} {place:?}");
+}
 
 #[test]
 fn given_values(rt: HostRuntime) -> Result<(), Fail> {
@@ -27,57 +41,54 @@ fn given_values(rt: HostRuntime) -> Result<(), Fail> {
         (0, Place::P, 0x195),
         (0, Place::B, 0x15d),
     ] {
-        let node = NodeId::from_yxx(yxx).ok_or("no node")?;
-        assert_eq!(rt; chip.node(node).get(place), value, "at {yxx} {place:?}");
+        assert_held(&rt, &chip, yxx, place, value);
     }
     Ok(())
 }
 
+/// The states of two nodes, with both stacks of each.
+const STATES: &[u8] =
+    b"ga144 2\nnode 000\nb 0001d5\np 000004\ni 0089B2\nslot 0\nd 00002a 000001 000002 000003 000004 000005 000006 000007 000008 000009\nwait write r---\nnode 001\nstop 2\ncarry 1\nio 000007\nr 000001 000002 000003 000004 000005 000006 000007 000008 03ffff\nend\n";
+
 #[test]
 fn given_states(rt: HostRuntime) -> Result<(), Fail> {
-    let text =
-        b"ga144 2\nnode 000\nb 0001d5\np 000004\ni 0089B2\nslot 0\nd 00002a 000001 000002 000003 000004 000005 000006 000007 000008 000009\nwait write r---\nnode 001\nstop 2\ncarry 1\nio 000007\nr 000001 000002 000003 000004 000005 000006 000007 000008 03ffff\nend\n";
-    let chip = parse(rt.alloc(), text)?;
-    let first = chip.node(NodeId::from_yxx(0).ok_or("no node")?);
-    for (place, value) in [
-        (Place::B, 0x1d5),
-        (Place::P, 4),
-        (Place::I, 0x89b2),
-        (Place::Slot, 0),
-        (Place::Wait, 56),
-        (Place::Stop, 0),
-        (Place::Io, 0x15555),
+    let chip = parse(rt.alloc(), STATES)?;
+    for (yxx, place, value) in [
+        (0, Place::B, 0x1d5),
+        (0, Place::P, 4),
+        (0, Place::I, 0x89b2),
+        (0, Place::Slot, 0),
+        (0, Place::Wait, 56),
+        (0, Place::Stop, 0),
+        (0, Place::Io, 0x15555),
+        (1, Place::Carry, 1),
+        (1, Place::Io, 7),
+        (1, Place::Wait, 0),
+        (1, Place::Stop, 2),
+        (1, Place::Slot, 4),
     ] {
-        assert_eq!(rt; first.get(place), value, "at {place:?}");
+        assert_held(&rt, &chip, yxx, place, value);
     }
-    let second = chip.node(NodeId::from_yxx(1).ok_or("no node")?);
-    for (place, value) in [
-        (Place::Carry, 1),
-        (Place::Io, 7),
-        (Place::Wait, 0),
-        (Place::Stop, 2),
-        (Place::Slot, 4),
-    ] {
-        assert_eq!(rt; second.get(place), value, "at {place:?}");
-    }
-    let stacks = [
-        (0x2a, 1),
-        (1, 2),
-        (2, 3),
-        (3, 4),
-        (4, 5),
-        (5, 6),
-        (6, 7),
-        (7, 8),
-        (8, 0x3ffff),
-    ];
-    for (k, (data, returns)) in stacks.iter().enumerate() {
-        assert_eq!(rt; first.d(k as u8), *data, "at {k}");
-        assert_eq!(rt; second.r(k as u8), *returns, "at {k}");
-    }
-    assert_eq!(rt; first.d(9), 9);
-    assert_eq!(rt; first.r(0), 0x15555);
+    assert_stacks(&rt, chip.node(NodeId::new(0)), chip.node(NodeId::new(1)));
     Ok(())
+}
+
+/// Asserts that one node has the data, and another the returns, of the states.
+fn assert_stacks(rt: &impl Abort, first: &Node, second: &Node) {
+    let mut data = [0u32; 10];
+    for (place, word) in data.iter_mut().enumerate() {
+        *word = first.d(place as u8);
+    }
+    let mut returns = [0u32; 9];
+    for (place, word) in returns.iter_mut().enumerate() {
+        *word = second.r(place as u8);
+    }
+    let wanted = (
+        [0x2a, 1, 2, 3, 4, 5, 6, 7, 8, 9],
+        [1, 2, 3, 4, 5, 6, 7, 8, 0x3ffff],
+        0x15555,
+    );
+    assert_eq!(rt; (data, returns, first.r(0)), wanted);
 }
 
 /// A word that differs from place to place.
@@ -118,11 +129,16 @@ fn every_cell(rt: HostRuntime) -> Result<(), Fail> {
     assert!(rt; text.len() > 200_000);
     let chip = parse(rt.alloc(), &text)?;
     for number in 0..144u8 {
-        let node = chip.node(NodeId::new(number));
-        for cell in 0..64u8 {
-            assert_eq!(rt; node.get(Place::Ram(cell)), word(number, cell, 1).get());
-            assert_eq!(rt; node.get(Place::Rom(cell)), word(number, cell, 2).get());
-        }
+        assert_cells(&rt, chip.node(NodeId::new(number)), number);
     }
     Ok(())
+}
+
+/// Asserts that each cell of a node has its word.
+fn assert_cells(rt: &impl Abort, node: &Node, number: u8) {
+    for cell in 0..64u8 {
+        let held = (node.get(Place::Ram(cell)), node.get(Place::Rom(cell)));
+        let wanted = (word(number, cell, 1).get(), word(number, cell, 2).get());
+        assert_eq!(rt; held, wanted, "cell {cell} of {number}");
+    }
 }

@@ -3,6 +3,7 @@
 use arrayvec::ArrayVec;
 use ga_source::{Cause, assemble};
 use std::alloc::Global;
+use std::process::Abort;
 use std::test::Fail;
 
 /// The fault of a source, and its line.
@@ -11,6 +12,11 @@ fn fault<'s>(alloc: Global, source: &'s [u8]) -> Option<(u32, Cause<'s>)> {
         Ok(_) => None,
         Err(fault) => Some((fault.line, fault.cause)),
     }
+}
+
+/// Asserts that a source has this fault, or none.
+fn assert_fault(rt: &impl Abort, alloc: Global, source: &[u8], wanted: Option<(u32, Cause)>) {
+    assert_eq!(rt; fault(alloc, source), wanted, "{source:?}");
 }
 
 struct Row {
@@ -128,34 +134,14 @@ fn on_the_first_a_middle_and_the_last_line(rt: HostRuntime) -> Result<(), Fail> 
     for row in &LINES {
         let mut first = Vec::from_slice(rt.alloc(), b"node 000 ")?;
         first.extend_from_slice(row.text.as_bytes())?;
-        assert_eq!(rt;
-            fault(rt.alloc(), first.as_slice()),
-            Some((1, row.cause)),
-            "{}",
-            row.text
-        );
+        assert_fault(&rt, rt.alloc(), first.as_slice(), Some((1, row.cause)));
         first.extend_from_slice(b"\ndup\n")?;
-        assert_eq!(rt;
-            fault(rt.alloc(), first.as_slice()),
-            Some((1, row.cause)),
-            "{}",
-            row.text
-        );
+        assert_fault(&rt, rt.alloc(), first.as_slice(), Some((1, row.cause)));
         let mut middle = Vec::from_slice(rt.alloc(), b"node 000\n\ndup\n")?;
         middle.extend_from_slice(row.text.as_bytes())?;
-        assert_eq!(rt;
-            fault(rt.alloc(), middle.as_slice()),
-            Some((4, row.cause)),
-            "{}",
-            row.text
-        );
+        assert_fault(&rt, rt.alloc(), middle.as_slice(), Some((4, row.cause)));
         middle.extend_from_slice(b"\ndup\nend\nfoo")?;
-        assert_eq!(rt;
-            fault(rt.alloc(), middle.as_slice()),
-            Some((4, row.cause)),
-            "{}",
-            row.text
-        );
+        assert_fault(&rt, rt.alloc(), middle.as_slice(), Some((4, row.cause)));
     }
     Ok(())
 }
@@ -198,7 +184,7 @@ fn of_more_than_a_line(rt: HostRuntime) {
         ),
     ];
     for (source, wanted) in rows {
-        assert_eq!(rt; fault(rt.alloc(), source), Some(wanted));
+        assert_fault(&rt, rt.alloc(), source, Some(wanted));
     }
 }
 
@@ -224,38 +210,31 @@ fn the_first_of_several(rt: HostRuntime) {
         ),
     ];
     for (source, wanted) in rows {
-        assert_eq!(rt; fault(rt.alloc(), source), Some(wanted));
-    }
-}
-
-/// Whether line 2 is told as too long.
-fn is_long(alloc: Global, source: &[u8]) -> bool {
-    match fault(alloc, source) {
-        Some((line, Cause::LongLine)) => line == 2,
-        _ => false,
+        assert_fault(&rt, rt.alloc(), source, Some(wanted));
     }
 }
 
 #[test]
 fn a_long_line(rt: HostRuntime) -> Result<(), Fail> {
+    let long = Some((2, Cause::LongLine));
     let mut source = Vec::from_slice(rt.alloc(), b"node 000\n\\")?;
     for _ in 0..199 {
         source.push(b' ')?;
     }
-    assert!(rt; fault(rt.alloc(), source.as_slice()).is_none());
+    assert_fault(&rt, rt.alloc(), source.as_slice(), None);
     source.push(b'd')?;
-    assert!(rt; is_long(rt.alloc(), source.as_slice()));
+    assert_fault(&rt, rt.alloc(), source.as_slice(), long);
     source.extend_from_slice(b"\nfoo")?;
-    assert!(rt; is_long(rt.alloc(), source.as_slice()));
+    assert_fault(&rt, rt.alloc(), source.as_slice(), long);
     Ok(())
 }
 
 #[test]
 fn up_to_the_line_end(rt: HostRuntime) {
-    assert_eq!(rt; fault(rt.alloc(), b"node 000 dup\nend\nfoo"), None);
-    assert_eq!(rt; fault(rt.alloc(), b"node 000 dup\nend"), None);
+    assert_fault(&rt, rt.alloc(), b"node 000 dup\nend\nfoo", None);
+    assert_fault(&rt, rt.alloc(), b"node 000 dup\nend", None);
     let unknown = Some((1, Cause::Unknown(b"end")));
-    assert_eq!(rt; fault(rt.alloc(), b"node 000 dup end\n"), unknown);
+    assert_fault(&rt, rt.alloc(), b"node 000 dup end\n", unknown);
 }
 
 /// Words that no label may have as a name.
@@ -274,7 +253,7 @@ fn names_that_are_taken(rt: HostRuntime) -> Result<(), Fail> {
         } else {
             Cause::Taken
         };
-        assert_eq!(rt; fault(rt.alloc(), source.as_slice()), Some((1, wanted)));
+        assert_fault(&rt, rt.alloc(), source.as_slice(), Some((1, wanted)));
     }
     Ok(())
 }

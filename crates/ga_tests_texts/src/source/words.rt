@@ -1,9 +1,10 @@
 //! Sources and the words of RAM that they ask for, worked out by hand from the packing rule.
 
 use ga_grid::NodeId;
-use ga_node::Place;
+use ga_node::{Node, Place};
 use ga_source::assemble;
 use std::alloc::Global;
+use std::process::Abort;
 use std::test::Fail;
 
 struct Row {
@@ -194,26 +195,18 @@ fn each_row(rt: HostRuntime) -> Result<(), Fail> {
         let Ok(assembled) = assemble(rt.alloc(), row.source.as_bytes()) else {
             return Err(row.name.into());
         };
-        let node = assembled.chip.node(NodeId::new(0));
-        for cell in 0..64u8 {
-            let wanted = row.words.get(cell as usize).copied().unwrap_or(0);
-            assert_eq!(rt;
-                node.get(Place::Ram(cell)),
-                wanted,
-                "{}, cell {}",
-                row.name,
-                cell
-            );
-            assert_eq!(rt;
-                node.get(Place::Rom(cell)),
-                0,
-                "{}, ROM cell {}",
-                row.name,
-                cell
-            );
-        }
+        assert_row(&rt, assembled.chip.node(NodeId::new(0)), row);
     }
     Ok(())
+}
+
+/// Asserts that a node holds the words of a row in RAM, and nothing in ROM.
+fn assert_row(rt: &impl Abort, node: &Node, row: &Row) {
+    for cell in 0..64u8 {
+        let held = (node.get(Place::Ram(cell)), node.get(Place::Rom(cell)));
+        let wanted = row.words.get(cell as usize).copied().unwrap_or(0);
+        assert_eq!(rt; held, (wanted, 0), "{}, cell {cell}", row.name);
+    }
 }
 
 /// The registers of node 000 of a source.
@@ -252,10 +245,13 @@ fn rom(rt: HostRuntime) -> Result<(), Fail> {
         return Err("refused".into());
     };
     let node = assembled.chip.node(NodeId::new(143));
+    let held = [
+        node.get(Place::Rom(0)),
+        node.get(Place::Rom(63)),
+        node.get(Place::Ram(63)),
+        node.get(Place::P),
+    ];
     // `dup . . .`: 18, 1c, 1c and the upper three bits of 1c, exclusive-ored with 15555.
-    assert_eq!(rt; node.get(Place::Rom(0)), 0x249b2);
-    assert_eq!(rt; node.get(Place::Rom(63)), 5);
-    assert_eq!(rt; node.get(Place::Ram(63)), 6);
-    assert_eq!(rt; node.get(Place::P), 0);
+    assert_eq!(rt; held, [0x249b2, 5, 6, 0]);
     Ok(())
 }
