@@ -5,7 +5,7 @@ use ga_given::{load, sender, taker};
 use ga_grid::{Chip, NodeId};
 use ga_lab::{Lab, LabFault};
 use ga_node::Place;
-use ga_whence::{Listing, Row, Value, origin_of, whence};
+use ga_whence::{Listing, Row, Value, asked_of, origin_of, whence};
 use ga_word::Word18;
 use std::alloc::Global;
 use std::process::Abort;
@@ -120,6 +120,22 @@ fn word_over_a_link(rt: HostRuntime) -> Result<(), Fail> {
             ]
         )
     );
+    Ok(())
+}
+
+// Of a fetch the instruction word, of `@p` T, of `b!` B, of the wait behind it B before it; of the pass T, before it and behind it.
+#[test]
+fn what_is_asked_for(rt: HostRuntime) -> Result<(), Fail> {
+    let lab = passed(rt.alloc())?;
+    let one = NodeId::new(1);
+    assert_eq!(rt; asked_of(&lab, one, 1), Some(at(1, 1, Part::I)));
+    assert_eq!(rt; asked_of(&lab, one, 2), Some(at(1, 2, Part::T)));
+    assert_eq!(rt; asked_of(&lab, one, 3), Some(at(1, 3, Part::B)));
+    assert_eq!(rt; asked_of(&lab, one, 4), Some(at(1, 3, Part::B)));
+    assert_eq!(rt; asked_of(&lab, one, 5), Some(at(1, 5, Part::T)));
+    assert_eq!(rt; asked_of(&lab, NodeId::new(0), 8), Some(at(0, 7, Part::T)));
+    assert_eq!(rt; asked_of(&lab, one, 0), None);
+    assert_eq!(rt; asked_of(&lab, one, 7), None);
     Ok(())
 }
 

@@ -5,3 +5,4 @@ pub mod Causes
 pub mod Walking
 pub mod Closed
 pub mod Stored
+pub mod Asking

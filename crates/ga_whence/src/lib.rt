@@ -1,12 +1,14 @@
 //! Where a value came from: the steps whose values went into it, through stacks, memories, registers and links, down to the load.
 #![tactic(auto)]
 
+mod asked;
 pub mod laws;
 mod listing;
 mod origin;
 mod value;
 mod writes;
 
+pub use asked::asked_of;
 pub use listing::{Listing, Row, whence};
 pub use origin::origin_of;
 pub use value::Value;
