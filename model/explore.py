@@ -5,6 +5,7 @@ import re
 from listing import NAMES
 from machine import Machine, NODES, name
 from node import SIDES, neighbour, target_of
+from whence import LOADED, asked_of, rows_of
 
 NODE, W, HH = "[0-7](?:0[0-9]|1[0-7])", "0[0-3][0-9a-fA-F]{4}", "[0-9a-fA-F]{2}"
 NUMBER = "(?:0|[1-9][0-9]{0,9})"
@@ -14,7 +15,7 @@ CONDITION = (
     rf"pass {NODE} {NODE} (?:= {W}|{NUMBER})|step {NODE} {NUMBER}|stop|stop {NODE}|wait {NODE}|mem {NODE} {HH} = {W}|p {NODE} {W}"
 )
 RUN = re.compile(rf"run(?: (greedy|random ({NUMBER})))?(?: ({NUMBER}))?(?: until ({CONDITION}))?")
-ASKED = re.compile(rf"(effects) ({NODE}) ({NUMBER})|(words) ({NODE}) ({NODE})|(writes) ({NODE}) ({HH})|(at) ({NODE}) ({NUMBER})(?: ([1-9]?[0-9]))?")
+ASKED = re.compile(rf"(effects|whence) ({NODE}) ({NUMBER})|(words) ({NODE}) ({NODE})|(writes) ({NODE}) ({HH})|(at) ({NODE}) ({NUMBER})(?: ([1-9]?[0-9]))?")
 HELP = """\
 run [N] [until COND]  make up to N events, in rounds
 run greedy ..         each node as far as it goes
@@ -27,6 +28,7 @@ effects NNN K         what rewind NNN K would take
 words NNN MMM         the words that went from NNN to MMM
 writes NNN HH         the steps that wrote the cell HH of NNN, the newest first
 at NNN K [N]          N steps before and behind step K of NNN, with registers
+whence NNN K          the steps whose values went into what step K of NNN made
 save                  the kept events as lines of debug
 help                  these lines
 and the commands of debug: step back rewind node mem trace why count dump quit"""
@@ -67,7 +69,9 @@ class Explorer(Machine):
                 return "\n".join(reversed(self.writes(node, int(words[2], 16))))
             if words[0] == "at":
                 return self.at(node, int(words[2]), int(words[3]) if len(words) > 3 else 3)
-            return self.effects(node, int(words[2])) if words[0] == "effects" else self.words(node, number_of(words[2]))
+            if words[0] == "words":
+                return self.words(node, number_of(words[2]))
+            return (self.effects if words[0] == "effects" else self.whence)(node, int(words[2]))
         found = RUN.fullmatch(line)
         if not found:
             return None
@@ -185,6 +189,29 @@ class Explorer(Machine):
                 registers = "".join(f" {register} {word:06x}" for register, word in seen.items())
                 lines.append(f"{name(node)} {number} {self.deed(node, told)}{registers}")
         return "\n".join(lines)
+
+    def whence(self, node, step):
+        if not 1 <= step <= self.steps[node]:
+            return "no 6 nostep"
+        again, passed, deeds = Explorer(self.load, self.limit), [], {}
+        for event in self.events:
+            before = [again.chip[it].copy() for it in event]
+            again.apply(event)
+            passed.append((event, again.told[-1], before))
+            deeds.update({(it, again.steps[it]): self.deed(it, again.told[-1]) for it in event})
+        asked, made = asked_of(passed, NODES)
+        first = asked[node, step]
+        head = f"{name(node)} {step} {deeds[node, step]}"
+        if first is None:
+            return head
+        rows, whole = rows_of(first, made)
+        deeper = first[:2] != (node, step)
+        lines = [head] if deeper else []
+        for (it, number, part), depth in rows.items():
+            mark = f" {part}" if part in LOADED + ("r",) and part != "i" else ""
+            told = f"{deeds[it, number]}{mark}" if number else f"load {part}"
+            lines.append("  " * (depth + deeper) + (f"{name(it)} {number} {told}" if number else f"{name(it)} {told}"))
+        return "\n".join(lines + ([] if whole else ["more"]))
 
     def does(self, node):
         it = self.chip[node]

@@ -10,9 +10,10 @@ use Rattle.ga_exploring.specs.Texts.{run_text, words_text, chip_text, help_text}
 use Rattle.ga_exploring.specs.Saved.{saved_text}
 use Rattle.ga_exploring.specs.Writing.{writes_text}
 use Rattle.ga_exploring.specs.Around.{around_text}
+use Rattle.ga_exploring.specs.Trees.{TellsWhence}
 use Rattle.ga_exploring.specs.Answers.{TellsEffects, TellsWho, Explored}
 use Rattle.ga_exploring.specs.declared.request.Request.{Request}
-use Rattle.ga_exploring.specs.declared.request.Request.TheVariants.{Run, Effects, Words, Writes, At, Who, Chip, Save, Help}
+use Rattle.ga_exploring.specs.declared.request.Request.TheVariants.{Run, Effects, Words, Writes, At, Whence, Who, Chip, Save, Help}
 
 pub run_done : (s : State) (asked : Request) (schedule : Schedule) (most bound : ℕ) (until : Condition) (events : ℕ) (end : End) (new : State)
     → asked ≡ Run schedule most until → bound ≡ most → AreMade (running s schedule) events → events ≤ bound
@@ -40,6 +41,9 @@ writes_done s asked node address text e h = subst (λ z. Explored s z text s) (s
 
 pub at_done : (s : State) (asked : Request) (node : NodeId) (step around : ℕ) (text : List ℕ) → asked ≡ At node step around → text ≡ around_text s node step around → Explored s asked text s
 at_done s asked node step around text e h = subst (λ z. Explored s z text s) (sym e) (h, refl)
+
+pub whence_done : (s : State) (asked : Request) (node : NodeId) (step : ℕ) (text : List ℕ) → asked ≡ Whence node step → TellsWhence s node step text → Explored s asked text s
+whence_done s asked node step text e h = subst (λ z. Explored s z text s) (sym e) (h, refl)
 
 pub who_done : (s : State) (asked : Request) (text : List ℕ) → asked ≡ Who → TellsWho s text → Explored s asked text s
 who_done s asked text e h = subst (λ z. Explored s z text s) (sym e) (h, refl)

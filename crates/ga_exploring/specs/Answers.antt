@@ -19,8 +19,9 @@ use Rattle.ga_exploring.specs.Waiting.{who_text}
 use Rattle.ga_exploring.specs.Saved.{saved_text}
 use Rattle.ga_exploring.specs.Writing.{writes_text}
 use Rattle.ga_exploring.specs.Around.{around_text}
+use Rattle.ga_exploring.specs.Trees.{TellsWhence}
 use Rattle.ga_exploring.specs.declared.request.Request.{Request}
-use Rattle.ga_exploring.specs.declared.request.Request.TheVariants.{Run, Effects, Words, Writes, At, Who, Chip, Save, Help}
+use Rattle.ga_exploring.specs.declared.request.Request.TheVariants.{Run, Effects, Words, Writes, At, Whence, Who, Chip, Save, Help}
 
 -- Events were made in the order of the schedule, at most so many, up to the first after which the condition holds: the text says
 -- how many and why no more, and the machine is the one after them.
@@ -53,6 +54,7 @@ Explored s (Effects node step) answer new = TellsEffects s node step answer × (
 Explored s (Words from to) answer new = (answer ≡ words_text s from to) × (new ≡ s)
 Explored s (Writes node address) answer new = (answer ≡ writes_text s node address) × (new ≡ s)
 Explored s (At node step around) answer new = (answer ≡ around_text s node step around) × (new ≡ s)
+Explored s (Whence node step) answer new = TellsWhence s node step answer × (new ≡ s)
 Explored s Who answer new = TellsWho s answer × (new ≡ s)
 Explored s Chip answer new = (answer ≡ chip_text s) × (new ≡ s)
 Explored s Save answer new = (answer ≡ saved_text s) × (new ≡ s)

@@ -3,6 +3,7 @@ pub mod Texts
 pub mod Deeds
 pub mod Writing
 pub mod Around
+pub mod Trees
 pub mod Waiting
 pub mod Saved
 pub mod Answers

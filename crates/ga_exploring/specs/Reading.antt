@@ -10,7 +10,7 @@ use Rattle.ga_explore.specs.declared.schedule.Schedule.{Schedule}
 use Rattle.ga_explore.specs.declared.condition.Condition.{Condition}
 use Rattle.ga_explore.specs.declared.condition.Condition.TheVariants.{Never, Passes, PassesNumber, Steps, Stops, StopsAt, WaitsAt, Holds, ComesTo}
 use Rattle.ga_exploring.specs.declared.request.Request.{Request}
-use Rattle.ga_exploring.specs.declared.request.Request.TheVariants.{Run, Effects, Words, Writes, At, Who, Chip, Save, Help}
+use Rattle.ga_exploring.specs.declared.request.Request.TheVariants.{Run, Effects, Words, Writes, At, Whence, Who, Chip, Save, Help}
 
 -- how many events are made at most where no number is given
 abbrev pub most_events : ℕ
@@ -158,7 +158,7 @@ run_by (Some parts) text = named_order parts.0 parts.1 text
 abbrev pub run_in : List ℕ → Option Request
 run_in text = run_by (cut text) text
 
--- ---- `effects`, `words`, `writes` and `at`
+-- ---- `effects`, `words`, `writes`, `at` and `whence`
 
 -- `NNN K`
 unfoldable pub effects_in : List ℕ → Option Request
@@ -212,6 +212,14 @@ at_in text = do
   node ← node_in parts.0
   around_in node parts.1
 
+-- `NNN K`
+unfoldable pub whence_in : List ℕ → Option Request
+whence_in text = do
+  parts ← cut text
+  node ← node_in parts.0
+  step ← number_in parts.1
+  Some (Whence node step)
+
 -- ---- a line
 
 -- a command of one word
@@ -232,6 +240,7 @@ named_request name text =
     else if pointwise nat_eq name (codes "words") then words_in text
     else if pointwise nat_eq name (codes "writes") then writes_in text
     else if pointwise nat_eq name (codes "at") then at_in text
+    else if pointwise nat_eq name (codes "whence") then whence_in text
     else None
 
 abbrev pub request_by : Option (List ℕ × List ℕ) → List ℕ → Option Request

@@ -12,6 +12,7 @@ use crate::help::help;
 use crate::request::{Request, request_of};
 use crate::run_text::ran_text;
 use crate::saved_text::say_saved;
+use crate::whence_text::say_whence;
 use crate::who_text::say_who;
 use crate::words_text::say_words;
 use crate::writes_text::say_writes;
@@ -66,7 +67,7 @@ impl Responder for Explorer {
     ) -> Result<Turn, WriteFailed> {
         match asked_by(line) {
             Some(asked) => {
-                explored(&mut self.lab, asked, output, writer)?;
+                explored(alloc, &mut self.lab, asked, output, writer)?;
                 Ok(Turn::Answered)
             }
             None => self.lab.answer(alloc, line, output, writer),
@@ -102,6 +103,7 @@ fn asked_by(line: &Line) -> Option<Request>
 /// # Errors
 /// A write failed.
 fn explored<W: Write>(
+    alloc: Global,
     lab: &mut Lab,
     asked: Request,
     output: &mut Output,
@@ -123,6 +125,7 @@ fn explored<W: Write>(
         Request::Words { from, to } => say_words(lab, from, to, output, writer),
         Request::Writes { node, address } => say_writes(lab, node, address, output, writer),
         Request::At { node, step, around } => say_around(lab, node, step, around, output, writer),
+        Request::Whence { node, step } => say_whence(alloc, lab, node, step, output, writer),
         Request::Who => say_who(lab, output, writer),
         Request::Chip => output.say_blocks(writer, glance(lab).as_slice()),
         Request::Save => say_saved(lab, output, writer),

@@ -1,7 +1,7 @@
 //! The commands of exploring, as lines spell them.
 
 ghost use Rattle.std.specs.Prelude.{◌≡◌};
-ghost use Rattle.ga_exploring.specs.Reading.{request_in, lone_request, named_request, effects_in, words_in, writes_in, at_in, around_in};
+ghost use Rattle.ga_exploring.specs.Reading.{request_in, lone_request, named_request, effects_in, words_in, writes_in, at_in, around_in, whence_in};
 
 use crate::run_request::run_of;
 use ga_console::{byte_of, cut, node_of, number_of};
@@ -45,6 +45,11 @@ pub enum Request {
         node: NodeId,
         step: u32,
         around: u32,
+    },
+    /// `whence`: tells the steps whose values went into what a step of a node made.
+    Whence {
+        node: NodeId,
+        step: u32,
     },
     /// `who`: tells who waits for whom, and which nodes can never go on.
     Who,
@@ -100,6 +105,8 @@ fn named_request(name: &[u8], arguments: &[u8]) -> Option<Request>
         writes_of(arguments)
     } else if name == b"at".as_slice() {
         at_of(arguments)
+    } else if name == b"whence".as_slice() {
+        whence_of(arguments)
     } else {
         None
     }
@@ -170,4 +177,16 @@ fn around_of(node: NodeId, text: &[u8]) -> Option<Request>
             around: FEW_STEPS,
         }),
     }
+}
+
+/// `NNN K`
+#[tactic(auto, unfolding(crate::specs::Reading::whence_in))]
+fn whence_of(text: &[u8]) -> Option<Request>
+    ensures { result ≡ whence_in text.now }
+{
+    let (node, step) = cut(text)?;
+    Some(Request::Whence {
+        node: node_of(node)?,
+        step: number_of(step)?,
+    })
 }

@@ -134,7 +134,7 @@ pub(crate) struct Explored {
 
 /// What the sender and the taker make, and what is asked of it. Node 000 takes memory at its first and at its fifth event, node 001
 /// at its first and at its fifth, which is the pass.
-pub(crate) static EXPLORED: [Explored; 7] = [
+pub(crate) static EXPLORED: [Explored; 8] = [
     Explored {
         asks: "run greedy until wait 000",
         answer: "reached 7 000 7 wait\n",
@@ -179,6 +179,14 @@ pub(crate) static EXPLORED: [Explored; 7] = [
         refusals: &[(
             0,
             "no 4 memory\nkept 12 made 12 limit 1000000\neffects 8 2\n000 1 8\n001 5 1\n",
+        )],
+    },
+    Explored {
+        asks: "whence 001 5",
+        answer: "001 5 takes 00002a from 000 8\n  000 4 @p\n    000 load 02\n",
+        refusals: &[(
+            0,
+            "no 4 memory\nkept 12 made 12 limit 1000000\n001 5 takes 00002a from 000 8\n  000 4 @p\n    000 load 02\n",
         )],
     },
     Explored {

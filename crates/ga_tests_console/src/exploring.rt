@@ -22,7 +22,7 @@ fn is_said(alloc: Global, commands: &[u8], said: &[u8]) -> Result<bool, AllocErr
     Ok(status == Status::Done && output.as_slice() == text.as_slice())
 }
 
-static COMMANDS: [&str; 16] = [
+static COMMANDS: [&str; 17] = [
     "run",
     "run 5",
     "run greedy 5",
@@ -35,6 +35,7 @@ static COMMANDS: [&str; 16] = [
     "run until mem 000 00 = 00002a",
     "effects 000 1",
     "words 000 001",
+    "whence 000 1",
     "who",
     "chip",
     "save",

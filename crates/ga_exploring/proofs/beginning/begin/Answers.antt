@@ -1,4 +1,4 @@
-use Rattle.std.proofs.Common.{◌≡◌, ℕ, List, [], ◌∷◌, ◌++◌, Some, inl, inr, refl, sym, ap, subst, ◌∙◌, append_assoc, arith, Ok}
+use Rattle.std.proofs.Common.{◌≡◌, ℕ, List, [], ◌∷◌, ◌++◌, Some, inl, inr, refl, sym, ap, ◌∙◌, append_assoc, arith, Ok}
 use Rattle.std.proofs.lemmas.List.{append-nil}
 use Rattle.ga_image.specs.Fault.{no_memory}
 use Rattle.ga_console.specs.Input.{Unread}

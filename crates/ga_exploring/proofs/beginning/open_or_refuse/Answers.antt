@@ -1,4 +1,4 @@
-use Rattle.std.proofs.Common.{[], ◌++◌, Some, refl, sym, ap, ◌∙◌}
+use Rattle.std.proofs.Common.{[], Some, refl, sym, ap, ◌∙◌}
 use Rattle.std.proofs.lemmas.List.{append-nil}
 use Rattle.ga_exploring.specs.declared.opening.Unopened.TheVariants.{Image, Source}
 use Rattle.ga_exploring.proofs.beginning.open_or_refuse.Goals as goal

@@ -1,6 +1,6 @@
 use Rattle.std.proofs.Common.{◌∙◌}
 use Rattle.ga_exploring.specs.Texts.{run_text, chip_text, help_text}
-use Rattle.ga_exploring.proofs.Done.{run_done, effects_done, words_done, writes_done, at_done, who_done, save_done, chip_done, help_done}
+use Rattle.ga_exploring.proofs.Done.{run_done, effects_done, words_done, writes_done, at_done, whence_done, who_done, save_done, chip_done, help_done}
 use Rattle.ga_exploring.proofs.Told.{told_as}
 use Rattle.ga_exploring.proofs.explorer.explored.Goals as goal
 
@@ -33,6 +33,11 @@ pub returns-in-At : goal.returns-in-At
 returns-in-At g c = λ before said h.
     let done = c.say_around.ensures before said h in
     (done.0, at_done c.args.lab.now c.args.asked c.in-At.node c.in-At.step c.in-At.around done.0 c.in-At.is done.1, done.2)
+
+pub returns-in-Whence : goal.returns-in-Whence
+returns-in-Whence g c = λ before said h.
+    let done = c.say_whence.ensures before said h in
+    (done.0, whence_done c.args.lab.now c.args.asked c.in-Whence.node c.in-Whence.step done.0 c.in-Whence.is done.1, done.2)
 
 pub returns-in-Who : goal.returns-in-Who
 returns-in-Who g c = λ before said h.

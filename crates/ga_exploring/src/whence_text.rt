@@ -1,0 +1,209 @@
+//! Where a value came from, told line by line.
+
+ghost use Rattle.std.specs.Prelude.{◌≡◌, ◌≤◌, ◌<◌, ◌+◌, ◌++◌, ◌⊎◌, ℕ, List, Some, flat_map, codes};
+ghost use Rattle.arrayvec.specs.ArrayVec.{array_vec_len};
+ghost use Rattle.ga_flow.specs.Flow.{IsPart};
+ghost use Rattle.ga_lab.specs.Machine.{stands};
+ghost use Rattle.ga_event.specs.Told.{steps_of};
+ghost use Rattle.ga_console.specs.Output.{IsSaid, IsSaidOrCut};
+ghost use Rattle.ga_console.specs.kept.Output.{Says};
+ghost use Rattle.ga_exploring.specs.Trees.{blanks, row_text, rows_text, value_text, did_text, head_text, more_text, TellsAsked, TellsWhence};
+
+use crate::deed_text::{DEED_ROOM, push_deed};
+use crate::part_text::{push_mark, push_part};
+use arrayvec::ArrayVec;
+use ga_console::{Output, STEP_ROOM, Text, WriteFailed, push_node, push_step, push_text, refusal};
+use ga_grid::NodeId;
+use ga_lab::{Lab, LabFault};
+use ga_whence::{Row, Value, asked_of, origin_of, whence};
+use std::alloc::Global;
+use std::io::Write;
+
+/// How many lines a tree has at most.
+const MOST_ROWS: u32 = 100;
+
+/// The most bytes of a step with what it did.
+const DID_ROOM: usize = STEP_ROOM + 1 + DEED_ROOM;
+
+/// `whence NNN K`: tells the steps whose values went into what a step made, as a tree.
+///
+/// # Errors
+/// A write failed.
+pub(crate) fn say_whence<W: Write>(
+    alloc: Global,
+    lab: &Lab,
+    node: NodeId,
+    step: u32,
+    output: &mut Output,
+    writer: &mut W,
+) -> Result<(), WriteFailed>
+    ensures { Says result (λ text. TellsWhence lab.now node step text)
+        (W.contents writer.old) output.old (W.contents writer.new) output.new }
+{
+    if !lab.stands((node, step)) {
+        return output.say(writer, refusal(LabFault::NoStep));
+    }
+    match asked_of(lab, node, step) {
+        Some(value) => say_asked(alloc, lab, node, step, value, output, writer),
+        None => say_head(lab, node, step, output, writer),
+    }
+}
+
+/// Says the tree of a value, which is asked for where this step is named.
+fn say_asked<W: Write>(
+    alloc: Global,
+    lab: &Lab,
+    node: NodeId,
+    step: u32,
+    value: Value,
+    output: &mut Output,
+    writer: &mut W,
+) -> Result<(), WriteFailed>
+    requires { IsPart value.part }
+    ensures { Says result (λ text. TellsAsked lab.now node step (Some value) text)
+        (W.contents writer.old) output.old (W.contents writer.new) output.new }
+{
+    match whence(alloc, lab, value, MOST_ROWS) {
+        Ok(listing) => {
+            say_rows(
+                lab,
+                node,
+                step,
+                value,
+                listing.rows.as_slice(),
+                output,
+                writer,
+            )?;
+            output.say_blocks(writer, more(listing.is_whole))
+        }
+        // The step stands, so it is memory that is wanting.
+        Err(_) => output.say(writer, refusal(LabFault::Memory)),
+    }
+}
+
+/// What is told behind the rows, where these are not all.
+fn more(is_whole: bool) -> &'static [u8]
+    ensures { result.now ≡ more_text is_whole }
+{
+    if is_whole { b"" } else { b"more\n" }
+}
+
+/// Says the rows of the value, behind the step asked for where this didn't make it.
+fn say_rows<W: Write>(
+    lab: &Lab,
+    node: NodeId,
+    step: u32,
+    value: Value,
+    rows: &[Row],
+    output: &mut Output,
+    writer: &mut W,
+) -> Result<(), WriteFailed>
+    requires { IsPart value.part }
+    ensures { Says result (λ text. text ≡ rows_text lab.now node step value rows.now)
+        (W.contents writer.old) output.old (W.contents writer.new) output.new }
+{
+    if origin_of(lab, value).step == step {
+        return say_lines(lab, 0, rows, output, writer);
+    }
+    say_head(lab, node, step, output, writer)?;
+    say_lines(lab, 1, rows, output, writer)
+}
+
+/// Says the step asked for.
+fn say_head<W: Write>(
+    lab: &Lab,
+    node: NodeId,
+    step: u32,
+    output: &mut Output,
+    writer: &mut W,
+) -> Result<(), WriteFailed>
+    ensures { Says result (λ text. text ≡ head_text lab.now node step)
+        (W.contents writer.old) output.old (W.contents writer.new) output.new }
+{
+    output.say_blocks(writer, head_line(lab, node, step).as_slice())
+}
+
+/// Says the lines of some rows, each so much deeper.
+fn say_lines<W: Write>(
+    lab: &Lab,
+    deeper: u8,
+    rows: &[Row],
+    output: &mut Output,
+    writer: &mut W,
+) -> Result<(), WriteFailed>
+    ensures { Says result (λ text. text ≡ flat_map (row_text lab.now deeper) rows.now)
+        (W.contents writer.old) output.old (W.contents writer.new) output.new }
+{
+    'rows: for row in rows {
+        say_row(lab, deeper, *row, output, writer)?;
+    }
+    Ok(())
+}
+
+/// Says the line of a row.
+fn say_row<W: Write>(
+    lab: &Lab,
+    deeper: u8,
+    row: Row,
+    output: &mut Output,
+    writer: &mut W,
+) -> Result<(), WriteFailed>
+    ensures { (before said : List ℕ) → IsSaid (W.contents writer.old) before said output.old →
+        IsSaidOrCut result (W.contents writer.new) before (said ++ row_text lab.now deeper row) output.new }
+{
+    say_blanks(u64::from(row.depth) + u64::from(deeper), output, writer)?;
+    output.say_blocks(writer, value_line(lab, row.value).as_slice())
+}
+
+/// Says two blanks for each level.
+fn say_blanks<W: Write>(levels: u64, output: &mut Output, writer: &mut W) -> Result<(), WriteFailed>
+    ensures { (before said : List ℕ) → IsSaid (W.contents writer.old) before said output.old →
+        IsSaidOrCut result (W.contents writer.new) before (said ++ blanks levels) output.new }
+{
+    let mut left = levels;
+    'levels: while left > 0 {
+        output.say(writer, b"  ")?;
+        left -= 1;
+    }
+    Ok(())
+}
+
+/// A line: the step asked for.
+fn head_line(lab: &Lab, node: NodeId, step: u32) -> Text
+    ensures { result.items ≡ head_text lab.now node step }
+{
+    let mut out = ArrayVec::new();
+    push_did(&mut out, lab, node, step);
+    push_text(&mut out, b"\n");
+    out
+}
+
+/// A line: the step that made a value, or that it was loaded.
+fn value_line(lab: &Lab, value: Value) -> Text
+    ensures { result.items ≡ value_text lab.now value ++ codes "\n" }
+{
+    let mut out = ArrayVec::new();
+    if value.step == 0 {
+        push_node(&mut out, value.node);
+        push_text(&mut out, b" load ");
+        push_part(&mut out, value.part);
+    } else {
+        push_did(&mut out, lab, value.node, value.step);
+        push_mark(&mut out, value.part);
+    }
+    push_text(&mut out, b"\n");
+    out
+}
+
+/// Adds a step of a node, with what it did.
+fn push_did(out: &mut Text, lab: &Lab, node: NodeId, step: u32)
+    requires { array_vec_len out.old + DID_ROOM ≤ 256 }
+    ensures text { out.new.items ≡ out.old.items ++ did_text lab.now node step }
+    ensures len { array_vec_len out.new ≤ array_vec_len out.old + DID_ROOM }
+{
+    push_step(out, node, step);
+    push_text(out, b" ");
+    if let Some(made) = lab.told(node, step.saturating_sub(1)) {
+        push_deed(out, made, node);
+    }
+}

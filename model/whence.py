@@ -1,0 +1,171 @@
+"""Where values come from: a second reading of `whence` in docs/REFERENCE.md. Beside each word stands a tag, and goes where it goes.
+
+A tag is a node, its step that made the word (0 where the word was loaded), and the name of the part in which it left it. `made` has
+the tags from which each was made.
+"""
+
+from node import pop, push, target_of
+
+MOST = 100
+LOADED = ("a", "b", "p", "i", "io", "carry", "slot", "wait", "stop")
+
+
+class Tags:
+    """The tags of the words of a node."""
+
+    def __init__(self, number, made):
+        self.number, self.made, self.step = number, made, 0
+        self.d = [self.tag(it) for it in ["t", "s"] + [f"d{at}" for at in range(2, 10)]]
+        self.r = [self.tag(it) for it in ["r"] + [f"r{at}" for at in range(1, 9)]]
+        self.one = {it: self.tag(it) for it in LOADED}
+        self.cells = {("ram", at): self.tag(f"{at:02x}") for at in range(64)}
+        self.cells.update({("rom", at): self.tag(f"{128 + at:02x}") for at in range(64)})
+
+    def tag(self, part, *sources):
+        made = (self.number, self.step, part)
+        self.made[made] = sources
+        return made
+
+    def put(self, part, *sources):
+        self.one[part] = self.tag(part, *sources)
+        return self.one[part]
+
+    # Each of these answers the tag for which `whence` asks.
+
+    def own(self, before, what):
+        self.step += 1
+        if what == "fetch":
+            self.one["i"] = self.read(before.p, "i")
+            self.put("p", self.one["p"])
+            self.put("slot")
+            return self.one["i"]
+        if what.startswith("run"):
+            return self.run(int(what[4:], 16), before)
+        self.put(what.split(" ")[0])
+        return self.one["p" if before.slot == 4 else "paba"[before.opcode() % 4]]
+
+    def run(self, code, before):
+        if code < 8:
+            return self.run_control(code, before)
+        asked = self.run_memory(code, before) if code < 16 else self.run_data(code, before)
+        self.put("slot", self.one["slot"])
+        return asked
+
+    def run_control(self, code, before):
+        d, r, one = self.d, self.r, self.one
+        asked = (None, None, one["i"], one["i"], r[0], r[0], d[0], d[0])[code]
+        jump = (one["p"], one["i"], one["slot"])
+        counts, slot = code in (4, 5) and before.r[0], one["slot"]
+        if code == 0:
+            asked = self.put("p", pop(r))
+        elif code == 1:
+            r[0], asked = one["p"], self.put("p", r[0])
+        elif code == 3:
+            push(r, one["p"])
+        elif counts:
+            r[0] = self.tag("r", r[0])
+        elif code in (4, 5):
+            pop(r)
+        if code in (2, 3) or counts and code == 5 or code == 6 and not before.d[0] or code == 7 and not before.d[0] >> 17:
+            self.put("p", *jump)
+        self.put("slot", *([slot] if code == 4 and not counts else []))
+        return asked
+
+    def read(self, address, part):
+        cell = target_of(address)
+        return self.tag(part, self.cells[cell]) if cell in self.cells else self.tag(part)
+
+    def run_memory(self, code, before):
+        register = "paba"[code % 4]
+        address = getattr(before, register)
+        if code < 12:
+            asked = self.read(address, "t")
+            push(self.d, asked)
+        else:
+            asked = self.write(target_of(address), pop(self.d))
+        if code % 4 < 2:
+            self.put(register, self.one[register])
+        return asked
+
+    def write(self, cell, word):
+        if cell[0] == "ram":
+            self.cells[cell] = self.tag(f"{cell[1]:02x}", word)
+            return self.cells[cell]
+        if cell[0] == "io":
+            self.one["io"] = word
+            return word
+        return None
+
+    def run_data(self, code, before):
+        d, r, one = self.d, self.r, self.one
+        if code == 0x10:
+            d[0] = one["a"] = self.tag("t", d[0], d[1], one["a"])
+        elif code in (0x11, 0x12, 0x13):
+            d[0] = self.tag("t", d[0])
+        elif code in (0x14, 0x15, 0x16):
+            top = pop(d)
+            carries = code == 0x14 and before.p & 0x200
+            d[0] = self.tag("t", top, d[0], *([one["carry"]] if carries else []))
+            if carries:
+                one["carry"] = d[0]
+        elif code in (0x18, 0x1A, 0x1B):
+            push(d, (d[0], None, d[1], one["a"])[code - 0x18])
+        elif code == 0x19:
+            push(d, pop(r))
+        elif code == 0x1D:
+            push(r, pop(d))
+            return r[0]
+        elif code == 0x1E:
+            return self.put("b", pop(d))
+        elif code == 0x1F:
+            one["a"] = pop(d)
+            return one["a"]
+        elif code == 0x17:
+            pop(d)
+        return None if code in (0x17, 0x1C) else d[0]
+
+    def send(self):
+        self.step += 1
+        self.put("wait")
+        self.put("slot", self.one["slot"])
+        return pop(self.d)
+
+    def take(self, wait, word):
+        self.step += 1
+        self.put("wait")
+        if wait[0] == "fetch":
+            self.put("slot")
+            return self.put("i", word)
+        self.put("slot", self.one["slot"])
+        push(self.d, self.tag("t", word))
+        return self.d[0]
+
+
+def asked_of(passed, nodes):
+    """The tag for which each step of a node asks, and from which tags each tag was made. `passed` has the events, each with what is
+    told of it and its nodes before it."""
+    asked, made = {}, {}
+    tags = [Tags(number, made) for number in range(nodes)]
+    for event, told, before in passed:
+        it = tags[event[0]]
+        if len(event) == 1:
+            asked[event[0], it.step] = it.own(before[0], told.split(" ", 2)[2])
+        else:
+            other = tags[event[1]]
+            word = asked[event[0], it.step] = it.send()
+            asked[event[1], other.step] = other.take(before[1].wait, word)
+    return asked, made
+
+
+def rows_of(first, made):
+    """The tags from which the first was made, each with its depth, up to the greatest number of them; and whether these are all."""
+    rows, todo = {}, [(0, first)]
+    while todo:
+        depth, tag = todo.pop()
+        if tag in rows:
+            continue
+        if len(rows) == MOST:
+            return rows, False
+        rows[tag] = depth
+        todo += [(depth + 1, source) for source in reversed(made[tag])]
+    return rows, True
