@@ -9,5 +9,6 @@ pub mod Stuck
 pub mod Taking
 pub mod Freeing
 pub mod Telling
+pub mod Ends
 pub mod WordCounts
 pub mod Refusing

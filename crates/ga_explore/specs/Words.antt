@@ -1,5 +1,6 @@
 -- The words that went over a link (G144A12 Chip Reference DB002, links), numbered in their order.
 use Rattle.std.specs.Prelude.{ℕ, ◌+◌, ◌==◌, Bool, false, ◌&&◌, if◌then◌else◌, List, [], ◌∷◌, ◌++◌, drop, length}
+use Rattle.ga_grid.specs.declared.node_id.NodeId.{NodeId}
 use Rattle.ga_event.specs.declared.made.Made.{Made}
 use Rattle.ga_event.specs.declared.made.Made.TheVariants as made
 use Rattle.ga_lab.specs.Machine.{State, history_of}
@@ -36,6 +37,11 @@ words_of s writer reader = words_after writer reader 0 (history_of s writer)
 abbrev pub word_count : State → ℕ → ℕ → ℕ
 word_count s writer reader = length (words_of s writer reader)
 
+-- the end of a link whose steps are read: each word that went over it is a step of both
+abbrev pub end_of : Bool → NodeId → NodeId → ℕ
+end_of by_reader writer reader = if by_reader then reader.number else writer.number
+
 -- those that were not told yet
 abbrev pub words_left : State → Words → List Sent
-words_left s words = words_after words.writer.number words.reader.number words.before (drop words.place (history_of s words.writer.number))
+words_left s words =
+    words_after words.writer.number words.reader.number words.before (drop words.place (history_of s (end_of words.by_reader words.writer words.reader)))

@@ -6,6 +6,7 @@ ghost use Rattle.ga_event.specs.Apply.{is_number};
 ghost use Rattle.ga_explore.specs.Near.{are_linked};
 ghost use Rattle.ga_explore.specs.Words.{is_over, one_over, word_count};
 
+use crate::words::ends::{end_of, is_shorter};
 use ga_grid::{NodeId, neighbour};
 use ga_lab::{Lab, Made};
 use ga_ports::Side;
@@ -32,13 +33,14 @@ pub(crate) fn one_over(made: &Made, writer: NodeId, reader: NodeId) -> u32
     if is_over(made, writer, reader) { 1 } else { 0 }
 }
 
-/// How many words went from the writer to the reader, of those that are kept. Takes time by the writer's steps.
+/// How many words went from the writer to the reader, of those that are kept. Takes time by the steps of the one that has fewer.
 pub fn count_words(lab: &Lab, writer: NodeId, reader: NodeId) -> u32
     ensures { result ≡ word_count lab.now writer.number reader.number }
 {
+    let end = end_of(is_shorter(lab, writer, reader), writer, reader);
     let mut words = 0;
-    'places: for place in 0..lab.steps(writer) {
-        match lab.told(writer, place) {
+    'places: for place in 0..lab.steps(end) {
+        match lab.told(end, place) {
             Some(made) => words += one_over(&made, writer, reader),
             None => return words,
         }

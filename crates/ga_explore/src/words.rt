@@ -5,6 +5,7 @@ ghost use Rattle.std.specs.Prelude.{◌≤◌};
 use ga_grid::NodeId;
 use ga_word::Word18;
 
+pub(crate) mod ends;
 mod telling;
 
 /// A word that went over a link.
@@ -26,7 +27,8 @@ pub struct Sent {
 pub struct Words {
     writer: NodeId,
     reader: NodeId,
-    // How many of the writer's steps were read, and how many words were among them.
+    // Whether the reader's steps are read, or the writer's; how many were, and how many words were among them.
+    by_reader: bool,
     place: u32,
     before: u32,
     ghost fits: { before ≤ place },

@@ -3,6 +3,7 @@
 ghost use Rattle.std.specs.Prelude.{◌≡◌, option_to_list};
 ghost use Rattle.ga_explore.specs.Words.{carried_as};
 
+use super::ends::{end_of, is_shorter};
 use super::{Sent, Words};
 use ga_grid::NodeId;
 use ga_lab::{Lab, Made};
@@ -46,25 +47,41 @@ impl Words {
         Words {
             writer,
             reader,
+            by_reader: false,
             place: 0,
             before: 0,
         }
     }
 
-    /// The next word; none where all are told. Takes time by the writer's steps between the words.
+    // Whether the reader's steps are to be read: at first where they are fewer than the writer's, then as before.
+    fn reads_reader(&self, lab: &Lab) -> bool
+        ensures { words_left lab.now (record self.now { by_reader = result }) ≡ words_left lab.now self.now }
+    {
+        if self.place == 0 {
+            is_shorter(lab, self.writer, self.reader)
+        } else {
+            self.by_reader
+        }
+    }
+
+    /// The next word; none where all are told. Takes time by the steps between the words, of the writer or of the reader: of the one
+    /// that had fewer at the first word.
     pub fn next(&mut self, lab: &Lab) -> Option<Sent>
         ensures word { words_left lab.now self.old ≡ option_to_list result ++ words_left lab.now self.new }
         ensures end { IfNone result (words_left lab.now self.old ≡ []) }
     {
         let (writer, reader, before) = (self.writer, self.reader, self.before);
-        let steps = lab.steps(writer);
+        let by_reader = self.reads_reader(lab);
+        let end = end_of(by_reader, writer, reader);
+        let steps = lab.steps(end);
         for place in self.place..steps {
-            match lab.told(writer, place) {
+            match lab.told(end, place) {
                 Some(made) => {
                     if let Some(sent) = sent_as(&made, writer, reader, before + 1) {
                         *self = Words {
                             writer,
                             reader,
+                            by_reader,
                             place: place + 1,
                             before: before + 1,
                         };

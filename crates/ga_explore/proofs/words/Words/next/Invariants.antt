@@ -6,6 +6,6 @@ use Rattle.ga_explore.proofs.words.Words.next.Given as goal
 abbrev pub invariant-loop-place : goal.invariant-loop-place
 invariant-loop-place l = record {
   same : l.self ≡ l.initial.self;
-  ahead : words_left l.lab l.initial.self ≡ words_after l.writer.number l.reader.number l.before (drop l.place (history_of l.lab l.writer.number));
+  ahead : words_left l.lab l.initial.self ≡ words_after l.writer.number l.reader.number l.before (drop l.place (history_of l.lab l.end.number));
   past : l.before ≤ l.place;
 }
