@@ -10,14 +10,14 @@ use Rattle.ga_event.specs.declared.made.Made.{Made}
 use Rattle.ga_event.specs.Apply.{Told, Did, Carried, replay}
 use Rattle.ga_event.specs.Told.{made_after, made_in, events_told}
 use Rattle.ga_event.specs.Next.{next}
-use Rattle.ga_lab.specs.Machine.{State, chip_of, told_of_kept, step_answer, with_event, unless_refused, stepped}
+use Rattle.ga_lab.specs.Machine.{State, chip_of, told_of_kept, causes_of, step_answer, with_event, unless_refused, stepped}
 use Rattle.ga_lab.specs.Forward.{actor_of, stepped_all}
 use Rattle.ga_lab.specs.declared.fault.LabFault.{LabFault}
 use Rattle.ga_explore.proofs.WordCounts.{kept_told}
 use Rattle.ga_console.specs.Replies.{reply, step_reply}
 use Rattle.ga_console.specs.declared.command.Command.TheVariants.{Step}
-use Rattle.ga_exploring.specs.Saved.{step_line, saved_line, saved_lines, ended, Leads}
-use Rattle.ga_exploring.specs.kept.Saved.{actor_in, line_at}
+use Rattle.ga_exploring.specs.Saved.{step_line, saved_line, saved_lines, ended, saved_text, Leads}
+use Rattle.ga_exploring.specs.kept.Saved.{actor_in, line_at, cause_line}
 use Rattle.ga_exploring.proofs.Saying.{no_lines}
 
 same_Some : {A : Type 0} (x y : A) → Some x ≡ Some y → x ≡ y
@@ -94,3 +94,12 @@ lines_lead s (e ∷ es) = (
   refl,
   subst (λ z. Leads z (map saved_line es) (stepped_all (stepped s (actor_of e)) (map actor_of es))) (sym (step_leads s (actor_of e))) (lines_lead (stepped s (actor_of e)) es),
 )
+
+-- the lines of a list of events are those that are told of them
+lines_listed : (told : List (Cause × Told)) → flat_map cause_line (map (λ (x : Cause × Told). x.0) told) ≡ flat_map ended (map saved_line (events_told told))
+lines_listed [] = refl
+lines_listed (x ∷ xs) = ap (λ (z : List ℕ). ended (saved_line x.0.event) ++ z) (lines_listed xs)
+
+pub listed_saved : (s : State) (causes : List Cause) → IsSome (replay s.load s.kept) → causes ≡ causes_of s → flat_map cause_line causes ≡ saved_text s
+listed_saved s causes some h =
+    ap (flat_map cause_line) h ∙ lines_listed (told_of_kept s) ∙ ap (λ z. flat_map ended (map saved_line z)) (kept_told s some)

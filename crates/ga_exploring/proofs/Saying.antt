@@ -1,5 +1,5 @@
 -- A text that is said line by line.
-use Rattle.std.proofs.Common.{◌≡◌, ℕ, ◌+◌, ◌<◌, ◌≤◌, List, [], ◌∷◌, ◌++◌, Option, Result, Ok, Err, length, get_or, drop, sym, ap, ◌∙◌, append_assoc, arith}
+use Rattle.std.proofs.Common.{◌≡◌, ℕ, ◌+◌, ◌<◌, ◌≤◌, List, [], ◌∷◌, ◌++◌, Option, Result, Ok, Err, length, get_or, drop, refl, sym, ap, ◌∙◌, append_assoc, arith}
 use Rattle.std.specs.Prelude.{flat_map}
 use Rattle.std.proofs.lemmas.List.{append-nil, drop_more, drop_all}
 use Rattle.ga_console.specs.Output.{IsSaid, IsCut, IsSaidOrCut}
@@ -45,9 +45,10 @@ rest_lines line xs i default text within e =
 pub no_lines : {A : Type 0} (line : A → List ℕ) (xs : List A) (i : ℕ) → length xs ≤ i → flat_map line (drop i xs) ≡ []
 no_lines line xs i past = ap (flat_map line) (drop_all i xs past)
 
--- one is told
-pub fewer_left : {A : Type 0} (x : A) (old new : List A) → old ≡ x ∷ new → length new < length old
-fewer_left x old new e = omega (arith, ap length e)
+-- a list without an element
+pub none_left : {A : Type 0} (xs : List A) → length xs ≡ 0 → xs ≡ []
+none_left [] e = refl
+none_left (x ∷ xs) e = absurd (omega (arith, e))
 
 -- one text behind another
 pub joined_said : {T : Type 0} (result : Result T WriteFailed) (contents : Option (List ℕ)) (before said text more pending : List ℕ)

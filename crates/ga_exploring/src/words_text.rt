@@ -49,7 +49,10 @@ fn say_linked<W: Write>(
     let count = count_words(lab, from, to);
     output.say_blocks(writer, head_line(from, to, count).as_slice())?;
     let mut words = Words::new(from, to);
-    'telling: while let Some(sent) = words.next(lab) {
+    'telling: for _ in 0..count {
+        let Some(sent) = words.next(lab) else {
+            return Ok(());
+        };
         say_sent(from, to, &sent, output, writer)?;
     }
     Ok(())

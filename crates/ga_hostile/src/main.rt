@@ -50,7 +50,7 @@ fn main(rt: HostRuntime) -> io::Result<()> {
         }
         Outcome::Answered if is_ahead => println!(rt; "no growth is left"),
         Outcome::Answered if growth == 0 => println!(rt; "all is answered"),
-        Outcome::Answered => println!(rt; "wrong: a refusal was not told"),
+        Outcome::Answered => println!(rt; "answered all the same"),
         Outcome::Wrong(what) => println!(rt; "wrong: {what}"),
         _ => println!(rt; "wrong: a refusal with memory at hand"),
     }

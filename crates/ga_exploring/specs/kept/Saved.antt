@@ -2,6 +2,7 @@
 use Rattle.std.specs.Prelude.{ℕ, List, [], Option, Some, None}
 use Rattle.ga_grid.specs.declared.node_id.NodeId.{NodeId}
 use Rattle.ga_event.specs.declared.event.Event.{Event}
+use Rattle.ga_event.specs.declared.event.Cause.{Cause}
 use Rattle.ga_event.specs.declared.made.Made.{Made}
 use Rattle.ga_event.specs.declared.made.Made.TheVariants.{Own, Pass}
 use Rattle.ga_exploring.specs.Saved.{saved_line, ended}
@@ -15,3 +16,7 @@ actor_in (Pass writer k reader j word) = writer
 abbrev pub line_at : Option Event → List ℕ
 line_at None = []
 line_at (Some e) = ended (saved_line e)
+
+-- the line of an event that is listed with its cause
+abbrev pub cause_line : Cause → List ℕ
+cause_line cause = ended (saved_line cause.event)

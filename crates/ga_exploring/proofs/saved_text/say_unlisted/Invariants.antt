@@ -3,7 +3,7 @@ use Rattle.std.specs.Prelude.{flat_map}
 use Rattle.ga_console.specs.Output.{IsSaid}
 use Rattle.ga_exploring.specs.Saved.{saved_lines, ended, saved_text}
 use Rattle.ga_exploring.proofs.Saying.{IsSaidUpTo}
-use Rattle.ga_exploring.proofs.saved_text.say_saved.Given as goal
+use Rattle.ga_exploring.proofs.saved_text.say_unlisted.Given as goal
 
 abbrev pub invariant-places : goal.invariant-places
 invariant-places g l = (before said : List ℕ) → IsSaid (g.W.Write.contents l.fn.writer) before said l.fn.output
