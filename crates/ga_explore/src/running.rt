@@ -89,7 +89,7 @@ fn advance(lab: &mut Lab, ready: &mut Numbers, schedule: &mut Schedule) -> Resul
 }
 
 /// Makes events in the order of a schedule: at most so many, up to the first after which the condition holds. Takes time by the
-/// events that are made, and not by how many nodes wait; a condition that counts words reads the writer's steps once before.
+/// events that are made, and not by how many nodes wait; a condition that counts words reads the steps of one end once before.
 pub fn run(lab: &mut Lab, mut schedule: Schedule, most: u64, until: &Condition) -> Ran
     ensures state { lab.new ≡ (after (running lab.old schedule) result.events).state }
     ensures made { AreMade (running lab.old schedule) result.events }
