@@ -6,7 +6,7 @@ import re
 from functools import cache
 
 FUNCTION = re.compile(r"^( *)(?:pub(?:\([a-z]+\))? )?(?:const )?(?:unsafe )?(?:extern \"C\" )?fn (\w+)", re.M)
-BLOCK = re.compile(r"^(?:impl(?:<[^\n]*?>)? (?:(\w+)(?:<[^\n]*>)? for )?|(?:pub )?(trait) )(\w+)", re.M)
+BLOCK = re.compile(r"^(?:impl(?:<[^\n]*?>)? (?:(\w+)(?:<[^\n]*>)? for )?|(?:pub(?:\([a-z]+\))? )?(trait) )(\w+)", re.M)
 
 
 class Fault(Exception):
