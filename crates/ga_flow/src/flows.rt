@@ -33,8 +33,8 @@ fn i_of(node: &Node) -> Word18
     Word18::truncated(node.get(Place::I))
 }
 
-// What comes next in a node.
-fn due_in(node: &Node) -> Due
+/// What comes next in a node that runs.
+pub fn due_in(node: &Node) -> Due
     ensures { result ≡ due_of (record_of node.now) }
 {
     let slot = slot_of(node);

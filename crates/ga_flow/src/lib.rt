@@ -8,5 +8,5 @@ mod part;
 mod sought;
 
 pub use flow::Flow;
-pub use flows::{own_flow, send_flow, take_flow};
+pub use flows::{due_in, own_flow, send_flow, take_flow};
 pub use part::Part;
