@@ -3,7 +3,7 @@ use Rattle.std.proofs.Common.{◌≡◌, ℕ, zero, suc, ◌+◌, ◌-◌, ◌<�
 use Rattle.std.specs.Prelude.{Some, slice_get}
 use Rattle.std.proofs.Math.ListN.{get_or-append}
 use Rattle.std.proofs.Math.Seq.{get_or-append_seam}
-use Rattle.std.proofs.lemmas.List.{map-append, take_all, take_more}
+use Rattle.std.proofs.lemmas.List.{length-map, map-append, take_all, take_more}
 use Rattle.ga_node.specs.declared.kind.Kind.{Kind}
 use Rattle.ga_journal.specs.declared.entry.Role.{Role}
 use Rattle.ga_journal.specs.declared.entry.Role.TheVariants.{Writer, Reader}
@@ -11,10 +11,11 @@ use Rattle.ga_journal.specs.declared.entry.Part.{Part}
 use Rattle.ga_journal.specs.declared.entry.Part.TheVariants.{Own, Look, Passed}
 use Rattle.ga_journal.specs.declared.entry.Pass.{Pass}
 use Rattle.ga_journal.specs.declared.entry.Entry.{Entry}
-use Rattle.ga_journal.specs.Histories.{past, deed}
+use Rattle.ga_journal.specs.Histories.{Past, past, deed}
 use Rattle.ga_journal.specs.kept.Histories.{bound_from, bound_of}
 use Rattle.ga_journal.specs.declared.entry.Act.TheVariants as act
-use Rattle.ga_journal.specs.kept.Stored.{own_part, act_with, no_pass, act_in, past_in, passes_in, Names, IsBelow, IsDropped, AreNumbered}
+use Rattle.ga_journal.specs.kept.Stored.{own_part, act_with, no_pass, act_in, past_in, passes_in, Names, IsBelow, IsDropped, AreNumbered, IsHistory}
+use Rattle.ga_journal.proofs.Walks.{entry_in_front}
 
 pub numbered_le : (n m : ℕ) (es : List Entry) → AreNumbered n es m → n ≤ m
 numbered_le n m [] h = omega (arith, h)
@@ -203,6 +204,12 @@ some_entries : (ps : List Pass) (es : List Entry) → 0 < bound_of (map (past_in
 some_entries ps [] h = h
 some_entries ps (x ∷ xs) h = omega arith
 
+-- an entry that was read, in the first entries of the history
+pub read_back : (ps : List Pass) (es : List Entry) (all : List Past) (from at : ℕ) (e : Entry) → all ≡ map (past_in ps) es → at < from → from ≤ length all → e ≡ get_or es at e → slice_get (take from all) at ≡ Some (past_in ps e)
+read_back ps es all from at e same l within read =
+    let long : length all ≡ length es = ap length same ∙ length-map es (past_in ps) in
+    entry_in_front all from at (past_in ps e) l (ap (λ (h : List Past). slice_get h at) same ∙ pasts_at ps es at e (omega (arith, long, l, within)) read)
+
 -- the last entry, read before it is taken out
 pub popped_end : (ps : List Pass) (es new : List Entry) (e : Entry) (i n : ℕ) → 0 < bound_of (map (past_in ps) es) → i ≡ length es - 1 → n ≡ length es → e ≡ get_or es i e → new ≡ take (n - 1) es → es ≡ new ++ e ∷ []
 popped_end ps es new e i n some last long at less =
@@ -210,3 +217,11 @@ popped_end ps es new e i n some last long at less =
     end_of_list es e i (omega (arith, l, last)) at
     ∙ ap (λ z. take z es ++ e ∷ []) (let q : i ≡ n - 1 = omega (arith, last, long) in q)
     ∙ ap (λ z. z ++ e ∷ []) (sym less)
+
+-- the history as it is stored, before its last entry and with it, where that is read
+pub ended : (ps : List Pass) (es read : List Entry) (e : Entry) (n looked : ℕ) → read ≡ es → length read ≡ n → 0 < bound_of (map (past_in ps) es) → e ≡ get_or es (length read - 1) e → IsHistory es ps looked
+    → (es ≡ take (n - 1) es ++ e ∷ []) × IsHistory (take (n - 1) es ++ e ∷ []) ps looked
+ended ps es read e n looked same long some at stored =
+    let here : length read ≡ length es = ap length same in
+    let is : es ≡ take (n - 1) es ++ e ∷ [] = popped_end ps es (take (n - 1) es) e (length read - 1) n some (ap (λ k. k - 1) here) (sym long ∙ here) at refl in
+    (is, subst (λ z. IsHistory z ps looked) is stored)

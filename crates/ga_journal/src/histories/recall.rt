@@ -3,6 +3,7 @@
 ghost use Rattle.std.specs.Prelude.{◌≡◌, ◌++◌, ◌∷◌, [], false, OnOk, IfErr};
 
 use super::Histories;
+use super::bounds::{Firsts, newest};
 use crate::entry::{Act, Head};
 use crate::fault::JournalFault;
 use crate::since::Since;
@@ -63,10 +64,9 @@ fn passed(ends: (NodeId, NodeId), steps: (u32, u32), side: Side, word: Word18) -
 
 impl Histories {
     ghost use Rattle.std.specs.Prelude.{◌≡◌, ◌-◌, ◌<◌, ◌≤◌, ◌^◌, ℕ, List, length, drop, slice_index, false, IfOk, IfErr, ◌+◌, [], ◌∷◌, ◌++◌, OnOk};
-    ghost use Rattle.ga_journal.specs.kept.Histories.{lists_of, AllRise, bound_of};
+    ghost use Rattle.ga_journal.specs.kept.Histories.{lists_of, bound_of};
     ghost use Rattle.ga_journal.specs.Histories.{history};
     ghost use Rattle.ga_journal.specs.Logs.{Stamped, Records};
-    ghost use Rattle.ga_journal.specs.kept.Newest.{IsLatest};
     ghost use Rattle.ga_journal.specs.kept.Cuts.{cut, older_causes, WalksBack, IsCutWithin, IsShorter, IsFirst, IsWalked};
     ghost use Rattle.ga_journal.specs.kept.Recalled.{AreTold};
     ghost use Rattle.ga_journal.specs.Since.{IsSince};
@@ -86,56 +86,6 @@ impl Histories {
             lengths[number as usize] = self.count(NodeId::new(number));
         }
         lengths
-    }
-
-    /// The least number above the stamps of a node's first entries.
-    #[inline(always)]
-    fn bound_in(&self, lengths: &[u32; 144], node: NodeId, top: u64) -> u64
-        requires fits { IsCutWithin (lists_of self.now) lengths.now }
-        requires rise { AllRise (cut (lists_of self.now) lengths.now) top }
-        ensures value { result ≡ bound_of (history (cut (lists_of self.now) lengths.now) node.number) }
-        ensures within { result ≤ top }
-        ensures nodes { length self.now ≡ 144 }
-    {
-        let history = self.at(node);
-        let len = lengths[node.index()] as usize;
-        if len == 0 {
-            return 0;
-        }
-        history.head(len - 1).stamp + 1
-    }
-
-    /// The node whose last entry so far has the greatest stamp of all.
-    #[inline(never)]
-    fn scan_in(&self, lengths: &[u32; 144], top: u64) -> NodeId
-        requires fits { IsCutWithin (lists_of self.now) lengths.now }
-        requires rise { AllRise (cut (lists_of self.now) lengths.now) top }
-        ensures { IsLatest (cut (lists_of self.now) lengths.now) result.number }
-    {
-        let mut best = NodeId::new(0);
-        let mut greatest = self.bound_in(lengths, best, top);
-        for number in 1..144u8 {
-            let node = NodeId::new(number);
-            let here = self.bound_in(lengths, node, top);
-            if here > greatest {
-                greatest = here;
-                best = node;
-            }
-        }
-        best
-    }
-
-    /// A node that had a part in the newest event so far.
-    #[inline(always)]
-    fn newest_in(&self, lengths: &[u32; 144], top: u64, hint: NodeId) -> NodeId
-        requires fits { IsCutWithin (lists_of self.now) lengths.now }
-        requires rise { AllRise (cut (lists_of self.now) lengths.now) top }
-        ensures { IsLatest (cut (lists_of self.now) lengths.now) result.number }
-    {
-        if self.bound_in(lengths, hint, top) == top {
-            return hint;
-        }
-        self.scan_in(lengths, top)
     }
 
     /// What the last of a node's first entries tells. They are one less from now on.
@@ -168,7 +118,11 @@ impl Histories {
             IsWalked (lists_of self.now) lengths.new top.new log }
         ensures size { length lengths.new ≡ 144 }
     {
-        let node = self.newest_in(lengths, *top, *hint);
+        let firsts = Firsts {
+            histories: self,
+            lengths,
+        };
+        let node = newest(&firsts, *top, *hint);
         let step = lengths[node.index()];
         let entry = self.back_at(lengths, node);
         *top = entry.stamp;

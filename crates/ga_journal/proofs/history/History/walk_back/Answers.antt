@@ -1,6 +1,6 @@
-use Rattle.std.proofs.Common.{◌≡◌, ℕ, ◌+◌, ◌-◌, ◌∙◌, Some, length, take, drop, length-take, sym, ap, subst, arith}
+use Rattle.std.proofs.Common.{◌≡◌, ℕ, ◌+◌, ◌-◌, ◌∙◌, Some, take, drop, length-take, sym, ap, subst, arith}
 use Rattle.std.specs.Prelude.{slice_get}
-use Rattle.std.proofs.lemmas.List.{length-map, drop_all}
+use Rattle.std.proofs.lemmas.List.{drop_all}
 use Rattle.ga_node.specs.Record.{NodeState}
 use Rattle.ga_node.specs.State.{restored, IsApart}
 use Rattle.ga_event.specs.Undo.{CanRestore}
@@ -8,8 +8,8 @@ use Rattle.ga_journal.specs.Histories.{Past}
 use Rattle.ga_journal.specs.kept.Histories.{Held}
 use Rattle.ga_journal.specs.kept.Stored.{past_in}
 use Rattle.ga_journal.specs.Walked.{walked}
-use Rattle.ga_journal.proofs.Storing.{pasts_at}
-use Rattle.ga_journal.proofs.Walks.{walked_one, can_one, can_later, entry_in_front}
+use Rattle.ga_journal.proofs.Storing.{read_back}
+use Rattle.ga_journal.proofs.Walks.{walked_one, can_one, can_later}
 use Rattle.ga_journal.proofs.history.History.walk_back.Goals as goal
 
 pub loop-k-init : goal.loop-k-init
@@ -22,10 +22,8 @@ restore-requires-clause-fit c =
     let all = c.args.self.now.items in
     let h = take c.args.from all in
     let at : ℕ = c.args.from - 1 - c.loop-k.k in
-    let long : length all ≡ length es = ap (λ (h : Held). length h.items) (sym c.self.view_is) ∙ length-map es (past_in ps) in
     let e : Past = past_in ps c.index-entry.result.now in
-    let found : slice_get h at ≡ Some e = entry_in_front all c.args.from at e (omega (arith, c.loop-k-test.true))
-    (ap (λ (h : Held). slice_get h.items at) (sym c.self.view_is) ∙ pasts_at ps es at c.index-entry.result.now (omega (arith, long, c.requires.within, c.loop-k-test.true)) c.index-entry.ensures) in
+    let found : slice_get h at ≡ Some e = read_back ps es all c.args.from at c.index-entry.result.now (sym (ap (λ (held : Held). held.items) c.self.view_is)) (omega (arith, c.loop-k-test.true)) c.requires.within c.index-entry.ensures in
     let can : CanRestore (walked c.args.node.now (drop (at + 1) h)) e.saved =
     can_one c.args.node.now h at e found (can_later c.args.node.now h c.args.to at (omega (arith, c.loop-k-test.true)) c.requires.can) in
     can.fit
@@ -37,10 +35,8 @@ restore-requires-clause-apart c =
     let all = c.args.self.now.items in
     let h = take c.args.from all in
     let at : ℕ = c.args.from - 1 - c.loop-k.k in
-    let long : length all ≡ length es = ap (λ (h : Held). length h.items) (sym c.self.view_is) ∙ length-map es (past_in ps) in
     let e : Past = past_in ps c.index-entry.result.now in
-    let found : slice_get h at ≡ Some e = entry_in_front all c.args.from at e (omega (arith, c.loop-k-test.true))
-    (ap (λ (h : Held). slice_get h.items at) (sym c.self.view_is) ∙ pasts_at ps es at c.index-entry.result.now (omega (arith, long, c.requires.within, c.loop-k-test.true)) c.index-entry.ensures) in
+    let found : slice_get h at ≡ Some e = read_back ps es all c.args.from at c.index-entry.result.now (sym (ap (λ (held : Held). held.items) c.self.view_is)) (omega (arith, c.loop-k-test.true)) c.requires.within c.index-entry.ensures in
     let can : CanRestore (walked c.args.node.now (drop (at + 1) h)) e.saved =
     can_one c.args.node.now h at e found (can_later c.args.node.now h c.args.to at (omega (arith, c.loop-k-test.true)) c.requires.can) in
     let here : c.loop-k.node ≡ walked c.args.node.now (drop (at + 1) h) = c.loop-k.invariant ∙ ap (λ k. walked c.args.node.now (drop k h)) (let q : c.args.from - c.loop-k.k ≡ at + 1 = omega (arith, c.loop-k-test.true) in q) in
@@ -53,10 +49,8 @@ loop-k-preserved c =
     let all = c.args.self.now.items in
     let h = take c.args.from all in
     let at : ℕ = c.args.from - 1 - c.loop-k.k in
-    let long : length all ≡ length es = ap (λ (h : Held). length h.items) (sym c.self.view_is) ∙ length-map es (past_in ps) in
     let e : Past = past_in ps c.index-entry.result.now in
-    let found : slice_get h at ≡ Some e = entry_in_front all c.args.from at e (omega (arith, c.loop-k-test.true))
-    (ap (λ (h : Held). slice_get h.items at) (sym c.self.view_is) ∙ pasts_at ps es at c.index-entry.result.now (omega (arith, long, c.requires.within, c.loop-k-test.true)) c.index-entry.ensures) in
+    let found : slice_get h at ≡ Some e = read_back ps es all c.args.from at c.index-entry.result.now (sym (ap (λ (held : Held). held.items) c.self.view_is)) (omega (arith, c.loop-k-test.true)) c.requires.within c.index-entry.ensures in
     let here : c.loop-k.node ≡ walked c.args.node.now (drop (at + 1) h) = c.loop-k.invariant ∙ ap (λ k. walked c.args.node.now (drop k h)) (let q : c.args.from - c.loop-k.k ≡ at + 1 = omega (arith, c.loop-k-test.true) in q) in
     c.restore.ensures
     ∙ ap (λ (z : NodeState). restored z e.saved) here

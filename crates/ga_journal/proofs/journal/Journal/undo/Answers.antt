@@ -1,34 +1,36 @@
 use Rattle.std.proofs.Common.{◌≡◌, ℕ, get_or, sym, ap, subst, []}
 use Rattle.ga_journal.specs.Histories.{Book}
 use Rattle.ga_journal.specs.kept.Histories.{lists_of, room_of}
+use Rattle.ga_journal.specs.kept.Newest.{IsTopmost}
 use Rattle.ga_journal.specs.Events.{kept_of}
 use Rattle.ga_journal.specs.Logs.{Records, IsWhole}
 use Rattle.ga_journal.specs.Popped.{TakesBack}
-use Rattle.ga_journal.proofs.Keeping.{none_kept, newest_is, kept_more, pop_keeps, popped_by}
+use Rattle.ga_journal.proofs.Keeping.{none_kept, newest_is, pop_keeps, popped_by}
+use Rattle.ga_journal.proofs.Recalling.{topmost_kept}
 use Rattle.ga_journal.proofs.Marking.{none_go, pop_matched}
 use Rattle.ga_journal.proofs.Chains.{whole_less}
 use Rattle.ga_journal.proofs.journal.Journal.undo.Goals as goal
 
-pub returns-in-None-clause-none : goal.returns-in-None-clause-none
-returns-in-None-clause-none c =
-    subst (λ (b : Book). kept_of b ≡ []) c.self.view_is (none_kept (lists_of c.self.inside.histories) c.self.inside.made c.in-None.ensures.none)
+pub returns-then-self-eq0-clause-none : goal.returns-then-self-eq0-clause-none
+returns-then-self-eq0-clause-none c =
+    subst (λ (b : Book). kept_of b ≡ []) c.self.view_is (none_kept c.self.inside.histories c.self.inside.top c.self.inside.made c.self.inside.kept c.self.inside.limit c.self.invariant.keeps c.if-self-eq0.true)
 
-pub overflow_sub-self : goal.overflow_sub-self
-overflow_sub-self c =
+pub last_stamp-stamp-requires : goal.last_stamp-stamp-requires
+last_stamp-stamp-requires c =
     let back : TakesBack c.args.chip.now (lists_of c.self.inside.histories) c.self.inside.made = subst (λ (b : Book). TakesBack c.args.chip.now b.histories b.made) (sym c.self.view_is) c.requires.back in
-    kept_more back.log c.self.inside.histories c.self.inside.top c.self.inside.made c.self.inside.kept c.self.inside.limit c.last_stamp-stamp.result.0 c.self.invariant.keeps back.records
-    (newest_is back.log c.self.inside.made (lists_of c.self.inside.histories) c.in-Some.node c.last_stamp-stamp.result.0 back.records c.in-Some.ensures.some c.last_stamp-stamp.ensures)
+    (topmost_kept c.self.inside.histories c.self.inside.top c.self.inside.made c.self.inside.kept c.self.inside.limit c.newest-node.result.number c.self.invariant.keeps (record { log = back.log; records = back.records }) c.if-self-eq0.false c.newest-node.ensures).some
 
 pub invariant_of-self : goal.invariant_of-self
 invariant_of-self c =
     let back : TakesBack c.args.chip.now (lists_of c.self.inside.histories) c.self.inside.made = subst (λ (b : Book). TakesBack c.args.chip.now b.histories b.made) (sym c.self.view_is) c.requires.back in
     let settled : (n : ℕ) → get_or c.self.inside.going n 0 ≡ 0 = subst (λ (b : Book). (n : ℕ) → get_or b.going n 0 ≡ 0) (sym c.self.view_is) c.requires.rest.settled in
     let out = c.undo_event.ensures.undone in
+    let top : IsTopmost (lists_of c.self.inside.histories) c.newest-node.result.number = topmost_kept c.self.inside.histories c.self.inside.top c.self.inside.made c.self.inside.kept c.self.inside.limit c.newest-node.result.number c.self.invariant.keeps (record { log = back.log; records = back.records }) c.if-self-eq0.false c.newest-node.ensures in
     let newest = out.newest back.log c.self.inside.made back.records in
     record {
       keeps = pop_keeps back.log c.self.inside.histories c.undo_event.new.self c.self.inside.top c.self.inside.made c.self.inside.kept c.self.inside.limit c.last_stamp-stamp.result.0 c.undo_event.result out.effect
           c.self.invariant.keeps back.records
-          (newest_is back.log c.self.inside.made (lists_of c.self.inside.histories) c.in-Some.node c.last_stamp-stamp.result.0 back.records c.in-Some.ensures.some c.last_stamp-stamp.ensures)
+          (newest_is back.log c.self.inside.made (lists_of c.self.inside.histories) c.newest-node.result c.last_stamp-stamp.result.0 back.records top c.last_stamp-stamp.ensures)
           newest c.undo_event.ensures.size;
       go_within = none_go (lists_of c.undo_event.new.self) c.self.inside.going settled;
       going_size = c.self.invariant.going_size;
@@ -36,8 +38,8 @@ invariant_of-self c =
       matched = pop_matched back.log (lists_of c.self.inside.histories) (lists_of c.undo_event.new.self) c.self.inside.made c.undo_event.result out.effect back.records newest;
     }
 
-pub returns-in-Some-clause-some : goal.returns-in-Some-clause-some
-returns-in-Some-clause-some c =
+pub returns-clause-some : goal.returns-clause-some
+returns-clause-some c =
     let out = c.undo_event.ensures.undone in
     let whole : IsWhole c.args.self.now.histories c.args.self.now.made = record { log = c.requires.back.log; records = c.requires.back.records } in
     record {
@@ -48,8 +50,8 @@ returns-in-Some-clause-some c =
       chip_is = out.chip_is;
     }
 
-pub returns-in-Some-clause-whole : goal.returns-in-Some-clause-whole
-returns-in-Some-clause-whole c =
+pub returns-clause-whole : goal.returns-clause-whole
+returns-clause-whole c =
     let back : TakesBack c.args.chip.now (lists_of c.self.inside.histories) c.self.inside.made = subst (λ (b : Book). TakesBack c.args.chip.now b.histories b.made) (sym c.self.view_is) c.requires.back in
     let out = c.undo_event.ensures.undone in
     whole_less back.log (lists_of c.self.inside.histories) (lists_of c.undo_event.new.self) c.self.inside.made c.undo_event.result out.effect

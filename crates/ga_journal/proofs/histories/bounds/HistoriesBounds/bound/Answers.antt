@@ -1,9 +1,9 @@
-use Rattle.std.proofs.Common.{◌≡◌, ◌+◌, ◌∙◌, ap, sym, arith}
+use Rattle.std.proofs.Common.{◌≡◌, ◌+◌, ◌∙◌, ap, arith}
 use Rattle.ga_journal.specs.kept.Histories.{lists_of, bound_of}
 use Rattle.ga_journal.specs.Histories.{history}
 use Rattle.ga_journal.proofs.Heads.{bound_le}
 use Rattle.ga_journal.proofs.Rooms.{history_read}
-use Rattle.ga_journal.proofs.histories.Histories.bound_at.Goals as goal
+use Rattle.ga_journal.proofs.histories.bounds.HistoriesBounds.bound.Goals as goal
 
 pub overflow_add-result : goal.overflow_add-result
 overflow_add-result c =
@@ -11,16 +11,6 @@ overflow_add-result c =
     let e : c.in-Some.last.0 + 1 ≡ bound_of (history (lists_of c.args.self.now) c.args.node.number) = c.in-Some.ensures.some ∙ ap bound_of read in
     let w = bound_le (lists_of c.args.self.now) c.args.top c.args.node.number c.requires.rise in
     omega (arith, w, e, c.ranges.top.fits)
-
-pub returns-in-None-clause-value : goal.returns-in-None-clause-value
-returns-in-None-clause-value c =
-    let read = history_read _ c.args.node.number c.at-history.result.now (rw c.at-history.ensures.size c.args.node.in_range) c.at-history.ensures.value in
-    sym (sym (ap bound_of read) ∙ c.in-None.ensures.none)
-
-pub returns-in-Some-clause-value : goal.returns-in-Some-clause-value
-returns-in-Some-clause-value c =
-    let read = history_read _ c.args.node.number c.at-history.result.now (rw c.at-history.ensures.size c.args.node.in_range) c.at-history.ensures.value in
-    c.in-Some.ensures.some ∙ ap bound_of read
 
 pub returns-in-Some-clause-within : goal.returns-in-Some-clause-within
 returns-in-Some-clause-within c =

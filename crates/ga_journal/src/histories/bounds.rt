@@ -1,0 +1,91 @@
+//! Which node had a part in the newest event.
+
+ghost use Rattle.std.specs.Prelude.{◌≡◌, ◌≤◌, List, length};
+ghost use Rattle.ga_journal.specs.Histories.{Past, history};
+ghost use Rattle.ga_journal.specs.kept.Histories.{lists_of, AllRise, bound_of};
+ghost use Rattle.ga_journal.specs.kept.Newest.{IsLatest};
+ghost use Rattle.ga_journal.specs.kept.Cuts.{cut, IsCutWithin};
+
+use super::Histories;
+use ga_grid::NodeId;
+
+/// Histories of which the newest entry can be looked for.
+pub(crate) trait Bounds {
+    // The histories as they are seen.
+    ghost seen: { Self → List (List Past) };
+
+    /// The least number above a history's stamps.
+    fn bound(&self, node: NodeId, top: u64) -> u64
+        requires rise { AllRise (seen self.now) top }
+        ensures value { result ≡ bound_of (history (seen self.now) node.number) }
+        ensures within { result ≤ top }
+        ensures nodes { length (seen self.now) ≡ 144 };
+}
+
+impl Bounds for Histories {
+    ghost seen = { lists_of };
+
+    #[inline(always)]
+    fn bound(&self, node: NodeId, top: u64) -> u64 {
+        let history = self.at(node);
+        match history.last() {
+            None => 0,
+            Some(last) => last.0 + 1,
+        }
+    }
+}
+
+/// The first entries of each history, so many.
+#[derive(Clone, Copy)]
+pub(super) struct Firsts<'a> {
+    pub histories: &'a Histories,
+    pub lengths: &'a [u32; 144],
+    ghost size: { length lengths.now ≡ 144 },
+    ghost fits: { IsCutWithin (lists_of histories.now) lengths.now },
+}
+
+impl<'a> Bounds for Firsts<'a> {
+    ghost seen = { λ firsts. cut (lists_of firsts.histories.now) firsts.lengths.now };
+
+    #[inline(always)]
+    fn bound(&self, node: NodeId, top: u64) -> u64 {
+        let history = self.histories.at(node);
+        let len = self.lengths[node.index()] as usize;
+        if len == 0 {
+            return 0;
+        }
+        history.head(len - 1).stamp + 1
+    }
+}
+
+/// The node whose last entry has the greatest stamp of all.
+#[inline(never)]
+fn scan<B: Bounds>(histories: &B, top: u64) -> NodeId
+    requires rise { AllRise (B.seen histories.now) top }
+    ensures { IsLatest (B.seen histories.now) result.number }
+{
+    let mut best = NodeId::new(0);
+    let mut greatest = histories.bound(best, top);
+    for number in 1..144u8 {
+        let node = NodeId::new(number);
+        let here = histories.bound(node, top);
+        if here > greatest {
+            greatest = here;
+            best = node;
+        }
+    }
+    best
+}
+
+/// A node that had a part in the newest event, where there is one. Where the hint's last stamp is just below the top, no other
+/// node is looked at.
+#[inline(always)]
+pub(crate) fn newest<B: Bounds>(histories: &B, top: u64, hint: NodeId) -> NodeId
+    requires rise { AllRise (B.seen histories.now) top }
+    ensures { IsLatest (B.seen histories.now) result.number }
+{
+    if histories.bound(hint, top) == top {
+        return hint;
+    }
+    scan(histories, top)
+}
