@@ -56,7 +56,7 @@ fn make(
     ensures refused { IfErr result (λ why. IsRefusedFor why (step_answer lab.old node)) }
     ensures same { OnErr result (lab.new ≡ lab.old) }
 {
-    match lab.step(node) {
+    match lab.step_inlined(node) {
         Ok(made) => {
             refresh(ready, lab.chip(), &made);
             *schedule = schedule.pass_on(node);
