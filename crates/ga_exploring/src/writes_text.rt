@@ -1,6 +1,6 @@
 //! The steps that wrote a cell, told line by line.
 
-ghost use Rattle.std.specs.Prelude.{◌≡◌, ◌<◌, ◌++◌, ℕ, List};
+ghost use Rattle.std.specs.Prelude.{◌≡◌, ◌<◌, ◌++◌, ℕ, List, Some};
 ghost use Rattle.ga_event.specs.Told.{steps_of};
 ghost use Rattle.ga_console.specs.Output.{IsSaid, IsSaidOrCut};
 ghost use Rattle.ga_console.specs.kept.Output.{Says};
@@ -65,20 +65,22 @@ fn say_written<W: Write>(
     ensures { (before said : List ℕ) → IsSaid (W.contents writer.old) before said output.old →
         IsSaidOrCut result (W.contents writer.new) before (said ++ written_text node written) output.new }
 {
-    output.say_blocks(writer, written_line(node, written).as_slice())
+    match written {
+        Some(written) => output.say_blocks(writer, written_line(node, written).as_slice()),
+        None => Ok(()),
+    }
 }
 
 /// A step that wrote: its number, the opcode's name, and the word.
-fn written_line(node: NodeId, written: Option<Written>) -> Text
-    ensures { result.items ≡ written_text node written }
+fn written_line(node: NodeId, written: Written) -> Text
+    ensures { result.items ≡ written_text node (Some written) }
 {
+    let Written { step, made, word } = written;
     let mut out = ArrayVec::new();
-    if let Some(Written { step, made, word }) = written {
-        push_step(&mut out, node, step);
-        push_text(&mut out, b" ");
-        push_deed(&mut out, made, node);
-        push_spaced(&mut out, word);
-        push_text(&mut out, b"\n");
-    }
+    push_step(&mut out, node, step);
+    push_text(&mut out, b" ");
+    push_deed(&mut out, made, node);
+    push_spaced(&mut out, word);
+    push_text(&mut out, b"\n");
     out
 }
