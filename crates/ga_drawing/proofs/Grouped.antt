@@ -1,9 +1,8 @@
 -- Groups one behind another.
 use Rattle.std.proofs.Common.{◌≡◌, ℕ, List, [], ◌∷◌, ◌++◌, refl, sym, ap, ◌∙◌, append_assoc}
-use Rattle.std.specs.Prelude.{codes}
 use Rattle.std.proofs.lemmas.List.{append-nil}
 use Rattle.ga_drawing.specs.declared.placing.Shape.{Shape}
-use Rattle.ga_drawing.specs.Svg.{IsGroup, AreGroups, IsSvg}
+use Rattle.ga_drawing.specs.Svg.{IsGroup, AreGroups}
 
 -- the groups of these shapes behind a head
 abbrev pub AreBehind : List ℕ → List Shape → List ℕ → Type 0
@@ -14,13 +13,6 @@ groups_more [] shape groups group a g = (group, [], g, refl, ap (λ z. z ++ grou
 groups_more (x ∷ xs) shape groups group a g =
     (a.0, a.1 ++ group, a.2, groups_more xs shape a.1 group a.3 g, ap (λ z. z ++ group) a.4 ∙ append_assoc a.0 a.1 group)
 
-pub behind_none : (head text : List ℕ) → text ≡ head → AreBehind head [] text
-behind_none head text e = ([], refl, e ∙ sym (append-nil head))
-
 pub behind_more : (head : List ℕ) (shapes : List Shape) (shape : Shape) (text group new : List ℕ) → AreBehind head shapes text → IsGroup shape group → new ≡ text ++ group → AreBehind head (shapes ++ shape ∷ []) new
 behind_more head shapes shape text group new b g e =
     (b.0 ++ group, groups_more shapes shape b.0 group b.1 g, e ∙ ap (λ z. z ++ group) b.2 ∙ append_assoc head b.0 group)
-
-pub ended_svg : (head : List ℕ) (shapes : List Shape) (text whole : List ℕ) → AreBehind head shapes text → whole ≡ text ++ codes "</svg>\n" → IsSvg shapes whole
-ended_svg head shapes text whole b e =
-    record { head = head; groups = b.0; drawn = b.1; is = e ∙ ap (λ z. z ++ codes "</svg>\n") b.2 ∙ append_assoc head b.0 (codes "</svg>\n") }

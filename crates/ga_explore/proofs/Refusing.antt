@@ -14,13 +14,6 @@ placed_ok : (causes : List Cause) (o : Option ℕ) → is_some o ≡ true → Is
 placed_ok causes None h = absurd (cc)
 placed_ok causes (Some place) h = refl
 
--- it isn't, where the step has a place
-pub found_ok : (s : State) (n k place : ℕ) → place_of (causes_of s) n k ≡ Some place → IsOk (rewind_answer s n k)
-found_ok s n k place h = placed_ok (causes_of s) (place_of (causes_of s) n k) (ap is_some h)
-
-other_fault : (why : LabFault) → why ≡ Memory → (let a : Result ℕ LabFault = Err why in a) ≡ Err NoStep → ⊥
-other_fault why e h = absurd (cc)
-
 pub refused_as : {T : Type 0} (s : State) (n k : ℕ) (why : LabFault) → IsReplayed s → (why ≡ NoStep) ⊎ (why ≡ Memory)
     → ((let a : Result T LabFault = Err why in a) ≡ Err NoStep) ↔ (stands s n k ≡ false)
     → (rewind_answer s n k ≡ Err why) ⊎ ((why ≡ Memory) × IsOk (rewind_answer s n k))

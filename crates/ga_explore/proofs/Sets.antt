@@ -1,12 +1,9 @@
 -- A set of numbers by its bits.
-use Rattle.std.proofs.Common.{◌≡◌, ◌≢◌, ℕ, ◌+◌, ◌*◌, ◌/◌, ◌%◌, ◌<◌, ◌≤◌, ◌==◌, Bool, true, false, List, length, set, get_or, get_or-set_same, get_or-set_other, eq-eqb, ◌-◌, inl, inr, ⊎_elim, sym, ◌∙◌, ap, arith}
+use Rattle.std.proofs.Common.{◌≡◌, ◌≢◌, ℕ, ◌+◌, ◌*◌, ◌/◌, ◌%◌, ◌<◌, ◌≤◌, ◌==◌, Bool, true, false, length, set, get_or, get_or-set_same, get_or-set_other, eq-eqb, ◌-◌, inl, inr, ⊎_elim, sym, ◌∙◌, ap, arith}
 use Rattle.std.specs.Int.{bit_at}
 use Rattle.std.proofs.lemmas.Bool.{cases_eq, cases_lt, cases_Bool}
 use Rattle.ga_explore.specs.declared.numbers.Numbers.{Numbers}
 use Rattle.ga_explore.specs.kept.Numbers.{has}
-
-abbrev bit_in : List ℕ → ℕ → Bool
-bit_in words n = bit_at (get_or words (n / 64) 0) (n % 64) == 1
 
 one_is : (a : ℕ) → a ≡ 1 → (a == 1) ≡ true
 one_is a e = eq-eqb a 1 e

@@ -1,8 +1,8 @@
 -- Counting what a rollback would take.
-use Rattle.std.proofs.Common.{◌≡◌, ◌≢◌, ℕ, zero, suc, ◌+◌, ◌-◌, ◌<◌, ◌≤◌, Bool, true, false, ◌||◌, if◌then◌else◌, List, [], ◌∷◌, ◌++◌, length, take, drop, length-drop, take_all, Some, Ok, Err, OnOk, refl, sym, ◌∙◌, ap, subst, arith, ⊎_elim, append-nil, add-one, get_or, eq-eqb, drop_of_length-le}
+use Rattle.std.proofs.Common.{◌≡◌, ◌≢◌, ℕ, zero, suc, ◌+◌, ◌-◌, ◌<◌, ◌≤◌, Bool, true, false, if◌then◌else◌, List, [], ◌∷◌, ◌++◌, length, take, drop, length-drop, take_all, Some, Ok, Err, OnOk, refl, sym, ◌∙◌, ap, subst, arith, append-nil, add-one, get_or, eq-eqb, drop_of_length-le}
 use Rattle.std.proofs.Math.Seq.{drop-cons}
 use Rattle.std.specs.Prelude.{◌==◌, Result, slice_index, Option}
-use Rattle.std.proofs.lemmas.Bool.{cases_eq, cond-true, cond-false, ne_eqb}
+use Rattle.std.proofs.lemmas.Bool.{cond-true, cond-false, ne_eqb}
 use Rattle.ga_grid.specs.Grid.{node_id}
 use Rattle.ga_grid.specs.declared.node_id.NodeId.{NodeId}
 use Rattle.ga_grid.proofs.NodeIds.{node_id-number}
@@ -15,7 +15,7 @@ use Rattle.ga_event.specs.Told.{steps_of}
 use Rattle.ga_lab.specs.declared.fault.LabFault.{LabFault}
 use Rattle.ga_lab.specs.Machine.{State, causes_of, rest_answer, rewind_answer}
 use Rattle.ga_explore.specs.declared.effects.Effect.{Effect}
-use Rattle.ga_explore.specs.kept.Effects.{one_at, one_more_at, one_in, one_met, one_met_in, HasCounted}
+use Rattle.ga_explore.specs.kept.Effects.{one_in, one_met, one_met_in, HasCounted}
 use Rattle.ga_explore.specs.Effects.{kept_steps, left_steps, effect_on, effects_below}
 
 -- how many of some events would go, where these nodes are marked before them
@@ -95,16 +95,6 @@ gone_of_each s n k place many causes steps same at is counted m l =
     let e = parts_touching m (causes_of s) place in
     let f : slice_index steps m + touching m (rest (drop place (causes_of s)) 0) ≡ touching m (drop place (causes_of s)) = subst (λ z. slice_index steps m + touching m (rest z 0) ≡ touching m z) is (counted.each m l) in
     omega (arith, a, b, d, e, f)
-
--- a step of the writer and one of a reader that isn't the writer are those of the pass
-pub pass_steps : (w r m : ℕ) → one_at w m + one_more_at w r m ≡ (if (w == m) || ((r == m) || false) then 1 else 0)
-pass_steps w r m = ⊎_elim
-    (λ e. ⊎_elim
-    (λ f. grind (arith, e, f))
-    (λ f. grind (arith, e, f))
-    (cases_eq r w))
-    (λ e. grind (arith, e))
-    (cases_eq w m)
 
 -- nothing is told of a node of which none would
 pub told_none : (left all : ℕ → ℕ) (m : ℕ) → left m ≡ all m → (items : List Effect) → items ≡ items ++ effect_on left all m

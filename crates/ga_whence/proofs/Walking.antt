@@ -4,8 +4,7 @@ use Rattle.std.specs.Prelude.{reverse}
 use Rattle.std.specs.List.{All}
 use Rattle.std.proofs.Common.{append_assoc, append-nil}
 use Rattle.std.proofs.lemmas.List.{reverse-append, length-append}
-use Rattle.std.proofs.lemmas.List.Elements.{All-nil, All-cons, All-head, All-tail, All-append, All-weaker}
-use Rattle.ga_flow.specs.Flow.{IsPart}
+use Rattle.std.proofs.lemmas.List.Elements.{All-head, All-tail, All-append, All-weaker}
 use Rattle.ga_lab.specs.Machine.{State}
 use Rattle.ga_whence.specs.declared.value.Value.{Value}
 use Rattle.ga_whence.specs.declared.listing.Row.{Row}
@@ -25,11 +24,6 @@ told_next s first named todo row is tells later whole rows =
 -- the newest of a stack comes first
 pub top_first : (todo left : List Row) (row : Row) → todo ≡ left ++ row ∷ [] → reverse todo ≡ row ∷ reverse left
 top_first todo left row is = ap reverse is ∙ reverse-append left (row ∷ [])
-
-pub told_first : (s : State) (first : Row) (named todo left : List Row) → named ≡ [] → left ≡ [] → todo ≡ left ++ first ∷ [] → Tells s first named (reverse todo)
-told_first s first named todo left none empty is =
-    subst (λ z. Tells s first z (reverse todo)) (sym none)
-    (subst (Tells s first []) (sym (top_first todo left first is ∙ ap (λ (z : List Row). first ∷ reverse z) empty)) (λ later whole rows. rows))
 
 pub told_again : (s : State) (first : Row) (named todo left : List Row) (row : Row) (value : Value) → todo ≡ left ++ row ∷ [] → value ≡ origin_of s row.value → is_named named value ≡ true
     → Tells s first named (reverse todo) → Tells s first named (reverse left)
@@ -64,11 +58,6 @@ told_all s first named todo none tells =
     subst (λ z. AreRows s [] (first ∷ []) z true) (append-nil named) (subst (λ (z : List Row). Tells s first named (reverse z)) none tells [] true all)
 
 -- ---- what is still to be told
-
-pub open_first : (first : Row) (named todo left : List Row) → IsPart first.value.part → first.depth ≡ 0 → left ≡ [] → todo ≡ left ++ first ∷ [] → All (IsOpen (length named)) (reverse todo)
-open_first first named todo left part depth empty is =
-    subst (All (IsOpen (length named))) (sym (top_first todo left first is ∙ ap (λ (z : List Row). first ∷ reverse z) empty))
-    (All-cons (IsOpen (length named)) first [] (part, omega (arith, depth)) (All-nil (IsOpen (length named))))
 
 pub open_top : (m : ℕ) (todo left : List Row) (row : Row) → todo ≡ left ++ row ∷ [] → All (IsOpen m) (reverse todo) → IsOpen m row
 open_top m todo left row is ready = All-head (IsOpen m) row (reverse left) (subst (All (IsOpen m)) (top_first todo left row is) ready)
