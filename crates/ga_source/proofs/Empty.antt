@@ -1,5 +1,5 @@
 -- What nobody names is 0.
-use Rattle.std.proofs.Common.{◌≡◌, ◌∙◌, ℕ, ◌+◌, ◌<◌, ◌≤◌, sym, ap, subst, inl, inr, ⊎_elim, false, List, [], ◌∷◌, length, replicate, slice_index}
+use Rattle.std.proofs.Common.{◌≡◌, ◌∙◌, ℕ, ◌+◌, sym, ap, subst, inl, inr, ⊎_elim, List, [], ◌∷◌, replicate, slice_index}
 use Rattle.std.specs.List.{All}
 use Rattle.std.proofs.lemmas.Bool.{cases_eq, cases_lt}
 use Rattle.std.proofs.lemmas.List.{get_or-replicate, get_or_past, length-replicate}
@@ -9,7 +9,7 @@ use Rattle.ga_grid.specs.Chip.{nowhere, node_at}
 use Rattle.ga_grid.specs.Load.{default_chip, load_p_of}
 use Rattle.ga_grid.proofs.Chips.{node_at-default_chip, length-default_chip}
 use Rattle.ga_source.specs.declared.item.Program.{Program}
-use Rattle.ga_source.specs.Cells.{names, IsUnasked, IsEmptyElsewhere}
+use Rattle.ga_source.specs.Cells.{IsUnasked, IsEmptyElsewhere}
 use Rattle.ga_source.specs.Programs.{IsLoaded, IsUnnamed, IsAssembled}
 
 -- each word of a memory at load is 0

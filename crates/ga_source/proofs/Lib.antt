@@ -1,5 +1,12 @@
+pub mod Coded
+pub mod Held
+pub mod Laying
+pub mod Walking
+pub mod Marking
 pub mod Targets
-pub mod Marks
+pub mod Written
 pub mod Loaded
 pub mod Steady
 pub mod Empty
+pub mod Scanning
+pub mod Numbers

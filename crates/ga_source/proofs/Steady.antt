@@ -1,5 +1,5 @@
 -- A chip with programs is steady: none of its nodes waits.
-use Rattle.std.proofs.Common.{◌≡◌, ℕ, ◌<◌, List, subst, sym}
+use Rattle.std.proofs.Common.{ℕ, List, subst, sym}
 use Rattle.ga_node.specs.Record.{NodeState, fresh_node, record_of}
 use Rattle.ga_node.specs.Steady.{FitsWait, IsSteady}
 use Rattle.ga_grid.specs.Chip.{node_at, records_of}

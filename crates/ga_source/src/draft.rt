@@ -7,10 +7,11 @@ use super::controls::Open;
 use super::fault::{Cause, Fault, at};
 use super::item::{Asked, Given, Item, Registers, Request, Value};
 use super::labels::Labels;
+use super::number::{Number, number_of};
 use super::reading::carried;
 use super::scan::Token;
 use super::vocabulary::{
-    Directive, Number, Register, control_named, directive_named, is_taken, number_of, opcode_named,
+    Directive, Register, control_named, directive_named, is_taken, opcode_named,
 };
 use ga_slots::Op;
 use std::alloc::Global;

@@ -46,8 +46,6 @@ pub enum Cause<'s> {
     Reach,
     #[error("the loop of unext is longer than its cell")]
     Loop,
-    #[error("the cells don't read as the program")]
-    Differs,
 }
 
 /// A fault of a text, and its line from 1 on; 0 where memory was refused.

@@ -1,7 +1,7 @@
 //! Programs as texts: arrayForth's opcode names and control words, assembled into a chip.
 //!
 //! A text is scanned into words, the words of each node become a list of requests, requests are packed into groups (an
-//! instruction word and the literals behind it), and groups are loaded into the node's memory, each read back at once.
+//! instruction word and the literals behind it), and groups are loaded into the node's memory.
 #![tactic(auto)]
 
 mod controls;
@@ -10,7 +10,7 @@ mod fault;
 mod item;
 mod labels;
 mod loading;
-mod naming;
+mod number;
 mod packing;
 mod program;
 mod reading;

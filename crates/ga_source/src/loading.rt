@@ -1,22 +1,27 @@
 //! Groups loaded into a node.
 
-ghost use Rattle.std.specs.Prelude.{◌≡◌, ◌<◌, ◌≤◌, ℕ, true, false, length, slice_index_or, OnOk, IfSome};
+ghost use Rattle.std.specs.Prelude.{◌≡◌, ◌-◌, ◌%◌, ◌<◌, ◌≤◌, ℕ, Some, true, false, length, replicate, slice_index_or, OnOk, IfSome};
+ghost use Rattle.ga_node.specs.State.{with_value, HasMemory};
+ghost use Rattle.ga_slots.specs.Codes.{code_of};
 ghost use Rattle.ga_slots.specs.Slots.{opcode as opcode_of, target as target_of};
-ghost use Rattle.ga_source.specs.Reading.{begin_at as begin_of, follows as follows_of, reaches};
-ghost use Rattle.ga_source.specs.kept.Places.{IsCell};
-ghost use Rattle.ga_source.specs.kept.Places.{KeepsRest};
-ghost use Rattle.ga_source.specs.Cells.{KeepsElsewhere, is_asked};
-ghost use Rattle.ga_source.specs.kept.Words.{op_in, label_of, nothing};
+ghost use Rattle.ga_source.specs.Reading.{begin_at as begin_of, ends_cell, follows as follows_of, reaches as reaches_to, resolved, word_in};
+ghost use Rattle.ga_source.specs.kept.Layout.{IsFitGroup, IsLaidOut, takes_group};
+ghost use Rattle.ga_source.specs.kept.Loading.{HasItem, HasRest, Holds, HoldsRest, IsLoadedGroup, IsMemory, IsWordOf, Keeps, Leads, MayEnd};
+ghost use Rattle.ga_source.specs.kept.Places.{IsCell, KeepsRest};
+ghost use Rattle.ga_source.specs.Cells.{KeepsElsewhere, is_asked, is_at, takes};
+ghost use Rattle.ga_source.specs.kept.Words.{op_in, nothing};
 
 use super::fault::{Cause, Fault, at};
 use super::item::{Asked, Group, Item, Value};
-use super::naming::{CELLS, named_cells};
 use super::packing::Packed;
-use super::reading::{begin_at, follows, resolve};
+use super::reading::{begin_at, behind, reaches, resolve};
+use super::spot::Spot;
 use ga_node::{Node, Place};
-use ga_ports::advance_p;
-use ga_slots::{Op, encode, target};
+use ga_slots::{Op, encode};
 use ga_word::Word18;
+
+/// The addresses of cells are below this.
+const CELLS: usize = 192;
 
 /// The place of the cell at an address, where there is one.
 pub(crate) fn place_of(address: u32) -> Option<Place>
@@ -39,7 +44,7 @@ fn with_target(word: Word18, slot: usize, address: u32) -> Word18
     ensures first { opcode_of result 0 ≡ opcode_of word 0 }
     ensures second { 1 ≤ slot → opcode_of result 1 ≡ opcode_of word 1 }
     ensures third { 2 ≤ slot → opcode_of result 2 ≡ opcode_of word 2 }
-    ensures leads { (p : ℕ) → reaches p slot (Some address) ≡ true → target_of p result slot ≡ address }
+    ensures leads { (p : ℕ) → reaches_to p slot (Some address) ≡ true → target_of p result slot ≡ address }
 {
     let kept = word.get();
     Word18::truncated(match slot {
@@ -60,148 +65,216 @@ fn opcode_in(item: Item) -> Op
     }
 }
 
-/// The label of a jump.
-fn label_in(item: Item) -> Option<usize>
-    ensures { result ≡ label_of item }
+/// A word of four `.`.
+fn all_nop() -> [Op; 4]
+    ensures { result ≡ replicate 4 Op.Nop }
 {
-    match item {
-        Item::Back(_, label) | Item::Ahead(_, label) => Some(label),
-        _ => None,
-    }
+    [Op::Nop; 4]
 }
 
-/// The instruction word of some items: each in its slot, and `.` behind.
-#[tactic(auto, using(crate::proofs::Targets::each_kept, crate::proofs::Targets::one_more))]
-fn code_word(labels: &[Option<u32>], items: &[Item]) -> Option<Word18>
-    ensures { IfSome result (λ word. (k : ℕ) → k < length items.now → opcode_of word k ≡ op_in (slice_index_or items.now k nothing)) }
+/// The opcodes of items, and `.` behind.
+fn opcodes_in(items: &[Item]) -> [Op; 4]
+    requires { length items.now ≤ 4 }
+    ensures size { length result ≡ 4 }
+    ensures ops { (k : ℕ) → k < length items.now → slice_index_or result k Op.Return ≡ op_in (slice_index_or items.now k nothing) }
+    ensures behind { (k : ℕ) → length items.now ≤ k → k < 4 → slice_index_or result k Op.Return ≡ Op.Nop }
 {
-    let mut ops = [Op::Nop; 4];
-    let mut jump: Option<(usize, u32)> = None;
+    let mut ops = all_nop();
     for (slot, item) in items.iter().enumerate() {
-        if slot >= 4 || jump.is_some() {
-            return None;
-        }
         ops[slot] = opcode_in(*item);
-        if let Some(label) = label_in(*item) {
-            jump = Some((slot, resolve(labels, Value::Label(label))?));
-        }
     }
-    let word = encode(ops)?;
-    match jump {
-        Some((slot, address)) => {
-            if slot < 3 && slot + 1 == items.len() {
-                Some(with_target(word, slot, address))
-            } else {
-                None
-            }
-        }
-        None => Some(word),
+    ops
+}
+
+/// The instruction word with the opcodes of some items, and `.` behind.
+fn opcode_word(items: &[Item]) -> Word18
+    requires few { length items.now ≤ 4 }
+    requires last { length items.now ≡ 4 → code_of (op_in (slice_index_or items.now 3 nothing)) % 4 ≡ 0 }
+    ensures ops { (k : ℕ) → k < length items.now → opcode_of result k ≡ op_in (slice_index_or items.now k nothing) }
+    ensures behind { (k : ℕ) → length items.now ≤ k → k < 4 → opcode_of result k ≡ Op.Nop }
+{
+    match encode(opcodes_in(items)) {
+        Some(word) => word,
+        None => unreachable!(),
     }
 }
 
-/// The first word of a group.
-fn word_of(labels: &[Option<u32>], items: &[Item]) -> Option<Word18> {
-    match items {
-        [Item::Cell(value)] => Word18::new(resolve(labels, *value)?),
-        _ => code_word(labels, items),
+/// A value as a word, where it is one.
+fn value_in(labels: &[Option<u32>], value: Value) -> Option<Word18>
+    ensures { IfSome result (λ word. resolved labels.now value ≡ Some word) }
+{
+    Word18::new(resolve(labels, value)?)
+}
+
+/// The word with a jump to a label in its slot, the last one, where the label has an address.
+fn with_jump(labels: &[Option<u32>], word: Word18, slot: usize, label: usize) -> Option<Word18>
+    requires { slot < 3 }
+    ensures leads { IfSome result (λ found. Leads labels.now found slot label) }
+    ensures before { IfSome result (λ found. (k : ℕ) → k ≤ slot → opcode_of found k ≡ opcode_of word k) }
+{
+    let address = resolve(labels, Value::Label(label))?;
+    Some(with_target(word, slot, address))
+}
+
+/// The word with its last item, in this slot, by the word of the opcodes.
+fn with_last(labels: &[Option<u32>], word: Word18, slot: usize, last: Item) -> Option<Word18>
+    requires { MayEnd slot last }
+    ensures has { IfSome result (λ found. opcode_of word slot ≡ op_in last → HasItem labels.now found slot last) }
+    ensures before { IfSome result (λ found. (k : ℕ) → k < slot → opcode_of found k ≡ opcode_of word k) }
+    ensures behind { IfSome result (λ found. ends_cell last ≡ false → found ≡ word) }
+{
+    match last {
+        Item::Cell(value) => value_in(labels, value),
+        Item::Back(_, label) => with_jump(labels, word, slot, label),
+        Item::Ahead(_, label) => with_jump(labels, word, slot, label),
+        Item::Opcode(_) | Item::Literal(_) => Some(word),
     }
 }
 
-/// Writes a cell that the requests name and that wasn't given before.
+/// The word of a group, where the values that it names are words.
+fn word_of(labels: &[Option<u32>], group: &Group) -> Option<Word18>
+    requires begun { 0 < length group.now.items.items }
+    requires fit { IsFitGroup labels.now group.now }
+    ensures { IfSome result (λ word. IsWordOf labels.now group.now.items.items word) }
+{
+    let items = group.items.as_slice();
+    let word = opcode_word(items);
+    let slot = items.len() - 1;
+    with_last(labels, word, slot, items[slot])
+}
+
+/// Writes a cell of a memory.
+fn set_cell(node: &mut Node, place: Place, word: Word18)
+    requires { IsMemory place }
+    ensures value { node.new ≡ with_value node.old place word }
+    ensures size { HasMemory node.old place }
+{
+    let _before = node.get(place);
+    node.set(place, word.get());
+}
+
+/// Writes a cell that wasn't given before.
 fn write(
     node: &mut Node,
-    given: &mut [u32],
-    named: &[bool],
+    given: &mut [Option<u32>],
     line: u32,
     address: u32,
-    word: u32,
+    word: Word18,
 ) -> Result<(), Fault<'static>>
     ensures rest { OnOk result (KeepsRest node.old node.new) }
-    ensures elsewhere { OnOk result (KeepsElsewhere (λ k. slice_index_or named.now k false) node.old node.new) }
+    ensures elsewhere { OnOk result (KeepsElsewhere (is_at address) node.old node.new) }
+    ensures written { OnOk result (word_in node.new address ≡ Some word) }
+    ensures held { OnOk result (Holds given.new (address % 512)) }
+    ensures kept { OnOk result (Keeps node.old given.old node.new given.new) }
 {
     let Some(place) = place_of(address) else {
         return Err(at(line, Cause::Past));
     };
     let cell = (address % 512) as usize;
-    if cell >= given.len() || cell >= named.len() {
+    if cell >= given.len() {
         return Err(at(line, Cause::Past));
     }
-    if given[cell] != 0 {
-        return Err(at(line, Cause::CellTwice(given[cell])));
+    if let Some(before) = given[cell] {
+        return Err(at(line, Cause::CellTwice(before)));
     }
-    if !named[cell] {
-        return Err(at(line, Cause::Differs));
-    }
-    given[cell] = line;
-    node.set(place, Word18::truncated(word).get());
+    given[cell] = Some(line);
+    set_cell(node, place, word);
     Ok(())
 }
 
-/// Writes the cells of a group: its word, and then by its items the literals, and whether the jump reaches its label.
+/// Whether a jump reaches its label from its spot.
+fn see_jump(
+    labels: &[Option<u32>],
+    line: u32,
+    spot: Spot,
+    label: usize,
+) -> Result<(), Fault<'static>>
+    ensures { OnOk result ((spot.slot < 3) × (reaches_to spot.p spot.slot (resolved labels.now (Value.Label label)) ≡ true)) }
+{
+    let to = resolve(labels, Value::Label(label));
+    if spot.slot < 3 && reaches(spot.p, spot.slot, to) {
+        Ok(())
+    } else {
+        Err(at(line, Cause::Reach))
+    }
+}
+
+/// Writes the cell of a literal, or sees whether a jump reaches its label.
+fn write_item(
+    node: &mut Node,
+    given: &mut [Option<u32>],
+    labels: &[Option<u32>],
+    line: u32,
+    spot: Spot,
+    item: Item,
+) -> Result<(), Fault<'static>>
+    ensures rest { OnOk result (KeepsRest node.old node.new) }
+    ensures elsewhere { OnOk result (KeepsElsewhere (takes spot item) node.old node.new) }
+    ensures has { OnOk result (HasRest node.new labels.now spot item) }
+    ensures held { OnOk result (HoldsRest given.new spot item) }
+    ensures kept { OnOk result (Keeps node.old given.old node.new given.new) }
+{
+    match item {
+        Item::Literal(value) => match value_in(labels, value) {
+            Some(word) => write(node, given, line, spot.p, word),
+            None => Err(at(line, Cause::Number)),
+        },
+        Item::Back(_, label) => see_jump(labels, line, spot, label),
+        Item::Ahead(_, label) => see_jump(labels, line, spot, label),
+        Item::Opcode(_) | Item::Cell(_) => Ok(()),
+    }
+}
+
+/// Writes the cells of a group: its word, and then by its items the literals.
 fn write_group(
     node: &mut Node,
-    given: &mut [u32],
-    named: &[bool],
+    given: &mut [Option<u32>],
     labels: &[Option<u32>],
     group: &Group,
 ) -> Result<(), Fault<'static>>
+    requires { IsFitGroup labels.now group.now }
     ensures rest { OnOk result (KeepsRest node.old node.new) }
-    ensures elsewhere { OnOk result (KeepsElsewhere (λ k. slice_index_or named.now k false) node.old node.new) }
+    ensures elsewhere { OnOk result (KeepsElsewhere (λ cell. takes_group cell group.now) node.old node.new) }
+    ensures kept { OnOk result (Keeps node.old given.old node.new given.new) }
+    ensures loaded { OnOk result (IsLoadedGroup node.new labels.now given.new group.now) }
 {
     if let Some(line) = group.broken {
         return Err(at(line, Cause::Loop));
     }
     let items = group.items.as_slice();
-    let Some(word) = word_of(labels, items) else {
-        return Err(at(group.line(), Cause::Differs));
-    };
-    write(node, given, named, group.line(), group.address, word.get())?;
-    let mut p = advance_p(group.address);
-    for (i, item) in items.iter().enumerate() {
-        if let Item::Literal(value) = item {
-            let Some(number) = resolve(labels, *value) else {
-                return Err(at(group.line_of(i), Cause::Differs));
-            };
-            write(node, given, named, group.line_of(i), p, number)?;
-            p = advance_p(p);
-        }
+    if items.is_empty() {
+        return Ok(());
     }
-    if misses(labels, items, p) {
-        return Err(at(group.line_of(items.len().saturating_sub(1)), Cause::Reach));
+    let Some(word) = word_of(labels, group) else {
+        return Err(at(group.line(), Cause::Number));
+    };
+    write(node, given, group.line(), group.address, word)?;
+    let mut spot = begin_at(group.address);
+    for (i, item) in items.iter().enumerate() {
+        write_item(node, given, labels, group.line_of(i), spot, *item)?;
+        spot = behind(spot, *item);
     }
     Ok(())
 }
 
-/// Whether the last item is a jump that doesn't lead to its label, with P behind the cell and its literals.
-fn misses(labels: &[Option<u32>], items: &[Item], p: u32) -> bool {
-    let Some(last) = items.last() else {
-        return true;
-    };
-    let Some(label) = label_in(*last) else {
-        return false;
-    };
-    let Some(address) = resolve(labels, Value::Label(label)) else {
-        return true;
-    };
-    let slot = items.len() - 1;
-    slot >= 3 || target(p, Word18::truncated(address), slot as u8) != address
+/// No cell is given.
+fn none_given() -> [Option<u32>; CELLS]
+    ensures { length result ≡ 192 }
+{
+    [None; CELLS]
 }
 
 /// Loads packed groups into a node, whose cells then read as what was asked. Its registers stay.
 pub(crate) fn load(node: &mut Node, packed: &Packed, asked: &[Asked]) -> Result<(), Fault<'static>>
+    requires { IsLaidOut packed.now asked.now }
     ensures follows { OnOk result (follows_of node.new packed.now.labels.items (begin_of 0) asked.now ≡ true) }
     ensures rest { OnOk result (KeepsRest node.old node.new) }
     ensures elsewhere { OnOk result (KeepsElsewhere (is_asked packed.now.labels.items (begin_of 0) asked.now) node.old node.new) }
 {
     let labels = packed.labels.as_slice();
-    let named = named_cells(labels, asked);
-    let mut given = [0u32; CELLS];
+    let mut given = none_given();
     for group in &packed.groups {
-        write_group(node, &mut given, &named, labels, group)?;
+        write_group(node, &mut given, labels, group)?;
     }
-    if follows(node, labels, begin_at(0), asked) {
-        Ok(())
-    } else {
-        Err(at(0, Cause::Differs))
-    }
+    Ok(())
 }

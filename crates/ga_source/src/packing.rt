@@ -1,15 +1,15 @@
 //! Requests packed into groups.
 
-ghost use Rattle.std.specs.Prelude.{◌≡◌, ◌<◌, ◌++◌, [], ◌∷◌, length, IsTrue, IfOk, OnOk};
-ghost use Rattle.ga_source.specs.kept.Packing.{items_of, asked_items, group_items};
-ghost use Rattle.ga_source.specs.kept.Packing.{so_far};
+ghost use Rattle.std.specs.Prelude.{◌≡◌, ℕ, [], ◌∷◌, ◌++◌, List, IsTrue, IfOk, OnOk, slice_index_or};
+ghost use Rattle.ga_source.specs.declared.item.Asked.{Asked};
+ghost use Rattle.ga_source.specs.Reading.{after_request};
+ghost use Rattle.ga_source.specs.kept.Layout.{IsClosed, IsFilling, IsInCell, IsKnown, IsLaidOut, IsPending, IsWalked};
 
 use super::fault::{Cause, Fault, at};
 use super::item::{Asked, Group, Item, Request};
-use super::reading::{carried, ends_cell, fits, moves_p};
+use super::reading::{begin_at, behind, carried, fits, next_cell};
 use super::spot::Spot;
 use arrayvec::ArrayVec;
-use ga_ports::advance_p;
 use ga_slots::Op;
 use std::alloc::{AllocError, Global};
 use std::mem;
@@ -31,137 +31,186 @@ struct Packer {
     lines: ArrayVec<u32, 4>,
     /// The line of an `unext` in that cell that can't stand there.
     broken: Option<u32>,
-    /// The address of the cell that is being filled.
-    here: u32,
+    /// Where the walk through the requests is: in the cell that is being filled, behind its items.
+    spot: Spot,
 }
 
-/// P behind the word at an address and its literals.
-fn behind(address: u32, items: &[Item]) -> u32 {
-    let mut p = advance_p(address);
-    for item in items {
-        if let Item::Literal(_) = item {
-            p = advance_p(p);
-        }
+/// The line of an `unext` that can't stand in its cell, where it, the last one, goes to the cell's label.
+fn broken_by(before: Option<u32>, line: u32, is_loop: bool) -> Option<u32>
+    ensures { result ≡ None → (before ≡ None) × IsTrue is_loop }
+{
+    match before {
+        Some(before) => Some(before),
+        None => if is_loop { None } else { Some(line) },
     }
-    p
-}
-
-/// Whether one of the items is an opcode that moves P.
-fn is_moved(items: &[Item]) -> bool {
-    for item in items {
-        if moves_p(*item) {
-            return true;
-        }
-    }
-    false
 }
 
 impl Packer {
     /// The address of a label, where it is known.
-    fn address(&self, label: usize) -> Option<u32> {
+    fn address(&self, label: usize) -> Option<u32>
+        ensures { result ≡ slice_index_or self.now.labels.items label None }
+    {
         match self.labels.get(label) {
             Some(address) => *address,
             None => None,
         }
     }
 
-    /// Whether the item has room in the cell that is being filled.
-    fn has_room(&self, item: Item) -> bool
-        ensures { IsTrue result → length self.now.filling.items < 4 }
+    /// Whether the item is no jump back to a label whose address isn't known.
+    fn is_known(&self, item: Item) -> bool
+        ensures { IsTrue result → IsKnown self.now.labels.items item }
     {
-        let slot = self.filling.len();
-        let spot = Spot {
-            at: self.here,
-            slot: slot as u8,
-            p: behind(self.here, self.filling.as_slice()),
-            is_moved: is_moved(self.filling.as_slice()),
-        };
-        slot < 4 && fits(self.labels.as_slice(), spot, item)
+        match item {
+            Item::Back(_, label) => self.address(label).is_some(),
+            _ => true,
+        }
     }
 
     /// Ends the cell that is being filled.
     fn close(&mut self) -> Result<(), AllocError>
-        ensures empty { OnOk result (self.new.filling.items ≡ []) }
-        ensures same { OnOk result (group_items self.new.groups.items ≡ so_far self.old.groups.items self.old.filling.items) }
+        ensures { OnOk result (IsClosed self.old self.new) }
     {
-        if !self.filling.is_empty() {
-            let items = mem::replace(&mut self.filling, ArrayVec::new());
-            let address = self.here;
-            let next = match items.as_slice() {
-                [Item::Cell(_)] => advance_p(address),
-                found => behind(address, found),
-            };
-            self.groups.push(Group {
-                address,
-                items,
-                lines: mem::replace(&mut self.lines, ArrayVec::new()),
-                broken: mem::replace(&mut self.broken, None),
-            })?;
-            self.here = next;
+        if self.filling.is_empty() && self.broken.is_none() {
+            return Ok(());
         }
+        self.groups.push(Group {
+            address: self.spot.at,
+            items: mem::replace(&mut self.filling, ArrayVec::new()),
+            lines: mem::replace(&mut self.lines, ArrayVec::new()),
+            broken: mem::replace(&mut self.broken, None),
+        })?;
         Ok(())
     }
 
-    /// Puts an item into the next place where it fits.
-    fn put(&mut self, line: u32, item: Item) -> Result<(), AllocError>
-        ensures { OnOk result (so_far self.new.groups.items self.new.filling.items ≡ so_far self.old.groups.items self.old.filling.items ++ item ∷ []) }
+    /// Goes on in the next cell where the item has no room in this one.
+    fn make_room(&mut self, item: Item) -> Result<(), AllocError>
+        requires { IsInCell self.old }
+        ensures cell { OnOk result (IsInCell self.new) }
+        ensures pending { OnOk result ((before : List Asked) (line : ℕ) → IsKnown self.old.labels.items item → IsWalked self.old before →
+            IsPending self.new (before ++ record { line = line; request = Request.Put item } ∷ []) item) }
     {
-        if !self.has_room(item) {
-            self.close()?;
+        if fits(self.labels.as_slice(), self.spot, item) {
+            return Ok(());
         }
+        self.close()?;
+        let next = next_cell(self.spot);
+        self.spot = next;
+        Ok(())
+    }
+
+    /// Puts an item at the spot, where it has room.
+    fn add(&mut self, line: u32, item: Item) -> Result<(), AllocError>
+        requires { IsInCell self.old }
+        ensures cell { OnOk result (IsInCell self.new) }
+        ensures walked { OnOk result ((asked : List Asked) → IsPending self.old asked item → IsWalked self.new asked) }
+    {
         self.filling.push(item);
         let _fits = self.lines.try_push(line);
-        if ends_cell(item) || self.filling.is_full() {
+        let next = behind(self.spot, item);
+        if next.slot == 0 {
             self.close()?;
+            self.spot = next;
+            return Ok(());
         }
+        self.spot = next;
         Ok(())
     }
 
     /// Whether the cell that is being filled is the label's, and has no literal.
-    fn is_loop(&self, label: usize) -> bool {
+    fn is_loop(&self, label: usize) -> bool
+        ensures { IsTrue result → slice_index_or self.now.labels.items label None ≡ Some self.now.spot.at }
+    {
         for item in self.filling.as_slice() {
             if let Item::Literal(_) = item {
                 return false;
             }
         }
-        !self.filling.is_empty() && self.address(label) == Some(self.here)
+        !self.filling.is_empty() && self.address(label) == Some(self.spot.at)
+    }
+
+    /// Takes an item.
+    fn put(&mut self, asked: Asked, item: Item) -> Result<(), Fault<'static>>
+        requires cell { IsInCell self.old }
+        requires put { asked.request ≡ Request.Put item }
+        ensures cell { OnOk result (IsInCell self.new) }
+        ensures walked { OnOk result ((before : List Asked) → IsWalked self.old before → IsWalked self.new (before ++ asked ∷ [])) }
+    {
+        if !self.is_known(item) {
+            return Err(at(asked.line, Cause::Unmatched));
+        }
+        self.make_room(item)?;
+        self.add(asked.line, item)?;
+        Ok(())
+    }
+
+    /// Takes an `unext` to a label.
+    fn unext(&mut self, asked: Asked, label: usize) -> Result<(), Fault<'static>>
+        requires cell { IsInCell self.old }
+        requires unext { asked.request ≡ Request.Unext label }
+        ensures cell { OnOk result (IsInCell self.new) }
+        ensures walked { OnOk result ((before : List Asked) → IsWalked self.old before → IsWalked self.new (before ++ asked ∷ [])) }
+    {
+        let is_loop = self.is_loop(label);
+        let broken = broken_by(self.broken, asked.line, is_loop);
+        self.broken = broken;
+        self.add(asked.line, Item::Opcode(Op::Unext))?;
+        Ok(())
+    }
+
+    /// Takes the place of a label.
+    fn mark(&mut self, asked: Asked, label: usize) -> Result<(), Fault<'static>>
+        requires cell { IsInCell self.old }
+        requires mark { asked.request ≡ Request.Mark label }
+        ensures cell { OnOk result (IsInCell self.new) }
+        ensures walked { OnOk result ((before : List Asked) → IsWalked self.old before → IsWalked self.new (before ++ asked ∷ [])) }
+    {
+        self.close()?;
+        let next = next_cell(self.spot);
+        self.spot = next;
+        if label >= self.labels.len() {
+            return Err(at(asked.line, Cause::Unmatched));
+        }
+        if self.labels[label].is_some() {
+            return Err(at(asked.line, Cause::LabelTwice));
+        }
+        self.labels[label] = Some(self.spot.at);
+        Ok(())
+    }
+
+    /// Ends the cell, and goes on in the one at a spot.
+    fn go(&mut self, asked: Asked, spot: Spot) -> Result<(), Fault<'static>>
+        requires cell { IsInCell self.old }
+        requires begin { spot.slot ≡ 0 }
+        requires fills { IsFilling asked.request }
+        requires after { after_request self.old.labels.items self.old.spot asked.request ≡ spot }
+        ensures cell { OnOk result (IsInCell self.new) }
+        ensures walked { OnOk result ((before : List Asked) → IsWalked self.old before → IsWalked self.new (before ++ asked ∷ [])) }
+    {
+        self.close()?;
+        self.spot = spot;
+        Ok(())
     }
 
     fn take(&mut self, asked: Asked) -> Result<(), Fault<'static>>
-        ensures { OnOk result (so_far self.new.groups.items self.new.filling.items ≡ so_far self.old.groups.items self.old.filling.items ++ items_of asked.request) }
+        requires { IsInCell self.old }
+        ensures cell { OnOk result (IsInCell self.new) }
+        ensures walked { OnOk result ((before : List Asked) → IsWalked self.old before → IsWalked self.new (before ++ asked ∷ [])) }
     {
+        let next = next_cell(self.spot);
         match asked.request {
-            Request::Put(item) => self.put(asked.line, item)?,
-            Request::Unext(label) => {
-                if !self.is_loop(label) && self.broken.is_none() {
-                    self.broken = Some(asked.line);
-                }
-                self.put(asked.line, Item::Opcode(Op::Unext))?;
-            }
-            Request::Mark(label) => {
-                self.close()?;
-                if label >= self.labels.len() {
-                    return Err(at(asked.line, Cause::Unmatched));
-                }
-                self.labels[label] = Some(self.here);
-            }
-            Request::Fill => self.close()?,
-            Request::Go(address) => {
-                self.close()?;
-                self.here = address;
-            }
-            Request::Carry(is_set) => {
-                self.close()?;
-                self.here = carried(is_set, self.here);
-            }
+            Request::Put(item) => self.put(asked, item),
+            Request::Unext(label) => self.unext(asked, label),
+            Request::Mark(label) => self.mark(asked, label),
+            Request::Fill => self.go(asked, next),
+            Request::Go(address) => self.go(asked, begin_at(address)),
+            Request::Carry(is_set) => self.go(asked, begin_at(carried(is_set, next.at))),
         }
-        Ok(())
     }
 }
 
 /// Packs requests, which name so many labels.
 pub(crate) fn pack(alloc: Global, asked: &[Asked], labels: usize) -> Result<Packed, Fault<'static>>
-    ensures { IfOk result (λ packed. group_items packed.groups.items ≡ asked_items asked.now) }
+    ensures { IfOk result (λ packed. IsLaidOut packed asked.now) }
 {
     let mut packer = Packer {
         groups: Vec::new(alloc),
@@ -169,7 +218,7 @@ pub(crate) fn pack(alloc: Global, asked: &[Asked], labels: usize) -> Result<Pack
         filling: ArrayVec::new(),
         lines: ArrayVec::new(),
         broken: None,
-        here: 0,
+        spot: begin_at(0),
     };
     for one in asked {
         packer.take(*one)?;

@@ -1,6 +1,8 @@
 //! A text as words.
 
-ghost use Rattle.std.specs.Prelude.{◌≡◌, ◌<◌, ◌==◌, ◌||◌, length, IsOkAnd, IsErrAnd};
+ghost use Rattle.std.specs.Prelude.{◌≡◌, ◌<◌, [], ◌∷◌, ◌++◌, length, IsOkAnd, IsErrAnd, IfOk, OnOk};
+ghost use Rattle.std.specs.List.{list_all};
+ghost use Rattle.ga_source.specs.kept.Saying.{lines_of, is_blank as is_blank_byte, parted, closes as closes_comment, said_by, is_word, said_in, all_said};
 ghost use Rattle.ga_source.specs.declared.scan.Kind.TheVariants.{Word, LongLine, OpenComment};
 ghost use Rattle.ga_source.specs.declared.fault.Cause.TheVariants.{LongLine as TooLong, OpenComment as LeftOpen};
 
@@ -43,73 +45,58 @@ impl<'s> Token<'s> {
 /// How many bytes a line may have.
 const LONGEST: usize = 200;
 
-/// Which words are left out.
-#[derive(Clone, Copy, PartialEq, Eq)]
-enum Comment {
-    Nothing,
-    Line,
-    Closed,
-}
-
 fn is_blank(byte: u8) -> bool
-    ensures { result ≡ (byte == 32 || byte == 9) }
+    ensures { result ≡ is_blank_byte byte }
 {
     byte == b' ' || byte == b'\t'
 }
 
-/// What is left out behind a word.
-fn after(comment: Comment, text: &[u8]) -> Comment {
-    match comment {
-        Comment::Line => Comment::Line,
-        Comment::Closed => {
-            if let [.., b')'] = text {
-                Comment::Nothing
-            } else {
-                Comment::Closed
-            }
-        }
-        Comment::Nothing => {
-            if text == b"\\".as_slice() {
-                Comment::Line
-            } else if text == b"(".as_slice() {
-                Comment::Closed
-            } else {
-                Comment::Nothing
-            }
+/// Whether a word closes a comment.
+fn closes(word: &[u8]) -> bool
+    ensures { result ≡ closes_comment word.now }
+{
+    if let [.., b')'] = word { true } else { false }
+}
+
+/// What stands before the first blank or tab, and what behind it.
+fn first_part(text: &[u8]) -> (&[u8], &[u8])
+    requires { 0 < length text.now }
+    ensures splits { parted is_blank_byte text.now ≡ result.0.now ∷ parted is_blank_byte result.1.now }
+    ensures shorter { length result.1.now < length text.now }
+{
+    for (i, byte) in text.iter().enumerate() {
+        if is_blank(*byte) {
+            return (text.split_at(i).0, text.split_at(i + 1).1);
         }
     }
+    (text, &[])
 }
 
 /// Adds the words of a line, and then its fault where it has one. True where it has none.
-fn scan_line<'s>(
-    tokens: &mut Vec<Token<'s>>,
-    line: u32,
-    text: &'s [u8],
-) -> Result<bool, AllocError> {
+fn scan_line<'s>(tokens: &mut Vec<Token<'s>>, line: u32, text: &'s [u8]) -> Result<bool, AllocError>
+    ensures says { OnOk result (all_said tokens.new.items ≡ all_said tokens.old.items ++ said_by line text.now) }
+    ensures whole { IfOk result (λ whole. whole ≡ list_all is_word (said_by line text.now)) }
+{
     if text.len() > LONGEST {
         push(tokens, line, &[], Kind::LongLine)?;
         return Ok(false);
     }
-    let mut comment = Comment::Nothing;
+    let mut is_open = false;
     let mut rest = text;
     while !rest.is_empty() {
-        let end = rest
-            .iter()
-            .position(|byte| is_blank(*byte))
-            .unwrap_or(rest.len());
-        if end == 0 {
-            rest = &rest[1..];
-        } else {
-            let (word, behind) = rest.split_at(end);
-            let next = after(comment, word);
-            if comment == Comment::Nothing && next == Comment::Nothing {
-                push(tokens, line, word, Kind::Word)?;
-            }
-            comment = next;
-            rest = behind;
+        let (part, behind) = first_part(rest);
+        if is_open {
+            is_open = !closes(part);
+        } else if part == b"\\".as_slice() {
+            return Ok(true);
+        } else if part == b"(".as_slice() {
+            is_open = true;
+        } else if !part.is_empty() {
+            push(tokens, line, part, Kind::Word)?;
         }
+        rest = behind;
     }
-    if comment == Comment::Closed {
+    if is_open {
         push(tokens, line, &[], Kind::OpenComment)?;
         return Ok(false);
     }
@@ -121,7 +108,9 @@ fn push<'s>(
     line: u32,
     text: &'s [u8],
     kind: Kind,
-) -> Result<(), AllocError> {
+) -> Result<(), AllocError>
+    ensures { OnOk result (all_said tokens.new.items ≡ all_said tokens.old.items ++ record { line = line; text = text.now; kind = kind } ∷ []) }
+{
     tokens.push(Token { line, text, kind })?;
     Ok(())
 }
@@ -129,7 +118,8 @@ fn push<'s>(
 /// The first line and the text behind it.
 fn first_line(text: &[u8]) -> (&[u8], &[u8])
     requires { 0 < length text.now }
-    ensures { length result.1.now < length text.now }
+    ensures splits { lines_of text.now ≡ result.0.now ∷ lines_of result.1.now }
+    ensures shorter { length result.1.now < length text.now }
 {
     for (i, byte) in text.iter().enumerate() {
         if *byte == b'\n' {
@@ -140,7 +130,9 @@ fn first_line(text: &[u8]) -> (&[u8], &[u8])
 }
 
 /// The words of a text, up to its end, to a line `end` or to the first line with a fault.
-pub(crate) fn scan(alloc: Global, source: &[u8]) -> Result<Vec<Token<'_>>, AllocError> {
+pub(crate) fn scan(alloc: Global, source: &[u8]) -> Result<Vec<Token<'_>>, AllocError>
+    ensures { IfOk result (λ tokens. all_said tokens.items ≡ said_in source.now) }
+{
     let mut tokens = Vec::new(alloc);
     let mut rest = source;
     let mut line = 1u32;

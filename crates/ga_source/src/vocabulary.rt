@@ -1,9 +1,10 @@
 //! The words that stand for themselves.
 
-ghost use Rattle.std.specs.Prelude.{◌≡◌, ◌+◌, ◌≤◌, IfSome};
+ghost use Rattle.std.specs.Prelude.{◌≡◌, ◌+◌};
 ghost use Rattle.ga_node.specs.Places.{greatest_of};
 ghost use Rattle.ga_source.specs.kept.Vocabulary.{by_name, closings, controls, directives, place_of};
 
+use super::number::{Number, number_of};
 use ga_slots::Op;
 
 /// A word that begins or ends a control structure.
@@ -174,120 +175,4 @@ fn closing_named(text: &[u8]) -> Option<Control>
     } else {
         None
     }
-}
-
-/// The number of a digit, below 16.
-fn digit(byte: u8) -> Option<u32> {
-    match byte {
-        b'0'..=b'9' => Some(u32::from(byte - b'0')),
-        b'a'..=b'f' => Some(u32::from(byte - b'a') + 10),
-        b'A'..=b'F' => Some(u32::from(byte - b'A') + 10),
-        _ => None,
-    }
-}
-
-/// The number of some digits of a base, where there are only such; from 2^24 on it stays.
-fn digits(text: &[u8], base: u32) -> Option<u32>
-    requires { base ≤ 16 }
-{
-    if text.is_empty() {
-        return None;
-    }
-    let mut number = 0u32;
-    for byte in text {
-        let next = digit(*byte)?;
-        if next >= base {
-            return None;
-        }
-        if number < 0x100_0000 {
-            number = number * base + next;
-        }
-    }
-    Some(number)
-}
-
-/// A number as it is written, where the word is one.
-fn plain(text: &[u8]) -> Option<u32> {
-    match text.strip_prefix(b"0x") {
-        Some(rest) => digits(rest, 16),
-        None => digits(text, 10),
-    }
-}
-
-/// What a word says of a number.
-#[derive(Clone, Copy, PartialEq, Eq, Debug)]
-pub(crate) enum Number {
-    Of(u32),
-    OutOfRange,
-    Nothing,
-}
-
-/// The number of a word modulo 2^18.
-pub(crate) fn number_of(text: &[u8]) -> Number {
-    if let Some(address) = port(text) {
-        return Number::Of(address);
-    }
-    match text.strip_prefix(b"-") {
-        Some(rest) => match plain(rest) {
-            Some(size) => {
-                if size <= 0x2_0000 {
-                    Number::Of((0x4_0000 - size) % 0x4_0000)
-                } else {
-                    Number::OutOfRange
-                }
-            }
-            None => Number::Nothing,
-        },
-        None => match plain(text) {
-            Some(size) => {
-                if size < 0x4_0000 {
-                    Number::Of(size)
-                } else {
-                    Number::OutOfRange
-                }
-            }
-            None => Number::Nothing,
-        },
-    }
-}
-
-/// The bit of a letter of a set of ports, none for a hyphen.
-fn side(byte: u8, letter: u8, bit: u32) -> Option<u32>
-    ensures { IfSome result (λ found. found ≤ bit) }
-{
-    if byte == letter {
-        Some(bit)
-    } else if byte == b'-' {
-        Some(0)
-    } else {
-        None
-    }
-}
-
-/// The address of a port or of a set of ports.
-fn port(text: &[u8]) -> Option<u32> {
-    if text == b"right".as_slice() {
-        Some(0x1d5)
-    } else if text == b"down".as_slice() {
-        Some(0x115)
-    } else if text == b"left".as_slice() {
-        Some(0x175)
-    } else if text == b"up".as_slice() {
-        Some(0x145)
-    } else if text == b"io".as_slice() {
-        Some(0x15d)
-    } else {
-        ports(text)
-    }
-}
-
-fn ports(text: &[u8]) -> Option<u32> {
-    let [right, down, left, up] = text else {
-        return None;
-    };
-    let set = side(*right, b'r', 0x80)?
-        + side(*down, b'd', 0x40)?
-        + side(*left, b'l', 0x20)?
-        + side(*up, b'u', 0x10)?;
-    if set == 0 { None } else { Some(0x155 ^ set) }
 }

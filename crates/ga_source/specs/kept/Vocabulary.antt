@@ -1,7 +1,6 @@
 -- The control words and the directives by their names (docs/REFERENCE.md, "Source").
-use Rattle.std.specs.Prelude.{ℕ, ◌+◌, true, false, List, [], ◌∷◌, Option, Some, None, if◌then◌else◌, codes, bytes_eq}
+use Rattle.std.specs.Prelude.{ℕ, true, false, List, [], ◌∷◌, Option, Some, None, if◌then◌else◌, codes, bytes_eq}
 use Rattle.ga_slots.specs.declared.op.Op.TheVariants.{Jump, If as IfOp, MinusIf}
-use Rattle.ga_node.specs.Places.{greatest_of}
 use Rattle.ga_node.specs.declared.place.Place.{Place}
 use Rattle.ga_node.specs.declared.place.Place.TheVariants.{A as RegisterA, B as RegisterB, P as RegisterP}
 use Rattle.ga_source.specs.declared.vocabulary.Control.{Control}

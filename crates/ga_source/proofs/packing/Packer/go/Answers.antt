@@ -1,0 +1,5 @@
+use Rattle.ga_source.proofs.Marking.{gone}
+use Rattle.ga_source.proofs.packing.Packer.go.Goals as goal
+
+pub returns-clause-walked : goal.returns-clause-walked
+returns-clause-walked c = λ before w. gone c.args.self.now c.close.new.self c.args.spot before c.args.asked c.requires.fills c.requires.cell c.requires.after w c.in_ok-close.ensures

@@ -1,0 +1,11 @@
+use Rattle.std.proofs.Common.{rules, ◌≡◌, ◌∙◌, ◌<◌, None, ap, refl, length, slice_index_or}
+use Rattle.ga_source.specs.Reading.{next_cell}
+use Rattle.ga_source.proofs.Marking.{marked_as}
+use Rattle.ga_source.proofs.packing.Packer.mark.Goals as goal
+
+pub returns-clause-walked : goal.returns-clause-walked
+returns-clause-walked c =
+    let is_next = c.next_cell-next.ensures.value ∙ ap next_cell c.in_ok-close.ensures.spot_stays in
+    let small : c.args.label < length c.close.new.self.labels.items = search rules in
+    let unknown : slice_index_or c.close.new.self.labels.items c.args.label None ≡ None = search rules in
+    λ before w. marked_as c.args.self.now c.close.new.self c.next_cell-next.result before c.args.asked c.args.label c.requires.mark c.requires.cell w c.in_ok-close.ensures is_next small unknown _ refl refl (search rules) refl

@@ -1,0 +1,13 @@
+use Rattle.std.proofs.Common.{rules, ◌++◌, ◌∷◌, [], sym, subst}
+use Rattle.ga_source.specs.declared.item.Asked.{Asked}
+use Rattle.ga_source.specs.declared.item.Request.TheVariants.{Put}
+use Rattle.ga_source.specs.kept.Layout.{IsKnown, IsWalked}
+use Rattle.ga_source.proofs.Marking.{of_request}
+use Rattle.ga_source.proofs.packing.Packer.put.Goals as goal
+
+pub returns-clause-walked : goal.returns-clause-walked
+returns-clause-walked c =
+    let known : IsKnown c.args.self.now.labels.items c.args.item = search rules in
+    let one : Asked = record { line = c.args.asked.line; request = Put c.args.item } in
+    λ before w. subst (λ (asked : Asked). IsWalked c.add.new.self (before ++ asked ∷ [])) (sym (of_request c.args.asked (Put c.args.item) c.requires.put))
+    (c.in_ok-add.ensures.walked (before ++ one ∷ []) (c.in_ok-make_room.ensures.pending before c.args.asked.line known w))

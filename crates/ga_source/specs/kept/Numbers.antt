@@ -1,0 +1,77 @@
+-- Numbers and ports as words of a source (docs/REFERENCE.md, "Source" and "Ports and addresses"; the notation is this project's own).
+use Rattle.std.specs.Prelude.{ℕ, ◌+◌, ◌-◌, ◌%◌, ◌==◌, nat_lt, nat_le, bit_xor, ◌&&◌, if◌then◌else◌, List, [], ◌∷◌, length, take, drop, codes, bytes_eq, Bool, Option, Some, None}
+use Rattle.std.specs.List.{list_all}
+use Rattle.std.specs.Option.{option_or, option_and_then, option_map_or}
+use Rattle.std.specs.Char.{is_digit}
+use Rattle.std.specs.Str.Parse.{digits_value}
+use Rattle.ga_source.specs.declared.number.Number.{Number}
+use Rattle.ga_source.specs.declared.number.Number.TheVariants.{Of, OutOfRange, Nothing}
+use Rattle.ga_source.specs.kept.Vocabulary.{by_name}
+use Rattle.ga_source.specs.kept.Saying.{has_bytes}
+
+infixl 10 ◌>>=◌
+abbrev pub ◌>>=◌ : {A B : Type 0} → Option A → (A → Option B) → Option B
+o >>= f = option_and_then f o
+
+-- ---- numbers
+
+-- the text is digits of a base, and has some
+abbrev pub is_numeral : ℕ → List ℕ → Bool
+is_numeral base text = has_bytes text && list_all (λ byte. is_digit byte base) text
+
+-- the number that digits of a base write
+abbrev pub digits_in : ℕ → List ℕ → Option ℕ
+digits_in base text = if is_numeral base text then Some (digits_value base text) else None
+
+-- the text begins so
+abbrev pub begins : List ℕ → List ℕ → Bool
+begins text front = bytes_eq (take (length front) text) front
+
+-- decimal digits, or hexadecimal ones behind `0x`
+abbrev pub plain_in : List ℕ → Option ℕ
+plain_in text = if begins text (codes "0x") then digits_in 16 (drop 2 text) else digits_in 10 text
+
+-- a number up to 262143
+abbrev pub word_of_size : ℕ → Number
+word_of_size size = if nat_lt size 262144 then Of size else OutOfRange
+
+-- a number down to -131072, modulo 2^18
+abbrev pub word_below : ℕ → Number
+word_below size = if nat_le size 131072 then Of ((262144 - size) % 262144) else OutOfRange
+
+abbrev pub numeral_in : List ℕ → Number
+numeral_in text =
+    if begins text (codes "-") then option_map_or word_below (plain_in (drop 1 text)) Nothing
+    else option_map_or word_of_size (plain_in text) Nothing
+
+-- ---- ports
+
+abbrev pub ports : List (List ℕ × ℕ)
+ports =
+    (codes "right", 0x1d5)
+    ∷ (codes "down", 0x115)
+    ∷ (codes "left", 0x175)
+    ∷ (codes "up", 0x145)
+    ∷ (codes "io", 0x15d)
+    ∷ []
+
+-- the bit of a side, where its letter stands
+abbrev pub side_bit : ℕ → ℕ → ℕ → Option ℕ
+side_bit letter bit byte = if byte == letter then Some bit else if byte == 45 then Some 0 else None
+
+-- a set of ports: a letter or a hyphen for each side
+unfoldable pub set_in : List ℕ → Option ℕ
+set_in (right ∷ down ∷ left ∷ up ∷ []) = do
+  r ← side_bit 114 0x80 right
+  d ← side_bit 100 0x40 down
+  l ← side_bit 108 0x20 left
+  u ← side_bit 117 0x10 up
+  if r + d + l + u == 0 then None else Some (bit_xor 0x155 (r + d + l + u))
+set_in _ = None
+
+abbrev pub port_in : List ℕ → Option ℕ
+port_in text = option_or (by_name ports text) (set_in text)
+
+-- ---- what a word says of a number: the address of a port, or the number modulo 2^18
+abbrev pub number_in : List ℕ → Number
+number_in text = option_map_or Of (port_in text) (numeral_in text)
