@@ -13,6 +13,9 @@ import tempfile
 from concurrent.futures import ThreadPoolExecutor
 
 NODE, MACHINE, WORDS, SOURCE, LISTING = "node.py", "machine.py", "words.py", "source.py", "listing.py"
+EXPLORE = "explore.py"
+# Which generator tells a wrong definition in a file; the others `sessions`.
+GENERATORS = {WORDS: "sources", SOURCE: "sources", LISTING: "sources", EXPLORE: "exploring"}
 WRONG = (
     # the grid
     (NODE, '(column % 2 == 0) == (side == "r")', '(column % 2 == 0) == (side == "l")'),
@@ -250,6 +253,18 @@ WRONG = (
     (LISTING, '("p", 0 if cells else load.p)', '("p", load.p)'),
     (LISTING, '("a", load.a), ("b", load.b)):', '("a", load.a)):'),
     (LISTING, "if address != following:", "if address > following + 1:"),
+    # exploring: runs, conditions, and what is asked of what is kept
+    (EXPLORE, "state = (state + 0x9E3779B97F4A7C15) % (1 << 64)", "state = (state + 0x9E3779B97F4A7C14) % (1 << 64)"),
+    (EXPLORE, "turn = node if order == \"greedy\" else (node + 1) % NODES", "turn = (node + 1) % NODES"),
+    (EXPLORE, "turn = node if order == \"greedy\" else (node + 1) % NODES", "turn = node"),
+    (EXPLORE, "return f\"full {made}\"", "return f\"full {made + 1}\""),
+    (EXPLORE, "return f\"quiet {made}\"", "return f\"quiet {most}\""),
+    (EXPLORE, "return own and event[2] == kind and (not words or event[0] == words[0])", "return own and event[2] == kind"),
+    (EXPLORE, "return len(self.sent(*map(number_of, words[:2]))) == int(words[2])", "return len(self.sent(*map(number_of, words[:2]))) > int(words[2])"),
+    (EXPLORE, "return self.chip[node].p == int(words[1], 16)", "return self.chip[node].p % 8 == int(words[1], 16)"),
+    (EXPLORE, "{left[at] + 1} {self.steps[at] - left[at]}", "{left[at]} {self.steps[at] - left[at]}"),
+    (EXPLORE, "if event == (writer, reader)]", "if set(event) == {writer, reader}]"),
+    (EXPLORE, "getattr(before, store[1])) == (\"ram\", address % 64)", "getattr(behind, store[1])) == (\"ram\", address % 64)"),
 )
 
 
@@ -265,7 +280,7 @@ def told(room, number, program, count):
         return f"its text stands {right.count(old)} times, and not once"
     with open(f"{folder}/{file}", "w", encoding="utf-8") as text:
         text.write(right.replace(old, new))
-    ran = subprocess.run([sys.executable, "-B", f"{folder}/{'sources' if file in (WORDS, SOURCE, LISTING) else 'sessions'}.py", program, "0", str(count)], capture_output=True, text=True)
+    ran = subprocess.run([sys.executable, "-B", f"{folder}/{GENERATORS.get(file, 'sessions')}.py", program, "0", str(count)], capture_output=True, text=True)
     shutil.rmtree(folder)
     said = (ran.stdout + ran.stderr).strip().split("\n")[-1]
     if ran.returncode == 1:

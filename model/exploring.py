@@ -1,0 +1,194 @@
+#!/usr/bin/env python3
+"""Generates sessions of `ga144 explore` and compares what the program answers with what the second reading does.
+
+exploring.py PROGRAM FIRST COUNT: so many sessions, each generated from its number, from FIRST on. Every other one begins with source.
+exploring.py --write FOLDER FIRST COUNT: writes those of them as files that have no limit of their own, with their answers.
+"""
+
+import copy
+import random
+import subprocess
+import sys
+from itertools import zip_longest
+
+from explore import Explorer, number_of
+from files import load_of
+from machine import name
+from sessions import DEFAULT_LIMIT, SECONDS, Generator
+from source import asm
+
+# How often each command comes, of 1000. The others are those of the debugger.
+COMMANDS = {"run": 250, "whence": 250, "at": 130, "writes": 70, "words": 60, "effects": 50, "who": 30, "chip": 20, "save": 10, "help": 2, "debug": 128}
+WORDS = "dup drop over + and or @ ! @b !b a! pop push 2* 2/ - +* @+ !+ a . 1 5 0x20 0x15555 0x3ffff right left down up".split()
+CALLS = ["x", "'y a!", "'y b!", "0x22 a! !", "0x84 a! @", "io b!", "for x next", "for +* unext", "if dup then", "-if a else over then", "begin dup -until", "+cy + -cy"]
+PARTS = ["\\ a remark", "( and ) ", "  ", "\t", ".."]
+
+
+def source_of(draw):
+    """A source of some neighbours that write to and read from one another."""
+    nodes = draw.sample([0, 1, 2, 18, 19, 20], draw.randint(2, 5))
+    lines = ["\\ " + "x" * draw.randrange(5)]
+    for node in nodes:
+        lines.append(f"node {name(node)}" + draw.choice(["", " /b right", " /a left /b down", " /b up \\ registers"]))
+        lines += [" ".join(some(draw, 2))] if draw.random() < 0.2 else []
+        lines += [": main " + " ".join(some(draw, draw.randint(1, 6))), " ".join(some(draw, draw.randint(1, 6)) + [draw.choice(["main ;", "", "x main ;"])])]
+        lines += [": x " + " ".join(some(draw, 2, WORDS)) + " ;", draw.choice(PARTS), f": y {draw.randrange(99)} , 7 ,"]
+        lines += ["org 0x80 : rom dup + ;"] if draw.random() < 0.3 else []
+    return "".join(f"{line}\n" for line in lines)
+
+
+def some(draw, count, words=None):
+    return [draw.choice(words or (WORDS + CALLS if draw.random() < 0.7 else ["right b! @b", "left b! !b", "@b", "!b", "dup !b"])) for _ in range(count)]
+
+
+class Session:
+    def __init__(self, number):
+        self.base = Generator(number)
+        draw = self.random = self.base.random
+        self.limit = draw.choice([DEFAULT_LIMIT] * 7 + [200])
+        self.front = "".join(f"{line}\n" for line in self.base.image())
+        self.machine = Explorer(self.base.load, self.limit)
+        self.source = None
+        if number % 2:
+            self.begin_with_source(source_of(draw))
+
+    def begin_with_source(self, source):
+        image, told, status = asm(source)
+        if status == 0 and not told:
+            self.source, self.front = source, source + "end\n"
+            load = load_of(image.splitlines())
+            self.machine = Explorer(load, self.limit)
+            self.base.nodes = [it.number for it in load if any(it.ram)]
+
+    def node(self):
+        """A node; mostly one that made many steps."""
+        steps = self.machine.steps
+        made = [at for at in self.base.nodes if steps[at] > 1]
+        return self.random.choice(made if made and self.random.random() < 0.9 else self.base.nodes)
+
+    def step(self, node):
+        return self.random.randint(0 if self.random.random() < 0.1 else 1, max(self.machine.steps[node] + (self.random.random() < 0.1), 1))
+
+    def word(self):
+        held = self.machine.chip[self.node()]
+        return self.random.choice(held.d[:2] + held.ram[:4] + [0, self.random.randrange(1 << 18)])
+
+    def address(self):
+        draw = self.random
+        return draw.choice((draw.randrange(8), draw.randrange(0x20, 0x24), draw.randrange(256))) ^ draw.choice((0, 0, 0, 0x40, 0x80))
+
+    def link(self):
+        """Two nodes between which words went, one way or the other, or any two."""
+        passed = [event for event in self.machine.events if len(event) == 2]
+        if passed and self.random.random() < 0.9:
+            pair = self.random.choice(passed)
+            return pair if self.random.random() < 0.8 else pair[::-1]
+        return self.random.choice(self.base.nodes), self.random.choice(self.base.nodes)
+
+    def ahead(self, order):
+        """Conditions that hold behind some event that such a run would make."""
+        machine, pick = copy.deepcopy(self.machine), self.random.choice
+        machine.run(order and order.split(" ")[1], int(order.split(" ")[-1]) if "random" in order else None, pick((1, 20, 200)), None)
+        made = machine.told[len(self.machine.told) :] or ["000 1 fetch"]
+        passes = [told for told in made if told.startswith("pass")]
+        words = pick(passes or made if self.random.random() < 0.6 else made).split(" ")
+        if words[0] == "pass":
+            _, writer, _, reader, its, word = words
+            number = len(machine.sent(number_of(writer), number_of(reader)))
+            return [f"pass {writer} {reader} = {word.upper()}", f"pass {writer} {reader} {number}", f"step {reader} {its}"]
+        held = machine.chip[number_of(words[0])]
+        ended = ["stop", f"{words[2]} {words[0]}"] if words[2] in ("wait", "stop") else []
+        return [f"step {words[0]} {words[1]}", f"p {words[0]} {held.p:06x}", f"mem {words[0]} 22 = {held.ram[0x22]:06x}"] + ended
+
+    def condition(self, order):
+        node, pick = self.node(), self.random.choice
+        if self.random.random() < 0.7:
+            return pick(self.ahead(order))
+        writer, reader = self.link()
+        passing = f"pass {name(writer)} {name(reader)}"
+        return pick((
+            f"{passing} = {self.word():06X}", f"{passing} {len(self.machine.sent(writer, reader)) + pick((0, 1, 2))}", "stop", f"stop {name(node)}",
+            f"wait {name(node)}", f"mem {name(node)} {self.address():02x} = {self.word():06X}", f"p {name(node)} {self.random.randrange(12):06x}",
+        ))  # fmt: skip
+
+    def run(self):
+        order = self.random.choice(("", "", " greedy", f" random {self.random.randrange(1 << 32)}"))
+        return f"run{order} {self.random.choice((1, 5, 30, 200, 400))}" + (f" until {self.condition(order)}" if self.random.random() < 0.6 else "")
+
+    def command(self):
+        node, number = self.node(), self.random.randrange
+        chosen = self.random.choices(list(COMMANDS), list(COMMANDS.values()))[0]
+        if chosen == "run":
+            return self.run()
+        if chosen == "at":
+            return f"at {name(node)} {self.step(node)}" + self.random.choice(("", f" {number(4)}", f" {number(100)}"))
+        return {
+            "whence": f"whence {name(node)} {self.step(node)}",
+            "effects": f"effects {name(node)} {self.step(node)}",
+            "writes": f"writes {name(node)} {self.address():02x}",
+            "words": "words " + " ".join(map(name, self.link())),
+        }.get(chosen, chosen)
+
+    def turn(self):
+        """A command and its answer."""
+        command = self.command() if self.machine.events else self.run()
+        if command == "debug":
+            return self.base.command(self.machine)
+        return command, self.machine.explored(command)
+
+
+def session(number):
+    """A session's text, its limit, and the lines that are answered."""
+    made = Session(number)
+    lines, answers = [], ["ready"]
+    for _ in range(made.random.randint(10, 60)):
+        command, answer = made.turn()
+        lines.append(command)
+        answers += [answer] if answer else []
+    return made.front + "".join(f"{line}\n" for line in lines), made.limit, "\n".join(answers).split("\n")
+
+
+def difference(program, number):
+    """How many lines a session has, and the first that the program answers otherwise, or None."""
+    text, limit, wanted = session(number)
+    count = text.count("\n", text.index("\nend\n") + 5)
+    try:
+        ran = subprocess.run([program, "explore", "--limit", str(limit)], input=text, capture_output=True, text=True, timeout=SECONDS)
+    except subprocess.TimeoutExpired:
+        return count, f"the program had not ended after {SECONDS} seconds"
+    if ran.returncode or ran.stderr:
+        return count, f"the program ended with status {ran.returncode} and told '{ran.stderr.strip()}'"
+    for line, (ours, its) in enumerate(zip_longest(wanted, ran.stdout.split("\n")[:-1]), 1):
+        if ours != its:
+            return count, f"line {line}: the machine answers '{ours}', the program '{its}'"
+    return count, None
+
+
+def write(folder, number):
+    text, limit, wanted = session(number)
+    if limit == DEFAULT_LIMIT:
+        with open(f"{folder}/exploring-{number}", "w", encoding="utf-8") as file:
+            file.write(text)
+        with open(f"{folder}/exploring-{number}.stdout", "w", encoding="utf-8") as file:
+            file.write("".join(line + "\n" for line in wanted))
+
+
+def main():
+    if sys.argv[1:2] == ["--write"] and len(sys.argv) == 5:
+        for number in range(int(sys.argv[3]), int(sys.argv[3]) + int(sys.argv[4])):
+            write(sys.argv[2], number)
+        return
+    if len(sys.argv) != 4 or not all(it.isdecimal() for it in sys.argv[2:]) or int(sys.argv[3]) == 0:
+        sys.exit("usage: exploring.py PROGRAM FIRST COUNT, with COUNT at least 1")
+    program, first, count = sys.argv[1], int(sys.argv[2]), int(sys.argv[3])
+    commands = 0
+    for number in range(first, first + count):
+        made, what = difference(program, number)
+        commands += made
+        if what:
+            sys.exit(f"session {number}: {what}")
+    print(f"{count} sessions of exploring with {commands} commands: all answers agree")
+
+
+if __name__ == "__main__":
+    main()
