@@ -1,4 +1,4 @@
-//! The tests of the crates from words up to exploring, each through what its crate offers to others.
+//! The tests of the crates from words up to causes, each through what its crate offers to others.
 //!
 //! A check of a crate with tests of its own proves the whole crate once more. Here only the tests are left to prove.
 #![tactic(auto)]
@@ -8,26 +8,16 @@ mod causal;
 #[cfg(test)]
 mod event;
 #[cfg(test)]
-mod explore;
-#[cfg(test)]
 mod flow;
 #[cfg(test)]
 mod grid;
-#[cfg(test)]
-mod journal;
-#[cfg(test)]
-mod lab;
 #[cfg(test)]
 mod node;
 #[cfg(test)]
 mod ports;
 #[cfg(test)]
-mod shared;
-#[cfg(test)]
 mod slots;
 #[cfg(test)]
 mod stacks;
-#[cfg(test)]
-mod whence;
 #[cfg(test)]
 mod word;

@@ -1,11 +1,7 @@
-//! The tests of sessions, races, command lines, source as `asm`, `list` and `dis` take it, exploring, and pictures.
+//! The tests of sessions, races, command lines, and source as `asm`, `list` and `dis` take it.
 #![tactic(auto)]
 
 #[cfg(test)]
 mod console;
-#[cfg(test)]
-mod drawing;
-#[cfg(test)]
-mod exploring;
 #[cfg(test)]
 mod source;

@@ -13,6 +13,7 @@ use ga_node::{Kind, Place, Saved};
 use ga_ports::Side;
 use ga_word::Word18;
 use std::alloc::Global;
+use std::process::Abort;
 use std::test::Fail;
 
 // A list of one old value, a slot number.
@@ -195,6 +196,47 @@ fn makes_and_undoes(rt: HostRuntime) -> Result<(), Fail> {
     Ok(())
 }
 
+// What is seen of a rollback: the marks of nodes 000 and 001, and the ticks.
+fn seen(journal: &Journal) -> (u32, u32, u64) {
+    let (first, second) = (NodeId::new(0), NodeId::new(1));
+    (
+        journal.mark_of(first),
+        journal.mark_of(second),
+        journal.ticks(),
+    )
+}
+
+// Lowers the mark of node 000 or 001 where it stands above; or, with no mark, seeks the newest look of the other of them that
+// saw what is to go of this one.
+fn turn(journal: &mut Journal, node: NodeId, mark: Option<u32>) -> Option<u32> {
+    if journal.ticks() == u64::MAX {
+        return None;
+    }
+    let Some(to) = mark else {
+        return journal.look_to_go(node, NodeId::new(u8::from(node.number == 0)));
+    };
+    if to < journal.mark_of(node) {
+        journal.lower(node, to);
+    }
+    None
+}
+
+// The other end of an entry, where the node has so many.
+fn partner(journal: &mut Journal, node: NodeId, at: u32) -> Option<(NodeId, u32)> {
+    if at < journal.steps_of(node) && journal.ticks() < u64::MAX {
+        return journal.look(node, at);
+    }
+    None
+}
+
+// A node that waits.
+fn taken_up(journal: &mut Journal) -> Option<NodeId> {
+    if journal.ticks() == u64::MAX {
+        return None;
+    }
+    journal.take_up()
+}
+
 // The ends of a pass name each other, and an own event names none. A node whose mark is lowered is taken up once, and
 // where none waits that is no tick.
 #[test]
@@ -203,21 +245,21 @@ fn looks_and_lowers(rt: HostRuntime) -> Result<(), Fail> {
     let n001 = NodeId::new(1);
     let mut journal = linked(rt.alloc())?;
     assert_eq!(rt; (journal.steps_of(n000), journal.steps_of(n001)), (2, 1));
-    assert_eq!(rt; journal.ticks(), 0);
-    assert_eq!(rt; journal.look(n000, 0), None);
-    assert_eq!(rt; journal.ticks(), 1);
-    assert_eq!(rt; journal.look(n000, 1), Some((n001, 0)));
-    assert_eq!(rt; journal.ticks(), 2);
-    assert_eq!(rt; journal.look(n001, 0), Some((n000, 1)));
-    assert_eq!(rt; (journal.mark_of(n000), journal.mark_of(n001)), (2, 1));
-    assert_eq!(rt; journal.ticks(), 3);
-    journal.lower(n001, 0);
-    assert_eq!(rt; (journal.mark_of(n000), journal.mark_of(n001)), (2, 0));
-    assert_eq!(rt; journal.ticks(), 4);
-    assert_eq!(rt; journal.take_up(), Some(n001));
-    assert_eq!(rt; journal.ticks(), 5);
-    assert_eq!(rt; journal.take_up(), None);
-    assert_eq!(rt; journal.ticks(), 5);
+    assert_eq!(rt; seen(&journal), (2, 1, 0));
+    for (node, at, end, wanted) in [
+        (n000, 0, None, (2, 1, 1)),
+        (n000, 1, Some((n001, 0)), (2, 1, 2)),
+        (n001, 0, Some((n000, 1)), (2, 1, 3)),
+    ] {
+        assert_eq!(rt; partner(&mut journal, node, at), end);
+        assert_eq!(rt; seen(&journal), wanted);
+    }
+    let _lowered = turn(&mut journal, n001, Some(0));
+    assert_eq!(rt; seen(&journal), (2, 0, 4));
+    for (node, wanted) in [(Some(n001), (2, 0, 5)), (None, (2, 0, 5))] {
+        assert_eq!(rt; taken_up(&mut journal), node);
+        assert_eq!(rt; seen(&journal), wanted);
+    }
     Ok(())
 }
 
@@ -274,6 +316,18 @@ fn tells_looks(rt: HostRuntime) -> Result<(), Fail> {
     Ok(())
 }
 
+// Takes turns, each a node, a mark to lower or none, what is found and what is seen behind it.
+fn take_turns<const N: usize>(
+    rt: &impl Abort,
+    journal: &mut Journal,
+    turns: [(NodeId, Option<u32>, Option<u32>, (u32, u32, u64)); N],
+) {
+    for (node, mark, found, wanted) in turns {
+        assert_eq!(rt; turn(journal, node, mark), found);
+        assert_eq!(rt; seen(journal), wanted);
+    }
+}
+
 // The newest look that is to stay is found where it came after what is to go of the other node. A search is a tick where the
 // looker has a look.
 #[test]
@@ -281,36 +335,25 @@ fn finds_looks_to_go(rt: HostRuntime) -> Result<(), Fail> {
     let n000 = NodeId::new(0);
     let n001 = NodeId::new(1);
     let mut journal = looked(rt.alloc())?;
-    assert_eq!(rt; (journal.mark_of(n000), journal.mark_of(n001)), (2, 3));
-    assert_eq!(rt; journal.ticks(), 0);
-    assert_eq!(rt; journal.look_to_go(n000, n001), None);
-    assert_eq!(rt; journal.ticks(), 1);
-    journal.lower(n000, 1);
-    assert_eq!(rt; journal.ticks(), 2);
-    assert_eq!(rt; journal.look_to_go(n001, n000), None);
-    assert_eq!(rt; journal.ticks(), 2);
-    assert_eq!(rt; journal.look_to_go(n000, n001), Some(2));
-    assert_eq!(rt; (journal.mark_of(n000), journal.mark_of(n001)), (1, 3));
-    assert_eq!(rt; journal.ticks(), 3);
-    journal.lower(n001, 2);
-    assert_eq!(rt; journal.ticks(), 4);
-    assert_eq!(rt; journal.look_to_go(n000, n001), None);
-    assert_eq!(rt; (journal.mark_of(n000), journal.mark_of(n001)), (1, 2));
-    assert_eq!(rt; journal.ticks(), 5);
-    journal.lower(n000, 0);
-    assert_eq!(rt; journal.ticks(), 6);
-    assert_eq!(rt; journal.look_to_go(n000, n001), Some(0));
-    assert_eq!(rt; (journal.mark_of(n000), journal.mark_of(n001)), (0, 2));
-    assert_eq!(rt; journal.ticks(), 7);
-    journal.lower(n001, 1);
-    assert_eq!(rt; journal.ticks(), 8);
-    assert_eq!(rt; journal.look_to_go(n000, n001), Some(0));
-    assert_eq!(rt; (journal.mark_of(n000), journal.mark_of(n001)), (0, 1));
-    assert_eq!(rt; journal.ticks(), 9);
-    journal.lower(n001, 0);
-    assert_eq!(rt; journal.ticks(), 10);
-    assert_eq!(rt; journal.look_to_go(n000, n001), None);
-    assert_eq!(rt; journal.ticks(), 11);
+    assert_eq!(rt; seen(&journal), (2, 3, 0));
+    take_turns(
+        &rt,
+        &mut journal,
+        [
+            (n000, None, None, (2, 3, 1)),
+            (n000, Some(1), None, (1, 3, 2)),
+            (n001, None, None, (1, 3, 2)),
+            (n000, None, Some(2), (1, 3, 3)),
+            (n001, Some(2), None, (1, 2, 4)),
+            (n000, None, None, (1, 2, 5)),
+            (n000, Some(0), None, (0, 2, 6)),
+            (n000, None, Some(0), (0, 2, 7)),
+            (n001, Some(1), None, (0, 1, 8)),
+            (n000, None, Some(0), (0, 1, 9)),
+            (n001, Some(0), None, (0, 0, 10)),
+            (n000, None, None, (0, 0, 11)),
+        ],
+    );
     Ok(())
 }
 
@@ -318,19 +361,19 @@ fn finds_looks_to_go(rt: HostRuntime) -> Result<(), Fail> {
 #[test]
 fn forgets_a_popped_look(rt: HostRuntime) -> Result<(), Fail> {
     let n000 = NodeId::new(0);
-    let n001 = NodeId::new(1);
     let mut journal = looked(rt.alloc())?;
     let _last = journal.pop().ok_or("none")?;
-    assert_eq!(rt; (journal.mark_of(n000), journal.mark_of(n001)), (2, 2));
-    assert_eq!(rt; journal.ticks(), 0);
-    journal.lower(n000, 1);
-    assert_eq!(rt; journal.ticks(), 1);
-    assert_eq!(rt; journal.look_to_go(n000, n001), None);
-    assert_eq!(rt; (journal.mark_of(n000), journal.mark_of(n001)), (1, 2));
-    assert_eq!(rt; journal.ticks(), 2);
-    journal.lower(n000, 0);
-    assert_eq!(rt; journal.ticks(), 3);
-    assert_eq!(rt; journal.look_to_go(n000, n001), Some(0));
+    assert_eq!(rt; seen(&journal), (2, 2, 0));
+    take_turns(
+        &rt,
+        &mut journal,
+        [
+            (n000, Some(1), None, (1, 2, 1)),
+            (n000, None, None, (1, 2, 2)),
+            (n000, Some(0), None, (0, 2, 3)),
+            (n000, None, Some(0), (0, 2, 4)),
+        ],
+    );
     Ok(())
 }
 
@@ -357,11 +400,14 @@ fn makes_and_undoes_a_look(rt: HostRuntime) -> Result<(), Fail> {
     assert_eq!(rt; chronicle.journal.undo(&mut chip), Some(own));
     assert_eq!(rt; chronicle.causes()?.as_slice(), &causes[..2]);
     let Chronicle { mut journal } = chronicle;
-    assert_eq!(rt; (journal.mark_of(n000), journal.mark_of(n001)), (1, 1));
-    assert_eq!(rt; journal.ticks(), 0);
-    journal.lower(n000, 0);
-    assert_eq!(rt; journal.ticks(), 1);
-    assert_eq!(rt; journal.look_to_go(n000, n001), None);
-    assert_eq!(rt; journal.ticks(), 1);
+    assert_eq!(rt; seen(&journal), (1, 1, 0));
+    take_turns(
+        &rt,
+        &mut journal,
+        [
+            (n000, Some(0), None, (0, 1, 1)),
+            (n000, None, None, (0, 1, 1)),
+        ],
+    );
     Ok(())
 }

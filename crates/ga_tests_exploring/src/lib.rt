@@ -1,0 +1,7 @@
+//! The tests of exploring, and of pictures.
+#![tactic(auto)]
+
+#[cfg(test)]
+mod drawing;
+#[cfg(test)]
+mod exploring;

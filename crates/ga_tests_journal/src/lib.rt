@@ -1,0 +1,5 @@
+//! The tests of what a journal keeps.
+#![tactic(auto)]
+
+#[cfg(test)]
+mod journal;
