@@ -120,7 +120,7 @@ impl Node {
         ensures count { length saved.new ≡ length saved.old + 1 }
     {
         saved.push(Place::Slot, self.slot as u32);
-        self.slot = (self.slot + 1).min(4);
+        self.slot += (self.slot < 4) as u8;
     }
 
     /// The rest of the word is passed over.
