@@ -1,5 +1,5 @@
 -- Where a value was made.
-use Rattle.std.proofs.Common.{◌≡◌, ℕ, zero, suc, ◌+◌, ◌-◌, ◌<◌, ◌≤◌, Bool, true, false, cond, List, [], ◌∷◌, length, take, Some, None, refl, sym, ◌∙◌, ap, arith}
+use Rattle.std.proofs.Common.{◌≡◌, ℕ, zero, suc, ◌+◌, ◌-◌, ◌<◌, ◌≤◌, Bool, true, false, cond, List, [], ◌∷◌, length, take, Some, None, refl, sym, subst, ◌∙◌, ap, arith}
 use Rattle.std.specs.Prelude.{Option, option_map, unwrap_or}
 use Rattle.std.specs.List.{slice_get}
 use Rattle.std.proofs.lemmas.List.Sums.{sum_by-cons}
@@ -110,6 +110,10 @@ back_load s node step at value is same = ap (λ (z : ℕ). origin_from s node z 
 -- a node that is walked back to so many of its steps
 pub stands_so : (s : State) (node : NodeId) (step : ℕ) (walk : Standing) → walk ≡ standing s node step → walk ≡ standing s node walk.step
 stands_so s node step walk e = e ∙ ap (standing s node) (sym (ap (λ (z : Standing). z.step) e))
+
+pub within_so : (s : State) (node : NodeId) (walk : Standing) (k : ℕ) → walk ≡ standing s node walk.step → k ≤ steps_of walk.node.number walk.machine.kept
+    → k ≤ steps_of node.number s.kept
+within_so s node walk k e within = subst (λ (z : Standing). k ≤ steps_of z.node.number z.machine.kept) e within
 
 pub back_so : (s : State) (node : NodeId) (old new : Standing) → old ≡ standing s node old.step → new ≡ record old { step = old.step - 1 } → new ≡ standing s node (old.step - 1)
 back_so s node old new e f = f ∙ ap (λ (z : Standing). record z { step = old.step - 1 }) e

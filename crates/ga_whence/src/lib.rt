@@ -2,6 +2,7 @@
 #![tactic(auto)]
 
 mod asked;
+mod fetched;
 pub mod laws;
 mod listing;
 mod origin;
@@ -9,6 +10,7 @@ mod value;
 mod writes;
 
 pub use asked::asked_of;
+pub use fetched::fetched_cell;
 pub use listing::{Listing, Row, whence};
 pub use origin::origin_of;
 pub use value::Value;

@@ -143,6 +143,7 @@ pub fn origin_of(lab: &Lab, value: Value) -> Value
     requires { IsPart value.part }
     ensures value { result ≡ origin_of lab.now value }
     ensures part { IsPart result.part }
+    ensures within { result.step ≤ steps_of value.node.number lab.now.kept }
 {
     let node = value.node;
     let mut part = value.part;

@@ -2,7 +2,7 @@ use Rattle.std.proofs.Common.{◌≡◌, suc, ◌+◌, ◌-◌, ap, ◌∙◌, a
 use Rattle.ga_lab.specs.Machine.{Standing}
 use Rattle.ga_flow.specs.Following.{flow_of}
 use Rattle.ga_whence.specs.Origins.{origin_from, origin_of}
-use Rattle.ga_whence.proofs.Made.{stands_so, back_so, back_on, back_end, back_load}
+use Rattle.ga_whence.proofs.Made.{stands_so, within_so, back_so, back_on, back_end, back_load}
 use Rattle.ga_whence.proofs.origin.origin_of.Goals as goal
 
 pub steps-init : goal.steps-init
@@ -39,3 +39,9 @@ pub returns-clause-value : goal.returns-clause-value
 returns-clause-value c =
     back_load c.args.lab.now c.args.value.node c.steps.walk.step c.steps.part (origin_of c.args.lab.now c.args.value) (omega (arith, c.step.ensures.value, c.steps-test.false))
     c.steps.invariant.same
+
+pub returns-in-None-clause-within : goal.returns-in-None-clause-within
+returns-in-None-clause-within c =
+    let within = within_so c.args.lab.now c.args.value.node c.steps.walk c.step.result c.steps.invariant.walk c.step.ensures.within in
+    let went = ap (λ (z : Standing). z.step) c.back.ensures in
+    omega (arith, within, went, c.step.ensures.value, c.step-step.ensures.value, c.steps-test.true)
