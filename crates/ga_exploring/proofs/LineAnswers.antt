@@ -2,7 +2,6 @@
 use Rattle.std.proofs.Common.{◌≡◌, ◌≢◌, ◌≤◌, ℕ, List, take, length, Some, None, sym, ap, ◌∙◌, arith, rules, length-take, Result, Ok, Err}
 use Rattle.std.specs.Result.{IsErr}
 use Rattle.std.proofs.lemmas.List.{take_all}
-use Rattle.ga_lab.specs.Machine.{State}
 use Rattle.ga_console.specs.Replies.{Answer}
 use Rattle.ga_console.specs.kept.Turns.{Turns, AnswersLine}
 use Rattle.ga_console.specs.Turns.{quit_line}
@@ -11,6 +10,7 @@ use Rattle.ga_console.specs.declared.output.WriteFailed.{WriteFailed}
 use Rattle.ga_console.specs.declared.responder.Turn.{Turn}
 use Rattle.ga_console.specs.declared.responder.Turn.TheVariants as turn
 use Rattle.ga_exploring.specs.Reading.{request_in}
+use Rattle.ga_exploring.specs.Tails.{Exploring, exploring}
 use Rattle.ga_exploring.specs.Answers.{Explores, Explored}
 use Rattle.ga_exploring.specs.Answers.Explores.{explored, debugged}
 use Rattle.ga_exploring.specs.declared.request.Request.{Request}
@@ -29,7 +29,7 @@ not_quit : (line : List ℕ) (asked : Request) → request_in line ≡ Some aske
 not_quit line asked found = λ q. none_some asked (sym (debugger_alone Quit line q) ∙ found)
 
 -- it spells a command of exploring
-pub explored_line : (s : State) (line : List ℕ) (asked : Request) (answer : List ℕ) (new : State) → length line ≤ 200 → request_in line ≡ Some asked
+pub explored_line : (s : Exploring) (line : List ℕ) (asked : Request) (answer : List ℕ) (new : Exploring) → length line ≤ 200 → request_in line ≡ Some asked
     → Explored s asked answer new → AnswersLine Explores s line answer new
 explored_line s line asked answer new fits found done = λ part kept.
     let same : part ≡ line = whole line part kept fits in
@@ -37,20 +37,23 @@ explored_line s line asked answer new fits found done = λ part kept.
     (explored asked (omega (arith, fits, ap length same)) spelled done, not_quit part asked spelled)
 
 -- it spells none
-debugged_line : (s : State) (line answer : List ℕ) (new : State) → (length line ≤ 200 → request_in line ≡ None)
-    → AnswersLine Answer s line answer new → AnswersLine Explores s line answer new
-debugged_line s line answer new none done = λ part kept.
+debugged_line : (s : Exploring) (line answer : List ℕ) (new : Exploring) → (length line ≤ 200 → request_in line ≡ None) → new.notes ≡ s.notes
+    → AnswersLine Answer s.lab line answer new.lab → AnswersLine Explores s line answer new
+debugged_line s line answer new none same done = λ part kept.
     let answered = done part kept in
-    (debugged (λ fits. let within : length line ≤ 200 = short line part kept fits in ap request_in (whole line part kept within) ∙ none within) answered.0, answered.1)
+    (debugged (λ fits. let within : length line ≤ 200 = short line part kept fits in ap request_in (whole line part kept within) ∙ none within) answered.0 same, answered.1)
 
-pub debugged_turn : (s : State) (line : List ℕ) (new : State) (result : Result Turn WriteFailed) (answer : List ℕ) → (length line ≤ 200 → request_in line ≡ None)
-    → Turns Answer s line new result answer → Turns Explores s line new result answer
-debugged_turn s line new (Ok turn.Answered) answer none done = debugged_line s line answer new none done
-debugged_turn s line new (Ok turn.Quit) answer none done = done
-debugged_turn s line new (Err failed) answer none done = debugged_line s line answer new none done
+same_explored : (s new : Exploring) → new.lab ≡ s.lab → new.notes ≡ s.notes → new ≡ s
+same_explored s new e f = ap (λ lab. exploring lab new.notes) e ∙ ap (exploring s.lab) f
+
+pub debugged_turn : (s : Exploring) (line : List ℕ) (new : Exploring) (result : Result Turn WriteFailed) (answer : List ℕ) → (length line ≤ 200 → request_in line ≡ None)
+    → new.notes ≡ s.notes → Turns Answer s.lab line new.lab result answer → Turns Explores s line new result answer
+debugged_turn s line new (Ok turn.Answered) answer none same done = debugged_line s line answer new none same done
+debugged_turn s line new (Ok turn.Quit) answer none same done = (done.0, same_explored s new done.1 same, done.2)
+debugged_turn s line new (Err failed) answer none same done = debugged_line s line answer new none same done
 
 -- a failed write changes nothing of what the answer is
-pub explored_err : (s : State) (line : List ℕ) (new : State) (result : Result Turn WriteFailed) (answer : List ℕ) → IsErr result
+pub explored_err : (s : Exploring) (line : List ℕ) (new : Exploring) (result : Result Turn WriteFailed) (answer : List ℕ) → IsErr result
     → AnswersLine Explores s line answer new → Turns Explores s line new result answer
 explored_err s line new (Ok turn) answer is h = absurd (search rules)
 explored_err s line new (Err why) answer is h = h

@@ -14,6 +14,7 @@ use Rattle.ga_explore.specs.declared.running.End.{End}
 use Rattle.ga_console.specs.Texts.{refusal_text}
 use Rattle.ga_console.specs.Replies.{Answer}
 use Rattle.ga_exploring.specs.Reading.{request_in}
+use Rattle.ga_exploring.specs.Tails.{Exploring}
 use Rattle.ga_exploring.specs.Texts.{run_text, effects_answer, words_text, chip_text, help_text}
 use Rattle.ga_exploring.specs.Waiting.{who_text}
 use Rattle.ga_exploring.specs.Saved.{saved_text}
@@ -47,20 +48,20 @@ pub record TellsWho (s : State) (answer : List ℕ) : Type 0 where
   pub greatest : (others : ℕ → Bool) → AreStuck (chip_of s) others → IsWithin others marks
   pub text : answer ≡ who_text (chip_of s) marks
 
--- what is answered to a command of exploring, and the machine after it
-abbrev pub Explored : State → Request → List ℕ → State → Type 0
-Explored s (Run schedule most until) answer new = IsRun s schedule most until answer new
-Explored s (Effects node step) answer new = TellsEffects s node step answer × (new ≡ s)
-Explored s (Words from to) answer new = (answer ≡ words_text s from to) × (new ≡ s)
-Explored s (Writes node address) answer new = (answer ≡ writes_text s node address) × (new ≡ s)
-Explored s (At node step around) answer new = (answer ≡ around_text s node step around) × (new ≡ s)
-Explored s (Whence node step) answer new = TellsWhence s node step answer × (new ≡ s)
-Explored s Who answer new = TellsWho s answer × (new ≡ s)
-Explored s Chip answer new = (answer ≡ chip_text s) × (new ≡ s)
-Explored s Save answer new = (answer ≡ saved_text s) × (new ≡ s)
-Explored s Help answer new = (answer ≡ help_text) × (new ≡ s)
+-- what is answered to a command of exploring, and what is explored then
+abbrev pub Explored : Exploring → Request → List ℕ → Exploring → Type 0
+Explored e (Run schedule most until) answer new = IsRun e.lab schedule most until answer new.lab × (new.notes ≡ e.notes)
+Explored e (Effects node step) answer new = TellsEffects e.lab node step answer × (new ≡ e)
+Explored e (Words from to) answer new = (answer ≡ words_text e.lab from to) × (new ≡ e)
+Explored e (Writes node address) answer new = (answer ≡ writes_text e.lab node address) × (new ≡ e)
+Explored e (At node step around) answer new = (answer ≡ around_text e.notes e.lab node step around) × (new ≡ e)
+Explored e (Whence node step) answer new = TellsWhence e.notes e.lab node step answer × (new ≡ e)
+Explored e Who answer new = TellsWho e.lab answer × (new ≡ e)
+Explored e Chip answer new = (answer ≡ chip_text e.lab) × (new ≡ e)
+Explored e Save answer new = (answer ≡ saved_text e.lab) × (new ≡ e)
+Explored e Help answer new = (answer ≡ help_text) × (new ≡ e)
 
 -- The answer to a line: it spells a command of exploring, or is answered as the debugger answers it.
-pub data Explores (s : State) (line answer : List ℕ) (new : State) : Type 0 where
-  explored : (asked : Request) → length line ≤ longest → request_in line ≡ Some asked → Explored s asked answer new → Explores s line answer new
-  debugged : (length line ≤ longest → request_in line ≡ None) → Answer s line answer new → Explores s line answer new
+pub data Explores (e : Exploring) (line answer : List ℕ) (new : Exploring) : Type 0 where
+  explored : (asked : Request) → length line ≤ longest → request_in line ≡ Some asked → Explored e asked answer new → Explores e line answer new
+  debugged : (length line ≤ longest → request_in line ≡ None) → Answer e.lab line answer new.lab → new.notes ≡ e.notes → Explores e line answer new

@@ -10,7 +10,9 @@ use Rattle.ga_lab.specs.Machine.{State, stands, history_of}
 use Rattle.ga_lab.specs.declared.fault.LabFault.TheVariants.{NoStep}
 use Rattle.ga_whence.specs.Origins.{node_after}
 use Rattle.ga_console.specs.Texts.{step_text, register_text, refusal_text}
+use Rattle.ga_notes.specs.declared.notes.Notes.{Notes}
 use Rattle.ga_exploring.specs.Deeds.{deed_text}
+use Rattle.ga_exploring.specs.Tails.{step_tail}
 
 -- T, S, R, A, B and P
 abbrev pub behind_text : NodeRecord → List ℕ
@@ -25,24 +27,25 @@ behind_text node =
 -- a step with this number, of which this is told, and the node right behind it
 abbrev pub passed_text : NodeId → ℕ → Option Made → NodeRecord → List ℕ
 passed_text node step None behind = []
-passed_text node step (Some made) behind = step_text node step ++ codes " " ++ deed_text made node.number ++ behind_text behind ++ codes "\n"
+passed_text node step (Some made) behind = step_text node step ++ codes " " ++ deed_text made node.number ++ behind_text behind
 
 -- the step behind so many of the node
-abbrev pub place_text : State → NodeId → ℕ → List ℕ
-place_text s node k = passed_text node (k + 1) (slice_get (history_of s node.number) k) (node_after s node.number (k + 1))
+abbrev pub place_text : Option Notes → State → NodeId → ℕ → List ℕ
+place_text notes s node k =
+    passed_text node (k + 1) (slice_get (history_of s node.number) k) (node_after s node.number (k + 1)) ++ step_tail notes s node (k + 1)
 
 -- as many from there on
-unfoldable pub places_text : State → NodeId → ℕ → ℕ → List ℕ
-places_text s node k zero = []
-places_text s node k (suc more) = place_text s node k ++ places_text s node (k + 1) more
+unfoldable pub places_text : Option Notes → State → NodeId → ℕ → ℕ → List ℕ
+places_text notes s node k zero = []
+places_text notes s node k (suc more) = place_text notes s node k ++ places_text notes s node (k + 1) more
 
 -- the lesser of two numbers
 abbrev pub lesser : ℕ → ℕ → ℕ
 lesser m n = if nat_le m n then m else n
 
 -- the steps of a node up to so many before and behind one, where it stands
-abbrev pub around_text : State → NodeId → ℕ → ℕ → List ℕ
-around_text s node step around =
+abbrev pub around_text : Option Notes → State → NodeId → ℕ → ℕ → List ℕ
+around_text notes s node step around =
     if stands s node.number step
-    then (let first = step - 1 - around in places_text s node first (lesser (step + around) (steps_of node.number s.kept) - first))
+    then (let first = step - 1 - around in places_text notes s node first (lesser (step + around) (steps_of node.number s.kept) - first))
     else refusal_text NoStep

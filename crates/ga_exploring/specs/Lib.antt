@@ -2,6 +2,7 @@ pub mod Reading
 pub mod Texts
 pub mod Deeds
 pub mod Writing
+pub mod Tails
 pub mod Around
 pub mod Trees
 pub mod Waiting

@@ -1,5 +1,5 @@
 -- What a session of exploring begins on: an image, or source (docs/REFERENCE.md, "Exploring"; this project's own).
-use Rattle.std.specs.Prelude.{◌≡◌, ℕ, ◌⊎◌, Bool, true, false, List, [], ◌++◌, length, take, codes, bytes_eq, Result, Ok, Err}
+use Rattle.std.specs.Prelude.{◌≡◌, ℕ, ◌⊎◌, Bool, true, false, List, [], ◌++◌, length, take, codes, bytes_eq, Result, Ok, Err, None}
 use Rattle.ga_node.specs.Record.{NodeState}
 use Rattle.ga_grid.specs.Chip.{records_of}
 use Rattle.ga_image.specs.Lines.{Bytes, Text}
@@ -13,6 +13,7 @@ use Rattle.ga_console.specs.Image.{EndsAtEnd, HasNoEnd}
 use Rattle.ga_console.specs.Run.{Opens as OpensImage, IsReadAlone, Faulty, Refuses}
 use Rattle.ga_console.specs.declared.run.Status.{Status}
 use Rattle.ga_console.specs.declared.run.Status.TheVariants.{ImageRefused, StreamFault}
+use Rattle.ga_exploring.specs.Tails.{Exploring}
 
 -- the text is an image, and not source
 abbrev pub begins_as_image : Text → Bool
@@ -23,10 +24,10 @@ abbrev pub OpensSource : ℕ → State → Type 0
 OpensSource limit machine =
     (chip : List NodeState) × (programs : List Program) × IsAssembled chip programs × (machine ≡ first (records_of chip) limit)
 
--- the machine has the text's chip as its load
-abbrev pub Opens : Text → ℕ → State → Type 0
-Opens text limit machine = ((begins_as_image text ≡ true) × OpensImage text limit machine)
-    ⊎ ((begins_as_image text ≡ false) × OpensSource limit machine)
+-- the machine has the text's chip as its load; of an image there are no notes
+abbrev pub Opens : Text → ℕ → Exploring → Type 0
+Opens text limit begun = ((begins_as_image text ≡ true) × OpensImage text limit begun.lab × (begun.notes ≡ None))
+    ⊎ ((begins_as_image text ≡ false) × OpensSource limit begun.lab)
 
 -- The text goes up to its first line `end`; or no such line was read, and nothing is left behind it.
 abbrev pub IsFront : Text → Bytes → Type 0
@@ -54,7 +55,7 @@ pub data Unbegun (read rest : Bytes) (written : Text) (status : Status) : Type 0
   unread : HasNoEnd read → written ≡ [] → status ≡ StreamFault → Unbegun read rest written status
 
 -- A text was taken of what was left to read, and a machine opened on it; or no session begins.
-abbrev pub IsBegun : ℕ → Bytes → Unread → Bytes → Text → Result State Status → Type 0
-IsBegun limit left input rest written (Ok machine) = (written ≡ []) × (text : Text) × (left ≡ text ++ (input.bytes ++ rest))
-    × (input.taken ≡ length text) × IsFront text (input.bytes ++ rest) × Opens text limit machine
+abbrev pub IsBegun : ℕ → Bytes → Unread → Bytes → Text → Result Exploring Status → Type 0
+IsBegun limit left input rest written (Ok begun) = (written ≡ []) × (text : Text) × (left ≡ text ++ (input.bytes ++ rest))
+    × (input.taken ≡ length text) × IsFront text (input.bytes ++ rest) × Opens text limit begun
 IsBegun limit left input rest written (Err status) = (read : Bytes) × (left ≡ read ++ rest) × Unbegun read rest written status

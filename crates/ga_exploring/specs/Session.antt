@@ -1,7 +1,6 @@
 -- What a whole session of exploring may write, and how it may end (docs/REFERENCE.md, "Exploring"; this project's own).
 use Rattle.std.specs.Prelude.{◌≡◌, ℕ, ◌-◌, ◌++◌, length, Result}
 use Rattle.ga_image.specs.Lines.{Bytes, Text}
-use Rattle.ga_lab.specs.Machine.{State}
 use Rattle.ga_console.specs.Input.{input_limit}
 use Rattle.ga_console.specs.Output.{ready}
 use Rattle.ga_console.specs.Run.{status_of}
@@ -9,6 +8,7 @@ use Rattle.ga_console.specs.Session.{Serves, Written}
 use Rattle.ga_console.specs.declared.commands.Ending.{Ending}
 use Rattle.ga_console.specs.declared.output.WriteFailed.{WriteFailed}
 use Rattle.ga_console.specs.declared.run.Status.{Status}
+use Rattle.ga_exploring.specs.Tails.{Exploring}
 use Rattle.ga_exploring.specs.Answers.{Explores}
 use Rattle.ga_exploring.specs.Opening.{Opens, IsFront, Unbegun}
 
@@ -16,13 +16,13 @@ use Rattle.ga_exploring.specs.Opening.{Opens, IsFront, Unbegun}
 pub record Served (limit : ℕ) (read rest : Bytes) (written : Text) (ending : Result Ending WriteFailed) : Type 0 where
   pub text : Text
   pub commands : Bytes
-  pub machine : State
+  pub begun : Exploring
   pub said : Text
   pub splits : read ≡ text ++ commands
   pub front : IsFront text (commands ++ rest)
-  pub opens : Opens text limit machine
-  pub last : State
-  pub serves : Serves Explores (input_limit - length text) machine commands rest said last ending
+  pub opens : Opens text limit begun
+  pub last : Exploring
+  pub serves : Serves Explores (input_limit - length text) begun commands rest said last ending
   pub out : Written ending (ready ++ said) written
 
 -- What a session may have written, where read was read of its input and rest is left of it, and its status.

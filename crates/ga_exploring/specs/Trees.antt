@@ -15,7 +15,9 @@ use Rattle.ga_whence.specs.Origins.{origin_of}
 use Rattle.ga_whence.specs.Rows.{row_at, AreRows}
 use Rattle.ga_whence.specs.Asked.{asked_of}
 use Rattle.ga_console.specs.Texts.{name_of, step_text, refusal_text}
+use Rattle.ga_notes.specs.declared.notes.Notes.{Notes}
 use Rattle.ga_exploring.specs.Deeds.{deed_text}
+use Rattle.ga_exploring.specs.Tails.{step_tail, value_tail}
 
 -- how many lines a tree has at most
 abbrev pub most_rows : ℕ
@@ -73,17 +75,17 @@ blanks zero = []
 blanks (suc level) = codes "  " ++ blanks level
 
 -- a line, so many levels deeper than the row
-abbrev pub row_text : State → ℕ → Row → List ℕ
-row_text s deeper row = blanks (row.depth + deeper) ++ (value_text s row.value ++ codes "\n")
+abbrev pub row_text : Option Notes → State → ℕ → Row → List ℕ
+row_text notes s deeper row = blanks (row.depth + deeper) ++ (value_text s row.value ++ value_tail notes s row.value)
 
-abbrev pub head_text : State → NodeId → ℕ → List ℕ
-head_text s node step = did_text s node step ++ codes "\n"
+abbrev pub head_text : Option Notes → State → NodeId → ℕ → List ℕ
+head_text notes s node step = did_text s node step ++ step_tail notes s node step
 
 -- The step asked for is the first row where it made the value. Else it is told before the rows, which stand one level deeper.
-abbrev pub rows_text : State → NodeId → ℕ → Value → List Row → List ℕ
-rows_text s node step value rows =
-    if (origin_of s value).step == step then flat_map (row_text s 0) rows
-    else head_text s node step ++ flat_map (row_text s 1) rows
+abbrev pub rows_text : Option Notes → State → NodeId → ℕ → Value → List Row → List ℕ
+rows_text notes s node step value rows =
+    if (origin_of s value).step == step then flat_map (row_text notes s 0) rows
+    else head_text notes s node step ++ flat_map (row_text notes s 1) rows
 
 -- where these are not all
 abbrev pub more_text : Bool → List ℕ
@@ -91,20 +93,20 @@ more_text true = []
 more_text false = codes "more\n"
 
 -- The rows of the value are told, all or as many as may be; or memory is wanting.
-pub record TellsTree (s : State) (node : NodeId) (step : ℕ) (value : Value) (answer : List ℕ) : Type 0 where
+pub record TellsTree (notes : Option Notes) (s : State) (node : NodeId) (step : ℕ) (value : Value) (answer : List ℕ) : Type 0 where
   pub rows : List Row
   pub is_whole : Bool
   pub told : AreRows s [] (row_at 0 value ∷ []) rows is_whole
   pub most : length rows ≤ most_rows
   pub cut : is_whole ≡ false → length rows ≡ most_rows
-  pub text : answer ≡ rows_text s node step value rows ++ more_text is_whole
+  pub text : answer ≡ rows_text notes s node step value rows ++ more_text is_whole
 
 -- what is told of a step for which this value is asked; the step alone where it made none
-abbrev pub TellsAsked : State → NodeId → ℕ → Option Value → List ℕ → Type 0
-TellsAsked s node step None answer = answer ≡ head_text s node step
-TellsAsked s node step (Some value) answer = (answer ≡ refusal_text Memory) ⊎ TellsTree s node step value answer
+abbrev pub TellsAsked : Option Notes → State → NodeId → ℕ → Option Value → List ℕ → Type 0
+TellsAsked notes s node step None answer = answer ≡ head_text notes s node step
+TellsAsked notes s node step (Some value) answer = (answer ≡ refusal_text Memory) ⊎ TellsTree notes s node step value answer
 
-abbrev pub TellsWhence : State → NodeId → ℕ → List ℕ → Type 0
-TellsWhence s node step answer =
+abbrev pub TellsWhence : Option Notes → State → NodeId → ℕ → List ℕ → Type 0
+TellsWhence notes s node step answer =
     ((stands s node.number step ≡ false) × (answer ≡ refusal_text NoStep))
-    ⊎ ((stands s node.number step ≡ true) × TellsAsked s node step (asked_of s node step) answer)
+    ⊎ ((stands s node.number step ≡ true) × TellsAsked notes s node step (asked_of s node step) answer)

@@ -1,16 +1,20 @@
 //! The steps around one, each with registers behind it, told line by line.
 
 ghost use Rattle.std.specs.Prelude.{◌≡◌, ◌<◌, ◌≤◌, ◌+◌, ◌-◌, ◌^◌, ◌++◌, ℕ, List, Some, codes};
+ghost use Rattle.std.specs.List.{slice_get};
 ghost use Rattle.arrayvec.specs.ArrayVec.{array_vec_len};
 ghost use Rattle.ga_word.specs.Word.{hex6_of};
 ghost use Rattle.ga_node.specs.Record.{record_of};
 ghost use Rattle.ga_event.specs.Told.{steps_of};
+ghost use Rattle.ga_lab.specs.Machine.{history_of};
+ghost use Rattle.ga_whence.specs.Origins.{node_after};
 ghost use Rattle.ga_console.specs.Texts.{register_text};
 ghost use Rattle.ga_console.specs.Output.{IsSaid, IsSaidOrCut};
 ghost use Rattle.ga_console.specs.kept.Output.{Says};
 ghost use Rattle.ga_exploring.specs.Around.{behind_text, passed_text, place_text, places_text, around_text};
 
 use crate::deed_text::push_deed;
+use crate::tail_text::say_step_tail;
 use arrayvec::ArrayVec;
 use ga_console::{
     Output, Text, WORD_ROOM, WriteFailed, push_spaced, push_step, push_text, refusal,
@@ -18,6 +22,7 @@ use ga_console::{
 use ga_grid::NodeId;
 use ga_lab::{Lab, LabFault, Made};
 use ga_node::{Node, Place};
+use ga_notes::Notes;
 use ga_word::Word18;
 use std::io::Write;
 
@@ -33,19 +38,20 @@ const BEHIND_ROOM: usize = 6 * REGISTER_ROOM;
 /// A write failed.
 pub(crate) fn say_around<W: Write>(
     lab: &Lab,
+    notes: &Option<Notes>,
     node: NodeId,
     step: u32,
     around: u32,
     output: &mut Output,
     writer: &mut W,
 ) -> Result<(), WriteFailed>
-    ensures { Says result (λ text. text ≡ around_text lab.now node step around)
+    ensures { Says result (λ text. text ≡ around_text notes.now lab.now node step around)
         (W.contents writer.old) output.old (W.contents writer.new) output.new }
 {
     if lab.stands((node, step)) {
         let first = (step - 1).saturating_sub(around);
         let last = step.saturating_add(around).min(lab.steps(node));
-        say_places(lab, node, first, last, output, writer)
+        say_places(lab, notes, node, first, last, output, writer)
     } else {
         output.say(writer, refusal(LabFault::NoStep))
     }
@@ -54,6 +60,7 @@ pub(crate) fn say_around<W: Write>(
 /// Says the steps from one place on and before another, the first of which is at place 0.
 fn say_places<W: Write>(
     lab: &Lab,
+    notes: &Option<Notes>,
     node: NodeId,
     first: u32,
     last: u32,
@@ -61,11 +68,11 @@ fn say_places<W: Write>(
     writer: &mut W,
 ) -> Result<(), WriteFailed>
     requires { last ≤ steps_of node.number lab.now.kept }
-    ensures { Says result (λ text. text ≡ places_text lab.now node first (last - first))
+    ensures { Says result (λ text. text ≡ places_text notes.now lab.now node first (last - first))
         (W.contents writer.old) output.old (W.contents writer.new) output.new }
 {
     'places: for place in first..last {
-        say_place(lab, node, place, output, writer)?;
+        say_place(lab, notes, node, place, output, writer)?;
     }
     Ok(())
 }
@@ -73,6 +80,7 @@ fn say_places<W: Write>(
 /// Says the step at a place.
 fn say_place<W: Write>(
     lab: &Lab,
+    notes: &Option<Notes>,
     node: NodeId,
     place: u32,
     output: &mut Output,
@@ -80,15 +88,18 @@ fn say_place<W: Write>(
 ) -> Result<(), WriteFailed>
     requires { place < steps_of node.number lab.now.kept }
     ensures { (before said : List ℕ) → IsSaid (W.contents writer.old) before said output.old →
-        IsSaidOrCut result (W.contents writer.new) before (said ++ place_text lab.now node place) output.new }
+        IsSaidOrCut result (W.contents writer.new) before (said ++ place_text notes.now lab.now node place) output.new }
 {
-    output.say_blocks(writer, place_line(lab, node, place).as_slice())
+    // So the number of the step fits, as that of them all does.
+    let _steps = lab.steps(node);
+    output.say_blocks(writer, place_line(lab, node, place).as_slice())?;
+    say_step_tail(lab, notes, node, place + 1, output, writer)
 }
 
-/// The line of the step at a place.
+/// What is told of the step at a place.
 fn place_line(lab: &Lab, node: NodeId, place: u32) -> Text
     requires { place < steps_of node.number lab.now.kept }
-    ensures { result.items ≡ place_text lab.now node place }
+    ensures { result.items ≡ passed_text node (place + 1) (slice_get (history_of lab.now node.number) place) (node_after lab.now node.number (place + 1)) }
 {
     // So the number of the step fits, as that of them all does.
     let _steps = lab.steps(node);
@@ -110,7 +121,6 @@ fn step_line(node: NodeId, step: u32, made: Made, behind: &Node) -> Text
     push_text(&mut out, b" ");
     push_deed(&mut out, made, node);
     push_behind(&mut out, behind);
-    push_text(&mut out, b"\n");
     out
 }
 

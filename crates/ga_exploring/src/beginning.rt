@@ -4,10 +4,10 @@ ghost use Rattle.ga_console.specs.Input.{IsWithin};
 ghost use Rattle.ga_exploring.specs.Opening.{IsBegun};
 ghost use Rattle.ga_exploring.specs.kept.Opening.{IsOpened};
 
+use crate::explorer::Explorer;
 use crate::opening::{Unopened, is_image, open_text};
 use ga_console::{ImageEnd, Input, Status, read_image, refuse, tell_long};
 use ga_image::{ImageCause, ImageFault};
-use ga_lab::Lab;
 use std::alloc::Global;
 use std::io::{Read, Write};
 
@@ -17,7 +17,7 @@ const NO_MEMORY: ImageFault = ImageFault {
     cause: ImageCause::Memory,
 };
 
-/// Reads an image or source up to its first line `end`, and opens a lab that has its chip as its load. A text whose first line
+/// Reads an image or source up to its first line `end`, and opens a lab that has its chip as its load, to be explored. A text whose first line
 /// begins with `ga144` is an image, and any other is source. A refused image gets its refusal on `writer`; source gets a line on
 /// `errors`, as `ga144 asm` writes it.
 ///
@@ -30,7 +30,7 @@ pub fn begin<R: Read, W: Write, E: Write>(
     writer: &mut W,
     errors: &mut E,
     limit: u32,
-) -> Result<Lab, Status>
+) -> Result<Explorer, Status>
     requires fresh { input.old ≡ record { bytes = []; taken = 0 } }
     ensures begun { (left before : List ℕ) →
         R.remaining reader.old ≡ Some left → W.contents writer.old ≡ Some before →
@@ -62,12 +62,12 @@ fn open_or_refuse<W: Write, E: Write>(
     errors: &mut E,
     text: Vec<u8>,
     limit: u32,
-) -> Result<Lab, Status>
+) -> Result<Explorer, Status>
     ensures { (before : List ℕ) → W.contents writer.old ≡ Some before →
         (written : List ℕ) × (W.contents writer.new ≡ Some (before ++ written)) × IsOpened limit text.items written result }
 {
     match open_text(alloc, errors, text, limit) {
-        Ok(lab) => Ok(lab),
+        Ok(begun) => Ok(begun),
         Err(Unopened::Image(fault)) => Err(refuse(writer, fault)),
         Err(Unopened::Source) => Err(Status::ImageRefused),
     }

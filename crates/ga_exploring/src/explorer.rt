@@ -3,6 +3,7 @@
 ghost use Rattle.std.specs.Prelude.{◌≡◌, ◌≤◌, length, Some, None, IfSome, IfNone};
 ghost use Rattle.ga_console.specs.kept.Output.{Says};
 ghost use Rattle.ga_exploring.specs.Reading.{request_in};
+ghost use Rattle.ga_exploring.specs.Tails.{exploring};
 ghost use Rattle.ga_exploring.specs.Answers.{Explored};
 
 use crate::at_text::say_around;
@@ -20,42 +21,53 @@ use ga_console::{Command, Line, Output, Responder, Turn, WriteFailed};
 use ga_explore::run;
 use ga_image::LINE_LIMIT;
 use ga_lab::Lab;
+use ga_notes::Notes;
 use std::alloc::Global;
 use std::io::Write;
 use std::marker::Model;
 
-/// A lab that is explored.
+/// A lab that is explored, and what its source says of the cells, where it began with source.
 #[derive(Drop)]
 pub struct Explorer {
     lab: Lab,
+    notes: Option<Notes>,
 }
 
 impl Model for Explorer {
-    ghost use Rattle.ga_lab.specs.Machine.{State};
+    ghost use Rattle.ga_exploring.specs.Tails.{Exploring, exploring};
 
-    ghost Value = { State };
+    ghost Value = { Exploring };
 
-    ghost view = { λ e. e.lab };
+    ghost view = { λ e. exploring e.lab e.notes };
 }
 
 impl Explorer {
+    /// To explore a lab, with these notes of its cells.
+    pub(crate) fn of(lab: Lab, notes: Option<Notes>) -> Self
+        ensures { result ≡ exploring lab notes }
+    {
+        Explorer { lab, notes }
+    }
+
     /// The lab.
     pub fn lab(&self) -> &Lab
-        ensures { result.now ≡ self.now }
+        ensures { result.now ≡ self.now.lab }
     {
         &self.lab
     }
 }
 
 impl Responder for Explorer {
+    ghost use Rattle.std.specs.Prelude.{None};
+    ghost use Rattle.ga_exploring.specs.Tails.{exploring};
     ghost use Rattle.ga_exploring.specs.Answers.{Explores};
 
     ghost answers = { Explores };
 
-    ghost begin = { λ s. s };
+    ghost begin = { λ s. exploring s None };
 
     fn open(lab: Lab) -> Self {
-        Explorer { lab }
+        Explorer { lab, notes: None }
     }
 
     fn answer<W: Write>(
@@ -67,7 +79,7 @@ impl Responder for Explorer {
     ) -> Result<Turn, WriteFailed> {
         match asked_by(line) {
             Some(asked) => {
-                explored(alloc, &mut self.lab, asked, output, writer)?;
+                explored(alloc, &mut self.lab, &self.notes, asked, output, writer)?;
                 Ok(Turn::Answered)
             }
             None => self.lab.answer(alloc, line, output, writer),
@@ -105,11 +117,12 @@ fn asked_by(line: &Line) -> Option<Request>
 fn explored<W: Write>(
     alloc: Global,
     lab: &mut Lab,
+    notes: &Option<Notes>,
     asked: Request,
     output: &mut Output,
     writer: &mut W,
 ) -> Result<(), WriteFailed>
-    ensures { Says result (λ text. Explored lab.old asked text lab.new)
+    ensures { Says result (λ text. Explored (exploring lab.old notes.now) asked text (exploring lab.new notes.now))
         (W.contents writer.old) output.old (W.contents writer.new) output.new }
 {
     match asked {
@@ -124,8 +137,8 @@ fn explored<W: Write>(
         Request::Effects { node, step } => say_effects(lab, node, step, output, writer),
         Request::Words { from, to } => say_words(lab, from, to, output, writer),
         Request::Writes { node, address } => say_writes(lab, node, address, output, writer),
-        Request::At { node, step, around } => say_around(lab, node, step, around, output, writer),
-        Request::Whence { node, step } => say_whence(alloc, lab, node, step, output, writer),
+        Request::At { node, step, around } => say_around(lab, notes, node, step, around, output, writer),
+        Request::Whence { node, step } => say_whence(alloc, lab, notes, node, step, output, writer),
         Request::Who => say_who(lab, output, writer),
         Request::Chip => output.say_blocks(writer, glance(lab).as_slice()),
         Request::Save => say_saved(lab, output, writer),

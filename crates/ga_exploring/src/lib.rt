@@ -17,6 +17,7 @@ mod run_request;
 mod run_text;
 mod saved_text;
 mod session;
+mod tail_text;
 mod whence_text;
 mod who_text;
 mod words_text;

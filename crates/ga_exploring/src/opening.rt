@@ -3,9 +3,11 @@ ghost use Rattle.std.specs.Prelude.{◌≡◌, IfOk, IfErr, IfSome};
 ghost use Rattle.ga_exploring.specs.Opening.{begins_as_image, Opens, OpensSource};
 ghost use Rattle.ga_exploring.specs.kept.Opening.{IsUnopened};
 
+use crate::explorer::Explorer;
 use ga_console::{open_image, tell_fault, tell_memory, tell_stores};
 use ga_image::ImageFault;
 use ga_lab::Lab;
+use ga_notes::notes_of;
 use ga_source::assemble;
 use std::alloc::Global;
 use std::io::Write;
@@ -26,7 +28,7 @@ pub(crate) fn is_image(text: &[u8]) -> bool
     text.starts_with(b"ga144".as_slice())
 }
 
-/// A lab that has as its load the chip of a text, an image or source. Of source, `errors` is told what `ga144 asm` tells there:
+/// A lab to be explored that has as its load the chip of a text, an image or source. Of source, `errors` is told what `ga144 asm` tells there:
 /// a fault, or stores over code.
 ///
 /// # Errors
@@ -36,33 +38,40 @@ pub(crate) fn open_text<E: Write>(
     errors: &mut E,
     text: Vec<u8>,
     limit: u32,
-) -> Result<Lab, Unopened>
-    ensures ok { IfOk result (λ lab. Opens text.items limit lab) }
+) -> Result<Explorer, Unopened>
+    ensures ok { IfOk result (λ begun. Opens text.items limit begun) }
     ensures err { IfErr result (λ why. IsUnopened text.items why) }
 {
     if is_image(text.as_slice()) {
         return match open_image(alloc, text, limit) {
-            Ok(lab) => Ok(lab),
+            Ok(lab) => Ok(Explorer::of(lab, None)),
             Err(fault) => Err(Unopened::Image(fault)),
         };
     }
     match open_source(alloc, errors, text.as_slice(), limit) {
-        Some(lab) => Ok(lab),
+        Some(begun) => Ok(begun),
         None => Err(Unopened::Source),
     }
 }
 
-/// A lab that has as its load the chip of a source; or none, where it is told why.
-fn open_source<E: Write>(alloc: Global, errors: &mut E, source: &[u8], limit: u32) -> Option<Lab>
-    ensures { IfSome result (λ lab. OpensSource limit lab) }
+/// A lab that has as its load the chip of a source, with notes of its cells; or none, where it is told why.
+fn open_source<E: Write>(
+    alloc: Global,
+    errors: &mut E,
+    source: &[u8],
+    limit: u32,
+) -> Option<Explorer>
+    ensures { IfSome result (λ begun. OpensSource limit begun.lab) }
 {
     match assemble(alloc, source) {
         Ok(assembled) => {
             if !tell_stores(alloc, errors, &assembled) {
                 return None;
             }
-            if let Ok(lab) = Lab::new(alloc, assembled.chip, limit) {
-                return Some(lab);
+            if let Ok(notes) = notes_of(alloc, source, assembled.programs.as_slice()) {
+                if let Ok(lab) = Lab::new(alloc, assembled.chip, limit) {
+                    return Some(Explorer::of(lab, Some(notes)));
+                }
             }
             tell_memory(errors);
             None

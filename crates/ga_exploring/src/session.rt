@@ -3,8 +3,7 @@ ghost use Rattle.std.specs.Prelude.{◌≡◌, ◌++◌, ℕ, List, Some};
 ghost use Rattle.ga_exploring.specs.Session.{Runs};
 
 use crate::beginning::begin;
-use crate::explorer::Explorer;
-use ga_console::{Input, Output, Responder, Status, serve, status_of};
+use ga_console::{Input, Output, Status, serve, status_of};
 use std::alloc::Global;
 use std::io::{Read, Write};
 
@@ -26,8 +25,8 @@ pub fn explore<R: Read, W: Write, E: Write>(
 {
     let mut input = Input::new();
     match begin(alloc, &mut input, reader, writer, errors, limit) {
-        Ok(lab) => {
-            let mut session = Explorer::open(lab);
+        Ok(begun) => {
+            let mut session = begun;
             let mut output = Output::ready();
             status_of(serve(alloc, &mut input, reader, &mut output, writer, &mut session))
         }

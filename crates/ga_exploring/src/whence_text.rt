@@ -1,6 +1,6 @@
 //! Where a value came from, told line by line.
 
-ghost use Rattle.std.specs.Prelude.{◌≡◌, ◌≤◌, ◌<◌, ◌+◌, ◌++◌, ◌⊎◌, ℕ, List, Some, flat_map, codes};
+ghost use Rattle.std.specs.Prelude.{◌≡◌, ◌≤◌, ◌<◌, ◌+◌, ◌++◌, ◌⊎◌, ℕ, List, Some, flat_map};
 ghost use Rattle.arrayvec.specs.ArrayVec.{array_vec_len};
 ghost use Rattle.ga_flow.specs.Flow.{IsPart};
 ghost use Rattle.ga_lab.specs.Machine.{stands};
@@ -11,10 +11,12 @@ ghost use Rattle.ga_exploring.specs.Trees.{blanks, row_text, rows_text, value_te
 
 use crate::deed_text::{DEED_ROOM, push_deed};
 use crate::part_text::{push_mark, push_part};
+use crate::tail_text::{say_step_tail, say_value_tail};
 use arrayvec::ArrayVec;
 use ga_console::{Output, STEP_ROOM, Text, WriteFailed, push_node, push_step, push_text, refusal};
 use ga_grid::NodeId;
 use ga_lab::{Lab, LabFault};
+use ga_notes::Notes;
 use ga_whence::{Row, Value, asked_of, origin_of, whence};
 use std::alloc::Global;
 use std::io::Write;
@@ -32,20 +34,21 @@ const DID_ROOM: usize = STEP_ROOM + 1 + DEED_ROOM;
 pub(crate) fn say_whence<W: Write>(
     alloc: Global,
     lab: &Lab,
+    notes: &Option<Notes>,
     node: NodeId,
     step: u32,
     output: &mut Output,
     writer: &mut W,
 ) -> Result<(), WriteFailed>
-    ensures { Says result (λ text. TellsWhence lab.now node step text)
+    ensures { Says result (λ text. TellsWhence notes.now lab.now node step text)
         (W.contents writer.old) output.old (W.contents writer.new) output.new }
 {
     if !lab.stands((node, step)) {
         return output.say(writer, refusal(LabFault::NoStep));
     }
     match asked_of(lab, node, step) {
-        Some(value) => say_asked(alloc, lab, node, step, value, output, writer),
-        None => say_head(lab, node, step, output, writer),
+        Some(value) => say_asked(alloc, lab, notes, node, step, value, output, writer),
+        None => say_head(lab, notes, node, step, output, writer),
     }
 }
 
@@ -53,6 +56,7 @@ pub(crate) fn say_whence<W: Write>(
 fn say_asked<W: Write>(
     alloc: Global,
     lab: &Lab,
+    notes: &Option<Notes>,
     node: NodeId,
     step: u32,
     value: Value,
@@ -60,13 +64,14 @@ fn say_asked<W: Write>(
     writer: &mut W,
 ) -> Result<(), WriteFailed>
     requires { IsPart value.part }
-    ensures { Says result (λ text. TellsAsked lab.now node step (Some value) text)
+    ensures { Says result (λ text. TellsAsked notes.now lab.now node step (Some value) text)
         (W.contents writer.old) output.old (W.contents writer.new) output.new }
 {
     match whence(alloc, lab, value, MOST_ROWS) {
         Ok(listing) => {
             say_rows(
                 lab,
+                notes,
                 node,
                 step,
                 value,
@@ -91,6 +96,7 @@ fn more(is_whole: bool) -> &'static [u8]
 /// Says the rows of the value, behind the step asked for where this didn't make it.
 fn say_rows<W: Write>(
     lab: &Lab,
+    notes: &Option<Notes>,
     node: NodeId,
     step: u32,
     value: Value,
@@ -99,43 +105,46 @@ fn say_rows<W: Write>(
     writer: &mut W,
 ) -> Result<(), WriteFailed>
     requires { IsPart value.part }
-    ensures { Says result (λ text. text ≡ rows_text lab.now node step value rows.now)
+    ensures { Says result (λ text. text ≡ rows_text notes.now lab.now node step value rows.now)
         (W.contents writer.old) output.old (W.contents writer.new) output.new }
 {
     if origin_of(lab, value).step == step {
-        return say_lines(lab, 0, rows, output, writer);
+        return say_lines(lab, notes, 0, rows, output, writer);
     }
-    say_head(lab, node, step, output, writer)?;
-    say_lines(lab, 1, rows, output, writer)
+    say_head(lab, notes, node, step, output, writer)?;
+    say_lines(lab, notes, 1, rows, output, writer)
 }
 
 /// Says the step asked for.
 fn say_head<W: Write>(
     lab: &Lab,
+    notes: &Option<Notes>,
     node: NodeId,
     step: u32,
     output: &mut Output,
     writer: &mut W,
 ) -> Result<(), WriteFailed>
-    ensures { Says result (λ text. text ≡ head_text lab.now node step)
+    ensures { Says result (λ text. text ≡ head_text notes.now lab.now node step)
         (W.contents writer.old) output.old (W.contents writer.new) output.new }
 {
-    output.say_blocks(writer, head_line(lab, node, step).as_slice())
+    output.say_blocks(writer, head_line(lab, node, step).as_slice())?;
+    say_step_tail(lab, notes, node, step, output, writer)
 }
 
 /// Says the lines of some rows, each so much deeper.
 fn say_lines<W: Write>(
     lab: &Lab,
+    notes: &Option<Notes>,
     deeper: u8,
     rows: &[Row],
     output: &mut Output,
     writer: &mut W,
 ) -> Result<(), WriteFailed>
-    ensures { Says result (λ text. text ≡ flat_map (row_text lab.now deeper) rows.now)
+    ensures { Says result (λ text. text ≡ flat_map (row_text notes.now lab.now deeper) rows.now)
         (W.contents writer.old) output.old (W.contents writer.new) output.new }
 {
     'rows: for row in rows {
-        say_row(lab, deeper, *row, output, writer)?;
+        say_row(lab, notes, deeper, *row, output, writer)?;
     }
     Ok(())
 }
@@ -143,16 +152,18 @@ fn say_lines<W: Write>(
 /// Says the line of a row.
 fn say_row<W: Write>(
     lab: &Lab,
+    notes: &Option<Notes>,
     deeper: u8,
     row: Row,
     output: &mut Output,
     writer: &mut W,
 ) -> Result<(), WriteFailed>
     ensures { (before said : List ℕ) → IsSaid (W.contents writer.old) before said output.old →
-        IsSaidOrCut result (W.contents writer.new) before (said ++ row_text lab.now deeper row) output.new }
+        IsSaidOrCut result (W.contents writer.new) before (said ++ row_text notes.now lab.now deeper row) output.new }
 {
     say_blanks(u64::from(row.depth) + u64::from(deeper), output, writer)?;
-    output.say_blocks(writer, value_line(lab, row.value).as_slice())
+    output.say_blocks(writer, value_line(lab, row.value).as_slice())?;
+    say_value_tail(lab, notes, row.value, output, writer)
 }
 
 /// Says two blanks for each level.
@@ -168,19 +179,18 @@ fn say_blanks<W: Write>(levels: u64, output: &mut Output, writer: &mut W) -> Res
     Ok(())
 }
 
-/// A line: the step asked for.
+/// A step of a node, with what it did.
 fn head_line(lab: &Lab, node: NodeId, step: u32) -> Text
-    ensures { result.items ≡ head_text lab.now node step }
+    ensures { result.items ≡ did_text lab.now node step }
 {
     let mut out = ArrayVec::new();
     push_did(&mut out, lab, node, step);
-    push_text(&mut out, b"\n");
     out
 }
 
-/// A line: the step that made a value, or that it was loaded.
+/// The step that made a value, or that it was loaded.
 fn value_line(lab: &Lab, value: Value) -> Text
-    ensures { result.items ≡ value_text lab.now value ++ codes "\n" }
+    ensures { result.items ≡ value_text lab.now value }
 {
     let mut out = ArrayVec::new();
     if value.step == 0 {
@@ -191,7 +201,6 @@ fn value_line(lab: &Lab, value: Value) -> Text
         push_did(&mut out, lab, value.node, value.step);
         push_mark(&mut out, value.part);
     }
-    push_text(&mut out, b"\n");
     out
 }
 

@@ -1,10 +1,10 @@
 -- What is written once an image or source was read.
 use Rattle.std.specs.Prelude.{◌≡◌, ℕ, true, false, [], Result, Ok, Err}
 use Rattle.ga_image.specs.Lines.{Text}
-use Rattle.ga_lab.specs.Machine.{State}
 use Rattle.ga_console.specs.Run.{IsFault, Refuses}
 use Rattle.ga_console.specs.declared.run.Status.{Status}
 use Rattle.ga_console.specs.declared.run.Status.TheVariants.{ImageRefused}
+use Rattle.ga_exploring.specs.Tails.{Exploring}
 use Rattle.ga_exploring.specs.Opening.{begins_as_image, Opens}
 use Rattle.ga_exploring.specs.declared.opening.Unopened.{Unopened}
 use Rattle.ga_exploring.specs.declared.opening.Unopened.TheVariants.{Image, Source}
@@ -20,6 +20,6 @@ Declines (Image fault) written status = Refuses fault written status
 Declines Source written status = (written ≡ []) × (status ≡ ImageRefused)
 
 -- a machine was opened on the text, or that was declined
-abbrev pub IsOpened : ℕ → Text → Text → Result State Status → Type 0
-IsOpened limit text written (Ok machine) = (written ≡ []) × Opens text limit machine
+abbrev pub IsOpened : ℕ → Text → Text → Result Exploring Status → Type 0
+IsOpened limit text written (Ok begun) = (written ≡ []) × Opens text limit begun
 IsOpened limit text written (Err status) = (why : Unopened) × IsUnopened text why × Declines why written status

@@ -1,9 +1,23 @@
-use Rattle.std.proofs.Common.{◌∙◌}
+use Rattle.std.proofs.Common.{List, ℕ, ◌+◌, ◌++◌, ap, ◌∙◌}
+use Rattle.ga_console.proofs.SaidLemmas.{cut_here, cut_within}
 use Rattle.ga_exploring.specs.Around.{place_text}
+use Rattle.ga_exploring.specs.Tails.{step_tail}
 use Rattle.ga_exploring.proofs.Told.{told_as}
+use Rattle.ga_exploring.proofs.Saying.{joined_said}
 use Rattle.ga_exploring.proofs.at_text.say_place.Goals as goal
+
+pub returns-in_err-say_blocks : goal.returns-in_err-say_blocks
+returns-in_err-say_blocks g c = λ before said h.
+    let whole = place_text c.args.notes.now c.args.lab.now c.args.node c.args.place in
+    let tail = step_tail c.args.notes.now c.args.lab.now c.args.node (c.args.place + 1) in
+    cut_here c.from_residual.result _ before (said ++ whole) _ c.from_residual.ensures.0
+    (cut_within _ before said c.as_slice.result.now tail whole (ap (λ (t : List ℕ). t ++ tail) (c.as_slice.ensures.value ∙ c.place_line.ensures))
+    (c.in_err-say_blocks.ensures before said h))
 
 pub returns : goal.returns
 returns g c = λ before said h.
-    told_as c.say_blocks.result _ before said c.as_slice.result.now (place_text c.args.lab.now c.args.node c.args.place) c.say_blocks.new.self
-    (c.as_slice.ensures.value ∙ c.place_line.ensures) (c.say_blocks.ensures before said h)
+    let whole = place_text c.args.notes.now c.args.lab.now c.args.node c.args.place in
+    let tail = step_tail c.args.notes.now c.args.lab.now c.args.node (c.args.place + 1) in
+    let line : List ℕ = c.as_slice.result.now in
+    told_as c.say_step_tail.result _ before said (line ++ tail) whole _ (ap (λ (t : List ℕ). t ++ tail) (c.as_slice.ensures.value ∙ c.place_line.ensures))
+    (joined_said c.say_step_tail.result _ before said line tail _ (c.say_step_tail.ensures before (said ++ line) (c.in_ok-say_blocks.ensures before said h)))

@@ -2,7 +2,7 @@ use Rattle.std.proofs.Common.{ℕ, ◌-◌, List, ◌++◌, refl, Some, sym, ap,
 use Rattle.std.proofs.lemmas.List.{append-nil}
 use Rattle.ga_console.specs.Output.{ready}
 use Rattle.ga_console.specs.Session.{Serves}
-use Rattle.ga_console.proofs.RunLemmas.{said_fresh, serves_from}
+use Rattle.ga_console.proofs.RunLemmas.{said_fresh}
 use Rattle.ga_exploring.specs.Answers.{Explores}
 use Rattle.ga_exploring.specs.Opening.{IsFront}
 use Rattle.ga_exploring.specs.Session.Runs.{served, unbegun}
@@ -14,7 +14,7 @@ returns-in-Ok g c = λ left before known held.
     let text : List ℕ = begun.4.1 in
     let silent = begun.3 ∙ ap Some (ap (λ (t : List ℕ). before ++ t) begun.4.0 ∙ append-nil before) in
     let done = c.serve.ensures begun.0 before ready begun.2 (said_fresh _ before ready c.ready-output.result silent c.ready-output.ensures) in
-    let P : ℕ → Type 0 = λ n. Serves Explores (16777216 - n) c.in-Ok.lab done.0 done.1 done.2 c.serve.new.session c.serve.result in (
+    let P : ℕ → Type 0 = λ n. Serves Explores (16777216 - n) c.in-Ok.begun done.0 done.1 done.2 c.serve.new.session c.serve.result in (
       text ++ done.0,
       done.1,
       done.3,
@@ -24,13 +24,13 @@ returns-in-Ok g c = λ left before known held.
       served c.serve.result c.status_of.ensures (record {
         text = text;
         commands = done.0;
-        machine = c.in-Ok.lab;
+        begun = c.in-Ok.begun;
         said = done.2;
         splits = refl;
         front = subst (IsFront text) done.4 begun.4.4;
         opens = begun.4.5;
         last = c.serve.new.session;
-        serves = subst P begun.4.3 (serves_from _ _ _ _ _ _ _ _ _ c.open-session.ensures done.7);
+        serves = subst P begun.4.3 done.7;
         out = done.8;
       }),
     )

@@ -11,7 +11,7 @@ rows-init g c = λ before said h. record { front = []; splits = refl; is_said = 
 pub returns-in_err-say_row : goal.returns-in_err-say_row
 returns-in_err-say_row g c = λ before said h.
     let rows = c.args.rows.now in
-    let line = row_text c.args.lab.now c.args.deeper in
+    let line = row_text c.args.notes.now c.args.lab.now c.args.deeper in
     let whole : List ℕ = flat_map line rows in
     let i : ℕ = c.rows.row-index in
     let done = c.rows.invariant before said h in
@@ -26,7 +26,7 @@ returns-in_err-say_row g c = λ before said h.
 pub rows-preserved : goal.rows-preserved
 rows-preserved g c = λ before said h.
     let rows = c.args.rows.now in
-    let line = row_text c.args.lab.now c.args.deeper in
+    let line = row_text c.args.notes.now c.args.lab.now c.args.deeper in
     let i : ℕ = c.rows.row-index in
     let done = c.rows.invariant before said h in
     let text = line c.row-item.result in
@@ -37,7 +37,7 @@ rows-preserved g c = λ before said h.
 pub returns : goal.returns
 returns g c = λ before said h.
     let rows = c.args.rows.now in
-    let line = row_text c.args.lab.now c.args.deeper in
+    let line = row_text c.args.notes.now c.args.lab.now c.args.deeper in
     let whole : List ℕ = flat_map line rows in (
       whole,
       refl,

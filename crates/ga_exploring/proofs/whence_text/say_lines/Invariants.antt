@@ -7,4 +7,4 @@ use Rattle.ga_exploring.proofs.whence_text.say_lines.Given as goal
 
 abbrev pub invariant-rows : goal.invariant-rows
 invariant-rows g l = (before said : List ℕ) → IsSaid (g.W.Write.contents l.fn.writer) before said l.fn.output
-    → IsSaidUpTo (g.W.Write.contents l.writer) before said (flat_map (row_text l.lab l.deeper) l.rows) (flat_map (row_text l.lab l.deeper) (drop l.row-index l.rows)) l.output
+    → IsSaidUpTo (g.W.Write.contents l.writer) before said (flat_map (row_text l.notes l.lab l.deeper) l.rows) (flat_map (row_text l.notes l.lab l.deeper) (drop l.row-index l.rows)) l.output

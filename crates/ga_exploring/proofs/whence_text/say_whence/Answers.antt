@@ -13,7 +13,7 @@ pub returns-in-Some : goal.returns-in-Some
 returns-in-Some g c = λ before said h.
     let done = c.say_asked.ensures before said h in (
       done.0,
-      inr (sym c.stands.ensures.value ∙ c.if-not-stands.false, subst (λ v. TellsAsked c.args.lab.now c.args.node c.args.step v done.0) c.in-Some.ensures.value done.1),
+      inr (sym c.stands.ensures.value ∙ c.if-not-stands.false, subst (λ v. TellsAsked c.args.notes.now c.args.lab.now c.args.node c.args.step v done.0) c.in-Some.ensures.value done.1),
       done.2,
     )
 
@@ -21,6 +21,6 @@ pub returns-in-None : goal.returns-in-None
 returns-in-None g c = λ before said h.
     let done = c.say_head.ensures before said h in (
       done.0,
-      inr (sym c.stands.ensures.value ∙ c.if-not-stands.false, subst (λ v. TellsAsked c.args.lab.now c.args.node c.args.step v done.0) c.in-None.ensures.value done.1),
+      inr (sym c.stands.ensures.value ∙ c.if-not-stands.false, subst (λ v. TellsAsked c.args.notes.now c.args.lab.now c.args.node c.args.step v done.0) c.in-None.ensures.value done.1),
       done.2,
     )

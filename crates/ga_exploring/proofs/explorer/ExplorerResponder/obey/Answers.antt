@@ -1,5 +1,6 @@
-use Rattle.std.proofs.Common.{subst}
+use Rattle.std.proofs.Common.{ap, subst}
 use Rattle.ga_console.specs.Replies.{Answer}
+use Rattle.ga_exploring.specs.Tails.{Exploring}
 use Rattle.ga_exploring.specs.Answers.Explores.{debugged}
 use Rattle.ga_exploring.proofs.Apart.{debugger_alone}
 use Rattle.ga_exploring.proofs.explorer.ExplorerResponder.obey.Goals as goal
@@ -9,6 +10,7 @@ returns g c = λ before said h.
     let done = c.obey.ensures before said h in (
       done.0,
       λ line short spelled. debugged (λ fits. debugger_alone c.args.command line spelled)
-          (subst (λ s. Answer s line done.0 c.obey.new.self) c.self.view_is (done.1 line short spelled)),
+          (subst (λ (s : Exploring). Answer s.lab line done.0 c.obey.new.self) c.self.view_is (done.1 line short spelled))
+          (ap (λ (s : Exploring). s.notes) c.self.view_is),
       done.2,
     )
