@@ -1,7 +1,7 @@
 -- From a session that says nothing to one whose answers are dropped.
 use Rattle.std.proofs.Common.{◌≡◌, ℕ, List, [], ◌∷◌, ◌++◌, false, inl, inr, refl, sym, ap, subst, ◌∙◌, Result, Ok, Err}
 use Rattle.ga_image.specs.Lines.{lines_of}
-use Rattle.ga_lab.specs.Machine.{State}
+use Rattle.ga_exploring.specs.Tails.{Exploring}
 use Rattle.ga_console.specs.Run.{status_of}
 use Rattle.ga_console.specs.Session.{Answers, Script, Serves}
 use Rattle.ga_console.specs.declared.commands.Ending.{Ending}
@@ -30,7 +30,7 @@ answers_follow m (line ∷ lines) text last e h =
     let noted = h.3.3 rest.0 in
     (noted.0, (h.0, h.1.explorer, h.2, (h.3.0, h.3.1, h.3.2, noted.1), rest.1, h.5))
 
-nothing_said : (s : State) (lines : List (List ℕ)) (text : List ℕ) (last : State) → Answers Hears s lines text last → text ≡ []
+nothing_said : (s : Exploring) (lines : List (List ℕ)) (text : List ℕ) (last : Exploring) → Answers Hears s lines text last → text ≡ []
 nothing_said s [] text last h = h.0
 nothing_said s (line ∷ lines) text last h =
     h.5 ∙ ap (λ (t : List ℕ). t ++ h.2) h.3.0 ∙ nothing_said h.1 lines h.2 last h.4

@@ -1,6 +1,6 @@
 -- Where a session that says nothing comes to.
 use Rattle.std.proofs.Common.{◌≡◌, ◌≢◌, ℕ, List, [], ◌++◌, inl, inr, refl, sym, ap, subst, ◌∙◌, Result, Ok, Err}
-use Rattle.ga_lab.specs.Machine.{State}
+use Rattle.ga_exploring.specs.Tails.{Exploring}
 use Rattle.ga_lab.specs.declared.fault.LabFault.TheVariants.{Memory}
 use Rattle.ga_console.specs.Run.{status_of}
 use Rattle.ga_console.specs.Session.{Serves, Written}
@@ -21,12 +21,12 @@ sent_none (Err failed) said sent e none written = cc
 -- to the end of the input or to `quit`
 pub goes_ended : (room : ℕ) (m : Silent) (read rest said sent : List ℕ) (last : Silent) (ending : Result Ending WriteFailed) → status_of ending ≡ Done
     → Serves Silently room m read rest said last ending → Written ending said sent
-    → (text : List ℕ) (result : Result State Status) → Ends last.explorer last.short text result → Goes room m.explorer read rest (sent ++ text) result
+    → (text : List ℕ) (result : Result Exploring Status) → Ends last.explorer last.short text result → Goes room m.explorer read rest (sent ++ text) result
 goes_ended room m read rest said sent last ending e serves written text (Ok s) ends =
     let quiet : said ≡ [] = serves_silent room m read rest said last ending e serves in
     let none : sent ≡ [] = sent_none ending said sent e quiet written in
     let P : List ℕ → Type 0 = λ t. Serves Follows room m.explorer read rest t last.explorer ending in
-    let Q : State → Type 0 = λ z. Serves Follows room m.explorer read rest [] z ending in (
+    let Q : Exploring → Type 0 = λ z. Serves Follows room m.explorer read rest [] z ending in (
       ap (λ (t : List ℕ). t ++ text) none ∙ ends.2,
       ending,
       e,

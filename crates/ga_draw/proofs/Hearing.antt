@@ -2,7 +2,7 @@
 use Rattle.std.proofs.Common.{◌≡◌, ◌↔◌, ℕ, List, [], ◌++◌, Bool, true, false, true≢false, IsTrue, Some, length, arith, inl, inr, refl, sym, ap, subst, ◌∙◌, Ok}
 use Rattle.std.proofs.lemmas.List.{append-nil}
 use Rattle.std.proofs.lemmas.Option.{same_Some}
-use Rattle.ga_lab.specs.Machine.{State}
+use Rattle.ga_exploring.specs.Tails.{Exploring}
 use Rattle.ga_console.specs.Output.{IsSaid}
 use Rattle.ga_console.specs.kept.Turns.{Turns}
 use Rattle.ga_console.specs.declared.responder.Turn.{Turn}
@@ -32,7 +32,7 @@ quiet_notes short answer e same = (same, λ told. nothing_short (subst IsShort e
 
 same_silent : (m n : Silent) → n.explorer ≡ m.explorer → n.short ≡ m.short → n ≡ m
 same_silent m n e f =
-    let A : State → Silent = λ s. record { explorer = s; short = n.short } in
+    let A : Exploring → Silent = λ s. record { explorer = s; short = n.short } in
     let B : Bool → Silent = λ b. record { explorer = m.explorer; short = b } in
     ap A e ∙ ap B f
 

@@ -1,6 +1,6 @@
 -- From the parts of a session whose answers are dropped to the whole.
 use Rattle.std.proofs.Common.{◌≡◌, ℕ, ◌-◌, List, [], ◌++◌, length, inl, inr, refl, Result, Ok, Err}
-use Rattle.ga_lab.specs.Machine.{State}
+use Rattle.ga_exploring.specs.Tails.{Exploring}
 use Rattle.ga_console.specs.Input.{input_limit}
 use Rattle.ga_console.specs.Run.{status_of}
 use Rattle.ga_console.specs.Session.{Serves, Written}
@@ -14,7 +14,7 @@ use Rattle.ga_draw.specs.Following.{Hears, Follows, Followed, Reaches}
 use Rattle.ga_draw.specs.Following.Unreached.{broken, short}
 use Rattle.ga_draw.specs.kept.Following.{Goes}
 
-followed_in : (A : Answering State) (limit : ℕ) (text commands rest said written : List ℕ) (machine last : State) (ending : Result Ending WriteFailed) → IsFront text (commands ++ rest)
+followed_in : (A : Answering Exploring) (limit : ℕ) (text commands rest said written : List ℕ) (machine last : Exploring) (ending : Result Ending WriteFailed) → IsFront text (commands ++ rest)
     → Opens text limit machine → Serves A (input_limit - length text) machine commands rest said last ending → Written ending said written
     → Followed A limit (text ++ commands) rest written last ending
 followed_in A limit text commands rest said written machine last ending front opens serves out = record {
@@ -35,7 +35,7 @@ written_none (Ok done) e = refl
 written_none (Err failed) e = cc
 
 -- behind a text on which a machine was opened
-pub reaches_after : (limit : ℕ) (text commands rest written : List ℕ) (machine : State) (result : Result State Status) → IsFront text (commands ++ rest) → Opens text limit machine
+pub reaches_after : (limit : ℕ) (text commands rest written : List ℕ) (machine : Exploring) (result : Result Exploring Status) → IsFront text (commands ++ rest) → Opens text limit machine
     → Goes (input_limit - length text) machine commands rest written result → Reaches limit (text ++ commands) rest written result
 reaches_after limit text commands rest written machine (Ok last) front opens g =
     (g.0, g.1, g.2, followed_in Follows limit text commands rest [] [] machine last g.1 front opens g.3 (written_none g.1 g.2))

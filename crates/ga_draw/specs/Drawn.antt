@@ -12,6 +12,7 @@ use Rattle.ga_console.specs.declared.run.Status.{Status}
 use Rattle.ga_console.specs.declared.run.Status.TheVariants.{Done, ImageRefused, StreamFault, NotFinished}
 use Rattle.ga_drawing.specs.Picture.{IsPictureText, all_stand}
 use Rattle.ga_drawing.specs.declared.view.View.{View}
+use Rattle.ga_exploring.specs.Tails.{Exploring}
 use Rattle.ga_draw.specs.Following.{Follows, Followed, Declines, Unreached}
 
 -- a step that is asked for doesn't stand; or all do, and memory was wanting for the picture
@@ -38,6 +39,6 @@ Pictures s view text status = ((picture : Text) × IsPictureText s view picture 
 
 -- What may have been written, where read was read of the input and rest is left of it.
 pub data Draws (limit : ℕ) (view : View) (read rest : Bytes) (text : Text) (status : Status) : Type 0 where
-  reached : (last : State) → (ending : Result Ending WriteFailed) → status_of ending ≡ Done → Followed Follows limit read rest [] last ending
-      → Pictures last view text status → Draws limit view read rest text status
+  reached : (last : Exploring) → (ending : Result Ending WriteFailed) → status_of ending ≡ Done → Followed Follows limit read rest [] last ending
+      → Pictures last.lab view text status → Draws limit view read rest text status
   stopped : Unreached limit read rest text status → Draws limit view read rest text status

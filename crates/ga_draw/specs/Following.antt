@@ -1,7 +1,7 @@
 -- A session whose answers are dropped (docs/REFERENCE.md, "Pictures"; this project's own).
 use Rattle.std.specs.Prelude.{◌≡◌, ℕ, ◌-◌, ◌⊎◌, [], ◌++◌, length, take, codes, Result, Ok, Err}
 use Rattle.ga_image.specs.Lines.{Bytes, Text, Line}
-use Rattle.ga_lab.specs.Machine.{State}
+use Rattle.ga_exploring.specs.Tails.{Exploring}
 use Rattle.ga_lab.specs.declared.fault.LabFault.{LabFault}
 use Rattle.ga_lab.specs.declared.fault.LabFault.TheVariants.{Memory}
 use Rattle.ga_console.specs.Input.{input_limit}
@@ -22,18 +22,18 @@ abbrev pub IsShort : Text → Type 0
 IsShort answer = (answer ≡ refusal_text Memory) ⊎ (take 7 answer ≡ codes "memory ")
 
 -- the line is answered as exploring may answer it, and nothing is said
-abbrev pub Hears : State → Line → Text → State → Type 0
+abbrev pub Hears : Exploring → Line → Text → Exploring → Type 0
 Hears s line said new = (said ≡ []) × (answer : Text) × Explores s line answer new
 
 -- and no memory was wanting for it
-abbrev pub Follows : State → Line → Text → State → Type 0
+abbrev pub Follows : Exploring → Line → Text → Exploring → Type 0
 Follows s line said new = (said ≡ []) × (answer : Text) × Explores s line answer new × (¬ IsShort answer)
 
 -- The text, an image or source, was accepted, and the lines behind it were followed to this machine and this ending.
-pub record Followed (A : Answering State) (limit : ℕ) (read rest : Bytes) (written : Text) (last : State) (ending : Result Ending WriteFailed) : Type 0 where
+pub record Followed (A : Answering Exploring) (limit : ℕ) (read rest : Bytes) (written : Text) (last : Exploring) (ending : Result Ending WriteFailed) : Type 0 where
   pub text : Text
   pub commands : Bytes
-  pub machine : State
+  pub machine : Exploring
   pub said : Text
   pub splits : read ≡ text ++ commands
   pub front : IsFront text (commands ++ rest)
@@ -52,13 +52,13 @@ Declines fault text NotFinished = ⊥
 -- memory was wanting for one of them.
 pub data Unreached (limit : ℕ) (read rest : Bytes) (text : Text) (status : Status) : Type 0 where
   unbegun : Unbegun read rest text status → Unreached limit read rest text status
-  broken : (last : State) → (ending : Result Ending WriteFailed) → status_of ending ≡ StreamFault → status ≡ StreamFault
+  broken : (last : Exploring) → (ending : Result Ending WriteFailed) → status_of ending ≡ StreamFault → status ≡ StreamFault
       → Followed Hears limit read rest text last ending → Unreached limit read rest text status
-  short : (last : State) → (ending : Result Ending WriteFailed) → status_of ending ≡ Done → Followed Hears limit read rest [] last ending
+  short : (last : Exploring) → (ending : Result Ending WriteFailed) → status_of ending ≡ Done → Followed Hears limit read rest [] last ending
       → Declines Memory text status → Unreached limit read rest text status
 
 -- Where the input was followed to its end, or to `quit`, nothing is written, and the machine is the one behind all lines.
-abbrev pub Reaches : ℕ → Bytes → Bytes → Text → Result State Status → Type 0
+abbrev pub Reaches : ℕ → Bytes → Bytes → Text → Result Exploring Status → Type 0
 Reaches limit read rest text (Ok last) =
     (text ≡ []) × (ending : Result Ending WriteFailed) × (status_of ending ≡ Done) × Followed Follows limit read rest [] last ending
 Reaches limit read rest text (Err status) = Unreached limit read rest text status

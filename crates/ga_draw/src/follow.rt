@@ -5,7 +5,7 @@ ghost use Rattle.ga_draw.specs.Following.{Reaches, Declines};
 ghost use Rattle.ga_draw.specs.kept.Following.{Goes, Ends};
 
 use super::silent::Silent;
-use ga_console::{Input, Output, Responder, Status, refusal, serve, status_of, write_all};
+use ga_console::{Input, Output, Status, refusal, serve, status_of, write_all};
 use ga_exploring::{Explorer, begin};
 use ga_lab::LabFault;
 use std::alloc::Global;
@@ -32,7 +32,7 @@ pub fn follow_session<R: Read, W: Write, E: Write>(
 {
     let mut input = Input::new();
     match begin(alloc, &mut input, reader, writer, errors, limit) {
-        Ok(lab) => follow(alloc, &mut input, reader, writer, Explorer::open(lab)),
+        Ok(begun) => follow(alloc, &mut input, reader, writer, begun),
         Err(status) => Err(status),
     }
 }

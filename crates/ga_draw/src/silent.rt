@@ -81,12 +81,13 @@ fn is_short(answer: &[u8]) -> bool
 }
 
 impl Responder for Silent {
-    ghost use Rattle.std.specs.Prelude.{false};
+    ghost use Rattle.std.specs.Prelude.{false, None};
+    ghost use Rattle.ga_exploring.specs.Tails.{exploring};
     ghost use Rattle.ga_draw.specs.kept.Following.{HearsLine};
 
     ghost answers = { λ m line said new. HearsLine m.explorer m.short line said new.explorer new.short };
 
-    ghost begin = { λ s. record { explorer = s; short = false } };
+    ghost begin = { λ s. record { explorer = exploring s None; short = false } };
 
     fn open(lab: Lab) -> Self {
         Silent {

@@ -63,5 +63,5 @@ Explored e Help answer new = (answer ≡ help_text) × (new ≡ e)
 
 -- The answer to a line: it spells a command of exploring, or is answered as the debugger answers it.
 pub data Explores (e : Exploring) (line answer : List ℕ) (new : Exploring) : Type 0 where
-  explored : (asked : Request) → length line ≤ longest → request_in line ≡ Some asked → Explored e asked answer new → Explores e line answer new
-  debugged : (length line ≤ longest → request_in line ≡ None) → Answer e.lab line answer new.lab → new.notes ≡ e.notes → Explores e line answer new
+  explored : (asked : Request) → length line ≤ longest → request_in e.notes line ≡ Some asked → Explored e asked answer new → Explores e line answer new
+  debugged : (length line ≤ longest → request_in e.notes line ≡ None) → Answer e.lab line answer new.lab → new.notes ≡ e.notes → Explores e line answer new

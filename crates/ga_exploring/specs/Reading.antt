@@ -9,6 +9,8 @@ use Rattle.ga_explore.specs.Schedules.{in_rounds, greedily, at_random}
 use Rattle.ga_explore.specs.declared.schedule.Schedule.{Schedule}
 use Rattle.ga_explore.specs.declared.condition.Condition.{Condition}
 use Rattle.ga_explore.specs.declared.condition.Condition.TheVariants.{Never, Passes, PassesNumber, Steps, Stops, StopsAt, WaitsAt, Holds, ComesTo}
+use Rattle.ga_notes.specs.declared.notes.Notes.{Notes}
+use Rattle.ga_notes.specs.Notes.{address_of}
 use Rattle.ga_exploring.specs.declared.request.Request.{Request}
 use Rattle.ga_exploring.specs.declared.request.Request.TheVariants.{Run, Effects, Words, Writes, At, Whence, Who, Chip, Save, Help}
 
@@ -72,12 +74,25 @@ holds_in text = do
   word ← equal_in second.1
   Some (Holds node address word)
 
+-- a label of a node, which only source gives
+abbrev pub label_in : Option Notes → NodeId → List ℕ → Option ℕ
+label_in None node text = None
+label_in (Some notes) node text = address_of notes.names.items node text
+
+abbrev pub word_or : Option ℕ → Option ℕ → Option ℕ
+word_or None other = other
+word_or (Some word) other = Some word
+
+-- an address, or else a label
+abbrev pub address_in : Option Notes → NodeId → List ℕ → Option ℕ
+address_in notes node text = word_or (word_in text) (label_in notes node text)
+
 -- `NNN X`
-unfoldable pub comes_in : List ℕ → Option Condition
-comes_in text = do
+unfoldable pub comes_in : Option Notes → List ℕ → Option Condition
+comes_in notes text = do
   parts ← cut text
   node ← node_in parts.0
-  address ← word_in parts.1
+  address ← address_in notes node parts.1
   Some (ComesTo node address)
 
 -- a condition of one word
@@ -85,78 +100,78 @@ unfoldable pub lone_condition : List ℕ → Option Condition
 lone_condition name = if pointwise nat_eq name (codes "stop") then Some Stops else None
 
 -- a condition of a word and what stands behind it
-unfoldable pub named_condition : List ℕ → List ℕ → Option Condition
-named_condition name text =
+unfoldable pub named_condition : Option Notes → List ℕ → List ℕ → Option Condition
+named_condition notes name text =
     if pointwise nat_eq name (codes "stop") then option_map StopsAt (node_in text)
     else if pointwise nat_eq name (codes "wait") then option_map WaitsAt (node_in text)
     else if pointwise nat_eq name (codes "step") then steps_in text
     else if pointwise nat_eq name (codes "pass") then passes_in text
     else if pointwise nat_eq name (codes "mem") then holds_in text
-    else if pointwise nat_eq name (codes "p") then comes_in text
+    else if pointwise nat_eq name (codes "p") then comes_in notes text
     else None
 
-abbrev pub condition_by : Option (List ℕ × List ℕ) → List ℕ → Option Condition
-condition_by None text = lone_condition text
-condition_by (Some parts) text = named_condition parts.0 parts.1
+abbrev pub condition_by : Option Notes → Option (List ℕ × List ℕ) → List ℕ → Option Condition
+condition_by notes None text = lone_condition text
+condition_by notes (Some parts) text = named_condition notes parts.0 parts.1
 
-abbrev pub condition_in : List ℕ → Option Condition
-condition_in text = condition_by (cut text) text
+abbrev pub condition_in : Option Notes → List ℕ → Option Condition
+condition_in notes text = condition_by notes (cut text) text
 
 -- ---- `run`
 
-abbrev pub run_until : Schedule → ℕ → List ℕ → Option Request
-run_until schedule most text = option_map (Run schedule most) (condition_in text)
+abbrev pub run_until : Option Notes → Schedule → ℕ → List ℕ → Option Request
+run_until notes schedule most text = option_map (Run schedule most) (condition_in notes text)
 
 -- `until COND` behind a number
-unfoldable pub until_in : Schedule → ℕ → List ℕ → Option Request
-until_in schedule most text = do
+unfoldable pub until_in : Option Notes → Schedule → ℕ → List ℕ → Option Request
+until_in notes schedule most text = do
   parts ← cut text
-  if pointwise nat_eq parts.0 (codes "until") then run_until schedule most parts.1 else None
+  if pointwise nat_eq parts.0 (codes "until") then run_until notes schedule most parts.1 else None
 
 -- `until COND`, or a number and `until COND`
-unfoldable pub bounded_by : Schedule → List ℕ → List ℕ → Option Request
-bounded_by schedule name text =
-    if pointwise nat_eq name (codes "until") then run_until schedule most_events text
+unfoldable pub bounded_by : Option Notes → Schedule → List ℕ → List ℕ → Option Request
+bounded_by notes schedule name text =
+    if pointwise nat_eq name (codes "until") then run_until notes schedule most_events text
     else (do
       most ← number_in name
-      until_in schedule most text)
+      until_in notes schedule most text)
 
-abbrev pub bounded_cut : Option (List ℕ × List ℕ) → Schedule → List ℕ → Option Request
-bounded_cut None schedule text = option_map (λ most. Run schedule most Never) (number_in text)
-bounded_cut (Some parts) schedule text = bounded_by schedule parts.0 parts.1
+abbrev pub bounded_cut : Option Notes → Option (List ℕ × List ℕ) → Schedule → List ℕ → Option Request
+bounded_cut notes None schedule text = option_map (λ most. Run schedule most Never) (number_in text)
+bounded_cut notes (Some parts) schedule text = bounded_by notes schedule parts.0 parts.1
 
 -- a number, `until COND`, or both
-abbrev pub bounded_in : Schedule → List ℕ → Option Request
-bounded_in schedule text = bounded_cut (cut text) schedule text
+abbrev pub bounded_in : Option Notes → Schedule → List ℕ → Option Request
+bounded_in notes schedule text = bounded_cut notes (cut text) schedule text
 
-abbrev pub seeded_cut : Option (List ℕ × List ℕ) → List ℕ → Option Request
-seeded_cut None text = option_map (λ seed. Run (at_random seed) most_events Never) (number_in text)
-seeded_cut (Some parts) text = do
+abbrev pub seeded_cut : Option Notes → Option (List ℕ × List ℕ) → List ℕ → Option Request
+seeded_cut notes None text = option_map (λ seed. Run (at_random seed) most_events Never) (number_in text)
+seeded_cut notes (Some parts) text = do
   seed ← number_in parts.0
-  bounded_in (at_random seed) parts.1
+  bounded_in notes (at_random seed) parts.1
 
 -- a seed, and what bounds the run
-abbrev pub seeded_in : List ℕ → Option Request
-seeded_in text = seeded_cut (cut text) text
+abbrev pub seeded_in : Option Notes → List ℕ → Option Request
+seeded_in notes text = seeded_cut notes (cut text) text
 
 -- an order of one word, or what bounds a run in rounds
-unfoldable pub lone_order : List ℕ → Option Request
-lone_order text = if pointwise nat_eq text (codes "greedy") then Some (Run greedily most_events Never) else bounded_in in_rounds text
+unfoldable pub lone_order : Option Notes → List ℕ → Option Request
+lone_order notes text = if pointwise nat_eq text (codes "greedy") then Some (Run greedily most_events Never) else bounded_in notes in_rounds text
 
 -- an order with what stands behind it, or what bounds a run in rounds
-unfoldable pub named_order : List ℕ → List ℕ → List ℕ → Option Request
-named_order name rest text =
-    if pointwise nat_eq name (codes "greedy") then bounded_in greedily rest
-    else if pointwise nat_eq name (codes "random") then seeded_in rest
-    else bounded_in in_rounds text
+unfoldable pub named_order : Option Notes → List ℕ → List ℕ → List ℕ → Option Request
+named_order notes name rest text =
+    if pointwise nat_eq name (codes "greedy") then bounded_in notes greedily rest
+    else if pointwise nat_eq name (codes "random") then seeded_in notes rest
+    else bounded_in notes in_rounds text
 
-abbrev pub run_by : Option (List ℕ × List ℕ) → List ℕ → Option Request
-run_by None text = lone_order text
-run_by (Some parts) text = named_order parts.0 parts.1 text
+abbrev pub run_by : Option Notes → Option (List ℕ × List ℕ) → List ℕ → Option Request
+run_by notes None text = lone_order notes text
+run_by notes (Some parts) text = named_order notes parts.0 parts.1 text
 
 -- what stands behind `run`
-abbrev pub run_in : List ℕ → Option Request
-run_in text = run_by (cut text) text
+abbrev pub run_in : Option Notes → List ℕ → Option Request
+run_in notes text = run_by notes (cut text) text
 
 -- ---- `effects`, `words`, `writes`, `at` and `whence`
 
@@ -233,9 +248,9 @@ lone_request name =
     else None
 
 -- a command of a word and what stands behind it
-unfoldable pub named_request : List ℕ → List ℕ → Option Request
-named_request name text =
-    if pointwise nat_eq name (codes "run") then run_in text
+unfoldable pub named_request : Option Notes → List ℕ → List ℕ → Option Request
+named_request notes name text =
+    if pointwise nat_eq name (codes "run") then run_in notes text
     else if pointwise nat_eq name (codes "effects") then effects_in text
     else if pointwise nat_eq name (codes "words") then words_in text
     else if pointwise nat_eq name (codes "writes") then writes_in text
@@ -243,10 +258,10 @@ named_request name text =
     else if pointwise nat_eq name (codes "whence") then whence_in text
     else None
 
-abbrev pub request_by : Option (List ℕ × List ℕ) → List ℕ → Option Request
-request_by None line = lone_request line
-request_by (Some parts) line = named_request parts.0 parts.1
+abbrev pub request_by : Option Notes → Option (List ℕ × List ℕ) → List ℕ → Option Request
+request_by notes None line = lone_request line
+request_by notes (Some parts) line = named_request notes parts.0 parts.1
 
 -- the command of exploring that a line spells, where it spells one
-abbrev pub request_in : List ℕ → Option Request
-request_in line = request_by (cut line) line
+abbrev pub request_in : Option Notes → List ℕ → Option Request
+request_in notes line = request_by notes (cut line) line

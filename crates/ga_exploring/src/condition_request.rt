@@ -1,19 +1,20 @@
 //! Conditions, as lines spell them.
 
 ghost use Rattle.std.specs.Prelude.{◌≡◌};
-ghost use Rattle.ga_exploring.specs.Reading.{condition_in, lone_condition, named_condition, steps_in, passes_in, passed_in, holds_in, comes_in, equal_in, word_in};
+ghost use Rattle.ga_exploring.specs.Reading.{condition_in, lone_condition, named_condition, steps_in, passes_in, passed_in, holds_in, comes_in, address_in, label_in, equal_in, word_in};
 
 use ga_console::{byte_of, cut, node_of, number_of};
 use ga_explore::Condition;
 use ga_grid::NodeId;
+use ga_notes::Notes;
 use ga_word::Word18;
 
 /// The condition that a text spells, or none.
-pub(crate) fn condition_of(text: &[u8]) -> Option<Condition>
-    ensures { result ≡ condition_in text.now }
+pub(crate) fn condition_of(notes: &Option<Notes>, text: &[u8]) -> Option<Condition>
+    ensures { result ≡ condition_in notes.now text.now }
 {
     match cut(text) {
-        Some((name, rest)) => named_condition(name, rest),
+        Some((name, rest)) => named_condition(notes, name, rest),
         None => lone_condition(text),
     }
 }
@@ -29,8 +30,8 @@ fn lone_condition(name: &[u8]) -> Option<Condition>
 }
 
 #[tactic(auto, unfolding(crate::specs::Reading::named_condition))]
-fn named_condition(name: &[u8], rest: &[u8]) -> Option<Condition>
-    ensures { result ≡ named_condition name.now rest.now }
+fn named_condition(notes: &Option<Notes>, name: &[u8], rest: &[u8]) -> Option<Condition>
+    ensures { result ≡ named_condition notes.now name.now rest.now }
 {
     if name == b"stop".as_slice() {
         Some(Condition::StopsAt(node_of(rest)?))
@@ -43,7 +44,7 @@ fn named_condition(name: &[u8], rest: &[u8]) -> Option<Condition>
     } else if name == b"mem".as_slice() {
         holds_of(rest)
     } else if name == b"p".as_slice() {
-        comes_of(rest)
+        comes_of(notes, rest)
     } else {
         None
     }
@@ -105,16 +106,33 @@ fn holds_of(text: &[u8]) -> Option<Condition>
 
 /// `NNN X`
 #[tactic(auto, unfolding(crate::specs::Reading::comes_in))]
-fn comes_of(text: &[u8]) -> Option<Condition>
-    ensures { result ≡ comes_in text.now }
+fn comes_of(notes: &Option<Notes>, text: &[u8]) -> Option<Condition>
+    ensures { result ≡ comes_in notes.now text.now }
 {
     let (node, address) = cut(text)?;
     let node = node_of(node)?;
-    let address = word_of(address)?;
-    Some(Condition::ComesTo {
-        node,
-        address: address.get(),
-    })
+    let address = address_of(notes, node, address)?;
+    Some(Condition::ComesTo { node, address })
+}
+
+/// An address, or else a label of the node, which only source gives.
+fn address_of(notes: &Option<Notes>, node: NodeId, text: &[u8]) -> Option<u32>
+    ensures { result ≡ address_in notes.now node text.now }
+{
+    match word_of(text) {
+        Some(word) => Some(word.get()),
+        None => label_of(notes, node, text),
+    }
+}
+
+/// The address of a label.
+fn label_of(notes: &Option<Notes>, node: NodeId, text: &[u8]) -> Option<u32>
+    ensures { result ≡ label_in notes.now node text.now }
+{
+    match notes {
+        Some(notes) => notes.address_of(node, text),
+        None => None,
+    }
 }
 
 /// `= W`

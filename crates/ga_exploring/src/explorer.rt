@@ -77,7 +77,7 @@ impl Responder for Explorer {
         output: &mut Output,
         writer: &mut W,
     ) -> Result<Turn, WriteFailed> {
-        match asked_by(line) {
+        match asked_by(&self.notes, line) {
             Some(asked) => {
                 explored(alloc, &mut self.lab, &self.notes, asked, output, writer)?;
                 Ok(Turn::Answered)
@@ -99,12 +99,12 @@ impl Responder for Explorer {
 }
 
 /// The command of exploring that a line spells, where it is not too long.
-fn asked_by(line: &Line) -> Option<Request>
-    ensures some { IfSome result (λ asked. (length line.now.items ≤ LINE_LIMIT) × (request_in line.now.items ≡ Some asked)) }
-    ensures none { IfNone result (length line.now.items ≤ LINE_LIMIT → request_in line.now.items ≡ None) }
+fn asked_by(notes: &Option<Notes>, line: &Line) -> Option<Request>
+    ensures some { IfSome result (λ asked. (length line.now.items ≤ LINE_LIMIT) × (request_in notes.now line.now.items ≡ Some asked)) }
+    ensures none { IfNone result (length line.now.items ≤ LINE_LIMIT → request_in notes.now line.now.items ≡ None) }
 {
     if line.len() <= LINE_LIMIT {
-        request_of(line.as_slice())
+        request_of(notes, line.as_slice())
     } else {
         None
     }

@@ -7,6 +7,7 @@ use crate::run_request::run_of;
 use ga_console::{byte_of, cut, node_of, number_of};
 use ga_explore::{Condition, Schedule};
 use ga_grid::NodeId;
+use ga_notes::Notes;
 
 /// How many events are made at most where no number is given.
 pub(crate) const MOST_EVENTS: u32 = u32::MAX;
@@ -62,11 +63,11 @@ pub enum Request {
 }
 
 /// The command of exploring that a line spells, or none.
-pub fn request_of(line: &[u8]) -> Option<Request>
-    ensures { result ≡ request_in line.now }
+pub fn request_of(notes: &Option<Notes>, line: &[u8]) -> Option<Request>
+    ensures { result ≡ request_in notes.now line.now }
 {
     match cut(line) {
-        Some((name, arguments)) => named_request(name, arguments),
+        Some((name, arguments)) => named_request(notes, name, arguments),
         None => lone_request(line),
     }
 }
@@ -92,11 +93,11 @@ fn lone_request(name: &[u8]) -> Option<Request>
 
 /// The command that is spelled by a word and what follows the space behind it.
 #[tactic(auto, unfolding(crate::specs::Reading::named_request))]
-fn named_request(name: &[u8], arguments: &[u8]) -> Option<Request>
-    ensures { result ≡ named_request name.now arguments.now }
+fn named_request(notes: &Option<Notes>, name: &[u8], arguments: &[u8]) -> Option<Request>
+    ensures { result ≡ named_request notes.now name.now arguments.now }
 {
     if name == b"run".as_slice() {
-        run_of(arguments)
+        run_of(notes, arguments)
     } else if name == b"effects".as_slice() {
         effects_of(arguments)
     } else if name == b"words".as_slice() {

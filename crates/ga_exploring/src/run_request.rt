@@ -7,21 +7,22 @@ use crate::condition_request::condition_of;
 use crate::request::{MOST_EVENTS, Request};
 use ga_console::{cut, number_of};
 use ga_explore::{Condition, Schedule};
+use ga_notes::Notes;
 
 /// What stands behind `run` and a space.
-pub(crate) fn run_of(text: &[u8]) -> Option<Request>
-    ensures { result ≡ run_in text.now }
+pub(crate) fn run_of(notes: &Option<Notes>, text: &[u8]) -> Option<Request>
+    ensures { result ≡ run_in notes.now text.now }
 {
     match cut(text) {
-        Some((name, rest)) => named_order(name, rest, text),
-        None => lone_order(text),
+        Some((name, rest)) => named_order(notes, name, rest, text),
+        None => lone_order(notes, text),
     }
 }
 
 /// An order of one word, or what bounds a run in rounds.
 #[tactic(auto, unfolding(crate::specs::Reading::lone_order))]
-fn lone_order(text: &[u8]) -> Option<Request>
-    ensures { result ≡ lone_order text.now }
+fn lone_order(notes: &Option<Notes>, text: &[u8]) -> Option<Request>
+    ensures { result ≡ lone_order notes.now text.now }
 {
     if text == b"greedy".as_slice() {
         Some(Request::Run {
@@ -30,32 +31,32 @@ fn lone_order(text: &[u8]) -> Option<Request>
             until: Condition::Never,
         })
     } else {
-        bounded_of(Schedule::in_rounds(), text)
+        bounded_of(notes, Schedule::in_rounds(), text)
     }
 }
 
 /// An order with what stands behind it, or what bounds a run in rounds.
 #[tactic(auto, unfolding(crate::specs::Reading::named_order))]
-fn named_order(name: &[u8], rest: &[u8], text: &[u8]) -> Option<Request>
-    ensures { result ≡ named_order name.now rest.now text.now }
+fn named_order(notes: &Option<Notes>, name: &[u8], rest: &[u8], text: &[u8]) -> Option<Request>
+    ensures { result ≡ named_order notes.now name.now rest.now text.now }
 {
     if name == b"greedy".as_slice() {
-        bounded_of(Schedule::greedily(), rest)
+        bounded_of(notes, Schedule::greedily(), rest)
     } else if name == b"random".as_slice() {
-        seeded_of(rest)
+        seeded_of(notes, rest)
     } else {
-        bounded_of(Schedule::in_rounds(), text)
+        bounded_of(notes, Schedule::in_rounds(), text)
     }
 }
 
 /// A seed, and what bounds the run.
-fn seeded_of(text: &[u8]) -> Option<Request>
-    ensures { result ≡ seeded_in text.now }
+fn seeded_of(notes: &Option<Notes>, text: &[u8]) -> Option<Request>
+    ensures { result ≡ seeded_in notes.now text.now }
 {
     match cut(text) {
         Some((seed, rest)) => {
             let seed = number_of(seed)?;
-            bounded_of(Schedule::at_random(u64::from(seed)), rest)
+            bounded_of(notes, Schedule::at_random(u64::from(seed)), rest)
         }
         None => {
             let seed = number_of(text)?;
@@ -69,11 +70,11 @@ fn seeded_of(text: &[u8]) -> Option<Request>
 }
 
 /// A number, `until` and a condition, or both.
-fn bounded_of(schedule: Schedule, text: &[u8]) -> Option<Request>
-    ensures { result ≡ bounded_in schedule text.now }
+fn bounded_of(notes: &Option<Notes>, schedule: Schedule, text: &[u8]) -> Option<Request>
+    ensures { result ≡ bounded_in notes.now schedule text.now }
 {
     match cut(text) {
-        Some((name, rest)) => bounded_by(schedule, name, rest),
+        Some((name, rest)) => bounded_by(notes, schedule, name, rest),
         None => Some(Request::Run {
             schedule,
             most: number_of(text)?,
@@ -84,33 +85,33 @@ fn bounded_of(schedule: Schedule, text: &[u8]) -> Option<Request>
 
 /// The same, by its first word and what stands behind that.
 #[tactic(auto, unfolding(crate::specs::Reading::bounded_by))]
-fn bounded_by(schedule: Schedule, name: &[u8], rest: &[u8]) -> Option<Request>
-    ensures { result ≡ bounded_by schedule name.now rest.now }
+fn bounded_by(notes: &Option<Notes>, schedule: Schedule, name: &[u8], rest: &[u8]) -> Option<Request>
+    ensures { result ≡ bounded_by notes.now schedule name.now rest.now }
 {
     match name {
-        b"until" => run_until(schedule, MOST_EVENTS, rest),
-        _ => until_of(schedule, number_of(name)?, rest),
+        b"until" => run_until(notes, schedule, MOST_EVENTS, rest),
+        _ => until_of(notes, schedule, number_of(name)?, rest),
     }
 }
 
 /// `until` and a condition.
 #[tactic(auto, unfolding(crate::specs::Reading::until_in))]
-fn until_of(schedule: Schedule, most: u32, text: &[u8]) -> Option<Request>
-    ensures { result ≡ until_in schedule most text.now }
+fn until_of(notes: &Option<Notes>, schedule: Schedule, most: u32, text: &[u8]) -> Option<Request>
+    ensures { result ≡ until_in notes.now schedule most text.now }
 {
     let (name, rest) = cut(text)?;
     match name {
-        b"until" => run_until(schedule, most, rest),
+        b"until" => run_until(notes, schedule, most, rest),
         _ => None,
     }
 }
 
-fn run_until(schedule: Schedule, most: u32, text: &[u8]) -> Option<Request>
-    ensures { result ≡ run_until schedule most text.now }
+fn run_until(notes: &Option<Notes>, schedule: Schedule, most: u32, text: &[u8]) -> Option<Request>
+    ensures { result ≡ run_until notes.now schedule most text.now }
 {
     Some(Request::Run {
         schedule,
         most,
-        until: condition_of(text)?,
+        until: condition_of(notes, text)?,
     })
 }

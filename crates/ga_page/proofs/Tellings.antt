@@ -1,14 +1,15 @@
 -- What was told, of the machine that was reached.
 use Rattle.std.proofs.Common.{◌≡◌, ◌++◌, ℕ, List, length, take, Ok, ◌⊎◌, inl, inr, subst}
 use Rattle.ga_lab.specs.Machine.{State}
+use Rattle.ga_exploring.specs.Tails.{Exploring}
 use Rattle.ga_draw.specs.Following.{Reaches}
 use Rattle.ga_page.specs.kept.Makers.{makers_of}
 
-pub kept_told : (limit result : ℕ) (input old new read rest text : List ℕ) (seen last : State)
-    → input ≡ read ++ rest → Reaches limit read rest text (Ok last) → seen ≡ last
+pub kept_told : (limit result : ℕ) (input old new read rest text : List ℕ) (seen : State) (last : Exploring)
+    → input ≡ read ++ rest → Reaches limit read rest text (Ok last) → seen ≡ last.lab
     → (result ≡ 0) ⊎ ((nodes : List ℕ) × (nodes ≡ makers_of seen) × (result ≡ length nodes) × (take result new ≡ take (length old) nodes))
-    → (result ≡ 0) ⊎ ((read rest text : List ℕ) × (last : State) × (input ≡ read ++ rest) × Reaches limit read rest text (Ok last)
-    × (nodes : List ℕ) × (nodes ≡ makers_of last) × (result ≡ length nodes) × (take result new ≡ take (length old) nodes))
+    → (result ≡ 0) ⊎ ((read rest text : List ℕ) × (last : Exploring) × (input ≡ read ++ rest) × Reaches limit read rest text (Ok last)
+    × (nodes : List ℕ) × (nodes ≡ makers_of last.lab) × (result ≡ length nodes) × (take result new ≡ take (length old) nodes))
 kept_told limit result input old new read rest text seen last splits reached same (inl none) = inl none
 kept_told limit result input old new read rest text seen last splits reached same (inr told) =
     inr (read, rest, text, last, splits, reached, told.0, subst (λ s. told.0 ≡ makers_of s) same told.1, told.2, told.3)

@@ -1,6 +1,6 @@
 use Rattle.std.proofs.Common.{◌≡◌, ℕ, ◌-◌, List, ◌++◌, Some, sym, ap, subst, ◌∙◌, append_assoc}
 use Rattle.std.proofs.lemmas.List.{append-nil}
-use Rattle.ga_lab.specs.Machine.{State}
+use Rattle.ga_exploring.specs.Tails.{Exploring}
 use Rattle.ga_exploring.specs.Opening.{IsFront}
 use Rattle.ga_draw.specs.Following.Unreached.{unbegun}
 use Rattle.ga_draw.specs.kept.Following.{Goes}
@@ -13,16 +13,15 @@ returns-in-Ok g c = λ left before known held.
     let text : List ℕ = begun.4.1 in
     let silent = begun.3 ∙ ap Some (ap (λ (t : List ℕ). before ++ t) begun.4.0 ∙ append-nil before) in
     let done = c.follow.ensures begun.0 before begun.2 silent in
-    let P : ℕ → Type 0 = λ n. Goes (16777216 - n) c.in-Ok.lab done.0 done.1 done.2 c.follow.result in
-    let Q : State → Type 0 = λ m. Goes (16777216 - c.begin.new.input.taken) m done.0 done.1 done.2 c.follow.result in (
+    let P : ℕ → Type 0 = λ n. Goes (16777216 - n) c.in-Ok.begun done.0 done.1 done.2 c.follow.result in (
       text ++ done.0,
       done.1,
       done.2,
       begun.4.2 ∙ ap (λ (l : List ℕ). text ++ l) done.3 ∙ sym (append_assoc text done.0 done.1),
       done.4,
       done.5,
-      reaches_after c.args.limit text done.0 done.1 done.2 c.in-Ok.lab c.follow.result (subst (IsFront text) done.3 begun.4.4) begun.4.5
-          (subst P begun.4.3 (subst Q c.open.ensures done.6)),
+      reaches_after c.args.limit text done.0 done.1 done.2 c.in-Ok.begun c.follow.result (subst (IsFront text) done.3 begun.4.4) begun.4.5
+          (subst P begun.4.3 done.6),
     )
 
 pub returns-in-Err : goal.returns-in-Err

@@ -1,5 +1,5 @@
 use Rattle.std.proofs.Common.{List, ℕ, [], Some, true≢false, ap, sym, subst}
-use Rattle.ga_lab.specs.Machine.{State}
+use Rattle.ga_exploring.specs.Tails.{Exploring}
 use Rattle.ga_console.specs.kept.Turns.{AnswersCommand}
 use Rattle.ga_console.proofs.RunLemmas.{said_fresh}
 use Rattle.ga_exploring.specs.Answers.{Explores}
@@ -8,7 +8,7 @@ use Rattle.ga_draw.proofs.silent.Silent.hear_command.Goals as goal
 pub returns-in-Ok : goal.returns-in-Ok
 returns-in-Ok c =
     let done = c.in-Ok.ensures [] [] (said_fresh _ [] [] c.new-output.result (ap Some c.new-said.ensures.items) c.new-output.ensures) in
-    let P : State → Type 0 = λ s. AnswersCommand Explores c.args.self.now.explorer c.args.command s done.0 in
+    let P : Exploring → Type 0 = λ s. AnswersCommand Explores c.args.self.now.explorer c.args.command s done.0 in
     (done.0, subst P (sym c.note.ensures.same) done.1, c.note.ensures.noted done.0 done.2)
 
 pub returns : goal.returns

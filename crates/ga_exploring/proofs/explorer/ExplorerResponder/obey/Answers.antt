@@ -9,7 +9,7 @@ pub returns : goal.returns
 returns g c = λ before said h.
     let done = c.obey.ensures before said h in (
       done.0,
-      λ line short spelled. debugged (λ fits. debugger_alone c.args.command line spelled)
+      λ line short spelled. debugged (λ fits. debugger_alone c.args.self.now.notes c.args.command line spelled)
           (subst (λ (s : Exploring). Answer s.lab line done.0 c.obey.new.self) c.self.view_is (done.1 line short spelled))
           (ap (λ (s : Exploring). s.notes) c.self.view_is),
       done.2,
