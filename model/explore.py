@@ -5,6 +5,7 @@ import re
 from listing import NAMES
 from machine import Machine, NODES, name
 from node import SIDES, neighbour, target_of
+from notes import Notes
 from whence import LOADED, asked_of, rows_of
 
 NODE, W, HH = "[0-7](?:0[0-9]|1[0-7])", "0[0-3][0-9a-fA-F]{4}", "[0-9a-fA-F]{2}"
@@ -12,7 +13,7 @@ NUMBER = "(?:0|[1-9][0-9]{0,9})"
 MOST = (1 << 32) - 1
 STORES = {"0c": ("!p", "p"), "0d": ("!+", "a"), "0e": ("!b", "b"), "0f": ("!", "a")}
 CONDITION = (
-    rf"pass {NODE} {NODE} (?:= {W}|{NUMBER})|step {NODE} {NUMBER}|stop|stop {NODE}|wait {NODE}|mem {NODE} {HH} = {W}|p {NODE} {W}"
+    rf"pass {NODE} {NODE} (?:= {W}|{NUMBER})|step {NODE} {NUMBER}|stop|stop {NODE}|wait {NODE}|mem {NODE} {HH} = {W}|p {NODE} [^ ]+"
 )
 RUN = re.compile(rf"run(?: (greedy|random ({NUMBER})))?(?: ({NUMBER}))?(?: until ({CONDITION}))?")
 ASKED = re.compile(rf"(effects|whence) ({NODE}) ({NUMBER})|(words) ({NODE}) ({NODE})|(writes) ({NODE}) ({HH})|(at) ({NODE}) ({NUMBER})(?: ([1-9]?[0-9]))?")
@@ -39,6 +40,11 @@ def number_of(text):
     return 18 * int(text[0]) + int(text[1:])
 
 
+def cell_of(part):
+    """The cell that the name of a part tells, or None."""
+    return target_of(int(part, 16)) if re.fullmatch("[0-9a-f]{2}", part) else None
+
+
 def mixed(state):
     """A word of SplitMix64, and the state behind it."""
     state = (state + 0x9E3779B97F4A7C15) % (1 << 64)
@@ -49,6 +55,8 @@ def mixed(state):
 
 
 class Explorer(Machine):
+    notes = Notes()
+
     def explored(self, line):
         """The answer to a command of exploring, or None."""
         if line == "chip":
@@ -76,6 +84,8 @@ class Explorer(Machine):
         if not found:
             return None
         order, seed, most, condition = found.groups()
+        if condition and condition.startswith("p ") and self.address(*condition.split(" ")[1:]) is None:
+            return None
         return self.run(order and order.split(" ")[0], seed and int(seed), int(most) if most else MOST, condition)
 
     def run(self, order, seed, most, condition):
@@ -118,7 +128,11 @@ class Explorer(Machine):
         node = number_of(words[0])
         if kind == "mem":
             return self.mem(node, int(words[1], 16)).split(" ")[3] == words[3].lower()
-        return self.chip[node].p == int(words[1], 16)
+        return self.chip[node].p == self.address(*words)
+
+    def address(self, node, word):
+        """The address that a word or a label of the node tells, or None."""
+        return int(word, 16) if re.fullmatch(W, word) else self.notes.address(number_of(node), word)
 
     def doing(self, node):
         it = self.chip[node]
@@ -171,6 +185,17 @@ class Explorer(Machine):
                 lines.append(f"{name(node)} {step} {store[0]} {before.d[0]:06x}")
         return lines
 
+    def tails(self, passed):
+        """What the source says of the cell from which the word was fetched to which each step belongs, by node and step."""
+        cells, steps, tails = {}, {}, {}
+        for event, told, before in passed:
+            for node, held in zip(event, before):
+                steps[node] = steps.get(node, 0) + 1
+                if told.endswith(" fetch") or held.wait and held.wait[0] == "fetch":
+                    cells[node] = target_of(held.p)
+                tails[node, steps[node]] = self.notes.tail(node, cells.get(node))
+        return tails
+
     def deed(self, node, told):
         """What a step of a node did."""
         words = told.split(" ")
@@ -182,12 +207,13 @@ class Explorer(Machine):
     def at(self, node, step, around):
         if not 1 <= step <= self.steps[node]:
             return "no 6 nostep"
-        lines = []
-        for number, (told, _, behind) in enumerate(self.passed_through(node), 1):
+        lines, passed = [], list(self.passed_through(node))
+        tails = self.tails(((node,), told, (before,)) for told, before, _ in passed)
+        for number, (told, _, behind) in enumerate(passed, 1):
             if abs(number - step) <= around:
                 seen = {"t": behind.d[0], "s": behind.d[1], "r": behind.r[0], "a": behind.a, "b": behind.b, "p": behind.p}
                 registers = "".join(f" {register} {word:06x}" for register, word in seen.items())
-                lines.append(f"{name(node)} {number} {self.deed(node, told)}{registers}")
+                lines.append(f"{name(node)} {number} {self.deed(node, told)}{registers}{tails[node, number]}")
         return "\n".join(lines)
 
     def whence(self, node, step):
@@ -200,8 +226,9 @@ class Explorer(Machine):
             passed.append((event, again.told[-1], before))
             deeds.update({(it, again.steps[it]): self.deed(it, again.told[-1]) for it in event})
         asked, made = asked_of(passed, NODES)
+        tails = self.tails(passed)
         first = asked[node, step]
-        head = f"{name(node)} {step} {deeds[node, step]}"
+        head = f"{name(node)} {step} {deeds[node, step]}{tails[node, step]}"
         if first is None:
             return head
         rows, whole = rows_of(first, made)
@@ -209,8 +236,8 @@ class Explorer(Machine):
         lines = [head] if deeper else []
         for (it, number, part), depth in rows.items():
             mark = f" {part}" if part in LOADED + ("r",) and part != "i" else ""
-            told = f"{deeds[it, number]}{mark}" if number else f"load {part}"
-            lines.append("  " * (depth + deeper) + (f"{name(it)} {number} {told}" if number else f"{name(it)} {told}"))
+            told = f"{number} {deeds[it, number]}{mark}{tails[it, number]}" if number else f"load {part}{self.notes.tail(it, cell_of(part))}"
+            lines.append("  " * (depth + deeper) + f"{name(it)} {told}")
         return "\n".join(lines + ([] if whole else ["more"]))
 
     def does(self, node):

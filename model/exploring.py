@@ -14,6 +14,7 @@ from itertools import zip_longest
 from explore import Explorer, number_of
 from files import load_of
 from machine import name
+from notes import Notes
 from sessions import DEFAULT_LIMIT, SECONDS, Generator
 from source import asm
 
@@ -58,6 +59,7 @@ class Session:
             self.source, self.front = source, source + "end\n"
             load = load_of(image.splitlines())
             self.machine = Explorer(load, self.limit)
+            self.machine.notes = Notes(source)
             self.base.nodes = [it.number for it in load if any(it.ram)]
 
     def node(self):
@@ -98,6 +100,7 @@ class Session:
             return [f"pass {writer} {reader} = {word.upper()}", f"pass {writer} {reader} {number}", f"step {reader} {its}"]
         held = machine.chip[number_of(words[0])]
         ended = ["stop", f"{words[2]} {words[0]}"] if words[2] in ("wait", "stop") else []
+        ended += [f"p {words[0]} {label}" for label, address in machine.notes.labels.get(held.number, []) if address == held.p]
         return [f"step {words[0]} {words[1]}", f"p {words[0]} {held.p:06x}", f"mem {words[0]} 22 = {held.ram[0x22]:06x}"] + ended
 
     def condition(self, order):
@@ -108,7 +111,8 @@ class Session:
         passing = f"pass {name(writer)} {name(reader)}"
         return pick((
             f"{passing} = {self.word():06X}", f"{passing} {len(self.machine.sent(writer, reader)) + pick((0, 1, 2))}", "stop", f"stop {name(node)}",
-            f"wait {name(node)}", f"mem {name(node)} {self.address():02x} = {self.word():06X}", f"p {name(node)} {self.random.randrange(12):06x}",
+            f"wait {name(node)}", f"mem {name(node)} {self.address():02x} = {self.word():06X}",
+            f"p {name(node)} {pick([f'{self.random.randrange(12):06x}', *(label for label, _ in self.machine.notes.labels.get(node, []))])}",
         ))  # fmt: skip
 
     def run(self):

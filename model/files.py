@@ -15,6 +15,7 @@ from itertools import zip_longest
 from explore import Explorer
 from machine import Machine, NODES, name
 from node import Node, SIDES, WORD
+from notes import Notes
 from sessions import DEFAULT_LIMIT
 from source import asm
 
@@ -100,10 +101,12 @@ def answers_of(path):
         lines = file.read().removesuffix("\n").split("\n")
     past = lines.index("end") + 1 if "end" in lines else len(lines)
     kind = Explorer if "explore" in path.split(os.sep) else Machine
-    load = lines[:past]
+    load, notes = lines[:past], Notes()
     if kind is Explorer and not load[0].startswith("ga144"):
-        load = asm("".join(f"{line}\n" for line in load))[0].splitlines()
+        source = "".join(f"{line}\n" for line in load)
+        load, notes = asm(source)[0].splitlines(), Notes(source)
     machine = kind(load_of(load), limit)
+    machine.notes = notes
     commands = lines[past:]
     if "quit" in commands:
         commands = commands[: commands.index("quit")]

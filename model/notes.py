@@ -1,0 +1,37 @@
+"""What source says of each cell of a chip: a second reading of "Exploring" in docs/REFERENCE.md."""
+
+from node import advanced, target_of
+from source import NODE_NAMES, programs_of
+
+
+class Notes:
+    """The lines and the labels of the cells that a source gives; of an image there are none."""
+
+    def __init__(self, source=None):
+        self.cells, self.labels = {}, {}
+        lines = [it.strip(" \t") for it in (source or "").split("\n")]
+        for name, (_, _, layout) in (programs_of(source) if source is not None else {}).items():
+            node = NODE_NAMES[name]
+            for cell in layout.cells:
+                address = cell.address
+                for line in [cell.slots[0][0]] + [line for line, _ in cell.literals]:
+                    self.cells[node, target_of(address)] = f"{address:03x}", f"{line}: {lines[line - 1]}"
+                    address = advanced(address)
+            self.labels[node] = [(it, layout.labels[it]) for it in layout.order if isinstance(it, str)]
+
+    def label(self, node, cell):
+        """The label with the greatest address up to a cell of the same memory, of several there the last."""
+        named = [(target_of(address), it) for it, address in self.labels[node]]
+        before = [(place, it) for place, it in named if place[0] == cell[0] and place[1] <= cell[1]]
+        return [it for place, it in before if place == max(before)[0]][-1:]
+
+    def tail(self, node, cell):
+        """What is told of a cell behind a line."""
+        if (node, cell) not in self.cells:
+            return ""
+        address, line = self.cells[node, cell]
+        return " \\ " + " ".join([address, *self.label(node, cell), line])
+
+    def address(self, node, name):
+        """P at a label."""
+        return dict(self.labels.get(node, [])).get(name)
