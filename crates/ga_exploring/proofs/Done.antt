@@ -23,15 +23,18 @@ pub run_done : (s : State) (notes : Option Notes) (asked : Request) (schedule : 
     → HasEnded (running s schedule) bound until events end → new ≡ (after (running s schedule) events).state
     → Explored (exploring s notes) asked (run_text events end) (exploring new notes)
 run_done s notes asked schedule most bound until events end new e f made within ended state =
-    subst (λ z. Explored (exploring s notes) z (run_text events end) (exploring new notes)) (sym e) (record {
-      events = events;
-      end = end;
-      made = made;
-      within = subst (λ z. events ≤ z) f within;
-      ended = subst (λ z. HasEnded (running s schedule) z until events end) f ended;
-      state = state;
-      text = refl;
-    }, refl)
+    subst (λ z. Explored (exploring s notes) z (run_text events end) (exploring new notes)) (sym e) (
+      record {
+        events = events;
+        end = end;
+        made = made;
+        within = subst (λ z. events ≤ z) f within;
+        ended = subst (λ z. HasEnded (running s schedule) z until events end) f ended;
+        state = state;
+        text = refl;
+      },
+      refl,
+    )
 
 pub effects_done : (s : State) (notes : Option Notes) (asked : Request) (node : NodeId) (step : ℕ) (text : List ℕ) → asked ≡ Effects node step → TellsEffects s node step text → Explored (exploring s notes) asked text (exploring s notes)
 effects_done s notes asked node step text e h = subst (λ z. Explored (exploring s notes) z text (exploring s notes)) (sym e) (h, refl)

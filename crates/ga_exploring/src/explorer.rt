@@ -137,7 +137,9 @@ fn explored<W: Write>(
         Request::Effects { node, step } => say_effects(lab, node, step, output, writer),
         Request::Words { from, to } => say_words(lab, from, to, output, writer),
         Request::Writes { node, address } => say_writes(lab, node, address, output, writer),
-        Request::At { node, step, around } => say_around(lab, notes, node, step, around, output, writer),
+        Request::At { node, step, around } => say_around(
+            lab, notes, node, step, around, output, writer,
+        ),
         Request::Whence { node, step } => say_whence(alloc, lab, notes, node, step, output, writer),
         Request::Who => say_who(lab, output, writer),
         Request::Chip => output.say_blocks(writer, glance(lab).as_slice()),

@@ -85,7 +85,12 @@ fn bounded_of(notes: &Option<Notes>, schedule: Schedule, text: &[u8]) -> Option<
 
 /// The same, by its first word and what stands behind that.
 #[tactic(auto, unfolding(crate::specs::Reading::bounded_by))]
-fn bounded_by(notes: &Option<Notes>, schedule: Schedule, name: &[u8], rest: &[u8]) -> Option<Request>
+fn bounded_by(
+    notes: &Option<Notes>,
+    schedule: Schedule,
+    name: &[u8],
+    rest: &[u8],
+) -> Option<Request>
     ensures { result ≡ bounded_by notes.now schedule name.now rest.now }
 {
     match name {

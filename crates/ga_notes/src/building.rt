@@ -67,7 +67,15 @@ fn add_group(
     group: &Group,
     lines: &mut Lines<'_>,
 ) -> Result<(), AllocError> {
-    add_cell(alloc, all, program, marked, group.address, group.line(), lines)?;
+    add_cell(
+        alloc,
+        all,
+        program,
+        marked,
+        group.address,
+        group.line(),
+        lines,
+    )?;
     let mut p = advance_p(group.address);
     for (item, line) in group.items.iter().zip(&group.lines) {
         if let Item::Literal(_) = item {
