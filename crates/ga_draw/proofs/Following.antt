@@ -1,6 +1,5 @@
 -- From a session that says nothing to one whose answers are dropped.
-use Rattle.std.proofs.Common.{◌≡◌, ℕ, List, [], ◌∷◌, ◌++◌, false, inl, inr, refl, sym, ap, subst, ◌∙◌, Result, Ok, Err}
-use Rattle.ga_image.specs.Lines.{lines_of}
+use Rattle.std.proofs.Common.{◌≡◌, ℕ, List, [], ◌∷◌, ◌++◌, false, inl, inr, sym, ap, ◌∙◌, Result, Ok, Err}
 use Rattle.ga_exploring.specs.Tails.{Exploring}
 use Rattle.ga_console.specs.Run.{status_of}
 use Rattle.ga_console.specs.Session.{Answers, Script, Serves}

@@ -1,5 +1,5 @@
 -- Answers that are dropped.
-use Rattle.std.proofs.Common.{◌≡◌, ◌↔◌, ℕ, List, [], ◌++◌, Bool, true, false, true≢false, IsTrue, Some, length, arith, inl, inr, refl, sym, ap, subst, ◌∙◌, Ok}
+use Rattle.std.proofs.Common.{◌≡◌, ◌↔◌, ℕ, List, [], ◌++◌, Bool, false, true≢false, IsTrue, Some, length, arith, inl, inr, refl, sym, ap, subst, ◌∙◌, Ok}
 use Rattle.std.proofs.lemmas.List.{append-nil}
 use Rattle.std.proofs.lemmas.Option.{same_Some}
 use Rattle.ga_exploring.specs.Tails.{Exploring}

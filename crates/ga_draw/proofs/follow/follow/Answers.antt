@@ -1,4 +1,4 @@
-use Rattle.std.proofs.Common.{◌≡◌, ℕ, List, [], ◌++◌, Some, refl, sym, ap, ◌∙◌, append_assoc}
+use Rattle.std.proofs.Common.{[], ◌++◌, Some, sym, ap, ◌∙◌, append_assoc}
 use Rattle.ga_console.proofs.RunLemmas.{said_fresh}
 use Rattle.ga_draw.proofs.Going.{goes_ended, goes_broken, stream_fault}
 use Rattle.ga_draw.proofs.follow.follow.Goals as goal

@@ -1,6 +1,5 @@
-use Rattle.std.proofs.Common.{◌≡◌, ℕ, ◌-◌, List, ◌++◌, Some, sym, ap, subst, ◌∙◌, append_assoc}
+use Rattle.std.proofs.Common.{ℕ, ◌-◌, List, ◌++◌, Some, sym, ap, subst, ◌∙◌, append_assoc}
 use Rattle.std.proofs.lemmas.List.{append-nil}
-use Rattle.ga_exploring.specs.Tails.{Exploring}
 use Rattle.ga_exploring.specs.Opening.{IsFront}
 use Rattle.ga_draw.specs.Following.Unreached.{unbegun}
 use Rattle.ga_draw.specs.kept.Following.{Goes}

@@ -1,5 +1,4 @@
-use Rattle.std.proofs.Common.{◌≡◌, ℕ, suc, ◌+◌, ◌-◌, ◌≤◌, Some, sym, ap, ◌∙◌, arith}
-use Rattle.std.specs.Prelude.{Option}
+use Rattle.std.proofs.Common.{◌≡◌, ℕ, suc, ◌-◌, ◌≤◌, ap, ◌∙◌, arith}
 use Rattle.ga_ports.specs.Address.{classified}
 use Rattle.ga_node.specs.Record.{NodeRecord, record_of}
 use Rattle.ga_event.specs.Told.{steps_of}

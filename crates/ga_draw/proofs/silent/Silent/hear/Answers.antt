@@ -1,4 +1,4 @@
-use Rattle.std.proofs.Common.{List, ℕ, [], Some, Ok, true≢false, ap, sym, subst}
+use Rattle.std.proofs.Common.{[], Some, Ok, true≢false, ap, sym, subst}
 use Rattle.ga_exploring.specs.Tails.{Exploring}
 use Rattle.ga_console.specs.kept.Turns.{Turns}
 use Rattle.ga_console.specs.declared.responder.Turn.TheVariants.{Answered}

@@ -1,4 +1,4 @@
-use Rattle.std.proofs.Common.{List, ℕ, [], Some, true≢false, ap, sym, subst}
+use Rattle.std.proofs.Common.{[], Some, true≢false, ap, sym, subst}
 use Rattle.ga_exploring.specs.Tails.{Exploring}
 use Rattle.ga_console.specs.kept.Turns.{AnswersCommand}
 use Rattle.ga_console.proofs.RunLemmas.{said_fresh}
