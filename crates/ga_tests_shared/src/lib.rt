@@ -1,0 +1,5 @@
+//! The tests of the shared chip.
+#![tactic(auto)]
+
+#[cfg(test)]
+mod shared;
