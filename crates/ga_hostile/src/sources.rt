@@ -7,11 +7,16 @@
 //!   for the labels' addresses; one for the 2 instruction words; one for the list of programs; one for the image; and one for the
 //!   list of stores over code.
 //! - `list`, 22: the first 16 of these, and six for the 149 bytes of the listing.
+//! - `explore-source`, 32: three for the bytes of the source up to its line `end`; three for its 9 words; one for the chip; five
+//!   for the one label; two for the 5 requests; three for the labels' addresses, the instruction words and the programs; two for
+//!   the name and the list of names; ten for the notes of three cells (three for the 37 bytes of each, and one for their list);
+//!   one for the lab; and one for the first event of each of two nodes.
 //! - `dis`, 11: five for the bytes of the image, one for each line; one for its chip; and five for the 92 bytes of source.
 
 use crate::outcome::Outcome;
 use crate::page::Page;
 use ga_console::{Status, assemble_source, disassemble, list_source};
+use ga_exploring::explore;
 use std::alloc::Global;
 
 /// A label, a store over code, and a jump.
@@ -95,5 +100,44 @@ fn disassembled_once(alloc: Global) -> Outcome {
         Outcome::Refused("image")
     } else {
         Outcome::Wrong("another source")
+    }
+}
+
+/// A session that begins on source: a label, a literal and a jump.
+const EXPLORED: &[u8] =
+    b"node 000\n: main 5 b! dup main ;\nend\nrun 2 until p 000 main\nat 000 1 0\n";
+
+/// The first event leaves P behind the label, and the second is of another node.
+const ANSWERS: &[u8] =
+    b"ready\nmade 2\n000 1 fetch t 015555 s 015555 r 015555 a 000000 b 00015d p 000001 \\ 000 main 2: : main 5 b! dup main ;\n";
+
+/// The same where the second event is refused.
+const ONE_EVENT: &[u8] =
+    b"ready\nmemory 1\n000 1 fetch t 015555 s 015555 r 015555 a 000000 b 00015d p 000001 \\ 000 main 2: : main 5 b! dup main ;\n";
+
+/// And where the first is.
+const NO_EVENT: &[u8] = b"ready\nmemory 0\nno 6 nostep\n";
+
+/// The answers of a session that begins on source.
+pub fn explored(alloc: Global) -> Outcome {
+    match explored_once(alloc) {
+        Outcome::Refused(what) => Outcome::Refused(what).and(explored_once(alloc)),
+        once => once,
+    }
+}
+
+fn explored_once(alloc: Global) -> Outcome {
+    let mut reader = EXPLORED;
+    let mut answers = Page::new();
+    let mut errors = Page::new();
+    let status = explore(alloc, &mut reader, &mut answers, &mut errors, 1000);
+    if status == Status::Done && answers.holds(ANSWERS) && errors.holds(b"") {
+        Outcome::Answered
+    } else if is_refused(status, &answers, &errors) {
+        Outcome::Refused("source")
+    } else if status == Status::Done && (answers.holds(NO_EVENT) || answers.holds(ONE_EVENT)) {
+        Outcome::Refused("run")
+    } else {
+        Outcome::Wrong("other answers")
     }
 }
