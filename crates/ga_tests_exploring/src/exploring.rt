@@ -180,3 +180,28 @@ fn bounds(rt: HostRuntime) -> Result<(), Fail> {
     }
     Ok(())
 }
+
+/// A session on source: a label, a literal and a jump.
+const ON_SOURCE: &[u8] =
+    b"node 000\n: main 5 b! dup main ;\nend\nrun until p 000 other\nrun 2 until p 000 main\nat 000 1 0\n";
+
+/// What is answered: that nobody has the first label, and what the source says of the first step's cell.
+const TOLD_OF_SOURCE: &[u8] =
+    b"ready\nno 31 syntax\nmade 2\n000 1 fetch t 015555 s 015555 r 015555 a 000000 b 00015d p 000001 \\ 000 main 2: : main 5 b! dup main ;\n";
+
+#[test]
+fn lines_of_a_source(rt: HostRuntime) -> Result<(), Fail> {
+    let mut reader = ON_SOURCE;
+    let mut output = Vec::new(rt.alloc());
+    let mut errors = Vec::new(rt.alloc());
+    let status = explore(
+        rt.alloc(),
+        &mut reader,
+        &mut output,
+        &mut errors,
+        1_000_000,
+    );
+    assert!(rt; status == Status::Done && errors.is_empty());
+    assert_eq!(rt; output.as_slice(), TOLD_OF_SOURCE);
+    Ok(())
+}
