@@ -82,7 +82,7 @@ fn is_short(answer: &[u8]) -> bool
 
 impl Responder for Silent {
     ghost use Rattle.std.specs.Prelude.{false, None};
-    ghost use Rattle.ga_exploring.specs.Tails.{exploring};
+    ghost use Rattle.ga_exploring.specs.kept.Exploring.{exploring};
     ghost use Rattle.ga_draw.specs.kept.Following.{HearsLine};
 
     ghost answers = { λ m line said new. HearsLine m.explorer m.short line said new.explorer new.short };

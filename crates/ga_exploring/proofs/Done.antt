@@ -13,7 +13,7 @@ use Rattle.ga_exploring.specs.Writing.{writes_text}
 use Rattle.ga_exploring.specs.Around.{around_text}
 use Rattle.ga_exploring.specs.Trees.{TellsWhence}
 use Rattle.ga_notes.specs.declared.notes.Notes.{Notes}
-use Rattle.ga_exploring.specs.Tails.{exploring}
+use Rattle.ga_exploring.specs.kept.Exploring.{exploring}
 use Rattle.ga_exploring.specs.Answers.{TellsEffects, TellsWho, Explored}
 use Rattle.ga_exploring.specs.declared.request.Request.{Request}
 use Rattle.ga_exploring.specs.declared.request.Request.TheVariants.{Run, Effects, Words, Writes, At, Whence, Who, Chip, Save, Help}

@@ -12,7 +12,8 @@ use Rattle.ga_console.specs.declared.responder.Turn.{Turn}
 use Rattle.ga_console.specs.declared.responder.Turn.TheVariants as turn
 use Rattle.ga_notes.specs.declared.notes.Notes.{Notes}
 use Rattle.ga_exploring.specs.Reading.{request_in}
-use Rattle.ga_exploring.specs.Tails.{Exploring, exploring}
+use Rattle.ga_exploring.specs.Tails.{Exploring}
+use Rattle.ga_exploring.specs.kept.Exploring.{exploring}
 use Rattle.ga_exploring.specs.Answers.{Explores, Explored}
 use Rattle.ga_exploring.specs.Answers.Explores.{explored, debugged}
 use Rattle.ga_exploring.specs.declared.request.Request.{Request}

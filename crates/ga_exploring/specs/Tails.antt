@@ -15,9 +15,6 @@ pub record Exploring : Type 0 where
   pub lab : State
   pub notes : Option Notes
 
-abbrev pub exploring : State → Option Notes → Exploring
-exploring lab notes = record { lab = lab; notes = notes }
-
 -- what is said of a cell of a node; of an image nothing
 abbrev pub noted_text : Option Notes → NodeId → Option ℕ → List ℕ
 noted_text None node cell = []

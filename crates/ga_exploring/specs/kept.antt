@@ -1,2 +1,3 @@
 pub mod Saved
 pub mod Opening
+pub mod Exploring

@@ -3,7 +3,7 @@
 ghost use Rattle.std.specs.Prelude.{◌≡◌, ◌≤◌, length, Some, None, IfSome, IfNone};
 ghost use Rattle.ga_console.specs.kept.Output.{Says};
 ghost use Rattle.ga_exploring.specs.Reading.{request_in};
-ghost use Rattle.ga_exploring.specs.Tails.{exploring};
+ghost use Rattle.ga_exploring.specs.kept.Exploring.{exploring};
 ghost use Rattle.ga_exploring.specs.Answers.{Explored};
 
 use crate::at_text::say_around;
@@ -34,7 +34,8 @@ pub struct Explorer {
 }
 
 impl Model for Explorer {
-    ghost use Rattle.ga_exploring.specs.Tails.{Exploring, exploring};
+    ghost use Rattle.ga_exploring.specs.Tails.{Exploring};
+    ghost use Rattle.ga_exploring.specs.kept.Exploring.{exploring};
 
     ghost Value = { Exploring };
 
@@ -59,7 +60,7 @@ impl Explorer {
 
 impl Responder for Explorer {
     ghost use Rattle.std.specs.Prelude.{None};
-    ghost use Rattle.ga_exploring.specs.Tails.{exploring};
+    ghost use Rattle.ga_exploring.specs.kept.Exploring.{exploring};
     ghost use Rattle.ga_exploring.specs.Answers.{Explores};
 
     ghost answers = { Explores };

@@ -4,7 +4,8 @@ use Rattle.ga_console.specs.kept.Turns.{Turns}
 use Rattle.ga_console.proofs.SaidLemmas.{cut_here}
 use Rattle.ga_exploring.specs.Reading.{request_in}
 use Rattle.ga_exploring.specs.Answers.{Explored}
-use Rattle.ga_exploring.specs.Tails.{Exploring, exploring}
+use Rattle.ga_exploring.specs.Tails.{Exploring}
+use Rattle.ga_exploring.specs.kept.Exploring.{exploring}
 use Rattle.ga_exploring.proofs.LineAnswers.{explored_line, explored_err, debugged_turn}
 use Rattle.ga_exploring.proofs.explorer.ExplorerResponder.answer.Goals as goal
 
