@@ -13,9 +13,9 @@ import tempfile
 from concurrent.futures import ThreadPoolExecutor
 
 NODE, MACHINE, WORDS, SOURCE, LISTING = "node.py", "machine.py", "words.py", "source.py", "listing.py"
-EXPLORE = "explore.py"
+EXPLORE, NOTES = "explore.py", "notes.py"
 # Which generator tells a wrong definition in a file; the others `sessions`.
-GENERATORS = {WORDS: "sources", SOURCE: "sources", LISTING: "sources", EXPLORE: "exploring"}
+GENERATORS = {WORDS: "sources", SOURCE: "sources", LISTING: "sources", EXPLORE: "exploring", NOTES: "exploring"}
 WRONG = (
     # the grid
     (NODE, '(column % 2 == 0) == (side == "r")', '(column % 2 == 0) == (side == "l")'),
@@ -261,10 +261,19 @@ WRONG = (
     (EXPLORE, "return f\"quiet {made}\"", "return f\"quiet {most}\""),
     (EXPLORE, "return own and event[2] == kind and (not words or event[0] == words[0])", "return own and event[2] == kind"),
     (EXPLORE, "return len(self.sent(*map(number_of, words[:2]))) == int(words[2])", "return len(self.sent(*map(number_of, words[:2]))) > int(words[2])"),
-    (EXPLORE, "return self.chip[node].p == int(words[1], 16)", "return self.chip[node].p % 8 == int(words[1], 16)"),
+    (EXPLORE, "return self.chip[node].p == self.address(*words)", "return self.chip[node].p % 8 == self.address(*words)"),
     (EXPLORE, "{left[at] + 1} {self.steps[at] - left[at]}", "{left[at]} {self.steps[at] - left[at]}"),
     (EXPLORE, "if event == (writer, reader)]", "if set(event) == {writer, reader}]"),
     (EXPLORE, "getattr(before, store[1])) == (\"ram\", address % 64)", "getattr(behind, store[1])) == (\"ram\", address % 64)"),
+    # and what source says of cells
+    (EXPLORE, "if told.endswith(\" fetch\") or held.wait and held.wait[0] == \"fetch\":", "if told.endswith(\" fetch\"):"),
+    (EXPLORE, "cells[node] = target_of(held.p)", "cells[node] = target_of(held.p + 1)"),
+    (EXPLORE, "load {part}{self.notes.tail(it, cell_of(part))}", "load {part}"),
+    (NOTES, "place[0] == cell[0] and place[1] <= cell[1]", "place[0] == cell[0] and place[1] < cell[1]"),
+    (NOTES, "if place == max(before)[0]][-1:]", "if place == min(before)[0]][-1:]"),
+    (NOTES, "[line for line, _ in cell.literals]", "[cell.slots[0][0] for _ in cell.literals]"),
+    (NOTES, "                    address = advanced(address)\n", ""),
+    (NOTES, "return dict(self.labels.get(node, [])).get(name)", "return {it: at % 0x200 + 1 for it, at in self.labels.get(node, [])}.get(name)"),
 )
 
 
