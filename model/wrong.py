@@ -266,7 +266,6 @@ WRONG = (
     (EXPLORE, "if event == (writer, reader)]", "if set(event) == {writer, reader}]"),
     (EXPLORE, "getattr(before, store[1])) == (\"ram\", address % 64)", "getattr(behind, store[1])) == (\"ram\", address % 64)"),
     # and what source says of cells
-    (EXPLORE, "if told.endswith(\" fetch\") or held.wait and held.wait[0] == \"fetch\":", "if told.endswith(\" fetch\"):"),
     (EXPLORE, "cells[node] = target_of(held.p)", "cells[node] = target_of(held.p + 1)"),
     (EXPLORE, "load {part}{self.notes.tail(it, cell_of(part))}", "load {part}"),
     (NOTES, "place[0] == cell[0] and place[1] <= cell[1]", "place[0] == cell[0] and place[1] < cell[1]"),
