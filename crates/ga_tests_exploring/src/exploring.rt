@@ -194,13 +194,7 @@ fn lines_of_a_source(rt: HostRuntime) -> Result<(), Fail> {
     let mut reader = ON_SOURCE;
     let mut output = Vec::new(rt.alloc());
     let mut errors = Vec::new(rt.alloc());
-    let status = explore(
-        rt.alloc(),
-        &mut reader,
-        &mut output,
-        &mut errors,
-        1_000_000,
-    );
+    let status = explore(rt.alloc(), &mut reader, &mut output, &mut errors, 1_000_000);
     assert!(rt; status == Status::Done && errors.is_empty());
     assert_eq!(rt; output.as_slice(), TOLD_OF_SOURCE);
     Ok(())
