@@ -96,7 +96,7 @@ fn disassembled_once(alloc: Global) -> Outcome {
     let status = disassemble(alloc, &mut reader, &mut source);
     if status == Status::Done && source.holds(DISASSEMBLY) {
         Outcome::Answered
-    } else if status == Status::ImageRefused && source.holds(b"no 19 memory line 0\n") {
+    } else if status == Status::ImageRefused && source.holds(UNREAD) {
         Outcome::Refused("image")
     } else {
         Outcome::Wrong("another source")
@@ -118,6 +118,9 @@ const ONE_EVENT: &[u8] =
 /// And where the first is.
 const NO_EVENT: &[u8] = b"ready\nmemory 0\nno 6 nostep\n";
 
+/// Where the text was not read whole, which might be an image.
+const UNREAD: &[u8] = b"no 19 memory line 0\n";
+
 /// The answers of a session that begins on source.
 pub fn explored(alloc: Global) -> Outcome {
     match explored_once(alloc) {
@@ -135,6 +138,8 @@ fn explored_once(alloc: Global) -> Outcome {
         Outcome::Answered
     } else if is_refused(status, &answers, &errors) {
         Outcome::Refused("source")
+    } else if status == Status::ImageRefused && answers.holds(UNREAD) {
+        Outcome::Refused("text")
     } else if status == Status::Done && (answers.holds(NO_EVENT) || answers.holds(ONE_EVENT)) {
         Outcome::Refused("run")
     } else {
