@@ -16,7 +16,7 @@ sys.dont_write_bytecode = True
 TOP = os.path.dirname(os.path.dirname(os.path.dirname(os.path.abspath(__file__))))
 sys.path.insert(0, f"{TOP}/model")
 from browser import Browser
-from exploring import orders, until_stop, whence
+from runs import orders, until_stop, whence
 from listing import listed
 from looks import commands, shots, times
 from source import asm
