@@ -64,7 +64,7 @@ const text = %s, whole = page.core.answer(text.replace(/^quit(\\n|$)/m, "\\0").s
 if (!page.open(text)) return "refused";
 const told = new Set();
 for (const n of NAMES) for (const line of page.session.ask(["trace " + n])[0].slice(1)) told.add(line);
-const kept = page.core.kept(page.session.image + page.session.commands, 1000000) || [];
+const kept = page.core.kept(page.session.load + page.session.commands, 1000000) || [];
 if (Array.from(kept, n => "step " + NAMES[n]).join() !== saved(page.session.events).join()) return "other events";
 return [whole.endsWith("\\n" + page.session.ask(["dump"])[0].join("\\n") + "\\n"), told.size === page.session.events.length && page.session.events.every(it => told.has(it.text))];
 """

@@ -11,7 +11,7 @@ USED = """
 find("order").value = "rounds"; find("order").onchange();
 const told = () => find("log").textContent.split("> ").pop().split("\\n").slice(1, -1);
 const press = (key, at = document.body) => at.dispatchEvent(new KeyboardEvent("keydown", { key, bubbles: true }));
-const asked = line => { const it = page.core.answer(page.session.image + page.session.commands + line + "\\n", 1000000); return it.slice(page.session.said.length).split("\\n").slice(0, -1); };
+const asked = line => { const it = page.core.answer(page.session.load + page.session.commands + line + "\\n", 1000000); return it.slice(page.session.said.length).split("\\n").slice(0, -1); };
 """
 
 

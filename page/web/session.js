@@ -61,7 +61,7 @@ class Session {
 
   // Asks on a second run of the session. The last answer has all lines that are left. Null for want of memory.
   ask(lines) {
-    const all = this.core.answer(this.image + this.commands + lines_of(lines), this.limit);
+    const all = this.core.answer(this.load + this.commands + lines_of(lines), this.limit);
     if (all === null || !all.startsWith(this.said)) return null;
     const rows = all.slice(this.said.length).split("\n");
     rows.pop();
@@ -102,7 +102,7 @@ class Session {
   run(line) {
     const [[told = NO_MEMORY]] = this.ask([line]) || [[]], made = +(RAN.exec(told) || [0, 0])[1], ended = told.startsWith("memory ");
     if (!made) return [told];
-    const kept = ended ? bounded(line, made) : line, nodes = this.core.kept(this.image + this.commands + lines_of([kept]), this.limit);
+    const kept = ended ? bounded(line, made) : line, nodes = this.core.kept(this.load + this.commands + lines_of([kept]), this.limit);
     const steps = nodes && Array.from(nodes.subarray(this.events.length), n => "step " + NAMES[n]), answers = steps && this.ask([...steps, ...this.questions("000"), ...NODES]);
     const events = (answers || []).slice(0, made).map(([it]) => event_of(it));
     if (!answers || steps.length !== made || events.includes(null)) return made > 1 ? [...this.run(bounded(line, made >> 1)), NO_MEMORY] : [NO_MEMORY];
