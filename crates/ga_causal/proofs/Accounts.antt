@@ -117,10 +117,6 @@ zip_nil : {X Y : Type 0} (xs : List X) → zip xs (let ys : List Y = [] in ys) �
 zip_nil [] = refl
 zip_nil (x ∷ xs) = refl
 
-without_nil : {X : Type 0} (flags : List Bool) → without flags (let xs : List X = [] in xs) ≡ []
-without_nil [] = refl
-without_nil (b ∷ flags) = refl
-
 zip_without : {X Y : Type 0} (flags : List Bool) (xs : List X) (ys : List Y) → zip (without flags xs) (without flags ys) ≡ without flags (zip xs ys)
 zip_without [] xs ys = refl
 zip_without (b ∷ flags) [] ys = refl

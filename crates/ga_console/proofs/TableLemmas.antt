@@ -37,15 +37,6 @@ decimal_pair n below = pair_at DECIMAL (λ m. 48 + m / 10) (λ m. 48 + m % 10) 1
 pub hexadecimal_pair : (n : ℕ) → n < 256 → (get_or HEXADECIMAL (2 * n) 0 ≡ hex_digit n 1) × (get_or HEXADECIMAL (2 * n + 1) 0 ≡ hex_digit n 0)
 hexadecimal_pair n below = pair_at HEXADECIMAL (λ m. hex_digit m 1) (λ m. hex_digit m 0) 256 n refl below
 
--- four digits are two and two
-pub two_and_two : (n : ℕ) → n < 10000 → two_digits (n / 100) ++ two_digits (n % 100) ≡ four_digits n
-two_and_two n below =
-    let a : n / 100 / 10 ≡ n / 1000 % 10 = omega arith in
-    let b : n / 100 % 10 ≡ n / 100 % 10 = refl in
-    let c : n % 100 / 10 ≡ n / 10 % 10 = omega arith in
-    let d : n % 100 % 10 ≡ n % 10 = omega arith in
-    rw (a, c, d) refl
-
 -- six digits of a word are those of its three bytes
 pub three_bytes : (n : ℕ) → n < 2 ^ 18 → hex2_of (n / 65536) ++ hex2_of (n / 256 % 256) ++ hex2_of (n % 256) ≡ hex6_of n
 three_bytes n below =

@@ -10,6 +10,6 @@ mod next;
 
 pub use back::{restore, unapply};
 pub use event::{Cause, Deed, Effect, Event, cause_with, touches};
-pub use forward::{apply, apply_own, apply_pass, cause_of, seen_from};
+pub use forward::{apply, apply_own, apply_pass, cause_of, is_reading, is_writing, seen_from};
 pub use made::Made;
 pub use next::{next_event, runs};

@@ -2,39 +2,15 @@
 
 ghost use Rattle.std.specs.Prelude.{◌≡◌, ◌<◌, ℕ, Bool, true, false, length, IfSome, IfNone};
 ghost use Rattle.ga_grid.specs.Chip.{records_of};
-ghost use Rattle.ga_event.specs.Apply.{writes_to, reads_from};
 ghost use Rattle.ga_causal.specs.Dependence.{is_marked};
 ghost use Rattle.ga_explore.specs.Stuck.{AreStuck, awaits};
 ghost use Rattle.ga_explore.specs.kept.Freed.{is_freed_on, is_freed, MarksHalted, IsSettled};
 ghost use Rattle.ga_explore.specs.Freed.{IsWithin};
 
+use ga_event::{is_reading, is_writing};
 use ga_grid::{Chip, NodeId, neighbour};
 use ga_node::Wait;
 use ga_ports::Side;
-
-// Whether a node that waits so waits to write the side.
-fn is_writing(wait: &Wait, side: Side) -> bool
-    ensures { result ≡ writes_to wait.now side }
-{
-    match wait {
-        Wait::Nothing => false,
-        Wait::Fetch(_) => false,
-        Wait::Read(_) => false,
-        Wait::Write(posted) => *posted == side,
-    }
-}
-
-// Whether a node that waits so waits to read a set that has the side.
-fn is_reading(wait: &Wait, side: Side) -> bool
-    ensures { result ≡ reads_from wait.now side }
-{
-    match wait {
-        Wait::Nothing => false,
-        Wait::Fetch(sides) => sides.has(side),
-        Wait::Read(sides) => sides.has(side),
-        Wait::Write(_) => false,
-    }
-}
 
 /// Whether a node that waits so awaits the neighbour on this side: it writes the side, or reads a set that has it.
 pub fn awaits(wait: &Wait, side: Side) -> bool

@@ -10,5 +10,4 @@ pub mod Saving
 pub mod Fronts
 pub mod Writing
 pub mod Around
-pub mod Names
 pub mod Trees

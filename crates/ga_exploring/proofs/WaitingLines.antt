@@ -1,5 +1,5 @@
 -- Lines and names of nodes, one more at a time.
-use Rattle.std.proofs.Common.{◌≡◌, ℕ, zero, suc, ◌+◌, ◌-◌, ◌<◌, Bool, List, [], ◌∷◌, ◌++◌, length, refl, sym, ap, ◌∙◌, append_assoc, arith}
+use Rattle.std.proofs.Common.{◌≡◌, ℕ, zero, suc, ◌+◌, ◌-◌, ◌<◌, Bool, List, [], ◌++◌, length, refl, sym, ap, ◌∙◌, append_assoc, arith}
 use Rattle.std.specs.Prelude.{codes}
 use Rattle.std.proofs.lemmas.List.{append-nil}
 use Rattle.ga_node.specs.Record.{NodeRecord}
@@ -42,11 +42,3 @@ next_name marks n m b out new rest l e f g h =
 pub all_names : (marks : ℕ → Bool) (n left : ℕ) (out rest : List ℕ) → left ≡ zero → out ++ marked_names marks n left ≡ rest → out ≡ rest
 all_names marks n left out rest e h =
     sym (append-nil out) ∙ ap (λ (z : List ℕ). out ++ z) (sym (ap (marked_names marks n) e ∙ no_names marks n)) ∙ h
-
-pub line_with : (names : List ℕ) → 0 < length names → codes "stuck" ++ names ++ codes "\n" ≡ stuck_line names
-line_with [] l = absurd (omega arith)
-line_with (c ∷ names) l = refl
-
-pub line_without : (names : List ℕ) → length names ≡ 0 → [] ≡ stuck_line names
-line_without [] e = refl
-line_without (c ∷ names) e = absurd (omega arith)

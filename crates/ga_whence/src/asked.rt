@@ -10,13 +10,12 @@ ghost use Rattle.ga_whence.specs.kept.Open.{IsAsked};
 
 use crate::value::Value;
 use ga_event::Made;
-use ga_flow::Part;
+use ga_flow::{Part, due_in};
 use ga_grid::NodeId;
 use ga_lab::Lab;
 use ga_node::{Due, Node, Place, Wait};
 use ga_ports::{Target, classify};
-use ga_slots::{Op, opcode};
-use ga_word::Word18;
+use ga_slots::Op;
 
 /// What is asked for where a step of a node is named.
 #[derive(Clone, Copy, PartialEq, Eq, Debug)]
@@ -27,33 +26,6 @@ pub(crate) enum Asked {
     Before(Part),
     /// It made no value.
     Nothing,
-}
-
-// The slot that comes next, and the instruction word.
-#[tactic(auto, unfolding(ga_node::specs::Record::record_of))]
-fn slot_of(node: &Node) -> u8
-    ensures value { result ≡ (record_of node.now).slot }
-    ensures in_range { result ≤ 4 }
-{
-    node.get(Place::Slot) as u8
-}
-
-#[tactic(auto, unfolding(ga_node::specs::Record::record_of))]
-fn i_of(node: &Node) -> Word18
-    ensures { result ≡ (record_of node.now).i }
-{
-    Word18::truncated(node.get(Place::I))
-}
-
-// What comes next in a node.
-fn due_in(node: &Node) -> Due
-    ensures { result ≡ due_of (record_of node.now) }
-{
-    let slot = slot_of(node);
-    if slot == 4 {
-        return Due::Fetch;
-    }
-    Due::Run(opcode(i_of(node), slot))
 }
 
 // What P, A and B name.
