@@ -6,7 +6,7 @@ ghost use Rattle.arrayvec.specs.ArrayVec.{array_vec_len};
 ghost use Rattle.ga_word.specs.Word.{hex6_of};
 ghost use Rattle.ga_node.specs.Record.{record_of};
 ghost use Rattle.ga_event.specs.Told.{steps_of};
-ghost use Rattle.ga_lab.specs.Machine.{history_of};
+ghost use Rattle.ga_lab.specs.Machine.{history_of, standing};
 ghost use Rattle.ga_whence.specs.Origins.{node_after};
 ghost use Rattle.ga_console.specs.Texts.{register_text};
 ghost use Rattle.ga_console.specs.Output.{IsSaid, IsSaidOrCut};
@@ -14,13 +14,13 @@ ghost use Rattle.ga_console.specs.kept.Output.{Says};
 ghost use Rattle.ga_exploring.specs.Around.{behind_text, passed_text, place_text, places_text, around_text};
 
 use crate::deed_text::push_deed;
-use crate::tail_text::say_step_tail;
+use crate::tail_text::say_walk_tail;
 use arrayvec::ArrayVec;
 use ga_console::{
     Output, Text, WORD_ROOM, WriteFailed, push_spaced, push_step, push_text, refusal,
 };
 use ga_grid::NodeId;
-use ga_lab::{Lab, LabFault, Made};
+use ga_lab::{Lab, LabFault, Made, Walk};
 use ga_node::{Node, Place};
 use ga_notes::Notes;
 use ga_word::Word18;
@@ -31,6 +31,9 @@ const REGISTER_ROOM: usize = b" t ".len() + WORD_ROOM;
 
 /// The bytes of the registers behind a step.
 const BEHIND_ROOM: usize = 6 * REGISTER_ROOM;
+
+/// So many steps are told by one walk back from the newest; within them each is walked to from the end of the stretch.
+const STRETCH: u32 = 64;
 
 /// `at NNN K [N]`: tells the steps of a node up to so many before and behind one. Takes no memory.
 ///
@@ -71,43 +74,72 @@ fn say_places<W: Write>(
     ensures { Says result (λ text. text ≡ places_text notes.now lab.now node first (last - first))
         (W.contents writer.old) output.old (W.contents writer.new) output.new }
 {
+    let mut base = lab.walk(node, stretch_end(first, last));
     'places: for place in first..last {
-        say_place(lab, notes, node, place, output, writer)?;
+        base = walk_beyond(lab, node, base, place, last);
+        say_place(lab, notes, node, &base, place, output, writer)?;
     }
     Ok(())
 }
 
-/// Says the step at a place.
+/// Where the stretch ends that begins at a place.
+fn stretch_end(place: u32, last: u32) -> u32
+    ensures within { result ≤ last }
+    ensures beyond { place < last → place < result }
+{
+    place.saturating_add(STRETCH).min(last)
+}
+
+/// A walk that stands behind a place: this one, or where it stands there itself, one from the end of the next stretch.
+fn walk_beyond<'l>(lab: &'l Lab, node: NodeId, base: Walk<'l>, place: u32, last: u32) -> Walk<'l>
+    requires place { place < last }
+    requires within { last ≤ steps_of node.number lab.now.kept }
+    requires walk { base ≡ standing lab.now node base.step }
+    requires behind { place ≤ base.step }
+    ensures walk { result ≡ standing lab.now node result.step }
+    ensures behind { place < result.step }
+{
+    if base.step() == place {
+        lab.walk(node, stretch_end(place, last))
+    } else {
+        base
+    }
+}
+
+/// Says the step at a place, by a walk that stands behind it.
 fn say_place<W: Write>(
     lab: &Lab,
     notes: &Option<Notes>,
     node: NodeId,
+    base: &Walk<'_>,
     place: u32,
     output: &mut Output,
     writer: &mut W,
 ) -> Result<(), WriteFailed>
-    requires { place < steps_of node.number lab.now.kept }
+    requires place { place < steps_of node.number lab.now.kept }
+    requires walk { base.now ≡ standing lab.now node base.now.step }
+    requires behind { place < base.now.step }
     ensures { (before said : List ℕ) → IsSaid (W.contents writer.old) before said output.old →
         IsSaidOrCut result (W.contents writer.new) before (said ++ place_text notes.now lab.now node place) output.new }
 {
     // So the number of the step fits, as that of them all does.
     let _steps = lab.steps(node);
-    output.say_blocks(writer, place_line(lab, node, place).as_slice())?;
-    say_step_tail(lab, notes, node, place + 1, output, writer)
+    let mut walk = base.copy();
+    walk.back_to(place + 1);
+    output.say_blocks(writer, place_line(lab, node, place, &walk).as_slice())?;
+    say_walk_tail(lab, notes, node, &mut walk, output, writer)
 }
 
-/// What is told of the step at a place.
-fn place_line(lab: &Lab, node: NodeId, place: u32) -> Text
-    requires { place < steps_of node.number lab.now.kept }
+/// What is told of the step at a place, right behind which a walk stands.
+fn place_line(lab: &Lab, node: NodeId, place: u32, walk: &Walk<'_>) -> Text
+    requires place { place < steps_of node.number lab.now.kept }
+    requires walk { walk.now ≡ standing lab.now node (place + 1) }
     ensures { result.items ≡ passed_text node (place + 1) (slice_get (history_of lab.now node.number) place) (node_after lab.now node.number (place + 1)) }
 {
     // So the number of the step fits, as that of them all does.
     let _steps = lab.steps(node);
     match lab.told(node, place) {
-        Some(made) => {
-            let walk = lab.walk(node, place + 1);
-            step_line(node, place + 1, made, walk.node())
-        }
+        Some(made) => step_line(node, place + 1, made, walk.node()),
         None => ArrayVec::new(),
     }
 }

@@ -2,15 +2,16 @@
 
 ghost use Rattle.std.specs.Prelude.{◌≡◌, ◌++◌, ℕ, List};
 ghost use Rattle.ga_console.specs.Output.{IsSaid, IsSaidOrCut};
+ghost use Rattle.ga_lab.specs.Machine.{standing};
 ghost use Rattle.ga_whence.specs.Fetched.{fetched_cell as cell_fetched};
 ghost use Rattle.ga_exploring.specs.Tails.{noted_text, tail_text, step_tail, part_cell, value_tail};
 
 use ga_console::{Output, WriteFailed};
 use ga_flow::Part;
 use ga_grid::NodeId;
-use ga_lab::Lab;
+use ga_lab::{Lab, Walk};
 use ga_notes::Notes;
-use ga_whence::{Value, fetched_cell};
+use ga_whence::{Value, fetched_behind, fetched_cell};
 use std::io::Write;
 
 /// What the source says of a cell.
@@ -40,6 +41,22 @@ fn step_cell(lab: &Lab, notes: &Option<Notes>, node: NodeId, step: u32) -> Optio
 {
     match notes {
         Some(_) => fetched_cell(lab, node, step),
+        None => None,
+    }
+}
+
+/// The same of the step to which a node is walked back; the walk goes on from there.
+fn cell_behind(
+    lab: &Lab,
+    notes: &Option<Notes>,
+    node: NodeId,
+    walk: &mut Walk<'_>,
+) -> Option<u8>
+    requires { walk.old ≡ standing lab.now node walk.old.step }
+    ensures { noted_text notes.now node result ≡ noted_text notes.now node (cell_fetched lab.now node walk.old.step) }
+{
+    match notes {
+        Some(_) => fetched_behind(lab, walk, node),
         None => None,
     }
 }
@@ -75,6 +92,26 @@ pub(crate) fn say_step_tail<W: Write>(
         IsSaidOrCut result (W.contents writer.new) before (said ++ step_tail notes.now lab.now node step) output.new }
 {
     let cell = step_cell(lab, notes, node, step);
+    say_tail(notes, node, cell, output, writer)
+}
+
+/// Ends a line that tells of the step to which a node is walked back; the walk goes on from there.
+///
+/// # Errors
+/// A write failed.
+pub(crate) fn say_walk_tail<W: Write>(
+    lab: &Lab,
+    notes: &Option<Notes>,
+    node: NodeId,
+    walk: &mut Walk<'_>,
+    output: &mut Output,
+    writer: &mut W,
+) -> Result<(), WriteFailed>
+    requires { walk.old ≡ standing lab.now node walk.old.step }
+    ensures { (before said : List ℕ) → IsSaid (W.contents writer.old) before said output.old →
+        IsSaidOrCut result (W.contents writer.new) before (said ++ step_tail notes.now lab.now node walk.old.step) output.new }
+{
+    let cell = cell_behind(lab, notes, node, walk);
     say_tail(notes, node, cell, output, writer)
 }
 

@@ -1,16 +1,16 @@
 //! The cell of the instruction word to which a step belongs.
 
-ghost use Rattle.std.specs.Prelude.{◌≡◌, ◌≤◌};
+ghost use Rattle.std.specs.Prelude.{◌≡◌};
 ghost use Rattle.ga_ports.specs.Address.{classified};
 ghost use Rattle.ga_node.specs.Record.{record_of};
-ghost use Rattle.ga_event.specs.Told.{steps_of};
+ghost use Rattle.ga_lab.specs.Machine.{standing};
 ghost use Rattle.ga_whence.specs.Fetched.{cell_of, fetched_cell};
 
-use crate::origin::origin_of;
+use crate::origin::{kept_step, origin_behind};
 use crate::value::Value;
 use ga_flow::Part;
 use ga_grid::NodeId;
-use ga_lab::Lab;
+use ga_lab::{Lab, Walk};
 use ga_node::{Node, Place};
 use ga_ports::{Target, classify};
 
@@ -31,16 +31,23 @@ fn named_by(node: &Node) -> Option<u8>
 pub fn fetched_cell(lab: &Lab, node: NodeId, step: u32) -> Option<u8>
     ensures { result ≡ fetched_cell lab.now node step }
 {
-    let fetch = origin_of(
-        lab,
-        Value {
-            node,
-            step,
-            part: Part::I,
-        },
-    );
+    let value = Value {
+        node,
+        step,
+        part: Part::I,
+    };
+    let mut walk = lab.walk(node, kept_step(lab, value));
+    fetched_behind(lab, &mut walk, node)
+}
+
+/// The same where the node is walked back to, which is walked on from there.
+pub fn fetched_behind(lab: &Lab, walk: &mut Walk<'_>, node: NodeId) -> Option<u8>
+    requires { walk.old ≡ standing lab.now node walk.old.step }
+    ensures { result ≡ fetched_cell lab.now node walk.old.step }
+{
+    let fetch = origin_behind(lab, walk, node, Part::I);
     if fetch.step == 0 {
         return None;
     }
-    named_by(lab.walk(node, fetch.step - 1).node())
+    named_by(walk.node())
 }

@@ -10,7 +10,7 @@ mod value;
 mod writes;
 
 pub use asked::asked_of;
-pub use fetched::fetched_cell;
+pub use fetched::{fetched_behind, fetched_cell};
 pub use listing::{Listing, Row, whence};
 pub use origin::origin_of;
 pub use value::Value;

@@ -1,6 +1,6 @@
 //! The step that made a value.
 
-ghost use Rattle.std.specs.Prelude.{◌≡◌, ◌≤◌, IfSome};
+ghost use Rattle.std.specs.Prelude.{◌≡◌, ◌≤◌, ◌-◌, IfSome};
 ghost use Rattle.ga_node.specs.Record.{record_of};
 ghost use Rattle.ga_event.specs.Told.{steps_of};
 ghost use Rattle.ga_lab.specs.Machine.{standing};
@@ -123,7 +123,7 @@ pub(crate) fn flow_at(lab: &Lab, node: NodeId, place: u32, part: Part) -> Flow
 }
 
 // The value's step, or the last of the node where it made fewer: behind that nothing is made.
-fn kept_step(lab: &Lab, value: Value) -> u32
+pub(crate) fn kept_step(lab: &Lab, value: Value) -> u32
     requires { IsPart value.part }
     ensures same { origin_from lab.now value.node result value.part ≡ origin_of lab.now value }
     ensures within { result ≤ steps_of value.node.number lab.now.kept }
@@ -145,12 +145,22 @@ pub fn origin_of(lab: &Lab, value: Value) -> Value
     ensures part { IsPart result.part }
     ensures within { result.step ≤ steps_of value.node.number lab.now.kept }
 {
-    let node = value.node;
-    let mut part = value.part;
-    let mut walk = lab.walk(node, kept_step(lab, value));
+    let mut walk = lab.walk(value.node, kept_step(lab, value));
+    origin_behind(lab, &mut walk, value.node, value.part)
+}
+
+/// The same of a part where the node is walked back to, which is walked on to right before the step that made the value.
+pub(crate) fn origin_behind(lab: &Lab, walk: &mut Walk<'_>, node: NodeId, mut part: Part) -> Value
+    requires part { IsPart part }
+    requires walk { walk.old ≡ standing lab.now node walk.old.step }
+    ensures value { result ≡ origin_from lab.now node walk.old.step part }
+    ensures part { IsPart result.part }
+    ensures within { result.step ≤ steps_of node.number lab.now.kept }
+    ensures walk { walk.new ≡ standing lab.now node (result.step - 1) }
+{
     'steps: while walk.step() > 0 {
         walk.back();
-        let flow = flow_behind(lab, &walk, node, part);
+        let flow = flow_behind(lab, walk, node, part);
         match moved_from(&flow, part) {
             Some(from) => part = from,
             None => {

@@ -52,15 +52,35 @@ impl<'l> Walk<'l> {
         &self.node
     }
 
+    /// The same walk once more, to be walked back apart from it. Takes no memory.
+    pub fn copy(&self) -> Walk<'l>
+        ensures { result ≡ self.now }
+    {
+        Walk {
+            chip: self.chip,
+            chronicle: self.chronicle,
+            id: self.id,
+            step: self.step,
+            node: self.node.copy(),
+        }
+    }
+
     /// Goes back by a step. Takes no memory, and as long whatever is kept.
     pub fn back(&mut self)
         requires { 0 < self.old.step }
         ensures { self.new ≡ record self.old { step = self.old.step - 1 } }
     {
-        let before = self.step - 1;
+        self.back_to(self.step - 1);
+    }
+
+    /// Goes back to an earlier step. Takes no memory, and time by how many steps lie between.
+    pub fn back_to(&mut self, step: u32)
+        requires { step ≤ self.old.step }
+        ensures { self.new ≡ record self.old { step = step } }
+    {
         self.chronicle
-            .walk_back(self.id, &mut self.node, self.step, before);
-        self.step = before;
+            .walk_back(self.id, &mut self.node, self.step, step);
+        self.step = step;
     }
 }
 

@@ -13,9 +13,9 @@ returns-in-Some c =
     let s = c.args.lab.now in
     let node = c.args.node in
     let place = c.args.place in
-    let walk = c.walk-walk.result in
-    let step = ap (λ (z : Standing). z.step) c.walk-walk.ensures in
-    let behind = then_of s node walk (record_of c.node.result.now) (stands_so s node (place + 1) walk c.walk-walk.ensures) (at_most s node (place + 1) walk c.walk-walk.ensures (omega (arith, c.requires, c.steps-steps.ensures.steps))) c.node.ensures
+    let walk = c.args.walk.now in
+    let step = ap (λ (z : Standing). z.step) c.requires.walk in
+    let behind = then_of s node walk (record_of c.node.result.now) (stands_so s node (place + 1) walk c.requires.walk) (at_most s node (place + 1) walk c.requires.walk (omega (arith, c.requires.place, c.steps-steps.ensures.steps))) c.node.ensures
     ∙ ap (λ k. node_after s node.number k) step in
     c.step_line.ensures
     ∙ ap (λ o. passed_text node (place + 1) o (record_of c.node.result.now)) c.in-Some.ensures

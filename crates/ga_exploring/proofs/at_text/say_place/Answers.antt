@@ -19,5 +19,5 @@ returns g c = λ before said h.
     let whole = place_text c.args.notes.now c.args.lab.now c.args.node c.args.place in
     let tail = step_tail c.args.notes.now c.args.lab.now c.args.node (c.args.place + 1) in
     let line : List ℕ = c.as_slice.result.now in
-    told_as c.say_step_tail.result _ before said (line ++ tail) whole _ (ap (λ (t : List ℕ). t ++ tail) (c.as_slice.ensures.value ∙ c.place_line.ensures))
-    (joined_said c.say_step_tail.result _ before said line tail _ (c.say_step_tail.ensures before (said ++ line) (c.in_ok-say_blocks.ensures before said h)))
+    told_as c.say_walk_tail.result _ before said (line ++ tail) whole _ (ap (λ (t : List ℕ). t ++ tail) (c.as_slice.ensures.value ∙ c.place_line.ensures))
+    (joined_said c.say_walk_tail.result _ before said line tail _ (c.say_walk_tail.ensures before (said ++ line) (c.in_ok-say_blocks.ensures before said h)))

@@ -1,28 +1,19 @@
-use Rattle.std.proofs.Common.{◌≡◌, ℕ, suc, ◌-◌, ◌≤◌, ap, ◌∙◌, arith}
-use Rattle.ga_ports.specs.Address.{classified}
-use Rattle.ga_node.specs.Record.{NodeRecord, record_of}
-use Rattle.ga_event.specs.Told.{steps_of}
+use Rattle.std.proofs.Common.{ap, ◌∙◌}
+use Rattle.ga_flow.specs.declared.part.Part.TheVariants as part
 use Rattle.ga_lab.specs.Machine.{Standing}
 use Rattle.ga_whence.specs.declared.value.Value.{Value}
-use Rattle.ga_whence.specs.Origins.{node_after}
-use Rattle.ga_whence.specs.Fetched.{cell_of, fetched_by}
-use Rattle.ga_whence.proofs.Made.{stands_so, then_of}
-use Rattle.ga_whence.proofs.Asking.{walk_within}
+use Rattle.ga_whence.specs.Origins.{origin_from}
+use Rattle.ga_whence.specs.Fetched.{fetched_by}
+use Rattle.ga_whence.proofs.Made.{stands_so}
 use Rattle.ga_whence.proofs.fetched.fetched_cell.Goals as goal
 
-pub walk-requires : goal.walk-requires
-walk-requires c = omega (arith, c.origin_of-fetch.ensures.within, c.if-fetch-eq0.false)
+pub fetched_behind-requires : goal.fetched_behind-requires
+fetched_behind-requires c = stands_so c.args.lab.now c.args.node c.kept_step.result c.walk-walk.result c.walk-walk.ensures
 
 pub returns : goal.returns
 returns c =
     let s = c.args.lab.now in
     let node = c.args.node in
-    let k : ℕ = c.origin_of-fetch.result.step - 1 in
-    let walk = c.walk.result in
-    let within : k ≤ steps_of node.number s.kept = omega (arith, c.origin_of-fetch.ensures.within, c.if-fetch-eq0.false) in
-    let stood = then_of s node walk (record_of c.node.result.now) (stands_so s node k walk c.walk.ensures) (walk_within s node k walk c.walk.ensures within) c.node.ensures in
-    let step = ap (λ (z : Standing). z.step) c.walk.ensures in
-    let is : suc k ≡ c.origin_of-fetch.result.step = omega (arith, c.if-fetch-eq0.false) in
-    c.named_by.ensures ∙ ap (λ (n : NodeRecord). cell_of (classified n.p)) stood
-    ∙ ap (λ (m : ℕ). cell_of (classified (node_after s node.number m).p)) step
-    ∙ ap (fetched_by s node.number) is ∙ ap (λ (v : Value). fetched_by s node.number v.step) c.origin_of-fetch.ensures.value
+    c.fetched_behind.ensures
+    ∙ ap (λ (z : Standing). fetched_by s node.number (origin_from s node z.step part.I).step) c.walk-walk.ensures
+    ∙ ap (λ (v : Value). fetched_by s node.number v.step) c.kept_step.ensures.same
