@@ -1,11 +1,12 @@
 -- From the image of a source to what is written.
-use Rattle.std.proofs.Common.{◌≡◌, ℕ, List, ◌++◌, inl, inr, refl, sym, subst}
+use Rattle.std.proofs.Common.{◌≡◌, ℕ, List, [], ◌++◌, inl, inr, refl, sym, subst}
 use Rattle.ga_image.specs.Fault.{no_memory}
 use Rattle.ga_image.specs.declared.fault.ImageFault.{ImageFault}
 use Rattle.ga_console.specs.Run.{IsReadAlone, IsFault, Refused, Refuses}
 use Rattle.ga_console.specs.kept.Race.{Writes}
 use Rattle.ga_console.specs.Source.{IsAssembly, IsReadWhole, Assembles, Lists, IsAccepted, Disassembles}
 use Rattle.ga_console.specs.kept.Source.{Assembly, Listing, Disassembly}
+use Rattle.ga_console.specs.kept.Whole.{IsUnread}
 use Rattle.ga_console.specs.declared.run.Status.{Status}
 use Rattle.ga_console.specs.declared.run.Status.TheVariants.{Done, ImageRefused, StreamFault, NotFinished}
 use Rattle.ga_console.proofs.RunLemmas.{refused_in}
@@ -24,6 +25,13 @@ assembles source ahead read rest text ImageRefused e part written = written
 assembles source ahead read rest text StreamFault e part written = inr (source, ahead, e, part, written)
 assembles source ahead read rest text NotFinished e part written = written
 
+-- and where it wasn't read whole
+pub assembles_nothing : (read rest : List ℕ) (status : Status) → IsUnread read status → Assembles read rest [] status
+assembles_nothing read rest Done unread = absurd unread
+assembles_nothing read rest ImageRefused unread = refl
+assembles_nothing read rest StreamFault unread = inl (refl, unread)
+assembles_nothing read rest NotFinished unread = unread
+
 -- the listing was written, or a front of it
 pub listing_written : (whole text : List ℕ) (status : Status) → Writes whole text status → Listing text status
 listing_written whole text Done written = tt
@@ -37,6 +45,12 @@ lists source ahead read rest text Done e part written = (source, ahead, e, part,
 lists source ahead read rest text ImageRefused e part written = written
 lists source ahead read rest text StreamFault e part written = inr (source, ahead, e, part, tt)
 lists source ahead read rest text NotFinished e part written = written
+
+pub lists_nothing : (read rest : List ℕ) (status : Status) → IsUnread read status → Lists read rest [] status
+lists_nothing read rest Done unread = absurd unread
+lists_nothing read rest ImageRefused unread = refl
+lists_nothing read rest StreamFault unread = inl (refl, unread)
+lists_nothing read rest NotFinished unread = unread
 
 -- source of an image was written, or a front of it
 pub source_written : (image whole text : List ℕ) (status : Status) → IsAccepted image → Writes whole text status → Disassembly image text status

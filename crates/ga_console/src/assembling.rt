@@ -4,10 +4,10 @@ ghost use Rattle.ga_console.specs.kept.Race.{Writes};
 ghost use Rattle.ga_console.specs.Source.{IsAssembly, Assembles};
 ghost use Rattle.ga_console.specs.kept.Source.{Assembly};
 
-use super::faults::{tell_fault, tell_long, tell_memory, tell_store};
+use super::faults::{tell_fault, tell_memory, tell_store};
 use super::output::{WriteFailed, write_all};
 use super::run::Status;
-use super::whole::{WholeRead, read_whole};
+use super::whole::read_source;
 use ga_image::print;
 use ga_source::{Assembled, assemble, stores_over_code};
 use std::alloc::Global;
@@ -28,17 +28,9 @@ pub fn assemble_source<R: Read, W: Write, E: Write>(
         (read rest text : List ℕ) × (left ≡ read ++ rest) × (R.remaining reader.new ≡ Some rest)
         × (W.contents writer.new ≡ Some (before ++ text)) × Assembles read rest text result }
 {
-    match read_whole(alloc, reader) {
-        WholeRead::Whole(source) => assemble_text(alloc, writer, errors, source),
-        WholeRead::TooLong(_) => {
-            tell_long(errors);
-            Status::ImageRefused
-        }
-        WholeRead::ReadFailed => Status::StreamFault,
-        WholeRead::NoMemory => {
-            tell_memory(errors);
-            Status::ImageRefused
-        }
+    match read_source(alloc, reader, errors) {
+        Ok(source) => assemble_text(alloc, writer, errors, source),
+        Err(status) => status,
     }
 }
 

@@ -4,9 +4,9 @@ ghost use Rattle.ga_console.specs.kept.Source.{Listing};
 ghost use Rattle.ga_console.specs.Source.{Lists};
 
 use super::assembling::write_text;
-use super::faults::{tell_fault, tell_long, tell_memory};
+use super::faults::{tell_fault, tell_memory};
 use super::run::Status;
-use super::whole::{WholeRead, read_whole};
+use super::whole::read_source;
 use ga_grid::{Chip, NodeId};
 use ga_node::Place;
 use ga_ports::{Target, advance_p, classify};
@@ -29,17 +29,9 @@ pub fn list_source<R: Read, W: Write, E: Write>(
         (read rest text : List ℕ) × (left ≡ read ++ rest) × (R.remaining reader.new ≡ Some rest)
         × (W.contents writer.new ≡ Some (before ++ text)) × Lists read rest text result }
 {
-    match read_whole(alloc, reader) {
-        WholeRead::Whole(source) => list_text(alloc, writer, errors, source),
-        WholeRead::TooLong(_) => {
-            tell_long(errors);
-            Status::ImageRefused
-        }
-        WholeRead::ReadFailed => Status::StreamFault,
-        WholeRead::NoMemory => {
-            tell_memory(errors);
-            Status::ImageRefused
-        }
+    match read_source(alloc, reader, errors) {
+        Ok(source) => list_text(alloc, writer, errors, source),
+        Err(status) => status,
     }
 }
 

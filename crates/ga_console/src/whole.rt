@@ -1,11 +1,13 @@
 //! An input that is read whole before anything is made of it: source, or an image without commands.
-ghost use Rattle.std.specs.Prelude.{◌≡◌, ◌++◌, ℕ, List, Some};
-ghost use Rattle.ga_console.specs.kept.Whole.{ReadsWhole};
+ghost use Rattle.std.specs.Prelude.{◌≡◌, ◌++◌, ℕ, List, Some, IfOk, IfErr};
+ghost use Rattle.ga_console.specs.kept.Whole.{ReadsWhole, IsWhole, IsUnread};
 
+use super::faults::{tell_long, tell_memory};
 use super::image::{ImageEnd, read_image};
 use super::input::Input;
+use super::run::Status;
 use std::alloc::Global;
-use std::io::Read;
+use std::io::{Read, Write};
 
 /// What reading a whole input comes to.
 #[derive(Drop)]
@@ -34,5 +36,30 @@ pub fn read_whole<R: Read>(alloc: Global, reader: &mut R) -> WholeRead
         Ok(ImageEnd::Past) => WholeRead::TooLong(text),
         Ok(ImageEnd::Ended) => WholeRead::Whole(text),
         Ok(ImageEnd::EndLine) => WholeRead::Whole(text),
+    }
+}
+
+/// Reads source up to its first line `end`, or to its end. Where it can't be had whole, what stands in the way is told on `errors`,
+/// and the answer is the status to end with.
+pub(crate) fn read_source<R: Read, E: Write>(
+    alloc: Global,
+    reader: &mut R,
+    errors: &mut E,
+) -> Result<Vec<u8>, Status>
+    ensures { (left : List ℕ) → R.remaining reader.old ≡ Some left →
+        (read rest : List ℕ) × (left ≡ read ++ rest) × (R.remaining reader.new ≡ Some rest)
+        × IfOk result (λ source. IsWhole read rest source.items) × IfErr result (IsUnread read) }
+{
+    match read_whole(alloc, reader) {
+        WholeRead::Whole(source) => Ok(source),
+        WholeRead::TooLong(_) => {
+            tell_long(errors);
+            Err(Status::ImageRefused)
+        }
+        WholeRead::ReadFailed => Err(Status::StreamFault),
+        WholeRead::NoMemory => {
+            tell_memory(errors);
+            Err(Status::ImageRefused)
+        }
     }
 }

@@ -1,11 +1,11 @@
-use Rattle.std.proofs.Common.{[], Some, inl, refl, sym, ap, ◌∙◌}
+use Rattle.std.proofs.Common.{[], Some, sym, ap, ◌∙◌}
 use Rattle.std.proofs.lemmas.List.{append-nil}
-use Rattle.ga_console.proofs.Sources.{lists}
+use Rattle.ga_console.proofs.Sources.{lists, lists_nothing}
 use Rattle.ga_console.proofs.listing.list_source.Goals as goal
 
-pub returns-in-Whole : goal.returns-in-Whole
-returns-in-Whole g c = λ left before known held.
-    let got = c.in-Whole.ensures left known in
+pub returns-in-Ok : goal.returns-in-Ok
+returns-in-Ok g c = λ left before known held.
+    let got = c.in-Ok.ensures left known in
     let done = c.list_text.ensures before held in (
       got.0,
       got.1,
@@ -13,20 +13,10 @@ returns-in-Whole g c = λ left before known held.
       got.2,
       got.3,
       done.1,
-      lists c.in-Whole.source.items got.4.0 got.0 got.1 done.0 c.list_text.result got.4.1 got.4.2 done.2,
+      lists c.in-Ok.source.items got.4.0 got.0 got.1 done.0 c.list_text.result got.4.1 got.4.2 done.2,
     )
 
-pub returns-in-TooLong : goal.returns-in-TooLong
-returns-in-TooLong g c = λ left before known held.
-    let got = c.in-TooLong.ensures left known in
-    (got.0, got.1, [], got.2, got.3, held ∙ ap Some (sym (append-nil before)), refl)
-
-pub returns-in-ReadFailed : goal.returns-in-ReadFailed
-returns-in-ReadFailed g c = λ left before known held.
-    let got = c.in-ReadFailed.ensures left known in
-    (got.0, got.1, [], got.2, got.3, held ∙ ap Some (sym (append-nil before)), inl (refl, got.4))
-
-pub returns : goal.returns
-returns g c = λ left before known held.
-    let got = c.in-NoMemory.ensures left known in
-    (got.0, got.1, [], got.2, got.3, held ∙ ap Some (sym (append-nil before)), refl)
+pub returns-in-Err : goal.returns-in-Err
+returns-in-Err g c = λ left before known held.
+    let got = c.in-Err.ensures left known in
+    (got.0, got.1, [], got.2, got.3, held ∙ ap Some (sym (append-nil before)), lists_nothing got.0 got.1 c.in-Err.status got.5)
