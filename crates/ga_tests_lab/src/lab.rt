@@ -41,6 +41,11 @@ fn pass(writer: (NodeId, u32), reader: (NodeId, u32), word: u32) -> Made {
     }
 }
 
+// That of the pair.
+fn the_pass() -> Made {
+    pass((NodeId::new(0), 8), (NodeId::new(1), 5), 0x2a)
+}
+
 // What is asked of a lab, and what it has to answer.
 #[derive(Clone, Copy)]
 enum Act {
@@ -51,6 +56,7 @@ enum Act {
     Rewinds(NodeId, u32, Result<u32, LabFault>),
     Keeps(u32, u64),
     Waits(NodeId, u32),
+    Holds(NodeId, u8, u32),
 }
 
 fn play_one(rt: &impl Abort, lab: &mut Lab, act: &Act) -> Result<(), LabFault> {
@@ -65,6 +71,9 @@ fn play_one(rt: &impl Abort, lab: &mut Lab, act: &Act) -> Result<(), LabFault> {
             assert!(rt; counts.kept == *kept && counts.made == *made);
         }
         Act::Waits(node, wait) => assert_eq!(rt; lab.node(*node).get(Place::Wait), *wait),
+        Act::Holds(node, address, word) => {
+            assert_eq!(rt; lab.memory(*node, *address).get(), *word)
+        }
     }
     Ok(())
 }
@@ -84,10 +93,23 @@ fn passed(rt: &impl Abort, alloc: Global) -> Result<Lab, Fail> {
     let acts = [
         Act::Steps(n000, 7),
         Act::Steps(n001, 4),
-        Act::Makes(n001, pass((n000, 8), (n001, 5), 0x2a)),
+        Act::Makes(n001, the_pass()),
         Act::Keeps(12, 12),
     ];
     play(rt, &mut lab, &acts)?;
+    Ok(lab)
+}
+
+// A lab of the pair that has answered so, and one that did behind the pass.
+fn answered(rt: &impl Abort, alloc: Global, acts: &[Act]) -> Result<Lab, Fail> {
+    let mut lab = pair(rt, alloc)?;
+    play(rt, &mut lab, acts)?;
+    Ok(lab)
+}
+
+fn passed_and(rt: &impl Abort, alloc: Global, acts: &[Act]) -> Result<Lab, Fail> {
+    let mut lab = passed(rt, alloc)?;
+    play(rt, &mut lab, acts)?;
     Ok(lab)
 }
 
@@ -95,24 +117,22 @@ fn passed(rt: &impl Abort, alloc: Global) -> Result<Lab, Fail> {
 fn makes_and_undoes(rt: HostRuntime) -> Result<(), Fail> {
     let n000 = NodeId::new(0);
     let n001 = NodeId::new(1);
-    let mut fresh = pair(&rt, rt.alloc())?;
     let first = [
         Act::Undoes(Err(LabFault::Empty)),
         Act::Steps(n000, 7),
         Act::Refuses(n000, LabFault::Waiting),
         Act::Keeps(7, 7),
     ];
-    play(&rt, &mut fresh, &first)?;
-    let mut lab = passed(&rt, rt.alloc())?;
-    assert_eq!(rt; lab.memory(n000, 0x41).get(), 0x1d5);
+    let _fresh = answered(&rt, rt.alloc(), &first)?;
     // 000 waits writing to the right again, and 001 reading from there
     let back = [
+        Act::Holds(n000, 0x41, 0x1d5),
         Act::Undoes(Ok(())),
         Act::Keeps(11, 12),
         Act::Waits(n000, 56),
         Act::Waits(n001, 40),
     ];
-    play(&rt, &mut lab, &back)?;
+    let _back = passed_and(&rt, rt.alloc(), &back)?;
     Ok(())
 }
 
@@ -159,6 +179,17 @@ fn peeks(rt: HostRuntime) -> Result<(), Fail> {
     Ok(())
 }
 
+// What is told of a node, and of the event at a place.
+fn tells(rt: &impl Abort, lab: &Lab, node: NodeId, wanted: &[Made]) -> Result<(), Fail> {
+    let told = lab.history(node)?;
+    assert_eq!(rt; told.as_slice(), wanted);
+    Ok(())
+}
+
+fn tells_at(rt: &impl Abort, lab: &Lab, place: u32, wanted: Option<Made>) {
+    assert_eq!(rt; lab.made_at(place), wanted);
+}
+
 #[test]
 fn tells_histories(rt: HostRuntime) -> Result<(), Fail> {
     let n000 = NodeId::new(0);
@@ -169,14 +200,13 @@ fn tells_histories(rt: HostRuntime) -> Result<(), Fail> {
         own(n001, 2, Kind::Run(0x08)),
         own(n001, 3, Kind::Run(0x1e)),
         own(n001, 4, Kind::Wait),
-        pass((n000, 8), (n001, 5), 0x2a),
+        the_pass(),
     ];
-    let told = lab.history(n001)?;
-    assert_eq!(rt; told.as_slice(), wanted.as_slice());
-    assert_eq!(rt; lab.history(NodeId::new(2))?.len(), 0);
-    assert_eq!(rt; lab.made_at(0), Some(own(n000, 1, Kind::Fetch)));
-    assert_eq!(rt; lab.made_at(11), Some(wanted[4]));
-    assert_eq!(rt; lab.made_at(12), None);
+    tells(&rt, &lab, n001, &wanted)?;
+    tells(&rt, &lab, NodeId::new(2), &[])?;
+    tells_at(&rt, &lab, 0, Some(own(n000, 1, Kind::Fetch)));
+    tells_at(&rt, &lab, 11, Some(wanted[4]));
+    tells_at(&rt, &lab, 12, None);
     Ok(())
 }
 
@@ -213,46 +243,51 @@ fn rewinds_a_cause(rt: HostRuntime) -> Result<(), Fail> {
         Act::Keeps(10, 12),
         Act::Waits(n001, 40),
     ];
-    play(&rt, &mut passed(&rt, rt.alloc())?, &writer)?;
+    let _writer = passed_and(&rt, rt.alloc(), &writer)?;
     let later = [
         Act::Makes(n001, own(n001, 6, Kind::Run(0x1c))),
         Act::Rewinds(n000, 7, Ok(3)),
         Act::Keeps(10, 13),
         Act::Waits(n001, 40),
     ];
-    play(&rt, &mut passed(&rt, rt.alloc())?, &later)?;
+    let _later = passed_and(&rt, rt.alloc(), &later)?;
     let reader = [
         Act::Rewinds(n001, 1, Ok(5)),
         Act::Keeps(7, 12),
         Act::Waits(n000, 56),
     ];
-    play(&rt, &mut passed(&rt, rt.alloc())?, &reader)?;
+    let _reader = passed_and(&rt, rt.alloc(), &reader)?;
     Ok(())
 }
 
-#[test]
-fn rewinds_no_step(rt: HostRuntime) -> Result<(), Fail> {
+// In one order the second step is gone, in the other both are there.
+fn reader_first(rt: &impl Abort, alloc: Global) -> Result<Lab, Fail> {
     let n000 = NodeId::new(0);
-    let n001 = NodeId::new(1);
-    // in one order the second step is gone, in the other both are there
-    let mut lab = passed(&rt, rt.alloc())?;
     let acts = [
         Act::Rewinds(n000, 0, Err(LabFault::NoStep)),
         Act::Rewinds(n000, 9, Err(LabFault::NoStep)),
         Act::Keeps(12, 12),
-        Act::Rewinds(n001, 1, Ok(5)),
+        Act::Rewinds(NodeId::new(1), 1, Ok(5)),
         Act::Rewinds(n000, 8, Err(LabFault::NoStep)),
     ];
-    play(&rt, &mut lab, &acts)?;
-    let mut other = passed(&rt, rt.alloc())?;
+    passed_and(rt, alloc, &acts)
+}
+
+fn writer_first(rt: &impl Abort, alloc: Global) -> Result<Lab, Fail> {
     let acts = [
-        Act::Rewinds(n000, 8, Ok(1)),
+        Act::Rewinds(NodeId::new(0), 8, Ok(1)),
         Act::Keeps(11, 12),
-        Act::Rewinds(n001, 1, Ok(4)),
+        Act::Rewinds(NodeId::new(1), 1, Ok(4)),
         Act::Keeps(7, 12),
     ];
-    play(&rt, &mut other, &acts)?;
-    assert_same(&rt, &lab, &other)
+    passed_and(rt, alloc, &acts)
+}
+
+#[test]
+fn rewinds_no_step(rt: HostRuntime) -> Result<(), Fail> {
+    let one = reader_first(&rt, rt.alloc())?;
+    let other = writer_first(&rt, rt.alloc())?;
+    assert_same(&rt, &one, &other)
 }
 
 #[test]
@@ -272,10 +307,17 @@ fn keeps_the_other_cause(rt: HostRuntime) -> Result<(), Fail> {
         Act::Steps(n000, 7),
         Act::Rewinds(n101, 7, Ok(2)),
         Act::Keeps(17, 19),
-        Act::Makes(n000, pass((n000, 8), (n001, 5), 0x2a)),
+        Act::Makes(n000, the_pass()),
     ];
     play(&rt, &mut lab, &acts)?;
     Ok(())
+}
+
+// Behind the pass node 001 makes one step more.
+fn later(rt: &impl Abort, alloc: Global) -> Result<Lab, Fail> {
+    let mut lab = passed(rt, alloc)?;
+    steps(&mut lab, NodeId::new(1), 1)?;
+    Ok(lab)
 }
 
 // How many links the chain between two steps has.
@@ -286,22 +328,33 @@ fn links(lab: &Lab, from: (NodeId, u32), to: (NodeId, u32)) -> Result<Option<usi
     }
 }
 
+// What is told at the places of the links between two steps.
+fn links_tell(
+    rt: &impl Abort,
+    lab: &Lab,
+    from: (NodeId, u32),
+    to: (NodeId, u32),
+    wanted: &[Made],
+) -> Result<(), Fail> {
+    let chain = lab.why(from, to)?.ok_or("independent")?;
+    assert_eq!(rt; chain.len(), wanted.len());
+    for (link, told) in chain.links().iter().zip(wanted) {
+        tells_at(rt, lab, link.place, Some(*told));
+    }
+    Ok(())
+}
+
 #[test]
 fn tells_why(rt: HostRuntime) -> Result<(), Fail> {
     let n000 = NodeId::new(0);
     let n001 = NodeId::new(1);
-    let mut lab = passed(&rt, rt.alloc())?;
-    steps(&mut lab, n001, 1)?;
-    let chain = lab.why((n000, 7), (n001, 6))?.ok_or("independent")?;
+    let lab = later(&rt, rt.alloc())?;
     let told = [
         own(n000, 7, Kind::Wait),
-        pass((n000, 8), (n001, 5), 0x2a),
+        the_pass(),
         own(n001, 6, Kind::Run(0x1c)),
     ];
-    assert_eq!(rt; chain.len(), 3);
-    for (link, wanted) in chain.links().iter().zip(told) {
-        assert_eq!(rt; lab.made_at(link.place), Some(wanted));
-    }
+    links_tell(&rt, &lab, (n000, 7), (n001, 6), &told)?;
     // the last but two are not later, and the last two are no steps
     for (from, to, wanted) in [
         ((n000, 1), (n001, 5), Ok(Some(2))),
@@ -316,33 +369,48 @@ fn tells_why(rt: HostRuntime) -> Result<(), Fail> {
     Ok(())
 }
 
+// What a step's chain tells.
+fn explains(
+    rt: &impl Abort,
+    lab: &Lab,
+    from: (NodeId, u32),
+    to: (NodeId, u32),
+    wanted: &[Made],
+) -> Result<(), Fail> {
+    let told = lab.explain(from, to)?.ok_or("independent")?;
+    assert_eq!(rt; told.as_slice(), wanted);
+    Ok(())
+}
+
+// And where there is none.
+fn explains_nothing(rt: &impl Abort, lab: &Lab, from: (NodeId, u32), to: (NodeId, u32)) {
+    assert!(rt; matches!(lab.explain(from, to), Ok(None)));
+}
+
+fn refuses_to_explain(rt: &impl Abort, lab: &Lab, from: (NodeId, u32), to: (NodeId, u32)) {
+    assert_eq!(rt; lab.explain(from, to).err(), Some(LabFault::NoStep));
+}
+
 #[test]
 fn explains_a_step(rt: HostRuntime) -> Result<(), Fail> {
     let n000 = NodeId::new(0);
     let n001 = NodeId::new(1);
-    let mut lab = passed(&rt, rt.alloc())?;
-    steps(&mut lab, n001, 1)?;
-    let the_pass = pass((n000, 8), (n001, 5), 0x2a);
-    let told = lab.explain((n000, 7), (n001, 6))?.ok_or("independent")?;
-    let wanted = [
+    let lab = later(&rt, rt.alloc())?;
+    let whole = [
         own(n000, 7, Kind::Wait),
-        the_pass,
+        the_pass(),
         own(n001, 6, Kind::Run(0x1c)),
     ];
-    assert_eq!(rt; told.as_slice(), wanted.as_slice());
+    explains(&rt, &lab, (n000, 7), (n001, 6), &whole)?;
     // the pass depends on the first step of its writer directly, and on that of its reader
-    let told = lab.explain((n000, 1), (n001, 5))?.ok_or("independent")?;
-    let wanted = [own(n000, 1, Kind::Fetch), the_pass];
-    assert_eq!(rt; told.as_slice(), wanted.as_slice());
-    let told = lab.explain((n001, 1), (n000, 8))?.ok_or("independent")?;
-    let wanted = [own(n001, 1, Kind::Fetch), the_pass];
-    assert_eq!(rt; told.as_slice(), wanted.as_slice());
-    let told = lab.explain((n000, 8), (n001, 5))?.ok_or("independent")?;
-    assert_eq!(rt; told.as_slice(), [the_pass].as_slice());
-    assert!(rt; lab.explain((n001, 1), (n000, 7))?.is_none());
-    for (from, to) in [((n000, 9), (n001, 1)), ((n001, 1), (n000, 0))] {
-        assert_eq!(rt; lab.explain(from, to).err(), Some(LabFault::NoStep));
-    }
+    let of_writer = [own(n000, 1, Kind::Fetch), the_pass()];
+    explains(&rt, &lab, (n000, 1), (n001, 5), &of_writer)?;
+    let of_reader = [own(n001, 1, Kind::Fetch), the_pass()];
+    explains(&rt, &lab, (n001, 1), (n000, 8), &of_reader)?;
+    explains(&rt, &lab, (n000, 8), (n001, 5), &[the_pass()])?;
+    explains_nothing(&rt, &lab, (n001, 1), (n000, 7));
+    refuses_to_explain(&rt, &lab, (n000, 9), (n001, 1));
+    refuses_to_explain(&rt, &lab, (n001, 1), (n000, 0));
     Ok(())
 }
 

@@ -1,6 +1,6 @@
 //! Rollbacks of a busy chip, and what they cost.
 
-use super::{Act, LIMIT, assert_same, pair, play, steps};
+use super::{Act, LIMIT, answered, assert_same, pair, steps};
 use ga_given::{load, reader_of_io, sender, taker};
 use ga_grid::{Chip, NodeId};
 use ga_lab::{Lab, LabFault, Made, Ticks};
@@ -45,20 +45,40 @@ fn busy(rt: &impl Abort, alloc: Global, count: u32) -> Result<Lab, Fail> {
     Ok(lab)
 }
 
+// A rollback, and another behind it, whose step may be gone.
+fn rewind_both(
+    rt: &impl Abort,
+    lab: &mut Lab,
+    first: (NodeId, u32),
+    second: (NodeId, u32),
+) -> Result<(), LabFault> {
+    let before = lab.counts();
+    assert!(rt; before.kept > 1000);
+    let removed = lab.rewind(first.0, first.1)?;
+    assert!(rt; removed > 0 && removed < before.kept);
+    let _again = lab.rewind(second.0, second.1);
+    assert_eq!(rt; lab.counts().made, before.made);
+    Ok(())
+}
+
+// The step in the middle of those of a node.
+fn middle_of(lab: &Lab, node: NodeId) -> (NodeId, u32) {
+    (node, lab.steps(node) / 2 + 1)
+}
+
+// A busy chip behind two rollbacks.
+fn rewound(rt: &impl Abort, alloc: Global, first: NodeId, second: NodeId) -> Result<Lab, Fail> {
+    let mut lab = busy(rt, alloc, 6000)?;
+    let at = middle_of(&lab, first);
+    let then = middle_of(&lab, second);
+    rewind_both(rt, &mut lab, at, then)?;
+    Ok(lab)
+}
+
 // Two rollbacks of a busy chip, in both orders.
 fn both_orders(rt: &impl Abort, alloc: Global, m: NodeId, n: NodeId) -> Result<(), Fail> {
-    let mut one = busy(rt, alloc, 6000)?;
-    let mut other = busy(rt, alloc, 6000)?;
-    let counts = one.counts();
-    assert!(rt; counts.kept > 1000);
-    let k = u32::try_from(one.history(m)?.len())? / 2 + 1;
-    let j = u32::try_from(one.history(n)?.len())? / 2 + 1;
-    let removed = one.rewind(m, k)?;
-    assert!(rt; removed > 0 && removed < counts.kept);
-    let _again = one.rewind(n, j);
-    other.rewind(n, j)?;
-    let _again = other.rewind(m, k);
-    assert_eq!(rt; one.counts().made, counts.made);
+    let one = rewound(rt, alloc, m, n)?;
+    let other = rewound(rt, alloc, n, m)?;
     assert_same(rt, &one, &other)
 }
 
@@ -73,33 +93,69 @@ fn two_orders_agree(rt: HostRuntime) -> Result<(), Fail> {
 #[test]
 fn drops_all(rt: HostRuntime) -> Result<(), Fail> {
     let n000 = NodeId::new(0);
-    let fresh = pair(&rt, rt.alloc())?;
-    let mut lab = pair(&rt, rt.alloc())?;
     let acts = [
         Act::Steps(n000, 7),
         Act::Rewinds(n000, 1, Ok(7)),
         Act::Keeps(0, 7),
     ];
-    play(&rt, &mut lab, &acts)?;
+    let lab = answered(&rt, rt.alloc(), &acts)?;
+    let fresh = pair(&rt, rt.alloc())?;
     assert_same(&rt, &lab, &fresh)
+}
+
+// The step of the newest event that is kept.
+fn newest(lab: &Lab) -> Result<(NodeId, u32), Fail> {
+    match lab.made_at(lab.counts().kept.saturating_sub(1)) {
+        Some(Made::Own { node, step, .. }) => Ok((node, step)),
+        Some(Made::Pass {
+            reader,
+            reader_step,
+            ..
+        }) => Ok((reader, reader_step)),
+        None => Err("no event".into()),
+    }
+}
+
+// A busy chip of which the newest event went by a rollback, and by an undo.
+fn newest_rewound(rt: &impl Abort, alloc: Global) -> Result<Lab, Fail> {
+    let mut lab = busy(rt, alloc, 6000)?;
+    let (node, step) = newest(&lab)?;
+    assert_eq!(rt; lab.rewind(node, step), Ok(1));
+    Ok(lab)
+}
+
+fn newest_undone(rt: &impl Abort, alloc: Global) -> Result<Lab, Fail> {
+    let mut lab = busy(rt, alloc, 6000)?;
+    assert_eq!(rt; lab.undo(), Ok(()));
+    Ok(lab)
 }
 
 #[test]
 fn drops_one(rt: HostRuntime) -> Result<(), Fail> {
-    let mut lab = busy(&rt, rt.alloc(), 6000)?;
-    let mut undone = busy(&rt, rt.alloc(), 6000)?;
-    undone.undo()?;
-    let kept = undone.counts().kept;
-    let (node, step) = match lab.made_at(kept).ok_or("none")? {
-        Made::Own { node, step, .. } => (node, step),
-        Made::Pass {
-            reader,
-            reader_step,
-            ..
-        } => (reader, reader_step),
-    };
-    assert_eq!(rt; lab.rewind(node, step), Ok(1));
+    let lab = newest_rewound(&rt, rt.alloc())?;
+    let undone = newest_undone(&rt, rt.alloc())?;
     assert_same(&rt, &lab, &undone)
+}
+
+// The pair behind its pass, where node 700 keeps so many own events.
+fn passed_beside(alloc: Global, others: u16) -> Result<Lab, Fail> {
+    let n700 = NodeId::new(126);
+    let mut chip = Chip::new(alloc)?;
+    load(&mut chip, NodeId::new(0), sender(0x1d5, 0x2a));
+    load(&mut chip, NodeId::new(1), taker(0x1d5));
+    load(&mut chip, n700, [0x10000, 0, 0, 0, 0]);
+    let mut lab = Lab::new(alloc, chip, LIMIT)?;
+    steps(&mut lab, n700, u32::from(others))?;
+    steps(&mut lab, NodeId::new(0), 7)?;
+    steps(&mut lab, NodeId::new(1), 5)?;
+    Ok(lab)
+}
+
+// The ticks of a rollback that removes so many events.
+fn ticks_where(rt: &impl Abort, lab: &mut Lab, at: (NodeId, u32), removed: u32) -> u64 {
+    let mut ticks = Ticks::new();
+    assert_eq!(rt; lab.rewind_ticked(at.0, at.1, &mut ticks), Ok(removed));
+    ticks.count()
 }
 
 // The ticks of a rollback of the pair that removes and keeps so many events, where node 700 keeps so many own events.
@@ -111,20 +167,10 @@ fn ticks_of(
     removed: u32,
     kept: u32,
 ) -> Result<u64, Fail> {
-    let n700 = NodeId::new(126);
-    let mut chip = Chip::new(alloc)?;
-    load(&mut chip, NodeId::new(0), sender(0x1d5, 0x2a));
-    load(&mut chip, NodeId::new(1), taker(0x1d5));
-    load(&mut chip, n700, [0x10000, 0, 0, 0, 0]);
-    let mut lab = Lab::new(alloc, chip, LIMIT)?;
-    let others = u32::from(others);
-    steps(&mut lab, n700, others)?;
-    steps(&mut lab, NodeId::new(0), 7)?;
-    steps(&mut lab, NodeId::new(1), 5)?;
-    let mut ticks = Ticks::new();
-    assert_eq!(rt; lab.rewind_ticked(at.0, at.1, &mut ticks), Ok(removed));
+    let mut lab = passed_beside(alloc, others)?;
+    let ticks = ticks_where(rt, &mut lab, at, removed);
     assert_eq!(rt; lab.counts().kept, kept);
-    Ok(ticks.count())
+    Ok(ticks)
 }
 
 #[test]
@@ -142,6 +188,17 @@ fn ticks_by_what_goes(rt: HostRuntime) -> Result<(), Fail> {
     Ok(())
 }
 
+// Node 000 waits to write to the right, and node 001 looked at it.
+fn looked(alloc: Global) -> Result<Lab, Fail> {
+    let mut chip = Chip::new(alloc)?;
+    load(&mut chip, NodeId::new(0), sender(0x1d5, 0x2a));
+    load(&mut chip, NodeId::new(1), reader_of_io());
+    let mut lab = Lab::new(alloc, chip, LIMIT)?;
+    steps(&mut lab, NodeId::new(0), 7)?;
+    steps(&mut lab, NodeId::new(1), 2)?;
+    Ok(lab)
+}
+
 // What a rollback costs that takes a look back, with what it saw or alone. With it: two marks lowered, two nodes taken up, two
 // entries looked at and restored, a search that finds the look, and one in vain. Alone: one of the first four, as no
 // neighbour of node 001 looked.
@@ -150,15 +207,8 @@ fn ticks_of_looks(rt: HostRuntime) -> Result<(), Fail> {
     let n000 = NodeId::new(0);
     let n001 = NodeId::new(1);
     for (node, step, removed, wanted) in [(n000, 7, 2, 10), (n001, 2, 1, 4)] {
-        let mut chip = Chip::new(rt.alloc())?;
-        load(&mut chip, n000, sender(0x1d5, 0x2a));
-        load(&mut chip, n001, reader_of_io());
-        let mut lab = Lab::new(rt.alloc(), chip, LIMIT)?;
-        steps(&mut lab, n000, 7)?;
-        steps(&mut lab, n001, 2)?;
-        let mut ticks = Ticks::new();
-        assert_eq!(rt; lab.rewind_ticked(node, step, &mut ticks), Ok(removed));
-        assert_eq!(rt; ticks.count(), wanted);
+        let mut lab = looked(rt.alloc())?;
+        assert_eq!(rt; ticks_where(&rt, &mut lab, (node, step), removed), wanted);
     }
     Ok(())
 }
