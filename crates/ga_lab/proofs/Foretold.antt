@@ -1,13 +1,11 @@
 -- What a rollback would take, of the machine.
-use Rattle.std.proofs.Common.{◌≡◌, ℕ, ◌+◌, true, List, length, Ok, Err, refl, sym, ◌∙◌, ap, arith, subst}
+use Rattle.std.proofs.Common.{◌≡◌, ℕ, ◌+◌, true, List, length, Ok, Err, refl, sym, ◌∙◌, ap, subst}
 use Rattle.std.specs.Prelude.{Result, is_some, slice_index, IfOk, IfErr}
 use Rattle.ga_node.specs.Record.{NodeState}
 use Rattle.ga_journal.specs.Histories.{Book}
-use Rattle.ga_journal.specs.Events.{events_of, causes_of as causes_kept}
 use Rattle.ga_event.specs.Told.{steps_of}
 use Rattle.ga_causal.specs.Dependence.{events_in, place_of, rewound_list}
 use Rattle.ga_rollback.specs.Rewound.{WouldGo}
-use Rattle.ga_lab.specs.declared.fault.LabFault.{LabFault}
 use Rattle.ga_lab.specs.Machine.{State, causes_of, rewound, rewind_answer}
 use Rattle.ga_lab.specs.kept.Tied.{IsTied, state_of}
 use Rattle.ga_lab.proofs.Stepping.{state_same}
