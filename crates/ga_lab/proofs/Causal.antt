@@ -8,7 +8,7 @@ use Rattle.ga_node.specs.Record.{NodeRecord}
 use Rattle.ga_grid.specs.declared.node_id.NodeId.{NodeId}
 use Rattle.ga_event.specs.declared.event.Event.{Event}
 use Rattle.ga_event.specs.declared.event.Cause.{Cause}
-use Rattle.ga_event.specs.Apply.{refusal_of, replay}
+use Rattle.ga_event.specs.Apply.{replay}
 use Rattle.ga_event.specs.Next.{next}
 use Rattle.ga_event.proofs.Nexts.{next_can}
 use Rattle.ga_causal.specs.Dependence.{events_in, dependents, without, rest, place_of, rest_from}

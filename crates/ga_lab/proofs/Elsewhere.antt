@@ -1,14 +1,14 @@
 -- Nodes of which a rollback takes no step.
 use Rattle.std.proofs.Common.{◌≡◌, ℕ, zero, suc, ◌+◌, ◌≤◌, cond, Bool, true, false, ◌||◌, List, [], ◌∷◌, Option, Some, None, refl, sym, ◌∙◌, ap, subst, arith, ◌⊎◌, inl, inr}
-use Rattle.std.specs.Prelude.{option_map, option_and_then, unwrap_or, IsSome}
-use Rattle.std.proofs.lemmas.Bool.{or_parts, or_from, cases_Bool}
+use Rattle.std.specs.Prelude.{option_map, unwrap_or, IsSome}
+use Rattle.std.proofs.lemmas.Bool.{or_from, cases_Bool}
 use Rattle.std.proofs.lemmas.Option.{same_Some}
 use Rattle.ga_node.specs.Record.{NodeRecord}
 use Rattle.ga_grid.specs.Chip.{record_at}
 use Rattle.ga_event.specs.declared.event.Event.{Event}
 use Rattle.ga_event.specs.declared.event.Cause.{Cause}
 use Rattle.ga_event.specs.Touches.{meets}
-use Rattle.ga_event.specs.Apply.{Told, apply, cause_of, run, replay}
+use Rattle.ga_event.specs.Apply.{Told, cause_of, run, replay}
 use Rattle.ga_event.specs.Agree.{Agree}
 use Rattle.ga_event.proofs.Locality.{Agree-sym}
 use Rattle.ga_causal.specs.Dependence.{events_in, cause_touches, dependents_after, without, rest, place_of, rest_from}

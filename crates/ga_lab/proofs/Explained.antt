@@ -1,13 +1,12 @@
 -- What `why` finds in machines that differ in the order of independent events alone.
-use Rattle.std.proofs.Common.{◌≡◌, ℕ, ◌↔◌, Bool, true, false, ◌&&◌, List, Some, None, Ok, Err, refl, sym, ◌∙◌, ap, ap₂, subst, ⊎_elim}
+use Rattle.std.proofs.Common.{◌≡◌, ℕ, ◌↔◌, Bool, false, ◌&&◌, List, Some, None, Ok, Err, refl, sym, ◌∙◌, ap, ap₂, subst, ⊎_elim}
 use Rattle.std.specs.Prelude.{Option, Result, IsSome, nat_le}
 use Rattle.std.proofs.lemmas.Bool.{cases_Bool, and_parts}
 use Rattle.ga_event.specs.declared.event.Event.{Event}
 use Rattle.ga_event.specs.declared.event.Cause.{Cause}
 use Rattle.ga_event.specs.Apply.{replay}
 use Rattle.ga_causal.specs.declared.chain.Link.{Link}
-use Rattle.ga_causal.specs.Chains.{IsChain, IsChainTo, IsFound, chain_of}
-use Rattle.ga_causal.specs.Steps.{named}
+use Rattle.ga_causal.specs.Chains.{IsChain, IsFound, chain_of}
 use Rattle.ga_causal.specs.Equivalence.{AreEquivalent}
 use Rattle.ga_causal.specs.Dependence.{place_of}
 use Rattle.ga_causal.proofs.ChainLaws.{chain_chain}
@@ -16,7 +15,6 @@ use Rattle.ga_causal.proofs.Consistent.{shuffled_by}
 use Rattle.ga_causal.proofs.Moved.{Again, chain_again}
 use Rattle.ga_causal.proofs.Refusals.{touching}
 use Rattle.ga_causal.proofs.Runs.{causes}
-use Rattle.ga_event.specs.Told.{steps_of}
 use Rattle.ga_lab.specs.declared.fault.LabFault.{LabFault}
 use Rattle.ga_lab.specs.declared.fault.LabFault.TheVariants.{NoStep}
 use Rattle.ga_lab.specs.Machine.{State, causes_of, stands, rewound, why_between, why_answer}

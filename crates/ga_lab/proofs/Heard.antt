@@ -1,12 +1,11 @@
 -- What a node's history and the words that its looks read make of it.
-use Rattle.std.proofs.Common.{◌≡◌, ℕ, ◌<◌, ◌≤◌, Bool, true, false, cond, inl, inr, List, [], ◌∷◌, ◌++◌, length, Option, Some, None, refl, sym, ◌∙◌, ap, subst, arith, ext_get_or}
+use Rattle.std.proofs.Common.{◌≡◌, ℕ, ◌<◌, Bool, true, false, cond, inl, inr, List, [], ◌∷◌, ◌++◌, length, Option, Some, None, refl, sym, ◌∙◌, ap, subst, arith, ext_get_or}
 use Rattle.std.specs.Prelude.{option_to_list}
 use Rattle.std.specs.List.{flat_map}
 use Rattle.std.proofs.lemmas.Bool.{cases_lt}
 use Rattle.std.proofs.lemmas.List.{get_or_past}
 use Rattle.std.proofs.lemmas.Option.{same_Some}
 use Rattle.ga_ports.specs.declared.side.Side.TheVariants.{Right}
-use Rattle.ga_node.specs.declared.seen.Seen.{Seen}
 use Rattle.ga_node.specs.Io.{io_word}
 use Rattle.ga_node.specs.Record.{NodeRecord, record_of}
 use Rattle.ga_node.specs.Table.{looks}

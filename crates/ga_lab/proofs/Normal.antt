@@ -1,31 +1,24 @@
 -- Each sequence of calls, no rollback of which takes a look, is causally equivalent to the steps that make what it keeps.
-use Rattle.std.proofs.Common.{◌≡◌, ℕ, zero, suc, ◌+◌, ◌-◌, ◌^◌, ◌<◌, ◌≤◌, Bool, true, false, not, cond, List, [], ◌∷◌, ◌++◌, length, map, Some, None, Ok, Err, refl, sym, ◌∙◌, ap, ap₂, subst, arith, append_assoc, append-nil, length-append}
+use Rattle.std.proofs.Common.{◌≡◌, ℕ, zero, suc, ◌+◌, ◌^◌, ◌<◌, ◌≤◌, not, List, [], ◌∷◌, ◌++◌, length, map, Some, None, Ok, refl, sym, ◌∙◌, ap, ap₂, subst, arith, append_assoc, append-nil, length-append}
 use Rattle.std.specs.Prelude.{Option, Result, IsOk, IsSome, nat_le, is_ok, is_some, option_map}
 use Rattle.std.proofs.lemmas.List.{length_push}
-use Rattle.std.proofs.lemmas.Bool.{cond-true}
-use Rattle.ga_node.specs.declared.kind.NotReady.{NotReady}
 use Rattle.ga_node.specs.Record.{NodeRecord}
-use Rattle.ga_grid.specs.declared.node_id.NodeId.{NodeId}
 use Rattle.ga_event.specs.declared.event.Event.{Event}
 use Rattle.ga_event.specs.declared.event.Cause.{Cause}
-use Rattle.ga_event.specs.Apply.{Told, refusal_of, apply, after, unless, cause_of, run, replay}
-use Rattle.ga_event.specs.Next.{next}
-use Rattle.ga_event.proofs.Nexts.{next_can}
-use Rattle.ga_causal.specs.Dependence.{events_in, dependents, without, rest, NoneLooks, place_of, rest_from, rewound_list}
+use Rattle.ga_event.specs.Apply.{Told, refusal_of, apply, after, unless, cause_of, replay}
+use Rattle.ga_causal.specs.Dependence.{events_in, dependents, without, rest, NoneLooks, place_of, rest_from}
 use Rattle.ga_causal.specs.Equivalence.{AreApart, AreEquivalent, same, swapped, later, joined}
-use Rattle.ga_causal.proofs.Runs.{causes}
 use Rattle.ga_causal.proofs.Swaps.{replay_equivalent}
 use Rattle.ga_causal.proofs.Taken.{taken_last}
-use Rattle.ga_lab.specs.declared.fault.LabFault.{LabFault}
-use Rattle.ga_lab.specs.Machine.{State, first, chip_of, causes_of, told_next, answer_to, with_event, step_answer, unless_refused, stepped, undone, rewound}
+use Rattle.ga_lab.specs.Machine.{State, first, chip_of, causes_of, with_event, step_answer, stepped, rewound}
 use Rattle.ga_lab.specs.Calls.{Call, step, undo, rewind, called, called_all, AreAlike}
 use Rattle.ga_lab.specs.Forward.{actor_of, stepped_all}
-use Rattle.ga_lab.specs.Sequences.{AllNamed, undos, HasRoom, CanBe, AreCausal, itself, back, chained, before, more, onward, refused, either, cancelled, turned, rolled, taken_from, TakesNoLook}
+use Rattle.ga_lab.specs.Sequences.{AllNamed, undos, AreCausal, itself, chained, before, more, onward, refused, cancelled, turned, rolled, taken_from}
 use Rattle.ga_lab.proofs.Alike.{equivalent_length, same_rewind}
-use Rattle.ga_lab.proofs.Called.{Runs, runs_of, with_kept, causes_is, chip_is, call_runs, runs_some, call_load}
+use Rattle.ga_lab.proofs.Called.{Runs, runs_of, with_kept, causes_is, chip_is}
 use Rattle.ga_lab.proofs.Forward.{made_is_next, Applied, applied, reached_forward}
 use Rattle.ga_lab.proofs.Reasoned.{replayed}
-use Rattle.ga_lab.proofs.Sequences.{counting, call_made, calls_counted, call_limit, called_append, ended, answered, step_made_is, runs_more, undone_last, equivalent_back, sound}
+use Rattle.ga_lab.proofs.Sequences.{counting, called_append, ended, answered, step_made_is, runs_more, undone_last, equivalent_back}
 
 -- a step for each event
 abbrev pub steps_for : List Event → List Call

@@ -1,14 +1,14 @@
 -- Sequences of calls that are causally equivalent end alike.
 use Rattle.std.proofs.Common.{◌≡◌, ℕ, suc, ◌+◌, ◌-◌, ◌^◌, ◌<◌, ◌≤◌, Bool, true, false, cond, List, [], ◌∷◌, ◌++◌, length, take, Some, None, Ok, Err, refl, sym, ◌∙◌, ap, subst, arith, take_all, ⊎_elim}
-use Rattle.std.specs.Prelude.{Option, Result, IsOk, IsSome, nat_le, is_ok, option_map, unwrap_or}
-use Rattle.std.proofs.lemmas.Bool.{cases_Bool, cond-true, cond-false, lt-leb}
+use Rattle.std.specs.Prelude.{Option, Result, IsOk, nat_le, option_map, unwrap_or}
+use Rattle.std.proofs.lemmas.Bool.{cond-false, lt-leb}
 use Rattle.std.proofs.lemmas.List.{length_push, take-append-le}
 use Rattle.ga_node.specs.declared.kind.NotReady.{NotReady}
 use Rattle.ga_node.specs.Record.{NodeRecord}
 use Rattle.ga_grid.specs.declared.node_id.NodeId.{NodeId}
 use Rattle.ga_event.specs.declared.event.Event.{Event}
 use Rattle.ga_event.specs.declared.event.Cause.{Cause}
-use Rattle.ga_event.specs.Apply.{Told, refusal_of, apply, after, unless, cause_of, run, replay}
+use Rattle.ga_event.specs.Apply.{Told, refusal_of, apply, after, unless, cause_of, run}
 use Rattle.ga_event.specs.Next.{next}
 use Rattle.ga_causal.specs.Dependence.{cause_touches}
 use Rattle.ga_causal.specs.Equivalence.{AreApart, AreEquivalent, same, swapped, later, joined}
@@ -21,7 +21,7 @@ use Rattle.ga_lab.specs.declared.fault.LabFault.TheVariants.{Full, Spent}
 use Rattle.ga_lab.specs.Machine.{State, chip_of, told_next, answer_to, with_event, step_answer, unless_refused, stepped, undone}
 use Rattle.ga_lab.specs.Calls.{Call, step, undo, rewind, called, called_all, AreAlike}
 use Rattle.ga_lab.specs.Forward.{actor_of}
-use Rattle.ga_lab.specs.Sequences.{AllNamed, HasRoom, CanBe, AreCausal, itself, back, chained, before, more, onward, refused, either, cancelled, turned, rolled}
+use Rattle.ga_lab.specs.Sequences.{AllNamed, HasRoom, AreCausal, itself, back, chained, before, more, onward, refused, either, cancelled, turned, rolled}
 use Rattle.ga_lab.proofs.Alike.{same_step, same_rewind}
 use Rattle.ga_lab.proofs.Called.{Runs, with_kept, chip_is, call_runs, calls_run, runs_some, call_load, calls_load}
 use Rattle.ga_lab.proofs.Forward.{made_is_next}

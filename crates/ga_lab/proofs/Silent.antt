@@ -1,5 +1,5 @@
 -- Where no event of a machine looks, none does in another of which the same is told.
-use Rattle.std.proofs.Common.{◌≡◌, ℕ, ◌<◌, ◌≤◌, ◌==◌, Bool, true, false, cond, inl, inr, List, [], ◌∷◌, ◌++◌, length, Option, Some, None, refl, sym, ◌∙◌, ap, subst, arith, eqb-true}
+use Rattle.std.proofs.Common.{◌≡◌, ℕ, ◌≤◌, ◌==◌, Bool, true, false, cond, inl, inr, List, [], ◌∷◌, ◌++◌, length, Option, Some, None, refl, sym, ◌∙◌, ap, subst, arith, eqb-true}
 use Rattle.std.specs.Prelude.{option_to_list}
 use Rattle.std.specs.List.{flat_map}
 use Rattle.std.proofs.lemmas.Bool.{cases_lt, or_cases, both_ways, cond-false}
@@ -13,7 +13,7 @@ use Rattle.ga_event.specs.declared.event.Event.{Event}
 use Rattle.ga_event.specs.declared.event.Event.TheVariants as event
 use Rattle.ga_event.specs.declared.event.Cause.{Cause}
 use Rattle.ga_event.specs.Touches.{touches}
-use Rattle.ga_event.specs.Apply.{Told, seen_from, after, apply, is_look, cause_of, run}
+use Rattle.ga_event.specs.Apply.{Told, seen_from, after, is_look, cause_of, run}
 use Rattle.ga_causal.specs.Dependence.{NoneLooks}
 use Rattle.ga_causal.specs.Words.{word_of, account_read, look_word, words_read}
 use Rattle.ga_causal.proofs.Runs.{causes, first_of_run, keeps_of}

@@ -1,4 +1,4 @@
-use Rattle.std.proofs.Common.{◌≡◌, ◌≤◌, ◌∙◌, sym, ap, subst, arith}
+use Rattle.std.proofs.Common.{◌≡◌, ◌∙◌, sym, ap, subst, arith}
 use Rattle.std.proofs.lemmas.List.{take_all}
 use Rattle.std.specs.Prelude.{drop}
 use Rattle.ga_node.specs.Record.{NodeState}
@@ -6,7 +6,6 @@ use Rattle.ga_event.specs.Told.{steps_of}
 use Rattle.ga_journal.specs.Histories.{history}
 use Rattle.ga_journal.specs.Walked.{walked, CanWalk}
 use Rattle.ga_lab.specs.Machine.{State, standing}
-use Rattle.ga_lab.specs.kept.Tied.{state_of}
 use Rattle.ga_lab.proofs.Stepping.{whole_of}
 use Rattle.ga_lab.proofs.Peeking.{can_peek, kept_steps}
 use Rattle.ga_lab.proofs.lab.Lab.walk.Goals as goal

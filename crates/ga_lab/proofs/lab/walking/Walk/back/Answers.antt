@@ -1,4 +1,4 @@
-use Rattle.std.proofs.Common.{◌∙◌, ap, arith}
+use Rattle.std.proofs.Common.{ap, arith}
 use Rattle.std.specs.Prelude.{◌-◌}
 use Rattle.ga_grid.specs.Chip.{node_at}
 use Rattle.ga_journal.specs.Histories.{history}

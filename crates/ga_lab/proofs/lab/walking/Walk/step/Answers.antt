@@ -1,9 +1,8 @@
-use Rattle.std.proofs.Common.{◌≡◌, ◌≤◌, length, sym, ap, ◌∙◌, subst, arith}
+use Rattle.std.proofs.Common.{◌≡◌, ◌≤◌, length, ap, subst, arith}
 use Rattle.ga_event.specs.Told.{steps_of}
 use Rattle.ga_journal.specs.Histories.{history}
 use Rattle.ga_lab.specs.Machine.{Standing}
 use Rattle.ga_lab.specs.kept.Tied.{state_of}
-use Rattle.ga_lab.proofs.Stepping.{whole_of}
 use Rattle.ga_lab.proofs.Walking.{kept_long}
 use Rattle.ga_lab.proofs.lab.walking.Walk.step.Goals as goal
 
