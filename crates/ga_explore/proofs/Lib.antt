@@ -11,4 +11,3 @@ pub mod Freeing
 pub mod Telling
 pub mod Ends
 pub mod WordCounts
-pub mod Refusing

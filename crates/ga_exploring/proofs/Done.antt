@@ -1,6 +1,6 @@
 -- A command of exploring that was carried out.
 use Rattle.std.specs.Prelude.{Option}
-use Rattle.std.proofs.Common.{◌≡◌, ◌≤◌, ℕ, List, refl, sym, subst}
+use Rattle.std.proofs.Common.{◌≡◌, ◌≤◌, ℕ, List, refl, sym, ap, subst}
 use Rattle.ga_grid.specs.declared.node_id.NodeId.{NodeId}
 use Rattle.ga_lab.specs.Machine.{State}
 use Rattle.ga_explore.specs.Running.{running, after, AreMade, HasEnded}
@@ -36,8 +36,9 @@ run_done s notes asked schedule most bound until events end new e f made within 
       refl,
     )
 
-pub effects_done : (s : State) (notes : Option Notes) (asked : Request) (node : NodeId) (step : ℕ) (text : List ℕ) → asked ≡ Effects node step → TellsEffects s node step text → Explored (exploring s notes) asked text (exploring s notes)
-effects_done s notes asked node step text e h = subst (λ z. Explored (exploring s notes) z text (exploring s notes)) (sym e) (h, refl)
+pub effects_done : (s : State) (notes : Option Notes) (asked : Request) (node : NodeId) (step : ℕ) (text : List ℕ) (now : State) → asked ≡ Effects node step → now ≡ s → TellsEffects s node step text → Explored (exploring s notes) asked text (exploring now notes)
+effects_done s notes asked node step text now e same h =
+    subst (λ z. Explored (exploring s notes) z text (exploring now notes)) (sym e) (h, ap (λ z. exploring z notes) same)
 
 pub words_done : (s : State) (notes : Option Notes) (asked : Request) (from to : NodeId) (text : List ℕ) → asked ≡ Words from to → text ≡ words_text s from to → Explored (exploring s notes) asked text (exploring s notes)
 words_done s notes asked from to text e h = subst (λ z. Explored (exploring s notes) z text (exploring s notes)) (sym e) (h, refl)

@@ -1,9 +1,8 @@
 -- Lines and names of nodes, one more at a time.
-use Rattle.std.proofs.Common.{◌≡◌, ℕ, zero, suc, ◌+◌, ◌-◌, ◌<◌, Bool, List, [], ◌++◌, length, refl, sym, ap, ◌∙◌, append_assoc, arith}
-use Rattle.std.specs.Prelude.{codes}
+use Rattle.std.proofs.Common.{◌≡◌, ℕ, zero, suc, ◌+◌, ◌-◌, ◌<◌, Bool, List, [], ◌++◌, refl, sym, ap, ◌∙◌, append_assoc, arith}
 use Rattle.std.proofs.lemmas.List.{append-nil}
 use Rattle.ga_node.specs.Record.{NodeRecord}
-use Rattle.ga_exploring.specs.Waiting.{waiting_text, all_waiting, marked_name, marked_names, stuck_line}
+use Rattle.ga_exploring.specs.Waiting.{waiting_text, all_waiting, marked_name, marked_names}
 
 no_waiting : (chip : List NodeRecord) (n : ℕ) → all_waiting chip n zero ≡ []
 unfolding all_waiting

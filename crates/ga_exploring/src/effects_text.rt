@@ -11,6 +11,7 @@ use ga_console::{Output, Text, WriteFailed, push_number, push_step, push_text, r
 use ga_explore::{Effect, Effects, find_effects};
 use ga_grid::NodeId;
 use ga_lab::Lab;
+use std::alloc::Global;
 use std::io::Write;
 
 /// `effects NNN K`: tells what `rewind NNN K` would take. Nothing is taken back.
@@ -18,16 +19,18 @@ use std::io::Write;
 /// # Errors
 /// A write failed.
 pub(crate) fn say_effects<W: Write>(
-    lab: &Lab,
+    alloc: Global,
+    lab: &mut Lab,
     node: NodeId,
     step: u32,
     output: &mut Output,
     writer: &mut W,
 ) -> Result<(), WriteFailed>
-    ensures { Says result (λ text. TellsEffects lab.now node step text)
+    ensures said { Says result (λ text. TellsEffects lab.old node step text)
         (W.contents writer.old) output.old (W.contents writer.new) output.new }
+    ensures same { lab.new ≡ lab.old }
 {
-    match find_effects(lab, node, step) {
+    match find_effects(alloc, lab, node, step) {
         Ok(effects) => say_found(&effects, output, writer),
         Err(fault) => output.say(writer, refusal(fault)),
     }

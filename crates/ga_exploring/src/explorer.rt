@@ -135,7 +135,7 @@ fn explored<W: Write>(
             let ran = run(lab, schedule, u64::from(most), &until);
             output.say_blocks(writer, ran_text(&ran).as_slice())
         }
-        Request::Effects { node, step } => say_effects(lab, node, step, output, writer),
+        Request::Effects { node, step } => say_effects(alloc, lab, node, step, output, writer),
         Request::Words { from, to } => say_words(lab, from, to, output, writer),
         Request::Writes { node, address } => say_writes(lab, node, address, output, writer),
         Request::At { node, step, around } => say_around(

@@ -32,7 +32,7 @@ some_more all n k m causes before steps s =
     omega (arith, a, b, d, e)
 
 -- the place of the first
-pub cause_place : (all : List Cause) (n k m : ℕ) (causes : List Cause) (before steps : ℕ) → IsSince all n k m causes before steps → place_of all n k ≡ Some before
+cause_place : (all : List Cause) (n k m : ℕ) (causes : List Cause) (before steps : ℕ) → IsSince all n k m causes before steps → place_of all n k ≡ Some before
 cause_place all n k m causes before steps s =
     let t = touching_in n s.earlier in
     let q = s.number in

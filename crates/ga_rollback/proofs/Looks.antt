@@ -2,6 +2,7 @@
 use Rattle.std.proofs.Common.{◌≡◌, ℕ, zero, suc, ◌+◌, ◌-◌, ◌<◌, ◌≤◌, Bool, true, false, cond, List, [], ◌∷◌, length, take, get_or, set, Some, None, refl, ◌∙◌, ap, arith}
 use Rattle.std.specs.Prelude.{slice_get}
 use Rattle.std.specs.List.{sum_by}
+use Rattle.std.proofs.lemmas.List.{take_all}
 use Rattle.std.proofs.lemmas.List.Sums.{sum_by-cons}
 use Rattle.std.proofs.lemmas.Option.{same_Some}
 use Rattle.ga_journal.specs.Histories.{Past, history}
@@ -104,13 +105,24 @@ staying_at (h ∷ hs) (k ∷ going) zero q = refl
 staying_at (h ∷ hs) (k ∷ going) (suc n) q = staying_at hs going n (omega arith)
 
 -- where another number of one history's entries is to go
-pub looks_set : (hs : List (List Past)) (going : List ℕ) (j g : ℕ) → length hs ≡ length going → j < length hs
-    → looks_of (staying hs (set going j g)) + looks_in (take (length (history hs j) - get_or going j 0) (history hs j)) ≡ looks_of (staying hs going) + looks_in (take (length (history hs j) - g) (history hs j))
-looks_set [] going j g q l = absurd (omega arith)
-looks_set (h ∷ hs) [] j g q l = absurd (omega arith)
-looks_set (h ∷ hs) (k ∷ going) zero g q l = let a = staying-cons h hs g going in let b = staying-cons h hs k going in omega arith
-looks_set (h ∷ hs) (k ∷ going) (suc j) g q l =
-    let a = looks_set hs going j g (omega arith) (omega arith) in
-    let b = staying-cons h hs k (set going j g) in
-    let c = staying-cons h hs k going in
+pub staying_set : (f : List Past → ℕ) (hs : List (List Past)) (going : List ℕ) (j g : ℕ) → length hs ≡ length going → j < length hs
+    → sum_by f (staying hs (set going j g)) + f (take (length (history hs j) - get_or going j 0) (history hs j)) ≡ sum_by f (staying hs going) + f (take (length (history hs j) - g) (history hs j))
+staying_set f [] going j g q l = absurd (omega arith)
+staying_set f (h ∷ hs) [] j g q l = absurd (omega arith)
+staying_set f (h ∷ hs) (k ∷ going) zero g q l =
+    let a : sum_by f (take (length h - g) h ∷ staying hs going) ≡ f (take (length h - g) h) + sum_by f (staying hs going) = sum_by-cons f (take (length h - g) h) (staying hs going) in
+    let b : sum_by f (take (length h - k) h ∷ staying hs going) ≡ f (take (length h - k) h) + sum_by f (staying hs going) = sum_by-cons f (take (length h - k) h) (staying hs going) in
     omega arith
+staying_set f (h ∷ hs) (k ∷ going) (suc j) g q l =
+    let a = staying_set f hs going j g (omega arith) (omega arith) in
+    let b : sum_by f (take (length h - k) h ∷ staying hs (set going j g)) ≡ f (take (length h - k) h) + sum_by f (staying hs (set going j g)) = sum_by-cons f (take (length h - k) h) (staying hs (set going j g)) in
+    let c : sum_by f (take (length h - k) h ∷ staying hs going) ≡ f (take (length h - k) h) + sum_by f (staying hs going) = sum_by-cons f (take (length h - k) h) (staying hs going) in
+    omega arith
+
+-- where none is
+pub staying_none : (hs : List (List Past)) (going : List ℕ) → ((m : ℕ) → get_or going m 0 ≡ 0) → staying hs going ≡ hs
+staying_none [] going none = refl
+staying_none (h ∷ hs) [] none = ap (λ z. h ∷ z) (staying_none hs [] none)
+staying_none (h ∷ hs) (k ∷ going) none =
+    ap (λ z. take (length h - k) h ∷ z) (staying_none hs going (λ m. none (suc m)))
+    ∙ ap (λ z. z ∷ hs) (take_all (length h - k) h (let a : k ≡ 0 = none 0 in omega arith))

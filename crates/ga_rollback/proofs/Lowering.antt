@@ -15,7 +15,7 @@ use Rattle.ga_journal.specs.Events.{has_looked_in}
 use Rattle.ga_journal.specs.Looks.{SawNoneToGo}
 use Rattle.ga_rollback.specs.kept.Marked.{stamp_at, IsDue, Start, Later, Other, Saw, IsMarked, staying, IsUnseen}
 use Rattle.ga_rollback.specs.Marked.{looks_in, looks_of}
-use Rattle.ga_rollback.proofs.Looks.{one_most, looks_less, looks_one, looks_set}
+use Rattle.ga_rollback.proofs.Looks.{one_most, looks_less, looks_one, staying_set}
 
 none_some : {A : Type 0} {x : A} → None ≡ Some x → ⊥
 none_some h = cc
@@ -126,7 +126,7 @@ looks_lowered : (book : Book) (j q : ℕ) → AreMarks book → q < mark_of book
 looks_lowered book j q sound l =
     let in_book : j < length book.histories = node_within book.histories j q (omega arith) in
     let place : length (history book.histories j) - (length (history book.histories j) - q) ≡ q = omega arith in
-    looks_set book.histories book.going j (length (history book.histories j) - q) (sound.size ∙ sym sound.going_size) in_book
+    staying_set looks_in book.histories book.going j (length (history book.histories j) - q) (sound.size ∙ sym sound.going_size) in_book
     ∙ ap (λ z. looks_of (staying book.histories book.going) + looks_in (take z (history book.histories j))) place
 
 pub fewer_lowered : (book : Book) (j q : ℕ) → AreMarks book → q < mark_of book j → looks_of (staying book.histories (lowered book j q).going) ≤ looks_of (staying book.histories book.going)

@@ -1,10 +1,10 @@
 -- What a rollback leaves. A step is taken back with all that it caused and nothing else, whatever else came later: an action may
 -- be undone once all its consequences are (Danos and Krivine, "Reversible Communicating Systems", 2004).
-use Rattle.std.specs.Prelude.{◌≡◌, ℕ, ◌+◌, ◌*◌, ◌<◌, ◌≤◌, List, length, Some}
+use Rattle.std.specs.Prelude.{◌≡◌, ℕ, ◌+◌, ◌*◌, ◌<◌, ◌≤◌, List, length, Some, slice_index}
 use Rattle.ga_node.specs.Record.{NodeState}
 use Rattle.ga_grid.specs.Chip.{records_of}
 use Rattle.ga_event.specs.Apply.{replay}
-use Rattle.ga_causal.specs.Dependence.{rewound_list}
+use Rattle.ga_causal.specs.Dependence.{events_in, rewound_list}
 use Rattle.ga_journal.specs.Histories.{Book}
 use Rattle.ga_journal.specs.Events.{causes_of, events_of}
 use Rattle.ga_event.specs.Told.{steps_of}
@@ -26,6 +26,14 @@ pub record IsRolledBack (old : Book) (chip : List NodeState) (n k : ℕ) (new : 
   pub limit : new.limit ≡ old.limit
   pub tied : IsTied now new
   pub settled : IsAtRest new
+
+-- What a rollback of node n to its step k would take: so many events, and of each node so many steps. Those that would be left
+-- are the events that do not depend on the step.
+pub record WouldGo (old : Book) (n k : ℕ) (events : ℕ) (steps : List ℕ) : Type 0 where
+  pub stands : (0 < k) × (k ≤ steps_of n (events_of old))
+  pub number : events + length (rewound_list (causes_of old) n k) ≡ length (events_of old)
+  pub each : (m : ℕ)
+      → slice_index steps m + steps_of m (events_in (rewound_list (causes_of old) n k)) ≡ steps_of m (events_of old)
 
 -- How much a rollback did: at least two ticks for each entry that it removed and two more, and at most eight for each and one
 -- for each look among them, whatever else is kept; at most four for each where no kept entry was a look.

@@ -1,4 +1,5 @@
 pub mod Ends
 pub mod Marked
+pub mod Raised
 pub mod Rewound
 pub mod Window

@@ -6,7 +6,7 @@ use std::marker::Model;
 /// How many entries of each node were visited, from its last one on, and a window in which all nodes with some stand, so that
 /// not every count is read.
 #[derive(Drop)]
-pub(crate) struct Visited {
+pub struct Visited {
     counts: [u32; 144],
     // The least node that may have some, and one past the greatest.
     first: u8,
@@ -28,7 +28,7 @@ impl Visited {
     ghost use Rattle.std.specs.Prelude.{◌≡◌, ◌+◌, ◌<◌, ◌≤◌, ◌^◌, ℕ, length, slice_index, slice_set};
 
     /// None of any node.
-    pub fn none() -> Self
+    pub(crate) fn none() -> Self
         ensures size { length result ≡ 144 }
         ensures zero { (n : ℕ) → slice_index result n ≡ 0 }
     {
@@ -49,7 +49,7 @@ impl Visited {
 
     /// One more of a node.
     #[inline(always)]
-    pub fn add(&mut self, node: NodeId)
+    pub(crate) fn add(&mut self, node: NodeId)
         requires { slice_index self.old node.number + 1 < 2 ^ 32 }
         ensures { self.new ≡ slice_set self.old node.number (slice_index self.old node.number + 1) }
     {

@@ -195,19 +195,24 @@ fn tells_effects(rt: HostRuntime) -> Result<(), Fail> {
     let mut lab = pair(rt.alloc())?;
     run(&mut lab, Schedule::in_rounds(), 12, &Condition::Never);
     let (left, right) = (NodeId::new(0), NodeId::new(1));
-    let told = find_effects(&lab, left, 7)?;
+    let told = find_effects(rt.alloc(), &mut lab, left, 7)?;
     let wanted = [effect(left, 7, 2), effect(right, 5, 1)];
     assert_eq!(rt;
         (told.events, told.nodes.as_slice()),
         (2, wanted.as_slice())
     );
-    let told = find_effects(&lab, right, 1)?;
+    let told = find_effects(rt.alloc(), &mut lab, right, 1)?;
     let wanted = [effect(left, 8, 1), effect(right, 1, 5)];
     assert_eq!(rt;
         (told.events, told.nodes.as_slice()),
         (5, wanted.as_slice())
     );
-    assert!(rt; matches!(find_effects(&lab, left, 9), Err(LabFault::NoStep)));
+    assert!(rt;
+        matches!(
+            find_effects(rt.alloc(), &mut lab, left, 9),
+            Err(LabFault::NoStep)
+        )
+    );
     assert_eq!(rt; lab.counts().kept, 12);
     Ok(())
 }

@@ -1,7 +1,7 @@
 //! The other entry of a pass.
 
 ghost use Rattle.std.specs.Prelude.{◌≡◌};
-ghost use Rattle.ga_journal.specs.Marks.{partner_of, named};
+ghost use Rattle.ga_journal.specs.Marks.{partner_of, named, is_counted};
 
 use super::Histories;
 use crate::entry::Act;
@@ -18,11 +18,22 @@ fn named_by(act: &Act) -> Option<(NodeId, u32)>
     }
 }
 
+/// Whether an event is counted by an act.
+fn counts(act: &Act) -> bool
+    ensures { result ≡ is_counted act.now }
+{
+    match act {
+        Act::Own(_) => true,
+        Act::Sent { .. } => true,
+        Act::Took { .. } => false,
+    }
+}
+
 impl Histories {
-    ghost use Rattle.std.specs.Prelude.{◌≡◌, ◌<◌, ℕ, length, nat_lt, slice_index};
+    ghost use Rattle.std.specs.Prelude.{◌≡◌, ◌<◌, ℕ, Some, length, nat_lt, slice_index};
     ghost use Rattle.ga_journal.specs.kept.Histories.{lists_of};
     ghost use Rattle.ga_journal.specs.Histories.{history};
-    ghost use Rattle.ga_journal.specs.Marks.{partner_of, named, partner_at};
+    ghost use Rattle.ga_journal.specs.Marks.{partner_of, named, partner_at, counted_at};
     ghost use Rattle.ga_journal.specs.kept.Marks.{has_partner};
 
     /// The other entry of the pass of the entry at a position.
@@ -32,6 +43,15 @@ impl Histories {
     {
         let history = self.at(node);
         named_by(&history.head(at as usize).act)
+    }
+
+    /// Whether an event is counted by the entry at a position.
+    pub(crate) fn is_counted(&self, node: NodeId, at: u32) -> bool
+        requires there { at < length (history (lists_of self.now) node.number) }
+        ensures { Some result ≡ counted_at (lists_of self.now) node.number at }
+    {
+        let history = self.at(node);
+        counts(&history.head(at as usize).act)
     }
 
     /// Whether a history is longer than this.

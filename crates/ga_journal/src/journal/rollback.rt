@@ -5,9 +5,9 @@ use crate::ticks::Ticks;
 use ga_grid::{Chip, NodeId};
 
 impl Journal {
-    ghost use Rattle.std.specs.Prelude.{◌≡◌, ◌<◌, ◌+◌, ◌^◌, ℕ, length, true, false, IfSome, IfNone};
+    ghost use Rattle.std.specs.Prelude.{◌≡◌, ◌<◌, ◌+◌, ◌^◌, ℕ, Some, length, true, false, IfSome, IfNone};
     ghost use Rattle.ga_journal.specs.Histories.{history};
-    ghost use Rattle.ga_journal.specs.Marks.{AreMarks, mark_of, waits, named, partner_at, ticked, lowered, taken_up};
+    ghost use Rattle.ga_journal.specs.Marks.{AreMarks, mark_of, waits, named, partner_at, counted_at, ticked, lowered, raised, taken_up};
     ghost use Rattle.ga_journal.specs.Marks.{CanTakeBack, IsTakenBack};
     ghost use Rattle.ga_journal.specs.Looks.{IsLookToGo, SawNoneToGo, IsSought};
 
@@ -73,6 +73,20 @@ impl Journal {
         let entries = self.histories.count(node);
         self.going[node.index()] = entries - to;
         self.waiting.add(node);
+    }
+
+    /// Raises a node's mark by one: the first of its entries that were to go is to stay again. It says whether an event is
+    /// counted by that entry, as an own event is, and a pass by its writer's. One tick.
+    pub fn raise(&mut self, node: NodeId) -> bool
+        requires going { mark_of self.old node.number < length (history self.old.histories node.number) }
+        requires fits { self.old.ticks + 1 < 2 ^ 64 }
+        ensures counted { Some result ≡ counted_at self.old.histories node.number (mark_of self.old node.number) }
+        ensures raised { self.new ≡ raised self.old node.number }
+    {
+        self.ticks.raise();
+        let at = self.mark_of(node);
+        self.going[node.index()] -= 1;
+        self.histories.is_counted(node, at)
     }
 
     /// Takes one of the nodes that wait out, in one tick. None, and no tick, where none waits.

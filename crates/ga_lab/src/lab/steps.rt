@@ -2,15 +2,15 @@
 
 use super::Lab;
 use crate::fault::LabFault;
-use ga_event::{Cause, Made};
+use ga_event::Made;
 use ga_grid::NodeId;
+use ga_rollback::{Going, RollbackFault, would_rewind};
 
 impl Lab {
-    ghost use Rattle.std.specs.Prelude.{◌≡◌, ◌⊎◌, ◌↔◌, ◌<◌, ◌^◌, ℕ, false, length, drop, Some, Err, IfOk, IfErr};
+    ghost use Rattle.std.specs.Prelude.{◌≡◌, ◌↔◌, ◌+◌, ℕ, false, length, slice_index, Ok, Err, IfOk, IfErr};
     ghost use Rattle.std.specs.List.{slice_get};
-    ghost use Rattle.ga_causal.specs.Dependence.{events_in, place_of};
     ghost use Rattle.ga_event.specs.Told.{steps_of};
-    ghost use Rattle.ga_lab.specs.Machine.{causes_of, history_of, stands};
+    ghost use Rattle.ga_lab.specs.Machine.{history_of, rewind_answer, rewound, stands};
 
     /// How many steps of a node are kept.
     pub fn steps(&self, node: NodeId) -> u32
@@ -28,24 +28,26 @@ impl Lab {
         self.chronicle.told(node, place)
     }
 
-    /// The kept events from a node's step on, in order, each with whether it looked. Takes memory and time by how many these are.
+    /// What `rewind` would take: so many events, and of each node so many steps. Nothing is taken back. Takes no memory, and time by
+    /// how many steps would go, whatever else is kept.
     ///
     /// # Errors
-    /// `NoStep`, where the node has no such step; then `Memory`.
-    pub fn causes_from(&self, node: NodeId, step: u32) -> Result<Vec<Cause>, LabFault>
-        ensures ok { IfOk result (λ list. (place : ℕ) × (place_of (causes_of self.now) node.number step ≡ Some place)
-            × (list.items ≡ drop place (causes_of self.now))) }
-        ensures short { IfOk result (λ list. length list.items < 2 ^ 32) }
-        ensures err { IfErr result (λ why. (why ≡ LabFault.NoStep) ⊎ (why ≡ LabFault.Memory)) }
-        ensures refused { (result ≡ Err LabFault.NoStep) ↔ (stands self.now node.number step ≡ false) }
-        ensures caused { events_in (causes_of self.now) ≡ self.now.kept }
+    /// `NoStep`, where the node has no such step.
+    pub fn would_rewind(&mut self, node: NodeId, step: u32) -> Result<Going, LabFault>
+        ensures answer { IfOk result (λ going. rewind_answer self.old node.number step ≡ Ok going.events) }
+        ensures steps { IfOk result (λ going. (m : ℕ) → slice_index going.steps m
+            + steps_of m (rewound self.old node.number step).kept ≡ steps_of m self.old.kept) }
+        ensures err { IfErr result (λ why. rewind_answer self.old node.number step ≡ Err why) }
+        ensures same { self.new ≡ self.old }
+        ensures refused { (result ≡ Err LabFault.NoStep) ↔ (stands self.old node.number step ≡ false) }
     {
-        if !self.stands((node, step)) {
-            return Err(LabFault::NoStep);
-        }
-        match self.since((node, step), node) {
-            Ok(since) => Ok(since.causes),
-            Err(why) => Err(why),
+        // So few that the ticks can't overflow.
+        let kept = self.chronicle.journal.kept();
+        prove!(kept <= u32::MAX);
+        self.chronicle.count_anew();
+        match would_rewind(&mut self.chronicle.journal, node, step) {
+            Ok(going) => Ok(going),
+            Err(RollbackFault::NoStep) => Err(LabFault::NoStep),
         }
     }
 }

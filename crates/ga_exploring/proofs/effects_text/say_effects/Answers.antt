@@ -1,8 +1,8 @@
 use Rattle.ga_exploring.proofs.Answering.{effects_found, effects_refused}
 use Rattle.ga_exploring.proofs.effects_text.say_effects.Goals as goal
 
-pub returns-in-Ok : goal.returns-in-Ok
-returns-in-Ok g c = λ before said h.
+pub returns-in-Ok-clause-said : goal.returns-in-Ok-clause-said
+returns-in-Ok-clause-said g c = λ before said h.
     let done = c.say_found.ensures before said h in (
       done.0,
       effects_found c.args.lab.now c.args.node c.args.step c.in-Ok.effects.events c.in-Ok.effects.nodes.items done.0
@@ -10,8 +10,8 @@ returns-in-Ok g c = λ before said h.
       done.2,
     )
 
-pub returns-in-Err : goal.returns-in-Err
-returns-in-Err g c = λ before said h. (
+pub returns-in-Err-clause-said : goal.returns-in-Err-clause-said
+returns-in-Err-clause-said g c = λ before said h. (
   c.refusal.result.now,
   effects_refused c.args.lab.now c.args.node c.args.step c.in-Err.fault c.refusal.result.now c.in-Err.ensures.err c.refusal.ensures.text,
   c.say.ensures before said h,

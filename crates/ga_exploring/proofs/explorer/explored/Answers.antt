@@ -16,8 +16,11 @@ returns-in-Run g c = λ before said h.
 
 pub returns-in-Effects : goal.returns-in-Effects
 returns-in-Effects g c = λ before said h.
-    let done = c.say_effects.ensures before said h in
-    (done.0, effects_done c.args.lab.now c.args.notes.now c.args.asked c.in-Effects.node c.in-Effects.step done.0 c.in-Effects.is done.1, done.2)
+    let done = c.say_effects.ensures.said before said h in (
+      done.0,
+      effects_done c.args.lab.now c.args.notes.now c.args.asked c.in-Effects.node c.in-Effects.step done.0 c.say_effects.new.lab c.in-Effects.is c.say_effects.ensures.same done.1,
+      done.2,
+    )
 
 pub returns-in-Words : goal.returns-in-Words
 returns-in-Words g c = λ before said h.

@@ -1,0 +1,22 @@
+use Rattle.std.proofs.Common.{◌≡◌, ℕ, ◌<◌, ◌≤◌}
+use Rattle.ga_journal.specs.Marks.{going_of}
+use Rattle.ga_journal.specs.kept.Marks.{to_go}
+use Rattle.ga_rollback.specs.kept.Raised.{IsRaising}
+use Rattle.ga_rollback.proofs.forecast.release.Given as goal
+
+abbrev pub invariant-nodes : goal.invariant-nodes
+invariant-nodes l = record {
+  raising : IsRaising l.fn.journal l.journal l.events;
+  none : (m : ℕ) → m < l.n → going_of l.journal m ≡ 0;
+  ahead : (m : ℕ) → l.n ≤ m → going_of l.journal m ≡ going_of l.fn.journal m;
+}
+
+abbrev pub invariant-marks : goal.invariant-marks
+invariant-marks l = record {
+  raising : IsRaising l.fn.journal l.journal l.events;
+  none : (m : ℕ) → m < l.n → going_of l.journal m ≡ 0;
+  ahead : (m : ℕ) → l.n < m → going_of l.journal m ≡ going_of l.fn.journal m;
+}
+
+abbrev pub decreases-marks : goal.decreases-marks
+decreases-marks l = to_go l.journal

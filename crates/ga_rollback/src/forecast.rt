@@ -1,0 +1,98 @@
+//! What a rollback would take, without taking it.
+
+ghost use Rattle.std.specs.Prelude.{◌≡◌, ◌+◌, ◌*◌, ◌^◌, ◌<◌, ◌≤◌, ◌⊎◌, ◌↔◌, ℕ, length, slice_index, IfOk, OnErr, Err};
+ghost use Rattle.std.specs.List.{sum_by};
+ghost use Rattle.ga_event.specs.Told.{steps_of};
+ghost use Rattle.ga_journal.specs.Histories.{history};
+ghost use Rattle.ga_journal.specs.Events.{events_of};
+ghost use Rattle.ga_journal.specs.Logs.{IsWhole};
+ghost use Rattle.ga_journal.specs.Marks.{AreMarks, IsAtRest, mark_of, going_of, counted_at, raised, entries};
+ghost use Rattle.ga_journal.specs.kept.Marks.{to_go};
+ghost use Rattle.ga_rollback.specs.Rewound.{WouldGo};
+ghost use Rattle.ga_rollback.specs.kept.Raised.{counted_of, one_counted, IsRaising};
+
+use crate::rollback::{RollbackFault, mark};
+use crate::visited::Visited;
+use ga_grid::NodeId;
+use ga_journal::Journal;
+
+/// What a rollback would take: so many events, and of each node so many steps.
+#[derive(Drop)]
+pub struct Going {
+    /// How many events.
+    pub events: u32,
+    /// How many steps of each node.
+    pub steps: Visited,
+}
+
+/// What `rewind` would take. Nothing is taken back: the journal is as before, but for its ticks. No memory is taken. The work is
+/// counted in ticks, at most nine for each step that would go, whatever else is kept.
+///
+/// # Errors
+/// `NoStep`, where the node has no such step.
+pub fn would_rewind(journal: &mut Journal, node: NodeId, step: u32) -> Result<Going, RollbackFault>
+    requires rest { IsAtRest journal.old }
+    requires whole { IsWhole journal.old.histories journal.old.made }
+    requires fits { journal.old.ticks + 40 * entries journal.old + 8 < 2 ^ 64 }
+    ensures ok { IfOk result (λ going. WouldGo journal.old node.number step going.events going.steps) }
+    ensures same { journal.new ≡ record journal.old { ticks = journal.new.ticks } }
+    ensures ticked { IfOk result (λ going.
+        journal.new.ticks ≤ journal.old.ticks + 9 * sum_by (λ (x : ℕ). x) going.steps) }
+
+    // `NoStep`, just where the step is 0 or past the node's steps
+    ensures refused { (result ≡ Err RollbackFault.NoStep)
+        ↔ ((step ≡ 0) ⊎ (steps_of node.number (events_of journal.old) < step)) }
+    ensures journal { OnErr result (journal.new ≡ journal.old) }
+{
+    let steps = journal.mark_of(node);
+    if step == 0 || steps < step {
+        return Err(RollbackFault::NoStep);
+    }
+    // So few that their number can't overflow.
+    let kept = journal.kept();
+    prove!(kept <= u32::MAX);
+    let mut going = Visited::none();
+    mark(journal, node, step - 1, &mut going);
+    let events = release(journal, &going);
+    Ok(Going {
+        events,
+        steps: going,
+    })
+}
+
+/// Raises all marks up to the ends of the histories, and says how many events have an entry that was to go.
+fn release(journal: &mut Journal, going: &Visited) -> u32
+    requires going { (m : ℕ) → slice_index going.now m ≡ going_of journal.old m }
+    requires sound { AreMarks journal.old }
+    requires few { counted_of journal.old.histories < 2 ^ 32 }
+    requires fits { journal.old.ticks + to_go journal.old < 2 ^ 64 }
+    ensures done { IsRaising journal.old journal.new result }
+    ensures none { (m : ℕ) → going_of journal.new m ≡ 0 }
+{
+    let mut events = 0;
+    'nodes: for n in going.first()..going.past() {
+        let node = NodeId::new(n);
+        if going.count(node) > 0 {
+            'marks: while journal.mark_of(node) < journal.steps_of(node) {
+                events = let_stay(journal, node, events);
+            }
+        }
+    }
+    events
+}
+
+/// Raises a node's mark by one entry, and counts the event of that entry where it is counted by it.
+fn let_stay(journal: &mut Journal, node: NodeId, events: u32) -> u32
+    requires going { mark_of journal.old node.number < length (history journal.old.histories node.number) }
+    requires few { events + one_counted (counted_at journal.old.histories node.number (mark_of journal.old node.number)) < 2 ^ 32 }
+    requires fits { journal.old.ticks + 1 < 2 ^ 64 }
+    ensures counted { result
+        ≡ events + one_counted (counted_at journal.old.histories node.number (mark_of journal.old node.number)) }
+    ensures raised { journal.new ≡ raised journal.old node.number }
+{
+    if journal.raise(node) {
+        events + 1
+    } else {
+        events
+    }
+}
