@@ -1,8 +1,8 @@
+pub mod Hearing
 pub mod Layout
 pub mod Loading
-pub mod Numbers
 pub mod Places
 pub mod Programs
-pub mod Saying
+pub mod Telling
 pub mod Vocabulary
 pub mod Words
