@@ -10,3 +10,5 @@ pub mod Steady
 pub mod Empty
 pub mod Scanning
 pub mod Numbers
+pub mod Hearing
+pub mod Bodies

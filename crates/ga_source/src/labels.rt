@@ -1,5 +1,7 @@
 //! The labels of a node while its words are read.
 
+ghost use Rattle.std.specs.Prelude.{◌≡◌, []};
+
 use super::fault::{Cause, Fault, at};
 use std::alloc::{AllocError, Global};
 use std::collections::HashMap;
@@ -23,7 +25,9 @@ pub(crate) struct Labels<'s> {
 }
 
 impl<'s> Labels<'s> {
-    pub(crate) fn new(alloc: Global) -> Self {
+    pub(crate) fn new(alloc: Global) -> Self
+        ensures { result.list.items ≡ [] }
+    {
         Labels {
             list: Vec::new(alloc),
             names: HashMap::new(alloc),

@@ -1,11 +1,14 @@
 //! A text as a chip.
 
-ghost use Rattle.std.specs.Prelude.{◌≡◌, ◌≤◌, ◌<◌, true, length, codes, position, IfOk, OnOk, IfSome};
+ghost use Rattle.std.specs.Prelude.{ℕ, ◌≡◌, ◌≤◌, ◌<◌, true, List, [], length, take, drop, codes, position, Some, IfOk, OnOk, IfSome};
 ghost use Rattle.ga_grid.specs.Chip.{records_of};
 ghost use Rattle.ga_grid.specs.Steady.{AreSteady};
 ghost use Rattle.ga_source.specs.Programs.{given_of, with_registers, has_cells as has_cells_of, is_item as is_item_of, start_of as start, is_named, at_load, HasProgram, IsAssembled};
 ghost use Rattle.ga_source.specs.Cells.{IsEmptyElsewhere};
-ghost use Rattle.ga_source.specs.kept.Programs.{AreLoaded};
+ghost use Rattle.ga_grid.specs.Grid.{number_in};
+ghost use Rattle.ga_source.specs.Plain.{Plain, is_node as is_node_word, body_in, bodies_in, yxx_in, plain_of, asked_by, AreRead};
+ghost use Rattle.ga_source.specs.kept.Hearing.{texts_of};
+ghost use Rattle.ga_source.specs.kept.Programs.{AreLoaded, AreOfFirst};
 
 use super::draft::read_node;
 use super::fault::{Cause, Fault, at};
@@ -20,7 +23,9 @@ use ga_node::{Node, Place};
 use std::alloc::Global;
 
 /// The node of a name of three digits.
-fn node_named(text: &[u8]) -> Option<NodeId> {
+fn node_named(text: &[u8]) -> Option<NodeId>
+    ensures { number_in result ≡ yxx_in text.now }
+{
     match text {
         [row, tens, ones] => {
             let row = row.checked_sub(b'0')?;
@@ -35,12 +40,21 @@ fn node_named(text: &[u8]) -> Option<NodeId> {
     }
 }
 
+/// Whether the program of a node begins here.
+fn is_node(text: &[u8]) -> bool
+    ensures { result ≡ is_node_word text.now }
+{
+    text == b"node".as_slice()
+}
+
 /// How many words stand before the next word `node`.
 fn body_length(tokens: &[Token]) -> usize
-    ensures { result ≤ length tokens.now }
+    ensures in_range { result ≤ length tokens.now }
+    ensures front { texts_of (take result tokens.now) ≡ body_in (texts_of tokens.now) }
+    ensures behind { bodies_in (texts_of (drop result tokens.now)) ≡ bodies_in (texts_of tokens.now) }
 {
     for (i, token) in tokens.iter().enumerate() {
-        if token.text == b"node".as_slice() {
+        if is_node(token.text) {
             return i;
         }
     }
@@ -157,6 +171,8 @@ fn assemble_node<'s>(
 ) -> Result<Program<'s>, Fault<'s>>
     ensures node { IfOk result (λ program. program.node ≡ id) }
     ensures loaded { IfOk result (λ program. HasProgram node.old node.new program) }
+    ensures asks { IfOk result (λ program. (plain : Plain) → plain_of (texts_of tokens.now) ≡ Some plain → asked_by program.asked.items program.registers ≡ plain) }
+    ensures names { IfOk result (λ program. (plain : Plain) → plain_of (texts_of tokens.now) ≡ Some plain → program.names.items ≡ []) }
 {
     let found = read_node(alloc, line, tokens)?;
     let packed = pack(alloc, found.asked.as_slice(), found.labels.list.len())?;
@@ -191,9 +207,11 @@ fn assemble_first<'s>(
     requires loaded { AreLoaded chip.old begun.old programs.old.items }
     ensures count { IfOk result (λ count. (0 < count) × (count ≤ length words.now)) }
     ensures loaded { OnOk result (AreLoaded chip.new begun.new programs.new.items) }
+    ensures read { (all : List (List (List ℕ))) → AreOfFirst all programs.old.items (bodies_in (texts_of words.now)) →
+        IfOk result (λ count. AreOfFirst all programs.new.items (bodies_in (texts_of (drop count words.now)))) }
 {
     let first = words[0];
-    if first.word()? != b"node".as_slice() {
+    if !is_node(first.word()?) {
         return Err(at(first.line, Cause::NoNode));
     }
     if words.len() < 2 {
@@ -222,6 +240,9 @@ fn assemble_first<'s>(
 pub fn assemble(alloc: Global, source: &[u8]) -> Result<Assembled<'_>, Fault<'_>>
     // Each node that is named has its program and its registers, and all else of the chip is as at load.
     ensures programs { IfOk result (λ all. IsAssembled all.chip all.programs.items) }
+
+    // Each program is that of the words behind a `node`, in order, and asks for what these ask for where they are plain.
+    ensures read { IfOk result (λ all. AreRead source.now all.programs.items) }
 
     // So each cell that nobody names is 0.
     ensures empty { IfOk result (λ all. IsEmptyElsewhere all.chip all.programs.items) }

@@ -31,6 +31,7 @@ pub(crate) enum Kind {
 impl<'s> Token<'s> {
     /// The word, or the line's fault.
     pub(crate) fn word(self) -> Result<&'s [u8], Fault<'s>>
+        ensures told { IfOk result (λ text. text.now ≡ self.entry.text.now) }
         ensures word { self.entry.kind ≡ Word → IsOkAnd result (λ text. text.now ≡ self.entry.text.now) }
         ensures long { self.entry.kind ≡ LongLine → IsErrAnd result (λ fault. (fault.line ≡ self.entry.line) × (fault.cause ≡ TooLong)) }
         ensures open { self.entry.kind ≡ OpenComment → IsErrAnd result (λ fault. (fault.line ≡ self.entry.line) × (fault.cause ≡ LeftOpen)) }

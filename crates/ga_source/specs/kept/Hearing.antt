@@ -13,13 +13,16 @@ use Rattle.ga_source.specs.declared.draft.Expect.TheVariants.{Word, Address, Nam
 use Rattle.ga_source.specs.declared.draft.Draft.{Draft}
 use Rattle.ga_source.specs.declared.scan.Token.{Token}
 use Rattle.ga_source.specs.Numbers.{◌>>=◌, by_name, number_in}
-use Rattle.ga_source.specs.Plain.{Plain, with_request, by_number, asked_by}
+use Rattle.ga_source.specs.Plain.{Plain, no_request, with_request, by_number, asked_by}
 use Rattle.ga_source.specs.kept.Vocabulary.{directives}
 
 -- what the next word is, and what the words so far ask for
 pub record Heard : Type 0 where
   pub expect : Expect
   pub plain : Plain
+
+abbrev pub nothing_heard : Heard
+nothing_heard = record { expect = Word; plain = no_request }
 
 -- one request more
 abbrev pub asking : Heard → Request → Heard
@@ -79,3 +82,9 @@ pub record HasHeard (draft : Draft) (heard : Heard) : Type 0 where
   pub plain : asked_by draft.asked.items draft.registers ≡ heard.plain
   pub names : draft.labels.list.items ≡ []
   pub carries : draft.carries ≡ false
+
+-- with the words that are left the draft will have heard all
+pub record IsHearing (draft : Draft) (left : List (List ℕ)) (all : Plain) : Type 0 where
+  pub heard : Heard
+  pub has : HasHeard draft heard
+  pub goes_on : hear_all heard left ≡ Some all

@@ -1,6 +1,8 @@
-use Rattle.std.proofs.Common.{rules, arith, ◌≡◌, ◌<◌, ◌++◌, ◌∷◌, [], false, length, slice_index_or, ap, subst}
+use Rattle.std.proofs.Common.{rules, arith, ◌≡◌, ◌∙◌, sym, Some, ◌<◌, ◌++◌, ◌∷◌, [], false, length, slice_index_or, ap, subst}
+use Rattle.ga_grid.specs.declared.node_id.NodeId.{NodeId}
 use Rattle.ga_source.specs.Programs.{HasProgram}
 use Rattle.ga_source.proofs.Loaded.{one_more_at}
+use Rattle.ga_source.proofs.Bodies.{one_more_read}
 use Rattle.ga_source.proofs.program.assemble_first.Goals as goal
 
 pub returns-clause-loaded : goal.returns-clause-loaded
@@ -15,3 +17,11 @@ returns-clause-loaded c =
     one_more_at c.args.chip.now c.args.begun.now c.args.programs.now.items c.push.new.self.items n c.index-2.result c.assemble_node.new.node program in_chip in_begun c.index-2.ensures.value pushed fresh c.requires.loaded
     (ap (λ id. id.number) c.in_ok-program.ensures.node)
     (subst (λ before. HasProgram before c.assemble_node.new.node program) c.node_mut.ensures.value c.in_ok-program.ensures.loaded)
+
+pub returns-clause-read : goal.returns-clause-read
+returns-clause-read c = λ all first.
+    one_more_read c.args.words.now c.split_at.result.1.now c.split_at-2.result.0.now _ c.in_ok-word.field-0.now c.in_ok-word-2.field-0.now c.body_length-count.result
+    c.in_ok-program.program c.args.programs.now.items c.push.new.self.items all
+    (omega arith) c.in_ok-word.ensures.told (sym c.is_node.ensures ∙ c.if-not-is_node.false) c.in_ok-word-2.ensures.told
+    (sym c.in-Some.ensures ∙ ap (λ (id : NodeId). Some id.number) (sym c.in_ok-program.ensures.node)) (search rules) c.split_at.ensures.back c.split_at-2.ensures.front
+    c.body_length-count.ensures.front c.body_length-count.ensures.behind c.in_ok-program.ensures.asks c.in_ok-program.ensures.names first
