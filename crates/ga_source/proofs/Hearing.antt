@@ -28,7 +28,7 @@ abbrev is_some : {X : Type 0} → Option X → Type 0
 is_some (Some _) = Unit {0}
 is_some None = ⊥
 
-no_some : {X : Type 0} {x : X} → None ≡ Some x → ⊥
+pub no_some : {X : Type 0} {x : X} → None ≡ Some x → ⊥
 no_some e = subst is_some (sym e) tt
 
 abbrev option_or_default : {X : Type 0} → X → Option X → X

@@ -12,3 +12,5 @@ pub mod Scanning
 pub mod Numbers
 pub mod Hearing
 pub mod Bodies
+pub mod Making
+pub mod PlainNodes

@@ -7,6 +7,7 @@ ghost use Rattle.ga_source.specs.Programs.{given_of, with_registers, has_cells a
 ghost use Rattle.ga_source.specs.Cells.{IsEmptyElsewhere};
 ghost use Rattle.ga_grid.specs.Grid.{number_in};
 ghost use Rattle.ga_source.specs.Plain.{Plain, is_node as is_node_word, body_in, bodies_in, yxx_in, plain_of, asked_by, AreRead};
+ghost use Rattle.ga_source.specs.Made.{IsMade};
 ghost use Rattle.ga_source.specs.kept.Hearing.{texts_of};
 ghost use Rattle.ga_source.specs.kept.Programs.{AreLoaded, AreOfFirst};
 
@@ -243,6 +244,9 @@ pub fn assemble(alloc: Global, source: &[u8]) -> Result<Assembled<'_>, Fault<'_>
 
     // Each program is that of the words behind a `node`, in order, and asks for what these ask for where they are plain.
     ensures read { IfOk result (λ all. AreRead source.now all.programs.items) }
+
+    // So the words behind a `node` make its node, where they are plain, and a node that isn't named is as at load.
+    ensures made { IfOk result (λ all. IsMade source.now all.chip) }
 
     // So each cell that nobody names is 0.
     ensures empty { IfOk result (λ all. IsEmptyElsewhere all.chip all.programs.items) }
