@@ -10,6 +10,7 @@ pub mod Steady
 pub mod Empty
 pub mod Scanning
 pub mod Numbers
+pub mod Ranges
 pub mod Hearing
 pub mod Bodies
 pub mod Making

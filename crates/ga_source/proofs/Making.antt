@@ -20,7 +20,7 @@ use Rattle.ga_source.proofs.Written.{in_ram, in_rom}
 -- ---- plain requests
 
 abbrev pub IsPlainRequest : Request → Type 0
-IsPlainRequest (Put (Cell (Number n))) = Unit {0}
+IsPlainRequest (Put (Cell (Number n))) = n < 262144
 IsPlainRequest (Go address) = Unit {0}
 IsPlainRequest _ = ⊥
 

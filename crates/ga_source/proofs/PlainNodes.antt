@@ -1,8 +1,8 @@
 -- The nodes that plain words make, from the programs of a source.
-use Rattle.std.specs.Prelude.{◌||◌, codes, bytes_eq, if◌then◌else◌}
+use Rattle.std.specs.Prelude.{is_none, ◌||◌, codes, bytes_eq, if◌then◌else◌}
 use Rattle.std.specs.List.{All, list_any}
-use Rattle.std.proofs.Common.{◌≡◌, ◌≢◌, ◌∙◌, ℕ, inl, inr, refl, sym, ap, subst, Bool, true, false, List, [], ◌∷◌, Option, Some, None, length, drop, slice_index_or}
-use Rattle.std.proofs.lemmas.Bool.{cases_Bool}
+use Rattle.std.proofs.Common.{◌≡◌, ◌≢◌, ◌∙◌, ℕ, ◌<◌, inl, inr, refl, sym, ap, subst, Bool, true, false, ltb, List, [], ◌∷◌, Option, Some, None, length, drop, slice_index_or}
+use Rattle.std.proofs.lemmas.Bool.{cases_Bool, and_parts, ltb-true}
 use Rattle.std.proofs.lemmas.List.{length-replicate}
 use Rattle.std.proofs.lemmas.List.Elements.{All-nil, All-cons, All-head, All-tail}
 use Rattle.ga_ports.specs.declared.address.Target.{Target}
@@ -26,43 +26,58 @@ use Rattle.ga_source.specs.Numbers.{◌>>=◌, number_in}
 use Rattle.ga_source.specs.Programs.{given_of, value_or, is_item, has_cells, or_start, HasProgram, IsLoaded, IsUnnamed, IsAssembled}
 use Rattle.ga_source.specs.Cells.{is_asked}
 use Rattle.ga_source.specs.Reading.{begin_at, resolved}
-use Rattle.ga_source.specs.Plain.{Plain, no_request, by_number, with_words, plain_from, plain_of, value_in, asked_by, words_in, bodies_in, yxx_in, IsOf, AreOf, AreRead}
+use Rattle.ga_source.specs.Plain.{Plain, no_request, by_number, only_if, is_cell, may_be, with_words, plain_from, plain_of, value_in, asked_by, words_in, bodies_in, yxx_in, IsOf, AreOf, AreRead}
 use Rattle.ga_source.specs.Made.{with_cell, with_asked, address_behind, written, number_or, plain_node, IsNode, HasPlain, IsMade}
 use Rattle.ga_source.specs.kept.Places.{KeepsRest}
 use Rattle.ga_source.proofs.Empty.{of_each_at_load}
-use Rattle.ga_source.proofs.Hearing.{some_same, no_some}
+use Rattle.ga_source.proofs.Hearing.{some_same, no_some, allowed}
+use Rattle.ga_source.proofs.Ranges.{number_small}
 use Rattle.ga_source.proofs.Making.{Stays, ArePlain, one_plain_more, requests_of, requests_made}
 
 -- ---- plain words ask for plain requests and numbers
 
--- no label's address
-abbrev IsNumber : Option Value → Type 0
-IsNumber (Some (Label k)) = ⊥
-IsNumber _ = Unit {0}
+-- a number below a bound, where there is a value
+abbrev pub IsNumber : ℕ → Option Value → Type 0
+IsNumber bound None = Unit {0}
+IsNumber bound (Some (Number n)) = n < bound
+IsNumber bound (Some (Label k)) = ⊥
 
-record IsPlain (plain : Plain) : Type 0 where
+pub record IsPlain (plain : Plain) : Type 0 where
   pub requests : ArePlain plain.requests
-  pub p : IsNumber plain.p
-  pub a : IsNumber plain.a
-  pub b : IsNumber plain.b
+  pub p : IsNumber 0x400 plain.p
+  pub a : IsNumber 0x40000 plain.a
+  pub b : IsNumber 0x200 plain.b
 
 -- what a number asks for is plain where it is for each number
-number_plain : (number : NumberIn) (asks : ℕ → Plain) (more : Plain) → ((n : ℕ) → IsPlain (asks n)) → by_number number asks ≡ Some more → IsPlain more
-number_plain (Of n) asks more each is = subst IsPlain (some_same (asks n) more is) (each n)
+number_plain : (number : NumberIn) (asks : ℕ → Option Plain) (more : Plain) → ((n : ℕ) → number ≡ Of n → asks n ≡ Some more → IsPlain more) → by_number number asks ≡ Some more → IsPlain more
+number_plain (Of n) asks more each is = each n refl is
 number_plain OutOfRange asks more each is = absurd (no_some is)
 number_plain Nothing asks more each is = absurd (no_some is)
 
+-- what a test allows
+only_plain : (b : Bool) (plain more : Plain) → (b ≡ true → IsPlain plain) → only_if b plain ≡ Some more → IsPlain more
+only_plain b plain more each is = let found = allowed b plain more is in subst IsPlain found.1 (each found.0)
+
+-- a register's test
+below : (given : Option Value) (n bound : ℕ) → may_be given n bound ≡ true → n < bound
+below given n bound may = ltb-true n bound ((and_parts (is_none given) (ltb n bound) may).1)
+
 words_plain : (plain more : Plain) (first second : List ℕ) → IsPlain plain → with_words plain first second ≡ Some more → IsPlain more
 words_plain plain more first second is found = elim (cases_Bool (bytes_eq second (codes ","))) [
-  | inl comma ↦ number_plain (number_in first) _ more (λ n. record { requests = one_plain_more plain.requests (Put (Cell (Number n))) is.requests tt; p = is.p; a = is.a; b = is.b }) (rw comma at found)
+  | inl comma ↦ number_plain (number_in first) _ more (λ n number e. subst IsPlain (some_same _ more e)
+      (record { requests = one_plain_more plain.requests (Put (Cell (Number n))) is.requests (number_small first n number); p = is.p; a = is.a; b = is.b })) (rw comma at found)
   | inr other ↦ elim (cases_Bool (bytes_eq first (codes "org"))) [
-    | inl org ↦ number_plain (number_in second) _ more (λ n. record { requests = one_plain_more plain.requests (Go n) is.requests tt; p = is.p; a = is.a; b = is.b }) (rw (other, org) at found)
+    | inl org ↦ number_plain (number_in second) _ more (λ n number. only_plain (is_cell n) _ more (λ may.
+        record { requests = one_plain_more plain.requests (Go n) is.requests tt; p = is.p; a = is.a; b = is.b })) (rw (other, org) at found)
     | inr no_org ↦ elim (cases_Bool (bytes_eq first (codes "/p"))) [
-      | inl p ↦ number_plain (number_in second) _ more (λ n. record { requests = is.requests; p = tt; a = is.a; b = is.b }) (rw (other, no_org, p) at found)
+      | inl p ↦ number_plain (number_in second) _ more (λ n number. only_plain (may_be plain.p n 0x400) _ more (λ may.
+          record { requests = is.requests; p = below plain.p n 0x400 may; a = is.a; b = is.b })) (rw (other, no_org, p) at found)
       | inr no_p ↦ elim (cases_Bool (bytes_eq first (codes "/a"))) [
-        | inl a ↦ number_plain (number_in second) _ more (λ n. record { requests = is.requests; p = is.p; a = tt; b = is.b }) (rw (other, no_org, no_p, a) at found)
+        | inl a ↦ number_plain (number_in second) _ more (λ n number. only_plain (may_be plain.a n 0x40000) _ more (λ may.
+            record { requests = is.requests; p = is.p; a = below plain.a n 0x40000 may; b = is.b })) (rw (other, no_org, no_p, a) at found)
         | inr no_a ↦ elim (cases_Bool (bytes_eq first (codes "/b"))) [
-          | inl b ↦ number_plain (number_in second) _ more (λ n. record { requests = is.requests; p = is.p; a = is.a; b = tt }) (rw (other, no_org, no_p, no_a, b) at found)
+          | inl b ↦ number_plain (number_in second) _ more (λ n number. only_plain (may_be plain.b n 0x200) _ more (λ may.
+              record { requests = is.requests; p = is.p; a = is.a; b = below plain.b n 0x200 may })) (rw (other, no_org, no_p, no_a, b) at found)
           | inr no_b ↦ absurd (no_some (rw (other, no_org, no_p, no_a, no_b) at found))
         ]
       ]
@@ -82,7 +97,7 @@ from_plain (word ∷ []) plain all is found = absurd (no_some found)
 from_plain (first ∷ second ∷ words) plain all is found =
     behind_plain words all (with_words plain first second) (λ m e. words_plain plain m first second is e) (λ m p e. from_plain words m all p e) found
 
-all_plain : (words : List (List ℕ)) (plain : Plain) → plain_of words ≡ Some plain → IsPlain plain
+pub all_plain : (words : List (List ℕ)) (plain : Plain) → plain_of words ≡ Some plain → IsPlain plain
 all_plain words plain is = from_plain words no_request plain (record { requests = tt; p = tt; a = tt; b = tt }) is
 
 -- ---- nothing but the memories is written
@@ -114,25 +129,25 @@ has_same : (asked : List Asked) → has_cells asked ≡ list_any is_item (reques
 has_same [] = refl
 has_same (one ∷ rest) = ap (λ (b : Bool). is_item one.request || b) (has_same rest)
 
-value_same : (labels : List (Option ℕ)) (value : Value) (before : ℕ) → IsNumber (Some value) → value_or (resolved labels value) before ≡ number_or (Some value) before
-value_same labels (Number n) before is = refl
-value_same labels (Label k) before is = absurd is
+value_same : (labels : List (Option ℕ)) (value : Value) (bound before : ℕ) → IsNumber bound (Some value) → value_or (resolved labels value) before ≡ number_or (Some value) before
+value_same labels (Number n) bound before is = refl
+value_same labels (Label k) bound before is = absurd is
 
-register_same : (labels : List (Option ℕ)) (given : Option Given) (before : ℕ) → IsNumber (value_in given) → value_or (given_of labels given) before ≡ number_or (value_in given) before
-register_same labels None before is = refl
-register_same labels (Some given) before is = value_same labels given.value before is
+register_same : (labels : List (Option ℕ)) (given : Option Given) (bound before : ℕ) → IsNumber bound (value_in given) → value_or (given_of labels given) before ≡ number_or (value_in given) before
+register_same labels None bound before is = refl
+register_same labels (Some given) bound before is = value_same labels given.value bound before is
 
 -- what is given goes before what was there
-above_all : (value : Value) (before other : ℕ) → IsNumber (Some value) → number_or (Some value) before ≡ number_or (Some value) other
-above_all (Number n) before other is = refl
-above_all (Label k) before other is = absurd is
+above_all : (value : Value) (bound before other : ℕ) → IsNumber bound (Some value) → number_or (Some value) before ≡ number_or (Some value) other
+above_all (Number n) bound before other is = refl
+above_all (Label k) bound before other is = absurd is
 
 -- P where no label has a name
-p_same : (labels : List (Option ℕ)) (given : Option Given) (has : Bool) (before : ℕ) → IsNumber (value_in given) → value_or (given_of labels (or_start given [] has)) before ≡ number_or (value_in given) (if has then 0 else before)
+p_same : (labels : List (Option ℕ)) (given : Option Given) (has : Bool) (before : ℕ) → IsNumber 0x400 (value_in given) → value_or (given_of labels (or_start given [] has)) before ≡ number_or (value_in given) (if has then 0 else before)
 p_same labels None true before is = refl
 p_same labels None false before is = refl
-p_same labels (Some given) true before is = value_same labels given.value before is ∙ above_all given.value before 0 is
-p_same labels (Some given) false before is = value_same labels given.value before is
+p_same labels (Some given) true before is = value_same labels given.value 0x400 before is ∙ above_all given.value 0x400 before 0 is
+p_same labels (Some given) false before is = value_same labels given.value 0x400 before is
 
 -- ---- a node with its program
 
@@ -159,8 +174,8 @@ rest_made before after program none is has =
     ∙ p_same labels given.p (list_any is_item requests) before.p is.p) in
     has.rest
     ∙ (ap (λ (n : ℕ). record before { ram = after.ram; rom = after.rom; p = n; a = value_or (given_of labels given.a) before.a; b = value_or (given_of labels given.b) before.b }) p_is
-    ∙ (ap (λ (n : ℕ). record before { ram = after.ram; rom = after.rom; p = p; a = n; b = value_or (given_of labels given.b) before.b }) (register_same labels given.a before.a is.a)
-    ∙ (ap (λ (n : ℕ). record before { ram = after.ram; rom = after.rom; p = p; a = a; b = n }) (register_same labels given.b before.b is.b)
+    ∙ (ap (λ (n : ℕ). record before { ram = after.ram; rom = after.rom; p = p; a = n; b = value_or (given_of labels given.b) before.b }) (register_same labels given.a 0x40000 before.a is.a)
+    ∙ (ap (λ (n : ℕ). record before { ram = after.ram; rom = after.rom; p = p; a = a; b = n }) (register_same labels given.b 0x200 before.b is.b)
     ∙ sym (ap (λ (node : NodeState). record node { ram = after.ram; rom = after.rom; p = p; a = a; b = b }) (written_keeps before 0 requests)))))
 
 node_made : (before after : NodeState) (program : Program) → length before.ram ≡ 64 → length before.rom ≡ 64 → program.names.items ≡ [] → IsPlain (asked_by program.asked.items program.registers) → HasProgram before after program → IsNode (plain_node before (asked_by program.asked.items program.registers)) after

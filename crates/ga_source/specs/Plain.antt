@@ -1,6 +1,6 @@
 -- What plain words ask for: cells of data, addresses and registers, by numbers alone (docs/REFERENCE.md, "Source"; this project's
 -- own). A source without labels, opcodes and control words, as a chip's image written out, is of such words alone.
-use Rattle.std.specs.Prelude.{ℕ, ◌≡◌, ◌+◌, ◌*◌, ◌-◌, nat_le, ◌&&◌, if◌then◌else◌, List, [], ◌∷◌, ◌++◌, map, drop, slice_index_or, codes, bytes_eq, Bool, Option, Some, None, option_map}
+use Rattle.std.specs.Prelude.{ℕ, ◌≡◌, ◌+◌, ◌*◌, ◌-◌, nat_le, nat_lt, ◌&&◌, ◌||◌, is_none, if◌then◌else◌, List, [], ◌∷◌, ◌++◌, map, drop, slice_index_or, codes, bytes_eq, Bool, true, false, Option, Some, None, option_map}
 use Rattle.ga_grid.specs.Grid.{node_of}
 use Rattle.ga_source.specs.declared.number.Number.{Number as NumberIn}
 use Rattle.ga_source.specs.declared.number.Number.TheVariants.{Of, OutOfRange, Nothing}
@@ -64,20 +64,33 @@ no_request = record { requests = []; p = None; a = None; b = None }
 abbrev pub with_request : Plain → Request → Plain
 with_request plain request = record plain { requests = plain.requests ++ request ∷ [] }
 
--- what a number asks for; a word that is none in range isn't plain here
-abbrev pub by_number : {X : Type 0} → NumberIn → (ℕ → X) → Option X
-by_number (Of n) asks = Some (asks n)
+-- what a number asks for, where the word is one that is in range
+abbrev pub by_number : {X : Type 0} → NumberIn → (ℕ → Option X) → Option X
+by_number (Of n) asks = asks n
 by_number OutOfRange asks = None
 by_number Nothing asks = None
 
--- two words more: `N ,`, `org N`, `/p N`, `/a N` or `/b N`
+-- the value, where the test holds
+abbrev pub only_if : {X : Type 0} → Bool → X → Option X
+only_if true x = Some x
+only_if false x = None
+
+-- an address of RAM or of ROM
+abbrev pub is_cell : ℕ → Bool
+is_cell address = nat_lt address 0x40 || nat_le 0x80 address && nat_lt address 0xc0
+
+-- a register that isn't given yet gets a number below its bound
+abbrev pub may_be : Option Value → ℕ → ℕ → Bool
+may_be given n bound = is_none given && nat_lt n bound
+
+-- two words more: `N ,`, `org N`, `/p N`, `/a N` or `/b N`, with N in range, and each register at most once
 abbrev pub with_words : Plain → List ℕ → List ℕ → Option Plain
 with_words plain first second =
-    if bytes_eq second (codes ",") then by_number (number_in first) (λ n. with_request plain (Put (Cell (Number n))))
-    else if bytes_eq first (codes "org") then by_number (number_in second) (λ n. with_request plain (Go n))
-    else if bytes_eq first (codes "/p") then by_number (number_in second) (λ n. record plain { p = Some (Number n) })
-    else if bytes_eq first (codes "/a") then by_number (number_in second) (λ n. record plain { a = Some (Number n) })
-    else if bytes_eq first (codes "/b") then by_number (number_in second) (λ n. record plain { b = Some (Number n) })
+    if bytes_eq second (codes ",") then by_number (number_in first) (λ n. Some (with_request plain (Put (Cell (Number n)))))
+    else if bytes_eq first (codes "org") then by_number (number_in second) (λ n. only_if (is_cell n) (with_request plain (Go n)))
+    else if bytes_eq first (codes "/p") then by_number (number_in second) (λ n. only_if (may_be plain.p n 0x400) (record plain { p = Some (Number n) }))
+    else if bytes_eq first (codes "/a") then by_number (number_in second) (λ n. only_if (may_be plain.a n 0x40000) (record plain { a = Some (Number n) }))
+    else if bytes_eq first (codes "/b") then by_number (number_in second) (λ n. only_if (may_be plain.b n 0x200) (record plain { b = Some (Number n) }))
     else None
 
 -- what words ask for behind others, where each is plain

@@ -1,6 +1,6 @@
 //! The labels of a node while its words are read.
 
-ghost use Rattle.std.specs.Prelude.{◌≡◌, []};
+ghost use Rattle.std.specs.Prelude.{◌≡◌, ◌≢◌, [], OnErr};
 
 use super::fault::{Cause, Fault, at};
 use std::alloc::{AllocError, Global};
@@ -85,7 +85,9 @@ impl<'s> Labels<'s> {
     }
 
     /// The first name that no place has.
-    pub(crate) fn check(&self) -> Result<(), Fault<'s>> {
+    pub(crate) fn check(&self) -> Result<(), Fault<'s>>
+        ensures { OnErr result (self.now.list.items ≢ []) }
+    {
         for label in &self.list {
             if !label.name.is_empty() && !label.is_marked {
                 return Err(at(label.line, Cause::Unknown(label.name)));

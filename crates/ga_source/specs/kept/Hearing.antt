@@ -1,5 +1,5 @@
 -- The words of a node as they are heard one by one, with the next (docs/REFERENCE.md, "Source"; this project's own).
-use Rattle.std.specs.Prelude.{ℕ, ◌≡◌, if◌then◌else◌, false, List, [], ◌∷◌, slice_index_or, codes, bytes_eq, Option, Some, None, map}
+use Rattle.std.specs.Prelude.{ℕ, ◌≡◌, if◌then◌else◌, false, List, [], ◌∷◌, slice_index_or, codes, bytes_eq, Option, Some, None, map, Bool}
 use Rattle.ga_source.specs.declared.item.Value.TheVariants.{Number}
 use Rattle.ga_source.specs.declared.item.Item.TheVariants.{Cell}
 use Rattle.ga_source.specs.declared.item.Request.{Request}
@@ -13,7 +13,7 @@ use Rattle.ga_source.specs.declared.draft.Expect.TheVariants.{Word, Address, Nam
 use Rattle.ga_source.specs.declared.draft.Draft.{Draft}
 use Rattle.ga_source.specs.declared.scan.Token.{Token}
 use Rattle.ga_source.specs.Numbers.{◌>>=◌, by_name, number_in}
-use Rattle.ga_source.specs.Plain.{Plain, no_request, with_request, by_number, asked_by}
+use Rattle.ga_source.specs.Plain.{Plain, no_request, with_request, by_number, only_if, is_cell, may_be, asked_by}
 use Rattle.ga_source.specs.kept.Vocabulary.{directives}
 
 -- what the next word is, and what the words so far ask for
@@ -34,6 +34,12 @@ with_register plain P n = record plain { p = Some (Number n) }
 with_register plain A n = record plain { a = Some (Number n) }
 with_register plain B n = record plain { b = Some (Number n) }
 
+-- the register may be given so
+abbrev pub may_give : Plain → RegisterName → ℕ → Bool
+may_give plain P n = may_be plain.p n 0x400
+may_give plain A n = may_be plain.a n 0x40000
+may_give plain B n = may_be plain.b n 0x200
+
 -- what is next behind a directive that plain words have
 abbrev pub next_of : Directive → Option Expect
 next_of Label = None
@@ -45,16 +51,16 @@ next_of (Carry _) = None
 -- a word where one is expected
 abbrev pub hear_word : Plain → List ℕ → List ℕ → Option Heard
 hear_word plain word next =
-    if bytes_eq next (codes ",") then by_number (number_in word) (λ n. record { expect = Nothing; plain = with_request plain (Put (Cell (Number n))) })
+    if bytes_eq next (codes ",") then by_number (number_in word) (λ n. Some (record { expect = Nothing; plain = with_request plain (Put (Cell (Number n))) }))
     else (by_name directives word >>= next_of) >>= (λ e. Some (record { expect = e; plain = plain }))
 
 -- one word
 abbrev pub hear : Heard → List ℕ → List ℕ → Option Heard
 hear heard word next = elim heard.expect as (λ _. Option Heard) [
   | Word ↦ hear_word heard.plain word next
-  | Address ↦ by_number (number_in word) (λ n. record { expect = Word; plain = with_request heard.plain (Go n) })
+  | Address ↦ by_number (number_in word) (λ n. only_if (is_cell n) (record { expect = Word; plain = with_request heard.plain (Go n) }))
   | Name ↦ None
-  | Register register ↦ by_number (number_in word) (λ n. record { expect = Word; plain = with_register heard.plain register n })
+  | Register register ↦ by_number (number_in word) (λ n. only_if (may_give heard.plain register n) (record { expect = Word; plain = with_register heard.plain register n }))
   | Nothing ↦ Some (record { expect = Word; plain = heard.plain })
 ]
 
@@ -81,6 +87,7 @@ pub record HasHeard (draft : Draft) (heard : Heard) : Type 0 where
   pub expect : draft.expect ≡ heard.expect
   pub plain : asked_by draft.asked.items draft.registers ≡ heard.plain
   pub names : draft.labels.list.items ≡ []
+  pub opened : draft.open.items ≡ []
   pub carries : draft.carries ≡ false
 
 -- with the words that are left the draft will have heard all

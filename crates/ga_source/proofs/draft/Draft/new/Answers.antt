@@ -7,5 +7,6 @@ returns c = record {
   expect = refl;
   plain = ap (λ items. asked_by items (record { p = None; a = None; b = None })) c.new.ensures.items;
   names = c.new-2.ensures;
+  opened = c.new-3.ensures.items;
   carries = refl;
 }

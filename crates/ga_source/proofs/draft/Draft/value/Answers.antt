@@ -16,3 +16,8 @@ pub returns-in-39-clause-stays : goal.returns-in-39-clause-stays
 returns-in-39-clause-stays c = λ n is.
     let first : get_or c.args.text.now 0 0 ≡ 39 = search rules in
     absurd (no_label c.args.text.now n first is)
+
+pub returns-then-is_empty-clause-refused : goal.returns-then-is_empty-clause-refused
+returns-then-is_empty-clause-refused c = λ n is.
+    let first : get_or c.args.text.now 0 0 ≡ 39 = search rules in
+    absurd (no_label c.args.text.now n first is)
