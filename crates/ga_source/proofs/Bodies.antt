@@ -85,7 +85,7 @@ abbrev has : Option ℕ → Type 0
 has (Some n) = Unit {0}
 has None = ⊥
 
-no_number : {n : ℕ} → None ≡ Some n → ⊥
+pub no_number : {n : ℕ} → None ≡ Some n → ⊥
 no_number e = subst has (sym e) tt
 
 drop_twice : {X : Type 0} (list : List X) (count : ℕ) → drop count (drop 2 list) ≡ drop (count + 2) list

@@ -13,5 +13,7 @@ pub mod Numbers
 pub mod Ranges
 pub mod Hearing
 pub mod Bodies
+pub mod CellGroups
+pub mod Refusing
 pub mod Making
 pub mod PlainNodes

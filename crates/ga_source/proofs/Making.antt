@@ -15,20 +15,13 @@ use Rattle.ga_source.specs.declared.item.Asked.{Asked}
 use Rattle.ga_source.specs.Reading.{begin_at, is_same, word_of, is_met, after_request, follows}
 use Rattle.ga_source.specs.Cells.{is_at, asks_for, is_asked}
 use Rattle.ga_source.specs.Made.{with_cell, with_asked, address_behind, written}
+use Rattle.ga_source.specs.kept.Packing.{requests_of, IsPlainRequest, ArePlain}
 use Rattle.ga_source.proofs.Written.{in_ram, in_rom}
 
 -- ---- plain requests
 
-abbrev pub IsPlainRequest : Request → Type 0
-IsPlainRequest (Put (Cell (Number n))) = n < 262144
-IsPlainRequest (Go address) = Unit {0}
-IsPlainRequest _ = ⊥
-
-abbrev pub ArePlain : List Request → Type 0
-ArePlain [] = Unit {0}
-ArePlain (request ∷ requests) = IsPlainRequest request × ArePlain requests
-
 pub one_plain_more : (requests : List Request) (request : Request) → ArePlain requests → IsPlainRequest request → ArePlain (requests ++ request ∷ [])
+unfolding ArePlain
 one_plain_more [] request plain one = (one, tt)
 one_plain_more (first ∷ requests) request plain one = (plain.0, one_plain_more requests request plain.1 one)
 
@@ -122,9 +115,6 @@ pub record Stays (is_named : ℕ → Bool) (before after : NodeState) : Type 0 w
   pub ram : (k : ℕ) → k < 64 → is_named k ≡ false → slice_index after.ram k ≡ slice_index before.ram k
   pub rom : (k : ℕ) → k < 64 → is_named (128 + k) ≡ false → slice_index after.rom k ≡ slice_index before.rom k
 
-abbrev pub requests_of : List Asked → List Request
-requests_of asked = map (λ one. one.request) asked
-
 module _ (labels : List (Option ℕ)) (after : NodeState) where
   -- requests that were read make the node from any before it
   abbrev pub Makes : List Asked → Type 0
@@ -146,6 +136,6 @@ module _ (labels : List (Option ℕ)) (after : NodeState) where
   request_made _ rest at plain read before stays makes = absurd plain
 
   pub requests_made : (asked : List Asked) → ArePlain (requests_of asked) → Makes asked
-  unfolding follows is_asked written
+  unfolding ArePlain follows is_asked written
   requests_made [] plain before at read stays = record { ram = λ k small. stays.ram k small refl; rom = λ k small. stays.rom k small refl }
   requests_made (one ∷ rest) plain before at read stays = request_made one.request rest at plain.0 read before stays (requests_made rest plain.1)

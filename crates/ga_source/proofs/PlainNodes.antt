@@ -1,7 +1,7 @@
 -- The nodes that plain words make, from the programs of a source.
 use Rattle.std.specs.Prelude.{is_none, ◌||◌, codes, bytes_eq, if◌then◌else◌}
 use Rattle.std.specs.List.{All, list_any}
-use Rattle.std.proofs.Common.{◌≡◌, ◌≢◌, ◌∙◌, ℕ, ◌<◌, inl, inr, refl, sym, ap, subst, Bool, true, false, ltb, List, [], ◌∷◌, Option, Some, None, length, drop, slice_index_or}
+use Rattle.std.proofs.Common.{◌≡◌, ◌≢◌, ◌∙◌, ℕ, ◌<◌, inl, inr, refl, sym, ap, subst, Bool, true, false, ltb, List, [], ◌∷◌, Option, Some, None, length, drop, slice_index_or, arith}
 use Rattle.std.proofs.lemmas.Bool.{cases_Bool, and_parts, ltb-true}
 use Rattle.std.proofs.lemmas.List.{length-replicate}
 use Rattle.std.proofs.lemmas.List.Elements.{All-nil, All-cons, All-head, All-tail}
@@ -19,28 +19,24 @@ use Rattle.ga_source.specs.declared.item.Given.{Given}
 use Rattle.ga_source.specs.declared.item.Item.TheVariants.{Cell}
 use Rattle.ga_source.specs.declared.item.Request.{Request}
 use Rattle.ga_source.specs.declared.item.Request.TheVariants.{Put, Go}
+use Rattle.ga_source.specs.declared.item.Registers.{Registers}
 use Rattle.ga_source.specs.declared.item.Asked.{Asked}
 use Rattle.ga_source.specs.declared.item.Program.{Program}
 use Rattle.ga_source.specs.declared.labels.Label.{Label as Name}
 use Rattle.ga_source.specs.Numbers.{◌>>=◌, number_in}
-use Rattle.ga_source.specs.Programs.{given_of, value_or, is_item, has_cells, or_start, HasProgram, IsLoaded, IsUnnamed, IsAssembled}
+use Rattle.ga_source.specs.Programs.{given_of, value_or, is_item, has_cells, or_start, at_load, HasProgram, IsLoaded, IsUnnamed, IsAssembled}
 use Rattle.ga_source.specs.Cells.{is_asked}
 use Rattle.ga_source.specs.Reading.{begin_at, resolved}
 use Rattle.ga_source.specs.Plain.{Plain, no_request, by_number, only_if, is_cell, may_be, with_words, plain_from, plain_of, value_in, asked_by, words_in, bodies_in, yxx_in, IsOf, AreOf, AreRead}
 use Rattle.ga_source.specs.Made.{with_cell, with_asked, address_behind, written, number_or, plain_node, IsNode, HasPlain, IsMade}
+use Rattle.ga_source.specs.kept.Packing.{requests_of, ArePlain, IsNumber, AreNumbers}
 use Rattle.ga_source.specs.kept.Places.{KeepsRest}
 use Rattle.ga_source.proofs.Empty.{of_each_at_load}
 use Rattle.ga_source.proofs.Hearing.{some_same, no_some, allowed}
 use Rattle.ga_source.proofs.Ranges.{number_small}
-use Rattle.ga_source.proofs.Making.{Stays, ArePlain, one_plain_more, requests_of, requests_made}
+use Rattle.ga_source.proofs.Making.{Stays, one_plain_more, requests_made}
 
 -- ---- plain words ask for plain requests and numbers
-
--- a number below a bound, where there is a value
-abbrev pub IsNumber : ℕ → Option Value → Type 0
-IsNumber bound None = Unit {0}
-IsNumber bound (Some (Number n)) = n < bound
-IsNumber bound (Some (Label k)) = ⊥
 
 pub record IsPlain (plain : Plain) : Type 0 where
   pub requests : ArePlain plain.requests
@@ -98,6 +94,7 @@ from_plain (first ∷ second ∷ words) plain all is found =
     behind_plain words all (with_words plain first second) (λ m e. words_plain plain m first second is e) (λ m p e. from_plain words m all p e) found
 
 pub all_plain : (words : List (List ℕ)) (plain : Plain) → plain_of words ≡ Some plain → IsPlain plain
+unfolding ArePlain
 all_plain words plain is = from_plain words no_request plain (record { requests = tt; p = tt; a = tt; b = tt }) is
 
 -- ---- nothing but the memories is written
@@ -234,3 +231,23 @@ source_made source chip programs read assembled = record {
   named = bodies_made chip (bodies_in (words_in source)) programs read assembled.each;
   others = λ n none. assembled.rest n (unnamed n (bodies_in (words_in source)) programs read none);
 }
+
+-- ---- what plain words ask for is in range
+
+pub plain_requests : (words : List (List ℕ)) (plain : Plain) (asked : List Asked) (registers : Registers) → plain_of words ≡ Some plain → asked_by asked registers ≡ plain → ArePlain (requests_of asked)
+plain_requests words plain asked registers is same = subst ArePlain (sym (ap (λ (p : Plain). p.requests) same)) (all_plain words plain is).requests
+
+start_number : (given : Option Given) (has : Bool) → IsNumber 0x400 (value_in given) → IsNumber 0x400 (value_in (or_start given [] has))
+start_number None true is = omega arith
+start_number None false is = tt
+start_number (Some given) true is = is
+start_number (Some given) false is = is
+
+pub plain_registers : (words : List (List ℕ)) (plain : Plain) (asked : List Asked) (registers : Registers) (names : List Name) (has : Bool) → plain_of words ≡ Some plain → asked_by asked registers ≡ plain → names ≡ [] → AreNumbers (value_in (at_load registers names has).p) (value_in (at_load registers names has).a) (value_in (at_load registers names has).b)
+plain_registers words plain asked registers names has is same none =
+    let found = subst IsPlain (sym same) (all_plain words plain is) in
+    record {
+      p_below = subst (λ (list : List Name). IsNumber 0x400 (value_in (or_start registers.p list has))) (sym none) (start_number registers.p has found.p);
+      a_below = found.a;
+      b_below = found.b;
+    }

@@ -1,13 +1,18 @@
 //! A text as a chip.
 
-ghost use Rattle.std.specs.Prelude.{ℕ, ◌≡◌, ◌≤◌, ◌<◌, true, List, [], length, take, drop, codes, position, Some, IfOk, OnOk, IfSome};
+ghost use Rattle.std.specs.Prelude.{ℕ, ◌≡◌, ◌≤◌, ◌<◌, true, List, [], length, take, drop, codes, position, Some, IfOk, IfErr, OnOk, OnErr, IfSome};
+ghost use Rattle.std.specs.List.{All};
 ghost use Rattle.ga_grid.specs.Chip.{records_of};
 ghost use Rattle.ga_grid.specs.Steady.{AreSteady};
 ghost use Rattle.ga_source.specs.Programs.{given_of, with_registers, has_cells as has_cells_of, is_item as is_item_of, start_of as start, is_named, at_load, HasProgram, IsAssembled};
 ghost use Rattle.ga_source.specs.Cells.{IsEmptyElsewhere};
 ghost use Rattle.ga_grid.specs.Grid.{number_in};
-ghost use Rattle.ga_source.specs.Plain.{Plain, is_node as is_node_word, body_in, bodies_in, yxx_in, plain_of, asked_by, AreRead};
+ghost use Rattle.ga_source.specs.Plain.{Plain, is_node as is_node_word, body_in, bodies_in, yxx_in, plain_of, value_in, asked_by, AreRead};
 ghost use Rattle.ga_source.specs.Made.{IsMade};
+ghost use Rattle.ga_source.specs.declared.fault.Cause.TheVariants.{Memory};
+ghost use Rattle.ga_source.specs.declared.scan.Kind.TheVariants.{Word};
+ghost use Rattle.ga_source.specs.Sound.{AreFree, cells_from};
+ghost use Rattle.ga_source.specs.kept.Packing.{IsNumber, AreNumbers};
 ghost use Rattle.ga_source.specs.kept.Hearing.{texts_of};
 ghost use Rattle.ga_source.specs.kept.Programs.{AreLoaded, AreOfFirst};
 
@@ -125,6 +130,7 @@ fn value_given(
 ) -> Result<Option<u32>, Fault<'static>>
     ensures in_range { IfOk result (λ found. IfSome found (λ value. value < bound)) }
     ensures value { IfOk result (λ found. found ≡ given_of labels.now given) }
+    ensures refused { OnErr result (IsNumber bound (value_in given) → ⊥) }
 {
     let Some(given) = given else {
         return Ok(None);
@@ -141,7 +147,8 @@ fn set_registers(
     labels: &[Option<u32>],
     registers: Registers,
 ) -> Result<(), Fault<'static>>
-    ensures { OnOk result (node.new ≡ with_registers node.old labels.now registers) }
+    ensures set { OnOk result (node.new ≡ with_registers node.old labels.now registers) }
+    ensures refused { OnErr result (AreNumbers (value_in registers.p) (value_in registers.a) (value_in registers.b) → ⊥) }
 {
     if let Some(value) = value_given(labels, registers.p, 0x400)? {
         node.set(Place::P, value);
@@ -174,6 +181,8 @@ fn assemble_node<'s>(
     ensures loaded { IfOk result (λ program. HasProgram node.old node.new program) }
     ensures asks { IfOk result (λ program. (plain : Plain) → plain_of (texts_of tokens.now) ≡ Some plain → asked_by program.asked.items program.registers ≡ plain) }
     ensures names { IfOk result (λ program. (plain : Plain) → plain_of (texts_of tokens.now) ≡ Some plain → program.names.items ≡ []) }
+    ensures refused { IfErr result (λ fault. (plain : Plain) → All (λ token. token.kind ≡ Word) tokens.now → plain_of (texts_of tokens.now) ≡ Some plain →
+        AreFree (cells_from 0 plain.requests) → fault.cause ≡ Memory) }
 {
     let found = read_node(alloc, line, tokens)?;
     let packed = pack(alloc, found.asked.as_slice(), found.labels.list.len())?;
