@@ -32,6 +32,13 @@ bodies_behind (word ∷ texts) (suc i) none =
     let other : is_node word ≡ false = none 0 (omega arith) in
     rw other (bodies_behind texts i (λ k below. none (suc k) (omega arith)))
 
+pub body_next : (texts : List (List ℕ)) (i : ℕ) → (i < length texts → is_node (get_or texts i []) ≡ true) → body_in (drop i texts) ≡ []
+unfolding body_in
+body_next [] zero here = refl
+body_next [] (suc i) here = refl
+body_next (word ∷ texts) zero here = let is : is_node word ≡ true = here (omega arith) in rw is refl
+body_next (word ∷ texts) (suc i) here = body_next texts i (λ below. here (omega arith))
+
 -- ---- one program more
 
 abbrev is_some : List (List (List ℕ)) → Type 0
@@ -75,6 +82,9 @@ front_of tokens i none here = sym (take-map (λ token. token.text.now) i tokens)
 pub behind_of : (tokens : List Token) (i : ℕ) → ((k : ℕ) → k < i → is_node (get_or (texts_of tokens) k []) ≡ false) → bodies_in (texts_of (drop i tokens)) ≡ bodies_in (texts_of tokens)
 behind_of tokens i none = ap bodies_in (sym (drop-map (λ token. token.text.now) i tokens)) ∙ bodies_behind (texts_of tokens) i none
 
+pub next_of : (tokens : List Token) (i : ℕ) → (i < length (texts_of tokens) → is_node (get_or (texts_of tokens) i []) ≡ true) → body_in (texts_of (drop i tokens)) ≡ []
+next_of tokens i here = ap body_in (sym (drop-map (λ token. token.text.now) i tokens)) ∙ body_next (texts_of tokens) i here
+
 -- the test of a token
 pub tested : (tokens : List Token) (i : ℕ) (d : Token) (b : Bool) → i < length tokens → is_node (get_or tokens i d).text.now ≡ b → is_node (get_or (texts_of tokens) i []) ≡ b
 tested tokens i d b within is = ap is_node (get_or-map (λ token. token.text.now) tokens i d [] within) ∙ is
@@ -88,7 +98,7 @@ has None = ⊥
 pub no_number : {n : ℕ} → None ≡ Some n → ⊥
 no_number e = subst has (sym e) tt
 
-drop_twice : {X : Type 0} (list : List X) (count : ℕ) → drop count (drop 2 list) ≡ drop (count + 2) list
+pub drop_twice : {X : Type 0} (list : List X) (count : ℕ) → drop count (drop 2 list) ≡ drop (count + 2) list
 drop_twice [] count = drop_all count [] (omega arith) ∙ sym (drop_all (count + 2) [] (omega arith))
 drop_twice (a ∷ []) count = drop_all count [] (omega arith) ∙ sym (drop_all (count + 2) (a ∷ []) (omega arith))
 drop_twice (a ∷ b ∷ list) count = let same : suc (suc count) ≡ count + 2 = omega arith in ap (λ (k : ℕ). drop k (a ∷ b ∷ list)) same

@@ -1,8 +1,7 @@
 -- Plain requests, packed one by one.
-use Rattle.std.proofs.Common.{◌≡◌, ◌≢◌, ◌∙◌, ◌+◌, ◌%◌, ◌^◌, ◌≤◌, inl, inr, set, replicate, get_or-set_other, ℕ, zero, suc, ◌<◌, length, slice_index_or, arith, refl, sym, ap, subst, true, List, [], ◌∷◌, ◌++◌, Option, None, append-nil, append_assoc}
+use Rattle.std.proofs.Common.{◌≡◌, ◌≢◌, ◌∙◌, ◌+◌, ◌%◌, ◌^◌, inl, inr, set, replicate, get_or-set_other, ℕ, zero, suc, ◌<◌, length, slice_index_or, arith, refl, sym, ap, subst, true, List, [], ◌∷◌, ◌++◌, Option, None, append-nil, append_assoc}
 use Rattle.std.proofs.lemmas.Bool.{cases_lt}
 use Rattle.std.proofs.lemmas.List.{get_or-replicate, get_or_past, length-replicate}
-use Rattle.ga_ports.specs.Address.{advanced}
 use Rattle.ga_source.specs.declared.item.Value.TheVariants.{Number}
 use Rattle.ga_source.specs.declared.item.Item.{Item}
 use Rattle.ga_source.specs.declared.item.Item.TheVariants.{Cell}
@@ -43,17 +42,17 @@ after_more at (first ∷ requests) request = after_more (address_behind at first
 
 -- a cell is added
 pub added_cell : (before full closed : Packer) (next : Spot) (item : Item) (n : ℕ) (requests : List Request) → item ≡ Cell (Number n) → IsPackedPlain before requests
-  → full.filling.items ≡ before.filling.items ++ item ∷ [] → full.broken ≡ before.broken → full.spot ≡ before.spot → full.groups.items ≡ before.groups.items → IsClosed full closed
-  → ((n : ℕ) (cells : List (ℕ × ℕ)) → full.filling.items ≡ Cell (Number n) ∷ [] → full.broken ≡ None → AreCellGroups cells full.groups.items → AreCellGroups (cells ++ (full.spot.at, n) ∷ []) closed.groups.items)
-  → next ≡ behind before.spot item → IsPackedPlain (record closed { spot = next }) (requests ++ Put item ∷ [])
+    → full.filling.items ≡ before.filling.items ++ item ∷ [] → full.broken ≡ before.broken → full.spot ≡ before.spot → full.groups.items ≡ before.groups.items → IsClosed full closed
+    → ((n : ℕ) (cells : List (ℕ × ℕ)) → full.filling.items ≡ Cell (Number n) ∷ [] → full.broken ≡ None → AreCellGroups cells full.groups.items → AreCellGroups (cells ++ (full.spot.at, n) ∷ []) closed.groups.items)
+    → next ≡ behind before.spot item → IsPackedPlain (record closed { spot = next }) (requests ++ Put item ∷ [])
 added_cell before full closed next item n requests is packed filled broken spot groups done cell goes =
     let at = address_after 0 requests in
     let here : full.spot.at ≡ at = ap (λ (s : Spot). s.at) (spot ∙ packed.spot) in
     let cells : AreCellGroups (cells_from 0 requests ++ (full.spot.at, n) ∷ []) closed.groups.items =
-        cell n (cells_from 0 requests)
-        (filled ∙ (ap (λ (items : List Item). items ++ item ∷ []) packed.filling ∙ ap (λ (i : Item). i ∷ []) is))
-        (broken ∙ packed.whole)
-        (subst (AreCellGroups (cells_from 0 requests)) (sym groups) packed.groups) in
+    cell n (cells_from 0 requests)
+    (filled ∙ (ap (λ (items : List Item). items ++ item ∷ []) packed.filling ∙ ap (λ (i : Item). i ∷ []) is))
+    (broken ∙ packed.whole)
+    (subst (AreCellGroups (cells_from 0 requests)) (sym groups) packed.groups) in
     record {
       filling = done.empty;
       whole = done.whole;
@@ -129,7 +128,7 @@ same_length (cell ∷ cells) [] are = absurd are
 
 -- one group more is loaded
 pub open_more : (given now : List (Option ℕ)) (cells : List (ℕ × ℕ)) (groups : List Group) (i : ℕ) (group : Group) → AreCellGroups cells groups → AreFree cells → i < length groups → group ≡ slice_index_or groups i group
-  → ((cell : ℕ × ℕ) (k : ℕ) → IsCellGroup cell group → k ≢ cell.0 % 512 → slice_index_or now k None ≡ slice_index_or given k None) → AreOpen given cells i → AreOpen now cells (i + 1)
+    → ((cell : ℕ × ℕ) (k : ℕ) → IsCellGroup cell group → k ≢ cell.0 % 512 → slice_index_or now k None ≡ slice_index_or given k None) → AreOpen given cells i → AreOpen now cells (i + 1)
 open_more given now cells groups i group are free within is stays before = λ k from small.
     let here : IsCellGroup (cell_of cells i) group = subst (IsCellGroup (cell_of cells i)) (sym is) (group_at cells groups i group are within) in
     stays (cell_of cells i) ((cell_of cells k).0 % 512) here (free.apart i k (omega arith) small) ∙ before k (omega arith) small
@@ -147,7 +146,7 @@ all_open given cells is = λ k from small.
 
 -- no cell is given twice
 pub never_twice : (given : List (Option ℕ)) (cells : List (ℕ × ℕ)) (groups : List Group) (i : ℕ) (group : Group) → AreCellGroups cells groups → AreWords cells → AreFree cells → i < length groups → group ≡ slice_index_or groups i group → length given ≡ 192
-  → ((cell : ℕ × ℕ) → IsCellGroup cell group → cell.1 < 2 ^ 18 → IsMemoryAddress cell.0 → length given ≡ 192 → slice_index_or given (cell.0 % 512) None ≢ None) → AreOpen given cells i → ⊥
+    → ((cell : ℕ × ℕ) → IsCellGroup cell group → cell.1 < 2 ^ 18 → IsMemoryAddress cell.0 → length given ≡ 192 → slice_index_or given (cell.0 % 512) None ≢ None) → AreOpen given cells i → ⊥
 never_twice given cells groups i group are words free within is size refused before =
     let here : IsCellGroup (cell_of cells i) group = subst (IsCellGroup (cell_of cells i)) (sym is) (group_at cells groups i group are within) in
     let same = same_length cells groups are in

@@ -1,5 +1,5 @@
 -- What plain words make of a node.
-use Rattle.std.specs.Prelude.{◌||◌, ◌&&◌, map}
+use Rattle.std.specs.Prelude.{◌||◌, ◌&&◌}
 use Rattle.std.proofs.Common.{◌≡◌, ◌∙◌, ℕ, ◌+◌, ◌%◌, ◌<◌, ◌≤◌, inl, inr, refl, sym, ap, Bool, true, false, List, [], ◌∷◌, ◌++◌, Option, Some, length, set, slice_index, get_or-set_same, get_or-set_other, arith}
 use Rattle.std.proofs.lemmas.Bool.{and_parts, cases_eq, eqb-true, ne_eqb, both_ways}
 use Rattle.std.proofs.lemmas.List.{length-set}

@@ -1,6 +1,6 @@
 //! A text as a chip.
 
-ghost use Rattle.std.specs.Prelude.{ℕ, ◌≡◌, ◌≤◌, ◌<◌, true, List, [], length, take, drop, codes, position, Some, IfOk, IfErr, OnOk, OnErr, IfSome};
+ghost use Rattle.std.specs.Prelude.{ℕ, ◌≡◌, ◌≤◌, ◌<◌, true, false, List, [], length, replicate, take, drop, codes, position, Some, IfOk, IfErr, OnOk, OnErr, IfSome};
 ghost use Rattle.std.specs.List.{All};
 ghost use Rattle.ga_grid.specs.Chip.{records_of};
 ghost use Rattle.ga_grid.specs.Steady.{AreSteady};
@@ -11,7 +11,8 @@ ghost use Rattle.ga_source.specs.Plain.{Plain, is_node as is_node_word, body_in,
 ghost use Rattle.ga_source.specs.Made.{IsMade};
 ghost use Rattle.ga_source.specs.declared.fault.Cause.TheVariants.{Memory};
 ghost use Rattle.ga_source.specs.declared.scan.Kind.TheVariants.{Word};
-ghost use Rattle.ga_source.specs.Sound.{AreFree, cells_from};
+ghost use Rattle.ga_source.specs.Sound.{AreFree, cells_from, IsSound};
+ghost use Rattle.ga_source.specs.kept.Refusing.{IsSoundFrom};
 ghost use Rattle.ga_source.specs.kept.Packing.{IsNumber, AreNumbers};
 ghost use Rattle.ga_source.specs.kept.Hearing.{texts_of};
 ghost use Rattle.ga_source.specs.kept.Programs.{AreLoaded, AreOfFirst};
@@ -58,6 +59,7 @@ fn body_length(tokens: &[Token]) -> usize
     ensures in_range { result ≤ length tokens.now }
     ensures front { texts_of (take result tokens.now) ≡ body_in (texts_of tokens.now) }
     ensures behind { bodies_in (texts_of (drop result tokens.now)) ≡ bodies_in (texts_of tokens.now) }
+    ensures next { body_in (texts_of (drop result tokens.now)) ≡ [] }
 {
     for (i, token) in tokens.iter().enumerate() {
         if is_node(token.text) {
@@ -204,6 +206,14 @@ fn assemble_node<'s>(
     })
 }
 
+/// No node has begun.
+fn none_begun() -> [bool; NODES]
+    ensures size { length result ≡ 144 }
+    ensures empty { result ≡ replicate 144 false }
+{
+    [false; NODES]
+}
+
 /// Assembles the program of the node whose words come first, and tells how many words it has.
 fn assemble_first<'s>(
     alloc: Global,
@@ -219,6 +229,8 @@ fn assemble_first<'s>(
     ensures loaded { OnOk result (AreLoaded chip.new begun.new programs.new.items) }
     ensures read { (all : List (List (List ℕ))) → AreOfFirst all programs.old.items (bodies_in (texts_of words.now)) →
         IfOk result (λ count. AreOfFirst all programs.new.items (bodies_in (texts_of (drop count words.now)))) }
+    ensures sound { IfOk result (λ count. IsSoundFrom begun.old words.now → IsSoundFrom begun.new (drop count words.now)) }
+    ensures refused { IfErr result (λ fault. IsSoundFrom begun.old words.now → fault.cause ≡ Memory) }
 {
     let first = words[0];
     if !is_node(first.word()?) {
@@ -257,6 +269,9 @@ pub fn assemble(alloc: Global, source: &[u8]) -> Result<Assembled<'_>, Fault<'_>
     // So the words behind a `node` make its node, where they are plain, and a node that isn't named is as at load.
     ensures made { IfOk result (λ all. IsMade source.now all.chip) }
 
+    // A source of plain words that give each cell once is refused for want of memory alone.
+    ensures refused { IfErr result (λ fault. IsSound source.now → fault.cause ≡ Memory) }
+
     // So each cell that nobody names is 0.
     ensures empty { IfOk result (λ all. IsEmptyElsewhere all.chip all.programs.items) }
 
@@ -268,7 +283,7 @@ pub fn assemble(alloc: Global, source: &[u8]) -> Result<Assembled<'_>, Fault<'_>
         Ok(chip) => chip,
         Err(_) => return Err(at(0, Cause::Memory)),
     };
-    let mut begun = [false; NODES];
+    let mut begun = none_begun();
     let mut programs = Vec::new(alloc);
     let words = tokens.as_slice();
     let mut start = 0;

@@ -46,5 +46,5 @@ returns-in_err-write_group-clause-refused c =
     let is_group : c.group-item.result ≡ slice_index_or c.args.packed.now.groups.items c.loop-group.group-index c.group-item.result = search rules in
     let e : c.from_residual.result ≡ Err c.in_err-write_group.field-0.0 = search rules in
     rw e (λ cells are words free.
-      never_twice c.loop-group.given cells c.args.packed.now.groups.items c.loop-group.group-index c.group-item.result are words free l is_group c.loop-group.invariant.size
-      c.in_err-write_group.ensures.refused (c.loop-group.invariant.free cells are free))
+    never_twice c.loop-group.given cells c.args.packed.now.groups.items c.loop-group.group-index c.group-item.result are words free l is_group c.loop-group.invariant.size
+    c.in_err-write_group.ensures.refused (c.loop-group.invariant.free cells are free))

@@ -30,11 +30,14 @@ loop-i-preserved c =
     let l : c.loop-i.i < length c.args.group.now.items.items = search rules in
     let few = subst (λ (list : List Item). length list ≤ 4) c.as_slice-items.ensures.value c.as_slice-items.ensures.fits in
     let done = c.in_ok-write_item.ensures in
-    record { writing = written_step c.args.node.now c.loop-i.node c.write_item.new.node c.args.given.now c.loop-i.given c.write_item.new.given c.args.labels.now c.args.group.now c.loop-i.spot c.behind-spot.result c.loop-i.i
-    (slice_index_or c.as_slice-items.result.now c.loop-i.i nothing) (ap (λ (list : List Item). slice_index_or list c.loop-i.i nothing) c.as_slice-items.ensures.value)
-    c.loop-i.invariant.writing l few c.requires done.rest done.elsewhere done.has done.held done.kept c.behind-spot.ensures.value; given = λ cell k is other.
-      let same : c.write_item.new.given ≡ c.loop-i.given = done.same (Number cell.1) (cell_item c.as_slice-items.result.now cell.1 c.loop-i.i _ (c.as_slice-items.ensures.value ∙ is.items) c.loop-i-test.true) in
-      ap (λ (list : List (Option ℕ)). slice_index_or list k None) same ∙ c.loop-i.invariant.given cell k is other }
+    record {
+      writing = written_step c.args.node.now c.loop-i.node c.write_item.new.node c.args.given.now c.loop-i.given c.write_item.new.given c.args.labels.now c.args.group.now c.loop-i.spot c.behind-spot.result c.loop-i.i
+          (slice_index_or c.as_slice-items.result.now c.loop-i.i nothing) (ap (λ (list : List Item). slice_index_or list c.loop-i.i nothing) c.as_slice-items.ensures.value)
+          c.loop-i.invariant.writing l few c.requires done.rest done.elsewhere done.has done.held done.kept c.behind-spot.ensures.value;
+      given = λ cell k is other.
+          let same : c.write_item.new.given ≡ c.loop-i.given = done.same (Number cell.1) (cell_item c.as_slice-items.result.now cell.1 c.loop-i.i _ (c.as_slice-items.ensures.value ∙ is.items) c.loop-i-test.true) in
+          ap (λ (list : List (Option ℕ)). slice_index_or list k None) same ∙ c.loop-i.invariant.given cell k is other;
+    }
 
 pub returns-clause-rest : goal.returns-clause-rest
 returns-clause-rest c = c.loop-i.invariant.writing.rest

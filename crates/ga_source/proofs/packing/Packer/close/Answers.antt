@@ -1,8 +1,7 @@
 use Rattle.std.specs.Prelude.{not}
-use Rattle.std.proofs.Common.{rules, ◌++◌, ◌∷◌, subst, sym, ◌≡◌, ◌∙◌, [], ap, refl, length}
+use Rattle.std.proofs.Common.{rules, ◌≡◌, ◌∙◌, [], ap, refl, length}
 use Rattle.ga_source.specs.declared.item.Group.{Group}
 use Rattle.ga_source.specs.declared.packing.Packer.{Packer}
-use Rattle.ga_source.specs.kept.Packing.{AreCellGroups}
 use Rattle.ga_source.proofs.CellGroups.{one_group}
 use Rattle.ga_source.proofs.Walking.{closed_nothing, closed_group, nil_of, none_of}
 use Rattle.ga_source.proofs.packing.Packer.close.Goals as goal
