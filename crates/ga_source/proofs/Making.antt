@@ -87,14 +87,14 @@ or_none false y left right = right
 or_none true y left right = left
 
 -- the memories keep their sizes
-with_cell_ram : (node : NodeState) (t : Target) (n : ℕ) → length (with_cell node t n).ram ≡ length node.ram
+pub with_cell_ram : (node : NodeState) (t : Target) (n : ℕ) → length (with_cell node t n).ram ≡ length node.ram
 with_cell_ram node (Ram k) n = length-set node.ram k n
 with_cell_ram node (Rom k) n = refl
 with_cell_ram node Io n = refl
 with_cell_ram node (Ports s) n = refl
 with_cell_ram node Bad n = refl
 
-with_cell_rom : (node : NodeState) (t : Target) (n : ℕ) → length (with_cell node t n).rom ≡ length node.rom
+pub with_cell_rom : (node : NodeState) (t : Target) (n : ℕ) → length (with_cell node t n).rom ≡ length node.rom
 with_cell_rom node (Ram k) n = refl
 with_cell_rom node (Rom k) n = length-set node.rom k n
 with_cell_rom node Io n = refl

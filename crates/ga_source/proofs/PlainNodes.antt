@@ -1,14 +1,14 @@
 -- The nodes that plain words make, from the programs of a source.
 use Rattle.std.specs.Prelude.{is_none, ◌||◌, codes, bytes_eq, if◌then◌else◌}
 use Rattle.std.specs.List.{All, list_any}
-use Rattle.std.proofs.Common.{◌≡◌, ◌≢◌, ◌∙◌, ℕ, ◌<◌, inl, inr, refl, sym, ap, subst, Bool, true, false, ltb, List, [], ◌∷◌, Option, Some, None, length, drop, slice_index_or, arith}
+use Rattle.std.proofs.Common.{◌≡◌, ◌≢◌, ◌∙◌, ℕ, ◌<◌, inl, inr, refl, sym, ap, subst, Bool, true, false, ltb, List, [], ◌∷◌, Option, Some, None, length, drop, slice_index, slice_index_or, arith}
 use Rattle.std.proofs.lemmas.Bool.{cases_Bool, and_parts, ltb-true}
-use Rattle.std.proofs.lemmas.List.{length-replicate}
+use Rattle.std.proofs.lemmas.List.{length-replicate, ext_get_or}
 use Rattle.std.proofs.lemmas.List.Elements.{All-nil, All-cons, All-head, All-tail}
 use Rattle.ga_ports.specs.declared.address.Target.{Target}
 use Rattle.ga_ports.specs.declared.address.Target.TheVariants.{Ram, Rom, Io, Ports, Bad}
 use Rattle.ga_ports.specs.Address.{classified}
-use Rattle.ga_node.specs.Record.{NodeState, fresh_node}
+use Rattle.ga_node.specs.Record.{NodeState, HasSizes, fresh_node, record_of}
 use Rattle.ga_grid.specs.Chip.{node_at}
 use Rattle.ga_grid.specs.Load.{default_chip}
 use Rattle.ga_source.specs.declared.number.Number.{Number as NumberIn}
@@ -34,7 +34,7 @@ use Rattle.ga_source.specs.kept.Places.{KeepsRest}
 use Rattle.ga_source.proofs.Empty.{of_each_at_load}
 use Rattle.ga_source.proofs.Hearing.{some_same, no_some, allowed}
 use Rattle.ga_source.proofs.Ranges.{number_small}
-use Rattle.ga_source.proofs.Making.{Stays, one_plain_more, requests_made}
+use Rattle.ga_source.proofs.Making.{Stays, with_cell_ram, with_cell_rom, one_plain_more, requests_made}
 
 -- ---- plain words ask for plain requests and numbers
 
@@ -251,3 +251,47 @@ plain_registers words plain asked registers names has is same none =
       a_below = found.a;
       b_below = found.b;
     }
+
+-- ---- the whole node
+
+written_ram : (node : NodeState) (at : ℕ) (request : Request) → length (with_asked node at request).ram ≡ length node.ram
+written_ram node at (Put (Cell (Number n))) = with_cell_ram node (classified at) n
+written_ram node at _ = refl
+
+written_rom : (node : NodeState) (at : ℕ) (request : Request) → length (with_asked node at request).rom ≡ length node.rom
+written_rom node at (Put (Cell (Number n))) = with_cell_rom node (classified at) n
+written_rom node at _ = refl
+
+ram_size : (node : NodeState) (at : ℕ) (requests : List Request) → length (written node at requests).ram ≡ length node.ram
+unfolding written
+ram_size node at [] = refl
+ram_size node at (request ∷ requests) = ram_size (with_asked node at request) (address_behind at request) requests ∙ written_ram node at request
+
+rom_size : (node : NodeState) (at : ℕ) (requests : List Request) → length (written node at requests).rom ≡ length node.rom
+unfolding written
+rom_size node at [] = refl
+rom_size node at (request ∷ requests) = rom_size (with_asked node at request) (address_behind at request) requests ∙ written_rom node at request
+
+-- memories of 64 words that agree cell by cell
+same_memory : (memory other : List ℕ) → length memory ≡ 64 → length other ≡ 64 → ((k : ℕ) → k < 64 → slice_index memory k ≡ slice_index other k) → memory ≡ other
+same_memory memory other size other_size each = ext_get_or 0 memory other (size ∙ sym other_size) (λ k within. each k (omega (arith, size)))
+
+sizes_ram : (node : NodeState) → HasSizes (record_of node) → length node.ram ≡ 64
+unfolding record_of
+sizes_ram node sizes = sizes.ram
+
+sizes_rom : (node : NodeState) → HasSizes (record_of node) → length node.rom ≡ 64
+unfolding record_of
+sizes_rom node sizes = sizes.rom
+
+pub whole_node : (chip : List NodeState) (words : List (List ℕ)) (n : ℕ) (plain : Plain) → HasPlain chip words → yxx_in (slice_index_or words 0 []) ≡ Some n → plain_of (drop 1 words) ≡ Some plain → HasSizes (record_of (node_at chip n)) → node_at chip n ≡ plain_node (node_at default_chip n) plain
+whole_node chip words n plain has name is sizes =
+    let node = node_at chip n in
+    let load = node_at default_chip n in
+    let made = plain_node load plain in
+    let found = has n plain name is in
+    let ram : node.ram ≡ made.ram = same_memory node.ram made.ram (sizes_ram node sizes)
+    (ram_size load 0 plain.requests ∙ of_each_at_load (λ (at_load : NodeState). length at_load.ram ≡ 64) fresh_ram_size n) found.ram in
+    let rom : node.rom ≡ made.rom = same_memory node.rom made.rom (sizes_rom node sizes)
+    (rom_size load 0 plain.requests ∙ of_each_at_load (λ (at_load : NodeState). length at_load.rom ≡ 64) fresh_rom_size n) found.rom in
+    found.rest ∙ (ap (λ (list : List ℕ). record made { ram = list; rom = node.rom }) ram ∙ ap (λ (list : List ℕ). record made { ram = made.ram; rom = list }) rom)
