@@ -25,7 +25,7 @@ unfolding fresh_node
 fresh_rom p k = word_at_load k
 
 -- what holds of each fresh node holds of each node of the chip at load
-of_each_at_load : (P : NodeState → Type 0) → ((p : ℕ) → P (fresh_node p)) → (n : ℕ) → P (node_at default_chip n)
+pub of_each_at_load : (P : NodeState → Type 0) → ((p : ℕ) → P (fresh_node p)) → (n : ℕ) → P (node_at default_chip n)
 of_each_at_load P fresh n = ⊎_elim
     (λ l. subst P (sym (node_at-default_chip n l)) (fresh (load_p_of n)))
     (λ l. subst P (sym (get_or_past default_chip n nowhere (rw length-default_chip l))) (fresh 0))

@@ -10,3 +10,10 @@ pub mod Steady
 pub mod Empty
 pub mod Scanning
 pub mod Numbers
+pub mod Ranges
+pub mod Hearing
+pub mod Bodies
+pub mod CellGroups
+pub mod Refusing
+pub mod Making
+pub mod PlainNodes

@@ -11,7 +11,7 @@ use Rattle.std.proofs.lemmas.List.{take_all}
 use Rattle.std.proofs.lemmas.List.Folds.{list_all_more, list_all_at}
 use Rattle.std.proofs.lemmas.Int.Digits.{digits_value_more}
 use Rattle.ga_source.specs.declared.number.Number.TheVariants.{Of, OutOfRange, Nothing}
-use Rattle.ga_source.specs.kept.Numbers.{digits_in, word_of_size, word_below}
+use Rattle.ga_source.specs.Numbers.{digits_in, word_of_size, word_below}
 
 -- a number, or the greatest that is told
 abbrev told : ℕ → ℕ

@@ -4,7 +4,8 @@ use Rattle.std.specs.Prelude.{codes, bytes_eq, filter}
 use Rattle.std.specs.List.{list_all}
 use Rattle.std.proofs.lemmas.Bool.{cond-true, cond-false, both_ways, and_parts, cases_Bool, le-ltb, lt-ltb}
 use Rattle.ga_source.specs.declared.scan.Kind.TheVariants.{LongLine, OpenComment}
-use Rattle.ga_source.specs.kept.Saying.{with_byte, parted, is_blank, lines_of, has_bytes, words_of, longest, Said, a_word, a_fault, is_word, closes, spoken, said_by, up_to_fault, next_line, said_from, IsTold}
+use Rattle.ga_source.specs.Saying.{with_byte, parted, is_blank, lines_of, has_bytes, words_of, longest, Said, a_word, a_fault, is_word, closes, spoken, said_by, up_to_fault, next_line, said_from}
+use Rattle.ga_source.specs.kept.Telling.{IsTold}
 
 -- ---- parts
 

@@ -15,13 +15,13 @@ use Rattle.ga_source.specs.kept.Loading.{Holds, Keeps}
 use Rattle.ga_source.proofs.Laying.{None≢Some}
 
 -- the cells of both memories by their addresses
-in_ram : (address : ℕ) → address % 512 < 64 → classified address ≡ RamOf (address % 512)
+pub in_ram : (address : ℕ) → address % 512 < 64 → classified address ≡ RamOf (address % 512)
 in_ram address l =
     let low = address % 512 in
     cond-false (low / 2 ^ 8 == 1) _ _ (ne_eqb (low / 2 ^ 8) 1 (λ e. absurd (omega arith)))
     ∙ (cond-true (low / 2 ^ 7 == 0) _ _ (eq-eqb (low / 2 ^ 7) 0 (omega arith)) ∙ ap RamOf (omega arith))
 
-in_rom : (address : ℕ) → 128 ≤ address % 512 → address % 512 < 192 → classified address ≡ RomOf (address % 512 % 64)
+pub in_rom : (address : ℕ) → 128 ≤ address % 512 → address % 512 < 192 → classified address ≡ RomOf (address % 512 % 64)
 in_rom address l h =
     let low = address % 512 in
     cond-false (low / 2 ^ 8 == 1) _ _ (ne_eqb (low / 2 ^ 8) 1 (λ e. absurd (omega arith)))

@@ -1,8 +1,10 @@
+pub mod Hearing
 pub mod Layout
 pub mod Loading
-pub mod Numbers
+pub mod Packing
 pub mod Places
 pub mod Programs
-pub mod Saying
+pub mod Refusing
+pub mod Telling
 pub mod Vocabulary
 pub mod Words

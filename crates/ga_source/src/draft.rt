@@ -1,7 +1,12 @@
 //! The words of one node as requests.
 
-ghost use Rattle.std.specs.Prelude.{◌≡◌, ◌≢◌, codes};
+ghost use Rattle.std.specs.Prelude.{◌≡◌, ◌≢◌, codes, Some, [], slice_index_or, IfOk, IfErr};
+ghost use Rattle.std.specs.List.{All};
+ghost use Rattle.ga_source.specs.declared.fault.Cause.TheVariants.{Memory};
+ghost use Rattle.ga_source.specs.declared.scan.Kind.TheVariants.{Word};
 ghost use Rattle.ga_slots.specs.declared.op.Op.TheVariants.{Jump, Call};
+ghost use Rattle.ga_source.specs.Plain.{Plain, plain_of, asked_by};
+ghost use Rattle.ga_source.specs.kept.Hearing.{texts_of};
 
 use super::controls::Open;
 use super::fault::{Cause, Fault, at};
@@ -41,7 +46,22 @@ pub(crate) struct Draft<'s> {
 }
 
 impl<'s> Draft<'s> {
-    fn new(alloc: Global) -> Self {
+    ghost use Rattle.std.specs.Prelude.{◌≡◌, ℕ, Some, None, true, OnOk, OnErr, IfOk, IfErr};
+    ghost use Rattle.ga_source.specs.declared.fault.Cause.TheVariants.{Memory};
+    ghost use Rattle.ga_source.specs.declared.number.Number.TheVariants.{Of};
+    ghost use Rattle.ga_source.specs.declared.item.Value.TheVariants.{Number as NumberOf};
+    ghost use Rattle.ga_source.specs.declared.item.Item.TheVariants.{Cell};
+    ghost use Rattle.ga_source.specs.declared.item.Request.TheVariants.{Put, Go};
+    ghost use Rattle.ga_source.specs.declared.draft.Expect.{Expect as ExpectOf};
+    ghost use Rattle.ga_source.specs.declared.draft.Expect.TheVariants.{Nothing};
+    ghost use Rattle.ga_source.specs.declared.scan.Kind.TheVariants.{Word as WordKind};
+    ghost use Rattle.ga_source.specs.Numbers.{number_in};
+    ghost use Rattle.ga_source.specs.Plain.{is_cell};
+    ghost use Rattle.ga_source.specs.kept.Hearing.{Heard, HasHeard, nothing_heard, asking, with_register, may_give, next_of, hear_word, hear, end_of};
+
+    fn new(alloc: Global) -> Self
+        ensures { HasHeard result nothing_heard }
+    {
         Draft {
             asked: Vec::new(alloc),
             labels: Labels::new(alloc),
@@ -56,7 +76,10 @@ impl<'s> Draft<'s> {
         }
     }
 
-    pub(crate) fn ask(&mut self, line: u32, request: Request) -> Result<(), Fault<'s>> {
+    pub(crate) fn ask(&mut self, line: u32, request: Request) -> Result<(), Fault<'s>>
+        ensures asked { OnOk result ((heard : Heard) → HasHeard self.old heard → HasHeard self.new (asking heard request)) }
+        ensures refused { IfErr result (λ fault. fault.cause ≡ Memory) }
+    {
         self.asked.push(Asked { line, request })?;
         Ok(())
     }
@@ -80,7 +103,11 @@ impl<'s> Draft<'s> {
     }
 
     /// A number, a port, or the address of a label behind an apostrophe.
-    fn value(&mut self, line: u32, text: &'s [u8]) -> Result<Option<Value>, Fault<'s>> {
+    fn value(&mut self, line: u32, text: &'s [u8]) -> Result<Option<Value>, Fault<'s>>
+        ensures found { IfOk result (λ found. (n : ℕ) → number_in text.now ≡ Of n → found ≡ Some (NumberOf n)) }
+        ensures stays { (n : ℕ) → number_in text.now ≡ Of n → self.new ≡ self.old }
+        ensures refused { IfErr result (λ fault. (n : ℕ) → number_in text.now ≡ Of n → fault.cause ≡ Memory) }
+    {
         if let [b'\'', name @ ..] = text {
             if name.is_empty() {
                 return Err(at(line, Cause::Missing));
@@ -104,7 +131,12 @@ impl<'s> Draft<'s> {
     }
 
     /// A number, a port or a label, as a register's value at load.
-    fn register(&mut self, line: u32, register: Register, text: &'s [u8]) -> Result<(), Fault<'s>> {
+    fn register(&mut self, line: u32, register: Register, text: &'s [u8]) -> Result<(), Fault<'s>>
+        ensures given { OnOk result ((heard : Heard) (n : ℕ) → HasHeard self.old heard → number_in text.now ≡ Of n →
+            HasHeard self.new (record heard { plain = with_register heard.plain register n })) }
+        ensures refused { IfErr result (λ fault. (heard : Heard) (n : ℕ) → HasHeard self.old heard → number_in text.now ≡ Of n →
+            may_give heard.plain register n ≡ true → fault.cause ≡ Memory) }
+    {
         let value = match number_of(text) {
             Number::Of(number) => {
                 if number >= register.bound() {
@@ -132,7 +164,11 @@ impl<'s> Draft<'s> {
         Ok(())
     }
 
-    fn directive(&mut self, line: u32, directive: Directive) -> Result<(), Fault<'s>> {
+    fn directive(&mut self, line: u32, directive: Directive) -> Result<(), Fault<'s>>
+        ensures next { OnOk result ((heard : Heard) (e : ExpectOf) → HasHeard self.old heard → next_of directive ≡ Some e →
+            HasHeard self.new (record heard { expect = e })) }
+        ensures refused { IfErr result (λ fault. fault.cause ≡ Memory) }
+    {
         match directive {
             Directive::Label => self.expect = Expect::Name,
             Directive::Address => self.expect = Expect::Address,
@@ -146,7 +182,11 @@ impl<'s> Draft<'s> {
         Ok(())
     }
 
-    fn address(&mut self, line: u32, text: &[u8]) -> Result<(), Fault<'s>> {
+    fn address(&mut self, line: u32, text: &[u8]) -> Result<(), Fault<'s>>
+        ensures asked { OnOk result ((heard : Heard) (n : ℕ) → HasHeard self.old heard → number_in text.now ≡ Of n →
+            HasHeard self.new (asking heard (Go n))) }
+        ensures refused { IfErr result (λ fault. (n : ℕ) → number_in text.now ≡ Of n → is_cell n ≡ true → fault.cause ≡ Memory) }
+    {
         match number_of(text) {
             Number::Of(found) => {
                 if found < 0x40 || 0x80 <= found && found < 0xc0 {
@@ -161,7 +201,11 @@ impl<'s> Draft<'s> {
     }
 
     /// A cell with a value.
-    fn cell(&mut self, line: u32, text: &'s [u8]) -> Result<(), Fault<'s>> {
+    fn cell(&mut self, line: u32, text: &'s [u8]) -> Result<(), Fault<'s>>
+        ensures asked { OnOk result ((heard : Heard) (n : ℕ) → HasHeard self.old heard → number_in text.now ≡ Of n →
+            HasHeard self.new (record (asking heard (Put (Cell (NumberOf n)))) { expect = Nothing })) }
+        ensures refused { IfErr result (λ fault. (n : ℕ) → number_in text.now ≡ Of n → fault.cause ≡ Memory) }
+    {
         let Some(value) = self.value(line, text)? else {
             return Err(at(line, Cause::Missing));
         };
@@ -183,7 +227,12 @@ impl<'s> Draft<'s> {
     }
 
     /// A word that stands for itself. The next word decides whether it is a cell, and whether a call is a jump.
-    fn word(&mut self, line: u32, text: &'s [u8], next: &[u8]) -> Result<(), Fault<'s>> {
+    fn word(&mut self, line: u32, text: &'s [u8], next: &[u8]) -> Result<(), Fault<'s>>
+        ensures hears { OnOk result ((heard after : Heard) → HasHeard self.old heard → hear_word heard.plain text.now next.now ≡ Some after →
+            HasHeard self.new after) }
+        ensures refused { IfErr result (λ fault. (heard after : Heard) → HasHeard self.old heard → hear_word heard.plain text.now next.now ≡ Some after →
+            fault.cause ≡ Memory) }
+    {
         if next == b",".as_slice() {
             return self.cell(line, text);
         }
@@ -202,7 +251,12 @@ impl<'s> Draft<'s> {
         self.call(line, text, next)
     }
 
-    fn take(&mut self, token: Token<'s>, next: &[u8]) -> Result<(), Fault<'s>> {
+    fn take(&mut self, token: Token<'s>, next: &[u8]) -> Result<(), Fault<'s>>
+        ensures hears { OnOk result ((heard after : Heard) → HasHeard self.old heard → hear heard token.entry.text.now next.now ≡ Some after →
+            HasHeard self.new after) }
+        ensures refused { IfErr result (λ fault. (heard after : Heard) → token.entry.kind ≡ WordKind → HasHeard self.old heard →
+            hear heard token.entry.text.now next.now ≡ Some after → fault.cause ≡ Memory) }
+    {
         let text = token.word()?;
         let expect = self.expect;
         self.expect = Expect::Word;
@@ -216,7 +270,9 @@ impl<'s> Draft<'s> {
     }
 
     /// What is missing or still open behind the last word, and a name that is no label's.
-    fn finish(&self, line: u32) -> Result<(), Fault<'s>> {
+    fn finish(&self, line: u32) -> Result<(), Fault<'s>>
+        ensures { OnErr result ((heard : Heard) → HasHeard self.now heard → end_of heard ≡ None) }
+    {
         match self.expect {
             Expect::Word | Expect::Nothing => {}
             _ => return Err(at(line, Cause::Missing)),
@@ -240,20 +296,30 @@ fn calling_op(next: &[u8]) -> Op
     }
 }
 
+/// The text of a token, empty where there is none.
+fn text_at<'s>(tokens: &[Token<'s>], i: usize) -> &'s [u8]
+    ensures { result.now ≡ slice_index_or (texts_of tokens.now) i [] }
+{
+    match tokens.get(i) {
+        Some(token) => token.text,
+        None => &[],
+    }
+}
+
 /// What the words of a node ask for.
 pub(crate) fn read_node<'s>(
     alloc: Global,
     line: u32,
     tokens: &[Token<'s>],
-) -> Result<Draft<'s>, Fault<'s>> {
+) -> Result<Draft<'s>, Fault<'s>>
+    ensures asks { IfOk result (λ draft. (plain : Plain) → plain_of (texts_of tokens.now) ≡ Some plain → asked_by draft.asked.items draft.registers ≡ plain) }
+    ensures names { IfOk result (λ draft. (plain : Plain) → plain_of (texts_of tokens.now) ≡ Some plain → draft.labels.list.items ≡ []) }
+    ensures refused { IfErr result (λ fault. (plain : Plain) → All (λ token. token.kind ≡ Word) tokens.now → plain_of (texts_of tokens.now) ≡ Some plain → fault.cause ≡ Memory) }
+{
     let mut draft = Draft::new(alloc);
     let mut last = line;
     for (i, token) in tokens.iter().enumerate() {
-        let next = match tokens.get(i + 1) {
-            Some(next) => next.text,
-            None => &[],
-        };
-        draft.take(*token, next)?;
+        draft.take(*token, text_at(tokens, i + 1))?;
         last = token.line;
     }
     draft.finish(last)?;

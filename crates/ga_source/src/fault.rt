@@ -56,12 +56,22 @@ pub struct Fault<'s> {
 }
 
 impl<'s> From<AllocError> for Fault<'s> {
+    ghost use Rattle.std.specs.Prelude.{◌≡◌};
+    ghost use Rattle.ga_source.specs.declared.fault.Cause.TheVariants.{Memory};
+
+    ghost from_gives = { λ _ fault. fault.cause ≡ Memory };
+
     fn from(_refused: AllocError) -> Self {
         at(0, Cause::Memory)
     }
 }
 
 impl<'s, T: Drop> From<AllocFailed<T>> for Fault<'s> {
+    ghost use Rattle.std.specs.Prelude.{◌≡◌};
+    ghost use Rattle.ga_source.specs.declared.fault.Cause.TheVariants.{Memory};
+
+    ghost from_gives = { λ _ fault. fault.cause ≡ Memory };
+
     fn from(_refused: AllocFailed<T>) -> Self {
         at(0, Cause::Memory)
     }

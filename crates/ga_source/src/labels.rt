@@ -1,5 +1,7 @@
 //! The labels of a node while its words are read.
 
+ghost use Rattle.std.specs.Prelude.{◌≡◌, ◌≢◌, [], OnErr};
+
 use super::fault::{Cause, Fault, at};
 use std::alloc::{AllocError, Global};
 use std::collections::HashMap;
@@ -23,7 +25,9 @@ pub(crate) struct Labels<'s> {
 }
 
 impl<'s> Labels<'s> {
-    pub(crate) fn new(alloc: Global) -> Self {
+    pub(crate) fn new(alloc: Global) -> Self
+        ensures { result.list.items ≡ [] }
+    {
         Labels {
             list: Vec::new(alloc),
             names: HashMap::new(alloc),
@@ -81,7 +85,9 @@ impl<'s> Labels<'s> {
     }
 
     /// The first name that no place has.
-    pub(crate) fn check(&self) -> Result<(), Fault<'s>> {
+    pub(crate) fn check(&self) -> Result<(), Fault<'s>>
+        ensures { OnErr result (self.now.list.items ≢ []) }
+    {
         for label in &self.list {
             if !label.name.is_empty() && !label.is_marked {
                 return Err(at(label.line, Cause::Unknown(label.name)));

@@ -9,6 +9,7 @@ mod draft;
 mod fault;
 mod item;
 mod labels;
+pub mod laws;
 mod loading;
 mod number;
 mod packing;

@@ -1,6 +1,6 @@
 //! Groups loaded into a node.
 
-ghost use Rattle.std.specs.Prelude.{◌≡◌, ◌-◌, ◌%◌, ◌<◌, ◌≤◌, ℕ, Some, true, false, length, replicate, slice_index_or, OnOk, IfSome};
+ghost use Rattle.std.specs.Prelude.{◌≡◌, ◌≢◌, ◌-◌, ◌%◌, ◌<◌, ◌≤◌, ◌^◌, ℕ, Some, true, false, List, [], ◌∷◌, length, replicate, slice_index_or, slice_set, OnOk, OnErr, IsOk, IfSome, IsSome};
 ghost use Rattle.ga_node.specs.State.{with_value, HasMemory};
 ghost use Rattle.ga_slots.specs.Codes.{code_of};
 ghost use Rattle.ga_slots.specs.Slots.{opcode as opcode_of, target as target_of};
@@ -8,6 +8,9 @@ ghost use Rattle.ga_source.specs.Reading.{begin_at as begin_of, ends_cell, follo
 ghost use Rattle.ga_source.specs.kept.Layout.{IsFitGroup, IsLaidOut, takes_group};
 ghost use Rattle.ga_source.specs.kept.Loading.{HasItem, HasRest, Holds, HoldsRest, IsLoadedGroup, IsMemory, IsWordOf, Keeps, Leads, MayEnd};
 ghost use Rattle.ga_source.specs.kept.Places.{IsCell, KeepsRest};
+ghost use Rattle.ga_source.specs.declared.item.Value.{Value as ValueOf};
+ghost use Rattle.ga_source.specs.Sound.{IsMemoryAddress, AreFree};
+ghost use Rattle.ga_source.specs.kept.Packing.{IsCellGroup, AreCellGroups, AreWords};
 ghost use Rattle.ga_source.specs.Cells.{KeepsElsewhere, is_asked, is_at, takes};
 ghost use Rattle.ga_source.specs.kept.Words.{op_in, nothing};
 
@@ -25,7 +28,8 @@ const CELLS: usize = 192;
 
 /// The place of the cell at an address, where there is one.
 pub(crate) fn place_of(address: u32) -> Option<Place>
-    ensures { IfSome result (IsCell address) }
+    ensures cell { IfSome result (IsCell address) }
+    ensures some { IsMemoryAddress address → IsSome result }
 {
     let low = address % 512;
     if low < 64 {
@@ -101,7 +105,8 @@ fn opcode_word(items: &[Item]) -> Word18
 
 /// A value as a word, where it is one.
 fn value_in(labels: &[Option<u32>], value: Value) -> Option<Word18>
-    ensures { IfSome result (λ word. resolved labels.now value ≡ Some word) }
+    ensures value { IfSome result (λ word. resolved labels.now value ≡ Some word) }
+    ensures some { (n : ℕ) → value ≡ Value.Number n → n < 2 ^ 18 → IsSome result }
 {
     Word18::new(resolve(labels, value)?)
 }
@@ -122,6 +127,7 @@ fn with_last(labels: &[Option<u32>], word: Word18, slot: usize, last: Item) -> O
     ensures has { IfSome result (λ found. opcode_of word slot ≡ op_in last → HasItem labels.now found slot last) }
     ensures before { IfSome result (λ found. (k : ℕ) → k < slot → opcode_of found k ≡ opcode_of word k) }
     ensures behind { IfSome result (λ found. ends_cell last ≡ false → found ≡ word) }
+    ensures some { (n : ℕ) → last ≡ Item.Cell (Value.Number n) → n < 2 ^ 18 → IsSome result }
 {
     match last {
         Item::Cell(value) => value_in(labels, value),
@@ -135,7 +141,8 @@ fn with_last(labels: &[Option<u32>], word: Word18, slot: usize, last: Item) -> O
 fn word_of(labels: &[Option<u32>], group: &Group) -> Option<Word18>
     requires begun { 0 < length group.now.items.items }
     requires fit { IsFitGroup labels.now group.now }
-    ensures { IfSome result (λ word. IsWordOf labels.now group.now.items.items word) }
+    ensures word { IfSome result (λ word. IsWordOf labels.now group.now.items.items word) }
+    ensures some { (n : ℕ) → group.now.items.items ≡ Item.Cell (Value.Number n) ∷ [] → n < 2 ^ 18 → IsSome result }
 {
     let items = group.items.as_slice();
     let word = opcode_word(items);
@@ -166,6 +173,8 @@ fn write(
     ensures written { OnOk result (word_in node.new address ≡ Some word) }
     ensures held { OnOk result (Holds given.new (address % 512)) }
     ensures kept { OnOk result (Keeps node.old given.old node.new given.new) }
+    ensures given { OnOk result (given.new ≡ slice_set given.old (address % 512) (Some line)) }
+    ensures refused { OnErr result (IsMemoryAddress address → length given.old ≡ 192 → slice_index_or given.old (address % 512) None ≢ None) }
 {
     let Some(place) = place_of(address) else {
         return Err(at(line, Cause::Past));
@@ -213,6 +222,8 @@ fn write_item(
     ensures has { OnOk result (HasRest node.new labels.now spot item) }
     ensures held { OnOk result (HoldsRest given.new spot item) }
     ensures kept { OnOk result (Keeps node.old given.old node.new given.new) }
+    ensures same { (value : ValueOf) → item ≡ Item.Cell value → given.new ≡ given.old }
+    ensures taken { (value : ValueOf) → item ≡ Item.Cell value → IsOk result }
 {
     match item {
         Item::Literal(value) => match value_in(labels, value) {
@@ -237,6 +248,10 @@ fn write_group(
     ensures elsewhere { OnOk result (KeepsElsewhere (λ cell. takes_group cell group.now) node.old node.new) }
     ensures kept { OnOk result (Keeps node.old given.old node.new given.new) }
     ensures loaded { OnOk result (IsLoadedGroup node.new labels.now given.new group.now) }
+    ensures given { OnOk result ((cell : ℕ × ℕ) (k : ℕ) → IsCellGroup cell group.now → k ≢ cell.0 % 512 →
+        slice_index_or given.new k None ≡ slice_index_or given.old k None) }
+    ensures refused { OnErr result ((cell : ℕ × ℕ) → IsCellGroup cell group.now → cell.1 < 2 ^ 18 → IsMemoryAddress cell.0 → length given.old ≡ 192 →
+        slice_index_or given.old (cell.0 % 512) None ≢ None) }
 {
     if let Some(line) = group.broken {
         return Err(at(line, Cause::Loop));
@@ -259,7 +274,8 @@ fn write_group(
 
 /// No cell is given.
 fn none_given() -> [Option<u32>; CELLS]
-    ensures { length result ≡ 192 }
+    ensures size { length result ≡ 192 }
+    ensures empty { result ≡ replicate 192 None }
 {
     [None; CELLS]
 }
@@ -270,6 +286,7 @@ pub(crate) fn load(node: &mut Node, packed: &Packed, asked: &[Asked]) -> Result<
     ensures follows { OnOk result (follows_of node.new packed.now.labels.items (begin_of 0) asked.now ≡ true) }
     ensures rest { OnOk result (KeepsRest node.old node.new) }
     ensures elsewhere { OnOk result (KeepsElsewhere (is_asked packed.now.labels.items (begin_of 0) asked.now) node.old node.new) }
+    ensures refused { OnErr result ((cells : List (ℕ × ℕ)) → AreCellGroups cells packed.now.groups.items → AreWords cells → AreFree cells → ⊥) }
 {
     let labels = packed.labels.as_slice();
     let mut given = none_given();

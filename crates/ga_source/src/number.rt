@@ -4,7 +4,7 @@ ghost use Rattle.std.specs.Prelude.{◌≡◌, ◌<◌, ◌≤◌, ◌^◌, min,
 ghost use Rattle.std.specs.Char.{digit_value};
 ghost use Rattle.std.specs.Option.{option_map_or, SomeIff};
 ghost use Rattle.ga_source.specs.declared.number.Number.TheVariants.{Nothing};
-ghost use Rattle.ga_source.specs.kept.Numbers.{digits_in, plain_in, word_of_size, word_below, numeral_in, side_bit, set_in, port_in, number_in};
+ghost use Rattle.ga_source.specs.Numbers.{digits_in, plain_in, word_of_size, word_below, numeral_in, side_bit, set_in, port_in, number_in};
 
 /// What a word says of a number.
 #[derive(Clone, Copy, PartialEq, Eq, Debug)]
@@ -149,7 +149,7 @@ fn port(text: &[u8]) -> Option<u32>
     }
 }
 
-#[tactic(auto, unfolding(crate::specs::kept::Numbers::set_in))]
+#[tactic(auto, unfolding(crate::specs::Numbers::set_in))]
 fn ports(text: &[u8]) -> Option<u32>
     ensures { result ≡ set_in text.now }
 {

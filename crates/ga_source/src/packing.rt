@@ -1,8 +1,14 @@
 //! Requests packed into groups.
 
-ghost use Rattle.std.specs.Prelude.{◌≡◌, ℕ, [], ◌∷◌, ◌++◌, List, IsTrue, IfOk, OnOk, slice_index_or};
+ghost use Rattle.std.specs.Prelude.{◌≡◌, ℕ, [], ◌∷◌, ◌++◌, List, IsTrue, true, IfOk, IfErr, OnOk, slice_index_or};
 ghost use Rattle.ga_source.specs.declared.item.Asked.{Asked};
 ghost use Rattle.ga_source.specs.Reading.{after_request};
+ghost use Rattle.ga_source.specs.declared.fault.Cause.TheVariants.{Memory};
+ghost use Rattle.ga_source.specs.declared.item.Value.TheVariants.{Number};
+ghost use Rattle.ga_source.specs.declared.item.Request.{Request as RequestOf};
+ghost use Rattle.ga_source.specs.Reading.{fits as fits_of, begin_at as begin_of};
+ghost use Rattle.ga_source.specs.Sound.{cells_from};
+ghost use Rattle.ga_source.specs.kept.Packing.{requests_of, IsPlainRequest, ArePlain, AreCellGroups, IsPackedPlain};
 ghost use Rattle.ga_source.specs.kept.Layout.{IsClosed, IsFilling, IsInCell, IsKnown, IsLaidOut, IsPending, IsWalked};
 
 use super::fault::{Cause, Fault, at};
@@ -58,7 +64,8 @@ impl Packer {
 
     /// Whether the item is no jump back to a label whose address isn't known.
     fn is_known(&self, item: Item) -> bool
-        ensures { IsTrue result → IsKnown self.now.labels.items item }
+        ensures known { IsTrue result → IsKnown self.now.labels.items item }
+        ensures data { (n : ℕ) → item ≡ Item.Cell (Number n) → IsTrue result }
     {
         match item {
             Item::Back(_, label) => self.address(label).is_some(),
@@ -68,7 +75,10 @@ impl Packer {
 
     /// Ends the cell that is being filled.
     fn close(&mut self) -> Result<(), AllocError>
-        ensures { OnOk result (IsClosed self.old self.new) }
+        ensures closed { OnOk result (IsClosed self.old self.new) }
+        ensures stays { self.old.filling.items ≡ [] → self.old.broken ≡ None → self.new ≡ self.old }
+        ensures cell { OnOk result ((n : ℕ) (cells : List (ℕ × ℕ)) → self.old.filling.items ≡ Item.Cell (Number n) ∷ [] → self.old.broken ≡ None →
+            AreCellGroups cells self.old.groups.items → AreCellGroups (cells ++ (self.old.spot.at, n) ∷ []) self.new.groups.items) }
     {
         if self.filling.is_empty() && self.broken.is_none() {
             return Ok(());
@@ -86,6 +96,7 @@ impl Packer {
     fn make_room(&mut self, item: Item) -> Result<(), AllocError>
         requires { IsInCell self.old }
         ensures cell { OnOk result (IsInCell self.new) }
+        ensures stays { fits_of self.old.labels.items self.old.spot item ≡ true → self.new ≡ self.old }
         ensures pending { OnOk result ((before : List Asked) (line : ℕ) → IsKnown self.old.labels.items item → IsWalked self.old before →
             IsPending self.new (before ++ record { line = line; request = Request.Put item } ∷ []) item) }
     {
@@ -103,6 +114,8 @@ impl Packer {
         requires { IsInCell self.old }
         ensures cell { OnOk result (IsInCell self.new) }
         ensures walked { OnOk result ((asked : List Asked) → IsPending self.old asked item → IsWalked self.new asked) }
+        ensures packed { OnOk result ((n : ℕ) (requests : List RequestOf) → item ≡ Item.Cell (Number n) → IsPackedPlain self.old requests →
+            IsPackedPlain self.new (requests ++ Request.Put item ∷ [])) }
     {
         self.filling.push(item);
         let _fits = self.lines.try_push(line);
@@ -134,6 +147,9 @@ impl Packer {
         requires put { asked.request ≡ Request.Put item }
         ensures cell { OnOk result (IsInCell self.new) }
         ensures walked { OnOk result ((before : List Asked) → IsWalked self.old before → IsWalked self.new (before ++ asked ∷ [])) }
+        ensures packed { OnOk result ((n : ℕ) (requests : List RequestOf) → item ≡ Item.Cell (Number n) → IsPackedPlain self.old requests →
+            IsPackedPlain self.new (requests ++ Request.Put item ∷ [])) }
+        ensures refused { IfErr result (λ fault. (n : ℕ) → item ≡ Item.Cell (Number n) → fault.cause ≡ Memory) }
     {
         if !self.is_known(item) {
             return Err(at(asked.line, Cause::Unmatched));
@@ -185,6 +201,9 @@ impl Packer {
         requires after { after_request self.old.labels.items self.old.spot asked.request ≡ spot }
         ensures cell { OnOk result (IsInCell self.new) }
         ensures walked { OnOk result ((before : List Asked) → IsWalked self.old before → IsWalked self.new (before ++ asked ∷ [])) }
+        ensures packed { OnOk result ((address : ℕ) (requests : List RequestOf) → spot ≡ begin_of address → IsPackedPlain self.old requests →
+            IsPackedPlain self.new (requests ++ Request.Go address ∷ [])) }
+        ensures refused { IfErr result (λ fault. fault.cause ≡ Memory) }
     {
         self.close()?;
         self.spot = spot;
@@ -195,6 +214,9 @@ impl Packer {
         requires { IsInCell self.old }
         ensures cell { OnOk result (IsInCell self.new) }
         ensures walked { OnOk result ((before : List Asked) → IsWalked self.old before → IsWalked self.new (before ++ asked ∷ [])) }
+        ensures packed { OnOk result ((requests : List RequestOf) → IsPlainRequest asked.request → IsPackedPlain self.old requests →
+            IsPackedPlain self.new (requests ++ asked.request ∷ [])) }
+        ensures refused { IfErr result (λ fault. IsPlainRequest asked.request → fault.cause ≡ Memory) }
     {
         let next = next_cell(self.spot);
         match asked.request {
@@ -210,7 +232,9 @@ impl Packer {
 
 /// Packs requests, which name so many labels.
 pub(crate) fn pack(alloc: Global, asked: &[Asked], labels: usize) -> Result<Packed, Fault<'static>>
-    ensures { IfOk result (λ packed. IsLaidOut packed asked.now) }
+    ensures laid_out { IfOk result (λ packed. IsLaidOut packed asked.now) }
+    ensures cells { IfOk result (λ packed. ArePlain (requests_of asked.now) → AreCellGroups (cells_from 0 (requests_of asked.now)) packed.groups.items) }
+    ensures refused { IfErr result (λ fault. ArePlain (requests_of asked.now) → fault.cause ≡ Memory) }
 {
     let mut packer = Packer {
         groups: Vec::new(alloc),

@@ -1,11 +1,21 @@
 //! A text as a chip.
 
-ghost use Rattle.std.specs.Prelude.{◌≡◌, ◌≤◌, ◌<◌, true, length, codes, position, IfOk, OnOk, IfSome};
+ghost use Rattle.std.specs.Prelude.{ℕ, ◌≡◌, ◌≤◌, ◌<◌, true, false, List, [], length, replicate, take, drop, codes, position, Some, IfOk, IfErr, OnOk, OnErr, IfSome};
+ghost use Rattle.std.specs.List.{All};
 ghost use Rattle.ga_grid.specs.Chip.{records_of};
 ghost use Rattle.ga_grid.specs.Steady.{AreSteady};
 ghost use Rattle.ga_source.specs.Programs.{given_of, with_registers, has_cells as has_cells_of, is_item as is_item_of, start_of as start, is_named, at_load, HasProgram, IsAssembled};
 ghost use Rattle.ga_source.specs.Cells.{IsEmptyElsewhere};
-ghost use Rattle.ga_source.specs.kept.Programs.{AreLoaded};
+ghost use Rattle.ga_grid.specs.Grid.{number_in};
+ghost use Rattle.ga_source.specs.Plain.{Plain, is_node as is_node_word, body_in, bodies_in, yxx_in, plain_of, value_in, asked_by, AreRead};
+ghost use Rattle.ga_source.specs.Made.{IsMade};
+ghost use Rattle.ga_source.specs.declared.fault.Cause.TheVariants.{Memory};
+ghost use Rattle.ga_source.specs.declared.scan.Kind.TheVariants.{Word};
+ghost use Rattle.ga_source.specs.Sound.{AreFree, cells_from, IsSound};
+ghost use Rattle.ga_source.specs.kept.Refusing.{IsSoundFrom};
+ghost use Rattle.ga_source.specs.kept.Packing.{IsNumber, AreNumbers};
+ghost use Rattle.ga_source.specs.kept.Hearing.{texts_of};
+ghost use Rattle.ga_source.specs.kept.Programs.{AreLoaded, AreOfFirst};
 
 use super::draft::read_node;
 use super::fault::{Cause, Fault, at};
@@ -20,7 +30,9 @@ use ga_node::{Node, Place};
 use std::alloc::Global;
 
 /// The node of a name of three digits.
-fn node_named(text: &[u8]) -> Option<NodeId> {
+fn node_named(text: &[u8]) -> Option<NodeId>
+    ensures { number_in result ≡ yxx_in text.now }
+{
     match text {
         [row, tens, ones] => {
             let row = row.checked_sub(b'0')?;
@@ -35,12 +47,22 @@ fn node_named(text: &[u8]) -> Option<NodeId> {
     }
 }
 
+/// Whether the program of a node begins here.
+fn is_node(text: &[u8]) -> bool
+    ensures { result ≡ is_node_word text.now }
+{
+    text == b"node".as_slice()
+}
+
 /// How many words stand before the next word `node`.
 fn body_length(tokens: &[Token]) -> usize
-    ensures { result ≤ length tokens.now }
+    ensures in_range { result ≤ length tokens.now }
+    ensures front { texts_of (take result tokens.now) ≡ body_in (texts_of tokens.now) }
+    ensures behind { bodies_in (texts_of (drop result tokens.now)) ≡ bodies_in (texts_of tokens.now) }
+    ensures next { body_in (texts_of (drop result tokens.now)) ≡ [] }
 {
     for (i, token) in tokens.iter().enumerate() {
-        if token.text == b"node".as_slice() {
+        if is_node(token.text) {
             return i;
         }
     }
@@ -110,6 +132,7 @@ fn value_given(
 ) -> Result<Option<u32>, Fault<'static>>
     ensures in_range { IfOk result (λ found. IfSome found (λ value. value < bound)) }
     ensures value { IfOk result (λ found. found ≡ given_of labels.now given) }
+    ensures refused { OnErr result (IsNumber bound (value_in given) → ⊥) }
 {
     let Some(given) = given else {
         return Ok(None);
@@ -126,7 +149,8 @@ fn set_registers(
     labels: &[Option<u32>],
     registers: Registers,
 ) -> Result<(), Fault<'static>>
-    ensures { OnOk result (node.new ≡ with_registers node.old labels.now registers) }
+    ensures set { OnOk result (node.new ≡ with_registers node.old labels.now registers) }
+    ensures refused { OnErr result (AreNumbers (value_in registers.p) (value_in registers.a) (value_in registers.b) → ⊥) }
 {
     if let Some(value) = value_given(labels, registers.p, 0x400)? {
         node.set(Place::P, value);
@@ -157,6 +181,10 @@ fn assemble_node<'s>(
 ) -> Result<Program<'s>, Fault<'s>>
     ensures node { IfOk result (λ program. program.node ≡ id) }
     ensures loaded { IfOk result (λ program. HasProgram node.old node.new program) }
+    ensures asks { IfOk result (λ program. (plain : Plain) → plain_of (texts_of tokens.now) ≡ Some plain → asked_by program.asked.items program.registers ≡ plain) }
+    ensures names { IfOk result (λ program. (plain : Plain) → plain_of (texts_of tokens.now) ≡ Some plain → program.names.items ≡ []) }
+    ensures refused { IfErr result (λ fault. (plain : Plain) → All (λ token. token.kind ≡ Word) tokens.now → plain_of (texts_of tokens.now) ≡ Some plain →
+        AreFree (cells_from 0 plain.requests) → fault.cause ≡ Memory) }
 {
     let found = read_node(alloc, line, tokens)?;
     let packed = pack(alloc, found.asked.as_slice(), found.labels.list.len())?;
@@ -178,6 +206,14 @@ fn assemble_node<'s>(
     })
 }
 
+/// No node has begun.
+fn none_begun() -> [bool; NODES]
+    ensures size { length result ≡ 144 }
+    ensures empty { result ≡ replicate 144 false }
+{
+    [false; NODES]
+}
+
 /// Assembles the program of the node whose words come first, and tells how many words it has.
 fn assemble_first<'s>(
     alloc: Global,
@@ -191,9 +227,13 @@ fn assemble_first<'s>(
     requires loaded { AreLoaded chip.old begun.old programs.old.items }
     ensures count { IfOk result (λ count. (0 < count) × (count ≤ length words.now)) }
     ensures loaded { OnOk result (AreLoaded chip.new begun.new programs.new.items) }
+    ensures read { (all : List (List (List ℕ))) → AreOfFirst all programs.old.items (bodies_in (texts_of words.now)) →
+        IfOk result (λ count. AreOfFirst all programs.new.items (bodies_in (texts_of (drop count words.now)))) }
+    ensures sound { IfOk result (λ count. IsSoundFrom begun.old words.now → IsSoundFrom begun.new (drop count words.now)) }
+    ensures refused { IfErr result (λ fault. IsSoundFrom begun.old words.now → fault.cause ≡ Memory) }
 {
     let first = words[0];
-    if first.word()? != b"node".as_slice() {
+    if !is_node(first.word()?) {
         return Err(at(first.line, Cause::NoNode));
     }
     if words.len() < 2 {
@@ -223,6 +263,15 @@ pub fn assemble(alloc: Global, source: &[u8]) -> Result<Assembled<'_>, Fault<'_>
     // Each node that is named has its program and its registers, and all else of the chip is as at load.
     ensures programs { IfOk result (λ all. IsAssembled all.chip all.programs.items) }
 
+    // Each program is that of the words behind a `node`, in order, and asks for what these ask for where they are plain.
+    ensures read { IfOk result (λ all. AreRead source.now all.programs.items) }
+
+    // So the words behind a `node` make its node, where they are plain, and a node that isn't named is as at load.
+    ensures made { IfOk result (λ all. IsMade source.now all.chip) }
+
+    // A source of plain words that give each cell once is refused for want of memory alone.
+    ensures refused { IfErr result (λ fault. IsSound source.now → fault.cause ≡ Memory) }
+
     // So each cell that nobody names is 0.
     ensures empty { IfOk result (λ all. IsEmptyElsewhere all.chip all.programs.items) }
 
@@ -234,7 +283,7 @@ pub fn assemble(alloc: Global, source: &[u8]) -> Result<Assembled<'_>, Fault<'_>
         Ok(chip) => chip,
         Err(_) => return Err(at(0, Cause::Memory)),
     };
-    let mut begun = [false; NODES];
+    let mut begun = none_begun();
     let mut programs = Vec::new(alloc);
     let words = tokens.as_slice();
     let mut start = 0;

@@ -2,7 +2,8 @@
 
 ghost use Rattle.std.specs.Prelude.{◌≡◌, ◌<◌, [], ◌∷◌, ◌++◌, length, IsOkAnd, IsErrAnd, IfOk, OnOk};
 ghost use Rattle.std.specs.List.{list_all};
-ghost use Rattle.ga_source.specs.kept.Saying.{lines_of, is_blank as is_blank_byte, parted, closes as closes_comment, said_by, is_word, said_in, all_said};
+ghost use Rattle.ga_source.specs.Saying.{lines_of, is_blank as is_blank_byte, parted, closes as closes_comment, said_by, is_word, said_in};
+ghost use Rattle.ga_source.specs.kept.Telling.{all_said};
 ghost use Rattle.ga_source.specs.declared.scan.Kind.TheVariants.{Word, LongLine, OpenComment};
 ghost use Rattle.ga_source.specs.declared.fault.Cause.TheVariants.{LongLine as TooLong, OpenComment as LeftOpen};
 
@@ -30,6 +31,7 @@ pub(crate) enum Kind {
 impl<'s> Token<'s> {
     /// The word, or the line's fault.
     pub(crate) fn word(self) -> Result<&'s [u8], Fault<'s>>
+        ensures told { IfOk result (λ text. text.now ≡ self.entry.text.now) }
         ensures word { self.entry.kind ≡ Word → IsOkAnd result (λ text. text.now ≡ self.entry.text.now) }
         ensures long { self.entry.kind ≡ LongLine → IsErrAnd result (λ fault. (fault.line ≡ self.entry.line) × (fault.cause ≡ TooLong)) }
         ensures open { self.entry.kind ≡ OpenComment → IsErrAnd result (λ fault. (fault.line ≡ self.entry.line) × (fault.cause ≡ LeftOpen)) }

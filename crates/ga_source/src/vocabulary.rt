@@ -2,7 +2,8 @@
 
 ghost use Rattle.std.specs.Prelude.{◌≡◌, ◌+◌};
 ghost use Rattle.ga_node.specs.Places.{greatest_of};
-ghost use Rattle.ga_source.specs.kept.Vocabulary.{by_name, closings, controls, directives, place_of};
+ghost use Rattle.ga_source.specs.Numbers.{by_name};
+ghost use Rattle.ga_source.specs.kept.Vocabulary.{closings, controls, directives, place_of};
 
 use super::number::{Number, number_of};
 use ga_slots::Op;

@@ -1,5 +1,5 @@
 -- The control words and the directives by their names (docs/REFERENCE.md, "Source").
-use Rattle.std.specs.Prelude.{ℕ, true, false, List, [], ◌∷◌, Option, Some, None, if◌then◌else◌, codes, bytes_eq}
+use Rattle.std.specs.Prelude.{ℕ, true, false, List, [], ◌∷◌, codes}
 use Rattle.ga_slots.specs.declared.op.Op.TheVariants.{Jump, If as IfOp, MinusIf}
 use Rattle.ga_node.specs.declared.place.Place.{Place}
 use Rattle.ga_node.specs.declared.place.Place.TheVariants.{A as RegisterA, B as RegisterB, P as RegisterP}
@@ -9,11 +9,6 @@ use Rattle.ga_source.specs.declared.vocabulary.Directive.{Directive}
 use Rattle.ga_source.specs.declared.vocabulary.Directive.TheVariants.{Label, Address, Register as Given, Fill, Carry}
 use Rattle.ga_source.specs.declared.vocabulary.Register.{Register}
 use Rattle.ga_source.specs.declared.vocabulary.Register.TheVariants.{P, A, B}
-
--- what a table has for a name
-abbrev pub by_name : {X : Type 0} → List (List ℕ × X) → List ℕ → Option X
-by_name [] text = None
-by_name (row ∷ rest) text = if bytes_eq text row.0 then Some row.1 else by_name rest text
 
 -- the control words that close the innermost loop
 abbrev pub closings : List (List ℕ × Control)

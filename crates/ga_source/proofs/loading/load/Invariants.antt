@@ -1,8 +1,10 @@
-use Rattle.std.proofs.Common.{take}
+use Rattle.std.proofs.Common.{ℕ, ◌≡◌, List, length, take}
 use Rattle.std.specs.List.{All}
 use Rattle.ga_source.specs.Cells.{KeepsElsewhere}
 use Rattle.ga_source.specs.kept.Layout.{are_taken}
 use Rattle.ga_source.specs.kept.Loading.{IsLoadedGroup}
+use Rattle.ga_source.specs.Sound.{AreFree}
+use Rattle.ga_source.specs.kept.Packing.{AreCellGroups, AreOpen}
 use Rattle.ga_source.specs.kept.Places.{KeepsRest}
 use Rattle.ga_source.proofs.loading.load.Given as goal
 
@@ -11,4 +13,6 @@ invariant-loop-group l = record {
   rest : KeepsRest l.fn.node l.node;
   elsewhere : KeepsElsewhere (are_taken l.packed.groups.items) l.fn.node l.node;
   loaded : All (IsLoadedGroup l.node l.labels l.given) (take l.group-index l.packed.groups.items);
+  size : length l.given ≡ 192;
+  free : (cells : List (ℕ × ℕ)) → AreCellGroups cells l.packed.groups.items → AreFree cells → AreOpen l.given cells l.group-index;
 }

@@ -11,8 +11,8 @@ opcode_word-word-requires-clause-last c =
     let same = c.as_slice-items.ensures.value in
     four_codes c.args.labels.now c.args.group.now.address c.as_slice-items.result.now (subst (IsFit c.args.labels.now c.args.group.now.address) (sym same) c.requires.fit)
 
-pub returns : goal.returns
-returns c =
+pub returns-clause-word : goal.returns-clause-word
+returns-clause-word c =
     let same = c.as_slice-items.ensures.value in
     let items = c.as_slice-items.result.now in
     let fit = subst (IsFit c.args.labels.now c.args.group.now.address) (sym same) c.requires.fit in

@@ -1,5 +1,10 @@
+use Rattle.std.proofs.Common.{ℕ, ◌≡◌, ◌≢◌, ◌%◌, None, slice_index_or}
 use Rattle.ga_source.specs.kept.Loading.{IsWriting}
+use Rattle.ga_source.specs.kept.Packing.{IsCellGroup}
 use Rattle.ga_source.proofs.loading.write_group.Given as goal
 
 abbrev pub invariant-loop-i : goal.invariant-loop-i
-invariant-loop-i l = IsWriting l.fn.node l.fn.given l.node l.given l.labels l.group l.spot l.i
+invariant-loop-i l = record {
+  writing : IsWriting l.fn.node l.fn.given l.node l.given l.labels l.group l.spot l.i;
+  given : (cell : ℕ × ℕ) (k : ℕ) → IsCellGroup cell l.group → k ≢ cell.0 % 512 → slice_index_or l.given k None ≡ slice_index_or l.fn.given k None;
+}

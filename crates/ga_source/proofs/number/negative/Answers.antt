@@ -1,5 +1,5 @@
 use Rattle.std.proofs.Common.{◌∙◌}
-use Rattle.ga_source.specs.kept.Numbers.{plain_in}
+use Rattle.ga_source.specs.Numbers.{plain_in}
 use Rattle.ga_source.proofs.Numbers.{read_below}
 use Rattle.ga_source.proofs.number.negative.Goals as goal
 

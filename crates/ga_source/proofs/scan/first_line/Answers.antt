@@ -1,6 +1,6 @@
 use Rattle.std.proofs.Common.{arith}
 use Rattle.std.proofs.lemmas.Bool.{eq-eqb}
-use Rattle.ga_source.specs.kept.Saying.{is_feed}
+use Rattle.ga_source.specs.Saying.{is_feed}
 use Rattle.ga_source.proofs.Scanning.{at_end, no_end}
 use Rattle.ga_source.proofs.scan.first_line.Goals as goal
 

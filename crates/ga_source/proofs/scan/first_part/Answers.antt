@@ -1,5 +1,5 @@
 use Rattle.std.proofs.Common.{◌∙◌, sym, arith}
-use Rattle.ga_source.specs.kept.Saying.{is_blank}
+use Rattle.ga_source.specs.Saying.{is_blank}
 use Rattle.ga_source.proofs.Scanning.{at_end, no_end}
 use Rattle.ga_source.proofs.scan.first_part.Goals as goal
 

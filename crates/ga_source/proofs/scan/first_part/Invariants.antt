@@ -1,5 +1,5 @@
 use Rattle.std.proofs.Common.{◌≡◌, ℕ, ◌<◌, get_or, false}
-use Rattle.ga_source.specs.kept.Saying.{is_blank}
+use Rattle.ga_source.specs.Saying.{is_blank}
 use Rattle.ga_source.proofs.scan.first_part.Given as goal
 
 abbrev pub invariant-loop-i : goal.invariant-loop-i

@@ -1,6 +1,6 @@
 use Rattle.std.proofs.Common.{◌∙◌, sym, refl}
 use Rattle.std.proofs.lemmas.Bool.{eqb-true}
-use Rattle.ga_source.specs.kept.Saying.{said_in}
+use Rattle.ga_source.specs.Saying.{said_in}
 use Rattle.ga_source.proofs.Scanning.{at_end_line, at_faulty_line, at_whole_line, nothing_left, said_all, said_last, said_more}
 use Rattle.ga_source.proofs.scan.scan.Goals as goal
 use Rattle.ga_source.proofs.scan.scan.Goals.{then-eq-via-then-eq, then-eq-via-else-eq+in_ok-scan_line+then-not-branch}

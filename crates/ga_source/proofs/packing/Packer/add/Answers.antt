@@ -1,5 +1,6 @@
 use Rattle.std.proofs.Common.{refl}
 use Rattle.ga_source.specs.declared.packing.Packer.{Packer}
+use Rattle.ga_source.proofs.CellGroups.{added_cell}
 use Rattle.ga_source.proofs.Walking.{added_open, added_closed}
 use Rattle.ga_source.proofs.packing.Packer.add.Goals as goal
 
@@ -8,7 +9,7 @@ returns-then-next-eq0-clause-walked c = λ asked w.
     let before = c.args.self.now in
     let full : Packer = record { groups = before.groups; labels = before.labels; filling = c.push.new.self; lines = c.try_push-fits.new.self; broken = before.broken; spot = before.spot } in
     added_closed before asked c.args.item c.push.new.self.items c.push.ensures.items c.requires w c.behind-next.result c.behind-next.ensures.value c.if-next-eq0.true
-    full c.close.new.self refl refl refl refl refl c.in_ok-close.ensures
+    full c.close.new.self refl refl refl refl refl c.in_ok-close.ensures.closed
 
 pub returns-clause-walked : goal.returns-clause-walked
 returns-clause-walked c = λ asked w.
@@ -16,3 +17,9 @@ returns-clause-walked c = λ asked w.
     let after : Packer = record { groups = before.groups; labels = before.labels; filling = c.push.new.self; lines = c.try_push-fits.new.self; broken = before.broken; spot = c.behind-next.result } in
     added_open before asked c.args.item c.push.new.self.items c.push.ensures.items c.requires w c.behind-next.result c.behind-next.ensures.value c.if-next-eq0.false
     after refl refl refl refl refl
+
+pub returns-then-next-eq0-clause-packed : goal.returns-then-next-eq0-clause-packed
+returns-then-next-eq0-clause-packed c = λ n requests is w.
+    let before = c.args.self.now in
+    let full : Packer = record { groups = before.groups; labels = before.labels; filling = c.push.new.self; lines = c.try_push-fits.new.self; broken = before.broken; spot = before.spot } in
+    added_cell before full c.close.new.self c.behind-next.result c.args.item n requests is w c.push.ensures.items refl refl refl c.in_ok-close.ensures.closed c.in_ok-close.ensures.cell c.behind-next.ensures.value

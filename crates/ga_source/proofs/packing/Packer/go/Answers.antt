@@ -1,5 +1,10 @@
+use Rattle.ga_source.proofs.CellGroups.{gone_packed}
 use Rattle.ga_source.proofs.Marking.{gone}
 use Rattle.ga_source.proofs.packing.Packer.go.Goals as goal
 
 pub returns-clause-walked : goal.returns-clause-walked
-returns-clause-walked c = λ before w. gone c.args.self.now c.close.new.self c.args.spot before c.args.asked c.requires.fills c.requires.cell c.requires.after w c.in_ok-close.ensures
+returns-clause-walked c = λ before w. gone c.args.self.now c.close.new.self c.args.spot before c.args.asked c.requires.fills c.requires.cell c.requires.after w c.in_ok-close.ensures.closed
+
+pub returns-clause-packed : goal.returns-clause-packed
+returns-clause-packed c = λ address requests is w.
+    gone_packed c.args.self.now c.close.new.self c.args.spot address requests is w (c.close.ensures.stays w.filling w.whole)

@@ -11,5 +11,5 @@ returns-then-fits-clause-pending c =
 pub returns-clause-pending : goal.returns-clause-pending
 returns-clause-pending c =
     let none : fits c.args.self.now.labels.items c.args.self.now.spot c.args.item ≡ false = search rules in
-    let is_next = c.next_cell-next.ensures.value ∙ ap next_cell c.in_ok-close.ensures.spot_stays in
-    λ before line known w. pending_next c.args.self.now c.close.new.self c.next_cell-next.result before line c.args.item is_next none known c.requires w c.in_ok-close.ensures
+    let is_next = c.next_cell-next.ensures.value ∙ ap next_cell c.in_ok-close.ensures.closed.spot_stays in
+    λ before line known w. pending_next c.args.self.now c.close.new.self c.next_cell-next.result before line c.args.item is_next none known c.requires w c.in_ok-close.ensures.closed

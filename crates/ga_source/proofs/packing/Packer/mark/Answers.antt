@@ -5,7 +5,7 @@ use Rattle.ga_source.proofs.packing.Packer.mark.Goals as goal
 
 pub returns-clause-walked : goal.returns-clause-walked
 returns-clause-walked c =
-    let is_next = c.next_cell-next.ensures.value ∙ ap next_cell c.in_ok-close.ensures.spot_stays in
+    let is_next = c.next_cell-next.ensures.value ∙ ap next_cell c.in_ok-close.ensures.closed.spot_stays in
     let small : c.args.label < length c.close.new.self.labels.items = search rules in
     let unknown : slice_index_or c.close.new.self.labels.items c.args.label None ≡ None = search rules in
-    λ before w. marked_as c.args.self.now c.close.new.self c.next_cell-next.result before c.args.asked c.args.label c.requires.mark c.requires.cell w c.in_ok-close.ensures is_next small unknown _ refl refl (search rules) refl
+    λ before w. marked_as c.args.self.now c.close.new.self c.next_cell-next.result before c.args.asked c.args.label c.requires.mark c.requires.cell w c.in_ok-close.ensures.closed is_next small unknown _ refl refl (search rules) refl

@@ -1,7 +1,10 @@
 use Rattle.std.proofs.Common.{rules, ◌++◌, ◌∷◌, [], sym, subst}
+use Rattle.std.proofs.lemmas.Bool.{both_ways}
 use Rattle.ga_source.specs.declared.item.Asked.{Asked}
 use Rattle.ga_source.specs.declared.item.Request.TheVariants.{Put}
 use Rattle.ga_source.specs.kept.Layout.{IsKnown, IsWalked}
+use Rattle.ga_source.specs.kept.Packing.{IsPackedPlain}
+use Rattle.ga_source.proofs.CellGroups.{cell_fits}
 use Rattle.ga_source.proofs.Marking.{of_request}
 use Rattle.ga_source.proofs.packing.Packer.put.Goals as goal
 
@@ -11,3 +14,11 @@ returns-clause-walked c =
     let one : Asked = record { line = c.args.asked.line; request = Put c.args.item } in
     λ before w. subst (λ (asked : Asked). IsWalked c.add.new.self (before ++ asked ∷ [])) (sym (of_request c.args.asked (Put c.args.item) c.requires.put))
     (c.in_ok-add.ensures.walked (before ++ one ∷ []) (c.in_ok-make_room.ensures.pending before c.args.asked.line known w))
+
+pub returns-clause-packed : goal.returns-clause-packed
+returns-clause-packed c = λ n requests is w.
+    let stays = c.make_room.ensures.stays (cell_fits c.args.self.now requests c.args.item n is w) in
+    c.in_ok-add.ensures.packed n requests is (subst (λ packer. IsPackedPlain packer requests) (sym stays) w)
+
+pub returns-then-not-is_known-clause-refused : goal.returns-then-not-is_known-clause-refused
+returns-then-not-is_known-clause-refused c = λ n is. let known = c.is_known.ensures.data n is in absurd (both_ways c.is_known.result c.if-not-is_known.true known)

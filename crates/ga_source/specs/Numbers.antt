@@ -6,8 +6,7 @@ use Rattle.std.specs.Char.{is_digit}
 use Rattle.std.specs.Str.Parse.{digits_value}
 use Rattle.ga_source.specs.declared.number.Number.{Number}
 use Rattle.ga_source.specs.declared.number.Number.TheVariants.{Of, OutOfRange, Nothing}
-use Rattle.ga_source.specs.kept.Vocabulary.{by_name}
-use Rattle.ga_source.specs.kept.Saying.{has_bytes}
+use Rattle.ga_source.specs.Saying.{has_bytes}
 
 infixl 10 ◌>>=◌
 abbrev pub ◌>>=◌ : {A B : Type 0} → Option A → (A → Option B) → Option B
@@ -45,6 +44,11 @@ numeral_in text =
     else option_map_or word_of_size (plain_in text) Nothing
 
 -- ---- ports
+
+-- what a table has for a name
+abbrev pub by_name : {X : Type 0} → List (List ℕ × X) → List ℕ → Option X
+by_name [] text = None
+by_name (row ∷ rest) text = if bytes_eq text row.0 then Some row.1 else by_name rest text
 
 abbrev pub ports : List (List ℕ × ℕ)
 ports =

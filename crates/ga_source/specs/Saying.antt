@@ -1,9 +1,7 @@
 -- What a source says: its words with their lines, comments left out (docs/REFERENCE.md, "Source"; the notation is this project's own).
-use Rattle.std.specs.Prelude.{◌≡◌, ℕ, ◌+◌, ◌-◌, ◌^◌, ◌==◌, nat_lt, Bool, true, false, ◌||◌, not, if◌then◌else◌, List, [], ◌∷◌, ◌++◌, length, min, map, filter, slice_index, codes, bytes_eq}
-use Rattle.std.specs.List.{list_all}
+use Rattle.std.specs.Prelude.{ℕ, ◌+◌, ◌-◌, ◌^◌, ◌==◌, nat_lt, Bool, true, false, ◌||◌, not, if◌then◌else◌, List, [], ◌∷◌, ◌++◌, length, min, filter, slice_index, codes, bytes_eq}
 use Rattle.ga_source.specs.declared.scan.Kind.{Kind}
 use Rattle.ga_source.specs.declared.scan.Kind.TheVariants.{Word, LongLine, OpenComment}
-use Rattle.ga_source.specs.declared.scan.Token.{Token}
 
 -- ---- lines, and the words of a line
 
@@ -98,16 +96,3 @@ said_from line (text ∷ texts) = if bytes_eq text (codes "end") then [] else sa
 -- what a source says, up to its end, to a line `end` or to the first fault of a line
 unfoldable pub said_in : List ℕ → List Said
 said_in source = up_to_fault (said_from 1 (lines_of source))
-
--- ---- what tokens say
-
-abbrev pub said_of : Token → Said
-said_of token = record { line = token.line; text = token.text.now; kind = token.kind }
-
-abbrev pub all_said : List Token → List Said
-all_said tokens = map said_of tokens
-
--- Of a line, what stands before a rest was told: the rest says what is left, within a comment or not.
-pub record IsTold (line : ℕ) (text : List ℕ) (before now : List Said) (is_open : Bool) (rest : List ℕ) : Type 0 where
-  pub says : now ++ spoken line is_open (words_of rest) ≡ before ++ spoken line false (words_of text)
-  pub whole : list_all is_word (spoken line is_open (words_of rest)) ≡ list_all is_word (spoken line false (words_of text))

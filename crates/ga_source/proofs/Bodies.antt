@@ -1,0 +1,168 @@
+-- The words of each node, and the programs that are read of them.
+use Rattle.std.proofs.Common.{◌≡◌, ◌∙◌, ℕ, zero, suc, inl, inr, ◌<◌, ◌≤◌, ◌+◌, Bool, true, false, List, [], ◌∷◌, ◌++◌, length, take, drop, get_or, Option, Some, None, arith, ap, sym, refl, subst}
+use Rattle.std.proofs.lemmas.List.{get_or-map, take-map, drop-map, drop_all}
+use Rattle.ga_source.specs.declared.item.Program.{Program}
+use Rattle.ga_source.specs.declared.scan.Token.{Token}
+use Rattle.ga_source.specs.kept.Hearing.{texts_of}
+use Rattle.std.specs.Prelude.{codes, map}
+use Rattle.std.proofs.lemmas.Bool.{cases_Bool}
+use Rattle.ga_source.specs.Plain.{Plain, is_node, body_in, bodies_in, yxx_in, plain_of, asked_by, words_in, IsOf, AreOf, AreRead}
+use Rattle.ga_source.specs.Saying.{said_in}
+use Rattle.ga_source.specs.kept.Telling.{all_said}
+use Rattle.ga_source.proofs.Hearing.{same_text}
+use Rattle.ga_source.specs.kept.Programs.{AreOfFirst}
+
+-- ---- up to the next `node`
+
+pub body_ends : (texts : List (List ℕ)) (i : ℕ) → ((k : ℕ) → k < i → is_node (get_or texts k []) ≡ false) → (i < length texts → is_node (get_or texts i []) ≡ true) → take i texts ≡ body_in texts
+unfolding body_in
+body_ends [] zero none here = refl
+body_ends [] (suc i) none here = refl
+body_ends (word ∷ texts) zero none here = let is : is_node word ≡ true = here (omega arith) in rw is refl
+body_ends (word ∷ texts) (suc i) none here =
+    let other : is_node word ≡ false = none 0 (omega arith) in
+    rw other (ap (λ (rest : List (List ℕ)). word ∷ rest) (body_ends texts i (λ k below. none (suc k) (omega arith)) (λ below. here (omega arith))))
+
+pub bodies_behind : (texts : List (List ℕ)) (i : ℕ) → ((k : ℕ) → k < i → is_node (get_or texts k []) ≡ false) → bodies_in (drop i texts) ≡ bodies_in texts
+unfolding bodies_in
+bodies_behind [] zero none = refl
+bodies_behind [] (suc i) none = refl
+bodies_behind (word ∷ texts) zero none = refl
+bodies_behind (word ∷ texts) (suc i) none =
+    let other : is_node word ≡ false = none 0 (omega arith) in
+    rw other (bodies_behind texts i (λ k below. none (suc k) (omega arith)))
+
+pub body_next : (texts : List (List ℕ)) (i : ℕ) → (i < length texts → is_node (get_or texts i []) ≡ true) → body_in (drop i texts) ≡ []
+unfolding body_in
+body_next [] zero here = refl
+body_next [] (suc i) here = refl
+body_next (word ∷ texts) zero here = let is : is_node word ≡ true = here (omega arith) in rw is refl
+body_next (word ∷ texts) (suc i) here = body_next texts i (λ below. here (omega arith))
+
+-- ---- one program more
+
+abbrev is_some : List (List (List ℕ)) → Type 0
+is_some [] = ⊥
+is_some (words ∷ rest) = Unit {0}
+
+no_words : {words : List (List ℕ)} {rest : List (List (List ℕ))} → [] ≡ words ∷ rest → ⊥
+no_words e = subst is_some (sym e) tt
+
+abbrev head_of : List (List (List ℕ)) → List (List ℕ)
+head_of [] = []
+head_of (words ∷ rest) = words
+
+abbrev tail_of : List (List (List ℕ)) → List (List (List ℕ))
+tail_of [] = []
+tail_of (words ∷ rest) = rest
+
+pub first_more : (all : List (List (List ℕ))) (programs : List Program) (left rest : List (List (List ℕ))) (words : List (List ℕ)) (program : Program) → left ≡ words ∷ rest → IsOf words program → AreOfFirst all programs left → AreOfFirst all (programs ++ program ∷ []) rest
+unfolding AreOfFirst
+first_more [] [] left rest words program is of first = absurd (no_words (first ∙ is))
+first_more (body ∷ all) [] left rest words program is of first =
+    let same = first ∙ is in
+    (subst (λ w. IsOf w program) (sym (ap head_of same)) of, ap tail_of same)
+first_more [] (p ∷ programs) left rest words program is of first = absurd first
+first_more (body ∷ all) (p ∷ programs) left rest words program is of first =
+    (first.0, first_more all programs left rest words program is of first.1)
+
+-- none is left
+pub first_all : (all : List (List (List ℕ))) (programs : List Program) → AreOfFirst all programs [] → AreOf all programs
+unfolding AreOfFirst AreOf
+first_all [] [] none = tt
+first_all (body ∷ all) [] none = absurd (no_words (sym none))
+first_all [] (p ∷ programs) first = absurd first
+first_all (body ∷ all) (p ∷ programs) first = (first.0, first_all all programs first.1)
+
+-- ---- the same of tokens
+
+pub front_of : (tokens : List Token) (i : ℕ) → ((k : ℕ) → k < i → is_node (get_or (texts_of tokens) k []) ≡ false) → (i < length (texts_of tokens) → is_node (get_or (texts_of tokens) i []) ≡ true) → texts_of (take i tokens) ≡ body_in (texts_of tokens)
+front_of tokens i none here = sym (take-map (λ token. token.text.now) i tokens) ∙ body_ends (texts_of tokens) i none here
+
+pub behind_of : (tokens : List Token) (i : ℕ) → ((k : ℕ) → k < i → is_node (get_or (texts_of tokens) k []) ≡ false) → bodies_in (texts_of (drop i tokens)) ≡ bodies_in (texts_of tokens)
+behind_of tokens i none = ap bodies_in (sym (drop-map (λ token. token.text.now) i tokens)) ∙ bodies_behind (texts_of tokens) i none
+
+pub next_of : (tokens : List Token) (i : ℕ) → (i < length (texts_of tokens) → is_node (get_or (texts_of tokens) i []) ≡ true) → body_in (texts_of (drop i tokens)) ≡ []
+next_of tokens i here = ap body_in (sym (drop-map (λ token. token.text.now) i tokens)) ∙ body_next (texts_of tokens) i here
+
+-- the test of a token
+pub tested : (tokens : List Token) (i : ℕ) (d : Token) (b : Bool) → i < length tokens → is_node (get_or tokens i d).text.now ≡ b → is_node (get_or (texts_of tokens) i []) ≡ b
+tested tokens i d b within is = ap is_node (get_or-map (λ token. token.text.now) tokens i d [] within) ∙ is
+
+-- ---- the words of the node that comes first
+
+abbrev has : Option ℕ → Type 0
+has (Some n) = Unit {0}
+has None = ⊥
+
+pub no_number : {n : ℕ} → None ≡ Some n → ⊥
+no_number e = subst has (sym e) tt
+
+pub drop_twice : {X : Type 0} (list : List X) (count : ℕ) → drop count (drop 2 list) ≡ drop (count + 2) list
+drop_twice [] count = drop_all count [] (omega arith) ∙ sym (drop_all (count + 2) [] (omega arith))
+drop_twice (a ∷ []) count = drop_all count [] (omega arith) ∙ sym (drop_all (count + 2) (a ∷ []) (omega arith))
+drop_twice (a ∷ b ∷ list) count = let same : suc (suc count) ≡ count + 2 = omega arith in ap (λ (k : ℕ). drop k (a ∷ b ∷ list)) same
+
+-- a node's name is no `node`
+name_is_other : (name : List ℕ) (n : ℕ) → yxx_in name ≡ Some n → is_node name ≡ false
+name_is_other name n is = elim (cases_Bool (is_node name)) [
+  | inl node ↦ absurd (no_number (ap yxx_in (sym (same_text name (codes "node") node)) ∙ is))
+  | inr other ↦ other
+]
+
+first_body : (words : List Token) (d : Token) (n : ℕ) → 2 ≤ length words → is_node (get_or words 0 d).text.now ≡ true → yxx_in (get_or words 1 d).text.now ≡ Some n → bodies_in (texts_of words) ≡ ((get_or words 1 d).text.now ∷ body_in (texts_of (drop 2 words))) ∷ bodies_in (texts_of (drop 2 words))
+unfolding body_in bodies_in
+first_body [] d n two node name = absurd (omega arith)
+first_body (a ∷ []) d n two node name = absurd (omega arith)
+first_body (a ∷ b ∷ words) d n two node name =
+    let other = name_is_other b.text.now n name in
+    rw (node, other) refl
+
+pub one_more_read : (words behind body : List Token) (d : Token) (first name : List ℕ) (count : ℕ) (program : Program) (programs after : List Program) (all : List (List (List ℕ))) → 2 ≤ length words
+    → first ≡ (get_or words 0 d).text.now → is_node first ≡ true
+    → name ≡ (get_or words 1 d).text.now → yxx_in name ≡ Some program.node.number
+    → after ≡ programs ++ program ∷ [] → behind ≡ drop 2 words → body ≡ take count behind
+    → texts_of (take count behind) ≡ body_in (texts_of behind) → bodies_in (texts_of (drop count behind)) ≡ bodies_in (texts_of behind)
+    → ((plain : Plain) → plain_of (texts_of body) ≡ Some plain → asked_by program.asked.items program.registers ≡ plain)
+    → ((plain : Plain) → plain_of (texts_of body) ≡ Some plain → program.names.items ≡ [])
+    → AreOfFirst all programs (bodies_in (texts_of words)) → AreOfFirst all after (bodies_in (texts_of (drop (count + 2) words)))
+one_more_read words behind body d first name count program programs after all two is_first node is_name named pushed is_behind is_body front rest asks names read =
+    let texts : texts_of body ≡ body_in (texts_of behind) = ap texts_of is_body ∙ front in
+    let of : IsOf (name ∷ body_in (texts_of behind)) program = record {
+      node = named;
+      asks = λ plain is. asks plain (ap plain_of texts ∙ is);
+      names = λ plain is. names plain (ap plain_of texts ∙ is);
+    } in
+    let left : bodies_in (texts_of words) ≡ (name ∷ body_in (texts_of behind)) ∷ bodies_in (texts_of behind) =
+    first_body words d program.node.number two (ap is_node (sym is_first) ∙ node) (ap yxx_in (sym is_name) ∙ named)
+    ∙ (ap (λ (n : List ℕ). (n ∷ body_in (texts_of (drop 2 words))) ∷ bodies_in (texts_of (drop 2 words))) (sym is_name)
+    ∙ ap (λ (b : List Token). (name ∷ body_in (texts_of b)) ∷ bodies_in (texts_of b)) (sym is_behind)) in
+    let more = first_more all programs (bodies_in (texts_of words)) (bodies_in (texts_of behind)) (name ∷ body_in (texts_of behind)) program left of read in
+    let last : bodies_in (texts_of behind) ≡ bodies_in (texts_of (drop (count + 2) words)) =
+    sym rest ∙ ap (λ (b : List Token). bodies_in (texts_of b)) (ap (drop count) is_behind ∙ drop_twice words count) in
+    subst (λ (l : List (List (List ℕ))). AreOfFirst all after l) last
+    (subst (λ (p : List Program). AreOfFirst all p (bodies_in (texts_of behind))) (sym pushed) more)
+
+-- ---- a source
+
+map_map : (tokens : List Token) → map (λ said. said.text) (all_said tokens) ≡ texts_of tokens
+map_map [] = refl
+map_map (token ∷ tokens) = ap (λ (rest : List (List ℕ)). token.text.now ∷ rest) (map_map tokens)
+
+-- the words of the tokens are those of the source
+pub words_told : (source : List ℕ) (tokens : List Token) → all_said tokens ≡ said_in source → texts_of tokens ≡ words_in source
+words_told source tokens e = sym (map_map tokens) ∙ ap (map (λ said. said.text)) e
+
+-- none is read
+pub none_read : (source : List ℕ) (tokens words : List Token) (programs : List Program) → all_said tokens ≡ said_in source → words ≡ tokens → programs ≡ [] → AreOfFirst (bodies_in (words_in source)) programs (bodies_in (texts_of words))
+unfolding AreOfFirst
+none_read source tokens words programs e same none =
+    subst (λ (p : List Program). AreOfFirst (bodies_in (words_in source)) p (bodies_in (texts_of words))) (sym none)
+    (ap bodies_in (sym (words_told source tokens e) ∙ ap texts_of (sym same)))
+
+-- all are read
+pub all_read : (source : List ℕ) (tokens : List Token) (programs : List Program) → tokens ≡ [] → AreOfFirst (bodies_in (words_in source)) programs (bodies_in (texts_of tokens)) → AreRead source programs
+unfolding bodies_in
+all_read source tokens programs none read =
+    first_all (bodies_in (words_in source)) programs
+    (subst (λ (left : List Token). AreOfFirst (bodies_in (words_in source)) programs (bodies_in (texts_of left))) none read)

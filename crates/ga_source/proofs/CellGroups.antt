@@ -1,0 +1,169 @@
+-- Plain requests, packed one by one.
+use Rattle.std.proofs.Common.{◌≡◌, ◌≢◌, ◌∙◌, ◌+◌, ◌%◌, ◌^◌, inl, inr, set, replicate, get_or-set_other, ℕ, zero, suc, ◌<◌, length, slice_index_or, arith, refl, sym, ap, subst, true, List, [], ◌∷◌, ◌++◌, Option, None, append-nil, append_assoc}
+use Rattle.std.proofs.lemmas.Bool.{cases_lt}
+use Rattle.std.proofs.lemmas.List.{get_or-replicate, get_or_past, length-replicate}
+use Rattle.ga_source.specs.declared.item.Value.TheVariants.{Number}
+use Rattle.ga_source.specs.declared.item.Item.{Item}
+use Rattle.ga_source.specs.declared.item.Item.TheVariants.{Cell}
+use Rattle.ga_source.specs.declared.item.Group.{Group}
+use Rattle.ga_source.specs.declared.item.Request.{Request}
+use Rattle.ga_source.specs.declared.item.Request.TheVariants.{Put, Go}
+use Rattle.ga_source.specs.declared.item.Asked.{Asked}
+use Rattle.ga_source.specs.declared.packing.Packer.{Packer}
+use Rattle.ga_source.specs.declared.spot.Spot.{Spot}
+use Rattle.ga_source.specs.Reading.{begin_at, behind, fits}
+use Rattle.ga_source.specs.Made.{address_behind}
+use Rattle.ga_source.specs.Sound.{cell_at, cells_from, cell_of, AreFree, IsMemoryAddress}
+use Rattle.ga_source.specs.kept.Layout.{IsClosed}
+use Rattle.ga_source.specs.kept.Packing.{requests_of, IsPlainRequest, ArePlain, address_after, IsCellGroup, AreCellGroups, IsPackedPlain, AreOpen, AreWords}
+
+-- ---- one more
+
+pub one_group : (cells : List (ℕ × ℕ)) (groups : List Group) (cell : ℕ × ℕ) (group : Group) → AreCellGroups cells groups → IsCellGroup cell group → AreCellGroups (cells ++ cell ∷ []) (groups ++ group ∷ [])
+unfolding AreCellGroups
+one_group [] [] cell group all one = (one, tt)
+one_group (first ∷ cells) (g ∷ groups) cell group all one = (all.0, one_group cells groups cell group all.1 one)
+one_group [] (g ∷ groups) cell group all one = absurd all
+one_group (first ∷ cells) [] cell group all one = absurd all
+
+cells_more : (at : ℕ) (requests : List Request) (request : Request) → cells_from at (requests ++ request ∷ []) ≡ cells_from at requests ++ cell_at (address_after at requests) request
+unfolding cells_from address_after
+cells_more at [] request = append-nil (cell_at at request)
+cells_more at (first ∷ requests) request =
+    ap (λ (cells : List (ℕ × ℕ)). cell_at at first ++ cells) (cells_more (address_behind at first) requests request)
+    ∙ sym (append_assoc (cell_at at first) (cells_from (address_behind at first) requests) (cell_at (address_after (address_behind at first) requests) request))
+
+after_more : (at : ℕ) (requests : List Request) (request : Request) → address_after at (requests ++ request ∷ []) ≡ address_behind (address_after at requests) request
+unfolding address_after
+after_more at [] request = refl
+after_more at (first ∷ requests) request = after_more (address_behind at first) requests request
+
+-- ---- the packer
+
+-- a cell is added
+pub added_cell : (before full closed : Packer) (next : Spot) (item : Item) (n : ℕ) (requests : List Request) → item ≡ Cell (Number n) → IsPackedPlain before requests
+    → full.filling.items ≡ before.filling.items ++ item ∷ [] → full.broken ≡ before.broken → full.spot ≡ before.spot → full.groups.items ≡ before.groups.items → IsClosed full closed
+    → ((n : ℕ) (cells : List (ℕ × ℕ)) → full.filling.items ≡ Cell (Number n) ∷ [] → full.broken ≡ None → AreCellGroups cells full.groups.items → AreCellGroups (cells ++ (full.spot.at, n) ∷ []) closed.groups.items)
+    → next ≡ behind before.spot item → IsPackedPlain (record closed { spot = next }) (requests ++ Put item ∷ [])
+added_cell before full closed next item n requests is packed filled broken spot groups done cell goes =
+    let at = address_after 0 requests in
+    let here : full.spot.at ≡ at = ap (λ (s : Spot). s.at) (spot ∙ packed.spot) in
+    let cells : AreCellGroups (cells_from 0 requests ++ (full.spot.at, n) ∷ []) closed.groups.items =
+    cell n (cells_from 0 requests)
+    (filled ∙ (ap (λ (items : List Item). items ++ item ∷ []) packed.filling ∙ ap (λ (i : Item). i ∷ []) is))
+    (broken ∙ packed.whole)
+    (subst (AreCellGroups (cells_from 0 requests)) (sym groups) packed.groups) in
+    record {
+      filling = done.empty;
+      whole = done.whole;
+      spot = goes ∙ (ap (λ (s : Spot). behind s item) packed.spot ∙ (ap (behind (begin_at at)) is ∙ ap begin_at (sym (after_more 0 requests (Put item)))));
+      groups = subst (λ (list : List (ℕ × ℕ)). AreCellGroups list closed.groups.items)
+          (ap (λ (a : ℕ). cells_from 0 requests ++ (a, n) ∷ []) here
+          ∙ (ap (λ (i : Item). cells_from 0 requests ++ cell_at at (Put i)) (sym is) ∙ sym (cells_more 0 requests (Put item)))) cells;
+    }
+
+-- another address
+pub gone_packed : (before closed : Packer) (spot : Spot) (address : ℕ) (requests : List Request) → spot ≡ begin_at address → IsPackedPlain before requests → closed ≡ before → IsPackedPlain (record closed { spot = spot }) (requests ++ Go address ∷ [])
+gone_packed before closed spot address requests is packed stays = record {
+  filling = ap (λ (p : Packer). p.filling.items) stays ∙ packed.filling;
+  whole = ap (λ (p : Packer). p.broken) stays ∙ packed.whole;
+  spot = is ∙ ap begin_at (sym (after_more 0 requests (Go address)));
+  groups = subst (λ (p : Packer). AreCellGroups (cells_from 0 (requests ++ Go address ∷ [])) p.groups.items) (sym stays)
+      (subst (λ (list : List (ℕ × ℕ)). AreCellGroups list before.groups.items) (sym (cells_more 0 requests (Go address) ∙ append-nil (cells_from 0 requests))) packed.groups);
+}
+
+-- a cell has room
+pub cell_fits : (packer : Packer) (requests : List Request) (item : Item) (n : ℕ) → item ≡ Cell (Number n) → IsPackedPlain packer requests → fits packer.labels.items packer.spot item ≡ true
+cell_fits packer requests item n is packed =
+    ap (λ (s : Spot). fits packer.labels.items s item) packed.spot ∙ ap (fits packer.labels.items (begin_at (address_after 0 requests))) is
+
+-- an item that plain requests ask for
+pub record IsCellItem (item : Item) : Type 0 where
+  pub n : ℕ
+  pub is : item ≡ Cell (Number n)
+
+pub plain_item : (item : Item) → IsPlainRequest (Put item) → IsCellItem item
+plain_item (Cell (Number n)) plain = record { n = n; is = refl }
+plain_item _ plain = absurd plain
+
+-- none is packed
+pub none_packed : (packer : Packer) → packer.filling.items ≡ [] → packer.broken ≡ None → packer.spot ≡ begin_at 0 → packer.groups.items ≡ [] → IsPackedPlain packer []
+unfolding AreCellGroups cells_from address_after
+none_packed packer filling whole spot groups = record { filling = filling; whole = whole; spot = spot; groups = subst (AreCellGroups []) (sym groups) tt }
+
+-- one of plain requests
+pub one_plain : (asked : List Asked) (i : ℕ) (d : Asked) → i < length asked → ArePlain (requests_of asked) → IsPlainRequest (slice_index_or asked i d).request
+unfolding ArePlain
+one_plain [] i d within plain = absurd (omega arith)
+one_plain (one ∷ asked) zero d within plain = plain.0
+one_plain (one ∷ asked) (suc i) d within plain = one_plain asked i d (omega arith) plain.1
+
+-- ---- loading
+
+-- a cell that is given leaves the others
+pub given_set : (given now : List (Option ℕ)) (a b k : ℕ) (line : Option ℕ) → now ≡ set given (a % 512) line → a ≡ b → k ≢ b % 512 → slice_index_or now k None ≡ slice_index_or given k None
+given_set given now a b k line is same other =
+    ap (λ (list : List (Option ℕ)). slice_index_or list k None) is
+    ∙ get_or-set_other given (a % 512) k line None (λ e. other (e ∙ ap (λ (n : ℕ). n % 512) same))
+
+-- the item of a cell of data
+pub cell_item : (items : List Item) (n i : ℕ) (d : Item) → items ≡ Cell (Number n) ∷ [] → i < length items → slice_index_or items i d ≡ Cell (Number n)
+cell_item items n zero d is within = ap (λ (list : List Item). slice_index_or list 0 d) is
+cell_item items n (suc i) d is within = let one : length items ≡ 1 = ap length is in absurd (omega arith)
+
+pub group_at : (cells : List (ℕ × ℕ)) (groups : List Group) (i : ℕ) (d : Group) → AreCellGroups cells groups → i < length groups → IsCellGroup (cell_of cells i) (slice_index_or groups i d)
+unfolding AreCellGroups
+group_at [] [] i d are within = absurd (omega arith)
+group_at (cell ∷ cells) (group ∷ groups) zero d are within = are.0
+group_at (cell ∷ cells) (group ∷ groups) (suc i) d are within = group_at cells groups i d are.1 (omega arith)
+group_at [] (group ∷ groups) i d are within = absurd are
+group_at (cell ∷ cells) [] i d are within = absurd are
+
+pub same_length : (cells : List (ℕ × ℕ)) (groups : List Group) → AreCellGroups cells groups → length cells ≡ length groups
+unfolding AreCellGroups
+same_length [] [] are = refl
+same_length (cell ∷ cells) (group ∷ groups) are = ap suc (same_length cells groups are.1)
+same_length [] (group ∷ groups) are = absurd are
+same_length (cell ∷ cells) [] are = absurd are
+
+-- one group more is loaded
+pub open_more : (given now : List (Option ℕ)) (cells : List (ℕ × ℕ)) (groups : List Group) (i : ℕ) (group : Group) → AreCellGroups cells groups → AreFree cells → i < length groups → group ≡ slice_index_or groups i group
+    → ((cell : ℕ × ℕ) (k : ℕ) → IsCellGroup cell group → k ≢ cell.0 % 512 → slice_index_or now k None ≡ slice_index_or given k None) → AreOpen given cells i → AreOpen now cells (i + 1)
+open_more given now cells groups i group are free within is stays before = λ k from small.
+    let here : IsCellGroup (cell_of cells i) group = subst (IsCellGroup (cell_of cells i)) (sym is) (group_at cells groups i group are within) in
+    stays (cell_of cells i) ((cell_of cells k).0 % 512) here (free.apart i k (omega arith) small) ∙ before k (omega arith) small
+
+-- before the first
+none_there : (k : ℕ) (none : Option ℕ) → slice_index_or (replicate 192 none) k none ≡ none
+none_there k none = elim (cases_lt k 192) [
+  | inl l ↦ get_or-replicate 192 k none none l
+  | inr past ↦ get_or_past (replicate 192 none) k none (rw length-replicate past)
+]
+
+pub all_open : (given : List (Option ℕ)) (cells : List (ℕ × ℕ)) → given ≡ replicate 192 None → AreOpen given cells 0
+all_open given cells is = λ k from small.
+    ap (λ (list : List (Option ℕ)). slice_index_or list ((cell_of cells k).0 % 512) None) is ∙ none_there ((cell_of cells k).0 % 512) None
+
+-- no cell is given twice
+pub never_twice : (given : List (Option ℕ)) (cells : List (ℕ × ℕ)) (groups : List Group) (i : ℕ) (group : Group) → AreCellGroups cells groups → AreWords cells → AreFree cells → i < length groups → group ≡ slice_index_or groups i group → length given ≡ 192
+    → ((cell : ℕ × ℕ) → IsCellGroup cell group → cell.1 < 2 ^ 18 → IsMemoryAddress cell.0 → length given ≡ 192 → slice_index_or given (cell.0 % 512) None ≢ None) → AreOpen given cells i → ⊥
+never_twice given cells groups i group are words free within is size refused before =
+    let here : IsCellGroup (cell_of cells i) group = subst (IsCellGroup (cell_of cells i)) (sym is) (group_at cells groups i group are within) in
+    let same = same_length cells groups are in
+    let small : i < length cells = omega (arith, same) in
+    refused (cell_of cells i) here (words i small) (free.memory i small) size (before i (omega arith) small)
+
+words_more : (cell : ℕ × ℕ) (cells : List (ℕ × ℕ)) → cell.1 < 2 ^ 18 → AreWords cells → (k : ℕ) → k < length (cell ∷ cells) → (cell_of (cell ∷ cells) k).1 < 2 ^ 18
+words_more cell cells small words zero within = small
+words_more cell cells small words (suc k) within = words k (omega arith)
+
+words_behind : (at : ℕ) (request : Request) (cells : List (ℕ × ℕ)) → IsPlainRequest request → AreWords cells → AreWords (cell_at at request ++ cells)
+words_behind at (Put (Cell (Number n))) cells plain words = words_more (at, n) cells plain words
+words_behind at (Go address) cells plain words = words
+words_behind at _ cells plain words = absurd plain
+
+-- the numbers of plain requests are words
+pub plain_words : (at : ℕ) (requests : List Request) → ArePlain requests → AreWords (cells_from at requests)
+unfolding ArePlain cells_from
+plain_words at [] plain = λ k within. absurd (omega arith)
+plain_words at (request ∷ requests) plain = words_behind at request (cells_from (address_behind at request) requests) plain.0 (plain_words (address_behind at request) requests plain.1)

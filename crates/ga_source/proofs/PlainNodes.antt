@@ -1,0 +1,297 @@
+-- The nodes that plain words make, from the programs of a source.
+use Rattle.std.specs.Prelude.{is_none, ◌||◌, codes, bytes_eq, if◌then◌else◌}
+use Rattle.std.specs.List.{All, list_any}
+use Rattle.std.proofs.Common.{◌≡◌, ◌≢◌, ◌∙◌, ℕ, ◌<◌, inl, inr, refl, sym, ap, subst, Bool, true, false, ltb, List, [], ◌∷◌, Option, Some, None, length, drop, slice_index, slice_index_or, arith}
+use Rattle.std.proofs.lemmas.Bool.{cases_Bool, and_parts, ltb-true}
+use Rattle.std.proofs.lemmas.List.{length-replicate, ext_get_or}
+use Rattle.std.proofs.lemmas.List.Elements.{All-nil, All-cons, All-head, All-tail}
+use Rattle.ga_ports.specs.declared.address.Target.{Target}
+use Rattle.ga_ports.specs.declared.address.Target.TheVariants.{Ram, Rom, Io, Ports, Bad}
+use Rattle.ga_ports.specs.Address.{classified}
+use Rattle.ga_node.specs.Record.{NodeState, HasSizes, fresh_node, record_of}
+use Rattle.ga_grid.specs.Chip.{node_at}
+use Rattle.ga_grid.specs.Load.{default_chip}
+use Rattle.ga_source.specs.declared.number.Number.{Number as NumberIn}
+use Rattle.ga_source.specs.declared.number.Number.TheVariants.{Of, OutOfRange, Nothing}
+use Rattle.ga_source.specs.declared.item.Value.{Value}
+use Rattle.ga_source.specs.declared.item.Value.TheVariants.{Number, Label}
+use Rattle.ga_source.specs.declared.item.Given.{Given}
+use Rattle.ga_source.specs.declared.item.Item.TheVariants.{Cell}
+use Rattle.ga_source.specs.declared.item.Request.{Request}
+use Rattle.ga_source.specs.declared.item.Request.TheVariants.{Put, Go}
+use Rattle.ga_source.specs.declared.item.Registers.{Registers}
+use Rattle.ga_source.specs.declared.item.Asked.{Asked}
+use Rattle.ga_source.specs.declared.item.Program.{Program}
+use Rattle.ga_source.specs.declared.labels.Label.{Label as Name}
+use Rattle.ga_source.specs.Numbers.{◌>>=◌, number_in}
+use Rattle.ga_source.specs.Programs.{given_of, value_or, is_item, has_cells, or_start, at_load, HasProgram, IsLoaded, IsUnnamed, IsAssembled}
+use Rattle.ga_source.specs.Cells.{is_asked}
+use Rattle.ga_source.specs.Reading.{begin_at, resolved}
+use Rattle.ga_source.specs.Plain.{Plain, no_request, by_number, only_if, is_cell, may_be, with_words, plain_from, plain_of, value_in, asked_by, words_in, bodies_in, yxx_in, IsOf, AreOf, AreRead}
+use Rattle.ga_source.specs.Made.{with_cell, with_asked, address_behind, written, number_or, plain_node, IsNode, HasPlain, IsMade}
+use Rattle.ga_source.specs.kept.Packing.{requests_of, ArePlain, IsNumber, AreNumbers}
+use Rattle.ga_source.specs.kept.Places.{KeepsRest}
+use Rattle.ga_source.proofs.Empty.{of_each_at_load}
+use Rattle.ga_source.proofs.Hearing.{some_same, no_some, allowed}
+use Rattle.ga_source.proofs.Ranges.{number_small}
+use Rattle.ga_source.proofs.Making.{Stays, with_cell_ram, with_cell_rom, one_plain_more, requests_made}
+
+-- ---- plain words ask for plain requests and numbers
+
+pub record IsPlain (plain : Plain) : Type 0 where
+  pub requests : ArePlain plain.requests
+  pub p : IsNumber 0x400 plain.p
+  pub a : IsNumber 0x40000 plain.a
+  pub b : IsNumber 0x200 plain.b
+
+-- what a number asks for is plain where it is for each number
+number_plain : (number : NumberIn) (asks : ℕ → Option Plain) (more : Plain) → ((n : ℕ) → number ≡ Of n → asks n ≡ Some more → IsPlain more) → by_number number asks ≡ Some more → IsPlain more
+number_plain (Of n) asks more each is = each n refl is
+number_plain OutOfRange asks more each is = absurd (no_some is)
+number_plain Nothing asks more each is = absurd (no_some is)
+
+-- what a test allows
+only_plain : (b : Bool) (plain more : Plain) → (b ≡ true → IsPlain plain) → only_if b plain ≡ Some more → IsPlain more
+only_plain b plain more each is = let found = allowed b plain more is in subst IsPlain found.1 (each found.0)
+
+-- a register's test
+below : (given : Option Value) (n bound : ℕ) → may_be given n bound ≡ true → n < bound
+below given n bound may = ltb-true n bound ((and_parts (is_none given) (ltb n bound) may).1)
+
+words_plain : (plain more : Plain) (first second : List ℕ) → IsPlain plain → with_words plain first second ≡ Some more → IsPlain more
+words_plain plain more first second is found = elim (cases_Bool (bytes_eq second (codes ","))) [
+  | inl comma ↦ number_plain (number_in first) _ more (λ n number e. subst IsPlain (some_same _ more e)
+      (record { requests = one_plain_more plain.requests (Put (Cell (Number n))) is.requests (number_small first n number); p = is.p; a = is.a; b = is.b })) (rw comma at found)
+  | inr other ↦ elim (cases_Bool (bytes_eq first (codes "org"))) [
+    | inl org ↦ number_plain (number_in second) _ more (λ n number. only_plain (is_cell n) _ more (λ may.
+        record { requests = one_plain_more plain.requests (Go n) is.requests tt; p = is.p; a = is.a; b = is.b })) (rw (other, org) at found)
+    | inr no_org ↦ elim (cases_Bool (bytes_eq first (codes "/p"))) [
+      | inl p ↦ number_plain (number_in second) _ more (λ n number. only_plain (may_be plain.p n 0x400) _ more (λ may.
+          record { requests = is.requests; p = below plain.p n 0x400 may; a = is.a; b = is.b })) (rw (other, no_org, p) at found)
+      | inr no_p ↦ elim (cases_Bool (bytes_eq first (codes "/a"))) [
+        | inl a ↦ number_plain (number_in second) _ more (λ n number. only_plain (may_be plain.a n 0x40000) _ more (λ may.
+            record { requests = is.requests; p = is.p; a = below plain.a n 0x40000 may; b = is.b })) (rw (other, no_org, no_p, a) at found)
+        | inr no_a ↦ elim (cases_Bool (bytes_eq first (codes "/b"))) [
+          | inl b ↦ number_plain (number_in second) _ more (λ n number. only_plain (may_be plain.b n 0x200) _ more (λ may.
+              record { requests = is.requests; p = is.p; a = is.a; b = below plain.b n 0x200 may })) (rw (other, no_org, no_p, no_a, b) at found)
+          | inr no_b ↦ absurd (no_some (rw (other, no_org, no_p, no_a, no_b) at found))
+        ]
+      ]
+    ]
+  ]
+]
+
+-- the words behind two that are plain
+behind_plain : (words : List (List ℕ)) (all : Plain) (more : Option Plain) → ((m : Plain) → more ≡ Some m → IsPlain m) → ((m : Plain) → IsPlain m → plain_from m words ≡ Some all → IsPlain all) → (more >>= (λ m. plain_from m words)) ≡ Some all → IsPlain all
+behind_plain words all None first again is = absurd (no_some is)
+behind_plain words all (Some m) first again is = again m (first m refl) is
+
+from_plain : (words : List (List ℕ)) (plain all : Plain) → IsPlain plain → plain_from plain words ≡ Some all → IsPlain all
+unfolding plain_from
+from_plain [] plain all is found = subst IsPlain (some_same plain all found) is
+from_plain (word ∷ []) plain all is found = absurd (no_some found)
+from_plain (first ∷ second ∷ words) plain all is found =
+    behind_plain words all (with_words plain first second) (λ m e. words_plain plain m first second is e) (λ m p e. from_plain words m all p e) found
+
+pub all_plain : (words : List (List ℕ)) (plain : Plain) → plain_of words ≡ Some plain → IsPlain plain
+unfolding ArePlain
+all_plain words plain is = from_plain words no_request plain (record { requests = tt; p = tt; a = tt; b = tt }) is
+
+-- ---- nothing but the memories is written
+
+cell_keeps : (node : NodeState) (t : Target) (n : ℕ) → KeepsRest node (with_cell node t n)
+cell_keeps node (Ram k) n = refl
+cell_keeps node (Rom k) n = refl
+cell_keeps node Io n = refl
+cell_keeps node (Ports s) n = refl
+cell_keeps node Bad n = refl
+
+asked_keeps : (node : NodeState) (at : ℕ) (request : Request) → KeepsRest node (with_asked node at request)
+asked_keeps node at (Put (Cell (Number n))) = cell_keeps node (classified at) n
+asked_keeps node at _ = refl
+
+keeps_twice : (before now after : NodeState) → KeepsRest before now → KeepsRest now after → KeepsRest before after
+keeps_twice before now after first second = second ∙ ap (λ (node : NodeState). record node { ram = after.ram; rom = after.rom }) first
+
+written_keeps : (node : NodeState) (at : ℕ) (requests : List Request) → KeepsRest node (written node at requests)
+unfolding written
+written_keeps node at [] = refl
+written_keeps node at (request ∷ requests) =
+    keeps_twice node (with_asked node at request) (written (with_asked node at request) (address_behind at request) requests)
+    (asked_keeps node at request) (written_keeps (with_asked node at request) (address_behind at request) requests)
+
+-- ---- registers
+
+has_same : (asked : List Asked) → has_cells asked ≡ list_any is_item (requests_of asked)
+has_same [] = refl
+has_same (one ∷ rest) = ap (λ (b : Bool). is_item one.request || b) (has_same rest)
+
+value_same : (labels : List (Option ℕ)) (value : Value) (bound before : ℕ) → IsNumber bound (Some value) → value_or (resolved labels value) before ≡ number_or (Some value) before
+value_same labels (Number n) bound before is = refl
+value_same labels (Label k) bound before is = absurd is
+
+register_same : (labels : List (Option ℕ)) (given : Option Given) (bound before : ℕ) → IsNumber bound (value_in given) → value_or (given_of labels given) before ≡ number_or (value_in given) before
+register_same labels None bound before is = refl
+register_same labels (Some given) bound before is = value_same labels given.value bound before is
+
+-- what is given goes before what was there
+above_all : (value : Value) (bound before other : ℕ) → IsNumber bound (Some value) → number_or (Some value) before ≡ number_or (Some value) other
+above_all (Number n) bound before other is = refl
+above_all (Label k) bound before other is = absurd is
+
+-- P where no label has a name
+p_same : (labels : List (Option ℕ)) (given : Option Given) (has : Bool) (before : ℕ) → IsNumber 0x400 (value_in given) → value_or (given_of labels (or_start given [] has)) before ≡ number_or (value_in given) (if has then 0 else before)
+p_same labels None true before is = refl
+p_same labels None false before is = refl
+p_same labels (Some given) true before is = value_same labels given.value 0x400 before is ∙ above_all given.value 0x400 before 0 is
+p_same labels (Some given) false before is = value_same labels given.value 0x400 before is
+
+-- ---- a node with its program
+
+stays_by : (before after : NodeState) (program : Program) → length before.ram ≡ 64 → length before.rom ≡ 64 → HasProgram before after program → Stays (is_asked program.labels.items (begin_at 0) program.asked.items) before after
+stays_by before after program ram_size rom_size has = record {
+  ram_size = ram_size;
+  rom_size = rom_size;
+  ram = λ k small none. has.elsewhere.ram k none;
+  rom = λ k small none. has.elsewhere.rom k none;
+}
+
+rest_made : (before after : NodeState) (program : Program) → program.names.items ≡ [] → IsPlain (asked_by program.asked.items program.registers) → HasProgram before after program → after ≡ record (plain_node before (asked_by program.asked.items program.registers)) { ram = after.ram; rom = after.rom }
+rest_made before after program none is has =
+    let labels = program.labels.items in
+    let asked = program.asked.items in
+    let given = program.registers in
+    let requests = requests_of asked in
+    let p = number_or (value_in given.p) (if list_any is_item requests then 0 else before.p) in
+    let a = number_or (value_in given.a) before.a in
+    let b = number_or (value_in given.b) before.b in
+    let p_is : value_or (given_of labels (or_start given.p program.names.items (has_cells asked))) before.p ≡ p =
+    ap (λ (names : List Name). value_or (given_of labels (or_start given.p names (has_cells asked))) before.p) none
+    ∙ (ap (λ (some : Bool). value_or (given_of labels (or_start given.p [] some)) before.p) (has_same asked)
+    ∙ p_same labels given.p (list_any is_item requests) before.p is.p) in
+    has.rest
+    ∙ (ap (λ (n : ℕ). record before { ram = after.ram; rom = after.rom; p = n; a = value_or (given_of labels given.a) before.a; b = value_or (given_of labels given.b) before.b }) p_is
+    ∙ (ap (λ (n : ℕ). record before { ram = after.ram; rom = after.rom; p = p; a = n; b = value_or (given_of labels given.b) before.b }) (register_same labels given.a 0x40000 before.a is.a)
+    ∙ (ap (λ (n : ℕ). record before { ram = after.ram; rom = after.rom; p = p; a = a; b = n }) (register_same labels given.b 0x200 before.b is.b)
+    ∙ sym (ap (λ (node : NodeState). record node { ram = after.ram; rom = after.rom; p = p; a = a; b = b }) (written_keeps before 0 requests)))))
+
+node_made : (before after : NodeState) (program : Program) → length before.ram ≡ 64 → length before.rom ≡ 64 → program.names.items ≡ [] → IsPlain (asked_by program.asked.items program.registers) → HasProgram before after program → IsNode (plain_node before (asked_by program.asked.items program.registers)) after
+node_made before after program ram_size rom_size none is has =
+    let cells = requests_made program.labels.items after program.asked.items is.requests before 0 has.reads (stays_by before after program ram_size rom_size has) in
+    record { ram = cells.ram; rom = cells.rom; rest = rest_made before after program none is has }
+
+-- ---- the chip of a source
+
+fresh_ram_size : (p : ℕ) → length (fresh_node p).ram ≡ 64
+unfolding fresh_node
+fresh_ram_size p = length-replicate {A = ℕ} 64 0
+
+fresh_rom_size : (p : ℕ) → length (fresh_node p).rom ≡ 64
+unfolding fresh_node
+fresh_rom_size p = length-replicate {A = ℕ} 64 0
+
+-- the words behind one `node`
+body_made : (chip : List NodeState) (words : List (List ℕ)) (program : Program) → IsOf words program → IsLoaded chip program → HasPlain chip words
+body_made chip words program of loaded n plain name is =
+    let same : program.node.number ≡ n = some_same program.node.number n (sym of.node ∙ name) in
+    let asks = of.asks plain is in
+    let before = node_at default_chip program.node.number in
+    subst (λ (k : ℕ). IsNode (plain_node (node_at default_chip k) plain) (node_at chip k)) same
+    (subst (λ (p : Plain). IsNode (plain_node before p) (node_at chip program.node.number)) asks
+    (node_made before (node_at chip program.node.number) program
+    (of_each_at_load (λ node. length node.ram ≡ 64) fresh_ram_size program.node.number) (of_each_at_load (λ node. length node.rom ≡ 64) fresh_rom_size program.node.number)
+    (of.names plain is) (subst IsPlain (sym asks) (all_plain (drop 1 words) plain is)) loaded))
+
+bodies_made : (chip : List NodeState) (bodies : List (List (List ℕ))) (programs : List Program) → AreOf bodies programs → All (IsLoaded chip) programs → All (HasPlain chip) bodies
+unfolding AreOf
+bodies_made chip [] [] of each = All-nil (HasPlain chip)
+bodies_made chip (words ∷ bodies) (program ∷ programs) of each =
+    All-cons (HasPlain chip) words bodies (body_made chip words program of.0 (All-head (IsLoaded chip) program programs each))
+    (bodies_made chip bodies programs of.1 (All-tail (IsLoaded chip) program programs each))
+bodies_made chip [] (program ∷ programs) of each = absurd of
+bodies_made chip (words ∷ bodies) [] of each = absurd of
+
+-- a node that the source doesn't name
+abbrev IsOther : ℕ → List (List ℕ) → Type 0
+IsOther n words = yxx_in (slice_index_or words 0 []) ≢ Some n
+
+unnamed : (n : ℕ) (bodies : List (List (List ℕ))) (programs : List Program) → AreOf bodies programs → All (IsOther n) bodies → IsUnnamed programs n
+unfolding AreOf
+unnamed n [] [] of none = All-nil (λ program. program.node.number ≢ n)
+unnamed n (words ∷ bodies) (program ∷ programs) of none =
+    All-cons (λ p. p.node.number ≢ n) program programs
+    (λ is. All-head (IsOther n) words bodies none (of.0.node ∙ ap Some is))
+    (unnamed n bodies programs of.1 (All-tail (IsOther n) words bodies none))
+unnamed n [] (program ∷ programs) of none = absurd of
+unnamed n (words ∷ bodies) [] of none = absurd of
+
+-- what a source asks for and what is assembled is what its plain words make
+pub source_made : (source : List ℕ) (chip : List NodeState) (programs : List Program) → AreRead source programs → IsAssembled chip programs → IsMade source chip
+source_made source chip programs read assembled = record {
+  named = bodies_made chip (bodies_in (words_in source)) programs read assembled.each;
+  others = λ n none. assembled.rest n (unnamed n (bodies_in (words_in source)) programs read none);
+}
+
+-- ---- what plain words ask for is in range
+
+pub plain_requests : (words : List (List ℕ)) (plain : Plain) (asked : List Asked) (registers : Registers) → plain_of words ≡ Some plain → asked_by asked registers ≡ plain → ArePlain (requests_of asked)
+plain_requests words plain asked registers is same = subst ArePlain (sym (ap (λ (p : Plain). p.requests) same)) (all_plain words plain is).requests
+
+start_number : (given : Option Given) (has : Bool) → IsNumber 0x400 (value_in given) → IsNumber 0x400 (value_in (or_start given [] has))
+start_number None true is = omega arith
+start_number None false is = tt
+start_number (Some given) true is = is
+start_number (Some given) false is = is
+
+pub plain_registers : (words : List (List ℕ)) (plain : Plain) (asked : List Asked) (registers : Registers) (names : List Name) (has : Bool) → plain_of words ≡ Some plain → asked_by asked registers ≡ plain → names ≡ [] → AreNumbers (value_in (at_load registers names has).p) (value_in (at_load registers names has).a) (value_in (at_load registers names has).b)
+plain_registers words plain asked registers names has is same none =
+    let found = subst IsPlain (sym same) (all_plain words plain is) in
+    record {
+      p_below = subst (λ (list : List Name). IsNumber 0x400 (value_in (or_start registers.p list has))) (sym none) (start_number registers.p has found.p);
+      a_below = found.a;
+      b_below = found.b;
+    }
+
+-- ---- the whole node
+
+written_ram : (node : NodeState) (at : ℕ) (request : Request) → length (with_asked node at request).ram ≡ length node.ram
+written_ram node at (Put (Cell (Number n))) = with_cell_ram node (classified at) n
+written_ram node at _ = refl
+
+written_rom : (node : NodeState) (at : ℕ) (request : Request) → length (with_asked node at request).rom ≡ length node.rom
+written_rom node at (Put (Cell (Number n))) = with_cell_rom node (classified at) n
+written_rom node at _ = refl
+
+ram_size : (node : NodeState) (at : ℕ) (requests : List Request) → length (written node at requests).ram ≡ length node.ram
+unfolding written
+ram_size node at [] = refl
+ram_size node at (request ∷ requests) = ram_size (with_asked node at request) (address_behind at request) requests ∙ written_ram node at request
+
+rom_size : (node : NodeState) (at : ℕ) (requests : List Request) → length (written node at requests).rom ≡ length node.rom
+unfolding written
+rom_size node at [] = refl
+rom_size node at (request ∷ requests) = rom_size (with_asked node at request) (address_behind at request) requests ∙ written_rom node at request
+
+-- memories of 64 words that agree cell by cell
+same_memory : (memory other : List ℕ) → length memory ≡ 64 → length other ≡ 64 → ((k : ℕ) → k < 64 → slice_index memory k ≡ slice_index other k) → memory ≡ other
+same_memory memory other size other_size each = ext_get_or 0 memory other (size ∙ sym other_size) (λ k within. each k (omega (arith, size)))
+
+sizes_ram : (node : NodeState) → HasSizes (record_of node) → length node.ram ≡ 64
+unfolding record_of
+sizes_ram node sizes = sizes.ram
+
+sizes_rom : (node : NodeState) → HasSizes (record_of node) → length node.rom ≡ 64
+unfolding record_of
+sizes_rom node sizes = sizes.rom
+
+pub whole_node : (chip : List NodeState) (words : List (List ℕ)) (n : ℕ) (plain : Plain) → HasPlain chip words → yxx_in (slice_index_or words 0 []) ≡ Some n → plain_of (drop 1 words) ≡ Some plain → HasSizes (record_of (node_at chip n)) → node_at chip n ≡ plain_node (node_at default_chip n) plain
+whole_node chip words n plain has name is sizes =
+    let node = node_at chip n in
+    let load = node_at default_chip n in
+    let made = plain_node load plain in
+    let found = has n plain name is in
+    let ram : node.ram ≡ made.ram = same_memory node.ram made.ram (sizes_ram node sizes)
+    (ram_size load 0 plain.requests ∙ of_each_at_load (λ (at_load : NodeState). length at_load.ram ≡ 64) fresh_ram_size n) found.ram in
+    let rom : node.rom ≡ made.rom = same_memory node.rom made.rom (sizes_rom node sizes)
+    (rom_size load 0 plain.requests ∙ of_each_at_load (λ (at_load : NodeState). length at_load.rom ≡ 64) fresh_rom_size n) found.rom in
+    found.rest ∙ (ap (λ (list : List ℕ). record made { ram = list; rom = node.rom }) ram ∙ ap (λ (list : List ℕ). record made { ram = made.ram; rom = list }) rom)

@@ -1,0 +1,175 @@
+-- A source that only want of memory keeps from being assembled.
+use Rattle.std.specs.List.{All, list_all}
+use Rattle.std.proofs.Common.{◌≡◌, ◌∙◌, ℕ, suc, ◌+◌, ◌<◌, ◌≤◌, inl, inr, refl, sym, ap, subst, Bool, true, false, List, [], ◌∷◌, Some, None, length, take, drop, set, replicate, get_or, slice_index_or, get_or-set_other, arith}
+use Rattle.std.proofs.lemmas.Bool.{cases_Bool, cases_lt, and_parts, both_ways}
+use Rattle.std.proofs.lemmas.List.{get_or-replicate, get_or_past, length-replicate}
+use Rattle.std.proofs.lemmas.List.Elements.{All-nil, All-cons, All-head, All-tail, All-drop, All-take}
+use Rattle.ga_source.specs.declared.scan.Kind.{Kind}
+use Rattle.ga_source.specs.declared.scan.Kind.TheVariants.{Word, LongLine, OpenComment}
+use Rattle.ga_source.specs.declared.scan.Token.{Token}
+use Rattle.ga_source.specs.Saying.{is_word, is_word_kind, said_in}
+use Rattle.ga_source.specs.Plain.{Plain, is_node, body_in, bodies_in, yxx_in, words_in, plain_of}
+use Rattle.ga_source.specs.Sound.{cells_from, AreFree, IsSoundBody, IsSound}
+use Rattle.ga_source.specs.kept.Telling.{all_said}
+use Rattle.ga_source.specs.kept.Hearing.{texts_of}
+use Rattle.ga_source.specs.kept.Refusing.{AreSound, IsSoundFrom}
+use Rattle.ga_source.proofs.Bodies.{no_number, drop_twice, words_told}
+
+-- ---- the node that comes first
+
+-- no words name a node
+no_body : IsSoundBody [] → ⊥
+no_body sound = no_number sound.node
+
+abbrev has_words : List (List ℕ) → Type 0
+has_words [] = ⊥
+has_words (word ∷ words) = Unit {0}
+
+-- a body without words begins with `node`
+begins_so : (word : List ℕ) (words : List (List ℕ)) → body_in (word ∷ words) ≡ [] → is_node word ≡ true
+unfolding body_in
+begins_so word words none = elim (cases_Bool (is_node word)) [
+  | inl node ↦ node
+  | inr other ↦ absurd (subst has_words (rw other at none) tt)
+]
+
+-- what is known of the words that come first
+pub record IsFirst (begun : List Bool) (words : List Token) (d : Token) : Type 0 where
+  pub node : is_node (get_or words 0 d).text.now ≡ true
+  pub two : 2 ≤ length words
+  pub body : IsSoundBody ((get_or words 1 d).text.now ∷ body_in (texts_of (drop 2 words)))
+  pub fresh : (n : ℕ) → yxx_in (get_or words 1 d).text.now ≡ Some n → slice_index_or begun n false ≡ false
+  pub left : bodies_in (texts_of words) ≡ ((get_or words 1 d).text.now ∷ body_in (texts_of (drop 2 words))) ∷ bodies_in (texts_of (drop 2 words))
+
+-- the first of the bodies
+first_sound : (begun : List Bool) (words : List Token) (d : Token) (body : List (List ℕ)) (rest : List (List (List ℕ))) → bodies_in (texts_of words) ≡ body ∷ rest → IsSoundFrom begun words → IsSoundBody body
+first_sound begun words d body rest is sound = All-head IsSoundBody body rest (subst (All IsSoundBody) is sound.bodies.each)
+
+first_fresh : (begun : List Bool) (words : List Token) (d : Token) (body : List (List ℕ)) (rest : List (List (List ℕ))) → bodies_in (texts_of words) ≡ body ∷ rest → IsSoundFrom begun words → (n : ℕ) → yxx_in (slice_index_or body 0 []) ≡ Some n → slice_index_or begun n false ≡ false
+first_fresh begun words d body rest is sound = λ n named.
+    let all = subst (AreSound begun) is sound.bodies in all.fresh 0 n (omega arith) named
+
+pub first_is : (begun : List Bool) (words : List Token) (d : Token) → 0 < length words → IsSoundFrom begun words → IsFirst begun words d
+unfolding body_in bodies_in
+first_is begun [] d some sound = absurd (omega arith)
+first_is begun (a ∷ []) d some sound =
+    let node = begins_so a.text.now [] sound.begins in
+    let is : bodies_in (texts_of (a ∷ [])) ≡ [] ∷ [] = rw node refl in
+    absurd (no_body (first_sound begun (a ∷ []) d [] [] is sound))
+first_is begun (a ∷ b ∷ words) d some sound =
+    let node = begins_so a.text.now (texts_of (b ∷ words)) sound.begins in
+    elim (cases_Bool (is_node b.text.now)) [
+      | inl again ↦
+          let is : bodies_in (texts_of (a ∷ b ∷ words)) ≡ [] ∷ body_in (texts_of words) ∷ bodies_in (texts_of words) = rw (node, again) refl in
+          absurd (no_body (first_sound begun (a ∷ b ∷ words) d [] _ is sound))
+      | inr other ↦
+          let is : bodies_in (texts_of (a ∷ b ∷ words)) ≡ (b.text.now ∷ body_in (texts_of words)) ∷ bodies_in (texts_of words) = rw (node, other) refl in
+          record {
+            node = node;
+            two = omega arith;
+            body = first_sound begun (a ∷ b ∷ words) d (b.text.now ∷ body_in (texts_of words)) (bodies_in (texts_of words)) is sound;
+            fresh = first_fresh begun (a ∷ b ∷ words) d (b.text.now ∷ body_in (texts_of words)) (bodies_in (texts_of words)) is sound;
+            left = is;
+          }
+    ]
+
+-- ---- the words that are left
+
+-- the bodies behind the first, whose node has begun
+rest_sound : (begun : List Bool) (body : List (List ℕ)) (bodies : List (List (List ℕ))) (n : ℕ) → yxx_in (slice_index_or body 0 []) ≡ Some n → AreSound begun (body ∷ bodies) → AreSound (set begun n true) bodies
+rest_sound begun body bodies n named sound = record {
+  each = All-tail IsSoundBody body bodies sound.each;
+  apart = λ j k below within. sound.apart (suc j) (suc k) (omega arith) (omega arith);
+  fresh = λ k m within is.
+      get_or-set_other begun n m true false (λ e. sound.apart 0 (suc k) (omega arith) (omega arith) (named ∙ (ap Some (sym e) ∙ sym is)))
+      ∙ sound.fresh (suc k) m (omega arith) is;
+}
+
+pub left_sound : (begun after : List Bool) (words left : List Token) (body : List (List ℕ)) (n : ℕ) (from : ℕ) → after ≡ set begun n true → yxx_in (slice_index_or body 0 []) ≡ Some n → left ≡ drop from words → body_in (texts_of left) ≡ []
+    → bodies_in (texts_of words) ≡ body ∷ bodies_in (texts_of left) → IsSoundFrom begun words → IsSoundFrom after left
+left_sound begun after words left body n from set_so named is begins bodies sound = record {
+  kinds = subst (All (λ token. token.kind ≡ Word)) (sym is) (All-drop (λ token. token.kind ≡ Word) from words sound.kinds);
+  begins = begins;
+  bodies = subst (λ (b : List Bool). AreSound b (bodies_in (texts_of left))) (sym set_so)
+      (rest_sound begun body (bodies_in (texts_of left)) n named (subst (AreSound begun) bodies sound.bodies));
+}
+
+-- ---- a source
+
+kind_is : (kind : Kind) → is_word_kind kind ≡ true → kind ≡ Word
+kind_is Word e = refl
+kind_is LongLine e = absurd (subst (λ b. elim b as (λ _. Type 0) [ true ↦ ⊥ | false ↦ Unit {0} ]) e tt)
+kind_is OpenComment e = absurd (subst (λ b. elim b as (λ _. Type 0) [ true ↦ ⊥ | false ↦ Unit {0} ]) e tt)
+
+kinds_are : (tokens : List Token) → list_all is_word (all_said tokens) ≡ true → All (λ token. token.kind ≡ Word) tokens
+kinds_are [] whole = All-nil (λ token. token.kind ≡ Word)
+kinds_are (token ∷ tokens) whole =
+    let parts = and_parts (is_word_kind token.kind) (list_all is_word (all_said tokens)) whole in
+    All-cons (λ t. t.kind ≡ Word) token tokens (kind_is token.kind parts.0) (kinds_are tokens parts.1)
+
+-- no node has begun
+begun_none : (k : ℕ) → slice_index_or (replicate 144 false) k false ≡ false
+begun_none k = elim (cases_lt k 144) [
+  | inl l ↦ get_or-replicate 144 k false false l
+  | inr past ↦ get_or_past (replicate 144 false) k false (rw length-replicate past)
+]
+
+pub none_there : (begun : List Bool) → begun ≡ replicate 144 false → (n : ℕ) → slice_index_or begun n false ≡ false
+none_there begun is n = ap (λ (list : List Bool). slice_index_or list n false) is ∙ begun_none n
+
+pub source_sound : (source : List ℕ) (tokens words : List Token) (begun : List Bool) → all_said tokens ≡ said_in source → words ≡ tokens → ((n : ℕ) → slice_index_or begun n false ≡ false) → IsSound source → IsSoundFrom begun words
+source_sound source tokens words begun told same none sound =
+    let texts : texts_of words ≡ words_in source = ap texts_of same ∙ words_told source tokens told in
+    record {
+      kinds = subst (All (λ token. token.kind ≡ Word)) (sym same) (kinds_are tokens (ap (list_all is_word) told ∙ sound.whole));
+      begins = ap body_in texts ∙ sound.begins;
+      bodies = subst (λ (list : List (List ℕ)). AreSound begun (bodies_in list)) (sym texts) (record { each = sound.bodies; apart = sound.apart; fresh = λ k n within is. none n });
+    }
+
+-- ---- why the node that comes first is never refused
+
+-- the first word
+pub not_node : (begun : List Bool) (words : List Token) (d : Token) (first : List ℕ) → 0 < length words → first ≡ (get_or words 0 d).text.now → is_node first ≡ false → IsSoundFrom begun words → ⊥
+not_node begun words d first some is other sound =
+    let found = first_is begun words d some sound in both_ways (is_node first) other (ap is_node is ∙ found.node)
+
+-- a name is there
+pub too_few : (begun : List Bool) (words : List Token) → 0 < length words → length words < 2 → IsSoundFrom begun words → ⊥
+too_few begun [] some few sound = absurd (omega arith)
+too_few begun (a ∷ words) some few sound = let found = first_is begun (a ∷ words) a some sound in let two = found.two in absurd (omega arith)
+
+module _ (begun : List Bool) (words : List Token) (d : Token) (name : List ℕ) (some : 0 < length words) (is_name : name ≡ (get_or words 1 d).text.now) where
+  -- and names a node
+  pub no_such : yxx_in name ≡ None → IsSoundFrom begun words → ⊥
+  no_such none sound =
+      let found = first_is begun words d some sound in no_number (sym none ∙ (ap yxx_in is_name ∙ found.body.node))
+
+  -- that hasn't begun
+  pub begun_twice : (n i : ℕ) → yxx_in name ≡ Some n → i ≡ n → slice_index_or begun i false ≡ true → IsSoundFrom begun words → ⊥
+  begun_twice n i named same twice sound =
+      let found = first_is begun words d some sound in
+      both_ways (slice_index_or begun n false) (found.fresh n (ap yxx_in (sym is_name) ∙ named)) (ap (λ (k : ℕ). slice_index_or begun k false) (sym same) ∙ twice)
+
+  -- the words behind it are sound
+  pub first_refused : (Goal : Type 0) (behind body : List Token) (count : ℕ) → behind ≡ drop 2 words → body ≡ take count behind → texts_of (take count behind) ≡ body_in (texts_of behind)
+      → ((plain : Plain) → All (λ token. token.kind ≡ Word) body → plain_of (texts_of body) ≡ Some plain → AreFree (cells_from 0 plain.requests) → Goal) → IsSoundFrom begun words → Goal
+  first_refused Goal behind body count is_behind is_body front refused sound =
+      let found = first_is begun words d some sound in
+      let texts : texts_of body ≡ body_in (texts_of (drop 2 words)) = ap texts_of is_body ∙ (front ∙ ap (λ (b : List Token). body_in (texts_of b)) is_behind) in
+      refused found.body.plain
+      (subst (All (λ token. token.kind ≡ Word)) (sym (is_body ∙ ap (take count) is_behind))
+      (All-take (λ token. token.kind ≡ Word) count (drop 2 words) (All-drop (λ token. token.kind ≡ Word) 2 words sound.kinds)))
+      (ap plain_of texts ∙ found.body.words_plain) found.body.free
+
+  -- and so is what is left
+  pub left_first : (behind : List Token) (n i count : ℕ) → behind ≡ drop 2 words → yxx_in name ≡ Some n → body_in (texts_of (drop count behind)) ≡ [] → bodies_in (texts_of (drop count behind)) ≡ bodies_in (texts_of behind) → i ≡ n
+      → IsSoundFrom begun words → IsSoundFrom (set begun i true) (drop (count + 2) words)
+  left_first behind n i count is_behind named begins bodies same sound =
+      let found = first_is begun words d some sound in
+      let left : drop count behind ≡ drop (count + 2) words = ap (drop count) is_behind ∙ drop_twice words count in
+      left_sound begun (set begun i true) words (drop (count + 2) words) ((get_or words 1 d).text.now ∷ body_in (texts_of (drop 2 words))) n (count + 2)
+      (ap (λ (k : ℕ). set begun k true) same) (ap yxx_in (sym is_name) ∙ named) refl
+      (ap (λ (list : List Token). body_in (texts_of list)) (sym left) ∙ begins)
+      (found.left ∙ ap (λ (list : List (List (List ℕ))). ((get_or words 1 d).text.now ∷ body_in (texts_of (drop 2 words))) ∷ list)
+      (ap (λ (list : List Token). bodies_in (texts_of list)) (sym is_behind) ∙ (sym bodies ∙ ap (λ (list : List Token). bodies_in (texts_of list)) left)))
+      sound

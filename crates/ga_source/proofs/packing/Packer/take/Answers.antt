@@ -1,0 +1,17 @@
+use Rattle.std.proofs.Common.{◌∷◌, ◌++◌, [], sym, subst}
+use Rattle.std.proofs.lemmas.Result.{on_ok_weaker}
+use Rattle.ga_source.specs.declared.item.Request.{Request}
+use Rattle.ga_source.specs.kept.Packing.{IsPlainRequest, IsPackedPlain}
+use Rattle.ga_source.proofs.CellGroups.{plain_item}
+use Rattle.ga_source.proofs.packing.Packer.take.Goals as goal
+
+pub returns-in-Put-clause-packed : goal.returns-in-Put-clause-packed
+returns-in-Put-clause-packed c =
+    on_ok_weaker c.put.result (λ put requests plain w.
+    let cell = plain_item c.in-Put.item (subst IsPlainRequest c.in-Put.is plain) in
+    subst (λ (request : Request). IsPackedPlain c.put.new.self (requests ++ request ∷ [])) (sym c.in-Put.is) (put cell.n requests cell.is w)) c.put.ensures.packed
+
+pub returns-in-Go-clause-packed : goal.returns-in-Go-clause-packed
+returns-in-Go-clause-packed c =
+    on_ok_weaker c.go-in-Go.result (λ go requests plain w.
+    subst (λ (request : Request). IsPackedPlain c.go-in-Go.new.self (requests ++ request ∷ [])) (sym c.in-Go.is) (go c.in-Go.address requests c.begin_at.ensures w)) c.go-in-Go.ensures.packed

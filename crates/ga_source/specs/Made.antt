@@ -1,0 +1,71 @@
+-- The nodes that plain words make (docs/REFERENCE.md, "Source"; this project's own).
+use Rattle.std.specs.Prelude.{ℕ, ◌≡◌, ◌≢◌, ◌<◌, if◌then◌else◌, List, [], ◌∷◌, drop, slice_index, slice_index_or, slice_set, Option, Some}
+use Rattle.std.specs.List.{All, list_any}
+use Rattle.ga_ports.specs.declared.address.Target.{Target}
+use Rattle.ga_ports.specs.declared.address.Target.TheVariants.{Ram, Rom}
+use Rattle.ga_ports.specs.Address.{classified, advanced}
+use Rattle.ga_node.specs.Record.{NodeState}
+use Rattle.ga_grid.specs.Chip.{node_at}
+use Rattle.ga_grid.specs.Load.{default_chip}
+use Rattle.ga_source.specs.declared.item.Value.{Value}
+use Rattle.ga_source.specs.declared.item.Value.TheVariants.{Number}
+use Rattle.ga_source.specs.declared.item.Item.TheVariants.{Cell}
+use Rattle.ga_source.specs.declared.item.Request.{Request}
+use Rattle.ga_source.specs.declared.item.Request.TheVariants.{Put, Go}
+use Rattle.ga_source.specs.Programs.{is_item}
+use Rattle.ga_source.specs.Plain.{Plain, words_in, bodies_in, yxx_in, plain_of}
+
+-- ---- cells
+
+-- the node with a number in the cell that is named
+abbrev pub with_cell : NodeState → Target → ℕ → NodeState
+with_cell node (Ram k) n = record node { ram = slice_set node.ram k n }
+with_cell node (Rom k) n = record node { rom = slice_set node.rom k n }
+with_cell node _ n = node
+
+-- the node with the cell that a request asks for at this address
+abbrev pub with_asked : NodeState → ℕ → Request → NodeState
+with_asked node at (Put (Cell (Number n))) = with_cell node (classified at) n
+with_asked node at _ = node
+
+-- the address behind a request
+abbrev pub address_behind : ℕ → Request → ℕ
+address_behind at (Put _) = advanced at
+address_behind at (Go address) = address
+address_behind at _ = at
+
+-- the node with the cells that requests ask for, from an address on
+unfoldable pub written : NodeState → ℕ → List Request → NodeState
+written node at [] = node
+written node at (request ∷ requests) = written (with_asked node at request) (address_behind at request) requests
+
+-- ---- nodes
+
+-- a number that is given, or what was there before
+abbrev pub number_or : Option Value → ℕ → ℕ
+number_or (Some (Number n)) before = n
+number_or _ before = before
+
+-- The node with what plain words ask for: their cells from address 0 on, and the registers. P is 0 where there are cells and no
+-- `/p`.
+abbrev pub plain_node : NodeState → Plain → NodeState
+plain_node node plain = record (written node 0 plain.requests) {
+  p = number_or plain.p (if list_any is_item plain.requests then 0 else node.p);
+  a = number_or plain.a node.a;
+  b = number_or plain.b node.b;
+}
+
+-- the node is this one, cell by cell
+pub record IsNode (made node : NodeState) : Type 0 where
+  pub ram : (k : ℕ) → k < 64 → slice_index node.ram k ≡ slice_index made.ram k
+  pub rom : (k : ℕ) → k < 64 → slice_index node.rom k ≡ slice_index made.rom k
+  pub rest : node ≡ record made { ram = node.ram; rom = node.rom }
+
+-- where the words behind a `node` are plain, its node is the one at load with what they ask for
+abbrev pub HasPlain : List NodeState → List (List ℕ) → Type 0
+HasPlain chip words = (n : ℕ) (plain : Plain) → yxx_in (slice_index_or words 0 []) ≡ Some n → plain_of (drop 1 words) ≡ Some plain → IsNode (plain_node (node_at default_chip n) plain) (node_at chip n)
+
+-- the chip that a source makes, as far as its words are plain: a node that it doesn't name is as at load
+pub record IsMade (source : List ℕ) (chip : List NodeState) : Type 0 where
+  pub named : All (HasPlain chip) (bodies_in (words_in source))
+  pub others : (n : ℕ) → All (λ words. yxx_in (slice_index_or words 0 []) ≢ Some n) (bodies_in (words_in source)) → node_at chip n ≡ node_at default_chip n

@@ -1,0 +1,70 @@
+-- Plain requests as groups: each cell a group of its own (docs/REFERENCE.md, "Source"; this project's own).
+use Rattle.std.specs.Prelude.{ℕ, ◌≡◌, ◌%◌, ◌<◌, ◌≤◌, ◌^◌, List, [], ◌∷◌, map, length, slice_index_or, Option, Some, None}
+use Rattle.ga_source.specs.declared.item.Value.{Value}
+use Rattle.ga_source.specs.declared.item.Value.TheVariants.{Number, Label}
+use Rattle.ga_source.specs.declared.item.Item.TheVariants.{Cell}
+use Rattle.ga_source.specs.declared.item.Group.{Group}
+use Rattle.ga_source.specs.declared.item.Request.{Request}
+use Rattle.ga_source.specs.declared.item.Request.TheVariants.{Put, Go}
+use Rattle.ga_source.specs.declared.item.Asked.{Asked}
+use Rattle.ga_source.specs.declared.packing.Packer.{Packer}
+use Rattle.ga_source.specs.Reading.{begin_at}
+use Rattle.ga_source.specs.Made.{address_behind}
+use Rattle.ga_source.specs.Sound.{cells_from, cell_of}
+
+abbrev pub requests_of : List Asked → List Request
+requests_of asked = map (λ one. one.request) asked
+
+-- a cell of data with a number, or an address to go on at
+abbrev pub IsPlainRequest : Request → Type 0
+IsPlainRequest (Put (Cell (Number n))) = n < 2 ^ 18
+IsPlainRequest (Go address) = Unit {0}
+IsPlainRequest _ = ⊥
+
+unfoldable pub ArePlain : List Request → Type 0
+ArePlain [] = Unit {0}
+ArePlain (request ∷ requests) = IsPlainRequest request × ArePlain requests
+
+-- a number below a bound, where there is a value
+abbrev pub IsNumber : ℕ → Option Value → Type 0
+IsNumber bound None = Unit {0}
+IsNumber bound (Some (Number n)) = n < bound
+IsNumber bound (Some (Label k)) = ⊥
+
+-- the registers are given numbers in range
+pub record AreNumbers (p a b : Option Value) : Type 0 where
+  pub p_below : IsNumber 0x400 p
+  pub a_below : IsNumber 0x40000 a
+  pub b_below : IsNumber 0x200 b
+
+-- the address behind requests
+unfoldable pub address_after : ℕ → List Request → ℕ
+address_after at [] = at
+address_after at (request ∷ requests) = address_after (address_behind at request) requests
+
+-- the group is this cell
+pub record IsCellGroup (cell : ℕ × ℕ) (group : Group) : Type 0 where
+  pub address : group.address ≡ cell.0
+  pub items : group.items.items ≡ Cell (Number cell.1) ∷ []
+  pub whole : group.broken ≡ None
+
+-- the groups are these cells
+unfoldable pub AreCellGroups : List (ℕ × ℕ) → List Group → Type 0
+AreCellGroups [] [] = Unit {0}
+AreCellGroups (cell ∷ cells) (group ∷ groups) = IsCellGroup cell group × AreCellGroups cells groups
+AreCellGroups _ _ = ⊥
+
+-- plain requests are packed so far, and no cell is being filled
+pub record IsPackedPlain (packer : Packer) (requests : List Request) : Type 0 where
+  pub filling : packer.filling.items ≡ []
+  pub whole : packer.broken ≡ None
+  pub spot : packer.spot ≡ begin_at (address_after 0 requests)
+  pub groups : AreCellGroups (cells_from 0 requests) packer.groups.items
+
+-- the numbers of cells are words
+abbrev pub AreWords : List (ℕ × ℕ) → Type 0
+AreWords cells = (k : ℕ) → k < length cells → (cell_of cells k).1 < 2 ^ 18
+
+-- from the k-th on, no cell is given
+abbrev pub AreOpen : List (Option ℕ) → List (ℕ × ℕ) → ℕ → Type 0
+AreOpen given cells from = (k : ℕ) → from ≤ k → k < length cells → slice_index_or given ((cell_of cells k).0 % 512) None ≡ None

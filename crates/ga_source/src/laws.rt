@@ -1,0 +1,15 @@
+//! Laws of the definitions, each the contract of a function that does nothing.
+
+ghost use Rattle.std.specs.Prelude.{◌≡◌, ℕ, List, [], Some, drop, slice_index_or};
+ghost use Rattle.ga_node.specs.Record.{NodeState, HasSizes, record_of};
+ghost use Rattle.ga_grid.specs.Chip.{node_at};
+ghost use Rattle.ga_grid.specs.Load.{default_chip};
+ghost use Rattle.ga_source.specs.Plain.{Plain, yxx_in, plain_of};
+ghost use Rattle.ga_source.specs.Made.{HasPlain, plain_node};
+
+/// Where the words behind a `node` are plain, the whole node is the one at load with what they ask for.
+pub fn plain_words_make_nodes()
+    ensures { (chip : List NodeState) (words : List (List ℕ)) (n : ℕ) (plain : Plain) → HasPlain chip words →
+        yxx_in (slice_index_or words 0 []) ≡ Some n → plain_of (drop 1 words) ≡ Some plain → HasSizes (record_of (node_at chip n)) →
+        node_at chip n ≡ plain_node (node_at default_chip n) plain }
+{}
