@@ -1,4 +1,5 @@
-use Rattle.std.proofs.Common.{List, ℕ, ◌+◌, ◌++◌, ap, ◌∙◌}
+use Rattle.std.proofs.Common.{◌≡◌, List, ℕ, ◌+◌, ◌++◌, ap, ◌∙◌}
+use Rattle.ga_lab.specs.Machine.{Standing}
 use Rattle.ga_console.proofs.SaidLemmas.{cut_here, cut_within}
 use Rattle.ga_exploring.specs.Around.{place_text}
 use Rattle.ga_exploring.specs.Tails.{step_tail}
@@ -16,8 +17,12 @@ returns-in_err-say_blocks g c = λ before said h.
 
 pub returns : goal.returns
 returns g c = λ before said h.
-    let whole = place_text c.args.notes.now c.args.lab.now c.args.node c.args.place in
-    let tail = step_tail c.args.notes.now c.args.lab.now c.args.node (c.args.place + 1) in
+    let s = c.args.lab.now in
+    let whole = place_text c.args.notes.now s c.args.node c.args.place in
+    let tail : ℕ → List ℕ = step_tail c.args.notes.now s c.args.node in
     let line : List ℕ = c.as_slice.result.now in
-    told_as c.say_walk_tail.result _ before said (line ++ tail) whole _ (ap (λ (t : List ℕ). t ++ tail) (c.as_slice.ensures.value ∙ c.place_line.ensures))
-    (joined_said c.say_walk_tail.result _ before said line tail _ (c.say_walk_tail.ensures before (said ++ line) (c.in_ok-say_blocks.ensures before said h)))
+    let k : ℕ = c.back_to.new.self.step in
+    let is : k ≡ c.args.place + 1 = ap (λ (z : Standing). z.step) c.back_to.ensures in
+    told_as c.say_walk_tail.result _ before said (line ++ tail k) whole _
+    (ap (λ (n : ℕ). line ++ tail n) is ∙ ap (λ (t : List ℕ). t ++ tail (c.args.place + 1)) (c.as_slice.ensures.value ∙ c.place_line.ensures))
+    (joined_said c.say_walk_tail.result _ before said line (tail k) _ (c.say_walk_tail.ensures before (said ++ line) (c.in_ok-say_blocks.ensures before said h)))
