@@ -107,11 +107,13 @@ fn drops_all(rt: HostRuntime) -> Result<(), Fail> {
 fn newest(lab: &Lab) -> Result<(NodeId, u32), Fail> {
     match lab.made_at(lab.counts().kept.saturating_sub(1)) {
         Some(Made::Own { node, step, .. }) => Ok((node, step)),
-        Some(Made::Pass {
-            reader,
-            reader_step,
-            ..
-        }) => Ok((reader, reader_step)),
+        Some(
+            Made::Pass {
+                reader,
+                reader_step,
+                ..
+            },
+        ) => Ok((reader, reader_step)),
         None => Err("no event".into()),
     }
 }
