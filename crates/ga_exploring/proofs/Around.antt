@@ -41,15 +41,8 @@ pub at_most : (s : State) (node : NodeId) (step : ℕ) (walk : Standing) → wal
 at_most s node step walk e l = subst (λ (z : Standing). z.step ≤ steps_of z.node.number z.machine.kept) (sym e) l
 
 -- it stands behind what its step is behind
-pub at_base : (s : State) (node : NodeId) (step : ℕ) (walk : Standing) (place : ℕ) → walk ≡ standing s node step → place < step → place ≤ walk.step
-at_base s node step walk place e l = subst (λ (z : Standing). place ≤ z.step) (sym e) (let below : place ≤ step = omega (arith, l) in below)
-
 pub beyond_base : (s : State) (node : NodeId) (step : ℕ) (walk : Standing) (place : ℕ) → walk ≡ standing s node step → place < step → place < walk.step
 beyond_base s node step walk place e l = subst (λ (z : Standing). place < z.step) (sym e) l
-
--- where it is walked back from a step to an earlier one
-pub back_to_so : (s : State) (node : NodeId) (walk new : Standing) (step : ℕ) → walk ≡ standing s node walk.step → new ≡ record walk { step = step } → new ≡ standing s node step
-back_to_so s node walk new step e f = f ∙ ap (λ (z : Standing). record z { step = step }) e
 
 -- the lesser of two numbers
 lesser_is : (m n k : ℕ) → (m ≤ n → k ≡ m) → (n < m → k ≡ n) → k ≡ lesser m n

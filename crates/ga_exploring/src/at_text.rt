@@ -32,9 +32,6 @@ const REGISTER_ROOM: usize = b" t ".len() + WORD_ROOM;
 /// The bytes of the registers behind a step.
 const BEHIND_ROOM: usize = 6 * REGISTER_ROOM;
 
-/// So many steps are told by one walk back from the newest; within them each is walked to from the end of the stretch.
-const STRETCH: u32 = 64;
-
 /// `at NNN K [N]`: tells the steps of a node up to so many before and behind one. Takes no memory.
 ///
 /// # Errors
@@ -60,7 +57,7 @@ pub(crate) fn say_around<W: Write>(
     }
 }
 
-/// Says the steps from one place on and before another, the first of which is at place 0.
+/// Says the steps from one place on and before another, the first of which is at place 0, each from a copy of one walk.
 fn say_places<W: Write>(
     lab: &Lab,
     notes: &Option<Notes>,
@@ -74,36 +71,11 @@ fn say_places<W: Write>(
     ensures { Says result (λ text. text ≡ places_text notes.now lab.now node first (last - first))
         (W.contents writer.old) output.old (W.contents writer.new) output.new }
 {
-    let mut base = lab.walk(node, stretch_end(first, last));
+    let base = lab.walk(node, last);
     'places: for place in first..last {
-        base = walk_beyond(lab, node, base, place, last);
         say_place(lab, notes, node, &base, place, output, writer)?;
     }
     Ok(())
-}
-
-/// Where the stretch ends that begins at a place.
-fn stretch_end(place: u32, last: u32) -> u32
-    ensures within { result ≤ last }
-    ensures beyond { place < last → place < result }
-{
-    place.saturating_add(STRETCH).min(last)
-}
-
-/// A walk that stands behind a place: this one, or where it stands there itself, one from the end of the next stretch.
-fn walk_beyond<'l>(lab: &'l Lab, node: NodeId, base: Walk<'l>, place: u32, last: u32) -> Walk<'l>
-    requires place { place < last }
-    requires within { last ≤ steps_of node.number lab.now.kept }
-    requires walk { base ≡ standing lab.now node base.step }
-    requires behind { place ≤ base.step }
-    ensures walk { result ≡ standing lab.now node result.step }
-    ensures behind { place < result.step }
-{
-    if base.step() == place {
-        lab.walk(node, stretch_end(place, last))
-    } else {
-        base
-    }
 }
 
 /// Says the step at a place, by a walk that stands behind it.

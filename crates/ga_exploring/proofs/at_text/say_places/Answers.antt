@@ -3,21 +3,23 @@ use Rattle.ga_console.proofs.SaidLemmas.{cut_here, said_pending}
 use Rattle.ga_exploring.specs.Around.{place_text, places_text}
 use Rattle.ga_exploring.proofs.Saying.{line_said, line_cut, all_said}
 use Rattle.ga_whence.proofs.Made.{stands_so}
-use Rattle.ga_exploring.proofs.Around.{next_place, no_place, at_base}
+use Rattle.ga_exploring.proofs.Around.{next_place, no_place, beyond_base}
 use Rattle.ga_exploring.proofs.at_text.say_places.Goals as goal
 
 pub places-init : goal.places-init
-places-init g c = record {
-  told = λ before said h. record { front = []; splits = refl; is_said = said_pending _ before said _ h };
-  walk = stands_so c.args.lab.now c.args.node c.stretch_end.result c.walk-base.result c.walk-base.ensures;
-  behind = λ l. at_base c.args.lab.now c.args.node c.stretch_end.result c.walk-base.result c.args.first c.walk-base.ensures (c.stretch_end.ensures.beyond l);
-}
+places-init g c = λ before said h. record { front = []; splits = refl; is_said = said_pending _ before said _ h }
+
+pub say_place-requires-clause-walk : goal.say_place-requires-clause-walk
+say_place-requires-clause-walk g c = stands_so c.args.lab.now c.args.node c.args.last c.walk-base.result c.walk-base.ensures
+
+pub say_place-requires-clause-behind : goal.say_place-requires-clause-behind
+say_place-requires-clause-behind g c = beyond_base c.args.lab.now c.args.node c.args.last c.walk-base.result c.places.place c.walk-base.ensures (omega arith)
 
 pub returns-in_err-say_place : goal.returns-in_err-say_place
 returns-in_err-say_place g c = λ before said h.
     let s = c.args.lab.now in
     let whole : List ℕ = places_text c.args.notes.now s c.args.node c.args.first (c.args.last - c.args.first) in
-    let done = c.places.invariant.told before said h in (
+    let done = c.places.invariant before said h in (
       whole,
       refl,
       cut_here c.from_residual.result _ before (said ++ whole) _ c.from_residual.ensures.0
@@ -27,16 +29,12 @@ returns-in_err-say_place g c = λ before said h.
     )
 
 pub places-preserved : goal.places-preserved
-places-preserved g c = record {
-  told = λ before said h.
-      let s = c.args.lab.now in
-      let done = c.places.invariant.told before said h in
-      line_said _ before said (places_text c.args.notes.now s c.args.node c.args.first (c.args.last - c.args.first)) _ (place_text c.args.notes.now s c.args.node c.places.place) _ done.front _
-      (next_place c.args.notes.now s c.args.node c.places.place c.args.last (omega arith)) done.splits
-      (c.in_ok-say_place.ensures before (said ++ done.front) done.is_said);
-  walk = c.walk_beyond-base.ensures.walk;
-  behind = λ l. omega (arith, c.walk_beyond-base.ensures.behind);
-}
+places-preserved g c = λ before said h.
+    let s = c.args.lab.now in
+    let done = c.places.invariant before said h in
+    line_said _ before said (places_text c.args.notes.now s c.args.node c.args.first (c.args.last - c.args.first)) _ (place_text c.args.notes.now s c.args.node c.places.place) _ done.front _
+    (next_place c.args.notes.now s c.args.node c.places.place c.args.last (omega arith)) done.splits
+    (c.in_ok-say_place.ensures before (said ++ done.front) done.is_said)
 
 pub returns : goal.returns
 returns g c = λ before said h.
@@ -44,5 +42,5 @@ returns g c = λ before said h.
     let whole : List ℕ = places_text c.args.notes.now s c.args.node c.args.first (c.args.last - c.args.first) in (
       whole,
       refl,
-      all_said _ before said whole _ _ (no_place c.args.notes.now s c.args.node c.places.place (c.args.last - c.places.place) (omega arith)) (c.places.invariant.told before said h),
+      all_said _ before said whole _ _ (no_place c.args.notes.now s c.args.node c.places.place (c.args.last - c.places.place) (omega arith)) (c.places.invariant before said h),
     )
