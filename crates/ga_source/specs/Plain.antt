@@ -22,6 +22,7 @@ use Rattle.ga_source.specs.Numbers.{◌>>=◌, number_in}
 abbrev pub words_in : List ℕ → List (List ℕ)
 words_in source = map (λ said. said.text) (said_in source)
 
+-- a program begins with this word
 abbrev pub is_node : List ℕ → Bool
 is_node word = bytes_eq word (codes "node")
 
@@ -57,6 +58,7 @@ pub record Plain : Type 0 where
   pub a : Option Value
   pub b : Option Value
 
+-- nothing is asked
 abbrev pub no_request : Plain
 no_request = record { requests = []; p = None; a = None; b = None }
 

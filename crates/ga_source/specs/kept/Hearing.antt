@@ -21,6 +21,7 @@ pub record Heard : Type 0 where
   pub expect : Expect
   pub plain : Plain
 
+-- before the first word
 abbrev pub nothing_heard : Heard
 nothing_heard = record { expect = Word; plain = no_request }
 
@@ -79,6 +80,7 @@ unfoldable pub hear_all : Heard → List (List ℕ) → Option Plain
 hear_all heard [] = end_of heard
 hear_all heard (word ∷ words) = hear heard word (slice_index_or words 0 []) >>= (λ now. hear_all now words)
 
+-- the words of tokens
 abbrev pub texts_of : List Token → List (List ℕ)
 texts_of tokens = map (λ token. token.text.now) tokens
 

@@ -12,6 +12,7 @@ use Rattle.ga_source.specs.Reading.{begin_at}
 use Rattle.ga_source.specs.Made.{address_behind}
 use Rattle.ga_source.specs.Sound.{cells_from, cell_of}
 
+-- requests without their lines
 abbrev pub requests_of : List Asked → List Request
 requests_of asked = map (λ one. one.request) asked
 
@@ -21,6 +22,7 @@ IsPlainRequest (Put (Cell (Number n))) = n < 2 ^ 18
 IsPlainRequest (Go address) = Unit {0}
 IsPlainRequest _ = ⊥
 
+-- each request is such
 unfoldable pub ArePlain : List Request → Type 0
 ArePlain [] = Unit {0}
 ArePlain (request ∷ requests) = IsPlainRequest request × ArePlain requests

@@ -4,9 +4,11 @@ use Rattle.std.specs.List.{list_all}
 use Rattle.ga_source.specs.declared.scan.Token.{Token}
 use Rattle.ga_source.specs.Saying.{words_of, Said, is_word, spoken}
 
+-- what a token says
 abbrev pub said_of : Token → Said
 said_of token = record { line = token.line; text = token.text.now; kind = token.kind }
 
+-- what tokens say
 abbrev pub all_said : List Token → List Said
 all_said tokens = map said_of tokens
 
