@@ -85,7 +85,7 @@ state_text (wait.Write side) stop = codes "write " ++ sides_text (only side)
 state_text wait.Nothing stop = if stop == 0 then codes "run" else codes "stop " ++ decimal stop
 
 -- a register: its name and its value
-abbrev pub register_text : Text → ℕ → List ℕ
+abbrev pub register_text : Text → ℕ → Text
 register_text name value = codes " " ++ name ++ (codes " " ++ hex6_of value)
 
 abbrev pub registers_text : NodeRecord → Text

@@ -1,5 +1,6 @@
 //! Source in, the image of its chip out.
-ghost use Rattle.std.specs.Prelude.{◌≡◌, ◌++◌, ℕ, List, Some, IfSome};
+ghost use Rattle.std.specs.Prelude.{◌≡◌, ◌++◌, Some, IfSome};
+ghost use Rattle.ga_image.specs.Lines.{Bytes};
 ghost use Rattle.ga_console.specs.kept.Race.{Writes};
 ghost use Rattle.ga_console.specs.Source.{IsAssembly, Assembles};
 ghost use Rattle.ga_console.specs.kept.Source.{Assembly};
@@ -23,9 +24,9 @@ pub fn assemble_source<R: Read, W: Write, E: Write>(
     errors: &mut E,
 ) -> Status
     // Where the streams tell their bytes: what was read, and what was written for it by the status.
-    ensures { (left before : List ℕ) →
+    ensures { (left before : Bytes) →
         R.remaining reader.old ≡ Some left → W.contents writer.old ≡ Some before →
-        (read rest text : List ℕ) × (left ≡ read ++ rest) × (R.remaining reader.new ≡ Some rest)
+        (read rest text : Bytes) × (left ≡ read ++ rest) × (R.remaining reader.new ≡ Some rest)
         × (W.contents writer.new ≡ Some (before ++ text)) × Assembles read rest text result }
 {
     match read_source(alloc, reader, errors) {
@@ -41,8 +42,8 @@ fn assemble_text<W: Write, E: Write>(
     errors: &mut E,
     source: Vec<u8>,
 ) -> Status
-    ensures { (before : List ℕ) → W.contents writer.old ≡ Some before →
-        (text : List ℕ) × (W.contents writer.new ≡ Some (before ++ text)) × Assembly text result }
+    ensures { (before : Bytes) → W.contents writer.old ≡ Some before →
+        (text : Bytes) × (W.contents writer.new ≡ Some (before ++ text)) × Assembly text result }
 {
     match image_of(alloc, errors, source) {
         Some(image) => write_text(writer, image),
@@ -52,8 +53,8 @@ fn assemble_text<W: Write, E: Write>(
 
 /// Writes a text.
 pub fn write_text<W: Write>(writer: &mut W, text: Vec<u8>) -> Status
-    ensures { (before : List ℕ) → W.contents writer.old ≡ Some before →
-        (sent : List ℕ) × (W.contents writer.new ≡ Some (before ++ sent)) × Writes text.items sent result }
+    ensures { (before : Bytes) → W.contents writer.old ≡ Some before →
+        (sent : Bytes) × (W.contents writer.new ≡ Some (before ++ sent)) × Writes text.items sent result }
 {
     match write_all(writer, text.as_slice()) {
         Ok(()) => Status::Done,

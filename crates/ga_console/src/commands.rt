@@ -1,5 +1,6 @@
 //! The command part of a session.
-ghost use Rattle.std.specs.Prelude.{◌≡◌, ◌-◌, ◌++◌, ℕ, List, Some};
+ghost use Rattle.std.specs.Prelude.{◌≡◌, ◌-◌, ◌++◌, Some};
+ghost use Rattle.ga_image.specs.Lines.{Bytes};
 ghost use Rattle.ga_console.specs.Input.{IsWithin, input_limit};
 ghost use Rattle.ga_console.specs.Output.{IsSaid, IsSaidOrCut};
 ghost use Rattle.ga_console.specs.Session.{Serves, Written};
@@ -38,9 +39,9 @@ pub fn serve<S: Responder, R: Read, W: Write>(
     session: &mut S,
 ) -> Result<Ending, WriteFailed>
     requires { IsWithin input.old }
-    ensures { (left before said : List ℕ) → R.remaining reader.old ≡ Some left →
+    ensures { (left before said : Bytes) → R.remaining reader.old ≡ Some left →
         IsSaid (W.contents writer.old) before said output.old →
-        (read rest text sent : List ℕ)
+        (read rest text sent : Bytes)
         × (input.old.bytes ++ left ≡ read ++ rest) × (R.remaining reader.new ≡ Some rest)
         × (W.contents writer.new ≡ Some (before ++ sent))
         × Serves S.answers (input_limit - input.old.taken) session.old read rest text session.new result
@@ -61,9 +62,9 @@ fn answer_lines<S: Responder, R: Read, W: Write>(
     session: &mut S,
 ) -> Result<Ending, WriteFailed>
     requires { IsWithin input.old }
-    ensures { (left before said : List ℕ) → R.remaining reader.old ≡ Some left →
+    ensures { (left before said : Bytes) → R.remaining reader.old ≡ Some left →
         IsSaid (W.contents writer.old) before said output.old →
-        (read rest text : List ℕ)
+        (read rest text : Bytes)
         × (input.old.bytes ++ left ≡ read ++ rest) × (R.remaining reader.new ≡ Some rest)
         × Serves S.answers (input_limit - input.old.taken) session.old read rest text session.new result
         × IsSaidOrCut result (W.contents writer.new) before (said ++ text) output.new }

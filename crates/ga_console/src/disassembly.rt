@@ -1,5 +1,6 @@
 //! An image in, source of the same memories and registers out.
-ghost use Rattle.std.specs.Prelude.{◌≡◌, ◌<◌, ◌++◌, ℕ, List, Some, IfOk, IfErr};
+ghost use Rattle.std.specs.Prelude.{◌≡◌, ◌<◌, ◌++◌, Some, IfOk, IfErr};
+ghost use Rattle.ga_image.specs.Lines.{Bytes};
 ghost use Rattle.ga_console.specs.Run.{IsFault};
 ghost use Rattle.ga_console.specs.Source.{IsAccepted, Disassembles};
 ghost use Rattle.ga_console.specs.kept.Source.{Disassembly};
@@ -27,9 +28,9 @@ const NO_MEMORY: ImageFault = ImageFault {
 /// refused image gets its refusal.
 pub fn disassemble<R: Read, W: Write>(alloc: Global, reader: &mut R, writer: &mut W) -> Status
     // Where the streams tell their bytes: what was read, and what was written for it by the status.
-    ensures { (left before : List ℕ) →
+    ensures { (left before : Bytes) →
         R.remaining reader.old ≡ Some left → W.contents writer.old ≡ Some before →
-        (read rest text : List ℕ) × (left ≡ read ++ rest) × (R.remaining reader.new ≡ Some rest)
+        (read rest text : Bytes) × (left ≡ read ++ rest) × (R.remaining reader.new ≡ Some rest)
         × (W.contents writer.new ≡ Some (before ++ text)) × Disassembles read rest text result }
 {
     match read_whole(alloc, reader) {
@@ -43,8 +44,8 @@ pub fn disassemble<R: Read, W: Write>(alloc: Global, reader: &mut R, writer: &mu
 
 /// Writes the source of an image, or refuses the image.
 fn disassemble_text<W: Write>(alloc: Global, writer: &mut W, image: Vec<u8>) -> Status
-    ensures { (before : List ℕ) → W.contents writer.old ≡ Some before →
-        (text : List ℕ) × (W.contents writer.new ≡ Some (before ++ text)) × Disassembly image.items text result }
+    ensures { (before : Bytes) → W.contents writer.old ≡ Some before →
+        (text : Bytes) × (W.contents writer.new ≡ Some (before ++ text)) × Disassembly image.items text result }
 {
     match source_for(alloc, image) {
         Ok(text) => write_text(writer, text),

@@ -1,5 +1,6 @@
 //! The image part of a session.
-ghost use Rattle.std.specs.Prelude.{◌≡◌, ◌<◌, ◌++◌, ℕ, List, [], length, Some, Ok, IfOk, OnErr, IsTrue, ◌↔◌};
+ghost use Rattle.std.specs.Prelude.{◌≡◌, ◌<◌, ◌++◌, [], length, Some, Ok, IfOk, OnErr, IsTrue, ◌↔◌};
+ghost use Rattle.ga_image.specs.Lines.{Bytes};
 ghost use Rattle.ga_console.specs.Input.{IsWithin, block_size};
 ghost use Rattle.ga_console.specs.Lines.{ended};
 ghost use Rattle.ga_console.specs.Image.{ReadsImage, end_line};
@@ -29,11 +30,11 @@ pub fn read_image<R: Read>(
 ) -> Result<ImageEnd, AllocError>
     requires within { IsWithin input.old }
     requires empty { text.old.items ≡ [] }
-    ensures reads { IfOk result (λ stop. (left : List ℕ) → R.remaining reader.old ≡ Some left →
-        (rest : List ℕ) × (R.remaining reader.new ≡ Some rest)
+    ensures reads { IfOk result (λ stop. (left : Bytes) → R.remaining reader.old ≡ Some left →
+        (rest : Bytes) × (R.remaining reader.new ≡ Some rest)
         × ReadsImage input.old left text.new.items input.new rest stop) }
-    ensures err { OnErr result ((left : List ℕ) → R.remaining reader.old ≡ Some left →
-        (read : List ℕ) × (rest : List ℕ) × (R.remaining reader.new ≡ Some rest)
+    ensures err { OnErr result ((left : Bytes) → R.remaining reader.old ≡ Some left →
+        (read : Bytes) × (rest : Bytes) × (R.remaining reader.new ≡ Some rest)
         × (input.old.bytes ++ left ≡ read ++ rest)) }
     ensures behind { result ≡ Ok ImageEnd.EndLine → length input.new.bytes < block_size }
     ensures within { IsWithin input.new }

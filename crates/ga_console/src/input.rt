@@ -1,5 +1,6 @@
 //! The input, block by block, up to its bound.
-ghost use Rattle.std.specs.Prelude.{◌≡◌, ◌+◌, ◌≤◌, ◌<◌, ◌++◌, ◌∷◌, ℕ, true, List, [], length, take, drop, slice_index, Some, IfSome, IfNone, IfOk, OnErr};
+ghost use Rattle.std.specs.Prelude.{◌≡◌, ◌+◌, ◌≤◌, ◌<◌, ◌++◌, ◌∷◌, true, [], length, take, drop, slice_index, Some, IfSome, IfNone, IfOk, OnErr};
+ghost use Rattle.ga_image.specs.Lines.{Bytes};
 ghost use Rattle.ga_console.specs.Input.{Unread, IsWithin, block_size};
 ghost use Rattle.ga_console.specs.kept.Input.{Fills, HasFilled, TakesPart};
 ghost use Rattle.ga_console.specs.Lines.{HasNoFeed};
@@ -65,8 +66,8 @@ impl Input {
     /// Reads more, by one read, where all that was read is taken. At the bound it looks only whether the input ends there.
     pub(crate) fn fill<R: Read>(&mut self, reader: &mut R) -> Fill
         requires { self.old.bytes ≡ [] }
-        ensures fills { (input : List ℕ) → R.remaining reader.old ≡ Some input →
-            (rest : List ℕ) × (R.remaining reader.new ≡ Some rest)
+        ensures fills { (input : Bytes) → R.remaining reader.old ≡ Some input →
+            (rest : Bytes) × (R.remaining reader.new ≡ Some rest)
             × Fills self.old.taken input self.new.bytes rest result }
         ensures filled { HasFilled self.new.bytes result }
         ensures taken { self.new.taken ≡ self.old.taken }
@@ -117,7 +118,7 @@ impl Input {
 
     /// Takes what was read, up to a line feed, and keeps it as far as a line goes. True where a line feed was taken.
     pub(crate) fn take_line(&mut self, line: &mut Line) -> bool
-        ensures takes { (part : List ℕ) × TakesPart self.old part self.new result
+        ensures takes { (part : Bytes) × TakesPart self.old part self.new result
             × (line.new.items ≡ take 201 (line.old.items ++ part)) }
         ensures within { IsWithin self.new }
     {
@@ -140,7 +141,7 @@ impl Input {
 
     /// Takes what was read, up to a line feed and with it, and adds it to a text. True where a line feed was taken.
     pub(crate) fn take_text(&mut self, text: &mut Vec<u8>) -> Result<bool, AllocError>
-        ensures takes { IfOk result (λ fed. (part : List ℕ) × TakesPart self.old part self.new fed
+        ensures takes { IfOk result (λ fed. (part : Bytes) × TakesPart self.old part self.new fed
             × (text.new.items ≡ text.old.items ++ with_feed part fed)) }
         ensures behind { IfOk result (λ fed. fed ≡ true → length self.new.bytes < block_size) }
         ensures err { OnErr result ((self.new ≡ self.old) × (text.new.items ≡ text.old.items)) }

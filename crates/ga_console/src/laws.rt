@@ -1,6 +1,7 @@
 //! A law of the definitions, the contract of a function that does nothing.
 
 ghost use Rattle.std.specs.Prelude.{ℕ, List};
+ghost use Rattle.ga_image.specs.Lines.{Bytes, Line};
 ghost use Rattle.ga_grid.specs.Steady.{AreSteady};
 ghost use Rattle.ga_lab.specs.Machine.{State, chip_of};
 ghost use Rattle.ga_console.specs.Reached.{Reaches};
@@ -10,7 +11,7 @@ use ga_lab::laws::stays_steady;
 
 /// In each chip to which a session comes, each node's wait fits its slot and its stop: so its dump is an image.
 pub fn stays_fit()
-    ensures { (image : List ℕ) (limit : ℕ) (machine last : State) (lines : List (List ℕ)) →
+    ensures { (image : Bytes) (limit : ℕ) (machine last : State) (lines : List Line) →
         Opens image limit machine → Reaches machine lines last → AreSteady (chip_of last) }
 {
     stays_steady();

@@ -1,5 +1,6 @@
 //! Lines of the input.
-ghost use Rattle.std.specs.Prelude.{◌≡◌, ◌+◌, ◌≤◌, ◌<◌, ◌++◌, ℕ, List, Some, length, take, Ok};
+ghost use Rattle.std.specs.Prelude.{◌≡◌, ◌+◌, ◌≤◌, ◌<◌, ◌++◌, Some, length, take, Ok};
+ghost use Rattle.ga_image.specs.Lines.{Bytes};
 ghost use Rattle.ga_console.specs.Input.{IsWithin};
 ghost use Rattle.ga_console.specs.Output.{IsSaid, IsSaidOrCut};
 ghost use Rattle.ga_console.specs.kept.ReadLine.{ReadsLine};
@@ -37,10 +38,10 @@ pub fn read_line<R: Read, W: Write>(
     line: &mut Line,
 ) -> Result<LineEnd, WriteFailed>
     requires { IsWithin input.old }
-    ensures reads { (left : List ℕ) → R.remaining reader.old ≡ Some left →
-        (rest : List ℕ) × (R.remaining reader.new ≡ Some rest)
+    ensures reads { (left : Bytes) → R.remaining reader.old ≡ Some left →
+        (rest : Bytes) × (R.remaining reader.new ≡ Some rest)
         × ReadsLine input.old left line.new.items input.new rest result }
-    ensures said { (before said : List ℕ) → IsSaid (W.contents writer.old) before said output.old →
+    ensures said { (before said : Bytes) → IsSaid (W.contents writer.old) before said output.old →
         IsSaidOrCut result (W.contents writer.new) before said output.new }
     ensures within { IsWithin input.new }
     ensures goes_on { result ≡ Ok LineEnd.Feed → input.old.taken < input.new.taken }

@@ -1,5 +1,6 @@
 //! Source in, a listing of its cells out.
-ghost use Rattle.std.specs.Prelude.{◌≡◌, ◌++◌, ℕ, List, Some};
+ghost use Rattle.std.specs.Prelude.{◌≡◌, ◌++◌, Some};
+ghost use Rattle.ga_image.specs.Lines.{Bytes};
 ghost use Rattle.ga_console.specs.kept.Source.{Listing};
 ghost use Rattle.ga_console.specs.Source.{Lists};
 
@@ -24,9 +25,9 @@ pub fn list_source<R: Read, W: Write, E: Write>(
     errors: &mut E,
 ) -> Status
     // Where the streams tell their bytes: what was read, and what was written for it by the status.
-    ensures { (left before : List ℕ) →
+    ensures { (left before : Bytes) →
         R.remaining reader.old ≡ Some left → W.contents writer.old ≡ Some before →
-        (read rest text : List ℕ) × (left ≡ read ++ rest) × (R.remaining reader.new ≡ Some rest)
+        (read rest text : Bytes) × (left ≡ read ++ rest) × (R.remaining reader.new ≡ Some rest)
         × (W.contents writer.new ≡ Some (before ++ text)) × Lists read rest text result }
 {
     match read_source(alloc, reader, errors) {
@@ -42,8 +43,8 @@ fn list_text<W: Write, E: Write>(
     errors: &mut E,
     source: Vec<u8>,
 ) -> Status
-    ensures { (before : List ℕ) → W.contents writer.old ≡ Some before →
-        (text : List ℕ) × (W.contents writer.new ≡ Some (before ++ text)) × Listing text result }
+    ensures { (before : Bytes) → W.contents writer.old ≡ Some before →
+        (text : Bytes) × (W.contents writer.new ≡ Some (before ++ text)) × Listing text result }
 {
     match listing_of(alloc, errors, source) {
         Some(text) => write_text(writer, text),

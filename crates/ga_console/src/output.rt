@@ -1,5 +1,6 @@
 //! The output, gathered before it is written.
 ghost use Rattle.std.specs.Prelude.{◌≡◌, ◌++◌, ◌+◌, ◌≤◌, length, ℕ, List, [], OnOk};
+ghost use Rattle.ga_image.specs.Lines.{Bytes};
 ghost use Rattle.ga_console.specs.Output.{IsSaid, IsSaidOrCut, ready};
 ghost use Rattle.ga_console.specs.Texts.{made_text, removed_text, node_text, memory_text, counts_text, trace_text, chain_text};
 ghost use Rattle.ga_node.specs.Record.{record_of};
@@ -66,7 +67,7 @@ impl Output {
     /// A write failed.
     pub fn say<W: Write>(&mut self, writer: &mut W, text: &[u8]) -> Result<(), WriteFailed>
         requires { length text.now ≤ PENDING_ROOM }
-        ensures { (before said : List ℕ) → IsSaid (W.contents writer.old) before said self.old →
+        ensures { (before said : Bytes) → IsSaid (W.contents writer.old) before said self.old →
             IsSaidOrCut result (W.contents writer.new) before (said ++ text.now) self.new }
     {
         self.make_room(writer, text.len())?;
@@ -79,7 +80,7 @@ impl Output {
     /// # Errors
     /// A write failed.
     pub fn say_blocks<W: Write>(&mut self, writer: &mut W, text: &[u8]) -> Result<(), WriteFailed>
-        ensures { (before said : List ℕ) → IsSaid (W.contents writer.old) before said self.old →
+        ensures { (before said : Bytes) → IsSaid (W.contents writer.old) before said self.old →
             IsSaidOrCut result (W.contents writer.new) before (said ++ text.now) self.new }
     {
         let mut rest = text;
@@ -97,7 +98,7 @@ impl Output {
     /// A write failed.
     #[inline(always)]
     pub fn say_made<W: Write>(&mut self, writer: &mut W, made: Made) -> Result<(), WriteFailed>
-        ensures { (before said : List ℕ) → IsSaid (W.contents writer.old) before said self.old →
+        ensures { (before said : Bytes) → IsSaid (W.contents writer.old) before said self.old →
             IsSaidOrCut result (W.contents writer.new) before (said ++ made_text made) self.new }
     {
         self.make_room(writer, LINE_ROOM)?;
@@ -115,7 +116,7 @@ impl Output {
         removed: u32,
         kept: u32,
     ) -> Result<(), WriteFailed>
-        ensures { (before said : List ℕ) → IsSaid (W.contents writer.old) before said self.old →
+        ensures { (before said : Bytes) → IsSaid (W.contents writer.old) before said self.old →
             IsSaidOrCut result (W.contents writer.new) before (said ++ removed_text removed kept) self.new }
     {
         self.make_room(writer, LINE_ROOM)?;
@@ -133,7 +134,7 @@ impl Output {
         node: NodeId,
         at: &Node,
     ) -> Result<(), WriteFailed>
-        ensures { (before said : List ℕ) → IsSaid (W.contents writer.old) before said self.old →
+        ensures { (before said : Bytes) → IsSaid (W.contents writer.old) before said self.old →
             IsSaidOrCut result (W.contents writer.new) before (said ++ node_text node (record_of at.now)) self.new }
     {
         self.make_room(writer, LINE_ROOM)?;
@@ -152,7 +153,7 @@ impl Output {
         address: u8,
         word: Word18,
     ) -> Result<(), WriteFailed>
-        ensures { (before said : List ℕ) → IsSaid (W.contents writer.old) before said self.old →
+        ensures { (before said : Bytes) → IsSaid (W.contents writer.old) before said self.old →
             IsSaidOrCut result (W.contents writer.new) before (said ++ memory_text node address word) self.new }
     {
         self.make_room(writer, LINE_ROOM)?;
@@ -169,7 +170,7 @@ impl Output {
         writer: &mut W,
         counts: Counts,
     ) -> Result<(), WriteFailed>
-        ensures { (before said : List ℕ) → IsSaid (W.contents writer.old) before said self.old →
+        ensures { (before said : Bytes) → IsSaid (W.contents writer.old) before said self.old →
             IsSaidOrCut result (W.contents writer.new) before (said ++ counts_text counts.kept counts.made counts.limit) self.new }
     {
         self.make_room(writer, LINE_ROOM)?;
@@ -187,7 +188,7 @@ impl Output {
         node: NodeId,
         count: usize,
     ) -> Result<(), WriteFailed>
-        ensures { (before said : List ℕ) → IsSaid (W.contents writer.old) before said self.old →
+        ensures { (before said : Bytes) → IsSaid (W.contents writer.old) before said self.old →
             IsSaidOrCut result (W.contents writer.new) before (said ++ trace_text node count) self.new }
     {
         self.make_room(writer, LINE_ROOM)?;
@@ -200,7 +201,7 @@ impl Output {
     /// # Errors
     /// A write failed.
     pub fn say_chain<W: Write>(&mut self, writer: &mut W, count: usize) -> Result<(), WriteFailed>
-        ensures { (before said : List ℕ) → IsSaid (W.contents writer.old) before said self.old →
+        ensures { (before said : Bytes) → IsSaid (W.contents writer.old) before said self.old →
             IsSaidOrCut result (W.contents writer.new) before (said ++ chain_text count) self.new }
     {
         self.make_room(writer, LINE_ROOM)?;
@@ -212,7 +213,7 @@ impl Output {
     #[inline(always)]
     fn make_room<W: Write>(&mut self, writer: &mut W, count: usize) -> Result<(), WriteFailed>
         requires { count ≤ PENDING_ROOM }
-        ensures said { (before said : List ℕ) → IsSaid (W.contents writer.old) before said self.old →
+        ensures said { (before said : Bytes) → IsSaid (W.contents writer.old) before said self.old →
             IsSaidOrCut result (W.contents writer.new) before said self.new }
         ensures room { OnOk result (length self.new + count ≤ PENDING_ROOM) }
     {
@@ -227,7 +228,7 @@ impl Output {
     /// # Errors
     /// A write failed.
     pub fn send<W: Write>(&mut self, writer: &mut W) -> Result<(), WriteFailed>
-        ensures said { (before said : List ℕ) → IsSaid (W.contents writer.old) before said self.old →
+        ensures said { (before said : Bytes) → IsSaid (W.contents writer.old) before said self.old →
             IsSaidOrCut result (W.contents writer.new) before said self.new }
         ensures sent { OnOk result (self.new ≡ []) }
     {
@@ -245,7 +246,7 @@ impl Output {
 /// # Errors
 /// A write failed.
 pub fn write_all<W: Write>(writer: &mut W, text: &[u8]) -> Result<(), WriteFailed>
-    ensures { (before said : List ℕ) → IsSaid (W.contents writer.old) before said text.now →
+    ensures { (before said : Bytes) → IsSaid (W.contents writer.old) before said text.now →
         IsSaidOrCut result (W.contents writer.new) before said [] }
 {
     let mut rest = text;

@@ -1,5 +1,6 @@
 //! A race of workers on the chip of an image.
-ghost use Rattle.std.specs.Prelude.{◌≡◌, ◌<◌, ◌≤◌, ◌*◌, ◌++◌, ℕ, List, map, length, Some, IfOk, IfSome, All, vec_len, slice_get};
+ghost use Rattle.std.specs.Prelude.{◌≡◌, ◌<◌, ◌≤◌, ◌*◌, ◌++◌, ℕ, map, length, Some, IfOk, IfSome, All, vec_len, slice_get};
+ghost use Rattle.ga_image.specs.Lines.{Bytes};
 ghost use Rattle.ga_grid.specs.Chip.{records_of};
 ghost use Rattle.ga_console.specs.Race.{calls_by, report_text, IsRace, Reports};
 ghost use Rattle.ga_console.specs.kept.Race.{Races, Writes};
@@ -29,9 +30,9 @@ pub fn race_report<T: Threads + Wait + Sync, R: Read, W: Write>(
 ) -> Status
     requires { (1 ≤ workers) × (workers ≤ 16) }
     // Where the streams tell their bytes: what was read, and what was written for it by the status.
-    ensures { (left before : List ℕ) →
+    ensures { (left before : Bytes) →
         R.remaining reader.old ≡ Some left → W.contents writer.old ≡ Some before →
-        (read rest text : List ℕ) × (left ≡ read ++ rest) × (R.remaining reader.new ≡ Some rest)
+        (read rest text : Bytes) × (left ≡ read ++ rest) × (R.remaining reader.new ≡ Some rest)
         × (W.contents writer.new ≡ Some (before ++ text)) × Reports limit workers calls read rest text result }
 {
     match read_whole(alloc, reader) {
@@ -54,8 +55,8 @@ fn run_image<T: Threads + Wait + Sync, W: Write>(
     limit: u32,
 ) -> Status
     requires { (1 ≤ workers) × (workers ≤ 16) }
-    ensures { (before : List ℕ) → W.contents writer.old ≡ Some before →
-        (text : List ℕ) × (W.contents writer.new ≡ Some (before ++ text))
+    ensures { (before : Bytes) → W.contents writer.old ≡ Some before →
+        (text : Bytes) × (W.contents writer.new ≡ Some (before ++ text))
         × Races limit workers calls image.items text result }
 {
     match parse(alloc, image.as_slice()) {
@@ -125,8 +126,8 @@ fn list_of(alloc: Global, worker: u32, calls: u32) -> Result<Vec<Call>, AllocErr
 
 /// Writes the three lines of a race.
 fn report<W: Write>(writer: &mut W, closed: &Closed) -> Status
-    ensures { (before : List ℕ) → W.contents writer.old ≡ Some before →
-        (text : List ℕ) × (W.contents writer.new ≡ Some (before ++ text))
+    ensures { (before : Bytes) → W.contents writer.old ≡ Some before →
+        (text : Bytes) × (W.contents writer.new ≡ Some (before ++ text))
         × Writes (report_text (length closed.now.log.items) closed.now.lab.made (length closed.now.lab.kept)) text result }
 {
     let mut text = Text::new();

@@ -1,5 +1,6 @@
 //! What answers the lines of a session.
-ghost use Rattle.std.specs.Prelude.{◌≡◌, ℕ, List};
+ghost use Rattle.std.specs.Prelude.{◌≡◌};
+ghost use Rattle.ga_image.specs.Lines.{Bytes};
 ghost use Rattle.ga_lab.specs.Machine.{State};
 ghost use Rattle.ga_console.specs.kept.Output.{Says};
 ghost use Rattle.ga_console.specs.kept.Turns.{Turns, AnswersCommand};
@@ -24,7 +25,7 @@ pub enum Turn {
 /// What answers the lines of a session. It knows each command of the debugger, and may know more.
 pub trait Responder: Drop {
     // The machine before a line, the line, its answer, and the machine after it.
-    ghost answers: { Self → List ℕ → List ℕ → Self → Type 0 };
+    ghost answers: { Self → Bytes → Bytes → Self → Type 0 };
 
     // The session's machine on a lab that was opened.
     ghost begin: { State → Self };

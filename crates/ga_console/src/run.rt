@@ -1,5 +1,6 @@
 //! A whole session.
-ghost use Rattle.std.specs.Prelude.{◌≡◌, ◌++◌, ℕ, List, Some, IfOk, IfErr};
+ghost use Rattle.std.specs.Prelude.{◌≡◌, ◌++◌, Some, IfOk, IfErr};
+ghost use Rattle.ga_image.specs.Lines.{Bytes};
 ghost use Rattle.ga_console.specs.Input.{IsWithin};
 ghost use Rattle.ga_console.specs.Output.{IsSaid};
 ghost use Rattle.ga_console.specs.Run.{Runs, RunsBy, Refuses, Opens, IsFault, status_of as status_that};
@@ -49,9 +50,9 @@ pub fn session<R: Read, W: Write>(
     limit: u32,
 ) -> Status
     // Where the streams tell their bytes: what was read, and what was written for it by the status.
-    ensures { (left before : List ℕ) →
+    ensures { (left before : Bytes) →
         R.remaining reader.old ≡ Some left → W.contents writer.old ≡ Some before →
-        (read rest text : List ℕ) × (left ≡ read ++ rest) × (R.remaining reader.new ≡ Some rest)
+        (read rest text : Bytes) × (left ≡ read ++ rest) × (R.remaining reader.new ≡ Some rest)
         × (W.contents writer.new ≡ Some (before ++ text)) × Runs limit read rest text result }
 {
     session_with::<Lab, R, W>(alloc, reader, writer, limit)
@@ -64,9 +65,9 @@ pub fn session_with<S: Responder, R: Read, W: Write>(
     writer: &mut W,
     limit: u32,
 ) -> Status
-    ensures { (left before : List ℕ) →
+    ensures { (left before : Bytes) →
         R.remaining reader.old ≡ Some left → W.contents writer.old ≡ Some before →
-        (read rest text : List ℕ) × (left ≡ read ++ rest) × (R.remaining reader.new ≡ Some rest)
+        (read rest text : Bytes) × (left ≡ read ++ rest) × (R.remaining reader.new ≡ Some rest)
         × (W.contents writer.new ≡ Some (before ++ text)) × RunsBy S.answers S.begin limit read rest text result }
 {
     let mut input = Input::new();
@@ -97,9 +98,9 @@ fn after_image<S: Responder, R: Read, W: Write>(
     limit: u32,
 ) -> Status
     requires { IsWithin input.old }
-    ensures { (left before : List ℕ) →
+    ensures { (left before : Bytes) →
         R.remaining reader.old ≡ Some left → W.contents writer.old ≡ Some before →
-        (read rest text : List ℕ)
+        (read rest text : Bytes)
         × (input.old.bytes ++ left ≡ read ++ rest) × (R.remaining reader.new ≡ Some rest)
         × (W.contents writer.new ≡ Some (before ++ text))
         × AfterImage S.answers S.begin limit image.items input.old.taken input.old.bytes read rest text result }
@@ -131,8 +132,8 @@ pub fn open_image(alloc: Global, image: Vec<u8>, limit: u32) -> Result<Lab, Imag
 
 /// Writes the text of a refused image.
 pub fn refuse<W: Write>(writer: &mut W, fault: ImageFault) -> Status
-    ensures { (before : List ℕ) → W.contents writer.old ≡ Some before →
-        (text : List ℕ) × (W.contents writer.new ≡ Some (before ++ text)) × Refuses fault text result }
+    ensures { (before : Bytes) → W.contents writer.old ≡ Some before →
+        (text : Bytes) × (W.contents writer.new ≡ Some (before ++ text)) × Refuses fault text result }
 {
     let mut text = Text::new();
     put_fault(&mut text, fault);

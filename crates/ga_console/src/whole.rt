@@ -1,5 +1,6 @@
 //! An input that is read whole before anything is made of it: source, or an image without commands.
-ghost use Rattle.std.specs.Prelude.{◌≡◌, ◌++◌, ℕ, List, Some, IfOk, IfErr};
+ghost use Rattle.std.specs.Prelude.{◌≡◌, ◌++◌, Some, IfOk, IfErr};
+ghost use Rattle.ga_image.specs.Lines.{Bytes};
 ghost use Rattle.ga_console.specs.kept.Whole.{ReadsWhole, IsWhole, IsUnread};
 
 use super::faults::{tell_long, tell_memory};
@@ -25,8 +26,8 @@ pub enum WholeRead {
 /// Reads an input up to its first line `end`, or to its end.
 pub fn read_whole<R: Read>(alloc: Global, reader: &mut R) -> WholeRead
     // Where the reader tells its bytes: what was read of them, and what that came to.
-    ensures { (left : List ℕ) → R.remaining reader.old ≡ Some left →
-        (read rest : List ℕ) × (left ≡ read ++ rest) × (R.remaining reader.new ≡ Some rest) × ReadsWhole read rest result }
+    ensures { (left : Bytes) → R.remaining reader.old ≡ Some left →
+        (read rest : Bytes) × (left ≡ read ++ rest) × (R.remaining reader.new ≡ Some rest) × ReadsWhole read rest result }
 {
     let mut input = Input::new();
     let mut text = Vec::new(alloc);
@@ -46,8 +47,8 @@ pub(crate) fn read_source<R: Read, E: Write>(
     reader: &mut R,
     errors: &mut E,
 ) -> Result<Vec<u8>, Status>
-    ensures { (left : List ℕ) → R.remaining reader.old ≡ Some left →
-        (read rest : List ℕ) × (left ≡ read ++ rest) × (R.remaining reader.new ≡ Some rest)
+    ensures { (left : Bytes) → R.remaining reader.old ≡ Some left →
+        (read rest : Bytes) × (left ≡ read ++ rest) × (R.remaining reader.new ≡ Some rest)
         × IfOk result (λ source. IsWhole read rest source.items) × IfErr result (IsUnread read) }
 {
     match read_whole(alloc, reader) {

@@ -1,5 +1,6 @@
 //! A whole session whose answers are dropped.
-ghost use Rattle.std.specs.Prelude.{◌≡◌, ◌-◌, ◌++◌, ℕ, List, Some};
+ghost use Rattle.std.specs.Prelude.{◌≡◌, ◌-◌, ◌++◌, Some};
+ghost use Rattle.ga_image.specs.Lines.{Bytes};
 ghost use Rattle.ga_console.specs.Input.{IsWithin, input_limit};
 ghost use Rattle.ga_draw.specs.Following.{Reaches, Declines};
 ghost use Rattle.ga_draw.specs.kept.Following.{Goes, Ends};
@@ -25,9 +26,9 @@ pub fn follow_session<R: Read, W: Write, E: Write>(
     errors: &mut E,
     limit: u32,
 ) -> Result<Explorer, Status>
-    ensures { (left before : List ℕ) →
+    ensures { (left before : Bytes) →
         R.remaining reader.old ≡ Some left → W.contents writer.old ≡ Some before →
-        (read rest text : List ℕ) × (left ≡ read ++ rest) × (R.remaining reader.new ≡ Some rest)
+        (read rest text : Bytes) × (left ≡ read ++ rest) × (R.remaining reader.new ≡ Some rest)
         × (W.contents writer.new ≡ Some (before ++ text)) × Reaches limit read rest text result }
 {
     let mut input = Input::new();
@@ -46,9 +47,9 @@ fn follow<R: Read, W: Write>(
     explorer: Explorer,
 ) -> Result<Explorer, Status>
     requires { IsWithin input.old }
-    ensures { (left before : List ℕ) →
+    ensures { (left before : Bytes) →
         R.remaining reader.old ≡ Some left → W.contents writer.old ≡ Some before →
-        (read rest text : List ℕ)
+        (read rest text : Bytes)
         × (input.old.bytes ++ left ≡ read ++ rest) × (R.remaining reader.new ≡ Some rest)
         × (W.contents writer.new ≡ Some (before ++ text))
         × Goes (input_limit - input.old.taken) explorer read rest text result }
@@ -67,8 +68,8 @@ fn follow<R: Read, W: Write>(
 
 /// What was reached, or the refusal for want of memory.
 fn reached<W: Write>(writer: &mut W, session: Silent) -> Result<Explorer, Status>
-    ensures { (before : List ℕ) → W.contents writer.old ≡ Some before →
-        (text : List ℕ) × (W.contents writer.new ≡ Some (before ++ text)) × Ends session.explorer session.short text result }
+    ensures { (before : Bytes) → W.contents writer.old ≡ Some before →
+        (text : Bytes) × (W.contents writer.new ≡ Some (before ++ text)) × Ends session.explorer session.short text result }
 {
     if session.short {
         return Err(decline(writer, LabFault::Memory));
@@ -78,8 +79,8 @@ fn reached<W: Write>(writer: &mut W, session: Silent) -> Result<Explorer, Status
 
 /// Writes a refusal.
 pub(crate) fn decline<W: Write>(writer: &mut W, fault: LabFault) -> Status
-    ensures { (before : List ℕ) → W.contents writer.old ≡ Some before →
-        (text : List ℕ) × (W.contents writer.new ≡ Some (before ++ text)) × Declines fault text result }
+    ensures { (before : Bytes) → W.contents writer.old ≡ Some before →
+        (text : Bytes) × (W.contents writer.new ≡ Some (before ++ text)) × Declines fault text result }
 {
     match write_all(writer, refusal(fault)) {
         Ok(()) => Status::ImageRefused,

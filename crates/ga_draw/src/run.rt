@@ -1,5 +1,6 @@
 //! A whole session that ends with a picture.
-ghost use Rattle.std.specs.Prelude.{◌≡◌, ◌++◌, ℕ, List, Some};
+ghost use Rattle.std.specs.Prelude.{◌≡◌, ◌++◌, Some};
+ghost use Rattle.ga_image.specs.Lines.{Bytes};
 ghost use Rattle.ga_draw.specs.Drawn.{Draws, Pictures, IsOut};
 
 use super::follow::{decline, follow_session};
@@ -22,9 +23,9 @@ pub fn draw_session<R: Read, W: Write, E: Write>(
     limit: u32,
 ) -> Status
     // Where the streams tell their bytes: what was read, and what was written for it by the status.
-    ensures { (left before : List ℕ) →
+    ensures { (left before : Bytes) →
         R.remaining reader.old ≡ Some left → W.contents writer.old ≡ Some before →
-        (read rest text : List ℕ) × (left ≡ read ++ rest) × (R.remaining reader.new ≡ Some rest)
+        (read rest text : Bytes) × (left ≡ read ++ rest) × (R.remaining reader.new ≡ Some rest)
         × (W.contents writer.new ≡ Some (before ++ text)) × Draws limit view read rest text result }
 {
     match follow_session(alloc, reader, writer, errors, limit) {
@@ -35,8 +36,8 @@ pub fn draw_session<R: Read, W: Write, E: Write>(
 
 /// Writes the picture of a lab's kept events, or why there is none.
 fn write_picture<W: Write>(writer: &mut W, lab: &Lab, view: View) -> Status
-    ensures { (before : List ℕ) → W.contents writer.old ≡ Some before →
-        (text : List ℕ) × (W.contents writer.new ≡ Some (before ++ text)) × Pictures lab.now view text result }
+    ensures { (before : Bytes) → W.contents writer.old ≡ Some before →
+        (text : Bytes) × (W.contents writer.new ≡ Some (before ++ text)) × Pictures lab.now view text result }
 {
     match picture(lab, view) {
         Ok(text) => write_out(writer, text.as_bytes()),
@@ -46,8 +47,8 @@ fn write_picture<W: Write>(writer: &mut W, lab: &Lab, view: View) -> Status
 
 /// Writes a picture.
 fn write_out<W: Write>(writer: &mut W, picture: &[u8]) -> Status
-    ensures { (before : List ℕ) → W.contents writer.old ≡ Some before →
-        (text : List ℕ) × (W.contents writer.new ≡ Some (before ++ text)) × IsOut picture.now text result }
+    ensures { (before : Bytes) → W.contents writer.old ≡ Some before →
+        (text : Bytes) × (W.contents writer.new ≡ Some (before ++ text)) × IsOut picture.now text result }
 {
     match write_all(writer, picture) {
         Ok(()) => Status::Done,

@@ -1,5 +1,6 @@
 //! A session that says nothing.
-ghost use Rattle.std.specs.Prelude.{◌≡◌, ◌↔◌, ℕ, List, [], Some, Ok, IsTrue};
+ghost use Rattle.std.specs.Prelude.{◌≡◌, ◌↔◌, [], Some, Ok, IsTrue};
+ghost use Rattle.ga_image.specs.Lines.{Bytes};
 ghost use Rattle.ga_console.specs.Output.{IsSaid};
 ghost use Rattle.ga_console.specs.declared.responder.Turn.TheVariants.{Quit};
 ghost use Rattle.ga_console.specs.kept.Turns.{Turns, AnswersCommand};
@@ -25,7 +26,7 @@ pub struct Silent {
 impl Silent {
     /// Answers a line, of which at least the first 201 bytes are here, and says nothing.
     fn hear(&mut self, alloc: Global, line: &Line) -> Turn
-        ensures heard { (answer : List ℕ) × Turns Explores self.old.explorer line.now.items self.new.explorer (Ok result) answer
+        ensures heard { (answer : Bytes) × Turns Explores self.old.explorer line.now.items self.new.explorer (Ok result) answer
             × Notes self.old.short answer self.new.short }
         ensures ends { result ≡ Quit → self.new.short ≡ self.old.short }
     {
@@ -46,7 +47,7 @@ impl Silent {
 
     /// Answers a line that spells a command of the debugger, and says nothing.
     fn hear_command(&mut self, alloc: Global, command: Command)
-        ensures { (answer : List ℕ) × AnswersCommand Explores self.old.explorer command self.new.explorer answer
+        ensures { (answer : Bytes) × AnswersCommand Explores self.old.explorer command self.new.explorer answer
             × Notes self.old.short answer self.new.short }
     {
         let mut output = Output::new();
@@ -60,7 +61,7 @@ impl Silent {
     /// Takes note of an answer that tells of want of memory.
     fn note(&mut self, output: &mut Output, said: &mut Vec<u8>)
         ensures same { self.new.explorer ≡ self.old.explorer }
-        ensures noted { (answer : List ℕ) → IsSaid (Some said.old.items) [] answer output.old → Notes self.old.short answer self.new.short }
+        ensures noted { (answer : Bytes) → IsSaid (Some said.old.items) [] answer output.old → Notes self.old.short answer self.new.short }
     {
         match output.send(said) {
             Ok(()) => self.short = self.short || is_short(said.as_slice()),

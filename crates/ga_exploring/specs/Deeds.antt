@@ -1,5 +1,6 @@
 -- What a step of a node did, in a few words (docs/REFERENCE.md, "Exploring"; this project's own).
-use Rattle.std.specs.Prelude.{ℕ, ◌==◌, ◌%◌, if◌then◌else◌, List, ◌++◌, codes, decimal}
+use Rattle.std.specs.Prelude.{ℕ, ◌==◌, ◌%◌, if◌then◌else◌, ◌++◌, codes, decimal}
+use Rattle.ga_image.specs.Lines.{Text}
 use Rattle.ga_word.specs.Word.{hex6_of}
 use Rattle.ga_slots.specs.Codes.{name_of, op_of}
 use Rattle.ga_node.specs.declared.kind.Kind.{Kind}
@@ -10,18 +11,18 @@ use Rattle.ga_event.specs.declared.made.Made.TheVariants.{Own, Pass}
 use Rattle.ga_console.specs.Texts.{step_text}
 
 -- an event of a node's own: the opcode's name, or what came in its place
-abbrev pub kind_name : Kind → List ℕ
+abbrev pub kind_name : Kind → Text
 kind_name kind.Fetch = codes "fetch"
 kind_name (kind.Run code) = name_of (op_of (code % 32))
 kind_name kind.Wait = codes "wait"
 kind_name (kind.Stop number) = codes "stop " ++ decimal number
 
 -- a word that was passed, with the step at the other end
-abbrev pub pass_text : List ℕ → ℕ → List ℕ → NodeId → ℕ → List ℕ
+abbrev pub pass_text : Text → ℕ → Text → NodeId → ℕ → Text
 pass_text way word end other step = way ++ hex6_of word ++ end ++ step_text other step
 
 -- what is told of a step, as it was for this node
-abbrev pub deed_text : Made → ℕ → List ℕ
+abbrev pub deed_text : Made → ℕ → Text
 deed_text (Own node step kind) n = kind_name kind
 deed_text (Pass writer i reader j word) n =
     if n == reader.number then pass_text (codes "takes ") word (codes " from ") writer i

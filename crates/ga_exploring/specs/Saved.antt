@@ -1,5 +1,6 @@
 -- What `save` tells: the kept events as commands of the debugger (docs/REFERENCE.md, "Exploring"; this project's own).
-use Rattle.std.specs.Prelude.{◌≡◌, List, [], ◌∷◌, ◌++◌, ℕ, codes, map, flat_map}
+use Rattle.std.specs.Prelude.{◌≡◌, List, [], ◌∷◌, ◌++◌, codes, map, flat_map}
+use Rattle.ga_image.specs.Lines.{Text, Line}
 use Rattle.ga_grid.specs.declared.node_id.NodeId.{NodeId}
 use Rattle.ga_event.specs.declared.event.Event.{Event}
 use Rattle.ga_lab.specs.Machine.{State}
@@ -10,24 +11,24 @@ use Rattle.ga_console.specs.Replies.{reply}
 use Rattle.ga_console.specs.declared.command.Command.{Command}
 
 -- a step of a node
-abbrev pub step_line : NodeId → List ℕ
+abbrev pub step_line : NodeId → Text
 step_line node = spaced (codes "step" ∷ name_of node ∷ [])
 
 -- one for each kept event: of its node, of a pass of the writer
-abbrev pub saved_line : Event → List ℕ
+abbrev pub saved_line : Event → Text
 saved_line e = step_line (actor_of e)
 
-abbrev pub saved_lines : State → List (List ℕ)
+abbrev pub saved_lines : State → List Line
 saved_lines s = map saved_line s.kept
 
 -- each ended by a line feed
-abbrev pub ended : List ℕ → List ℕ
+abbrev pub ended : Text → Text
 ended line = line ++ codes "\n"
 
-abbrev pub saved_text : State → List ℕ
+abbrev pub saved_text : State → Text
 saved_text s = flat_map ended (saved_lines s)
 
 -- These lines are commands of the debugger, and its replies to them lead from one machine to another where memory is never wanting.
-abbrev pub Leads : State → List (List ℕ) → State → Type 0
+abbrev pub Leads : State → List Line → State → Type 0
 Leads s [] last = last ≡ s
 Leads s (line ∷ lines) last = (asked : Command) × SpellsCommand asked line × Leads (reply s asked).1 lines last

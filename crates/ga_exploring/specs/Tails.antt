@@ -1,6 +1,7 @@
 -- What is explored, and what a source says of cells behind the lines that name them (docs/REFERENCE.md, "Exploring"; this project's
 -- own).
-use Rattle.std.specs.Prelude.{ℕ, ◌+◌, ◌%◌, ◌==◌, if◌then◌else◌, List, [], ◌++◌, codes, Option, Some, None}
+use Rattle.std.specs.Prelude.{ℕ, ◌+◌, ◌%◌, ◌==◌, if◌then◌else◌, [], ◌++◌, codes, Option, Some, None}
+use Rattle.ga_image.specs.Lines.{Text}
 use Rattle.ga_grid.specs.declared.node_id.NodeId.{NodeId}
 use Rattle.ga_lab.specs.Machine.{State}
 use Rattle.ga_flow.specs.declared.part.Part.{Part}
@@ -16,16 +17,16 @@ pub record Exploring : Type 0 where
   pub notes : Option Notes
 
 -- what is said of a cell of a node; of an image nothing
-abbrev pub noted_text : Option Notes → NodeId → Option ℕ → List ℕ
+abbrev pub noted_text : Option Notes → NodeId → Option ℕ → Text
 noted_text None node cell = []
 noted_text (Some notes) node cell = text_of notes.notes.items node cell
 
 -- and the end of the line
-abbrev pub tail_text : Option Notes → NodeId → Option ℕ → List ℕ
+abbrev pub tail_text : Option Notes → NodeId → Option ℕ → Text
 tail_text notes node cell = noted_text notes node cell ++ codes "\n"
 
 -- behind a step of a node: the cell from which its instruction word was fetched
-abbrev pub step_tail : Option Notes → State → NodeId → ℕ → List ℕ
+abbrev pub step_tail : Option Notes → State → NodeId → ℕ → Text
 step_tail notes s node step = tail_text notes node (fetched_cell s node step)
 
 -- the cell that a part of a node is
@@ -35,6 +36,6 @@ part_cell (part.Rom k) = Some (128 + k % 64)
 part_cell _ = None
 
 -- behind a value: of the step that made it, or of the cell where it was loaded
-abbrev pub value_tail : Option Notes → State → Value → List ℕ
+abbrev pub value_tail : Option Notes → State → Value → Text
 value_tail notes s value =
     if value.step == 0 then tail_text notes value.node (part_cell value.part) else step_tail notes s value.node value.step

@@ -1,7 +1,8 @@
 //! The steps around one, each with registers behind it, told line by line.
 
-ghost use Rattle.std.specs.Prelude.{◌≡◌, ◌<◌, ◌≤◌, ◌+◌, ◌-◌, ◌^◌, ◌++◌, ℕ, List, Some, codes};
+ghost use Rattle.std.specs.Prelude.{◌≡◌, ◌<◌, ◌≤◌, ◌+◌, ◌-◌, ◌^◌, ◌++◌, Some, codes};
 ghost use Rattle.std.specs.List.{slice_get};
+ghost use Rattle.ga_image.specs.Lines.{Bytes};
 ghost use Rattle.arrayvec.specs.ArrayVec.{array_vec_len};
 ghost use Rattle.ga_word.specs.Word.{hex6_of};
 ghost use Rattle.ga_node.specs.Record.{record_of};
@@ -91,7 +92,7 @@ fn say_place<W: Write>(
     requires place { place < steps_of node.number lab.now.kept }
     requires walk { base.now ≡ standing lab.now node base.now.step }
     requires behind { place < base.now.step }
-    ensures { (before said : List ℕ) → IsSaid (W.contents writer.old) before said output.old →
+    ensures { (before said : Bytes) → IsSaid (W.contents writer.old) before said output.old →
         IsSaidOrCut result (W.contents writer.new) before (said ++ place_text notes.now lab.now node place) output.new }
 {
     // So the number of the step fits, as that of them all does.

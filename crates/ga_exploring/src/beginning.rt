@@ -1,5 +1,6 @@
 //! The front of a session: an image or source is read, and opened.
-ghost use Rattle.std.specs.Prelude.{◌≡◌, ◌++◌, ℕ, List, [], Some};
+ghost use Rattle.std.specs.Prelude.{◌≡◌, ◌++◌, [], Some};
+ghost use Rattle.ga_image.specs.Lines.{Bytes};
 ghost use Rattle.ga_console.specs.Input.{IsWithin};
 ghost use Rattle.ga_exploring.specs.Opening.{IsBegun};
 ghost use Rattle.ga_exploring.specs.kept.Opening.{IsOpened};
@@ -32,9 +33,9 @@ pub fn begin<R: Read, W: Write, E: Write>(
     limit: u32,
 ) -> Result<Explorer, Status>
     requires fresh { input.old ≡ record { bytes = []; taken = 0 } }
-    ensures begun { (left before : List ℕ) →
+    ensures begun { (left before : Bytes) →
         R.remaining reader.old ≡ Some left → W.contents writer.old ≡ Some before →
-        (rest text : List ℕ) × (R.remaining reader.new ≡ Some rest) × (W.contents writer.new ≡ Some (before ++ text))
+        (rest text : Bytes) × (R.remaining reader.new ≡ Some rest) × (W.contents writer.new ≡ Some (before ++ text))
         × IsBegun limit left input.new rest text result }
     ensures within { IsWithin input.new }
 {
@@ -63,8 +64,8 @@ fn open_or_refuse<W: Write, E: Write>(
     text: Vec<u8>,
     limit: u32,
 ) -> Result<Explorer, Status>
-    ensures { (before : List ℕ) → W.contents writer.old ≡ Some before →
-        (written : List ℕ) × (W.contents writer.new ≡ Some (before ++ written)) × IsOpened limit text.items written result }
+    ensures { (before : Bytes) → W.contents writer.old ≡ Some before →
+        (written : Bytes) × (W.contents writer.new ≡ Some (before ++ written)) × IsOpened limit text.items written result }
 {
     match open_text(alloc, errors, text, limit) {
         Ok(begun) => Ok(begun),

@@ -1,6 +1,7 @@
 //! What a rollback would take, told line by line.
 
-ghost use Rattle.std.specs.Prelude.{◌≡◌, ◌++◌, ℕ, List};
+ghost use Rattle.std.specs.Prelude.{◌≡◌, ◌++◌};
+ghost use Rattle.ga_image.specs.Lines.{Bytes};
 ghost use Rattle.ga_console.specs.Output.{IsSaid, IsSaidOrCut};
 ghost use Rattle.ga_console.specs.kept.Output.{Says};
 ghost use Rattle.ga_exploring.specs.Texts.{effect_text, effects_head, effects_text};
@@ -70,7 +71,7 @@ fn say_effect<W: Write>(
     output: &mut Output,
     writer: &mut W,
 ) -> Result<(), WriteFailed>
-    ensures { (before said : List ℕ) → IsSaid (W.contents writer.old) before said output.old →
+    ensures { (before said : Bytes) → IsSaid (W.contents writer.old) before said output.old →
         IsSaidOrCut result (W.contents writer.new) before (said ++ effect_text effect) output.new }
 {
     output.say_blocks(writer, effect_line(effect).as_slice())

@@ -1,7 +1,8 @@
 //! The kept events as lines that make them again.
 
-ghost use Rattle.std.specs.Prelude.{◌≡◌, ◌++◌, ℕ, List, flat_map};
+ghost use Rattle.std.specs.Prelude.{◌≡◌, ◌++◌, flat_map};
 ghost use Rattle.std.specs.List.{slice_get};
+ghost use Rattle.ga_image.specs.Lines.{Bytes};
 ghost use Rattle.ga_lab.specs.Forward.{actor_of};
 ghost use Rattle.ga_console.specs.Output.{IsSaid, IsSaidOrCut};
 ghost use Rattle.ga_console.specs.kept.Output.{Says};
@@ -53,7 +54,7 @@ fn say_listed<W: Write>(
 
 /// Says the line of an event.
 fn say_event<W: Write>(event: Event, output: &mut Output, writer: &mut W) -> Result<(), WriteFailed>
-    ensures { (before said : List ℕ) → IsSaid (W.contents writer.old) before said output.old →
+    ensures { (before said : Bytes) → IsSaid (W.contents writer.old) before said output.old →
         IsSaidOrCut result (W.contents writer.new) before (said ++ ended (step_line (actor_of event))) output.new }
 {
     output.say_blocks(writer, step_line(actor_of(event)).as_slice())

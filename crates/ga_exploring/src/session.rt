@@ -1,5 +1,6 @@
 //! A whole session of exploring.
-ghost use Rattle.std.specs.Prelude.{◌≡◌, ◌++◌, ℕ, List, Some};
+ghost use Rattle.std.specs.Prelude.{◌≡◌, ◌++◌, Some};
+ghost use Rattle.ga_image.specs.Lines.{Bytes};
 ghost use Rattle.ga_exploring.specs.Session.{Runs};
 
 use crate::beginning::begin;
@@ -18,9 +19,9 @@ pub fn explore<R: Read, W: Write, E: Write>(
     limit: u32,
 ) -> Status
     // Where the streams tell their bytes: what was read, and what was written for it by the status.
-    ensures { (left before : List ℕ) →
+    ensures { (left before : Bytes) →
         R.remaining reader.old ≡ Some left → W.contents writer.old ≡ Some before →
-        (read rest text : List ℕ) × (left ≡ read ++ rest) × (R.remaining reader.new ≡ Some rest)
+        (read rest text : Bytes) × (left ≡ read ++ rest) × (R.remaining reader.new ≡ Some rest)
         × (W.contents writer.new ≡ Some (before ++ text)) × Runs limit read rest text result }
 {
     let mut input = Input::new();

@@ -1,6 +1,7 @@
 //! What a source says of cells, behind the lines that name them.
 
-ghost use Rattle.std.specs.Prelude.{◌≡◌, ◌++◌, ℕ, List};
+ghost use Rattle.std.specs.Prelude.{◌≡◌, ◌++◌};
+ghost use Rattle.ga_image.specs.Lines.{Bytes};
 ghost use Rattle.ga_console.specs.Output.{IsSaid, IsSaidOrCut};
 ghost use Rattle.ga_lab.specs.Machine.{standing};
 ghost use Rattle.ga_whence.specs.Fetched.{fetched_cell as cell_fetched};
@@ -46,12 +47,7 @@ fn step_cell(lab: &Lab, notes: &Option<Notes>, node: NodeId, step: u32) -> Optio
 }
 
 /// The same of the step to which a node is walked back; the walk goes on from there.
-fn cell_behind(
-    lab: &Lab,
-    notes: &Option<Notes>,
-    node: NodeId,
-    walk: &mut Walk<'_>,
-) -> Option<u8>
+fn cell_behind(lab: &Lab, notes: &Option<Notes>, node: NodeId, walk: &mut Walk<'_>) -> Option<u8>
     requires { walk.old ≡ standing lab.now node walk.old.step }
     ensures { noted_text notes.now node result ≡ noted_text notes.now node (cell_fetched lab.now node walk.old.step) }
 {
@@ -69,7 +65,7 @@ fn say_tail<W: Write>(
     output: &mut Output,
     writer: &mut W,
 ) -> Result<(), WriteFailed>
-    ensures { (before said : List ℕ) → IsSaid (W.contents writer.old) before said output.old →
+    ensures { (before said : Bytes) → IsSaid (W.contents writer.old) before said output.old →
         IsSaidOrCut result (W.contents writer.new) before (said ++ tail_text notes.now node cell) output.new }
 {
     output.say_blocks(writer, noted(notes, node, cell))?;
@@ -88,7 +84,7 @@ pub(crate) fn say_step_tail<W: Write>(
     output: &mut Output,
     writer: &mut W,
 ) -> Result<(), WriteFailed>
-    ensures { (before said : List ℕ) → IsSaid (W.contents writer.old) before said output.old →
+    ensures { (before said : Bytes) → IsSaid (W.contents writer.old) before said output.old →
         IsSaidOrCut result (W.contents writer.new) before (said ++ step_tail notes.now lab.now node step) output.new }
 {
     let cell = step_cell(lab, notes, node, step);
@@ -108,7 +104,7 @@ pub(crate) fn say_walk_tail<W: Write>(
     writer: &mut W,
 ) -> Result<(), WriteFailed>
     requires { walk.old ≡ standing lab.now node walk.old.step }
-    ensures { (before said : List ℕ) → IsSaid (W.contents writer.old) before said output.old →
+    ensures { (before said : Bytes) → IsSaid (W.contents writer.old) before said output.old →
         IsSaidOrCut result (W.contents writer.new) before (said ++ step_tail notes.now lab.now node walk.old.step) output.new }
 {
     let cell = cell_behind(lab, notes, node, walk);
@@ -126,7 +122,7 @@ pub(crate) fn say_value_tail<W: Write>(
     output: &mut Output,
     writer: &mut W,
 ) -> Result<(), WriteFailed>
-    ensures { (before said : List ℕ) → IsSaid (W.contents writer.old) before said output.old →
+    ensures { (before said : Bytes) → IsSaid (W.contents writer.old) before said output.old →
         IsSaidOrCut result (W.contents writer.new) before (said ++ value_tail notes.now lab.now value) output.new }
 {
     if value.step == 0 {

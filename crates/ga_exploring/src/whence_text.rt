@@ -1,6 +1,7 @@
 //! Where a value came from, told line by line.
 
-ghost use Rattle.std.specs.Prelude.{◌≡◌, ◌≤◌, ◌<◌, ◌+◌, ◌++◌, ◌⊎◌, ℕ, List, Some, flat_map};
+ghost use Rattle.std.specs.Prelude.{◌≡◌, ◌≤◌, ◌<◌, ◌+◌, ◌++◌, ◌⊎◌, Some, flat_map};
+ghost use Rattle.ga_image.specs.Lines.{Bytes};
 ghost use Rattle.arrayvec.specs.ArrayVec.{array_vec_len};
 ghost use Rattle.ga_flow.specs.Flow.{IsPart};
 ghost use Rattle.ga_lab.specs.Machine.{stands};
@@ -158,7 +159,7 @@ fn say_row<W: Write>(
     output: &mut Output,
     writer: &mut W,
 ) -> Result<(), WriteFailed>
-    ensures { (before said : List ℕ) → IsSaid (W.contents writer.old) before said output.old →
+    ensures { (before said : Bytes) → IsSaid (W.contents writer.old) before said output.old →
         IsSaidOrCut result (W.contents writer.new) before (said ++ row_text notes.now lab.now deeper row) output.new }
 {
     say_blanks(u64::from(row.depth) + u64::from(deeper), output, writer)?;
@@ -168,7 +169,7 @@ fn say_row<W: Write>(
 
 /// Says two blanks for each level.
 fn say_blanks<W: Write>(levels: u64, output: &mut Output, writer: &mut W) -> Result<(), WriteFailed>
-    ensures { (before said : List ℕ) → IsSaid (W.contents writer.old) before said output.old →
+    ensures { (before said : Bytes) → IsSaid (W.contents writer.old) before said output.old →
         IsSaidOrCut result (W.contents writer.new) before (said ++ blanks levels) output.new }
 {
     let mut left = levels;

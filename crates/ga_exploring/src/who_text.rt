@@ -1,6 +1,7 @@
 //! Who waits for whom, told line by line.
 
-ghost use Rattle.std.specs.Prelude.{◌≡◌, ◌++◌, ◌+◌, ◌≤◌, ℕ, List, length};
+ghost use Rattle.std.specs.Prelude.{◌≡◌, ◌++◌, ◌+◌, ◌≤◌, length};
+ghost use Rattle.ga_image.specs.Lines.{Bytes};
 ghost use Rattle.arrayvec.specs.ArrayVec.{array_vec_len};
 ghost use Rattle.ga_grid.specs.Grid.{number_in};
 ghost use Rattle.ga_grid.specs.Chip.{records_of};
@@ -80,7 +81,7 @@ fn say_node<W: Write>(
     output: &mut Output,
     writer: &mut W,
 ) -> Result<(), WriteFailed>
-    ensures { (before said : List ℕ) → IsSaid (W.contents writer.old) before said output.old →
+    ensures { (before said : Bytes) → IsSaid (W.contents writer.old) before said output.old →
         IsSaidOrCut result (W.contents writer.new) before (said ++ waiting_text (records_of chip.now) node.number) output.new }
 {
     output.say_blocks(writer, waiting_line(chip, node).as_slice())

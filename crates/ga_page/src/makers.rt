@@ -1,6 +1,7 @@
 //! Which nodes made the events that a session keeps, as one call.
 
 ghost use Rattle.std.specs.Prelude.{◌≡◌, ◌++◌, ◌⊎◌, ℕ, List, Ok, IfSome, length, map, take};
+ghost use Rattle.ga_image.specs.Lines.{Bytes};
 ghost use Rattle.ga_exploring.specs.Tails.{Exploring};
 ghost use Rattle.ga_draw.specs.Following.{Reaches};
 ghost use Rattle.ga_page.specs.kept.Makers.{maker_of, makers_of};
@@ -16,7 +17,7 @@ use std::alloc::Global;
 /// there are none, or the end isn't reached: the image or source is refused, the input is too long, or memory is refused.
 #[unsafe(no_mangle)]
 pub extern "C" fn ga_kept(alloc: Global, input: &[u8], output: &mut [u8], limit: u32) -> usize
-    ensures { (result ≡ 0) ⊎ ((read rest text : List ℕ) × (last : Exploring) × (input.now ≡ read ++ rest)
+    ensures { (result ≡ 0) ⊎ ((read rest text : Bytes) × (last : Exploring) × (input.now ≡ read ++ rest)
         × Reaches limit read rest text (Ok last) × (nodes : List ℕ) × (nodes ≡ makers_of last.lab)
         × (result ≡ length nodes) × (take result output.new ≡ take (length output.old) nodes)) }
 {

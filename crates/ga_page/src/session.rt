@@ -1,6 +1,7 @@
 //! A whole session of exploring as one call: the bytes of an image and its commands in, the answers out.
 
-ghost use Rattle.std.specs.Prelude.{◌≡◌, ◌++◌, ◌∷◌, ℕ, List, [], length, take};
+ghost use Rattle.std.specs.Prelude.{◌≡◌, ◌++◌, ◌∷◌, [], length, take};
+ghost use Rattle.ga_image.specs.Lines.{Bytes};
 ghost use Rattle.ga_console.specs.declared.run.Status.{Status as Ended};
 ghost use Rattle.ga_exploring.specs.Session.{Runs};
 ghost use Rattle.ga_page.specs.kept.Ended.{number_of};
@@ -21,7 +22,7 @@ pub extern "C" fn ga_session(
     ended: &mut [u8],
     limit: u32,
 ) -> usize
-    ensures { (read rest text : List ℕ) × (status : Ended) × (input.now ≡ read ++ rest)
+    ensures { (read rest text : Bytes) × (status : Ended) × (input.now ≡ read ++ rest)
         × Runs limit read rest text status
         × (result ≡ length text) × (take result output.new ≡ take (length output.old) text)
         × (take 1 ended.new ≡ take (length ended.old) (number_of status ∷ [])) }

@@ -1,6 +1,7 @@
 //! Source as one call: its image, and its listing.
 
-ghost use Rattle.std.specs.Prelude.{◌≡◌, ◌++◌, ℕ, List, length, take};
+ghost use Rattle.std.specs.Prelude.{◌≡◌, ◌++◌, length, take};
+ghost use Rattle.ga_image.specs.Lines.{Bytes};
 ghost use Rattle.ga_console.specs.Source.{Assembles, Lists};
 ghost use Rattle.ga_console.specs.declared.run.Status.{Status as Ended};
 
@@ -17,7 +18,7 @@ pub extern "C" fn ga_assemble(
     output: &mut [u8],
     told: &mut [u8],
 ) -> usize
-    ensures { (read rest text : List ℕ) × (status : Ended) × (input.now ≡ read ++ rest) × Assembles read rest text status
+    ensures { (read rest text : Bytes) × (status : Ended) × (input.now ≡ read ++ rest) × Assembles read rest text status
         × (result ≡ length text) × (take result output.new ≡ take (length output.old) text) }
 {
     let mut reader = input;
@@ -33,7 +34,7 @@ pub extern "C" fn ga_assemble(
 /// The listing of a source, as far as there is room for it; says how many bytes it has, 0 where the source is refused.
 #[unsafe(no_mangle)]
 pub extern "C" fn ga_list(alloc: Global, input: &[u8], output: &mut [u8]) -> usize
-    ensures { (read rest text : List ℕ) × (status : Ended) × (input.now ≡ read ++ rest) × Lists read rest text status
+    ensures { (read rest text : Bytes) × (status : Ended) × (input.now ≡ read ++ rest) × Lists read rest text status
         × (result ≡ length text) × (take result output.new ≡ take (length output.old) text) }
 {
     let mut reader = input;
