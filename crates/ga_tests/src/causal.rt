@@ -1,9 +1,11 @@
-ghost use Rattle.std.specs.Prelude.{◌<◌};
+ghost use Rattle.std.specs.Prelude.{◌<◌, length};
 
 use ga_causal::{Cause, Chain, Link, Marks, check_chain, closure, find_chain, place_of};
 use ga_event::Event;
 use ga_grid::NodeId;
 use ga_ports::Side;
+use std::alloc::Global;
+use std::process::Abort;
 use std::test::Fail;
 
 fn plain(event: Event) -> Cause {
@@ -64,24 +66,55 @@ fn dependents(rt: HostRuntime) -> Result<(), Fail> {
     Ok(())
 }
 
+// The links between two events of a list, each of which is checked.
+fn links_are(
+    rt: &impl Abort,
+    alloc: Global,
+    events: &[Cause],
+    from: u32,
+    to: u32,
+    wanted: &[Link],
+) -> Result<(), Fail>
+    requires from { from < length events.now }
+    requires to { to < length events.now }
+{
+    let chain = find_chain(alloc, events, from, to)?.ok_or("none")?;
+    assert_eq!(rt; chain.links(), wanted);
+    assert!(rt; chain.len() == wanted.len() && !chain.is_empty());
+    assert!(rt; check_chain(events, &chain));
+    Ok(())
+}
+
+fn no_links(
+    rt: &impl Abort,
+    alloc: Global,
+    events: &[Cause],
+    from: u32,
+    to: u32,
+) -> Result<(), Fail>
+    requires from { from < length events.now }
+    requires to { to < length events.now }
+{
+    assert!(rt; find_chain(alloc, events, from, to)?.is_none());
+    Ok(())
+}
+
 #[test]
 fn chains(rt: HostRuntime) -> Result<(), Fail> {
     let events = events();
-    let short = find_chain(rt.alloc(), &events, 0, 3)?.ok_or("none")?;
-    assert_eq!(rt; short.links(), [link(0, 0), link(3, 1)].as_slice());
-    let long = find_chain(rt.alloc(), &events, 1, 3)?.ok_or("none")?;
-    assert_eq!(rt;
-        long.links(),
-        [link(1, 0), link(2, 2), link(3, 2)].as_slice()
-    );
-    assert_eq!(rt; long.len(), 3);
+    links_are(&rt, rt.alloc(), &events, 0, 3, &[link(0, 0), link(3, 1)])?;
+    let long = [link(1, 0), link(2, 2), link(3, 2)];
+    links_are(&rt, rt.alloc(), &events, 1, 3, &long)?;
+    links_are(&rt, rt.alloc(), &events, 3, 3, &[link(3, 0)])?;
+    no_links(&rt, rt.alloc(), &events, 0, 4)?;
+    no_links(&rt, rt.alloc(), &events, 3, 0)
+}
+
+#[test]
+fn a_link_of_a_chain(rt: HostRuntime) -> Result<(), Fail> {
+    let long = find_chain(rt.alloc(), &events(), 1, 3)?.ok_or("none")?;
     assert_eq!(rt; long.get(2), Some(link(3, 2)));
     assert_eq!(rt; long.get(3), None);
-    assert!(rt; check_chain(&events, &long) && !long.is_empty());
-    let alone = find_chain(rt.alloc(), &events, 3, 3)?.ok_or("none")?;
-    assert_eq!(rt; alone.links(), [link(3, 0)].as_slice());
-    assert!(rt; find_chain(rt.alloc(), &events, 0, 4)?.is_none());
-    assert!(rt; find_chain(rt.alloc(), &events, 3, 0)?.is_none());
     Ok(())
 }
 
@@ -127,26 +160,36 @@ fn long_list(rt: HostRuntime) -> Result<(), Fail> {
 }
 
 // A look depends on what the neighbours did before, and they do not depend on it.
+// Which events of a list depend on one of them.
+fn depend(
+    rt: &impl Abort,
+    alloc: Global,
+    events: &[Cause],
+    place: u32,
+    wanted: &[bool],
+) -> Result<(), Fail>
+    requires { place < length events.now }
+{
+    let flags = closure(alloc, events, place)?;
+    assert_eq!(rt; flags.as_slice(), wanted);
+    Ok(())
+}
+
 #[test]
 fn looks(rt: HostRuntime) -> Result<(), Fail> {
     let events = [own(0), look(1), own(0), own(1), own(2)];
-    let first = closure(rt.alloc(), &events, 0)?;
-    assert_eq!(rt;
-        first.as_slice(),
-        [true, true, true, true, false].as_slice()
-    );
-    let second = closure(rt.alloc(), &events, 1)?;
-    assert_eq!(rt;
-        second.as_slice(),
-        [false, true, false, true, false].as_slice()
-    );
-    let chain = find_chain(rt.alloc(), &events, 0, 3)?.ok_or("none")?;
-    assert_eq!(rt;
-        chain.links(),
-        [link(0, 0), link(1, 3), link(3, 1)].as_slice()
-    );
-    assert!(rt; check_chain(&events, &chain));
-    assert!(rt; find_chain(rt.alloc(), &events, 1, 2)?.is_none());
+    let first = [true, true, true, true, false];
+    depend(&rt, rt.alloc(), &events, 0, &first)?;
+    let second = [false, true, false, true, false];
+    depend(&rt, rt.alloc(), &events, 1, &second)?;
+    let links = [link(0, 0), link(1, 3), link(3, 1)];
+    links_are(&rt, rt.alloc(), &events, 0, 3, &links)?;
+    no_links(&rt, rt.alloc(), &events, 1, 2)
+}
+
+#[test]
+fn looks_go_one_way(rt: HostRuntime) -> Result<(), Fail> {
+    let events = [own(0), look(1), own(0), own(1), own(2)];
     let back = [link(1, 0), link(2, 3)].to_vec(rt.alloc())?;
     assert!(rt; !check_chain(&events, &Chain::new(back)));
     let mut marks = Marks::new(own(0));

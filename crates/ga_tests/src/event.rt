@@ -68,6 +68,15 @@ fn shown(chip: &Chip, node: NodeId) -> [u32; 6] {
 }
 
 // A word goes to a neighbour that reads it for its stack; either end may make the step, and it is taken back.
+// What comes next in a node, and what it shows.
+fn is_next(rt: &impl Abort, chip: &Chip, node: NodeId, wanted: Result<Event, NotReady>) {
+    assert_eq!(rt; next_event(chip, node), wanted);
+}
+
+fn shows(rt: &impl Abort, chip: &Chip, node: NodeId, wanted: [u32; 6]) {
+    assert_eq!(rt; shown(chip, node), wanted);
+}
+
 #[test]
 fn passes_to_the_stack(rt: HostRuntime) -> Result<(), Fail> {
     let n000 = NodeId::new(0);
@@ -76,7 +85,7 @@ fn passes_to_the_stack(rt: HostRuntime) -> Result<(), Fail> {
     load(&mut chip, n000, sender(0x1d5, 0x2a));
     load(&mut chip, n001, taker(0x1d5));
     run(&rt, &mut chip, n000, &sending())?;
-    assert_eq!(rt; next_event(&chip, n000), Err(NotReady::Waiting));
+    is_next(&rt, &chip, n000, Err(NotReady::Waiting));
     let own = Event::Own(n000);
     assert!(rt; matches!(apply(&mut chip, own), Err(NotReady::Waiting)));
     run(&rt, &mut chip, n001, &taking())?;
@@ -85,16 +94,16 @@ fn passes_to_the_stack(rt: HostRuntime) -> Result<(), Fail> {
         reader: n001,
         side: Side::Right,
     };
-    assert_eq!(rt; next_event(&chip, n000), Ok(pass));
-    assert_eq!(rt; next_event(&chip, n001), Ok(pass));
+    is_next(&rt, &chip, n000, Ok(pass));
+    is_next(&rt, &chip, n001, Ok(pass));
     assert!(rt; touches(pass, n000) && touches(pass, n001) && !touches(pass, NodeId::new(2)));
     let effect = apply(&mut chip, pass)?;
     assert_eq!(rt; word_of(&effect), Some(0x2a));
-    assert_eq!(rt; shown(&chip, n000), [4, 0x1d5, 0x89b2, 1, 0, 0x15555]);
-    assert_eq!(rt; shown(&chip, n001), [2, 0x1d5, 0x4b02, 3, 0, 0x2a]);
+    shows(&rt, &chip, n000, [4, 0x1d5, 0x89b2, 1, 0, 0x15555]);
+    shows(&rt, &chip, n001, [2, 0x1d5, 0x4b02, 3, 0, 0x2a]);
     unapply(&mut chip, pass, &effect);
-    assert_eq!(rt; shown(&chip, n000), [4, 0x1d5, 0x89b2, 0, 56, 0x2a]);
-    assert_eq!(rt; shown(&chip, n001), [2, 0x1d5, 0x4b02, 2, 40, 0x15555]);
+    shows(&rt, &chip, n000, [4, 0x1d5, 0x89b2, 0, 56, 0x2a]);
+    shows(&rt, &chip, n001, [2, 0x1d5, 0x4b02, 2, 40, 0x15555]);
     Ok(())
 }
 
@@ -131,15 +140,15 @@ fn reader_has_an_order(rt: HostRuntime) -> Result<(), Fail> {
         reader: n001,
         side: Side::Down,
     };
-    assert_eq!(rt; next_event(&chip, n001), Ok(below));
+    is_next(&rt, &chip, n001, Ok(below));
     run(&rt, &mut chip, n000, &sending())?;
     let beside = Event::Pass {
         writer: n000,
         reader: n001,
         side: Side::Right,
     };
-    assert_eq!(rt; next_event(&chip, n001), Ok(beside));
-    assert_eq!(rt; next_event(&chip, n101), Ok(below));
+    is_next(&rt, &chip, n001, Ok(beside));
+    is_next(&rt, &chip, n101, Ok(below));
     let effect = apply(&mut chip, below)?;
     assert_eq!(rt; word_of(&effect), Some(7));
     let before = shown(&chip, n001);

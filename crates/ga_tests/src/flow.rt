@@ -1,6 +1,7 @@
 use ga_flow::{Flow, Part, own_flow, send_flow, take_flow};
 use ga_node::{Node, Place, Seen, Wait};
 use ga_ports::PortSet;
+use std::process::Abort;
 
 /// Whether a value is that of this part before.
 fn is_moved(flow: &Flow, part: Part) -> bool {
@@ -19,23 +20,36 @@ fn is_computed(flow: &Flow, sources: &[Part]) -> bool {
 }
 
 // `dup + . .`, where bit 9 of P isn't set.
+// Where the value of a part comes from that the node's next own event leaves there: moved, or computed.
+fn moves(rt: &impl Abort, node: &Node, part: Part, from: Part) {
+    assert!(rt; is_moved(&own_flow(node, part), from));
+}
+
+fn computes(rt: &impl Abort, node: &Node, part: Part, from: &[Part]) {
+    assert!(rt; is_computed(&own_flow(node, part), from));
+}
+
+fn goes_on(rt: &impl Abort, node: &mut Node) {
+    assert!(rt; node.own(Seen::nobody()).is_ok());
+}
+
 #[test]
 fn own_events(rt: HostRuntime) {
     let mut node = Node::new(0);
     node.set(Place::Ram(0), 0x241b2);
-    assert!(rt; is_moved(&own_flow(&node, Part::I), Part::Ram(0)));
-    assert!(rt; is_computed(&own_flow(&node, Part::P), &[Part::P]));
-    assert!(rt; is_computed(&own_flow(&node, Part::Slot), &[]));
-    assert!(rt; node.own(Seen::nobody()).is_ok());
-    assert!(rt; is_moved(&own_flow(&node, Part::T), Part::T));
-    assert!(rt; is_moved(&own_flow(&node, Part::S), Part::T));
-    assert!(rt; is_moved(&own_flow(&node, Part::Data(9)), Part::Data(8)));
-    assert!(rt; node.own(Seen::nobody()).is_ok());
-    assert!(rt; is_computed(&own_flow(&node, Part::T), &[Part::T, Part::S]));
-    assert!(rt; is_moved(&own_flow(&node, Part::S), Part::Data(2)));
-    assert!(rt; is_moved(&own_flow(&node, Part::Data(9)), Part::Data(2)));
-    assert!(rt; is_moved(&own_flow(&node, Part::Carry), Part::Carry));
-    assert!(rt; is_computed(&own_flow(&node, Part::Slot), &[Part::Slot]));
+    moves(&rt, &node, Part::I, Part::Ram(0));
+    computes(&rt, &node, Part::P, &[Part::P]);
+    computes(&rt, &node, Part::Slot, &[]);
+    goes_on(&rt, &mut node);
+    moves(&rt, &node, Part::T, Part::T);
+    moves(&rt, &node, Part::S, Part::T);
+    moves(&rt, &node, Part::Data(9), Part::Data(8));
+    goes_on(&rt, &mut node);
+    computes(&rt, &node, Part::T, &[Part::T, Part::S]);
+    moves(&rt, &node, Part::S, Part::Data(2));
+    moves(&rt, &node, Part::Data(9), Part::Data(2));
+    moves(&rt, &node, Part::Carry, Part::Carry);
+    computes(&rt, &node, Part::Slot, &[Part::Slot]);
 }
 
 #[test]

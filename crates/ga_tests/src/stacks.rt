@@ -66,6 +66,10 @@ fn places(rt: HostRuntime) {
         words(&stack),
         [3, 8, rest, 7, rest, rest, rest, rest, rest, rest]
     );
+}
+
+#[test]
+fn places_of_returns(rt: HostRuntime) {
     let mut stack = ReturnStack::new();
     stack.set(StackPlace::Top, 9);
     stack.set(StackPlace::Cell(0), 6);
