@@ -56,12 +56,16 @@ fn rounds(rt: HostRuntime) -> Result<(), Fail> {
     let ran = run(&mut lab, Schedule::in_rounds(), 12, &Condition::Never);
     let (events, end) = (12, End::Made);
     assert_eq!(rt; ran, Ran { events, end });
-    assert_eq!(rt; lab.made_at(0), Some(own(0, 1, Kind::Fetch)));
-    assert_eq!(rt; lab.made_at(1), Some(own(1, 1, Kind::Fetch)));
-    assert_eq!(rt; lab.made_at(7), Some(own(1, 4, Kind::Wait)));
-    assert_eq!(rt; lab.made_at(8), Some(own(0, 5, Kind::Run(0x1c))));
-    assert_eq!(rt; lab.made_at(11), Some(the_pass()));
+    is_made_at(&rt, &lab, 0, own(0, 1, Kind::Fetch));
+    is_made_at(&rt, &lab, 1, own(1, 1, Kind::Fetch));
+    is_made_at(&rt, &lab, 7, own(1, 4, Kind::Wait));
+    is_made_at(&rt, &lab, 8, own(0, 5, Kind::Run(0x1c)));
+    is_made_at(&rt, &lab, 11, the_pass());
     Ok(())
+}
+
+fn is_made_at(rt: &impl Abort, lab: &Lab, place: u32, wanted: Made) {
+    assert_eq!(rt; lab.made_at(place), Some(wanted));
 }
 
 // Greedily 000 makes all its seven events before 001 makes one.
@@ -115,64 +119,52 @@ fn reaches(
 }
 
 #[test]
-fn reaches_each_condition(rt: HostRuntime) -> Result<(), Fail> {
-    let alloc = rt.alloc();
+fn reaches_a_step_and_a_wait(rt: HostRuntime) -> Result<(), Fail> {
     let node = NodeId::new(0);
-    let other = NodeId::new(1);
-    let step = 3;
-    reaches(
-        &rt,
-        pair(alloc)?,
-        Condition::Steps { node, step },
-        5,
-        own(0, 3, Kind::Run(0x1e)),
-    )?;
-    let (writer, reader, word) = (node, other, Word18::truncated(0x2a));
+    let third = Condition::Steps { node, step: 3 };
+    let lab = pair(rt.alloc())?;
+    reaches(&rt, lab, third, 5, own(0, 3, Kind::Run(0x1e)))?;
+    let waits = Condition::WaitsAt(node);
+    reaches(&rt, pair(rt.alloc())?, waits, 11, own(0, 7, Kind::Wait))
+}
+
+#[test]
+fn reaches_a_word_and_an_address(rt: HostRuntime) -> Result<(), Fail> {
     let passes = Condition::Passes {
-        writer,
-        reader,
-        word,
+        writer: NodeId::new(0),
+        reader: NodeId::new(1),
+        word: Word18::truncated(0x2a),
     };
-    reaches(&rt, pair(alloc)?, passes, 12, the_pass())?;
-    reaches(
-        &rt,
-        pair(alloc)?,
-        Condition::WaitsAt(node),
-        11,
-        own(0, 7, Kind::Wait),
-    )?;
-    let address = 2;
+    reaches(&rt, pair(rt.alloc())?, passes, 12, the_pass())?;
     let comes = Condition::ComesTo {
-        node: other,
-        address,
+        node: NodeId::new(1),
+        address: 2,
     };
-    reaches(&rt, pair(alloc)?, comes, 4, own(1, 2, Kind::Run(0x8)))?;
-    // a write to several ports stops the node
-    let lab = lab_of(alloc, taker(0x1d5), sender(0x1a5, 1))?;
-    reaches(&rt, lab, Condition::Stops, 11, own(1, 7, Kind::Stop(1)))?;
-    let lab = lab_of(alloc, sender(0x1a5, 1), sender(0x1a5, 1))?;
-    reaches(
-        &rt,
-        lab,
-        Condition::StopsAt(other),
-        14,
-        own(1, 7, Kind::Stop(1)),
-    )?;
-    // the cell that is written is read at its second address
-    let lab = lab_of(alloc, sender(5, 0x2a), taker(0x1d5))?;
-    let address = 0x45;
-    reaches(
-        &rt,
-        lab,
-        Condition::Holds {
-            node,
-            address,
-            word,
-        },
-        11,
-        own(0, 7, Kind::Run(0xe)),
-    )?;
-    Ok(())
+    let lab = pair(rt.alloc())?;
+    reaches(&rt, lab, comes, 4, own(1, 2, Kind::Run(0x8)))
+}
+
+// A write to several ports stops the node.
+#[test]
+fn reaches_a_stop(rt: HostRuntime) -> Result<(), Fail> {
+    let stopped = own(1, 7, Kind::Stop(1));
+    let lab = lab_of(rt.alloc(), taker(0x1d5), sender(0x1a5, 1))?;
+    reaches(&rt, lab, Condition::Stops, 11, stopped)?;
+    let lab = lab_of(rt.alloc(), sender(0x1a5, 1), sender(0x1a5, 1))?;
+    let of_one = Condition::StopsAt(NodeId::new(1));
+    reaches(&rt, lab, of_one, 14, stopped)
+}
+
+// The cell that is written is read at its second address.
+#[test]
+fn reaches_a_word_in_a_cell(rt: HostRuntime) -> Result<(), Fail> {
+    let lab = lab_of(rt.alloc(), sender(5, 0x2a), taker(0x1d5))?;
+    let holds = Condition::Holds {
+        node: NodeId::new(0),
+        address: 0x45,
+        word: Word18::truncated(0x2a),
+    };
+    reaches(&rt, lab, holds, 11, own(0, 7, Kind::Run(0xe)))
 }
 
 // Both nodes wait for a word that neither sends; and a limit of three events.
@@ -190,29 +182,33 @@ fn quiet_and_full(rt: HostRuntime) -> Result<(), Fail> {
 }
 
 // The wait of 000 in its step 7 goes with the pass alone, the first step of 001 with all that 001 made and the pass.
+// What a rollback would take, which takes nothing.
+fn has_effects(
+    rt: &impl Abort,
+    alloc: Global,
+    lab: &mut Lab,
+    at: (NodeId, u32),
+    events: u32,
+    wanted: &[Effect],
+) -> Result<(), Fail> {
+    let told = find_effects(alloc, lab, at.0, at.1)?;
+    assert_eq!(rt; told.events, events);
+    assert_eq!(rt; told.nodes.as_slice(), wanted);
+    Ok(())
+}
+
 #[test]
 fn tells_effects(rt: HostRuntime) -> Result<(), Fail> {
-    let mut lab = pair(rt.alloc())?;
+    let alloc = rt.alloc();
+    let mut lab = pair(alloc)?;
     run(&mut lab, Schedule::in_rounds(), 12, &Condition::Never);
     let (left, right) = (NodeId::new(0), NodeId::new(1));
-    let told = find_effects(rt.alloc(), &mut lab, left, 7)?;
     let wanted = [effect(left, 7, 2), effect(right, 5, 1)];
-    assert_eq!(rt;
-        (told.events, told.nodes.as_slice()),
-        (2, wanted.as_slice())
-    );
-    let told = find_effects(rt.alloc(), &mut lab, right, 1)?;
+    has_effects(&rt, alloc, &mut lab, (left, 7), 2, &wanted)?;
     let wanted = [effect(left, 8, 1), effect(right, 1, 5)];
-    assert_eq!(rt;
-        (told.events, told.nodes.as_slice()),
-        (5, wanted.as_slice())
-    );
-    assert!(rt;
-        matches!(
-            find_effects(rt.alloc(), &mut lab, left, 9),
-            Err(LabFault::NoStep)
-        )
-    );
+    has_effects(&rt, alloc, &mut lab, (right, 1), 5, &wanted)?;
+    let refused = find_effects(alloc, &mut lab, left, 9);
+    assert!(rt; matches!(refused, Err(LabFault::NoStep)));
     assert_eq!(rt; lab.counts().kept, 12);
     Ok(())
 }

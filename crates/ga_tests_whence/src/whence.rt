@@ -124,18 +124,21 @@ fn word_over_a_link(rt: HostRuntime) -> Result<(), Fail> {
 }
 
 // Of a fetch the instruction word, of `@p` T, of `b!` B, of the wait behind it B before it; of the pass T, before it and behind it.
+fn asks(rt: &impl Abort, lab: &Lab, node: u8, step: u32, wanted: Option<Value>) {
+    assert_eq!(rt; asked_of(lab, NodeId::new(node % 144), step), wanted);
+}
+
 #[test]
 fn what_is_asked_for(rt: HostRuntime) -> Result<(), Fail> {
     let lab = passed(rt.alloc())?;
-    let one = NodeId::new(1);
-    assert_eq!(rt; asked_of(&lab, one, 1), Some(at(1, 1, Part::I)));
-    assert_eq!(rt; asked_of(&lab, one, 2), Some(at(1, 2, Part::T)));
-    assert_eq!(rt; asked_of(&lab, one, 3), Some(at(1, 3, Part::B)));
-    assert_eq!(rt; asked_of(&lab, one, 4), Some(at(1, 3, Part::B)));
-    assert_eq!(rt; asked_of(&lab, one, 5), Some(at(1, 5, Part::T)));
-    assert_eq!(rt; asked_of(&lab, NodeId::new(0), 8), Some(at(0, 7, Part::T)));
-    assert_eq!(rt; asked_of(&lab, one, 0), None);
-    assert_eq!(rt; asked_of(&lab, one, 7), None);
+    asks(&rt, &lab, 1, 1, Some(at(1, 1, Part::I)));
+    asks(&rt, &lab, 1, 2, Some(at(1, 2, Part::T)));
+    asks(&rt, &lab, 1, 3, Some(at(1, 3, Part::B)));
+    asks(&rt, &lab, 1, 4, Some(at(1, 3, Part::B)));
+    asks(&rt, &lab, 1, 5, Some(at(1, 5, Part::T)));
+    asks(&rt, &lab, 0, 8, Some(at(0, 7, Part::T)));
+    asks(&rt, &lab, 1, 0, None);
+    asks(&rt, &lab, 1, 7, None);
     Ok(())
 }
 
