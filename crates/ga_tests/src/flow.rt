@@ -1,3 +1,5 @@
+ghost use Rattle.ga_flow.specs.Flow.{IsPart};
+
 use ga_flow::{Flow, Part, own_flow, send_flow, take_flow};
 use ga_node::{Node, Place, Seen, Wait};
 use ga_ports::PortSet;
@@ -21,11 +23,15 @@ fn is_computed(flow: &Flow, sources: &[Part]) -> bool {
 
 // `dup + . .`, where bit 9 of P isn't set.
 // Where the value of a part comes from that the node's next own event leaves there: moved, or computed.
-fn moves(rt: &impl Abort, node: &Node, part: Part, from: Part) {
+fn moves(rt: &impl Abort, node: &Node, part: Part, from: Part)
+    requires { IsPart part }
+{
     assert!(rt; is_moved(&own_flow(node, part), from));
 }
 
-fn computes(rt: &impl Abort, node: &Node, part: Part, from: &[Part]) {
+fn computes(rt: &impl Abort, node: &Node, part: Part, from: &[Part])
+    requires { IsPart part }
+{
     assert!(rt; is_computed(&own_flow(node, part), from));
 }
 

@@ -147,12 +147,11 @@ fn reaches_a_word_and_an_address(rt: HostRuntime) -> Result<(), Fail> {
 // A write to several ports stops the node.
 #[test]
 fn reaches_a_stop(rt: HostRuntime) -> Result<(), Fail> {
-    let stopped = own(1, 7, Kind::Stop(1));
     let lab = lab_of(rt.alloc(), taker(0x1d5), sender(0x1a5, 1))?;
-    reaches(&rt, lab, Condition::Stops, 11, stopped)?;
+    reaches(&rt, lab, Condition::Stops, 11, own(1, 7, Kind::Stop(1)))?;
     let lab = lab_of(rt.alloc(), sender(0x1a5, 1), sender(0x1a5, 1))?;
     let of_one = Condition::StopsAt(NodeId::new(1));
-    reaches(&rt, lab, of_one, 14, stopped)
+    reaches(&rt, lab, of_one, 14, own(1, 7, Kind::Stop(1)))
 }
 
 // The cell that is written is read at its second address.
