@@ -24,3 +24,4 @@ pub mod Telling
 pub mod SourceLines
 pub mod Cells
 pub mod NodeTexts
+pub mod SourceWords

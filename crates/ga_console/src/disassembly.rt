@@ -55,7 +55,7 @@ fn disassemble_text<W: Write>(alloc: Global, writer: &mut W, image: Vec<u8>) -> 
 
 /// Source of an image, or the image's first fault.
 fn source_for(alloc: Global, image: Vec<u8>) -> Result<Vec<u8>, ImageFault>
-    ensures ok { IfOk result (λ text. IsAccepted image.items) }
+    ensures ok { IfOk result (λ text. IsAccepted image.items text.items) }
     ensures err { IfErr result (λ fault. IsFault image.items fault) }
 {
     let chip = parse(alloc, image.as_slice())?;
