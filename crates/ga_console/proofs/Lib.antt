@@ -25,3 +25,4 @@ pub mod SourceLines
 pub mod Cells
 pub mod NodeTexts
 pub mod SourceWords
+pub mod SourceNames

@@ -91,3 +91,6 @@ said_all chip text n end so_far =
     let size = so_far.size (omega arith) in
     subst (λ (l : List Word). Says text l)
     (sym (append-nil so_far.said) ∙ (ap (λ (l : List Word). so_far.said ++ l) (sym (source_none n (drop n chip) (drop_all n chip (omega arith)))) ∙ so_far.words)) so_far.says
+
+pub said_size : (chip : List NodeState) (text : Text) (n : ℕ) → 144 ≤ n → IsSaid chip text n → length chip ≡ 144
+said_size chip text n end so_far = so_far.size (omega arith)

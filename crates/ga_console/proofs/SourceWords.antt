@@ -11,7 +11,6 @@ use Rattle.ga_image.specs.Lines.{Text}
 use Rattle.ga_image.specs.Spelling.{decimal3_of}
 use Rattle.ga_source.specs.Saying.{Said, parted, is_word, lines_of, said_from, up_to_fault, said_in}
 use Rattle.ga_source.specs.Plain.{words_in, is_node, body_in, bodies_in, digit_in, yxx_in}
-use Rattle.ga_console.specs.Source.{IsReadable}
 use Rattle.ga_console.specs.kept.Disassembling.{Word, Says, hex_of, number_word, register_words, address_words, cell_words, next_of, cells_words, next_behind, usual_p, registers_words, memory_words, holds_words, node_words, named_words, source_words}
 
 -- ---- all that a text says
@@ -143,13 +142,6 @@ all_bodies n [] within = refl
 all_bodies n (node ∷ nodes) within =
     named_body n (node_words n node) (source_words (n + 1) nodes) (omega arith) (node_no_node n node) (starts (n + 1) nodes)
     ∙ ap (λ (l : List (List Word)). body_of n (node_words n node) ++ l) (all_bodies (n + 1) nodes (omega arith))
-
--- no line has a fault, and the words begin with `node`
-pub is_readable : (chip : List NodeState) (text : Text) → Says text (source_words 0 chip) → IsReadable text
-is_readable chip text says = record {
-  whole = says_whole text (source_words 0 chip) says;
-  begins = ap body_in (says_words text (source_words 0 chip) says) ∙ starts 0 chip;
-}
 
 -- ---- the names of nodes
 

@@ -1,5 +1,5 @@
 -- What may be written for source (docs/REFERENCE.md, "Source"; this project's own).
-use Rattle.std.specs.Prelude.{◌≡◌, ℕ, ◌<◌, ◌⊎◌, true, List, [], ◌++◌, length}
+use Rattle.std.specs.Prelude.{◌≡◌, ℕ, ◌<◌, ◌≢◌, ◌⊎◌, true, List, [], ◌++◌, length, Some}
 use Rattle.std.specs.List.{list_all}
 use Rattle.ga_node.specs.Record.{NodeState}
 use Rattle.ga_grid.specs.Chip.{records_of}
@@ -11,7 +11,8 @@ use Rattle.ga_image.specs.declared.fault.ImageFault.{ImageFault}
 use Rattle.ga_source.specs.declared.item.Program.{Program}
 use Rattle.ga_source.specs.Programs.{IsAssembled}
 use Rattle.ga_source.specs.Saying.{is_word, said_in}
-use Rattle.ga_source.specs.Plain.{words_in, body_in}
+use Rattle.ga_source.specs.Plain.{words_in, body_in, bodies_in}
+use Rattle.ga_source.specs.Sound.{number_of}
 use Rattle.ga_console.specs.Input.{block_size}
 use Rattle.ga_console.specs.Image.{EndsAtEnd, HasNoEnd}
 use Rattle.ga_console.specs.Output.{Begins}
@@ -52,10 +53,12 @@ Lists read rest text ImageRefused = text ≡ []
 Lists read rest text StreamFault = ((text ≡ []) × HasNoEnd read) ⊎ OfSource read rest (λ source. Unit {0})
 Lists read rest text NotFinished = ⊥
 
--- No line of the source has a fault, and its words begin with `node`.
+-- No line of the source has a fault, its words begin with `node`, and behind each `node` one of the grid is named, each once.
 pub record IsReadable (source : Text) : Type 0 where
   pub whole : list_all is_word (said_in source) ≡ true
   pub begins : body_in (words_in source) ≡ []
+  pub named : (k : ℕ) → k < length (bodies_in (words_in source)) → (n : ℕ) × (number_of (bodies_in (words_in source)) k ≡ Some n)
+  pub apart : (j k : ℕ) → j < k → k < length (bodies_in (words_in source)) → number_of (bodies_in (words_in source)) j ≢ number_of (bodies_in (words_in source)) k
 
 -- the text is an image, and its source can be read
 abbrev pub IsAccepted : Text → Text → Type 0

@@ -67,7 +67,8 @@ fn source_for(alloc: Global, image: Vec<u8>) -> Result<Vec<u8>, ImageFault>
 
 /// Source of the memories, A, B and P of a chip.
 fn source_of(alloc: Global, chip: &Chip) -> Result<Vec<u8>, AllocError>
-    ensures { IfOk result (λ text. Says text.items (source_words 0 chip.now)) }
+    ensures says { IfOk result (λ text. Says text.items (source_words 0 chip.now)) }
+    ensures size { OnOk result (length chip.now ≡ 144) }
 {
     let mut text = Vec::new(alloc);
     for number in 0..NODES as u8 {

@@ -1,7 +1,7 @@
 use Rattle.std.proofs.Common.{◌∙◌, ◌+◌, ℕ, List, subst, ap, arith}
 use Rattle.ga_grid.specs.Chip.{node_at}
 use Rattle.ga_console.specs.kept.Disassembling.{Adds, node_words, named_words}
-use Rattle.ga_console.proofs.NodeTexts.{said_none, said_more, said_all}
+use Rattle.ga_console.proofs.NodeTexts.{said_none, said_more, said_all, said_size}
 use Rattle.ga_console.proofs.disassembly.source_of.Goals as goal
 
 pub loop-number-init : goal.loop-number-init
@@ -14,5 +14,8 @@ loop-number-preserved c =
     (subst (λ (n : ℕ). Adds c.loop-number.text.items c.push_program.new.text.items (named_words n (node_words n c.node.result.now))) c.new-node.ensures c.in_ok-push_program.ensures)
     c.loop-number.invariant
 
-pub returns : goal.returns
-returns c = said_all c.args.chip.now c.loop-number.text.items c.loop-number.number (omega (arith, c.loop-number-test.false)) c.loop-number.invariant
+pub returns-clause-says : goal.returns-clause-says
+returns-clause-says c = said_all c.args.chip.now c.loop-number.text.items c.loop-number.number (omega (arith, c.loop-number-test.false)) c.loop-number.invariant
+
+pub returns-clause-size : goal.returns-clause-size
+returns-clause-size c = said_size c.args.chip.now c.loop-number.text.items c.loop-number.number (omega (arith, c.loop-number-test.false)) c.loop-number.invariant
