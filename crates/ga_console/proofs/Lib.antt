@@ -26,3 +26,4 @@ pub mod Cells
 pub mod NodeTexts
 pub mod SourceWords
 pub mod SourceNames
+pub mod PlainWords
