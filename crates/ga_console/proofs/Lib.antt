@@ -19,3 +19,11 @@ pub mod Races
 pub mod Reaching
 pub mod Wholes
 pub mod Sources
+pub mod HexLemmas
+pub mod Telling
+pub mod SourceLines
+pub mod Cells
+pub mod NodeTexts
+pub mod SourceWords
+pub mod SourceNames
+pub mod PlainWords

@@ -53,9 +53,9 @@ lists_nothing read rest StreamFault unread = inl (refl, unread)
 lists_nothing read rest NotFinished unread = unread
 
 -- source of an image was written, or a front of it
-pub source_written : (image whole text : List ℕ) (status : Status) → IsAccepted image → Writes whole text status → Disassembly image text status
-source_written image whole text Done accepted written = accepted
-source_written image whole text StreamFault accepted written = inl accepted
+pub source_written : (image whole text : List ℕ) (status : Status) → IsAccepted image whole → Writes whole text status → Disassembly image text status
+source_written image whole text Done accepted written = subst (IsAccepted image) (sym written) accepted
+source_written image whole text StreamFault accepted written = inl (record { whole = whole; is_text = accepted; front = written })
 source_written image whole text ImageRefused accepted written = absurd written
 source_written image whole text NotFinished accepted written = absurd written
 

@@ -1,5 +1,6 @@
 -- What may be written for source (docs/REFERENCE.md, "Source"; this project's own).
-use Rattle.std.specs.Prelude.{◌≡◌, ℕ, ◌<◌, ◌⊎◌, List, [], ◌++◌, length}
+use Rattle.std.specs.Prelude.{◌≡◌, ℕ, ◌<◌, ◌≢◌, ◌⊎◌, true, List, [], ◌++◌, length, Some}
+use Rattle.std.specs.List.{list_all}
 use Rattle.ga_node.specs.Record.{NodeState}
 use Rattle.ga_grid.specs.Chip.{records_of}
 use Rattle.ga_image.specs.Lines.{Bytes, Text, lines_of}
@@ -9,6 +10,9 @@ use Rattle.ga_image.specs.ReadBack.{Describes}
 use Rattle.ga_image.specs.declared.fault.ImageFault.{ImageFault}
 use Rattle.ga_source.specs.declared.item.Program.{Program}
 use Rattle.ga_source.specs.Programs.{IsAssembled}
+use Rattle.ga_source.specs.Saying.{is_word, said_in}
+use Rattle.ga_source.specs.Plain.{words_in, body_in, bodies_in}
+use Rattle.ga_source.specs.Sound.{number_of}
 use Rattle.ga_console.specs.Input.{block_size}
 use Rattle.ga_console.specs.Image.{EndsAtEnd, HasNoEnd}
 use Rattle.ga_console.specs.Output.{Begins}
@@ -49,16 +53,23 @@ Lists read rest text ImageRefused = text ≡ []
 Lists read rest text StreamFault = ((text ≡ []) × HasNoEnd read) ⊎ OfSource read rest (λ source. Unit {0})
 Lists read rest text NotFinished = ⊥
 
--- the text is an image
-abbrev pub IsAccepted : Bytes → Type 0
-IsAccepted image = (chip : List NodeState) × IsImage (lines_of image) chip
+-- No line of the source has a fault, its words begin with `node`, and behind each `node` one of the grid is named, each once.
+pub record IsReadable (source : Text) : Type 0 where
+  pub whole : list_all is_word (said_in source) ≡ true
+  pub begins : body_in (words_in source) ≡ []
+  pub named : (k : ℕ) → k < length (bodies_in (words_in source)) → (n : ℕ) × (number_of (bodies_in (words_in source)) k ≡ Some n)
+  pub apart : (j k : ℕ) → j < k → k < length (bodies_in (words_in source)) → number_of (bodies_in (words_in source)) j ≢ number_of (bodies_in (words_in source)) k
+
+-- the text is an image, and its source can be read
+abbrev pub IsAccepted : Text → Text → Type 0
+IsAccepted image text = (chip : List NodeState) × IsImage (lines_of image) chip × IsReadable text
 
 -- What `dis` may have written, where read was read of its input and rest is left of it.
 abbrev pub Disassembles : Bytes → Bytes → Bytes → Status → Type 0
-Disassembles read rest text Done = OfImage read rest IsAccepted
+Disassembles read rest text Done = OfImage read rest (λ image. IsAccepted image text)
 Disassembles read rest text ImageRefused = (fault : ImageFault) × Refused read rest fault × (text ≡ image_fault_text fault)
 Disassembles read rest text StreamFault =
     ((text ≡ []) × HasNoEnd read)
-    ⊎ OfImage read rest IsAccepted
+    ⊎ OfImage read rest (λ image. IsCutShort (IsAccepted image) text)
     ⊎ ((fault : ImageFault) × Refused read rest fault × Begins (image_fault_text fault) text)
 Disassembles read rest text NotFinished = ⊥

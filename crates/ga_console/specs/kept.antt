@@ -1,4 +1,5 @@
 pub mod Ahead
+pub mod Disassembling
 pub mod Image
 pub mod Input
 pub mod Output

@@ -1,9 +1,10 @@
 //! An image in, source of the same memories and registers out.
-ghost use Rattle.std.specs.Prelude.{◌≡◌, ◌<◌, ◌++◌, Some, IfOk, IfErr};
+ghost use Rattle.std.specs.Prelude.{◌≡◌, ◌<◌, ◌≤◌, ◌++◌, [], ◌∷◌, length, codes, Some, IfOk, IfErr, OnOk};
 ghost use Rattle.ga_image.specs.Lines.{Bytes};
 ghost use Rattle.ga_console.specs.Run.{IsFault};
 ghost use Rattle.ga_console.specs.Source.{IsAccepted, Disassembles};
 ghost use Rattle.ga_console.specs.kept.Source.{Disassembly};
+ghost use Rattle.ga_console.specs.kept.Disassembling.{IsOrdinary, Says, Adds, AddsRemark, number_word, register_words, address_words, cell_words, next_of, cells_words, next_behind, holds_word, holds_words as holds_words_of, usual_p as usual_p_of, registers_words, memory_words, node_words, named_words, source_words};
 
 use super::assembling::write_text;
 use super::listing::{push_hex, push_node};
@@ -55,7 +56,7 @@ fn disassemble_text<W: Write>(alloc: Global, writer: &mut W, image: Vec<u8>) -> 
 
 /// Source of an image, or the image's first fault.
 fn source_for(alloc: Global, image: Vec<u8>) -> Result<Vec<u8>, ImageFault>
-    ensures ok { IfOk result (λ text. IsAccepted image.items) }
+    ensures ok { IfOk result (λ text. IsAccepted image.items text.items) }
     ensures err { IfErr result (λ fault. IsFault image.items fault) }
 {
     let chip = parse(alloc, image.as_slice())?;
@@ -66,27 +67,58 @@ fn source_for(alloc: Global, image: Vec<u8>) -> Result<Vec<u8>, ImageFault>
 }
 
 /// Source of the memories, A, B and P of a chip.
-fn source_of(alloc: Global, chip: &Chip) -> Result<Vec<u8>, AllocError> {
+fn source_of(alloc: Global, chip: &Chip) -> Result<Vec<u8>, AllocError>
+    ensures says { IfOk result (λ text. Says text.items (source_words 0 chip.now)) }
+    ensures size { OnOk result (length chip.now ≡ 144) }
+{
     let mut text = Vec::new(alloc);
     for number in 0..NODES as u8 {
         let node = NodeId::new(number);
-        let before = text.len();
-        push_node(&mut text, node)?;
-        let begun = text.len();
-        let has_cells = holds_words(chip.node(node));
-        push_registers(&mut text, node, chip.node(node), has_cells)?;
-        push_cells(&mut text, chip.node(node))?;
-        if text.len() == begun {
-            text.truncate(before);
-        }
+        push_program(&mut text, node, chip.node(node))?;
     }
     Ok(text)
 }
 
+/// Adds what source says of a node, unless that is nothing.
+fn push_program(text: &mut Vec<u8>, id: NodeId, node: &Node) -> Result<(), AllocError>
+    ensures { OnOk result (Adds text.old.items text.new.items (named_words id.number (node_words id.number node.now))) }
+{
+    let before = text.len();
+    push_node(text, id)?;
+    let begun = text.len();
+    push_registers(text, id, node, holds_words(node))?;
+    push_cells(text, node)?;
+    if text.len() == begun {
+        text.truncate(before);
+    }
+    Ok(())
+}
+
 /// Whether a cell isn't 0.
-fn holds_words(node: &Node) -> bool {
+fn holds_words(node: &Node) -> bool
+    ensures { result ≡ holds_words_of node.now }
+{
+    holds_ram(node) || holds_rom(node)
+}
+
+/// Whether a cell of RAM isn't 0.
+fn holds_ram(node: &Node) -> bool
+    ensures { result ≡ holds_word node.now.ram }
+{
     for cell in 0..64u8 {
-        if node.get(Place::Ram(cell)) != 0 || node.get(Place::Rom(cell)) != 0 {
+        if node.get(Place::Ram(cell)) != 0 {
+            return true;
+        }
+    }
+    false
+}
+
+/// Whether a cell of ROM isn't 0.
+fn holds_rom(node: &Node) -> bool
+    ensures { result ≡ holds_word node.now.rom }
+{
+    for cell in 0..64u8 {
+        if node.get(Place::Rom(cell)) != 0 {
             return true;
         }
     }
@@ -99,20 +131,28 @@ fn push_registers(
     id: NodeId,
     node: &Node,
     has_cells: bool,
-) -> Result<(), AllocError> {
-    let p = if has_cells { 0 } else { load_p(id) };
-    push_register(text, b"/p", node.get(Place::P), p)?;
+) -> Result<(), AllocError>
+    ensures { OnOk result (Adds text.old.items text.new.items (registers_words id.number node.now has_cells)) }
+{
+    push_register(text, b"/p", node.get(Place::P), usual_p(id, has_cells))?;
     push_register(text, b"/a", node.get(Place::A), 0)?;
-    push_register(text, b"/b", node.get(Place::B), 0x15d)
+    push_register(text, b"/b", node.get(Place::B), 0x15d)?;
+    Ok(())
+}
+
+/// P where no line gives it.
+fn usual_p(id: NodeId, has_cells: bool) -> u32
+    ensures { result ≡ usual_p_of id.number has_cells }
+{
+    if has_cells { 0 } else { load_p(id) }
 }
 
 /// Adds a register, unless it has this value.
-fn push_register(
-    text: &mut Vec<u8>,
-    name: &[u8],
-    value: u32,
-    usual: u32,
-) -> Result<(), AllocError> {
+fn push_register(text: &mut Vec<u8>, name: &[u8], value: u32, usual: u32) -> Result<(), AllocError>
+    requires ordinary { IsOrdinary name.now }
+    requires short { length name.now ≤ 10 }
+    ensures { OnOk result (Adds text.old.items text.new.items (register_words name.now value usual)) }
+{
     if value != usual {
         text.extend_from_slice(name)?;
         text.extend_from_slice(b" 0x")?;
@@ -123,11 +163,31 @@ fn push_register(
 }
 
 /// Adds the cells that aren't 0, each run of them behind its `org`.
-fn push_cells(text: &mut Vec<u8>, node: &Node) -> Result<(), AllocError> {
+fn push_cells(text: &mut Vec<u8>, node: &Node) -> Result<(), AllocError>
+    ensures { OnOk result (Adds text.old.items text.new.items (memory_words node.now)) }
+{
+    let next = push_ram(text, node)?;
+    push_rom(text, node, next)?;
+    Ok(())
+}
+
+/// Adds the cells of RAM. Tells the address behind the last one.
+fn push_ram(text: &mut Vec<u8>, node: &Node) -> Result<u32, AllocError>
+    ensures says { OnOk result (Adds text.old.items text.new.items (cells_words 0 0 node.now.ram)) }
+    ensures next { IfOk result (λ next. next ≡ next_behind 0 0 node.now.ram) }
+{
     let mut next = 0;
     for cell in 0..64u8 {
         next = push_word(text, node.get(Place::Ram(cell)), u32::from(cell), next)?;
     }
+    Ok(next)
+}
+
+/// Adds the cells of ROM.
+fn push_rom(text: &mut Vec<u8>, node: &Node, behind: u32) -> Result<(), AllocError>
+    ensures { OnOk result (Adds text.old.items text.new.items (cells_words 0x80 behind node.now.rom)) }
+{
+    let mut next = behind;
     for cell in 0..64u8 {
         next = push_word(
             text,
@@ -142,40 +202,97 @@ fn push_cells(text: &mut Vec<u8>, node: &Node) -> Result<(), AllocError> {
 /// Adds a cell unless it is 0, and `org` before it where it isn't the next one. Tells the address behind the last cell.
 fn push_word(text: &mut Vec<u8>, word: u32, address: u32, next: u32) -> Result<u32, AllocError>
     requires { address < 0x400 }
+    ensures says { OnOk result (Adds text.old.items text.new.items (cell_words word address next)) }
+    ensures next { IfOk result (λ behind. behind ≡ next_of word address next) }
 {
     if word == 0 {
         return Ok(next);
     }
+    push_address(text, address, next)?;
+    push_cell(text, word, address)?;
+    Ok(address + 1)
+}
+
+/// Adds `org` and the address, unless it is the next one.
+fn push_address(text: &mut Vec<u8>, address: u32, next: u32) -> Result<(), AllocError>
+    ensures { OnOk result (Adds text.old.items text.new.items (address_words address next)) }
+{
     if address != next {
         text.extend_from_slice(b"org 0x")?;
         push_hex(text, address, 2)?;
         text.push(b'\n')?;
     }
-    text.extend_from_slice(b"0x")?;
-    push_hex(text, word, 6)?;
-    text.extend_from_slice(b" , \\")?;
-    push_opcodes(text, Word18::truncated(word), address)?;
-    text.push(b'\n')?;
-    Ok(address + 1)
+    Ok(())
 }
 
-/// Adds the opcodes of a word, up to one behind which nothing is run, with the address that a jump leads to.
-fn push_opcodes(text: &mut Vec<u8>, word: Word18, address: u32) -> Result<(), AllocError> {
+/// Adds a cell, with its opcodes in a comment.
+fn push_cell(text: &mut Vec<u8>, word: u32, address: u32) -> Result<(), AllocError>
+    ensures { OnOk result (Adds text.old.items text.new.items (number_word 6 word ∷ codes "," ∷ [])) }
+{
+    text.extend_from_slice(b"0x")?;
+    push_hex(text, word, 6)?;
+    text.extend_from_slice(b" , \\ ")?;
+    push_opcodes(text, Word18::truncated(word), address)?;
+    text.push(b'\n')?;
+    Ok(())
+}
+
+/// Adds the opcodes of a word, up to one behind which nothing is run.
+fn push_opcodes(text: &mut Vec<u8>, word: Word18, address: u32) -> Result<(), AllocError>
+    ensures { OnOk result (AddsRemark 48 text.old.items text.new.items) }
+{
     for slot in 0..4u8 {
-        let op = opcode(word, slot);
-        text.push(b' ')?;
-        text.extend_from_slice(op.name().as_bytes())?;
-        match op {
-            Op::Jump | Op::Call | Op::Next | Op::If | Op::MinusIf => {
-                if slot < 3 {
-                    text.push(b' ')?;
-                    push_hex(text, target(advance_p(address), word, slot), 3)?;
-                }
-                return Ok(());
-            }
-            Op::Return | Op::Execute => return Ok(()),
-            _ => {}
+        if !push_opcode(text, word, address, slot)? {
+            return Ok(());
         }
     }
+    Ok(())
+}
+
+/// Adds the opcode in a slot, with the address that a jump leads to. Tells whether the next slot is run.
+fn push_opcode(text: &mut Vec<u8>, word: Word18, address: u32, slot: u8) -> Result<bool, AllocError>
+    requires { slot < 4 }
+    ensures { OnOk result (AddsRemark 12 text.old.items text.new.items) }
+{
+    let op = opcode(word, slot);
+    push_blank(text, slot > 0)?;
+    push_name(text, op)?;
+    match op {
+        Op::Jump | Op::Call | Op::Next | Op::If | Op::MinusIf => {
+            if slot < 3 {
+                push_target(text, target(advance_p(address), word, slot))?;
+                return Ok(false);
+            }
+            Ok(false)
+        }
+        Op::Return | Op::Execute => Ok(false),
+        _ => Ok(true),
+    }
+}
+
+/// Adds an opcode's name.
+fn push_name(text: &mut Vec<u8>, op: Op) -> Result<(), AllocError>
+    ensures { OnOk result (AddsRemark 7 text.old.items text.new.items) }
+{
+    text.extend_from_slice(op.name().as_bytes())?;
+    Ok(())
+}
+
+/// Adds a blank where one is wanted.
+fn push_blank(text: &mut Vec<u8>, is_wanted: bool) -> Result<(), AllocError>
+    ensures { OnOk result (AddsRemark 1 text.old.items text.new.items) }
+{
+    if is_wanted {
+        text.push(b' ')?;
+    }
+    Ok(())
+}
+
+/// Adds a blank and an address.
+fn push_target(text: &mut Vec<u8>, address: u32) -> Result<(), AllocError>
+    ensures { OnOk result (AddsRemark 4 text.old.items text.new.items) }
+{
+    text.push(b' ')?;
+    push_hex(text, address, 3)?;
     Ok(())
 }

@@ -1,6 +1,10 @@
 //! Source in, a listing of its cells out.
-ghost use Rattle.std.specs.Prelude.{◌≡◌, ◌++◌, Some};
+ghost use Rattle.std.specs.Prelude.{◌≡◌, ◌≤◌, ◌<◌, ◌++◌, [], ◌∷◌, codes, Some, OnOk, slice_index};
 ghost use Rattle.ga_image.specs.Lines.{Bytes};
+ghost use Rattle.hex.specs.Hex.{lower_digits};
+ghost use Rattle.ga_grid.specs.Grid.{yxx_of};
+ghost use Rattle.ga_image.specs.Spelling.{decimal3_of};
+ghost use Rattle.ga_console.specs.kept.Disassembling.{Adds, hex_of};
 ghost use Rattle.ga_console.specs.kept.Source.{Listing};
 ghost use Rattle.ga_console.specs.Source.{Lists};
 
@@ -110,30 +114,50 @@ fn listing(alloc: Global, assembled: &Assembled<'_>, source: &[u8]) -> Result<Ve
 }
 
 /// Adds `node` and the node's name.
-pub fn push_node(text: &mut Vec<u8>, node: NodeId) -> Result<(), AllocError> {
-    let name = node.yxx();
+pub fn push_node(text: &mut Vec<u8>, node: NodeId) -> Result<(), AllocError>
+    ensures { OnOk result (Adds text.old.items text.new.items (codes "node" ∷ decimal3_of (yxx_of node.number) ∷ [])) }
+{
     text.extend_from_slice(b"node ")?;
-    text.extend_from_slice(&[
-        b'0' + (name / 100 % 10) as u8,
-        b'0' + (name / 10 % 10) as u8,
-        b'0' + (name % 10) as u8,
-        b'\n',
-    ])
+    text.extend_from_slice(&three_digits(node.yxx()))?;
+    text.push(b'\n')?;
+    Ok(())
+}
+
+/// A number in three digits.
+fn three_digits(number: u32) -> [u8; 3]
+    requires { number < 1000 }
+    ensures { result ≡ decimal3_of number }
+{
+    [
+        b'0' + (number / 100) as u8,
+        b'0' + (number / 10 % 10) as u8,
+        b'0' + (number % 10) as u8,
+    ]
 }
 
 /// Adds a number in so many hexadecimal digits.
-pub fn push_hex(text: &mut Vec<u8>, number: u32, digits: u32) -> Result<(), AllocError> {
-    let mut left = digits.min(8);
+pub fn push_hex(text: &mut Vec<u8>, number: u32, digits: u32) -> Result<(), AllocError>
+    requires { digits ≤ 8 }
+    ensures { OnOk result (text.new.items ≡ text.old.items ++ hex_of digits number) }
+{
+    let mut left = digits;
     while left > 0 {
         left -= 1;
-        let digit = (number >> (4 * left) & 15) as u8;
-        text.push(if digit < 10 {
-            b'0' + digit
-        } else {
-            b'a' - 10 + digit
-        })?;
+        text.push(digit_of((number >> (4 * left) & 15) as u8))?;
     }
     Ok(())
+}
+
+/// A hexadecimal digit.
+fn digit_of(value: u8) -> u8
+    requires { value < 16 }
+    ensures { result ≡ slice_index lower_digits value }
+{
+    if value < 10 {
+        b'0' + value
+    } else {
+        b'a' - 10 + value
+    }
 }
 
 /// Adds the labels and the cells of a program, in the order of the source.

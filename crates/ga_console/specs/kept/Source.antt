@@ -24,9 +24,9 @@ Listing text ImageRefused = text ≡ []
 Listing text StreamFault = Unit {0}
 Listing text NotFinished = ⊥
 
--- What may be written once an image was read: its source, which is not defined, or its refusal.
+-- What may be written once an image was read: its source or its refusal.
 abbrev pub Disassembly : Text → Text → Status → Type 0
-Disassembly image text Done = IsAccepted image
+Disassembly image text Done = IsAccepted image text
 Disassembly image text ImageRefused = (fault : ImageFault) × IsFault image fault × (text ≡ image_fault_text fault)
-Disassembly image text StreamFault = IsAccepted image ⊎ ((fault : ImageFault) × IsFault image fault × Begins (image_fault_text fault) text)
+Disassembly image text StreamFault = IsCutShort (IsAccepted image) text ⊎ ((fault : ImageFault) × IsFault image fault × Begins (image_fault_text fault) text)
 Disassembly image text NotFinished = ⊥

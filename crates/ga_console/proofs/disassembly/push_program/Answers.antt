@@ -1,0 +1,26 @@
+use Rattle.std.proofs.Common.{◌≡◌, ◌∙◌, ◌++◌, ◌∷◌, [], Bool, subst, length, take, ap, sym, codes, arith, ℕ, List}
+use Rattle.ga_grid.specs.Grid.{yxx_of}
+use Rattle.ga_image.specs.Spelling.{decimal3_of}
+use Rattle.ga_console.specs.kept.Disassembling.{Word, Adds, registers_words, memory_words, node_words}
+use Rattle.ga_console.proofs.SourceLines.{both_added}
+use Rattle.ga_console.proofs.NodeTexts.{program_none, program_some, node_added}
+use Rattle.ga_console.proofs.disassembly.push_program.Goals as goal
+
+pub returns-then-len-begun : goal.returns-then-len-begun
+returns-then-len-begun c =
+    let n = c.args.id.number in
+    let before : c.len-before.result ≡ length c.args.text.now.items = omega (arith, c.len-before.ensures, c.args.text.now.ok.0) in
+    program_none n c.args.text.now.items c.push_node.new.text.items c.push_cells.new.text.items c.truncate.new.self.items
+    (codes "node" ∷ decimal3_of (yxx_of n) ∷ []) (node_words n c.args.node.now)
+    (omega (arith, c.len.ensures, c.len-begun.ensures, c.push_node.new.text.ok.0, c.push_cells.new.text.ok.0, c.if-len-begun.true))
+    (c.truncate.ensures.items ∙ ap (λ (k : ℕ). take k c.push_cells.new.text.items) before)
+    c.in_ok-push_node.ensures
+    (node_added n c.args.node.now c.holds_words.result c.push_node.new.text.items c.push_registers.new.text.items c.push_cells.new.text.items c.holds_words.ensures c.in_ok-push_registers.ensures c.in_ok-push_cells.ensures)
+
+pub returns-else-len-begun : goal.returns-else-len-begun
+returns-else-len-begun c =
+    let n = c.args.id.number in
+    program_some n c.args.text.now.items c.push_node.new.text.items c.push_cells.new.text.items (node_words n c.args.node.now)
+    (λ same. c.if-len-begun.false (omega (arith, same, c.len.ensures, c.len-begun.ensures, c.push_node.new.text.ok.0, c.push_cells.new.text.ok.0)))
+    c.in_ok-push_node.ensures
+    (node_added n c.args.node.now c.holds_words.result c.push_node.new.text.items c.push_registers.new.text.items c.push_cells.new.text.items c.holds_words.ensures c.in_ok-push_registers.ensures c.in_ok-push_cells.ensures)
