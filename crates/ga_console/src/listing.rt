@@ -114,7 +114,7 @@ fn listing(alloc: Global, assembled: &Assembled<'_>, source: &[u8]) -> Result<Ve
 }
 
 /// Adds `node` and the node's name.
-pub fn push_node(text: &mut Vec<u8>, node: NodeId) -> Result<(), AllocError>
+pub(crate) fn push_node(text: &mut Vec<u8>, node: NodeId) -> Result<(), AllocError>
     ensures { OnOk result (Adds text.old.items text.new.items (codes "node" ∷ decimal3_of (yxx_of node.number) ∷ [])) }
 {
     text.extend_from_slice(b"node ")?;
@@ -136,7 +136,7 @@ fn three_digits(number: u32) -> [u8; 3]
 }
 
 /// Adds a number in so many hexadecimal digits.
-pub fn push_hex(text: &mut Vec<u8>, number: u32, digits: u32) -> Result<(), AllocError>
+pub(crate) fn push_hex(text: &mut Vec<u8>, number: u32, digits: u32) -> Result<(), AllocError>
     requires { digits ≤ 8 }
     ensures { OnOk result (text.new.items ≡ text.old.items ++ hex_of digits number) }
 {
