@@ -1,10 +1,12 @@
 -- The cells of a source that is written, one by one.
 use Rattle.std.specs.Prelude.{◌==◌, ◌||◌, not}
-use Rattle.std.proofs.Common.{◌≡◌, ◌∙◌, ℕ, zero, suc, ◌+◌, ◌<◌, ◌≤◌, Bool, true, false, List, [], ◌∷◌, ◌++◌, length, drop, get_or, refl, arith, ap, sym, subst, append_assoc}
-use Rattle.std.proofs.lemmas.List.{append-nil, drop_more, drop_all}
+use Rattle.std.specs.List.{All}
+use Rattle.std.proofs.Common.{◌≡◌, ◌∙◌, ℕ, zero, suc, ◌+◌, ◌<◌, ◌≤◌, Bool, true, false, List, [], ◌∷◌, ◌++◌, length, take, drop, get_or, refl, arith, ap, sym, subst, append_assoc}
+use Rattle.std.proofs.lemmas.List.{append-nil, drop_more, drop_all, take_all}
+use Rattle.std.proofs.lemmas.List.Elements.{All-nil, All-more}
 use Rattle.std.proofs.lemmas.Bool.{ne_eqb, eq-eqb}
 use Rattle.ga_image.specs.Lines.{Text}
-use Rattle.ga_console.specs.kept.Disassembling.{Word, Adds, cell_words, next_of, cells_words, next_behind, holds_word}
+use Rattle.ga_console.specs.kept.Disassembling.{Word, Adds, cell_words, next_of, cells_words, next_behind, holds_word, IsCell, AreCells}
 use Rattle.ga_console.proofs.SourceLines.{nothing_added, both_added}
 
 -- ---- cells that were written so far
@@ -15,6 +17,7 @@ pub record IsSoFar (start first : ℕ) (cells : List ℕ) (old now : Text) (cell
   pub words : said ++ cells_words (start + cell) next (drop cell cells) ≡ cells_words start first cells
   pub behind : next_behind (start + cell) next (drop cell cells) ≡ next_behind start first cells
   pub size : 0 < cell → length cells ≡ 64
+  pub fit : All IsCell (take cell cells)
 
 pub cells_none : (start first : ℕ) (cells : List ℕ) (old : Text) → IsSoFar start first cells old old 0 first
 cells_none start first cells old =
@@ -25,6 +28,7 @@ cells_none start first cells old =
       words = ap (λ (a : ℕ). cells_words a first cells) e;
       behind = ap (λ (a : ℕ). next_behind a first cells) e;
       size = λ some. absurd (omega arith);
+      fit = All-nil IsCell;
     }
 
 words_more : (address next word : ℕ) (rest : List ℕ) → cells_words address next (word ∷ rest) ≡ cell_words word address next ++ cells_words (address + 1) (next_of word address next) rest
@@ -43,8 +47,8 @@ behind_none : (address next : ℕ) (cells : List ℕ) → cells ≡ [] → next_
 unfolding next_behind
 behind_none address next cells none = ap (next_behind address next) none
 
-pub cells_more : (start first : ℕ) (cells : List ℕ) (old now new : Text) (cell next address word behind : ℕ) → length cells ≡ 64 → cell < 64 → address ≡ start + cell → word ≡ get_or cells cell 0 → behind ≡ next_of word address next → Adds now new (cell_words word address next) → IsSoFar start first cells old now cell next → IsSoFar start first cells old new (cell + 1) behind
-cells_more start first cells old now new cell next address word behind size within at is is_behind added so_far =
+pub cells_more : (start first : ℕ) (cells : List ℕ) (old now new : Text) (cell next address word behind : ℕ) → length cells ≡ 64 → cell < 64 → address ≡ start + cell → word ≡ get_or cells cell 0 → IsCell word → behind ≡ next_of word address next → Adds now new (cell_words word address next) → IsSoFar start first cells old now cell next → IsSoFar start first cells old new (cell + 1) behind
+cells_more start first cells old now new cell next address word behind size within at is small is_behind added so_far =
     let after = drop (cell + 1) cells in
     let left : drop cell cells ≡ word ∷ after = drop_more cells cell 0 (omega arith) ∙ ap (λ (w : ℕ). w ∷ after) (sym is) in
     let further : address + 1 ≡ start + (cell + 1) = omega (arith, at) in
@@ -66,6 +70,7 @@ cells_more start first cells old now new cell next address word behind size with
       words = append_assoc so_far.said (cell_words word address next) (cells_words (start + (cell + 1)) behind after) ∙ (ap (λ (l : List Word). so_far.said ++ l) (sym rest) ∙ so_far.words);
       behind = sym last ∙ so_far.behind;
       size = λ some. size;
+      fit = All-more IsCell cells cell 0 (omega arith) so_far.fit (subst IsCell is small);
     }
 
 pub cells_added : (start first : ℕ) (cells : List ℕ) (old now : Text) (cell next : ℕ) → 64 ≤ cell → IsSoFar start first cells old now cell next → Adds old now (cells_words start first cells)
@@ -79,6 +84,11 @@ pub cells_behind : (start first : ℕ) (cells : List ℕ) (old now : Text) (cell
 cells_behind start first cells old now cell next end so_far =
     let size = so_far.size (omega arith) in
     sym (behind_none (start + cell) next (drop cell cells) (drop_all cell cells (omega arith))) ∙ so_far.behind
+
+pub cells_fit : (start first : ℕ) (cells : List ℕ) (old now : Text) (cell next : ℕ) → 64 ≤ cell → IsSoFar start first cells old now cell next → AreCells cells
+cells_fit start first cells old now cell next end so_far =
+    let size = so_far.size (omega arith) in
+    record { size = size; words = subst (All IsCell) (take_all cell cells (omega arith)) so_far.fit }
 
 -- ---- whether there are cells
 

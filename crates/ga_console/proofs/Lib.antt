@@ -27,3 +27,6 @@ pub mod NodeTexts
 pub mod SourceWords
 pub mod SourceNames
 pub mod PlainWords
+pub mod PlainCells
+pub mod FreeCells
+pub mod PlainNodes

@@ -1,14 +1,16 @@
 -- What source says of one node.
 use Rattle.std.specs.Prelude.{codes}
-use Rattle.std.proofs.Common.{◌≡◌, ◌∙◌, ℕ, ◌+◌, ◌<◌, ◌≤◌, Bool, List, [], ◌∷◌, ◌++◌, length, take, drop, get_or, map, refl, arith, ap, sym, subst, append_assoc, length-append}
-use Rattle.std.proofs.lemmas.List.{append-nil, take_at, nil_from_length, drop_more, drop_all}
+use Rattle.std.specs.List.{All}
+use Rattle.std.proofs.Common.{◌≡◌, ◌∙◌, ℕ, ◌+◌, ◌^◌, ◌<◌, ◌≤◌, Bool, List, [], ◌∷◌, ◌++◌, length, take, drop, get_or, map, refl, arith, ap, sym, subst, append_assoc, length-append}
+use Rattle.std.proofs.lemmas.List.{append-nil, take_at, nil_from_length, drop_more, drop_all, take_all}
+use Rattle.std.proofs.lemmas.List.Elements.{All-nil, All-more}
 use Rattle.ga_node.specs.Record.{NodeState}
 use Rattle.ga_grid.specs.Grid.{yxx_of}
 use Rattle.ga_grid.specs.Chip.{node_at, nowhere}
 use Rattle.ga_image.specs.Lines.{Text}
 use Rattle.ga_image.specs.Spelling.{decimal3_of}
 use Rattle.ga_source.specs.Saying.{Said, parted, said_from, lines_of}
-use Rattle.ga_console.specs.kept.Disassembling.{Word, Says, Adds, holds_words, registers_words, memory_words, node_words, named_words, source_words}
+use Rattle.ga_console.specs.kept.Disassembling.{Word, Says, Adds, holds_words, registers_words, memory_words, node_words, named_words, source_words, HasRegisters, IsFit}
 use Rattle.ga_console.proofs.Telling.{says_nothing, says_both}
 use Rattle.ga_console.proofs.SourceLines.{nothing_added, both_added}
 
@@ -49,6 +51,14 @@ pub node_added : (n : ℕ) (node : NodeState) (has : Bool) (old between now : Te
 node_added n node has old between now is a b =
     both_added old between now (registers_words n node (holds_words node)) (memory_words node) (subst (λ (h : Bool). Adds old between (registers_words n node h)) is a) b
 
+-- the registers are in range as they were read
+pub registers_fit : (node : NodeState) (p a b : ℕ) → p ≡ node.p → a ≡ node.a → b ≡ node.b → p < 2 ^ 10 → a < 2 ^ 18 → b < 2 ^ 9 → HasRegisters node
+registers_fit node p a b is_p is_a is_b small_p small_a small_b = record {
+  p = omega (arith, is_p, small_p);
+  a = omega (arith, is_a, small_a);
+  b = omega (arith, is_b, small_b);
+}
+
 -- ---- node after node
 
 pub record IsSaid (chip : List NodeState) (text : Text) (n : ℕ) : Type 0 where
@@ -56,6 +66,7 @@ pub record IsSaid (chip : List NodeState) (text : Text) (n : ℕ) : Type 0 where
   pub says : Says text said
   pub words : said ++ source_words n (drop n chip) ≡ source_words 0 chip
   pub size : 0 < n → length chip ≡ 144
+  pub fit : All IsFit (take n chip)
 
 pub said_none : (chip : List NodeState) (text : Text) → text ≡ [] → IsSaid chip text 0
 said_none chip text none = record {
@@ -63,6 +74,7 @@ said_none chip text none = record {
   says = subst (λ (t : Text). Says t []) (sym none) says_nothing;
   words = refl;
   size = λ some. absurd (omega arith);
+  fit = All-nil IsFit;
 }
 
 source_more : (n : ℕ) (node : NodeState) (rest : List NodeState) → source_words n (node ∷ rest) ≡ named_words n (node_words n node) ++ source_words (n + 1) rest
@@ -73,8 +85,8 @@ source_none : (n : ℕ) (chip : List NodeState) → chip ≡ [] → source_words
 unfolding source_words
 source_none n chip none = ap (source_words n) none
 
-pub said_more : (chip : List NodeState) (text new : Text) (n : ℕ) (node : NodeState) → length chip ≡ 144 → n < 144 → node ≡ node_at chip n → Adds text new (named_words n (node_words n node)) → IsSaid chip text n → IsSaid chip new (n + 1)
-said_more chip text new n node size within is added so_far =
+pub said_more : (chip : List NodeState) (text new : Text) (n : ℕ) (node : NodeState) → length chip ≡ 144 → n < 144 → node ≡ node_at chip n → Adds text new (named_words n (node_words n node)) → IsFit node → IsSaid chip text n → IsSaid chip new (n + 1)
+said_more chip text new n node size within is added is_fit so_far =
     let words = named_words n (node_words n node) in
     let rest : source_words n (drop n chip) ≡ words ++ source_words (n + 1) (drop (n + 1) chip) =
     ap (source_words n) (drop_more chip n nowhere (omega arith) ∙ ap (λ (one : NodeState). one ∷ drop (n + 1) chip) (sym is))
@@ -84,6 +96,7 @@ said_more chip text new n node size within is added so_far =
       says = subst (λ (t : Text). Says t (so_far.said ++ words)) (sym added.1) (says_both text added.0 so_far.said words so_far.says added.2);
       words = append_assoc so_far.said words (source_words (n + 1) (drop (n + 1) chip)) ∙ (ap (λ (l : List Word). so_far.said ++ l) (sym rest) ∙ so_far.words);
       size = λ some. size;
+      fit = All-more IsFit chip n nowhere (omega arith) so_far.fit (subst IsFit is is_fit);
     }
 
 pub said_all : (chip : List NodeState) (text : Text) (n : ℕ) → 144 ≤ n → IsSaid chip text n → Says text (source_words 0 chip)
@@ -94,3 +107,8 @@ said_all chip text n end so_far =
 
 pub said_size : (chip : List NodeState) (text : Text) (n : ℕ) → 144 ≤ n → IsSaid chip text n → length chip ≡ 144
 said_size chip text n end so_far = so_far.size (omega arith)
+
+pub said_fit : (chip : List NodeState) (text : Text) (n : ℕ) → 144 ≤ n → IsSaid chip text n → All IsFit chip
+said_fit chip text n end so_far =
+    let size = so_far.size (omega arith) in
+    subst (All IsFit) (take_all n chip (omega arith)) so_far.fit

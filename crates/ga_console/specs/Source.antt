@@ -1,8 +1,7 @@
 -- What may be written for source (docs/REFERENCE.md, "Source"; this project's own).
-use Rattle.std.specs.Prelude.{◌≡◌, ℕ, ◌<◌, ◌≢◌, ◌⊎◌, true, List, [], ◌++◌, length, Some}
-use Rattle.std.specs.List.{list_all}
+use Rattle.std.specs.Prelude.{◌≡◌, ℕ, ◌<◌, ◌⊎◌, List, [], ◌++◌, length, slice_index}
 use Rattle.ga_node.specs.Record.{NodeState}
-use Rattle.ga_grid.specs.Chip.{records_of}
+use Rattle.ga_grid.specs.Chip.{node_at, records_of}
 use Rattle.ga_image.specs.Lines.{Bytes, Text, lines_of}
 use Rattle.ga_image.specs.Grammar.{IsImage}
 use Rattle.ga_image.specs.Printing.{printed}
@@ -10,9 +9,8 @@ use Rattle.ga_image.specs.ReadBack.{Describes}
 use Rattle.ga_image.specs.declared.fault.ImageFault.{ImageFault}
 use Rattle.ga_source.specs.declared.item.Program.{Program}
 use Rattle.ga_source.specs.Programs.{IsAssembled}
-use Rattle.ga_source.specs.Saying.{is_word, said_in}
-use Rattle.ga_source.specs.Plain.{words_in, body_in, bodies_in}
-use Rattle.ga_source.specs.Sound.{number_of}
+use Rattle.ga_source.specs.Made.{IsMade}
+use Rattle.ga_source.specs.Sound.{IsSound}
 use Rattle.ga_console.specs.Input.{block_size}
 use Rattle.ga_console.specs.Image.{EndsAtEnd, HasNoEnd}
 use Rattle.ga_console.specs.Output.{Begins}
@@ -53,16 +51,22 @@ Lists read rest text ImageRefused = text ≡ []
 Lists read rest text StreamFault = ((text ≡ []) × HasNoEnd read) ⊎ OfSource read rest (λ source. Unit {0})
 Lists read rest text NotFinished = ⊥
 
--- No line of the source has a fault, its words begin with `node`, and behind each `node` one of the grid is named, each once.
-pub record IsReadable (source : Text) : Type 0 where
-  pub whole : list_all is_word (said_in source) ≡ true
-  pub begins : body_in (words_in source) ≡ []
-  pub named : (k : ℕ) → k < length (bodies_in (words_in source)) → (n : ℕ) × (number_of (bodies_in (words_in source)) k ≡ Some n)
-  pub apart : (j k : ℕ) → j < k → k < length (bodies_in (words_in source)) → number_of (bodies_in (words_in source)) j ≢ number_of (bodies_in (words_in source)) k
+-- a node that source made has the memories and A, B and P of this one
+pub record IsLoadedAs (node made : NodeState) : Type 0 where
+  pub ram : (k : ℕ) → k < 64 → slice_index made.ram k ≡ slice_index node.ram k
+  pub rom : (k : ℕ) → k < 64 → slice_index made.rom k ≡ slice_index node.rom k
+  pub a : made.a ≡ node.a
+  pub b : made.b ≡ node.b
+  pub p : made.p ≡ node.p
 
--- the text is an image, and its source can be read
+-- Only want of memory keeps the text from being assembled, and the chip that it makes has the memories, A, B and P of this one.
+pub record IsSourceOf (chip : List NodeState) (text : Text) : Type 0 where
+  pub sound : IsSound text
+  pub same : (made : List NodeState) → IsMade text made → (n : ℕ) → n < 144 → IsLoadedAs (node_at chip n) (node_at made n)
+
+-- the text is an image, and its source makes the same
 abbrev pub IsAccepted : Text → Text → Type 0
-IsAccepted image text = (chip : List NodeState) × IsImage (lines_of image) chip × IsReadable text
+IsAccepted image text = (chip : List NodeState) × IsImage (lines_of image) chip × IsSourceOf chip text
 
 -- What `dis` may have written, where read was read of its input and rest is left of it.
 abbrev pub Disassembles : Bytes → Bytes → Bytes → Status → Type 0

@@ -1,10 +1,11 @@
 //! An image in, source of the same memories and registers out.
 ghost use Rattle.std.specs.Prelude.{◌≡◌, ◌<◌, ◌≤◌, ◌++◌, [], ◌∷◌, length, codes, Some, IfOk, IfErr, OnOk};
+ghost use Rattle.std.specs.List.{All};
 ghost use Rattle.ga_image.specs.Lines.{Bytes};
 ghost use Rattle.ga_console.specs.Run.{IsFault};
 ghost use Rattle.ga_console.specs.Source.{IsAccepted, Disassembles};
 ghost use Rattle.ga_console.specs.kept.Source.{Disassembly};
-ghost use Rattle.ga_console.specs.kept.Disassembling.{IsOrdinary, Says, Adds, AddsRemark, number_word, register_words, address_words, cell_words, next_of, cells_words, next_behind, holds_word, holds_words as holds_words_of, usual_p as usual_p_of, registers_words, memory_words, node_words, named_words, source_words};
+ghost use Rattle.ga_console.specs.kept.Disassembling.{IsOrdinary, Says, Adds, AddsRemark, number_word, register_words, address_words, cell_words, next_of, cells_words, next_behind, holds_word, holds_words as holds_words_of, usual_p as usual_p_of, registers_words, memory_words, node_words, named_words, source_words, AreCells, HasRegisters, HasMemories, IsFit};
 
 use super::assembling::write_text;
 use super::listing::{push_hex, push_node};
@@ -70,6 +71,7 @@ fn source_for(alloc: Global, image: Vec<u8>) -> Result<Vec<u8>, ImageFault>
 fn source_of(alloc: Global, chip: &Chip) -> Result<Vec<u8>, AllocError>
     ensures says { IfOk result (λ text. Says text.items (source_words 0 chip.now)) }
     ensures size { OnOk result (length chip.now ≡ 144) }
+    ensures fit { OnOk result (All IsFit chip.now) }
 {
     let mut text = Vec::new(alloc);
     for number in 0..NODES as u8 {
@@ -81,7 +83,8 @@ fn source_of(alloc: Global, chip: &Chip) -> Result<Vec<u8>, AllocError>
 
 /// Adds what source says of a node, unless that is nothing.
 fn push_program(text: &mut Vec<u8>, id: NodeId, node: &Node) -> Result<(), AllocError>
-    ensures { OnOk result (Adds text.old.items text.new.items (named_words id.number (node_words id.number node.now))) }
+    ensures says { OnOk result (Adds text.old.items text.new.items (named_words id.number (node_words id.number node.now))) }
+    ensures fit { OnOk result (IsFit node.now) }
 {
     let before = text.len();
     push_node(text, id)?;
@@ -132,7 +135,8 @@ fn push_registers(
     node: &Node,
     has_cells: bool,
 ) -> Result<(), AllocError>
-    ensures { OnOk result (Adds text.old.items text.new.items (registers_words id.number node.now has_cells)) }
+    ensures says { OnOk result (Adds text.old.items text.new.items (registers_words id.number node.now has_cells)) }
+    ensures fit { OnOk result (HasRegisters node.now) }
 {
     push_register(text, b"/p", node.get(Place::P), usual_p(id, has_cells))?;
     push_register(text, b"/a", node.get(Place::A), 0)?;
@@ -164,7 +168,8 @@ fn push_register(text: &mut Vec<u8>, name: &[u8], value: u32, usual: u32) -> Res
 
 /// Adds the cells that aren't 0, each run of them behind its `org`.
 fn push_cells(text: &mut Vec<u8>, node: &Node) -> Result<(), AllocError>
-    ensures { OnOk result (Adds text.old.items text.new.items (memory_words node.now)) }
+    ensures says { OnOk result (Adds text.old.items text.new.items (memory_words node.now)) }
+    ensures fit { OnOk result (HasMemories node.now) }
 {
     let next = push_ram(text, node)?;
     push_rom(text, node, next)?;
@@ -175,6 +180,7 @@ fn push_cells(text: &mut Vec<u8>, node: &Node) -> Result<(), AllocError>
 fn push_ram(text: &mut Vec<u8>, node: &Node) -> Result<u32, AllocError>
     ensures says { OnOk result (Adds text.old.items text.new.items (cells_words 0 0 node.now.ram)) }
     ensures next { IfOk result (λ next. next ≡ next_behind 0 0 node.now.ram) }
+    ensures fit { OnOk result (AreCells node.now.ram) }
 {
     let mut next = 0;
     for cell in 0..64u8 {
@@ -185,7 +191,8 @@ fn push_ram(text: &mut Vec<u8>, node: &Node) -> Result<u32, AllocError>
 
 /// Adds the cells of ROM.
 fn push_rom(text: &mut Vec<u8>, node: &Node, behind: u32) -> Result<(), AllocError>
-    ensures { OnOk result (Adds text.old.items text.new.items (cells_words 0x80 behind node.now.rom)) }
+    ensures says { OnOk result (Adds text.old.items text.new.items (cells_words 0x80 behind node.now.rom)) }
+    ensures fit { OnOk result (AreCells node.now.rom) }
 {
     let mut next = behind;
     for cell in 0..64u8 {

@@ -1,6 +1,6 @@
 -- What the source of an image says, line by line (docs/REFERENCE.md, "Source"; this project's own).
-use Rattle.std.specs.Prelude.{◌≡◌, ◌≤◌, ℕ, zero, suc, ◌+◌, ◌==◌, nat_lt, Bool, true, false, not, ◌||◌, if◌then◌else◌, List, [], ◌∷◌, ◌++◌, map, length, codes, bytes_eq}
-use Rattle.std.specs.List.{list_all}
+use Rattle.std.specs.Prelude.{◌≡◌, ◌≤◌, ◌<◌, ◌^◌, ℕ, zero, suc, ◌+◌, ◌==◌, nat_lt, Bool, true, false, not, ◌||◌, if◌then◌else◌, List, [], ◌∷◌, ◌++◌, map, length, codes, bytes_eq}
+use Rattle.std.specs.List.{All, list_all}
 use Rattle.ga_word.specs.Word.{hex_digit}
 use Rattle.ga_grid.specs.Grid.{yxx_of}
 use Rattle.ga_grid.specs.Load.{load_p_of}
@@ -118,3 +118,30 @@ named_words n (word ∷ words) = codes "node" ∷ decimal3_of (yxx_of n) ∷ wor
 unfoldable pub source_words : ℕ → List NodeState → List Word
 source_words n [] = []
 source_words n (node ∷ nodes) = named_words n (node_words n node) ++ source_words (n + 1) nodes
+
+-- ---- what a node has
+
+-- a word of 18 bits
+abbrev pub IsCell : ℕ → Type 0
+IsCell word = word < 2 ^ 18
+
+-- the cells of a memory
+pub record AreCells (cells : List ℕ) : Type 0 where
+  pub size : length cells ≡ 64
+  pub words : All IsCell cells
+
+-- P, A and B are in range
+pub record HasRegisters (node : NodeState) : Type 0 where
+  pub p : node.p < 2 ^ 10
+  pub a : node.a < 2 ^ 18
+  pub b : node.b < 2 ^ 9
+
+-- both memories have their cells
+pub record HasMemories (node : NodeState) : Type 0 where
+  pub ram : AreCells node.ram
+  pub rom : AreCells node.rom
+
+-- the node is one whose words can be read back
+pub record IsFit (node : NodeState) : Type 0 where
+  pub registers : HasRegisters node
+  pub memories : HasMemories node
