@@ -1,11 +1,16 @@
-//! A law of the definitions, the contract of a function that does nothing.
+//! Laws of the definitions, each the contract of a function that does nothing.
 
-ghost use Rattle.std.specs.Prelude.{ℕ, List};
-ghost use Rattle.ga_image.specs.Lines.{Bytes, Line};
+ghost use Rattle.std.specs.Prelude.{ℕ, ◌<◌, List};
+ghost use Rattle.ga_node.specs.Record.{NodeState};
+ghost use Rattle.ga_grid.specs.Chip.{node_at};
 ghost use Rattle.ga_grid.specs.Steady.{AreSteady};
+ghost use Rattle.ga_image.specs.Lines.{Bytes, Line, Text, lines_of};
+ghost use Rattle.ga_image.specs.Grammar.{IsImage};
 ghost use Rattle.ga_lab.specs.Machine.{State, chip_of};
 ghost use Rattle.ga_console.specs.Reached.{Reaches};
 ghost use Rattle.ga_console.specs.Run.{Opens};
+ghost use Rattle.ga_console.specs.Source.{IsLoadedAs, IsAccepted};
+ghost use Rattle.ga_source.specs.Made.{IsMade};
 
 use ga_lab::laws::stays_steady;
 
@@ -16,3 +21,9 @@ pub fn stays_fit()
 {
     stays_steady();
 }
+
+/// The chip that is assembled of the source of an image has the memories, A, B and P of the image's chip.
+pub fn source_keeps_the_chip()
+    ensures { (image text : Text) (made : List NodeState) → IsAccepted image text → IsMade text made →
+        (chip : List NodeState) × IsImage (lines_of image) chip × ((n : ℕ) → n < 144 → IsLoadedAs (node_at chip n) (node_at made n)) }
+{}
