@@ -6,3 +6,4 @@ pub mod Walking
 pub mod Closed
 pub mod Stored
 pub mod Asking
+pub mod Keeping

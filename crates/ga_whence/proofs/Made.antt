@@ -125,6 +125,14 @@ then_of s node walk behind e within h =
     h (place_after walk.machine.kept walk.node.number walk.step) (place_holds walk.machine.kept walk.node.number walk.step within)
     ∙ ap (λ (z : Standing). node_after z.machine z.node.number walk.step) e
 
+-- the same of a walk that stands there
+pub stood_of : (s : State) (node : NodeId) (walk : Standing) (step : ℕ) (behind : NodeRecord) → walk ≡ standing s node step → step ≤ steps_of node.number s.kept
+    → ((place : ℕ) → steps_of walk.node.number (take place walk.machine.kept) ≡ walk.step → behind ≡ record_at (chip_of (earlier walk.machine place)) walk.node.number)
+    → behind ≡ node_after s node.number step
+stood_of s node walk step behind e within h =
+    subst (λ (z : Standing). (place : ℕ) → steps_of z.node.number (take place z.machine.kept) ≡ z.step → behind ≡ record_at (chip_of (earlier z.machine place)) z.node.number) e h
+    (place_after s.kept node.number step) (place_holds s.kept node.number step within)
+
 pub flow_none : (s : State) (n k j : ℕ) (at : Part) → None ≡ slice_get (history_of s n) j → j ≡ k → Same at ≡ flow_at s n k at
 flow_none s n k j at h e = ap (λ told. flow_told told (node_after s n k) n at) (h ∙ ap (slice_get (history_of s n)) e)
 

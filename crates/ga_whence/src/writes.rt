@@ -3,16 +3,19 @@
 ghost use Rattle.std.specs.Prelude.{◌≡◌, ◌<◌, ◌-◌, ◌%◌, slice_index};
 ghost use Rattle.std.specs.List.{slice_get};
 ghost use Rattle.ga_node.specs.Record.{record_of};
+ghost use Rattle.ga_node.specs.Table.{due_of};
 ghost use Rattle.ga_lab.specs.Machine.{history_of, standing};
 ghost use Rattle.ga_flow.specs.Following.{flow_of};
 ghost use Rattle.ga_whence.specs.Writes.{is_written, written_at, written};
+ghost use Rattle.ga_whence.specs.kept.Stores.{is_store, stores};
 
 use crate::origin::{flow_behind, is_cell};
 use ga_event::Made;
-use ga_flow::{Flow, Part};
+use ga_flow::{Flow, Part, due_in};
 use ga_grid::NodeId;
 use ga_lab::{Lab, Walk};
-use ga_node::{Node, Place};
+use ga_node::{Due, Node, Place};
+use ga_slots::Op;
 use ga_word::Word18;
 
 /// A step that wrote a cell, and the word that stood there behind it.
@@ -45,6 +48,29 @@ fn word_in(node: &Node, cell: u8) -> Word18
     Word18::truncated(node.get(Place::Ram(cell)))
 }
 
+// Whether the opcode writes at an address.
+fn is_store(op: Op) -> bool
+    ensures { result ≡ is_store op }
+{
+    match op {
+        Op::StoreP => true,
+        Op::StorePlus => true,
+        Op::StoreB => true,
+        Op::Store => true,
+        _ => false,
+    }
+}
+
+// Whether a node that runs stores next: nothing else writes memory.
+fn stores(node: &Node) -> bool
+    ensures { result ≡ stores (due_of (record_of node.now)) }
+{
+    match due_in(node) {
+        Due::Fetch => false,
+        Due::Run(op) => is_store(op),
+    }
+}
+
 /// Walks a node back over a step, and tells of the step where it wrote that cell of the node's RAM.
 pub fn back_over(lab: &Lab, walk: &mut Walk<'_>, node: NodeId, cell: u8) -> Option<Written>
     requires cell { cell < 64 }
@@ -56,6 +82,9 @@ pub fn back_over(lab: &Lab, walk: &mut Walk<'_>, node: NodeId, cell: u8) -> Opti
     let step = walk.step();
     let word = word_in(walk.node(), cell);
     walk.back();
+    if !stores(walk.node()) {
+        return None;
+    }
     let flow = flow_behind(lab, walk, node, Part::Ram(cell));
     if !is_written(&flow) {
         return None;
