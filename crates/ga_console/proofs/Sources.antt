@@ -12,14 +12,14 @@ use Rattle.ga_console.specs.declared.run.Status.TheVariants.{Done, ImageRefused,
 use Rattle.ga_console.proofs.RunLemmas.{refused_in}
 
 -- the image was written, or a front of it
-pub assembly_written : (whole text : List ℕ) (status : Status) → IsAssembly whole → Writes whole text status → Assembly text status
-assembly_written whole text Done image written = subst IsAssembly (sym written) image
-assembly_written whole text StreamFault image written = record { whole = whole; is_text = image; front = written }
-assembly_written whole text ImageRefused image written = absurd written
-assembly_written whole text NotFinished image written = absurd written
+pub assembly_written : (source whole text : List ℕ) (status : Status) → IsAssembly source whole → Writes whole text status → Assembly source text status
+assembly_written source whole text Done image written = subst (IsAssembly source) (sym written) image
+assembly_written source whole text StreamFault image written = record { whole = whole; is_text = image; front = written }
+assembly_written source whole text ImageRefused image written = absurd written
+assembly_written source whole text NotFinished image written = absurd written
 
 -- what was written for the source that was read
-pub assembles : (source ahead read rest text : List ℕ) (status : Status) → read ≡ source ++ ahead → IsReadWhole source ahead rest → Assembly text status → Assembles read rest text status
+pub assembles : (source ahead read rest text : List ℕ) (status : Status) → read ≡ source ++ ahead → IsReadWhole source ahead rest → Assembly source text status → Assembles read rest text status
 assembles source ahead read rest text Done e part written = (source, ahead, e, part, written)
 assembles source ahead read rest text ImageRefused e part written = written
 assembles source ahead read rest text StreamFault e part written = inr (source, ahead, e, part, written)

@@ -9,6 +9,7 @@ use Rattle.ga_image.specs.ReadBack.{Describes}
 use Rattle.ga_image.specs.declared.fault.ImageFault.{ImageFault}
 use Rattle.ga_source.specs.declared.item.Program.{Program}
 use Rattle.ga_source.specs.Programs.{IsAssembled}
+use Rattle.ga_source.specs.Plain.{AreRead}
 use Rattle.ga_source.specs.Made.{IsMade}
 use Rattle.ga_source.specs.Sound.{IsSound}
 use Rattle.ga_console.specs.Input.{block_size}
@@ -20,11 +21,14 @@ use Rattle.ga_console.specs.Race.{OfImage, IsCutShort}
 use Rattle.ga_console.specs.declared.run.Status.{Status}
 use Rattle.ga_console.specs.declared.run.Status.TheVariants.{Done, ImageRefused, StreamFault, NotFinished}
 
--- The text is the image, as it is dumped, of a chip with programs; and what reads images accepts it with this chip.
-pub record IsAssembly (text : Text) : Type 0 where
+-- The text is the image, as it is dumped, of a chip with programs that the source makes; and what reads images accepts it with
+-- this chip.
+pub record IsAssembly (source text : Text) : Type 0 where
   pub chip : List NodeState
   pub programs : List Program
+  pub read : AreRead source programs
   pub assembled : IsAssembled chip programs
+  pub made : IsMade source chip
   pub told : text ≡ printed (records_of chip)
   pub back : Describes (lines_of text) (records_of chip)
 
@@ -39,9 +43,9 @@ OfSource read rest P = (source : Text) × (ahead : Bytes) × (read ≡ source ++
 
 -- What `asm` may have written, where read was read of its input and rest is left of it.
 abbrev pub Assembles : Bytes → Bytes → Bytes → Status → Type 0
-Assembles read rest text Done = OfSource read rest (λ source. IsAssembly text)
+Assembles read rest text Done = OfSource read rest (λ source. IsAssembly source text)
 Assembles read rest text ImageRefused = text ≡ []
-Assembles read rest text StreamFault = ((text ≡ []) × HasNoEnd read) ⊎ OfSource read rest (λ source. IsCutShort IsAssembly text)
+Assembles read rest text StreamFault = ((text ≡ []) × HasNoEnd read) ⊎ OfSource read rest (λ source. IsCutShort (IsAssembly source) text)
 Assembles read rest text NotFinished = ⊥
 
 -- What `list` may have written.

@@ -43,7 +43,7 @@ fn assemble_text<W: Write, E: Write>(
     source: Vec<u8>,
 ) -> Status
     ensures { (before : Bytes) → W.contents writer.old ≡ Some before →
-        (text : Bytes) × (W.contents writer.new ≡ Some (before ++ text)) × Assembly text result }
+        (text : Bytes) × (W.contents writer.new ≡ Some (before ++ text)) × Assembly source.items text result }
 {
     match image_of(alloc, errors, source) {
         Some(image) => write_text(writer, image),
@@ -64,7 +64,7 @@ pub fn write_text<W: Write>(writer: &mut W, text: Vec<u8>) -> Status
 
 /// The image of a source, and on `errors` its stores over code; or none, where a fault is told there.
 fn image_of<E: Write>(alloc: Global, errors: &mut E, source: Vec<u8>) -> Option<Vec<u8>>
-    ensures { IfSome result (λ image. IsAssembly image.items) }
+    ensures { IfSome result (λ image. IsAssembly source.items image.items) }
 {
     match assemble(alloc, source.as_slice()) {
         Ok(assembled) => match print(alloc, &assembled.chip) {

@@ -11,11 +11,11 @@ use Rattle.ga_console.specs.declared.run.Status.TheVariants.{Done, ImageRefused,
 use Rattle.ga_console.specs.Source.{IsAssembly, IsAccepted}
 
 -- What may be written once the source was read: nothing where it is refused.
-abbrev pub Assembly : Text → Status → Type 0
-Assembly text Done = IsAssembly text
-Assembly text ImageRefused = text ≡ []
-Assembly text StreamFault = IsCutShort IsAssembly text
-Assembly text NotFinished = ⊥
+abbrev pub Assembly : Text → Text → Status → Type 0
+Assembly source text Done = IsAssembly source text
+Assembly source text ImageRefused = text ≡ []
+Assembly source text StreamFault = IsCutShort (IsAssembly source) text
+Assembly source text NotFinished = ⊥
 
 -- What may be written of a listing once the source was read: nothing where it is refused. The listing itself is not defined.
 abbrev pub Listing : Text → Status → Type 0

@@ -6,5 +6,5 @@ returns-in-Some g c = λ before held.
     let done = c.write_text.ensures before held in (
       done.0,
       done.1,
-      assembly_written c.in-Some.image.items done.0 c.write_text.result c.in-Some.ensures done.2,
+      assembly_written c.args.source.items c.in-Some.image.items done.0 c.write_text.result c.in-Some.ensures done.2,
     )
