@@ -1,6 +1,6 @@
 -- The cells of a source that is written come once each.
-use Rattle.std.specs.Prelude.{◌==◌, slice_index_or}
-use Rattle.std.proofs.Common.{◌≡◌, ◌≢◌, ◌∙◌, ℕ, zero, suc, ◌+◌, ◌%◌, ◌<◌, ◌≤◌, ◌⊎◌, Bool, false, cond, List, [], ◌∷◌, ◌++◌, length, refl, arith, ap, sym, subst, inl, inr, append_assoc}
+use Rattle.std.specs.Prelude.{◌==◌}
+use Rattle.std.proofs.Common.{◌≡◌, ◌∙◌, ℕ, zero, suc, ◌+◌, ◌%◌, ◌<◌, ◌≤◌, Bool, false, cond, List, [], ◌∷◌, ◌++◌, length, refl, arith, ap, sym, subst, inl, inr, append_assoc}
 use Rattle.std.proofs.lemmas.List.{append-nil}
 use Rattle.std.proofs.lemmas.Bool.{cases_Bool, eqb-true}
 use Rattle.ga_ports.specs.Address.{advanced}
@@ -8,9 +8,8 @@ use Rattle.ga_node.specs.Record.{NodeState}
 use Rattle.ga_source.specs.declared.item.Value.TheVariants.{Number}
 use Rattle.ga_source.specs.declared.item.Item.TheVariants.{Cell}
 use Rattle.ga_source.specs.declared.item.Request.{Request}
-use Rattle.ga_source.specs.declared.item.Request.TheVariants.{Put, Go}
-use Rattle.ga_source.specs.Made.{address_behind}
-use Rattle.ga_source.specs.Sound.{cell_at, cells_from, IsMemoryAddress, cell_of, AreFree}
+use Rattle.ga_source.specs.declared.item.Request.TheVariants.{Put}
+use Rattle.ga_source.specs.Sound.{cells_from, IsMemoryAddress, cell_of, AreFree}
 use Rattle.ga_console.specs.kept.Disassembling.{next_of, next_behind, IsFit}
 use Rattle.ga_console.proofs.PlainWords.{address_requests, cell_requests, cells_requests, node_requests, IsCellAddress, IsWithin, first_within, rest_within}
 use Rattle.ga_console.proofs.PlainCells.{counts_up}

@@ -1,6 +1,6 @@
 -- Hexadecimal digits as they are written and as they are read.
-use Rattle.std.specs.Prelude.{◌==◌, nat_lt, bit_and, slice_index, codes}
-use Rattle.std.proofs.Common.{◌≡◌, ◌∙◌, ℕ, zero, suc, ◌+◌, ◌-◌, ◌*◌, ◌/◌, ◌%◌, ◌^◌, ◌<◌, ◌≤◌, Bool, true, false, ◌&&◌, cond, List, [], ◌∷◌, ◌++◌, length, Option, Some, None, refl, arith, ap, sym, inl, inr, eq-zero-or-pos, append_assoc}
+use Rattle.std.specs.Prelude.{◌==◌, nat_lt, bit_and, slice_index}
+use Rattle.std.proofs.Common.{◌≡◌, ◌∙◌, ℕ, zero, suc, ◌+◌, ◌-◌, ◌*◌, ◌/◌, ◌%◌, ◌^◌, ◌<◌, Bool, true, ◌&&◌, List, [], ◌∷◌, ◌++◌, Option, Some, None, refl, arith, ap, sym, inl, inr, eq-zero-or-pos, append_assoc}
 use Rattle.std.specs.List.{list_all}
 use Rattle.std.specs.Char.{digit_value, is_digit}
 use Rattle.std.specs.Str.Parse.{digits_value, digits_value_after}

@@ -1,21 +1,20 @@
 -- The memories that the cells of a source make which is written.
-use Rattle.std.specs.Prelude.{◌==◌, ◌||◌, not, if◌then◌else◌, codes}
+use Rattle.std.specs.Prelude.{◌==◌, ◌||◌, not, if◌then◌else◌}
 use Rattle.std.specs.List.{list_any}
-use Rattle.std.proofs.Common.{◌≡◌, ◌∙◌, ℕ, zero, suc, ◌+◌, ◌*◌, ◌/◌, ◌%◌, ◌^◌, ◌<◌, ◌≤◌, ◌⊎◌, Bool, true, false, cond, List, [], ◌∷◌, ◌++◌, length, set, replicate, Some, None, refl, arith, ap, sym, inl, inr, append_assoc, length-append}
+use Rattle.std.proofs.Common.{◌≡◌, ◌∙◌, ℕ, ◌+◌, ◌/◌, ◌%◌, ◌^◌, ◌<◌, ◌≤◌, Bool, List, [], ◌∷◌, ◌++◌, length, set, replicate, refl, arith, ap, sym, inl, inr, append_assoc, length-append}
 use Rattle.std.proofs.Math.Seq.{set-append_seam}
 use Rattle.std.proofs.lemmas.List.{append-nil}
 use Rattle.std.proofs.lemmas.List.Folds.{list_any-append}
-use Rattle.std.proofs.lemmas.Bool.{cases_Bool, eqb-true, eq-eqb, ne_eqb}
+use Rattle.std.proofs.lemmas.Bool.{cases_Bool, eqb-true}
 use Rattle.ga_ports.specs.declared.address.Target.TheVariants.{Ram, Rom}
 use Rattle.ga_ports.specs.Address.{classified, advanced}
-use Rattle.ga_node.specs.Record.{NodeState, fresh_node}
-use Rattle.ga_grid.specs.Load.{load_p_of}
+use Rattle.ga_node.specs.Record.{NodeState}
 use Rattle.ga_source.specs.declared.item.Value.TheVariants.{Number}
 use Rattle.ga_source.specs.declared.item.Item.TheVariants.{Cell}
 use Rattle.ga_source.specs.declared.item.Request.{Request}
-use Rattle.ga_source.specs.declared.item.Request.TheVariants.{Put, Go}
+use Rattle.ga_source.specs.declared.item.Request.TheVariants.{Put}
 use Rattle.ga_source.specs.Programs.{is_item}
-use Rattle.ga_source.specs.Made.{with_cell, with_asked, address_behind, written}
+use Rattle.ga_source.specs.Made.{with_cell, written}
 use Rattle.ga_console.specs.kept.Disassembling.{next_of, next_behind, holds_word, IsFit}
 use Rattle.ga_console.proofs.PlainWords.{address_requests, cell_requests, cells_requests, node_requests, IsCellAddress, IsWithin, first_within, rest_within}
 

@@ -1,12 +1,12 @@
 -- The nodes that the words make which are written of them.
-use Rattle.std.specs.Prelude.{◌==◌, ◌||◌, if◌then◌else◌, codes, slice_index}
+use Rattle.std.specs.Prelude.{◌==◌, if◌then◌else◌, slice_index}
 use Rattle.std.specs.List.{list_any}
-use Rattle.std.proofs.Common.{◌≡◌, ◌∙◌, ℕ, ◌<◌, Bool, true, false, List, [], ◌∷◌, replicate, Option, Some, None, refl, ap, sym, subst, inl, inr}
+use Rattle.std.proofs.Common.{◌≡◌, ◌∙◌, ℕ, Bool, List, [], refl, ap, sym, inl, inr}
 use Rattle.std.proofs.lemmas.Bool.{cases_Bool, eqb-true}
 use Rattle.std.proofs.lemmas.Option.{same_Some}
 use Rattle.ga_node.specs.Record.{NodeState, fresh_node}
 use Rattle.ga_grid.specs.Load.{load_p_of}
-use Rattle.ga_source.specs.Plain.{Plain, no_request, plain_from, plain_of}
+use Rattle.ga_source.specs.Plain.{no_request, plain_of}
 use Rattle.ga_source.specs.Programs.{is_item}
 use Rattle.ga_source.specs.Made.{written, number_or, plain_node, IsNode}
 use Rattle.ga_console.specs.Source.{IsLoadedAs}

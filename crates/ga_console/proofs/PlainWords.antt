@@ -1,10 +1,10 @@
 -- What the words of a node ask for.
-use Rattle.std.specs.Prelude.{◌==◌, ◌||◌, ◌⊎◌, if◌then◌else◌, nat_lt, nat_le, codes, slice_index}
-use Rattle.std.proofs.Common.{◌≡◌, ◌∙◌, ℕ, zero, suc, ◌+◌, ◌/◌, ◌^◌, ◌<◌, ◌≤◌, Bool, true, false, cond, List, [], ◌∷◌, ◌++◌, length, Option, Some, None, refl, arith, ap, sym, inl, inr, append_assoc}
+use Rattle.std.specs.Prelude.{◌==◌, ◌||◌, ◌⊎◌, if◌then◌else◌, nat_lt, codes}
+use Rattle.std.proofs.Common.{◌≡◌, ◌∙◌, ℕ, suc, ◌+◌, ◌<◌, ◌≤◌, Bool, true, false, List, [], ◌∷◌, ◌++◌, length, Option, Some, None, refl, arith, ap, sym, inl, inr, append_assoc}
 use Rattle.std.proofs.lemmas.List.{append-nil}
 use Rattle.std.specs.List.{All}
 use Rattle.std.proofs.lemmas.List.Elements.{All-head, All-tail}
-use Rattle.std.proofs.lemmas.Bool.{cond-true, cond-false, lt-ltb, le-leb, cases_Bool}
+use Rattle.std.proofs.lemmas.Bool.{lt-ltb, le-leb, cases_Bool}
 use Rattle.ga_node.specs.Record.{NodeState}
 use Rattle.ga_source.specs.declared.item.Value.{Value}
 use Rattle.ga_source.specs.declared.item.Value.TheVariants.{Number}
@@ -28,7 +28,7 @@ unfoldable pub cells_requests : ℕ → ℕ → List ℕ → List Request
 cells_requests address next [] = []
 cells_requests address next (word ∷ words) = cell_requests word address next ++ cells_requests (address + 1) (next_of word address next) words
 
-abbrev pub with_all : Plain → List Request → Plain
+abbrev with_all : Plain → List Request → Plain
 with_all plain requests = record plain { requests = plain.requests ++ requests }
 
 none_more : (plain : Plain) → with_all plain [] ≡ plain
@@ -69,7 +69,7 @@ address_asks plain address next rest is = elim (cases_Bool (address == next)) [
   | inr differs ↦ rw differs (one_address plain address rest is)
 ]
 
-pub cell_asks : (plain : Plain) (word address next : ℕ) (rest : List Word) → word < 262144 → IsCellAddress address → plain_from plain (cell_words word address next ++ rest) ≡ plain_from (with_all plain (cell_requests word address next)) rest
+cell_asks : (plain : Plain) (word address next : ℕ) (rest : List Word) → word < 262144 → IsCellAddress address → plain_from plain (cell_words word address next ++ rest) ≡ plain_from (with_all plain (cell_requests word address next)) rest
 cell_asks plain word address next rest small is = elim (cases_Bool (word == 0)) [
   | inl none ↦ rw none (ap (λ (p : Plain). plain_from p rest) (sym (none_more plain)))
   | inr some ↦ rw some

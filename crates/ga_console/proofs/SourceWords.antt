@@ -1,6 +1,6 @@
 -- The words of a source that is written, node by node.
 use Rattle.std.specs.Prelude.{◌==◌, not, codes, nat_le, nat_lt}
-use Rattle.std.proofs.Common.{◌≡◌, ◌∙◌, ℕ, zero, suc, ◌+◌, ◌*◌, ◌/◌, ◌%◌, ◌-◌, ◌<◌, ◌≤◌, Bool, true, false, ◌&&◌, List, [], ◌∷◌, ◌++◌, length, map, Option, Some, None, refl, arith, ap, sym, inl, inr}
+use Rattle.std.proofs.Common.{◌≡◌, ◌∙◌, ℕ, ◌+◌, ◌*◌, ◌/◌, ◌%◌, ◌-◌, ◌<◌, ◌≤◌, Bool, true, false, List, [], ◌∷◌, ◌++◌, length, map, Some, refl, arith, ap, sym, inl, inr}
 use Rattle.std.specs.List.{list_all}
 use Rattle.std.proofs.lemmas.List.{append-nil}
 use Rattle.std.proofs.lemmas.List.Folds.{list_all-append}
@@ -11,7 +11,7 @@ use Rattle.ga_image.specs.Lines.{Text}
 use Rattle.ga_image.specs.Spelling.{decimal3_of}
 use Rattle.ga_source.specs.Saying.{Said, parted, is_word, lines_of, said_from, up_to_fault, said_in}
 use Rattle.ga_source.specs.Plain.{words_in, is_node, body_in, bodies_in, digit_in, yxx_in}
-use Rattle.ga_console.specs.kept.Disassembling.{Word, Says, hex_of, number_word, register_words, address_words, cell_words, next_of, cells_words, next_behind, usual_p, registers_words, memory_words, holds_words, node_words, named_words, source_words}
+use Rattle.ga_console.specs.kept.Disassembling.{Word, Says, number_word, register_words, address_words, cell_words, next_of, cells_words, next_behind, usual_p, registers_words, memory_words, holds_words, node_words, named_words, source_words}
 
 -- ---- all that a text says
 

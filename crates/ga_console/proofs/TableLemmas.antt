@@ -4,7 +4,6 @@ use Rattle.std.proofs.Common.{◌≡◌, ℕ, zero, suc, ◌+◌, ◌*◌, ◌/�
 use Rattle.std.proofs.lemmas.Bool.Decides.{nat_tests}
 use Rattle.ga_word.specs.Word.{hex_digit, hex6_of}
 use Rattle.ga_image.specs.Spelling.{hex2_of}
-use Rattle.ga_console.specs.kept.Texts.{two_digits, four_digits}
 use Rattle.ga_console.specs.declared.text.TheConstants.{DECIMAL, HEXADECIMAL}
 
 -- so many pairs of a table are these

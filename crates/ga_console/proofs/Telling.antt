@@ -1,15 +1,15 @@
 -- Texts that say words, line by line.
-use Rattle.std.specs.Prelude.{◌==◌, ◌||◌, not, nat_lt, codes, bytes_eq, filter}
-use Rattle.std.proofs.Common.{◌≡◌, ◌∙◌, ℕ, zero, suc, ◌+◌, ◌/◌, ◌%◌, ◌<◌, ◌≤◌, Bool, true, false, ◌&&◌, cond, ltb, List, [], ◌∷◌, ◌++◌, length, map, refl, arith, ap, sym, inl, inr, append_assoc, length-append}
+use Rattle.std.specs.Prelude.{◌==◌, not, codes, bytes_eq, filter}
+use Rattle.std.proofs.Common.{◌≡◌, ◌∙◌, ℕ, ◌+◌, ◌/◌, ◌%◌, ◌<◌, ◌≤◌, Bool, true, false, ◌&&◌, ltb, List, [], ◌∷◌, ◌++◌, length, map, refl, arith, ap, sym, inl, inr, append_assoc, length-append}
 use Rattle.std.specs.List.{list_all}
-use Rattle.std.proofs.lemmas.List.{append-nil, map-append}
+use Rattle.std.proofs.lemmas.List.{map-append}
 use Rattle.std.proofs.lemmas.List.Folds.{list_all-append}
 use Rattle.std.proofs.lemmas.Slice.Eq.{bytes_eq-Decides}
-use Rattle.std.proofs.lemmas.Bool.{cases_Bool, and_parts, and_from, cond-true, cond-false, le-ltb, ltb-true, lt-ltb, ne_eqb, false≢true}
+use Rattle.std.proofs.lemmas.Bool.{cases_Bool, and_parts, and_from, cond-false, le-ltb, ltb-true, lt-ltb, ne_eqb, false≢true}
 use Rattle.ga_image.specs.Lines.{Text}
 use Rattle.ga_image.specs.Spelling.{decimal3_of}
-use Rattle.ga_source.specs.Saying.{with_byte, parted, is_feed, is_blank, lines_of, has_bytes, words_of, longest, Said, a_word, a_fault, is_word, spoken, said_by, next_line, said_from}
-use Rattle.ga_console.specs.kept.Disassembling.{Word, Says, Adds, IsOrdinary, is_inner, is_shown}
+use Rattle.ga_source.specs.Saying.{with_byte, parted, is_feed, is_blank, lines_of, has_bytes, words_of, longest, Said, a_word, is_word, spoken, said_by, next_line, said_from}
+use Rattle.ga_console.specs.kept.Disassembling.{Word, Says, IsOrdinary, is_inner, is_shown}
 
 -- ---- parts of texts
 

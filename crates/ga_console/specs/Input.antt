@@ -1,5 +1,5 @@
 -- How much of an input is taken, and in which blocks.
-use Rattle.std.specs.Prelude.{ℕ, ◌+◌, ◌≤◌, List, length}
+use Rattle.std.specs.Prelude.{ℕ, ◌+◌, ◌≤◌, length}
 use Rattle.ga_image.specs.Lines.{Bytes}
 
 -- what was read and is not taken yet, and how many bytes were taken

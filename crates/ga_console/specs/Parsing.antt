@@ -1,5 +1,5 @@
 -- Parsing a line: the command that it spells.
-use Rattle.std.specs.Prelude.{ℕ, ◌+◌, ◌*◌, ◌^◌, ◌==◌, nat_lt, if◌then◌else◌, List, [], ◌∷◌, Option, Some, None, option_map}
+use Rattle.std.specs.Prelude.{ℕ, ◌+◌, ◌*◌, ◌^◌, ◌==◌, nat_lt, if◌then◌else◌, [], ◌∷◌, Option, Some, None, option_map}
 use Rattle.ga_image.specs.Lines.{Text}
 use Rattle.ga_grid.specs.Grid.{node_of, node_id}
 use Rattle.ga_grid.specs.declared.node_id.NodeId.{NodeId}

@@ -1,5 +1,5 @@
 -- The texts of answers, each ended by a line feed (docs/REFERENCE.md, "Sessions"; this project's own).
-use Rattle.std.specs.Prelude.{ℕ, ◌==◌, if◌then◌else◌, List, ◌++◌, codes, decimal}
+use Rattle.std.specs.Prelude.{ℕ, ◌==◌, if◌then◌else◌, ◌++◌, codes, decimal}
 use Rattle.std.specs.Int.{from_bool}
 use Rattle.ga_image.specs.Lines.{Text}
 use Rattle.ga_word.specs.Word.{hex6_of}

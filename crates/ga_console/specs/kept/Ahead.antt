@@ -1,5 +1,5 @@
 -- A command that was read whole and is not taken yet.
-use Rattle.std.specs.Prelude.{◌≡◌, ◌≢◌, ◌≤◌, ℕ, List, ◌∷◌, ◌++◌, length}
+use Rattle.std.specs.Prelude.{◌≡◌, ◌≢◌, ◌≤◌, ℕ, ◌∷◌, ◌++◌, length}
 use Rattle.ga_image.specs.Lines.{Bytes, Line, longest}
 use Rattle.ga_console.specs.Lines.{HasNoFeed}
 use Rattle.ga_console.specs.Commands.{SpellsCommand}

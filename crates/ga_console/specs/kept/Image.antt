@@ -1,5 +1,5 @@
 -- What reading the image part does.
-use Rattle.std.specs.Prelude.{ℕ, Bool, true, false, List}
+use Rattle.std.specs.Prelude.{Bool, true, false}
 use Rattle.ga_image.specs.Lines.{Text, Line}
 use Rattle.ga_console.specs.Lines.{ended}
 

@@ -1,5 +1,5 @@
 -- What was said to an output, which gathers it before it writes.
-use Rattle.std.specs.Prelude.{ℕ, List, ◌++◌, Option, Result}
+use Rattle.std.specs.Prelude.{◌++◌, Option, Result}
 use Rattle.ga_image.specs.Lines.{Bytes, Text}
 use Rattle.ga_console.specs.declared.output.WriteFailed.{WriteFailed}
 use Rattle.ga_console.specs.Output.{IsSaid, IsSaidOrCut}

@@ -1,5 +1,5 @@
 -- What private contracts, invariants and bridges cite.
-use Rattle.std.specs.Prelude.{ℕ, nat_eq, if◌then◌else◌, List, codes, Option, Some, None, option_map}
+use Rattle.std.specs.Prelude.{ℕ, nat_eq, if◌then◌else◌, codes, Option, Some, None, option_map}
 use Rattle.std.specs.Cmp.Lexicographic.{pointwise}
 use Rattle.ga_image.specs.Lines.{Text, Line}
 use Rattle.ga_grid.specs.declared.node_id.NodeId.{NodeId}

@@ -1,5 +1,5 @@
 -- What a race writes once the image was read.
-use Rattle.std.specs.Prelude.{◌≡◌, ℕ, ◌⊎◌, List, []}
+use Rattle.std.specs.Prelude.{◌≡◌, ℕ, ◌⊎◌, []}
 use Rattle.ga_image.specs.Lines.{Bytes, Text}
 use Rattle.ga_console.specs.Output.{Begins}
 use Rattle.ga_console.specs.declared.run.Status.{Status}

@@ -1,5 +1,5 @@
 -- What the reading of one line does.
-use Rattle.std.specs.Prelude.{◌≡◌, ℕ, ◌+◌, List, [], ◌∷◌, ◌++◌, length, take, Result, Ok, Err}
+use Rattle.std.specs.Prelude.{◌≡◌, ℕ, ◌+◌, [], ◌∷◌, ◌++◌, length, take, Result, Ok, Err}
 use Rattle.ga_image.specs.Lines.{Bytes, Line, longest}
 use Rattle.ga_console.specs.Lines.{HasNoFeed}
 use Rattle.ga_console.specs.Input.{Unread, input_limit}

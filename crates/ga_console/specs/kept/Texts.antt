@@ -1,5 +1,5 @@
 -- Numbers in two and in four digits.
-use Rattle.std.specs.Prelude.{ℕ, ◌+◌, ◌/◌, ◌%◌, List, [], ◌∷◌}
+use Rattle.std.specs.Prelude.{ℕ, ◌+◌, ◌/◌, ◌%◌, [], ◌∷◌}
 use Rattle.ga_image.specs.Lines.{Text}
 
 -- the two digits of a number below 100

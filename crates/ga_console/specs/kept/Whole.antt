@@ -1,5 +1,5 @@
 -- What reading a whole input does.
-use Rattle.std.specs.Prelude.{◌≡◌, ℕ, List, ◌++◌, length}
+use Rattle.std.specs.Prelude.{◌≡◌, ◌++◌, length}
 use Rattle.ga_image.specs.Lines.{Bytes, Text}
 use Rattle.ga_console.specs.Input.{input_limit}
 use Rattle.ga_console.specs.Image.{HasNoEnd}

@@ -1,4 +1,4 @@
-use Rattle.std.proofs.Common.{ℕ, List, subst}
+use Rattle.std.proofs.Common.{ℕ, subst}
 use Rattle.ga_console.specs.kept.Disassembling.{Adds, cells_words, next_behind}
 use Rattle.ga_console.proofs.SourceLines.{both_added}
 use Rattle.ga_console.proofs.disassembly.push_cells.Goals as goal

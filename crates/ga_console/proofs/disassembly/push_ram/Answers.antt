@@ -1,4 +1,4 @@
-use Rattle.std.proofs.Common.{arith, ◌+◌}
+use Rattle.std.proofs.Common.{arith}
 use Rattle.ga_console.proofs.Cells.{cells_none, cells_more, cells_added, cells_behind, cells_fit}
 use Rattle.ga_console.proofs.disassembly.push_ram.Goals as goal
 

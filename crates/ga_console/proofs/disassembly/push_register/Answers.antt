@@ -1,4 +1,4 @@
-use Rattle.std.proofs.Common.{◌∙◌, ◌++◌, ℕ, List, ap, codes, ◌∷◌, []}
+use Rattle.std.proofs.Common.{◌++◌, codes, ◌∷◌, []}
 use Rattle.ga_console.specs.kept.Disassembling.{hex_of}
 use Rattle.ga_console.proofs.Telling.{grown}
 use Rattle.ga_console.proofs.SourceLines.{register_added, register_usual}

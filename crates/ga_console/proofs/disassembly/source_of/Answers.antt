@@ -1,4 +1,4 @@
-use Rattle.std.proofs.Common.{◌∙◌, ◌+◌, ℕ, List, subst, ap, arith}
+use Rattle.std.proofs.Common.{◌∙◌, ℕ, subst, ap, arith}
 use Rattle.ga_grid.specs.Chip.{node_at}
 use Rattle.ga_console.specs.kept.Disassembling.{Adds, node_words, named_words}
 use Rattle.ga_console.proofs.NodeTexts.{said_none, said_more, said_all, said_size, said_fit}
