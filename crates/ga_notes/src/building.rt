@@ -1,59 +1,85 @@
 //! The notes of a source.
 
-use crate::label::{Marked, name_of};
+ghost use Rattle.std.specs.Prelude.{◌≡◌, ◌++◌, map, decimal, IfOk, OnOk};
+ghost use Rattle.ga_notes.specs.Source.{AreOfSource, named_by, named_at, names_in, label_text, address_text, note_text as note_text_of, noted_by, noted_at, group_noted, notes_in, literal_noted};
+ghost use Rattle.ga_source.specs.Reading.{p_behind};
+ghost use Rattle.ga_notes.specs.kept.Marking.{IsMarked};
+
+use crate::label::{Marked, cell_of, name_of};
 use crate::line::Lines;
 use crate::notes::{Name, Note, Notes};
 use ga_grid::NodeId;
-use ga_ports::{Target, advance_p, classify};
-use ga_source::{Group, Item, Program, Request};
+use ga_ports::advance_p;
+use ga_source::{Group, Item, Label, Program};
+use ga_word::Word18;
 use std::alloc::{AllocError, Global};
 
 /// What a source says of each cell that it gives, and the names of its labels.
 ///
 /// # Errors
 /// Memory is wanting.
-pub fn notes_of(
-    alloc: Global,
-    source: &[u8],
-    programs: &[Program<'_>],
-) -> Result<Notes, AllocError> {
+pub fn notes_of(alloc: Global, source: &[u8], programs: &[Program<'_>]) -> Result<Notes, AllocError>
+    ensures { IfOk result (λ notes. AreOfSource source.now programs.now notes) }
+{
     let mut lines = Lines::new(source);
-    let mut all = Notes::none(alloc);
+    let mut names = Vec::new(alloc);
+    let mut notes = Vec::new(alloc);
     for program in programs {
-        add_names(alloc, &mut all, program)?;
-        add_cells(alloc, &mut all, program, &mut lines)?;
+        add_names(alloc, &mut names, program)?;
+        add_cells(alloc, &mut notes, program, &mut lines)?;
     }
-    Ok(all)
+    Ok(Notes { notes, names })
 }
 
 /// Adds the labels of a program that have a name.
-fn add_names(alloc: Global, all: &mut Notes, program: &Program<'_>) -> Result<(), AllocError> {
-    for (label, found) in program.names.iter().enumerate() {
-        if !found.name.is_empty() {
-            if let Some(Some(address)) = program.labels.get(label) {
-                let mut text = Vec::new(alloc);
-                text.extend_from_slice(found.name)?;
-                all.names.push(Name {
-                    node: program.node,
-                    text,
-                    address: *address,
-                })?;
-            }
-        }
+fn add_names(alloc: Global, names: &mut Vec<Name>, program: &Program<'_>) -> Result<(), AllocError>
+    ensures { OnOk result (map named_by names.new.items ≡ map named_by names.old.items ++ names_in program.now) }
+{
+    for (label, address) in program.names.iter().zip(&program.labels) {
+        add_name(alloc, names, program.node, label, *address)?;
     }
+    Ok(())
+}
+
+/// Adds a label, where it has a name and stands at an address.
+fn add_name(
+    alloc: Global,
+    names: &mut Vec<Name>,
+    node: NodeId,
+    label: &Label<'_>,
+    address: Option<u32>,
+) -> Result<(), AllocError>
+    ensures { OnOk result (map named_by names.new.items ≡ map named_by names.old.items ++ named_at node label.now address) }
+{
+    let Some(address) = address else {
+        return Ok(());
+    };
+    if label.name.is_empty() {
+        return Ok(());
+    }
+    let mut text = Vec::new(alloc);
+    text.extend_from_slice(label.name)?;
+    names.push(Name {
+        node,
+        text,
+        address,
+    })?;
     Ok(())
 }
 
 /// Adds the cells of a program.
 fn add_cells(
     alloc: Global,
-    all: &mut Notes,
+    notes: &mut Vec<Note>,
     program: &Program<'_>,
     lines: &mut Lines<'_>,
-) -> Result<(), AllocError> {
+) -> Result<(), AllocError>
+    ensures notes { OnOk result (map noted_by notes.new.items ≡ map noted_by notes.old.items ++ notes_in lines.old program.now) }
+    ensures same { lines.new ≡ lines.old }
+{
     let marked = Marked::of(program);
     for group in &program.groups {
-        add_group(alloc, all, program, &marked, group, lines)?;
+        add_group(alloc, notes, program, &marked, group, lines)?;
     }
     Ok(())
 }
@@ -61,56 +87,68 @@ fn add_cells(
 /// Adds the instruction word and the literals of a group, or its cell of data.
 fn add_group(
     alloc: Global,
-    all: &mut Notes,
+    notes: &mut Vec<Note>,
     program: &Program<'_>,
     marked: &Marked,
     group: &Group,
     lines: &mut Lines<'_>,
-) -> Result<(), AllocError> {
-    add_cell(
-        alloc,
-        all,
-        program,
-        marked,
-        group.address,
-        group.line(),
-        lines,
-    )?;
+) -> Result<(), AllocError>
+    requires { IsMarked program.now marked.now.labels }
+    ensures notes { OnOk result (map noted_by notes.new.items ≡ map noted_by notes.old.items ++ group_noted lines.old program.now group.now) }
+    ensures same { lines.new ≡ lines.old }
+{
+    let first = group.line();
+    add_cell(alloc, notes, program, marked, group.address, first, lines)?;
     let mut p = advance_p(group.address);
     for (item, line) in group.items.iter().zip(&group.lines) {
-        if let Item::Literal(_) = item {
-            add_cell(alloc, all, program, marked, p, *line, lines)?;
-            p = advance_p(p);
-        }
+        p = add_literal(alloc, notes, program, marked, p, *item, *line, lines)?;
     }
     Ok(())
 }
 
-/// Adds a cell.
+/// Adds the cell of an item's literal, where it has one, from P on, and tells P behind it.
+fn add_literal(
+    alloc: Global,
+    notes: &mut Vec<Note>,
+    program: &Program<'_>,
+    marked: &Marked,
+    p: u32,
+    item: Item,
+    line: u32,
+    lines: &mut Lines<'_>,
+) -> Result<u32, AllocError>
+    requires { IsMarked program.now marked.now.labels }
+    ensures p { IfOk result (λ behind. behind ≡ p_behind p item) }
+    ensures notes { OnOk result (map noted_by notes.new.items ≡ map noted_by notes.old.items ++ literal_noted lines.old program.now p item line) }
+    ensures same { lines.new ≡ lines.old }
+{
+    let Item::Literal(_) = item else {
+        return Ok(p);
+    };
+    add_cell(alloc, notes, program, marked, p, line, lines)?;
+    Ok(advance_p(p))
+}
+
+/// Adds the cell at an address, where it names one.
 fn add_cell(
     alloc: Global,
-    all: &mut Notes,
+    notes: &mut Vec<Note>,
     program: &Program<'_>,
     marked: &Marked,
     address: u32,
     line: u32,
     lines: &mut Lines<'_>,
-) -> Result<(), AllocError> {
+) -> Result<(), AllocError>
+    requires { IsMarked program.now marked.now.labels }
+    ensures notes { OnOk result (map noted_by notes.new.items ≡ map noted_by notes.old.items ++ noted_at lines.old program.now address line) }
+    ensures same { lines.new ≡ lines.old }
+{
     let Some(cell) = cell_of(address) else {
         return Ok(());
     };
-    let mut text = Vec::new(alloc);
-    text.extend_from_slice(b" \\ ")?;
-    push_address(&mut text, address)?;
-    if let Some(label) = marked.before(address) {
-        text.push(b' ')?;
-        text.extend_from_slice(name_of(program, label))?;
-    }
-    text.push(b' ')?;
-    push_line(&mut text, line)?;
-    text.extend_from_slice(b": ")?;
-    text.extend_from_slice(lines.line(line))?;
-    all.notes.push(Note {
+    let label = marked.before(cell);
+    let text = note_text(alloc, program, address, label, line, lines)?;
+    notes.push(Note {
         node: program.node,
         cell,
         text,
@@ -118,30 +156,56 @@ fn add_cell(
     Ok(())
 }
 
-/// The cell that an address names: 0 to 63 of RAM, 128 to 191 of ROM.
-fn cell_of(address: u32) -> Option<u8> {
-    match classify(address) {
-        Target::Ram(cell) => Some(cell),
-        Target::Rom(cell) => Some(128 + cell),
-        _ => None,
-    }
+/// ` \ `, an address, the label of its cell, and a line.
+fn note_text(
+    alloc: Global,
+    program: &Program<'_>,
+    address: u32,
+    label: Option<usize>,
+    line: u32,
+    lines: &mut Lines<'_>,
+) -> Result<Vec<u8>, AllocError>
+    ensures text { IfOk result (λ text. text.items ≡ note_text_of lines.old program.now address label line) }
+    ensures same { lines.new ≡ lines.old }
+{
+    let mut text = Vec::new(alloc);
+    text.extend_from_slice(b" \\ ")?;
+    text.extend_from_slice(&three_digits(address))?;
+    push_label(&mut text, program, label)?;
+    text.push(b' ')?;
+    push_number(&mut text, line)?;
+    text.extend_from_slice(b": ")?;
+    text.extend_from_slice(lines.line(line))?;
+    Ok(text)
 }
 
-/// Adds an address in three hexadecimal digits.
-fn push_address(text: &mut Vec<u8>, address: u32) -> Result<(), AllocError> {
-    for shift in [8, 4, 0] {
-        let digit = (address >> shift & 15) as u8;
-        text.push(if digit < 10 {
-            b'0' + digit
-        } else {
-            b'a' - 10 + digit
-        })?;
-    }
-    Ok(())
+/// Adds the name of a label behind a blank.
+fn push_label(
+    text: &mut Vec<u8>,
+    program: &Program<'_>,
+    label: Option<usize>,
+) -> Result<(), AllocError>
+    ensures { OnOk result (text.new.items ≡ text.old.items ++ label_text program.now label) }
+{
+    let Some(label) = label else {
+        return Ok(());
+    };
+    text.push(b' ')?;
+    text.extend_from_slice(name_of(program, label))
 }
 
-/// Adds a number of a line in decimal digits.
-fn push_line(text: &mut Vec<u8>, line: u32) -> Result<(), AllocError> {
+/// An address in three hexadecimal digits.
+fn three_digits(address: u32) -> [u8; 3]
+    ensures { result ≡ address_text address }
+{
+    let [_, _, _, high, middle, low] = Word18::truncated(address).hex6();
+    [high, middle, low]
+}
+
+/// Adds a number in decimal digits.
+fn push_number(text: &mut Vec<u8>, number: u32) -> Result<(), AllocError>
+    ensures { OnOk result (text.new.items ≡ text.old.items ++ decimal number) }
+{
     let mut buffer = itoa::Buffer::new();
-    text.extend_from_slice(buffer.format(line).as_bytes())
+    text.extend_from_slice(buffer.format(number).as_bytes())
 }

@@ -1,72 +1,101 @@
 //! The label that stands last at or before a cell.
 
-ghost use Rattle.std.specs.Prelude.{◌<◌, IfSome};
+ghost use Rattle.std.specs.Prelude.{◌≡◌, ◌<◌, ℕ, None, length, replicate, IfSome};
+ghost use Rattle.std.specs.Option.{option_or};
+ghost use Rattle.ga_notes.specs.Source.{cell_at, name_of as name_by, label_cell as label_cell_of, marked_by, label_before};
+ghost use Rattle.ga_source.specs.declared.item.Program.{Program as AProgram};
+ghost use Rattle.ga_notes.specs.kept.Marking.{label_at, IsMarked};
 
 use ga_ports::{Target, classify};
 use ga_source::{Program, Request};
 
-/// The cells of a node: 64 of RAM, and 64 of ROM.
-const CELLS: usize = 128;
+/// One more than the greatest cell: 0 to 63 are RAM, 128 to 191 ROM.
+const CELLS: usize = 192;
 
-/// The labels with a name that stand last at each cell of a node, by their numbers: those of RAM, then those of ROM.
+/// The labels with a name that stand last at each cell of a node, by their numbers.
 #[derive(Clone, Copy)]
 pub(crate) struct Marked {
     labels: [Option<usize>; CELLS],
 }
 
 impl Marked {
-    pub(crate) fn of(program: &Program<'_>) -> Self {
-        let mut labels = [None; CELLS];
+    pub(crate) fn of(program: &Program<'_>) -> Self
+        ensures { IsMarked program.now result.labels }
+    {
+        let mut labels = none_marked();
         for asked in &program.asked {
-            if let Request::Mark(label) = asked.request {
-                if let Some(place) = place_of(program, label) {
-                    labels[place] = Some(label);
-                }
-            }
+            mark(&mut labels, program, asked.request);
         }
         Marked { labels }
     }
 
-    /// The label that stands last at or before an address, in the same memory.
-    pub(crate) fn before(&self, address: u32) -> Option<usize> {
-        let place = cell_place(address)?;
-        for back in 0..=place % 64 {
-            if let Some(label) = self.labels[place - back] {
-                return Some(label);
-            }
+    /// The label that stands last at or before a cell, in the same memory.
+    pub(crate) fn before(&self, cell: u8) -> Option<usize>
+        requires { cell < 192 }
+        ensures { (program : AProgram) → IsMarked program self.now.labels → result ≡ label_before program cell }
+    {
+        let first = usize::from(cell / 64 * 64);
+        let mut behind = usize::from(cell % 64);
+        while behind > 0 && self.labels[first + behind].is_none() {
+            behind -= 1;
         }
-        None
+        self.labels[first + behind]
     }
 }
 
-/// The place of the cell that an address names.
-fn cell_place(address: u32) -> Option<usize>
-    ensures { IfSome result (λ place. place < 128) }
+/// No label is at any cell.
+fn none_marked() -> [Option<usize>; CELLS]
+    ensures size { length result ≡ 192 }
+    ensures none { result ≡ replicate 192 None }
 {
-    match classify(address) {
-        Target::Ram(cell) => Some(cell as usize),
-        Target::Rom(cell) => Some(64 + cell as usize),
-        _ => None,
+    [None; CELLS]
+}
+
+/// Notes the label that a request marks.
+fn mark(labels: &mut [Option<usize>], program: &Program<'_>, request: Request)
+    requires { length labels.old ≡ 192 }
+    ensures size { length labels.new ≡ 192 }
+    ensures marked { (cell : ℕ) → cell < 192 → label_at labels.new cell ≡ option_or (marked_by program.now cell request) (label_at labels.old cell) }
+{
+    if let Request::Mark(label) = request {
+        if let Some(cell) = label_cell(program, label) {
+            labels[usize::from(cell)] = Some(label);
+        }
     }
 }
 
-/// The place of a label that has a name.
-fn place_of(program: &Program<'_>, label: usize) -> Option<usize>
-    ensures { IfSome result (λ place. place < 128) }
+/// The cell of a label that has a name.
+fn label_cell(program: &Program<'_>, label: usize) -> Option<u8>
+    ensures cell { result ≡ label_cell_of program.now label }
+    ensures in_range { IfSome result (λ cell. cell < 192) }
 {
     if name_of(program, label).is_empty() {
         return None;
     }
     match program.labels.get(label) {
-        Some(Some(address)) => cell_place(*address),
+        Some(Some(address)) => cell_of(*address),
         _ => None,
     }
 }
 
 /// The name of a label, empty where it has none.
-pub(crate) fn name_of<'s>(program: &Program<'s>, label: usize) -> &'s [u8] {
+pub(crate) fn name_of<'s>(program: &Program<'s>, label: usize) -> &'s [u8]
+    ensures { result.now ≡ name_by program.now label }
+{
     match program.names.get(label) {
         Some(found) => found.name,
         None => &[],
+    }
+}
+
+/// The cell that an address names: 0 to 63 of RAM, 128 to 191 of ROM.
+pub(crate) fn cell_of(address: u32) -> Option<u8>
+    ensures cell { result ≡ cell_at address }
+    ensures in_range { IfSome result (λ cell. cell < 192) }
+{
+    match classify(address) {
+        Target::Ram(cell) => Some(cell),
+        Target::Rom(cell) => Some(128 + cell),
+        _ => None,
     }
 }

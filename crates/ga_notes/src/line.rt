@@ -1,34 +1,88 @@
-//! The lines of a source, one after another.
+//! The lines of a source.
 
-/// The lines of a source, from the one on that was asked for last.
+ghost use Rattle.std.specs.Prelude.{◌≡◌, [], drop, slice_index_or};
+ghost use Rattle.ga_source.specs.Saying.{lines_of};
+ghost use Rattle.ga_notes.specs.Source.{line_in};
+
+use std::marker::Model;
+
+/// The lines of a source. One that doesn't stand before the line that was asked for last is looked for from there on.
 #[derive(Drop)]
 pub(crate) struct Lines<'s> {
-    number: u32,
+    source: &'s [u8],
+    /// How many lines stand before the rest.
+    before: u32,
     rest: &'s [u8],
 }
 
+impl<'s> Model for Lines<'s> {
+    ghost use Rattle.std.specs.Prelude.{◌≡◌, ℕ, List, drop};
+    ghost use Rattle.ga_source.specs.Saying.{lines_of};
+
+    ghost Value = { List ℕ };
+
+    ghost view = { λ l. l.source.now };
+
+    ghost invariant = { λ l. lines_of l.rest.now ≡ drop l.before (lines_of l.source.now) };
+}
+
 impl<'s> Lines<'s> {
-    pub(crate) fn new(source: &'s [u8]) -> Self {
+    pub(crate) fn new(source: &'s [u8]) -> Self
+        ensures { result ≡ source.now }
+    {
         Lines {
-            number: 1,
+            source,
+            before: 0,
             rest: source,
         }
     }
 
-    /// A line that isn't before the one that was asked for last, without blanks around it.
-    pub(crate) fn line(&mut self, number: u32) -> &'s [u8] {
-        while self.number < number {
-            let Some(end) = self.rest.iter().position(|byte| *byte == b'\n') else {
-                return &[];
-            };
-            self.rest = &self.rest[end + 1..];
-            self.number += 1;
-        }
-        let end = self
-            .rest
-            .iter()
-            .position(|byte| *byte == b'\n')
-            .unwrap_or(self.rest.len());
-        self.rest[..end].trim_ascii()
+    /// A line by its number from 1 on, without blanks around it; empty where there is none.
+    pub(crate) fn line(&mut self, number: u32) -> &'s [u8]
+        ensures line { result.now ≡ line_in self.old number }
+        ensures same { self.new ≡ self.old }
+    {
+        let before = number.saturating_sub(1);
+        self.rest = behind(self.source, self.before, self.rest, before);
+        self.before = before;
+        first_line(self.rest).0.trim_ascii()
     }
+}
+
+/// The first line, and what stands behind it.
+fn first_line(text: &[u8]) -> (&[u8], &[u8])
+    ensures line { result.0.now ≡ slice_index_or (lines_of text.now) 0 [] }
+    ensures rest { lines_of result.1.now ≡ drop 1 (lines_of text.now) }
+{
+    for (i, byte) in text.iter().enumerate() {
+        if *byte == b'\n' {
+            return (text.split_at(i).0, text.split_at(i + 1).1);
+        }
+    }
+    (text, &[])
+}
+
+/// What stands behind the first `wanted` lines of a source, where a rest stands behind the first `before`.
+fn behind<'s>(source: &'s [u8], before: u32, rest: &'s [u8], wanted: u32) -> &'s [u8]
+    requires { lines_of rest.now ≡ drop before (lines_of source.now) }
+    ensures { lines_of result.now ≡ drop wanted (lines_of source.now) }
+{
+    if wanted < before {
+        behind_lines(source, wanted)
+    } else {
+        behind_lines(rest, wanted - before)
+    }
+}
+
+/// What stands behind so many lines.
+fn behind_lines(text: &[u8], count: u32) -> &[u8]
+    ensures { lines_of result.now ≡ drop count (lines_of text.now) }
+{
+    let mut rest = text;
+    let mut left = count;
+    while left > 0 && !rest.is_empty() {
+        rest = first_line(rest).1;
+        left -= 1;
+    }
+    rest
 }

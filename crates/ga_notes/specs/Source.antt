@@ -1,0 +1,175 @@
+-- What a source says of the cells that its programs give, and the names of their labels (docs/REFERENCE.md, "Exploring"; this project's
+-- own). A cell is 0 to 63 of RAM, 128 to 191 of ROM.
+use Rattle.std.specs.Prelude.{ℕ, ◌≡◌, ◌+◌, ◌-◌, ◌*◌, ◌/◌, ◌%◌, zero, suc, if◌then◌else◌, List, [], ◌∷◌, ◌++◌, map, length, take, drop, slice_get, slice_index, slice_index_or, flat_map, codes, decimal, Option, Some, None, option_and_then}
+use Rattle.std.specs.List.{prefix_len, suffix_len}
+use Rattle.std.specs.Option.{option_or}
+use Rattle.std.specs.Char.{is_ascii_whitespace}
+use Rattle.ga_word.specs.Word.{hex_digit}
+use Rattle.ga_ports.specs.declared.address.Target.{Target}
+use Rattle.ga_ports.specs.declared.address.Target.TheVariants.{Ram, Rom}
+use Rattle.ga_ports.specs.Address.{classified, advanced}
+use Rattle.ga_grid.specs.declared.node_id.NodeId.{NodeId}
+use Rattle.ga_source.specs.declared.labels.Label.{Label}
+use Rattle.ga_source.specs.declared.item.Item.{Item}
+use Rattle.ga_source.specs.declared.item.Item.TheVariants.{Literal}
+use Rattle.ga_source.specs.declared.item.Request.{Request}
+use Rattle.ga_source.specs.declared.item.Request.TheVariants.{Mark}
+use Rattle.ga_source.specs.declared.item.Asked.{Asked}
+use Rattle.ga_source.specs.declared.item.Group.{Group}
+use Rattle.ga_source.specs.declared.item.Program.{Program}
+use Rattle.ga_source.specs.Saying.{lines_of, has_bytes}
+use Rattle.ga_source.specs.Reading.{is_same, p_behind}
+use Rattle.ga_notes.specs.declared.notes.Note.{Note}
+use Rattle.ga_notes.specs.declared.notes.Name.{Name}
+use Rattle.ga_notes.specs.declared.notes.Notes.{Notes}
+
+-- ---- the names of labels
+
+-- a label with a name: its node, its name, and P at the label
+pub record Named : Type 0 where
+  pub node : NodeId
+  pub text : List ℕ
+  pub address : ℕ
+
+abbrev pub named_by : Name → Named
+named_by name = record { node = name.node; text = name.text.items; address = name.address }
+
+-- a label, where it has a name and stands at an address
+abbrev pub named_at : NodeId → Label → Option ℕ → List Named
+named_at node label (Some address) = if has_bytes label.name.now then record { node = node; text = label.name.now; address = address } ∷ [] else []
+named_at node label None = []
+
+-- those among labels with these addresses, in order
+unfoldable pub named_among : NodeId → List Label → List (Option ℕ) → List Named
+named_among node [] addresses = []
+named_among node (label ∷ labels) [] = []
+named_among node (label ∷ labels) (address ∷ addresses) = named_at node label address ++ named_among node labels addresses
+
+-- those of a program, and of each of some programs, in order
+abbrev pub names_in : Program → List Named
+names_in program = named_among program.node program.names.items program.labels.items
+
+abbrev pub names_of : List Program → List Named
+names_of programs = flat_map names_in programs
+
+-- ---- the label of a cell
+
+-- the cell that a target is, and that an address names
+abbrev pub cell_in : Target → Option ℕ
+cell_in (Ram k) = Some k
+cell_in (Rom k) = Some (128 + k)
+cell_in _ = None
+
+abbrev pub cell_at : ℕ → Option ℕ
+cell_at address = cell_in (classified address)
+
+-- the name of a label by its number, empty where it has none
+abbrev pub name_in : Option Label → List ℕ
+name_in (Some label) = label.name.now
+name_in None = []
+
+abbrev pub name_of : Program → ℕ → List ℕ
+name_of program label = name_in (slice_get program.names.items label)
+
+-- the cell of a label that has a name
+abbrev pub label_cell : Program → ℕ → Option ℕ
+label_cell program label = if has_bytes (name_of program label) then option_and_then cell_at (slice_index_or program.labels.items label None) else None
+
+-- the label that a request marks in the cell, where that has a name
+abbrev pub marked_by : Program → ℕ → Request → Option ℕ
+marked_by program cell (Mark label) = if is_same (label_cell program label) (Some cell) then Some label else None
+marked_by program cell _ = None
+
+-- the one that requests mark last in the cell
+unfoldable pub last_marked : Program → ℕ → List Asked → Option ℕ
+last_marked program cell [] = None
+last_marked program cell (asked ∷ rest) = option_or (last_marked program cell rest) (marked_by program cell asked.request)
+
+-- what is found at the nearest place, from `first + k` back to `first`
+unfoldable pub nearest : (ℕ → Option ℕ) → ℕ → ℕ → Option ℕ
+nearest found first zero = found first
+nearest found first (suc k) = option_or (found (first + suc k)) (nearest found first k)
+
+-- the label that stands last at or before a cell, in the same memory
+abbrev pub label_before : Program → ℕ → Option ℕ
+label_before program cell = nearest (λ one. last_marked program one program.asked.items) (cell / 64 * 64) (cell % 64)
+
+-- ---- the line of a cell
+
+-- a text without white space at its ends
+abbrev pub without_front : List ℕ → List ℕ
+without_front text = drop (prefix_len is_ascii_whitespace text) text
+
+abbrev pub without_back : List ℕ → List ℕ
+without_back text = take (length text - suffix_len is_ascii_whitespace text) text
+
+abbrev pub trimmed : List ℕ → List ℕ
+trimmed text = without_back (without_front text)
+
+-- a line of the source by its number from 1 on, empty where there is none
+abbrev pub line_in : List ℕ → ℕ → List ℕ
+line_in source line = trimmed (slice_index_or (lines_of source) (line - 1) [])
+
+-- ---- notes
+
+-- what is said of a cell of a node
+pub record Noted : Type 0 where
+  pub node : NodeId
+  pub cell : ℕ
+  pub text : List ℕ
+
+abbrev pub noted_by : Note → Noted
+noted_by note = record { node = note.node; cell = note.cell; text = note.text.items }
+
+-- an address in three hexadecimal digits
+abbrev pub address_text : ℕ → List ℕ
+address_text address = hex_digit address 2 ∷ hex_digit address 1 ∷ hex_digit address 0 ∷ []
+
+-- the name of a label behind a blank
+abbrev pub label_text : Program → Option ℕ → List ℕ
+label_text program (Some label) = codes " " ++ name_of program label
+label_text program None = []
+
+-- ` \ `, the address, the label, the line's number and the line
+abbrev pub note_text : List ℕ → Program → ℕ → Option ℕ → ℕ → List ℕ
+note_text source program address label line =
+    codes " \\ " ++ (address_text address ++ (label_text program label ++ (codes " " ++ (decimal line ++ (codes ": " ++ line_in source line)))))
+
+-- the note of a cell that stands at an address
+abbrev pub note_at : List ℕ → Program → ℕ → ℕ → Option ℕ → List Noted
+note_at source program line address (Some cell) =
+    record { node = program.node; cell = cell; text = note_text source program address (label_before program cell) line } ∷ []
+note_at source program line address None = []
+
+-- the note of the cell at an address, where it names one
+abbrev pub noted_at : List ℕ → Program → ℕ → ℕ → List Noted
+noted_at source program address line = note_at source program line address (cell_at address)
+
+-- the note of an item's literal, from P on
+abbrev pub literal_noted : List ℕ → Program → ℕ → Item → ℕ → List Noted
+literal_noted source program p (Literal _) line = noted_at source program p line
+literal_noted source program p _ line = []
+
+-- the notes of the literals among items with these lines, from P on, in order
+unfoldable pub literals_noted : List ℕ → Program → ℕ → List Item → List ℕ → List Noted
+literals_noted source program p [] lines = []
+literals_noted source program p (item ∷ items) [] = []
+literals_noted source program p (item ∷ items) (line ∷ lines) = literal_noted source program p item line ++ literals_noted source program (p_behind p item) items lines
+
+-- the notes of a group: of its own cell, by its first line, and of its literals behind it
+abbrev pub group_noted : List ℕ → Program → Group → List Noted
+group_noted source program group =
+    noted_at source program group.address (slice_index group.lines.items 0)
+    ++ literals_noted source program (advanced group.address) group.items.items group.lines.items
+
+-- the notes of a program, and of each of some programs, in order
+abbrev pub notes_in : List ℕ → Program → List Noted
+notes_in source program = flat_map (group_noted source program) program.groups.items
+
+abbrev pub notes_of : List ℕ → List Program → List Noted
+notes_of source programs = flat_map (notes_in source) programs
+
+-- The notes are those that the source and its programs give: the names of the labels, and of each cell what the source says of it.
+pub record AreOfSource (source : List ℕ) (programs : List Program) (notes : Notes) : Type 0 where
+  pub labels : map named_by notes.names.items ≡ names_of programs
+  pub cells : map noted_by notes.notes.items ≡ notes_of source programs

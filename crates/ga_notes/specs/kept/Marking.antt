@@ -1,0 +1,12 @@
+-- The labels that stand last at the cells of a node, as they are noted.
+use Rattle.std.specs.Prelude.{◌≡◌, ◌<◌, ℕ, List, Option, None, slice_index_or}
+use Rattle.ga_source.specs.declared.item.Program.{Program}
+use Rattle.ga_notes.specs.Source.{last_marked}
+
+-- the label at a cell
+abbrev pub label_at : List (Option ℕ) → ℕ → Option ℕ
+label_at labels cell = slice_index_or labels cell None
+
+-- of each cell the label is noted that the program's requests mark last there
+pub record IsMarked (program : Program) (labels : List (Option ℕ)) : Type 0 where
+  pub last : (cell : ℕ) → cell < 192 → label_at labels cell ≡ last_marked program cell program.asked.items
