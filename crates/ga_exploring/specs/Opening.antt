@@ -1,5 +1,5 @@
 -- What a session of exploring begins on: an image, or source (docs/REFERENCE.md, "Exploring"; this project's own).
-use Rattle.std.specs.Prelude.{◌≡◌, ℕ, ◌⊎◌, Bool, true, false, List, [], ◌++◌, length, take, codes, bytes_eq, Result, Ok, Err, None}
+use Rattle.std.specs.Prelude.{◌≡◌, ℕ, ◌⊎◌, Bool, true, false, List, [], ◌++◌, length, take, codes, bytes_eq, Result, Ok, Err, Some, None}
 use Rattle.ga_node.specs.Record.{NodeState}
 use Rattle.ga_grid.specs.Chip.{records_of}
 use Rattle.ga_image.specs.Lines.{Bytes, Text}
@@ -7,7 +7,11 @@ use Rattle.ga_image.specs.Fault.{no_memory}
 use Rattle.ga_image.specs.declared.fault.ImageFault.{ImageFault}
 use Rattle.ga_source.specs.declared.item.Program.{Program}
 use Rattle.ga_source.specs.Programs.{IsAssembled}
-use Rattle.ga_lab.specs.Machine.{State, first}
+use Rattle.ga_source.specs.Plain.{AreRead}
+use Rattle.ga_source.specs.Made.{IsMade}
+use Rattle.ga_notes.specs.declared.notes.Notes.{Notes}
+use Rattle.ga_notes.specs.Source.{AreOfSource}
+use Rattle.ga_lab.specs.Machine.{first}
 use Rattle.ga_console.specs.Input.{Unread}
 use Rattle.ga_console.specs.Image.{EndsAtEnd, HasNoEnd}
 use Rattle.ga_console.specs.Run.{Opens as OpensImage, IsReadAlone, Faulty, Refuses}
@@ -19,15 +23,23 @@ use Rattle.ga_exploring.specs.Tails.{Exploring}
 abbrev pub begins_as_image : Text → Bool
 begins_as_image text = bytes_eq (take 5 text) (codes "ga144")
 
--- the machine has the chip of some programs as its load
-abbrev pub OpensSource : ℕ → State → Type 0
-OpensSource limit machine =
-    (chip : List NodeState) × (programs : List Program) × IsAssembled chip programs × (machine ≡ first (records_of chip) limit)
+-- The machine has as its load the chip of a source: that of the programs which the source has, with what its plain words make. The
+-- notes are those of this source and these programs.
+pub record OpensSource (source : Text) (limit : ℕ) (begun : Exploring) : Type 0 where
+  pub chip : List NodeState
+  pub programs : List Program
+  pub notes : Notes
+  pub assembled : IsAssembled chip programs
+  pub read : AreRead source programs
+  pub made : IsMade source chip
+  pub load : begun.lab ≡ first (records_of chip) limit
+  pub noted : begun.notes ≡ Some notes
+  pub says : AreOfSource source programs notes
 
 -- the machine has the text's chip as its load; of an image there are no notes
 abbrev pub Opens : Text → ℕ → Exploring → Type 0
 Opens text limit begun = ((begins_as_image text ≡ true) × OpensImage text limit begun.lab × (begun.notes ≡ None))
-    ⊎ ((begins_as_image text ≡ false) × OpensSource limit begun.lab)
+    ⊎ ((begins_as_image text ≡ false) × OpensSource text limit begun)
 
 -- The text goes up to its first line `end`; or no such line was read, and nothing is left behind it.
 abbrev pub IsFront : Text → Bytes → Type 0

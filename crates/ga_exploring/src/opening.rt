@@ -61,7 +61,7 @@ fn open_source<E: Write>(
     source: &[u8],
     limit: u32,
 ) -> Option<Explorer>
-    ensures { IfSome result (λ begun. OpensSource limit begun.lab) }
+    ensures { IfSome result (λ begun. OpensSource source.now limit begun) }
 {
     match assemble(alloc, source) {
         Ok(assembled) => {
