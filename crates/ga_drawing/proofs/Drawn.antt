@@ -8,7 +8,7 @@ use Rattle.ga_causal.specs.Dependence.{cause_touches, event_at}
 use Rattle.ga_drawing.specs.declared.shade.Shade.{Shade}
 use Rattle.ga_drawing.specs.declared.placing.Shape.{Shape}
 use Rattle.ga_drawing.specs.Drawing.{IsLineOf, IsMark, IsArrow, IsShape, shade_of}
-use Rattle.ga_drawing.proofs.Touched.{own_touches, writer_touches, reader_touches}
+use Rattle.ga_drawing.proofs.Touching.{own_touches, writer_touches, reader_touches}
 use Rattle.ga_drawing.proofs.Lined.{none_at, get_pushed}
 
 -- each node of the event has its line noted

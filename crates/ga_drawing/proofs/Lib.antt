@@ -1,6 +1,6 @@
 pub mod Flags
 pub mod Grounded
-pub mod Touched
+pub mod Touching
 pub mod Lined
 pub mod Drawn
 pub mod Shaded

@@ -3,7 +3,7 @@
 ghost use Rattle.std.specs.Prelude.{◌≡◌, ◌↔◌, ◌<◌, ℕ, false, length, slice_index_or, IfOk, IsTrue};
 ghost use Rattle.ga_causal.specs.Dependence.{DependsOn};
 
-use crate::wanted::Wanted;
+use crate::nodes::Nodes;
 use ga_causal::{Cause, Memory};
 use std::alloc::Global;
 
@@ -17,15 +17,15 @@ pub fn grounds(alloc: Global, events: &[Cause], place: u32) -> Result<Vec<bool>,
 {
     let last = place as usize;
     let mut flags = vec![in alloc; false; events.len()]?;
-    let mut wanted = Wanted::new();
+    let mut wanted = Nodes::none();
     flags[last] = true;
-    wanted.note(&events[last]);
+    wanted.add_seen(&events[last]);
     'events: for back in 0..last {
         let at = last - 1 - back;
         let event = &events[at];
         if wanted.met_by(event) {
             flags[at] = true;
-            wanted.note(event);
+            wanted.add_seen(event);
         }
     }
     Ok(flags)

@@ -5,14 +5,14 @@
 mod before;
 mod lines;
 mod marks;
+mod nodes;
 mod placing;
 mod reports;
 mod shade;
 mod text;
+mod touched;
 mod tracks;
-mod used;
 mod view;
-mod wanted;
 
 pub use before::grounds;
 pub use placing::{Drawing, Shape, layout};

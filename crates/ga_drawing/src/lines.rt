@@ -4,7 +4,7 @@ ghost use Rattle.std.specs.Prelude.{◌≡◌, replicate, IfOk};
 ghost use Rattle.ga_causal.specs.Dependence.{is_marked};
 ghost use Rattle.ga_drawing.specs.kept.Lines.{AreLines};
 
-use crate::used::Used;
+use crate::nodes::Nodes;
 use ga_causal::Memory;
 use ga_grid::{NODES, NodeId};
 use std::alloc::Global;
@@ -17,7 +17,7 @@ pub(crate) struct Lines {
 }
 
 /// A line for each node that is used, by their numbers.
-pub(crate) fn lines_of(alloc: Global, used: &Used) -> Result<Lines, Memory>
+pub(crate) fn lines_of(alloc: Global, used: &Nodes) -> Result<Lines, Memory>
     ensures { IfOk result (λ lines. AreLines (is_marked used.now) lines.nodes.items lines.columns 144) }
 {
     let mut nodes = Vec::new(alloc);

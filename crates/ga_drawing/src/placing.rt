@@ -7,7 +7,7 @@ ghost use Rattle.ga_causal.specs.Dependence.{cause_touches};
 
 use crate::lines::{Lines, lines_of};
 use crate::shade::Shade;
-use crate::used::Used;
+use crate::touched::touched_by;
 use ga_causal::{Cause, Memory};
 use ga_event::Event;
 use ga_grid::NodeId;
@@ -56,7 +56,7 @@ pub fn layout(
     requires size { length shades.now ≡ length events.now }
     ensures { IfOk result (λ drawing. IsDrawing events.now shades.now from to drawing) }
 {
-    let Lines { nodes, columns } = lines_of(alloc, &Used::of(events, from, to))?;
+    let Lines { nodes, columns } = lines_of(alloc, &touched_by(events, from, to))?;
     let mut shapes = Vec::with_capacity(alloc, to - from)?;
     'events: for place in from..to {
         shapes.push(shape_of(&events[place], shades[place], &columns))?;

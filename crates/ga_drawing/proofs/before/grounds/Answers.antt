@@ -11,10 +11,10 @@ pub events-init : goal.events-init
 events-init c =
     let here : event_at c.args.events.now c.args.place ≡ c.index-events-last.result = get_or_default c.args.events.now c.args.place no_cause c.index-events-last.result c.requires ∙ sym c.index-events-last.is in
     let none : c.args.place ≡ c.args.place - 0 = omega arith in
-    subst (λ z. AreGrounds c.args.events.now c.args.place z (set c.in_ok-flags.flags.items c.args.place true) (is_marked c.note.new.self)) none
-    (subst (λ z. AreGrounds c.args.events.now c.args.place c.args.place (set z c.args.place true) (is_marked c.note.new.self)) (sym (c.in_ok-flags.ensures.items_if_clones_equal (λ y h. h)))
-    (grounds_first c.args.events.now c.args.place (is_marked c.note.new.self) c.requires
-    (λ n. c.note.ensures n ∙ ap (λ z. z || sees c.index-events-last.result n) (c.new-wanted.ensures n) ∙ ap (λ z. sees z n) (sym here))))
+    subst (λ z. AreGrounds c.args.events.now c.args.place z (set c.in_ok-flags.flags.items c.args.place true) (is_marked c.add_seen.new.self)) none
+    (subst (λ z. AreGrounds c.args.events.now c.args.place c.args.place (set z c.args.place true) (is_marked c.add_seen.new.self)) (sym (c.in_ok-flags.ensures.items_if_clones_equal (λ y h. h)))
+    (grounds_first c.args.events.now c.args.place (is_marked c.add_seen.new.self) c.requires
+    (λ n. c.add_seen.ensures n ∙ ap (λ z. z || sees c.index-events-last.result n) (c.none-wanted.ensures n) ∙ ap (λ z. sees z n) (sym here))))
 
 pub events-preserved : goal.events-preserved
 events-preserved c =
@@ -33,8 +33,8 @@ events-preserved c =
           subst (λ z. AreGrounds c.args.events.now c.args.place z c.if-met_by.flags.items (is_marked c.if-met_by.wanted)) down
           (subst (λ z. AreGrounds c.args.events.now c.args.place at z (is_marked c.if-met_by.wanted)) (sym flags)
           (subst (λ z. AreGrounds c.args.events.now c.args.place at (set c.events.flags.items at true) (is_marked z)) (sym w.wanted-is)
-          (grounds_met c.args.events.now c.args.place at c.events.flags.items (is_marked c.events.wanted) (is_marked w.note-then-met_by.new.self) c.requires under before (met ∙ w.if-met_by.true)
-          (λ n. w.note-then-met_by.ensures n ∙ ap (λ z. is_marked c.events.wanted n || sees z n) (sym here))))))
+          (grounds_met c.args.events.now c.args.place at c.events.flags.items (is_marked c.events.wanted) (is_marked w.add_seen-then-met_by.new.self) c.requires under before (met ∙ w.if-met_by.true)
+          (λ n. w.add_seen-then-met_by.ensures n ∙ ap (λ z. is_marked c.events.wanted n || sees z n) (sym here))))))
       | else-met_by w ↦ (
           let flags : c.if-met_by.flags.items ≡ c.events.flags.items = ap (λ (v : Vec Bool Global). v.items) w.flags-is in
           subst (λ z. AreGrounds c.args.events.now c.args.place z c.if-met_by.flags.items (is_marked c.if-met_by.wanted)) down

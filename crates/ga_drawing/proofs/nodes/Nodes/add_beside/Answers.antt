@@ -5,7 +5,7 @@ use Rattle.ga_causal.specs.kept.Firsts.{any_of}
 use Rattle.ga_causal.specs.Dependence.{is_marked}
 use Rattle.ga_causal.proofs.Looks.{any_neighbours}
 use Rattle.ga_drawing.proofs.Flags.{four_sides}
-use Rattle.ga_drawing.proofs.wanted.Wanted.add_beside.Goals as goal
+use Rattle.ga_drawing.proofs.nodes.Nodes.add_beside.Goals as goal
 
 pub returns : goal.returns
 returns c n =

@@ -1,10 +1,10 @@
-//! The nodes that some events see.
+//! Sets of nodes.
 
 ghost use Rattle.std.specs.Prelude.{◌≡◌, ℕ, false, ◌||◌, ◌==◌};
 ghost use Rattle.std.specs.List.{list_any};
 ghost use Rattle.ga_grid.specs.Grid.{neighbour_of};
 ghost use Rattle.ga_event.specs.Touches.{neighbours};
-ghost use Rattle.ga_causal.specs.Dependence.{cause_nodes, is_marked};
+ghost use Rattle.ga_causal.specs.Dependence.{cause_nodes, cause_touches, is_marked};
 ghost use Rattle.ga_causal.specs.kept.Firsts.{any_of};
 ghost use Rattle.ga_causal.specs.Equivalence.{sees};
 
@@ -14,13 +14,13 @@ use ga_grid::{NODES, NodeId, neighbour};
 use ga_ports::Side;
 use std::marker::Model;
 
-/// A flag for each node: whether one of the events that were noted touches it or looks at it.
+/// Some nodes, by a flag for each of the chip.
 #[derive(Drop)]
-pub(crate) struct Wanted {
+pub(crate) struct Nodes {
     flags: [bool; 144],
 }
 
-impl Model for Wanted {
+impl Model for Nodes {
     ghost use Rattle.std.specs.Prelude.{◌≡◌, Bool, List, length};
 
     ghost Value = { List Bool };
@@ -30,31 +30,49 @@ impl Model for Wanted {
     ghost invariant = { λ m. length m.flags ≡ 144 };
 }
 
-impl Wanted {
-    /// No event is noted yet.
-    pub(crate) fn new() -> Self
+impl Nodes {
+    /// None.
+    pub(crate) fn none() -> Self
         ensures { (n : ℕ) → is_marked result n ≡ false }
     {
-        Wanted {
+        Nodes {
             flags: [false; NODES],
         }
     }
 
-    /// Whether the event touches a node that is seen.
+    /// Whether the node is one of them.
+    pub(crate) fn has(&self, node: NodeId) -> bool
+        ensures { result ≡ is_marked self.now node.number }
+    {
+        self.flags[node.index()]
+    }
+
+    /// Whether the event touches one of them.
     pub(crate) fn met_by(&self, event: &Cause) -> bool
         ensures { result ≡ list_any (is_marked self.now) (cause_nodes event.now) }
     {
         match event.event {
-            Event::Own(node) => self.flags[node.index()],
+            Event::Own(node) => self.has(node),
+            Event::Pass { writer, reader, .. } => self.has(writer) || self.has(reader),
+        }
+    }
+
+    /// Adds the nodes that an event touches.
+    pub(crate) fn add_touched(&mut self, event: &Cause)
+        ensures { (n : ℕ) → is_marked self.new n ≡ (is_marked self.old n || cause_touches event.now n) }
+    {
+        match event.event {
+            Event::Own(node) => self.add(node),
             Event::Pass { writer, reader, .. } => {
-                self.flags[writer.index()] || self.flags[reader.index()]
+                self.add(writer);
+                self.add(reader);
             }
         }
     }
 
-    /// Notes an event.
+    /// Adds the nodes that an event touches or looks at.
     #[tactic(auto, unfolding(ga_event::specs::Touches::seen_by))]
-    pub(crate) fn note(&mut self, event: &Cause)
+    pub(crate) fn add_seen(&mut self, event: &Cause)
         ensures { (n : ℕ) → is_marked self.new n ≡ (is_marked self.old n || sees event.now n) }
     {
         match event.event {
