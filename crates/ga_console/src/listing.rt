@@ -14,6 +14,7 @@ use super::run::Status;
 use super::whole::read_source;
 use ga_grid::{Chip, NodeId};
 use ga_node::Place;
+use ga_notes::Lines;
 use ga_ports::{Target, advance_p, classify};
 use ga_slots::Op;
 use ga_source::{Assembled, Group, Item, Program, Request, Value, assemble};
@@ -73,39 +74,10 @@ fn listing_of<E: Write>(alloc: Global, errors: &mut E, source: Vec<u8>) -> Optio
     }
 }
 
-/// The lines of a source, from the line that was asked for last.
-#[derive(Drop)]
-struct Lines<'s> {
-    number: u32,
-    rest: &'s [u8],
-}
-
-impl<'s> Lines<'s> {
-    /// A line that isn't before the one that was asked for last, without blanks around it.
-    fn line(&mut self, number: u32) -> &'s [u8] {
-        while self.number < number {
-            let Some(end) = self.rest.iter().position(|byte| *byte == b'\n') else {
-                return &[];
-            };
-            self.rest = &self.rest[end + 1..];
-            self.number += 1;
-        }
-        let end = self
-            .rest
-            .iter()
-            .position(|byte| *byte == b'\n')
-            .unwrap_or(self.rest.len());
-        self.rest[..end].trim_ascii()
-    }
-}
-
 /// The listing of a source's chip.
 fn listing(alloc: Global, assembled: &Assembled<'_>, source: &[u8]) -> Result<Vec<u8>, AllocError> {
     let mut text = Vec::new(alloc);
-    let mut lines = Lines {
-        number: 1,
-        rest: source,
-    };
+    let mut lines = Lines::new(source);
     for program in &assembled.programs {
         push_node(&mut text, program.node)?;
         push_program(&mut text, &assembled.chip, program, &mut lines)?;

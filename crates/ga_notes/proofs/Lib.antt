@@ -1,3 +1,3 @@
-pub mod Lines
+pub mod LineLemmas
 pub mod Labels
 pub mod Adding

@@ -7,4 +7,5 @@ mod line;
 mod notes;
 
 pub use building::notes_of;
+pub use line::Lines;
 pub use notes::{Name, Note, Notes};

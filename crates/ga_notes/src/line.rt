@@ -8,7 +8,7 @@ use std::marker::Model;
 
 /// The lines of a source. One that doesn't stand before the line that was asked for last is looked for from there on.
 #[derive(Drop)]
-pub(crate) struct Lines<'s> {
+pub struct Lines<'s> {
     source: &'s [u8],
     /// How many lines stand before the rest.
     before: u32,
@@ -27,7 +27,8 @@ impl<'s> Model for Lines<'s> {
 }
 
 impl<'s> Lines<'s> {
-    pub(crate) fn new(source: &'s [u8]) -> Self
+    /// Those of this source.
+    pub fn new(source: &'s [u8]) -> Self
         ensures { result ≡ source.now }
     {
         Lines {
@@ -38,7 +39,7 @@ impl<'s> Lines<'s> {
     }
 
     /// A line by its number from 1 on, without blanks around it; empty where there is none.
-    pub(crate) fn line(&mut self, number: u32) -> &'s [u8]
+    pub fn line(&mut self, number: u32) -> &'s [u8]
         ensures line { result.now ≡ line_in self.old number }
         ensures same { self.new ≡ self.old }
     {

@@ -1,6 +1,6 @@
 use Rattle.std.proofs.Common.{◌∙◌, sym}
 use Rattle.std.proofs.lemmas.Bool.{eqb-true}
-use Rattle.ga_notes.proofs.Lines.{none_left}
+use Rattle.ga_notes.proofs.LineLemmas.{none_left}
 use Rattle.ga_notes.proofs.line.behind_lines.Goals as goal
 
 pub returns-else-not-is_empty : goal.returns-else-not-is_empty

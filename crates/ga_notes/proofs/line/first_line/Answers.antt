@@ -2,7 +2,7 @@ use Rattle.std.proofs.Common.{arith, refl}
 use Rattle.std.proofs.lemmas.Bool.{eq-eqb}
 use Rattle.ga_source.specs.Saying.{is_feed}
 use Rattle.ga_source.proofs.Scanning.{at_end}
-use Rattle.ga_notes.proofs.Lines.{only_line, none_behind}
+use Rattle.ga_notes.proofs.LineLemmas.{only_line, none_behind}
 use Rattle.ga_notes.proofs.line.first_line.Goals as goal
 
 pub returns-then-byte-eq10-clause-line : goal.returns-then-byte-eq10-clause-line

@@ -1,4 +1,4 @@
-use Rattle.ga_notes.proofs.Lines.{line_found}
+use Rattle.ga_notes.proofs.LineLemmas.{line_found}
 use Rattle.ga_notes.proofs.line.Lines.line.Goals as goal
 
 pub returns-clause-line : goal.returns-clause-line
