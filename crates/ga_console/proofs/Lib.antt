@@ -30,3 +30,4 @@ pub mod PlainWords
 pub mod PlainCells
 pub mod FreeCells
 pub mod PlainNodes
+pub mod SourceReads

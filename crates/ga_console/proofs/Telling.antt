@@ -104,7 +104,7 @@ none_second (word ∷ words) more none = cc
 none_both : (first second : Text) → first ≡ [] → second ≡ [] → first ++ second ≡ []
 none_both first second one two = rw (one, two) refl
 
-line_first : (line : ℕ) (text rest : Text) → list_all is_inner text ≡ true → bytes_eq text (codes "end") ≡ false → said_from line (lines_of ((text ++ 10 ∷ []) ++ rest)) ≡ said_by line text ++ said_from (next_line line) (lines_of rest)
+pub line_first : (line : ℕ) (text rest : Text) → list_all is_inner text ≡ true → bytes_eq text (codes "end") ≡ false → said_from line (lines_of ((text ++ 10 ∷ []) ++ rest)) ≡ said_by line text ++ said_from (next_line line) (lines_of rest)
 unfolding said_from
 line_first line text rest inner other =
     ap (λ (t : Text). said_from line (lines_of t)) (append_assoc text (10 ∷ []) rest)

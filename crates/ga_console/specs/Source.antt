@@ -10,6 +10,7 @@ use Rattle.ga_image.specs.declared.fault.ImageFault.{ImageFault}
 use Rattle.ga_source.specs.declared.item.Program.{Program}
 use Rattle.ga_source.specs.Programs.{IsAssembled}
 use Rattle.ga_source.specs.Plain.{AreRead}
+use Rattle.ga_source.specs.Asks.{AreAsked}
 use Rattle.ga_source.specs.Made.{IsMade}
 use Rattle.ga_source.specs.Sound.{IsSound}
 use Rattle.ga_console.specs.Input.{block_size}
@@ -27,6 +28,7 @@ pub record IsAssembly (source text : Text) : Type 0 where
   pub chip : List NodeState
   pub programs : List Program
   pub read : AreRead source programs
+  pub asked : AreAsked source programs
   pub assembled : IsAssembled chip programs
   pub made : IsMade source chip
   pub told : text ≡ printed (records_of chip)

@@ -8,6 +8,7 @@ use Rattle.ga_image.specs.declared.fault.ImageFault.{ImageFault}
 use Rattle.ga_source.specs.declared.item.Program.{Program}
 use Rattle.ga_source.specs.Programs.{IsAssembled}
 use Rattle.ga_source.specs.Plain.{AreRead}
+use Rattle.ga_source.specs.Asks.{AreAsked}
 use Rattle.ga_source.specs.Made.{IsMade}
 use Rattle.ga_notes.specs.declared.notes.Notes.{Notes}
 use Rattle.ga_notes.specs.Source.{AreOfSource}
@@ -31,6 +32,7 @@ pub record OpensSource (source : Text) (limit : ℕ) (begun : Exploring) : Type 
   pub notes : Notes
   pub assembled : IsAssembled chip programs
   pub read : AreRead source programs
+  pub asked : AreAsked source programs
   pub made : IsMade source chip
   pub load : begun.lab ≡ first (records_of chip) limit
   pub noted : begun.notes ≡ Some notes

@@ -104,7 +104,7 @@ drop_twice (a ∷ []) count = drop_all count [] (omega arith) ∙ sym (drop_all 
 drop_twice (a ∷ b ∷ list) count = let same : suc (suc count) ≡ count + 2 = omega arith in ap (λ (k : ℕ). drop k (a ∷ b ∷ list)) same
 
 -- a node's name is no `node`
-name_is_other : (name : List ℕ) (n : ℕ) → yxx_in name ≡ Some n → is_node name ≡ false
+pub name_is_other : (name : List ℕ) (n : ℕ) → yxx_in name ≡ Some n → is_node name ≡ false
 name_is_other name n is = elim (cases_Bool (is_node name)) [
   | inl node ↦ absurd (no_number (ap yxx_in (sym (same_text name (codes "node") node)) ∙ is))
   | inr other ↦ other
@@ -145,7 +145,7 @@ one_more_read words behind body d first name count program programs after all tw
 
 -- ---- a source
 
-map_map : (tokens : List Token) → map (λ said. said.text) (all_said tokens) ≡ texts_of tokens
+pub map_map : (tokens : List Token) → map (λ said. said.text) (all_said tokens) ≡ texts_of tokens
 map_map [] = refl
 map_map (token ∷ tokens) = ap (λ (rest : List (List ℕ)). token.text.now ∷ rest) (map_map tokens)
 

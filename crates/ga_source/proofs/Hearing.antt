@@ -1,28 +1,23 @@
 -- Plain words, heard one by one.
-use Rattle.std.proofs.Common.{◌≡◌, ◌∙◌, ℕ, suc, ◌+◌, ◌<◌, length, drop, inl, inr, Bool, true, false, List, [], ◌∷◌, Option, Some, None, arith, ap, sym, refl, subst, slice_index_or, get_or}
+use Rattle.std.proofs.Common.{◌≡◌, ◌∙◌, ℕ, ◌<◌, inl, inr, Bool, true, false, List, [], ◌∷◌, Option, Some, None, arith, ap, sym, refl, subst, slice_index_or, get_or}
 use Rattle.std.specs.Prelude.{Result, Ok, Err, IfErr, codes, bytes_eq}
-use Rattle.std.proofs.Math.Seq.{drop-cons}
-use Rattle.std.proofs.lemmas.List.{get_or-drop}
 use Rattle.std.proofs.lemmas.Bool.{cond-true, cond-false, cases_Bool}
 use Rattle.std.proofs.lemmas.Slice.Eq.{bytes_eq-Decides}
 use Rattle.ga_source.specs.declared.number.Number.{Number as NumberIn}
 use Rattle.ga_source.specs.declared.number.Number.TheVariants.{Of, OutOfRange, Nothing as NoNumber}
-use Rattle.ga_source.specs.declared.item.Value.{Value}
 use Rattle.ga_source.specs.declared.item.Value.TheVariants.{Number}
 use Rattle.ga_source.specs.declared.item.Item.TheVariants.{Cell}
 use Rattle.ga_source.specs.declared.vocabulary.Directive.{Directive}
 use Rattle.ga_source.specs.declared.vocabulary.Directive.TheVariants.{Address as GoesOn, Register as Gives}
-use Rattle.ga_source.specs.declared.vocabulary.Register.{Register as RegisterName}
 use Rattle.ga_source.specs.declared.vocabulary.Register.TheVariants.{P, A, B}
 use Rattle.ga_source.specs.declared.item.Request.TheVariants.{Put, Go}
-use Rattle.ga_source.specs.declared.draft.Draft.{Draft}
 use Rattle.ga_source.specs.declared.draft.Expect.{Expect}
 use Rattle.ga_source.specs.declared.draft.Expect.TheVariants.{Word, Address, Name, Register, Nothing}
 use Rattle.ga_source.specs.Reading.{carried}
 use Rattle.ga_source.specs.Numbers.{◌>>=◌, by_name, set_in, number_in}
-use Rattle.ga_source.specs.Plain.{Plain, no_request, plain_of, asked_by, with_words, with_request, by_number, only_if, is_cell, plain_from}
-use Rattle.ga_source.specs.kept.Vocabulary.{directives}
-use Rattle.ga_source.specs.kept.Hearing.{Heard, HasHeard, IsHearing, nothing_heard, end_of, asking, with_register, may_give, next_of, hear_word, hear, hear_all}
+use Rattle.ga_source.specs.Plain.{Plain, with_words, with_request, by_number, only_if, is_cell, plain_from}
+use Rattle.ga_source.specs.Vocabulary.{directives}
+use Rattle.ga_source.specs.kept.Hearing.{Heard, end_of, may_give, next_of, hear, hear_all}
 
 abbrev is_some : {X : Type 0} → Option X → Type 0
 is_some (Some _) = Unit {0}
@@ -58,7 +53,7 @@ abbrev number_or_0 : NumberIn → ℕ
 number_or_0 (Of n) = n
 number_or_0 _ = 0
 
-of_same : (n m : ℕ) → Of n ≡ Of m → n ≡ m
+pub of_same : (n m : ℕ) → Of n ≡ Of m → n ≡ m
 of_same n m e = ap number_or_0 e
 
 no_number : {n : ℕ} → NoNumber ≡ Of n → ⊥
@@ -86,7 +81,7 @@ pub not_carried : (n : ℕ) (is_set : Bool) → is_set ≡ false → n < 512 →
 not_carried n is_set e small = ap (λ (b : Bool). carried b n) e ∙ omega arith
 
 -- where a number asks for something, there is one
-record IsNumbered {X : Type 0} (number : NumberIn) (asks : ℕ → Option X) (x : X) : Type 0 where
+pub record IsNumbered {X : Type 0} (number : NumberIn) (asks : ℕ → Option X) (x : X) : Type 0 where
   pub n : ℕ
   pub is : number ≡ Of n
   pub gives : asks n ≡ Some x
@@ -94,7 +89,7 @@ record IsNumbered {X : Type 0} (number : NumberIn) (asks : ℕ → Option X) (x 
 pub some_same : {X : Type 0} (x y : X) → Some x ≡ Some y → x ≡ y
 some_same x y e = ap (λ o. option_or_default x o) e
 
-numbered : {X : Type 0} (number : NumberIn) (asks : ℕ → Option X) (x : X) → by_number number asks ≡ Some x → IsNumbered number asks x
+pub numbered : {X : Type 0} (number : NumberIn) (asks : ℕ → Option X) (x : X) → by_number number asks ≡ Some x → IsNumbered number asks x
 numbered (Of n) asks x e = record { n = n; is = refl; gives = e }
 numbered OutOfRange asks x e = absurd (no_some e)
 numbered NoNumber asks x e = absurd (no_some e)
@@ -103,66 +98,6 @@ numbered NoNumber asks x e = absurd (no_some e)
 pub allowed : {X : Type 0} (b : Bool) (x y : X) → only_if b x ≡ Some y → (b ≡ true) × (x ≡ y)
 allowed true x y e = (refl, some_same x y e)
 allowed false x y e = absurd (no_some e)
-
--- ---- what is heard
-
--- behind a directive
-behind_directive : (Goal : Heard → Type 0) (heard after : Heard) (o : Option Expect) → ((e : Expect) → o ≡ Some e → Goal (record heard { expect = e })) → (o >>= (λ e. Some (record { expect = e; plain = heard.plain }))) ≡ Some after → Goal after
-behind_directive Goal heard after None goes is = absurd (no_some is)
-behind_directive Goal heard after (Some e) goes is = subst Goal (some_same _ after is) (goes e refl)
-
-module _ (draft last : Draft) (heard : Heard) where
-  -- the next word is another
-  heard_next : (e : Expect) → HasHeard draft heard → HasHeard (record draft { expect = e }) (record heard { expect = e })
-  heard_next e has = record { expect = refl; plain = has.plain; names = has.names; opened = has.opened; carries = has.carries }
-
-  -- a cell
-  pub heard_cell : (now : Draft) (value : Value) (n : ℕ) → now ≡ draft → value ≡ Number n → HasHeard draft heard → ((other : Heard) → HasHeard (record now { expect = Nothing }) other → HasHeard last (asking other (Put (Cell value)))) → HasHeard last (record (asking heard (Put (Cell (Number n)))) { expect = Nothing })
-  heard_cell now value n stays is has ask =
-      subst (λ v. HasHeard last (record (asking heard (Put (Cell v))) { expect = Nothing })) is
-      (ask (record heard { expect = Nothing })
-      (subst (λ d. HasHeard (record d { expect = Nothing }) (record heard { expect = Nothing })) (sym stays) (heard_next Nothing has)))
-
--- what is to hold of what is heard then, in the end
-module _ (Goal : Heard → Type 0) (heard : Heard) where
-  -- a word that `,` follows
-  pub heard_word_cell : (text next : List ℕ) (after : Heard) → bytes_eq next (codes ",") ≡ true → hear_word heard.plain text next ≡ Some after → ((n : ℕ) → number_in text ≡ Of n → Goal (record (asking heard (Put (Cell (Number n)))) { expect = Nothing })) → Goal after
-  heard_word_cell text next after comma is cell =
-      let number = numbered (number_in text) (λ n. Some (record { expect = Nothing; plain = with_request heard.plain (Put (Cell (Number n))) })) after
-      (sym (cond-true (bytes_eq next (codes ",")) _ _ comma) ∙ is) in
-      subst Goal (some_same _ after number.gives) (cell number.n number.is)
-
-  -- a directive
-  pub heard_word_directive : (text next : List ℕ) (after : Heard) (d : Directive) → bytes_eq next (codes ",") ≡ false → Some d ≡ by_name directives text → hear_word heard.plain text next ≡ Some after → ((e : Expect) → next_of d ≡ Some e → Goal (record heard { expect = e })) → Goal after
-  heard_word_directive text next after d no_comma named is goes =
-      behind_directive Goal heard after (next_of d) goes
-      (ap (λ (o : Option Directive). (o >>= next_of) >>= (λ e. Some (record { expect = e; plain = heard.plain }))) named ∙ (sym (cond-false (bytes_eq next (codes ",")) _ _ no_comma) ∙ is))
-
--- ---- one word
-
--- what is expected is known
-module _ (draft : Draft) (Goal : Heard → Type 0) (heard after : Heard) (word next text : List ℕ) (same : text ≡ word) (has : HasHeard draft heard) (is : hear heard word next ≡ Some after) where
-  hears : (e : Expect) → draft.expect ≡ e → hear (record heard { expect = e }) text next ≡ Some after
-  hears e expect = subst (λ (t : List ℕ). hear (record heard { expect = e }) t next ≡ Some after) (sym same)
-      (subst (λ (o : Expect). hear (record heard { expect = o }) word next ≡ Some after) (sym has.expect ∙ expect) is)
-
-  now : HasHeard (record draft { expect = Word }) (record heard { expect = Word })
-  now = heard_next draft draft heard Word has
-
-  pub take_word : draft.expect ≡ Word → ((h a : Heard) → HasHeard (record draft { expect = Word }) h → hear_word h.plain text next ≡ Some a → Goal a) → Goal after
-  take_word expect go = go (record heard { expect = Word }) after now (hears Word expect)
-
-  pub take_address : draft.expect ≡ Address → ((h : Heard) (n : ℕ) → HasHeard (record draft { expect = Word }) h → number_in text ≡ Of n → is_cell n ≡ true → Goal (asking h (Go n))) → Goal after
-  take_address expect go =
-      let number = numbered (number_in text) (λ n. only_if (is_cell n) (record { expect = Word; plain = with_request heard.plain (Go n) })) after (hears Address expect) in
-      let is = allowed (is_cell number.n) _ after number.gives in
-      subst Goal is.1 (go (record heard { expect = Word }) number.n now number.is is.0)
-
-  pub take_register : (register : RegisterName) → draft.expect ≡ Register register → ((h : Heard) (n : ℕ) → HasHeard (record draft { expect = Word }) h → number_in text ≡ Of n → may_give h.plain register n ≡ true → Goal (record h { plain = with_register h.plain register n })) → Goal after
-  take_register register expect go =
-      let number = numbered (number_in text) (λ n. only_if (may_give heard.plain register n) (record { expect = Word; plain = with_register heard.plain register n })) after (hears (Register register) expect) in
-      let is = allowed (may_give heard.plain register number.n) _ after number.gives in
-      subst Goal is.1 (go (record heard { expect = Word }) number.n now number.is is.0)
 
 -- ---- plain words are heard as they are read in pairs
 
@@ -222,35 +157,6 @@ hear_plain [] plain all is = is
 hear_plain (word ∷ []) plain all is = absurd (no_some is)
 hear_plain (first ∷ second ∷ words) plain all is = pair plain all first second words (λ more. hear_plain words more all) is
 
--- ---- the words of a node
-
--- one word more is heard
-step_heard : (Goal : Type 0) (left : List (List ℕ)) (all : Plain) (o : Option Heard) → ((after : Heard) → o ≡ Some after → hear_all after left ≡ Some all → Goal) → (o >>= (λ now. hear_all now left)) ≡ Some all → Goal
-step_heard Goal left all None go is = absurd (no_some is)
-step_heard Goal left all (Some after) go is = go after refl is
-
-pub hearing_step : (Goal : Type 0) (texts : List (List ℕ)) (i : ℕ) (draft : Draft) (all : Plain) (word next : List ℕ) → i < length texts → word ≡ get_or texts i [] → next ≡ get_or texts (i + 1) [] → ((heard after : Heard) → HasHeard draft heard → hear heard word next ≡ Some after → hear_all after (drop (i + 1) texts) ≡ Some all → Goal) → IsHearing draft (drop i texts) all → Goal
-unfolding hear_all
-hearing_step Goal texts i draft all word next within is_word is_next take hearing =
-    let heard = hearing.heard in
-    let left = drop (i + 1) texts in
-    let one : suc i ≡ i + 1 = omega arith in
-    let none : i + 1 + 0 ≡ i + 1 = omega arith in
-    let front : drop i texts ≡ get_or texts i [] ∷ left = drop-cons texts i [] within ∙ ap (λ (k : ℕ). get_or texts i [] ∷ drop k texts) one in
-    let goes : hear_all heard (get_or texts i [] ∷ left) ≡ Some all = ap (hear_all heard) (sym front) ∙ hearing.goes_on in
-    let first : get_or left 0 [] ≡ next = get_or-drop (i + 1) texts 0 [] ∙ (ap (λ (k : ℕ). get_or texts k []) none ∙ sym is_next) in
-    step_heard Goal left all (hear heard word next) (λ after is more. take heard after hearing.has is more)
-    (ap (λ (t : List ℕ). hear heard t next >>= (λ now. hear_all now left)) is_word ∙ (ap (λ (t : List ℕ). hear heard (get_or texts i []) t >>= (λ now. hear_all now left)) (sym first) ∙ goes))
-
-pub hearing_more : (texts : List (List ℕ)) (i : ℕ) (draft last : Draft) (all : Plain) (word next : List ℕ) → i < length texts → word ≡ get_or texts i [] → next ≡ get_or texts (i + 1) [] → ((heard after : Heard) → HasHeard draft heard → hear heard word next ≡ Some after → HasHeard last after) → IsHearing draft (drop i texts) all → IsHearing last (drop (i + 1) texts) all
-hearing_more texts i draft last all word next within is_word is_next take hearing =
-    hearing_step (IsHearing last (drop (i + 1) texts) all) texts i draft all word next within is_word is_next
-    (λ heard after has is more. record { heard = after; has = take heard after has is; goes_on = more }) hearing
-
--- before the first word
-pub hearing_first : (texts : List (List ℕ)) (draft : Draft) (all : Plain) → HasHeard draft nothing_heard → plain_of texts ≡ Some all → IsHearing draft texts all
-hearing_first texts draft all has is = record { heard = nothing_heard; has = has; goes_on = hear_plain texts no_request all is }
-
 -- behind the last
 ended : (e : Expect) (plain all : Plain) → end_of (record { expect = e; plain = plain }) ≡ Some all → plain ≡ all
 ended Word plain all is = some_same plain all is
@@ -259,16 +165,5 @@ ended Name plain all is = absurd (no_some is)
 ended (Register register) plain all is = absurd (no_some is)
 ended Nothing plain all is = some_same plain all is
 
-end_heard : (heard : Heard) (all : Plain) → end_of heard ≡ Some all → heard.plain ≡ all
+pub end_heard : (heard : Heard) (all : Plain) → end_of heard ≡ Some all → heard.plain ≡ all
 end_heard heard all is = ended heard.expect heard.plain all is
-
-pub hearing_last : (left : List (List ℕ)) (draft : Draft) (all : Plain) → left ≡ [] → IsHearing draft left all → asked_by draft.asked.items draft.registers ≡ all
-unfolding hear_all
-hearing_last left draft all none hearing =
-    hearing.has.plain ∙ end_heard hearing.heard all (ap (hear_all hearing.heard) (sym none) ∙ hearing.goes_on)
-
--- what is heard has an end
-pub hearing_ends : (left : List (List ℕ)) (draft : Draft) (all : Plain) → left ≡ [] → ((heard : Heard) → HasHeard draft heard → end_of heard ≡ None) → IsHearing draft left all → ⊥
-unfolding hear_all
-hearing_ends left draft all none ends hearing =
-    no_some (sym (ends hearing.heard hearing.has) ∙ (ap (hear_all hearing.heard) (sym none) ∙ hearing.goes_on))

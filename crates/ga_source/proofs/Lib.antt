@@ -12,6 +12,11 @@ pub mod Scanning
 pub mod Numbers
 pub mod Ranges
 pub mod Hearing
+pub mod Naming
+pub mod Asking
+pub mod PlainAsked
+pub mod AskedBodies
+pub mod Labelling
 pub mod Bodies
 pub mod CellGroups
 pub mod Refusing

@@ -1,10 +1,12 @@
+pub mod Answering
+pub mod Drafting
 pub mod Hearing
 pub mod Layout
 pub mod Loading
+pub mod Names
 pub mod Packing
 pub mod Places
 pub mod Programs
 pub mod Refusing
 pub mod Telling
-pub mod Vocabulary
 pub mod Words

@@ -1,12 +1,12 @@
 //! The words of one node as requests.
 
-ghost use Rattle.std.specs.Prelude.{◌≡◌, ◌≢◌, codes, Some, [], slice_index_or, IfOk, IfErr};
-ghost use Rattle.std.specs.List.{All};
-ghost use Rattle.ga_source.specs.declared.fault.Cause.TheVariants.{Memory};
-ghost use Rattle.ga_source.specs.declared.scan.Kind.TheVariants.{Word};
+ghost use Rattle.std.specs.Prelude.{◌≡◌, codes, [], bytes_eq, if◌then◌else◌, slice_index_or};
 ghost use Rattle.ga_slots.specs.declared.op.Op.TheVariants.{Jump, Call};
-ghost use Rattle.ga_source.specs.Plain.{Plain, plain_of, asked_by};
+ghost use Rattle.ga_source.specs.Asking.{asked_of, is_waiting as is_waiting_for};
+ghost use Rattle.ga_source.specs.kept.Answering.{Answers};
+ghost use Rattle.ga_source.specs.kept.Drafting.{asking_of};
 ghost use Rattle.ga_source.specs.kept.Hearing.{texts_of};
+ghost use Rattle.ga_source.specs.kept.Telling.{all_said};
 
 use super::controls::Open;
 use super::fault::{Cause, Fault, at};
@@ -46,21 +46,15 @@ pub(crate) struct Draft<'s> {
 }
 
 impl<'s> Draft<'s> {
-    ghost use Rattle.std.specs.Prelude.{◌≡◌, ℕ, Some, None, true, OnOk, OnErr, IfOk, IfErr};
-    ghost use Rattle.ga_source.specs.declared.fault.Cause.TheVariants.{Memory};
-    ghost use Rattle.ga_source.specs.declared.number.Number.TheVariants.{Of};
-    ghost use Rattle.ga_source.specs.declared.item.Value.TheVariants.{Number as NumberOf};
-    ghost use Rattle.ga_source.specs.declared.item.Item.TheVariants.{Cell};
-    ghost use Rattle.ga_source.specs.declared.item.Request.TheVariants.{Put, Go};
-    ghost use Rattle.ga_source.specs.declared.draft.Expect.{Expect as ExpectOf};
-    ghost use Rattle.ga_source.specs.declared.draft.Expect.TheVariants.{Nothing};
-    ghost use Rattle.ga_source.specs.declared.scan.Kind.TheVariants.{Word as WordKind};
-    ghost use Rattle.ga_source.specs.Numbers.{number_in};
-    ghost use Rattle.ga_source.specs.Plain.{is_cell};
-    ghost use Rattle.ga_source.specs.kept.Hearing.{Heard, HasHeard, nothing_heard, asking, with_register, may_give, next_of, hear_word, hear, end_of};
+    ghost use Rattle.std.specs.Prelude.{◌≡◌, Ok};
+    ghost use Rattle.ga_source.specs.Asking.{◌▷◌, nothing_asked, asking, jump as jump_row, mark as mark_row, value_said, name_asks, register_asks, address_asks, directive as directive_row, cell as cell_row, call as call_row, word_asks, hear, give, naming, number_of as number_of_label, finished};
+    ghost use Rattle.ga_source.specs.declared.item.Value.TheVariants.{Label as LabelOf};
+    ghost use Rattle.ga_source.specs.kept.Answering.{Answers};
+    ghost use Rattle.ga_source.specs.kept.Drafting.{asking_of};
+    ghost use Rattle.ga_source.specs.kept.Telling.{said_of};
 
     fn new(alloc: Global) -> Self
-        ensures { HasHeard result nothing_heard }
+        ensures { asking_of result ≡ nothing_asked }
     {
         Draft {
             asked: Vec::new(alloc),
@@ -77,15 +71,16 @@ impl<'s> Draft<'s> {
     }
 
     pub(crate) fn ask(&mut self, line: u32, request: Request) -> Result<(), Fault<'s>>
-        ensures asked { OnOk result ((heard : Heard) → HasHeard self.old heard → HasHeard self.new (asking heard request)) }
-        ensures refused { IfErr result (λ fault. fault.cause ≡ Memory) }
+        ensures { Answers result (Ok (asking (asking_of self.old) line request)) (λ _. asking_of self.new) }
     {
         self.asked.push(Asked { line, request })?;
         Ok(())
     }
 
     /// Asks for an opcode with the address of a label.
-    pub(crate) fn jump(&mut self, line: u32, op: Op, label: usize) -> Result<(), Fault<'s>> {
+    pub(crate) fn jump(&mut self, line: u32, op: Op, label: usize) -> Result<(), Fault<'s>>
+        ensures { Answers result (Ok (jump_row (asking_of self.old) line op label)) (λ _. asking_of self.new) }
+    {
         let item = if self.labels.is_marked(label) {
             Item::Back(op, label)
         } else {
@@ -95,18 +90,20 @@ impl<'s> Draft<'s> {
     }
 
     /// The label stands here.
-    pub(crate) fn mark(&mut self, line: u32, label: usize) -> Result<(), Fault<'s>> {
-        if !self.labels.mark(label) {
+    pub(crate) fn mark(&mut self, line: u32, label: usize) -> Result<(), Fault<'s>>
+        ensures { Answers result (mark_row (asking_of self.old) line label) (λ _. asking_of self.new) }
+    {
+        if self.labels.is_marked(label) {
             return Err(at(line, Cause::LabelTwice));
         }
+        self.labels.mark(label);
         self.ask(line, Request::Mark(label))
     }
 
     /// A number, a port, or the address of a label behind an apostrophe.
+    #[tactic(auto, unfolding(crate::specs::Asking::value_said))]
     fn value(&mut self, line: u32, text: &'s [u8]) -> Result<Option<Value>, Fault<'s>>
-        ensures found { IfOk result (λ found. (n : ℕ) → number_in text.now ≡ Of n → found ≡ Some (NumberOf n)) }
-        ensures stays { (n : ℕ) → number_in text.now ≡ Of n → self.new ≡ self.old }
-        ensures refused { IfErr result (λ fault. (n : ℕ) → number_in text.now ≡ Of n → fault.cause ≡ Memory) }
+        ensures { Answers result (value_said (asking_of self.old) line text.now) (λ found. (found, asking_of self.new)) }
     {
         if let [b'\'', name @ ..] = text {
             if name.is_empty() {
@@ -122,7 +119,10 @@ impl<'s> Draft<'s> {
         }
     }
 
-    fn name(&mut self, line: u32, name: &'s [u8]) -> Result<(), Fault<'s>> {
+    #[tactic(auto, unfolding(crate::specs::Asking::name_asks))]
+    fn name(&mut self, line: u32, name: &'s [u8]) -> Result<(), Fault<'s>>
+        ensures { Answers result (name_asks (asking_of self.old) line name.now) (λ _. asking_of self.new) }
+    {
         if is_taken(name) {
             return Err(at(line, Cause::Taken));
         }
@@ -131,11 +131,9 @@ impl<'s> Draft<'s> {
     }
 
     /// A number, a port or a label, as a register's value at load.
+    #[tactic(auto, unfolding(crate::specs::Asking::register_asks))]
     fn register(&mut self, line: u32, register: Register, text: &'s [u8]) -> Result<(), Fault<'s>>
-        ensures given { OnOk result ((heard : Heard) (n : ℕ) → HasHeard self.old heard → number_in text.now ≡ Of n →
-            HasHeard self.new (record heard { plain = with_register heard.plain register n })) }
-        ensures refused { IfErr result (λ fault. (heard : Heard) (n : ℕ) → HasHeard self.old heard → number_in text.now ≡ Of n →
-            may_give heard.plain register n ≡ true → fault.cause ≡ Memory) }
+        ensures { Answers result (register_asks (asking_of self.old) line register text.now) (λ _. asking_of self.new) }
     {
         let value = match number_of(text) {
             Number::Of(number) => {
@@ -165,9 +163,7 @@ impl<'s> Draft<'s> {
     }
 
     fn directive(&mut self, line: u32, directive: Directive) -> Result<(), Fault<'s>>
-        ensures next { OnOk result ((heard : Heard) (e : ExpectOf) → HasHeard self.old heard → next_of directive ≡ Some e →
-            HasHeard self.new (record heard { expect = e })) }
-        ensures refused { IfErr result (λ fault. fault.cause ≡ Memory) }
+        ensures { Answers result (Ok (directive_row (asking_of self.old) line directive)) (λ _. asking_of self.new) }
     {
         match directive {
             Directive::Label => self.expect = Expect::Name,
@@ -182,10 +178,9 @@ impl<'s> Draft<'s> {
         Ok(())
     }
 
+    #[tactic(auto, unfolding(crate::specs::Asking::address_asks))]
     fn address(&mut self, line: u32, text: &[u8]) -> Result<(), Fault<'s>>
-        ensures asked { OnOk result ((heard : Heard) (n : ℕ) → HasHeard self.old heard → number_in text.now ≡ Of n →
-            HasHeard self.new (asking heard (Go n))) }
-        ensures refused { IfErr result (λ fault. (n : ℕ) → number_in text.now ≡ Of n → is_cell n ≡ true → fault.cause ≡ Memory) }
+        ensures { Answers result (address_asks (asking_of self.old) line text.now) (λ _. asking_of self.new) }
     {
         match number_of(text) {
             Number::Of(found) => {
@@ -202,9 +197,7 @@ impl<'s> Draft<'s> {
 
     /// A cell with a value.
     fn cell(&mut self, line: u32, text: &'s [u8]) -> Result<(), Fault<'s>>
-        ensures asked { OnOk result ((heard : Heard) (n : ℕ) → HasHeard self.old heard → number_in text.now ≡ Of n →
-            HasHeard self.new (record (asking heard (Put (Cell (NumberOf n)))) { expect = Nothing })) }
-        ensures refused { IfErr result (λ fault. (n : ℕ) → number_in text.now ≡ Of n → fault.cause ≡ Memory) }
+        ensures { Answers result (value_said (asking_of self.old) line text.now ▷ (λ said. cell_row said.1 line said.0)) (λ _. asking_of self.new) }
     {
         let Some(value) = self.value(line, text)? else {
             return Err(at(line, Cause::Missing));
@@ -214,7 +207,10 @@ impl<'s> Draft<'s> {
     }
 
     /// A call of a label, or a jump there where `;` is next.
-    fn call(&mut self, line: u32, name: &'s [u8], next: &[u8]) -> Result<(), Fault<'s>> {
+    #[tactic(auto, unfolding(crate::specs::Asking::call))]
+    fn call(&mut self, line: u32, name: &'s [u8], next: &[u8]) -> Result<(), Fault<'s>>
+        ensures { Answers result (call_row (asking_of self.old) line name.now next.now) (λ _. asking_of self.new) }
+    {
         if is_taken(name) {
             return Err(at(line, Cause::Unknown(name)));
         }
@@ -227,11 +223,9 @@ impl<'s> Draft<'s> {
     }
 
     /// A word that stands for itself. The next word decides whether it is a cell, and whether a call is a jump.
+    #[tactic(auto, unfolding(crate::specs::Asking::word_asks))]
     fn word(&mut self, line: u32, text: &'s [u8], next: &[u8]) -> Result<(), Fault<'s>>
-        ensures hears { OnOk result ((heard after : Heard) → HasHeard self.old heard → hear_word heard.plain text.now next.now ≡ Some after →
-            HasHeard self.new after) }
-        ensures refused { IfErr result (λ fault. (heard after : Heard) → HasHeard self.old heard → hear_word heard.plain text.now next.now ≡ Some after →
-            fault.cause ≡ Memory) }
+        ensures { Answers result (word_asks (asking_of self.old) line text.now next.now) (λ _. asking_of self.new) }
     {
         if next == b",".as_slice() {
             return self.cell(line, text);
@@ -252,10 +246,7 @@ impl<'s> Draft<'s> {
     }
 
     fn take(&mut self, token: Token<'s>, next: &[u8]) -> Result<(), Fault<'s>>
-        ensures hears { OnOk result ((heard after : Heard) → HasHeard self.old heard → hear heard token.entry.text.now next.now ≡ Some after →
-            HasHeard self.new after) }
-        ensures refused { IfErr result (λ fault. (heard after : Heard) → token.entry.kind ≡ WordKind → HasHeard self.old heard →
-            hear heard token.entry.text.now next.now ≡ Some after → fault.cause ≡ Memory) }
+        ensures { Answers result (hear (asking_of self.old) (said_of token.entry) next.now) (λ _. asking_of self.new) }
     {
         let text = token.word()?;
         let expect = self.expect;
@@ -270,12 +261,12 @@ impl<'s> Draft<'s> {
     }
 
     /// What is missing or still open behind the last word, and a name that is no label's.
+    #[tactic(auto, unfolding(crate::specs::Asking::all_closed))]
     fn finish(&self, line: u32) -> Result<(), Fault<'s>>
-        ensures { OnErr result ((heard : Heard) → HasHeard self.now heard → end_of heard ≡ None) }
+        ensures { Answers result (finished (asking_of self.now) line) (λ _. asking_of self.now) }
     {
-        match self.expect {
-            Expect::Word | Expect::Nothing => {}
-            _ => return Err(at(line, Cause::Missing)),
+        if is_waiting(self.expect) {
+            return Err(at(line, Cause::Missing));
         }
         if let Some(open) = self.open.first() {
             return Err(at(open.line(), Cause::Open));
@@ -284,10 +275,19 @@ impl<'s> Draft<'s> {
     }
 }
 
+/// Whether a word is missing.
+fn is_waiting(expect: Expect) -> bool
+    ensures { result ≡ is_waiting_for expect }
+{
+    match expect {
+        Expect::Word | Expect::Nothing => false,
+        _ => true,
+    }
+}
+
 /// The opcode of a label's name: a call, or a jump where `;` is the next word.
 fn calling_op(next: &[u8]) -> Op
-    ensures tail { next.now ≡ codes ";" → result ≡ Jump }
-    ensures call { next.now ≢ codes ";" → result ≡ Call }
+    ensures { result ≡ (if bytes_eq next.now (codes ";") then Jump else Call) }
 {
     if next == b";".as_slice() {
         Op::Jump
@@ -312,9 +312,7 @@ pub(crate) fn read_node<'s>(
     line: u32,
     tokens: &[Token<'s>],
 ) -> Result<Draft<'s>, Fault<'s>>
-    ensures asks { IfOk result (λ draft. (plain : Plain) → plain_of (texts_of tokens.now) ≡ Some plain → asked_by draft.asked.items draft.registers ≡ plain) }
-    ensures names { IfOk result (λ draft. (plain : Plain) → plain_of (texts_of tokens.now) ≡ Some plain → draft.labels.list.items ≡ []) }
-    ensures refused { IfErr result (λ fault. (plain : Plain) → All (λ token. token.kind ≡ Word) tokens.now → plain_of (texts_of tokens.now) ≡ Some plain → fault.cause ≡ Memory) }
+    ensures { Answers result (asked_of line (all_said tokens.now)) asking_of }
 {
     let mut draft = Draft::new(alloc);
     let mut last = line;

@@ -8,6 +8,9 @@ ghost use Rattle.ga_source.specs.Programs.{given_of, with_registers, has_cells a
 ghost use Rattle.ga_source.specs.Cells.{IsEmptyElsewhere};
 ghost use Rattle.ga_grid.specs.Grid.{number_in};
 ghost use Rattle.ga_source.specs.Plain.{Plain, is_node as is_node_word, body_in, bodies_in, yxx_in, plain_of, value_in, asked_by, AreRead};
+ghost use Rattle.ga_source.specs.Asks.{said_body, said_bodies, AsksFor, AreAsked};
+ghost use Rattle.ga_source.specs.kept.Telling.{all_said};
+ghost use Rattle.ga_source.specs.Saying.{Said};
 ghost use Rattle.ga_source.specs.Made.{IsMade};
 ghost use Rattle.ga_source.specs.declared.fault.Cause.TheVariants.{Memory};
 ghost use Rattle.ga_source.specs.declared.scan.Kind.TheVariants.{Word};
@@ -15,9 +18,9 @@ ghost use Rattle.ga_source.specs.Sound.{AreFree, cells_from, IsSound};
 ghost use Rattle.ga_source.specs.kept.Refusing.{IsSoundFrom};
 ghost use Rattle.ga_source.specs.kept.Packing.{IsNumber, AreNumbers};
 ghost use Rattle.ga_source.specs.kept.Hearing.{texts_of};
-ghost use Rattle.ga_source.specs.kept.Programs.{AreLoaded, AreOfFirst};
+ghost use Rattle.ga_source.specs.kept.Programs.{AreLoaded, AreOfFirst, AreAskedFirst};
 
-use super::draft::read_node;
+use super::draft::{Draft, read_node};
 use super::fault::{Cause, Fault, at};
 use super::item::{Asked, Given, Program, Registers, Request, Value};
 use super::labels::Label;
@@ -60,6 +63,8 @@ fn body_length(tokens: &[Token]) -> usize
     ensures front { texts_of (take result tokens.now) ≡ body_in (texts_of tokens.now) }
     ensures behind { bodies_in (texts_of (drop result tokens.now)) ≡ bodies_in (texts_of tokens.now) }
     ensures next { body_in (texts_of (drop result tokens.now)) ≡ [] }
+    ensures said { all_said (take result tokens.now) ≡ said_body (all_said tokens.now) }
+    ensures said_behind { said_bodies (all_said (drop result tokens.now)) ≡ said_bodies (all_said tokens.now) }
 {
     for (i, token) in tokens.iter().enumerate() {
         if is_node(token.text) {
@@ -181,26 +186,28 @@ fn assemble_node<'s>(
 ) -> Result<Program<'s>, Fault<'s>>
     ensures node { IfOk result (λ program. program.node ≡ id) }
     ensures loaded { IfOk result (λ program. HasProgram node.old node.new program) }
+    ensures asked { IfOk result (AsksFor line (all_said tokens.now)) }
     ensures asks { IfOk result (λ program. (plain : Plain) → plain_of (texts_of tokens.now) ≡ Some plain → asked_by program.asked.items program.registers ≡ plain) }
     ensures names { IfOk result (λ program. (plain : Plain) → plain_of (texts_of tokens.now) ≡ Some plain → program.names.items ≡ []) }
     ensures refused { IfErr result (λ fault. (plain : Plain) → All (λ token. token.kind ≡ Word) tokens.now → plain_of (texts_of tokens.now) ≡ Some plain →
         AreFree (cells_from 0 plain.requests) → fault.cause ≡ Memory) }
 {
-    let found = read_node(alloc, line, tokens)?;
-    let packed = pack(alloc, found.asked.as_slice(), found.labels.list.len())?;
-    let given = found.registers;
-    let registers = registers_of(
-        given,
-        found.labels.list.as_slice(),
-        has_cells(found.asked.as_slice()),
-    );
+    let Draft {
+        asked,
+        labels,
+        registers: given,
+        ..
+    } = read_node(alloc, line, tokens)?;
+    let names = labels.into_list();
+    let packed = pack(alloc, asked.as_slice(), names.len())?;
+    let registers = registers_of(given, names.as_slice(), has_cells(asked.as_slice()));
     set_registers(node, packed.labels.as_slice(), registers)?;
-    load(node, &packed, found.asked.as_slice())?;
+    load(node, &packed, asked.as_slice())?;
     Ok(Program {
         node: id,
-        asked: found.asked,
+        asked,
         labels: packed.labels,
-        names: found.labels.list,
+        names,
         registers: given,
         groups: packed.groups,
     })
@@ -229,6 +236,8 @@ fn assemble_first<'s>(
     ensures loaded { OnOk result (AreLoaded chip.new begun.new programs.new.items) }
     ensures read { (all : List (List (List ℕ))) → AreOfFirst all programs.old.items (bodies_in (texts_of words.now)) →
         IfOk result (λ count. AreOfFirst all programs.new.items (bodies_in (texts_of (drop count words.now)))) }
+    ensures asked { (all : List (List Said)) → AreAskedFirst all programs.old.items (said_bodies (all_said words.now)) →
+        IfOk result (λ count. AreAskedFirst all programs.new.items (said_bodies (all_said (drop count words.now)))) }
     ensures sound { IfOk result (λ count. IsSoundFrom begun.old words.now → IsSoundFrom begun.new (drop count words.now)) }
     ensures refused { IfErr result (λ fault. IsSoundFrom begun.old words.now → fault.cause ≡ Memory) }
 {
@@ -263,7 +272,11 @@ pub fn assemble(alloc: Global, source: &[u8]) -> Result<Assembled<'_>, Fault<'_>
     // Each node that is named has its program and its registers, and all else of the chip is as at load.
     ensures programs { IfOk result (λ all. IsAssembled all.chip all.programs.items) }
 
-    // Each program is that of the words behind a `node`, in order, and asks for what these ask for where they are plain.
+    // Each program is that of the words behind a `node`, in order, and asks for just what these ask for: the requests with their lines,
+    // the labels and the registers.
+    ensures asked { IfOk result (λ all. AreAsked source.now all.programs.items) }
+
+    // So it asks for what they ask for as plain words, where they are.
     ensures read { IfOk result (λ all. AreRead source.now all.programs.items) }
 
     // So the words behind a `node` make its node, where they are plain, and a node that isn't named is as at load.

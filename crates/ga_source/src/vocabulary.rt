@@ -1,9 +1,8 @@
 //! The words that stand for themselves.
 
-ghost use Rattle.std.specs.Prelude.{◌≡◌, ◌+◌};
-ghost use Rattle.ga_node.specs.Places.{greatest_of};
+ghost use Rattle.std.specs.Prelude.{◌≡◌, ◌||◌, is_some, codes, bytes_eq};
 ghost use Rattle.ga_source.specs.Numbers.{by_name};
-ghost use Rattle.ga_source.specs.kept.Vocabulary.{closings, controls, directives, place_of};
+ghost use Rattle.ga_source.specs.Vocabulary.{closings, other_names, own_names, without_address, opcode_in, control_in, directive_in, bound_of, is_number as is_number_in, is_sign as is_sign_word, is_taken as is_taken_word};
 
 use super::number::{Number, number_of};
 use ga_slots::Op;
@@ -26,45 +25,98 @@ pub(crate) enum Control {
     Then,
 }
 
-/// The opcode of a name, where the word is an opcode without an address.
-pub(crate) fn opcode_named(text: &[u8]) -> Option<Op> {
-    if text == b"-".as_slice() || text == b"inv".as_slice() {
-        return Some(Op::Invert);
+/// The opcode of a name that it has beside its own.
+fn other_name(text: &[u8]) -> Option<Op>
+    ensures { result ≡ by_name other_names text.now }
+{
+    if text == b"-".as_slice() {
+        Some(Op::Invert)
+    } else if text == b"inv".as_slice() {
+        Some(Op::Invert)
+    } else if text == b"xor".as_slice() {
+        Some(Op::Or)
+    } else if text == b"nop".as_slice() {
+        Some(Op::Nop)
+    } else {
+        None
     }
-    if text == b"xor".as_slice() {
-        return Some(Op::Or);
-    }
-    if text == b"nop".as_slice() {
-        return Some(Op::Nop);
-    }
+}
+
+/// The opcode of its own name.
+fn own_name(text: &[u8]) -> Option<Op>
+    ensures { result ≡ by_name own_names text.now }
+{
     for code in 0..32u8 {
         let op = Op::from_code(code);
         if text == op.name().as_bytes() {
-            return match op {
-                Op::Jump | Op::Call | Op::Unext | Op::Next | Op::If | Op::MinusIf => None,
-                _ => Some(op),
-            };
+            return Some(op);
         }
     }
     None
 }
 
+/// The opcode, where it has no address behind it.
+fn without_address(op: Op) -> Option<Op>
+    ensures { result ≡ without_address op }
+{
+    match op {
+        Op::Jump | Op::Call | Op::Unext | Op::Next | Op::If | Op::MinusIf => None,
+        _ => Some(op),
+    }
+}
+
+/// The opcode of a name, where the word is an opcode without an address.
+#[tactic(auto, unfolding(crate::specs::Vocabulary::opcode_in))]
+pub(crate) fn opcode_named(text: &[u8]) -> Option<Op>
+    ensures { result ≡ opcode_in text.now }
+{
+    match other_name(text) {
+        Some(op) => without_address(op),
+        None => match own_name(text) {
+            Some(op) => without_address(op),
+            None => None,
+        },
+    }
+}
+
 /// Whether a word says something of itself, so that no label has this name: an opcode, a control word, a number, a port, or a
 /// word that goes before or behind a name or a value.
-pub(crate) fn is_taken(text: &[u8]) -> bool {
+#[tactic(auto, unfolding(crate::specs::Vocabulary::is_taken))]
+pub(crate) fn is_taken(text: &[u8]) -> bool
+    ensures { result ≡ is_taken_word text.now }
+{
     is_opcode(text)
         || control_named(text).is_some()
-        || number_of(text) != Number::Nothing
+        || is_number(number_of(text))
         || directive_named(text).is_some()
-        || text == b"node".as_slice()
+        || is_sign(text)
+}
+
+/// Whether the word is one, in range or not.
+fn is_number(number: Number) -> bool
+    ensures { result ≡ is_number_in number }
+{
+    match number {
+        Number::Of(_) | Number::OutOfRange => true,
+        Number::Nothing => false,
+    }
+}
+
+/// Whether the word begins a node, a cell of data or a comment, or has an apostrophe in front.
+fn is_sign(text: &[u8]) -> bool
+    ensures { result ≡ is_sign_word text.now }
+{
+    text == b"node".as_slice()
         || text == b",".as_slice()
         || text == b"\\".as_slice()
         || text == b"(".as_slice()
-        || text.first() == Some(&b'\'')
+        || text.starts_with(b"'")
 }
 
 /// Whether the word is an opcode, with an address or without.
-fn is_opcode(text: &[u8]) -> bool {
+fn is_opcode(text: &[u8]) -> bool
+    ensures { result ≡ (is_some (opcode_in text.now) || bytes_eq text.now (codes "jump") || bytes_eq text.now (codes "call")) }
+{
     opcode_named(text).is_some() || text == b"jump".as_slice() || text == b"call".as_slice()
 }
 
@@ -94,7 +146,7 @@ pub(crate) enum Register {
 impl Register {
     /// The register's values are below this.
     pub(crate) fn bound(self) -> u32
-        ensures { result ≡ greatest_of (place_of self) + 1 }
+        ensures { result ≡ bound_of self }
     {
         match self {
             Register::P => 0x400,
@@ -105,8 +157,9 @@ impl Register {
 }
 
 /// The directive of a name.
+#[tactic(auto, unfolding(crate::specs::Vocabulary::directive_in))]
 pub(crate) fn directive_named(text: &[u8]) -> Option<Directive>
-    ensures { result ≡ by_name directives text.now }
+    ensures { result ≡ directive_in text.now }
 {
     if text == b":".as_slice() {
         Some(Directive::Label)
@@ -130,8 +183,9 @@ pub(crate) fn directive_named(text: &[u8]) -> Option<Directive>
 }
 
 /// The control word of a name.
+#[tactic(auto, unfolding(crate::specs::Vocabulary::control_in))]
 pub(crate) fn control_named(text: &[u8]) -> Option<Control>
-    ensures { result ≡ by_name controls text.now }
+    ensures { result ≡ control_in text.now }
 {
     if text == b"begin".as_slice() {
         Some(Control::Begin)

@@ -10,11 +10,11 @@ use Rattle.ga_source.specs.declared.vocabulary.Register.{Register as RegisterNam
 use Rattle.ga_source.specs.declared.vocabulary.Register.TheVariants.{P, A, B}
 use Rattle.ga_source.specs.declared.draft.Expect.{Expect}
 use Rattle.ga_source.specs.declared.draft.Expect.TheVariants.{Word, Address, Name, Register, Nothing}
-use Rattle.ga_source.specs.declared.draft.Draft.{Draft}
 use Rattle.ga_source.specs.declared.scan.Token.{Token}
+use Rattle.ga_source.specs.Asking.{Asking}
 use Rattle.ga_source.specs.Numbers.{◌>>=◌, by_name, number_in}
 use Rattle.ga_source.specs.Plain.{Plain, no_request, with_request, by_number, only_if, is_cell, may_be, asked_by}
-use Rattle.ga_source.specs.kept.Vocabulary.{directives}
+use Rattle.ga_source.specs.Vocabulary.{directives}
 
 -- what the next word is, and what the words so far ask for
 pub record Heard : Type 0 where
@@ -84,16 +84,10 @@ hear_all heard (word ∷ words) = hear heard word (slice_index_or words 0 []) >>
 abbrev pub texts_of : List Token → List (List ℕ)
 texts_of tokens = map (λ token. token.text.now) tokens
 
--- the draft has heard this, and no name
-pub record HasHeard (draft : Draft) (heard : Heard) : Type 0 where
-  pub expect : draft.expect ≡ heard.expect
-  pub plain : asked_by draft.asked.items draft.registers ≡ heard.plain
-  pub names : draft.labels.list.items ≡ []
-  pub opened : draft.open.items ≡ []
-  pub carries : draft.carries ≡ false
-
--- with the words that are left the draft will have heard all
-pub record IsHearing (draft : Draft) (left : List (List ℕ)) (all : Plain) : Type 0 where
-  pub heard : Heard
-  pub has : HasHeard draft heard
-  pub goes_on : hear_all heard left ≡ Some all
+-- what is asked is what was heard, and no name
+pub record HasHeard (now : Asking) (heard : Heard) : Type 0 where
+  pub expect : now.expect ≡ heard.expect
+  pub plain : asked_by now.asked now.registers ≡ heard.plain
+  pub names : now.labels ≡ []
+  pub opened : now.opened ≡ []
+  pub carries : now.carries ≡ false

@@ -4,7 +4,9 @@ use Rattle.std.specs.List.{All}
 use Rattle.ga_node.specs.Record.{NodeState}
 use Rattle.ga_source.specs.declared.item.Program.{Program}
 use Rattle.ga_source.specs.Programs.{IsAssembled}
+use Rattle.ga_source.specs.Saying.{Said}
 use Rattle.ga_source.specs.Plain.{IsOf}
+use Rattle.ga_source.specs.Asks.{IsAsked}
 
 -- a program whose node is marked as begun
 abbrev pub HasBegun : List Bool → Program → Type 0
@@ -20,3 +22,9 @@ unfoldable pub AreOfFirst : List (List (List ℕ)) → List Program → List (Li
 AreOfFirst bodies [] left = bodies ≡ left
 AreOfFirst [] (program ∷ programs) left = ⊥
 AreOfFirst (words ∷ bodies) (program ∷ programs) left = IsOf words program × AreOfFirst bodies programs left
+
+-- the same of words with their lines
+unfoldable pub AreAskedFirst : List (List Said) → List Program → List (List Said) → Type 0
+AreAskedFirst bodies [] left = bodies ≡ left
+AreAskedFirst [] (program ∷ programs) left = ⊥
+AreAskedFirst (words ∷ bodies) (program ∷ programs) left = IsAsked words program × AreAskedFirst bodies programs left

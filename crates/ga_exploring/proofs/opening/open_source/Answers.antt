@@ -11,6 +11,7 @@ returns-in-Ok-new g c = record {
   notes = c.in-Ok-notes_of.notes;
   assembled = c.in-Ok.ensures.programs;
   read = c.in-Ok.ensures.read;
+  asked = c.in-Ok.ensures.asked;
   made = c.in-Ok.ensures.made;
   load = ap (λ (begun : Exploring). begun.lab) c.of.ensures ∙ c.in-Ok-new.ensures.ok;
   noted = ap (λ (begun : Exploring). begun.notes) c.of.ensures;

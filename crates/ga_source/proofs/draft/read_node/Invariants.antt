@@ -1,7 +1,8 @@
-use Rattle.std.proofs.Common.{◌≡◌, Some, drop}
-use Rattle.ga_source.specs.Plain.{Plain, plain_of}
-use Rattle.ga_source.specs.kept.Hearing.{texts_of, IsHearing}
+use Rattle.std.proofs.Common.{◌≡◌, drop}
+use Rattle.ga_source.specs.Asking.{asked_from, asked_of}
+use Rattle.ga_source.specs.kept.Drafting.{asking_of}
+use Rattle.ga_source.specs.kept.Telling.{all_said}
 use Rattle.ga_source.proofs.draft.read_node.Given as goal
 
 abbrev pub invariant-loop-i : goal.invariant-loop-i
-invariant-loop-i l = (plain : Plain) → plain_of (texts_of l.tokens) ≡ Some plain → IsHearing l.draft (drop l.i (texts_of l.tokens)) plain
+invariant-loop-i l = asked_from (asking_of l.draft) l.last (all_said (drop l.i l.tokens)) ≡ asked_of l.fn.line (all_said l.tokens)

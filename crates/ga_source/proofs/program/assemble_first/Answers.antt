@@ -7,6 +7,7 @@ use Rattle.ga_source.specs.Programs.{HasProgram}
 use Rattle.ga_source.proofs.Loaded.{one_more_at}
 use Rattle.ga_source.proofs.Refusing.{not_node, too_few, no_such, begun_twice, first_refused, left_first}
 use Rattle.ga_source.proofs.Bodies.{one_more_read}
+use Rattle.ga_source.proofs.AskedBodies.{one_more_asked}
 use Rattle.ga_source.proofs.program.assemble_first.Goals as goal
 
 pub returns-clause-loaded : goal.returns-clause-loaded
@@ -58,3 +59,11 @@ pub returns-clause-sound : goal.returns-clause-sound
 returns-clause-sound c = λ sound.
     left_first c.args.begun.now c.args.words.now _ c.in_ok-word-2.field-0.now c.requires.many c.in_ok-word-2.ensures.told c.split_at.result.1.now c.in-Some.id.number c.index-2.result c.body_length-count.result
     c.split_at.ensures.back (sym c.in-Some.ensures) c.body_length-count.ensures.next c.body_length-count.ensures.behind c.index-2.ensures.value sound
+
+pub returns-clause-asked : goal.returns-clause-asked
+returns-clause-asked c = λ all first.
+    one_more_asked c.args.words.now c.split_at.result.1.now c.split_at-2.result.0.now _ c.in_ok-word.field-0.now c.in_ok-word-2.field-0.now c.body_length-count.result
+    c.in_ok-program.program c.args.programs.now.items c.push.new.self.items all
+    (omega arith) c.in_ok-word.ensures.told (sym c.is_node.ensures ∙ c.if-not-is_node.false) c.in_ok-word-2.ensures.told
+    (sym c.in-Some.ensures ∙ ap (λ (id : NodeId). Some id.number) (sym c.in_ok-program.ensures.node)) (search rules) c.split_at.ensures.back c.split_at-2.ensures.front
+    c.body_length-count.ensures.said c.body_length-count.ensures.said_behind c.in_ok-program.ensures.asked first
