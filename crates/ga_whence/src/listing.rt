@@ -1,19 +1,20 @@
 //! The steps whose values went into a value, as a tree.
 
-ghost use Rattle.std.specs.Prelude.{◌≡◌, ◌⊎◌, ◌↔◌, ◌<◌, ◌≤◌, ◌+◌, ◌^◌, ◌++◌, ◌∷◌, [], false, Err, IfOk, IfErr, OnOk, All, length, map, reverse, option_to_list};
+ghost use Rattle.std.specs.Prelude.{◌≡◌, ◌⊎◌, ◌↔◌, ◌<◌, ◌≤◌, ◌+◌, ◌-◌, ◌^◌, ◌++◌, ◌∷◌, [], false, Err, IfOk, IfErr, OnOk, All, length, map, reverse, option_to_list};
 ghost use Rattle.ga_event.specs.Told.{steps_of};
+ghost use Rattle.ga_lab.specs.Machine.{standing};
 ghost use Rattle.ga_flow.specs.Flow.{IsPart, Same};
 ghost use Rattle.ga_whence.specs.Origins.{value_at};
 ghost use Rattle.ga_whence.specs.Rows.{is_named, row_at, sender_in, sources_by, below, AreRows};
 ghost use Rattle.ga_whence.specs.kept.Open.{IsOpen};
 
-use crate::origin::{flow_at, origin_of};
+use crate::origin::{flow_behind, kept_step, origin_near};
 use crate::value::Value;
 use arrayvec::ArrayVec;
 use ga_event::Made;
 use ga_flow::{Flow, Part};
 use ga_grid::NodeId;
-use ga_lab::{Lab, LabFault};
+use ga_lab::{Lab, LabFault, Walk};
 use std::alloc::{AllocError, Global};
 
 /// A row of a listing: a value that a step made, or that was loaded.
@@ -112,9 +113,10 @@ fn push_parts(
     Ok(())
 }
 
-// Puts what a row's value came from on the top, the first uppermost.
-fn push_below(todo: &mut Vec<Row>, lab: &Lab, row: Row) -> Result<(), AllocError>
+// Puts what a row's value came from on the top, the first uppermost, where its node is walked back to right before the row's step.
+fn push_below(todo: &mut Vec<Row>, lab: &Lab, before: &Walk<'_>, row: Row) -> Result<(), AllocError>
     requires part { IsPart row.value.part }
+    requires before { before.now ≡ standing lab.now row.value.node (row.value.step - 1) }
     requires deep { row.depth + 1 < 2 ^ 32 }
     ensures ok { OnOk result (reverse todo.new.items ≡ below lab.now row ++ reverse todo.old.items) }
     ensures few { OnOk result (length todo.new.items ≤ length todo.old.items + 3) }
@@ -126,7 +128,7 @@ fn push_below(todo: &mut Vec<Row>, lab: &Lab, row: Row) -> Result<(), AllocError
     }
     let place = step - 1;
     let depth = row.depth + 1;
-    match flow_at(lab, node, place, part) {
+    match flow_behind(lab, before, node, part) {
         Flow::Same(from) => {
             let told = lab.told(node, place);
             push_some(todo, depth, source_in(node, place, told, from))
@@ -144,14 +146,16 @@ fn listed(alloc: Global, lab: &Lab, value: Value, most: u32) -> Result<Listing, 
 {
     let mut rows: Vec<Row> = Vec::new(alloc);
     let mut todo: Vec<Row> = Vec::new(alloc);
+    let near = lab.walk(value.node, kept_step(lab, value));
+    let at = value.node;
     todo.push(Row { depth: 0, value })?;
     'telling: while let Some(next) = todo.pop() {
-        let value = origin_of(lab, next.value);
+        let origin = origin_near(lab, &near, at, next.value);
         let row = Row {
             depth: next.depth,
-            value,
+            value: origin.value,
         };
-        if is_named(&rows, value) {
+        if is_named(&rows, origin.value) {
             continue 'telling;
         }
         if rows.as_slice().len() == most as usize {
@@ -160,7 +164,7 @@ fn listed(alloc: Global, lab: &Lab, value: Value, most: u32) -> Result<Listing, 
                 is_whole: false,
             });
         }
-        push_below(&mut todo, lab, row)?;
+        push_below(&mut todo, lab, &origin.before, row)?;
         rows.push(row)?;
     }
     Ok(Listing {
@@ -171,7 +175,7 @@ fn listed(alloc: Global, lab: &Lab, value: Value, most: u32) -> Result<Listing, 
 
 /// The steps whose values went into a value, through stacks, memories, registers and links, down to the load: as a tree, of which
 /// each is told once, and at most so many. Takes memory by how many are told, and for each value time by how many steps its
-/// node made since.
+/// node made since, on the node asked for since the step asked for.
 ///
 /// # Errors
 /// `NoStep`, where the node has no such step; then `Memory`.

@@ -110,18 +110,6 @@ pub(crate) fn flow_behind(lab: &Lab, walk: &Walk<'_>, node: NodeId, part: Part) 
     }
 }
 
-// The same of a node's step, the first of which is at place 0.
-pub(crate) fn flow_at(lab: &Lab, node: NodeId, place: u32, part: Part) -> Flow
-    requires { IsPart part }
-    ensures value { flow_of result ≡ flow_at lab.now node.number place part }
-    ensures sources { AreSources (flow_of result) }
-{
-    if place >= lab.steps(node) {
-        return Flow::Same(part);
-    }
-    flow_behind(lab, &lab.walk(node, place), node, part)
-}
-
 // The value's step, or the last of the node where it made fewer: behind that nothing is made.
 pub(crate) fn kept_step(lab: &Lab, value: Value) -> u32
     requires { IsPart value.part }
@@ -149,6 +137,44 @@ pub fn origin_of(lab: &Lab, value: Value) -> Value
     origin_behind(lab, &mut walk, value.node, value.part)
 }
 
+// A value that a step made, and its node walked back to right before that step.
+#[derive(Drop)]
+pub(crate) struct Origin<'l> {
+    pub value: Value,
+    pub before: Walk<'l>,
+}
+
+// A node as it was right after a step, walked back from where another walk stands, where that is of the same node and not earlier.
+fn walk_near<'l>(lab: &'l Lab, near: &Walk<'l>, at: NodeId, node: NodeId, step: u32) -> Walk<'l>
+    requires within { step ≤ steps_of node.number lab.now.kept }
+    requires near { near.now ≡ standing lab.now at near.now.step }
+    ensures { result ≡ standing lab.now node step }
+{
+    if at == node && step <= near.step() {
+        let mut walk = near.copy();
+        walk.back_to(step);
+        walk
+    } else {
+        lab.walk(node, step)
+    }
+}
+
+// What made a value, found from where a walk of some node stands, which is not walked on.
+pub(crate) fn origin_near<'l>(lab: &'l Lab, near: &Walk<'l>, at: NodeId, value: Value) -> Origin<'l>
+    requires part { IsPart value.part }
+    requires near { near.now ≡ standing lab.now at near.now.step }
+    ensures value { result.value ≡ origin_of lab.now value }
+    ensures part { IsPart result.value.part }
+    ensures before { result.before ≡ standing lab.now result.value.node (result.value.step - 1) }
+{
+    let mut walk = walk_near(lab, near, at, value.node, kept_step(lab, value));
+    let origin = origin_behind(lab, &mut walk, value.node, value.part);
+    Origin {
+        value: origin,
+        before: walk,
+    }
+}
+
 /// The same of a part where the node is walked back to, which is walked on to right before the step that made the value.
 pub(crate) fn origin_behind(lab: &Lab, walk: &mut Walk<'_>, node: NodeId, mut part: Part) -> Value
     requires part { IsPart part }
@@ -156,6 +182,7 @@ pub(crate) fn origin_behind(lab: &Lab, walk: &mut Walk<'_>, node: NodeId, mut pa
     ensures value { result ≡ origin_from lab.now node walk.old.step part }
     ensures part { IsPart result.part }
     ensures within { result.step ≤ steps_of node.number lab.now.kept }
+    ensures node { result.node ≡ node }
     ensures walk { walk.new ≡ standing lab.now node (result.step - 1) }
 {
     'steps: while walk.step() > 0 {
