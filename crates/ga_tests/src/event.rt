@@ -1,10 +1,12 @@
+use crate::same::{holds, same};
 use ga_event::{
-    Cause, Effect, Event, apply, cause_of, cause_with, next_event, seen_from, touches, unapply,
+    Effect, Event, apply, cause_of, cause_with, next_event, seen_from, touches, unapply,
 };
 use ga_given::{load, reader_of_io, sender, taker};
 use ga_grid::{Chip, NodeId, neighbour};
 use ga_node::{Beside, Kind, NotReady, Place, Seen, Wait};
 use ga_ports::Side;
+use std::alloc::Global;
 use std::process::Abort;
 use std::test::Fail;
 
@@ -33,50 +35,87 @@ fn word_of(effect: &Effect) -> Option<u32> {
 fn run(rt: &impl Abort, chip: &mut Chip, node: NodeId, kinds: &[Kind]) -> Result<(), NotReady> {
     for kind in kinds {
         let effect = step(chip, node)?;
-        assert_eq!(rt; kind_of(&effect), Some(*kind));
+        holds(rt, kind_of(&effect) == Some(*kind));
     }
     Ok(())
 }
 
-fn sending() -> [Kind; 7] {
-    [
-        Kind::Fetch,
-        Kind::Run(0x08),
-        Kind::Run(0x1e),
-        Kind::Run(0x08),
-        Kind::Run(0x1c),
-        Kind::Fetch,
-        Kind::Wait,
-    ]
-}
+static SENDING: [Kind; 7] = [
+    Kind::Fetch,
+    Kind::Run(0x08),
+    Kind::Run(0x1e),
+    Kind::Run(0x08),
+    Kind::Run(0x1c),
+    Kind::Fetch,
+    Kind::Wait,
+];
 
-fn taking() -> [Kind; 4] {
-    [Kind::Fetch, Kind::Run(0x08), Kind::Run(0x1e), Kind::Wait]
-}
+static TAKING: [Kind; 4] = [Kind::Fetch, Kind::Run(0x08), Kind::Run(0x1e), Kind::Wait];
 
 // What a node holds at P, B, I, slot, wait, and the top of its data stack.
-fn shown(chip: &Chip, node: NodeId) -> [u32; 6] {
-    let node = chip.node(node);
-    [
-        node.get(Place::P),
-        node.get(Place::B),
-        node.get(Place::I),
-        node.get(Place::Slot),
-        node.get(Place::Wait),
-        node.d(0),
-    ]
+#[derive(Clone, Copy)]
+struct Shown {
+    p: u32,
+    b: u32,
+    i: u32,
+    slot: u32,
+    wait: u32,
+    top: u32,
 }
 
-// A word goes to a neighbour that reads it for its stack; either end may make the step, and it is taken back.
-// What comes next in a node, and what it shows.
+fn showing(p: u32, b: u32, i: u32, slot: u32, wait: u32, top: u32) -> Shown {
+    Shown {
+        p,
+        b,
+        i,
+        slot,
+        wait,
+        top,
+    }
+}
+
+fn shows(rt: &impl Abort, chip: &Chip, node: NodeId, wanted: Shown) {
+    let node = chip.node(node);
+    same(rt, node.get(Place::P), wanted.p);
+    same(rt, node.get(Place::B), wanted.b);
+    same(rt, node.get(Place::I), wanted.i);
+    same(rt, node.get(Place::Slot), wanted.slot);
+    same(rt, node.get(Place::Wait), wanted.wait);
+    same(rt, node.d(0), wanted.top);
+}
+
+// What comes next in a node.
 fn is_next(rt: &impl Abort, chip: &Chip, node: NodeId, wanted: Result<Event, NotReady>) {
     assert_eq!(rt; next_event(chip, node), wanted);
 }
 
-fn shows(rt: &impl Abort, chip: &Chip, node: NodeId, wanted: [u32; 6]) {
-    assert_eq!(rt; shown(chip, node), wanted);
+// Makes the next step of a node, or a pass, in which this word goes over.
+fn steps(rt: &impl Abort, chip: &mut Chip, node: NodeId, word: u32) -> Result<(), NotReady> {
+    let effect = step(chip, node)?;
+    holds(rt, word_of(&effect) == Some(word));
+    Ok(())
 }
 
+fn goes_over(rt: &impl Abort, chip: &mut Chip, pass: Event, word: u32) -> Result<(), NotReady> {
+    let effect = apply(chip, pass)?;
+    holds(rt, word_of(&effect) == Some(word));
+    Ok(())
+}
+
+fn is_refused(rt: &impl Abort, chip: &mut Chip, event: Event, why: NotReady) {
+    holds(rt, apply(chip, event).err() == Some(why));
+}
+
+// A word from one node to another over a side.
+fn pass(writer: NodeId, reader: NodeId, side: Side) -> Event {
+    Event::Pass {
+        writer,
+        reader,
+        side,
+    }
+}
+
+// A word goes to a neighbour that reads it for its stack; either end may make the step, and it is taken back.
 #[test]
 fn passes_to_the_stack(rt: HostRuntime) -> Result<(), Fail> {
     let n000 = NodeId::new(0);
@@ -84,26 +123,22 @@ fn passes_to_the_stack(rt: HostRuntime) -> Result<(), Fail> {
     let mut chip = Chip::new(rt.alloc())?;
     load(&mut chip, n000, sender(0x1d5, 0x2a));
     load(&mut chip, n001, taker(0x1d5));
-    run(&rt, &mut chip, n000, &sending())?;
+    run(&rt, &mut chip, n000, &SENDING)?;
     is_next(&rt, &chip, n000, Err(NotReady::Waiting));
-    let own = Event::Own(n000);
-    assert!(rt; matches!(apply(&mut chip, own), Err(NotReady::Waiting)));
-    run(&rt, &mut chip, n001, &taking())?;
-    let pass = Event::Pass {
-        writer: n000,
-        reader: n001,
-        side: Side::Right,
-    };
+    is_refused(&rt, &mut chip, Event::Own(n000), NotReady::Waiting);
+    run(&rt, &mut chip, n001, &TAKING)?;
+    let pass = pass(n000, n001, Side::Right);
     is_next(&rt, &chip, n000, Ok(pass));
     is_next(&rt, &chip, n001, Ok(pass));
-    assert!(rt; touches(pass, n000) && touches(pass, n001) && !touches(pass, NodeId::new(2)));
+    holds(&rt, touches(pass, n000) && touches(pass, n001));
+    holds(&rt, !touches(pass, NodeId::new(2)));
     let effect = apply(&mut chip, pass)?;
-    assert_eq!(rt; word_of(&effect), Some(0x2a));
-    shows(&rt, &chip, n000, [4, 0x1d5, 0x89b2, 1, 0, 0x15555]);
-    shows(&rt, &chip, n001, [2, 0x1d5, 0x4b02, 3, 0, 0x2a]);
+    holds(&rt, word_of(&effect) == Some(0x2a));
+    shows(&rt, &chip, n000, showing(4, 0x1d5, 0x89b2, 1, 0, 0x15555));
+    shows(&rt, &chip, n001, showing(2, 0x1d5, 0x4b02, 3, 0, 0x2a));
     unapply(&mut chip, pass, &effect);
-    shows(&rt, &chip, n000, [4, 0x1d5, 0x89b2, 0, 56, 0x2a]);
-    shows(&rt, &chip, n001, [2, 0x1d5, 0x4b02, 2, 40, 0x15555]);
+    shows(&rt, &chip, n000, showing(4, 0x1d5, 0x89b2, 0, 56, 0x2a));
+    shows(&rt, &chip, n001, showing(2, 0x1d5, 0x4b02, 2, 40, 0x15555));
     Ok(())
 }
 
@@ -114,13 +149,21 @@ fn passes_an_instruction(rt: HostRuntime) -> Result<(), Fail> {
     let n001 = NodeId::new(1);
     let mut chip = Chip::new(rt.alloc())?;
     load(&mut chip, n000, sender(0x1d5, 0x2a));
-    run(&rt, &mut chip, n000, &sending())?;
+    run(&rt, &mut chip, n000, &SENDING)?;
     run(&rt, &mut chip, n001, &[Kind::Wait])?;
-    assert_eq!(rt; shown(&chip, n001), [0x1b5, 0x15d, 0, 4, 30, 0x15555]);
-    let effect = step(&mut chip, n001)?;
-    assert_eq!(rt; word_of(&effect), Some(0x2a));
-    assert_eq!(rt; shown(&chip, n001), [0x1b5, 0x15d, 0x2a, 0, 0, 0x15555]);
+    shows(&rt, &chip, n001, showing(0x1b5, 0x15d, 0, 4, 30, 0x15555));
+    steps(&rt, &mut chip, n001, 0x2a)?;
+    shows(&rt, &chip, n001, showing(0x1b5, 0x15d, 0x2a, 0, 0, 0x15555));
     Ok(())
+}
+
+// Node 001 takes a word from 000 and from 101 alike.
+fn two_senders(alloc: Global) -> Result<Chip, Fail> {
+    let mut chip = Chip::new(alloc)?;
+    load(&mut chip, NodeId::new(0), sender(0x1d5, 0x2a));
+    load(&mut chip, NodeId::new(1), taker(0x195));
+    load(&mut chip, NodeId::new(19), sender(0x115, 7));
+    Ok(chip)
 }
 
 // Of two writers the reader takes the one on the first of its sides, whoever posted first; the other pass may be made too.
@@ -129,31 +172,19 @@ fn reader_has_an_order(rt: HostRuntime) -> Result<(), Fail> {
     let n000 = NodeId::new(0);
     let n001 = NodeId::new(1);
     let n101 = NodeId::new(19);
-    let mut chip = Chip::new(rt.alloc())?;
-    load(&mut chip, n000, sender(0x1d5, 0x2a));
-    load(&mut chip, n001, taker(0x195));
-    load(&mut chip, n101, sender(0x115, 7));
-    run(&rt, &mut chip, n001, &taking())?;
-    run(&rt, &mut chip, n101, &sending())?;
-    let below = Event::Pass {
-        writer: n101,
-        reader: n001,
-        side: Side::Down,
-    };
+    let mut chip = two_senders(rt.alloc())?;
+    run(&rt, &mut chip, n001, &TAKING)?;
+    run(&rt, &mut chip, n101, &SENDING)?;
+    let below = pass(n101, n001, Side::Down);
     is_next(&rt, &chip, n001, Ok(below));
-    run(&rt, &mut chip, n000, &sending())?;
-    let beside = Event::Pass {
-        writer: n000,
-        reader: n001,
-        side: Side::Right,
-    };
-    is_next(&rt, &chip, n001, Ok(beside));
+    run(&rt, &mut chip, n000, &SENDING)?;
+    is_next(&rt, &chip, n001, Ok(pass(n000, n001, Side::Right)));
     is_next(&rt, &chip, n101, Ok(below));
-    let effect = apply(&mut chip, below)?;
-    assert_eq!(rt; word_of(&effect), Some(7));
-    let before = shown(&chip, n001);
-    assert!(rt; matches!(apply(&mut chip, below), Err(NotReady::Unmatched)));
-    assert_eq!(rt; shown(&chip, n001), before);
+    goes_over(&rt, &mut chip, below, 7)?;
+    let taken = showing(2, 0x195, 0x4b02, 3, 0, 7);
+    shows(&rt, &chip, n001, taken);
+    is_refused(&rt, &mut chip, below, NotReady::Unmatched);
+    shows(&rt, &chip, n001, taken);
     Ok(())
 }
 
@@ -163,10 +194,9 @@ fn stops(rt: HostRuntime) -> Result<(), Fail> {
     let n000 = NodeId::new(0);
     let mut chip = Chip::new(rt.alloc())?;
     load(&mut chip, n000, sender(0x1a5, 1));
-    let kinds = sending();
-    run(&rt, &mut chip, n000, &kinds[..6])?;
+    run(&rt, &mut chip, n000, &SENDING[..6])?;
     run(&rt, &mut chip, n000, &[Kind::Stop(1)])?;
-    assert_eq!(rt; next_event(&chip, n000), Err(NotReady::Stopped));
+    is_next(&rt, &chip, n000, Err(NotReady::Stopped));
     Ok(())
 }
 
@@ -178,25 +208,20 @@ fn looks(rt: HostRuntime) -> Result<(), Fail> {
     let mut chip = Chip::new(rt.alloc())?;
     load(&mut chip, n000, sender(0x1d5, 0x2a));
     load(&mut chip, n001, reader_of_io());
-    run(&rt, &mut chip, n000, &sending())?;
+    run(&rt, &mut chip, n000, &SENDING)?;
     let own = Event::Own(n001);
-    assert!(rt; !cause_of(&chip, own).look);
+    holds(&rt, !cause_of(&chip, own).look);
     let fetch = step(&mut chip, n001)?;
-    assert!(rt; matches!(fetch, Effect::Own(Kind::Fetch, _)));
-    assert!(rt; cause_of(&chip, own).look);
+    holds(&rt, matches!(fetch, Effect::Own(Kind::Fetch, _)));
+    holds(&rt, cause_of(&chip, own).look);
     let look = apply(&mut chip, own)?;
-    assert!(rt; matches!(look, Effect::Look(Kind::Run(0x0a), _)));
-    assert_eq!(rt;
-        cause_with(own, &look),
-        Cause {
-            event: own,
-            look: true
-        }
-    );
-    assert_eq!(rt; chip.node(n001).d(0), 0x1d555);
-    assert_eq!(rt; chip.node(n000).wait(), Wait::Write(Side::Right));
+    holds(&rt, matches!(look, Effect::Look(Kind::Run(0x0a), _)));
+    let cause = cause_with(own, &look);
+    holds(&rt, cause.event == own && cause.look);
+    same(&rt, chip.node(n001).d(0), 0x1d555);
+    holds(&rt, chip.node(n000).wait() == Wait::Write(Side::Right));
     unapply(&mut chip, own, &look);
-    assert_eq!(rt; shown(&chip, n001), [1, 0x15d, 0x009b2, 0, 0, 0x15555]);
+    shows(&rt, &chip, n001, showing(1, 0x15d, 0x009b2, 0, 0, 0x15555));
     Ok(())
 }
 
@@ -231,15 +256,15 @@ fn looks_at_each_side(rt: HostRuntime) -> Result<(), Fail> {
     ];
     for (side, port, reading, writing) in rows {
         let mut chip = Chip::new(rt.alloc())?;
-        let word = read_beside(&rt, &mut chip, side, taker(port), &taking())?;
-        assert_eq!(rt; word, reading);
+        let word = read_beside(&rt, &mut chip, side, taker(port), &TAKING)?;
+        same(&rt, word, reading);
         let mut chip = Chip::new(rt.alloc())?;
-        let word = read_beside(&rt, &mut chip, side, sender(port, 7), &sending())?;
-        assert_eq!(rt; word, writing);
+        let word = read_beside(&rt, &mut chip, side, sender(port, 7), &SENDING)?;
+        same(&rt, word, writing);
         let mut chip = Chip::new(rt.alloc())?;
         let away = if side == Side::Left { 0x1d5 } else { 0x175 };
-        let word = read_beside(&rt, &mut chip, side, taker(away), &taking())?;
-        assert_eq!(rt; word, 0x15555);
+        let word = read_beside(&rt, &mut chip, side, taker(away), &TAKING)?;
+        same(&rt, word, 0x15555);
     }
     Ok(())
 }
@@ -257,11 +282,11 @@ fn looks_at_the_edge(rt: HostRuntime) -> Result<(), Fail> {
         left: Beside::Nobody,
         up: Beside::Nobody,
     };
-    assert_eq!(rt; seen_from(&chip, n000), seen);
+    holds(&rt, seen_from(&chip, n000) == seen);
     load(&mut chip, n000, [0; 5]);
     chip.node_mut(n000).set(Place::P, 0x15d);
     let look = step(&mut chip, n000)?;
-    assert!(rt; matches!(look, Effect::Look(Kind::Fetch, _)));
-    assert_eq!(rt; chip.node(n000).get(Place::I), 0x05555);
+    holds(&rt, matches!(look, Effect::Look(Kind::Fetch, _)));
+    same(&rt, chip.node(n000).get(Place::I), 0x05555);
     Ok(())
 }

@@ -1,5 +1,6 @@
 ghost use Rattle.ga_flow.specs.Flow.{IsPart};
 
+use crate::same::holds;
 use ga_flow::{Flow, Part, own_flow, send_flow, take_flow};
 use ga_node::{Node, Place, Seen, Wait};
 use ga_ports::PortSet;
@@ -26,17 +27,17 @@ fn is_computed(flow: &Flow, sources: &[Part]) -> bool {
 fn moves(rt: &impl Abort, node: &Node, part: Part, from: Part)
     requires { IsPart part }
 {
-    assert!(rt; is_moved(&own_flow(node, part), from));
+    holds(rt, is_moved(&own_flow(node, part), from));
 }
 
 fn computes(rt: &impl Abort, node: &Node, part: Part, from: &[Part])
     requires { IsPart part }
 {
-    assert!(rt; is_computed(&own_flow(node, part), from));
+    holds(rt, is_computed(&own_flow(node, part), from));
 }
 
 fn goes_on(rt: &impl Abort, node: &mut Node) {
-    assert!(rt; node.own(Seen::nobody()).is_ok());
+    holds(rt, node.own(Seen::nobody()).is_ok());
 }
 
 #[test]
@@ -60,12 +61,24 @@ fn own_events(rt: HostRuntime) {
 
 #[test]
 fn halves_of_a_transfer(rt: HostRuntime) {
-    assert!(rt; is_moved(&send_flow(Part::T), Part::S));
-    assert!(rt; is_computed(&send_flow(Part::Wait), &[]));
+    holds(&rt, is_moved(&send_flow(Part::T), Part::S));
+    holds(&rt, is_computed(&send_flow(Part::Wait), &[]));
     let right = PortSet::of(8);
-    assert!(rt; is_moved(&take_flow(Wait::Read(right), Part::T), Part::Outside));
-    assert!(rt; is_moved(&take_flow(Wait::Read(right), Part::S), Part::T));
-    assert!(rt; is_moved(&take_flow(Wait::Fetch(right), Part::I), Part::Outside));
-    assert!(rt; is_moved(&take_flow(Wait::Fetch(right), Part::T), Part::T));
-    assert!(rt; is_moved(&take_flow(Wait::Nothing, Part::P), Part::P));
+    holds(
+        &rt,
+        is_moved(&take_flow(Wait::Read(right), Part::T), Part::Outside),
+    );
+    holds(
+        &rt,
+        is_moved(&take_flow(Wait::Read(right), Part::S), Part::T),
+    );
+    holds(
+        &rt,
+        is_moved(&take_flow(Wait::Fetch(right), Part::I), Part::Outside),
+    );
+    holds(
+        &rt,
+        is_moved(&take_flow(Wait::Fetch(right), Part::T), Part::T),
+    );
+    holds(&rt, is_moved(&take_flow(Wait::Nothing, Part::P), Part::P));
 }

@@ -16,6 +16,8 @@ mod node;
 #[cfg(test)]
 mod ports;
 #[cfg(test)]
+mod same;
+#[cfg(test)]
 mod slots;
 #[cfg(test)]
 mod stacks;

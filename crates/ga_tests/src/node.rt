@@ -1,6 +1,8 @@
-use ga_node::{Beside, Kind, Node, NotReady, Place, Seen, Wait};
+use crate::same::{holds, same};
+use ga_node::{Beside, Kind, Node, NotReady, Place, Saved, Seen, Wait};
 use ga_stacks::{DataStack, ReturnStack};
 use ga_word::Word18;
+use std::process::Abort;
 use std::test::Fail;
 
 /// A node at its defaults with P at 0 and these words in RAM.
@@ -25,69 +27,81 @@ fn run(node: &mut Node, kinds: &mut [Kind]) -> Option<NotReady> {
     None
 }
 
+/// What a node holds at its defaults, with P at 195.
+const DEFAULTS: [(Place, u32); 13] = [
+    (Place::P, 0x195),
+    (Place::A, 0),
+    (Place::B, 0x15d),
+    (Place::I, 0),
+    (Place::Io, 0x15555),
+    (Place::Carry, 0),
+    (Place::Slot, 4),
+    (Place::Wait, 0),
+    (Place::Stop, 0),
+    (Place::Ram(63), 0),
+    (Place::Rom(0), 0),
+    (Place::T, 0x15555),
+    (Place::ReturnCell(7), 0x15555),
+];
+
 #[test]
 fn defaults(rt: HostRuntime) {
     let node = Node::new(0x195);
-    for (place, value) in [
-        (Place::P, 0x195),
-        (Place::A, 0),
-        (Place::B, 0x15d),
-        (Place::I, 0),
-        (Place::Io, 0x15555),
-        (Place::Carry, 0),
-        (Place::Slot, 4),
-        (Place::Wait, 0),
-        (Place::Stop, 0),
-        (Place::Ram(63), 0),
-        (Place::Rom(0), 0),
-        (Place::T, 0x15555),
-        (Place::ReturnCell(7), 0x15555),
-    ] {
-        assert_eq!(rt; node.get(place), value);
+    for (place, value) in DEFAULTS {
+        same(&rt, node.get(place), value);
     }
-    assert_eq!(rt; node.d(9), 0x15555);
-    assert_eq!(rt; node.r(8), 0x15555);
+    same(&rt, node.d(9), 0x15555);
+    same(&rt, node.r(8), 0x15555);
 }
 
 #[test]
 fn sets_stacks(rt: HostRuntime) {
     let mut node = Node::new(0x195);
-    let data = [Word18::truncated(7); 10];
-    let returns = [Word18::truncated(8); 9];
-    node.set_stacks(DataStack::of(data), ReturnStack::of(returns));
-    assert_eq!(rt; node.d(9), 7);
-    assert_eq!(rt; node.r(8), 8);
-    assert_eq!(rt; node.get(Place::P), 0x195);
+    let data = DataStack::of([Word18::truncated(7); 10]);
+    let returns = ReturnStack::of([Word18::truncated(8); 9]);
+    node.set_stacks(data, returns);
+    same(&rt, node.d(9), 7);
+    same(&rt, node.r(8), 8);
+    same(&rt, node.get(Place::P), 0x195);
 }
+
+/// Whether the node's events are of these kinds, and the next is refused for this reason.
+fn is_run(node: &mut Node, wanted: &[Kind], reason: NotReady) -> bool {
+    for kind in wanted {
+        match node.own(Seen::nobody()) {
+            Ok((made, _)) if made == *kind => {}
+            _ => return false,
+        }
+    }
+    node.own(Seen::nobody()).err() == Some(reason)
+}
+
+/// The kinds of the sender's events.
+const SENT: [Kind; 7] = [
+    Kind::Fetch,
+    Kind::Run(0x08),
+    Kind::Run(0x1e),
+    Kind::Run(0x08),
+    Kind::Run(0x1c),
+    Kind::Fetch,
+    Kind::Wait,
+];
 
 #[test]
 fn sends_a_word(rt: HostRuntime) {
     let mut sender = loaded(&[0x04b12, 0x001d5, 0x0002a, 0x089b2]);
-    let mut kinds = [Kind::Fetch; 8];
-    assert_eq!(rt; run(&mut sender, &mut kinds), Some(NotReady::Waiting));
-    assert_eq!(rt;
-        kinds,
-        [
-            Kind::Fetch,
-            Kind::Run(0x08),
-            Kind::Run(0x1e),
-            Kind::Run(0x08),
-            Kind::Run(0x1c),
-            Kind::Fetch,
-            Kind::Wait,
-            Kind::Fetch,
-        ]
-    );
-    assert_eq!(rt; sender.get(Place::Wait), 56);
+    holds(&rt, is_run(&mut sender, &SENT, NotReady::Waiting));
+    same(&rt, sender.get(Place::Wait), 56);
 }
 
 #[test]
 fn stops(rt: HostRuntime) {
     let mut kinds = [Kind::Fetch; 8];
     let mut several = loaded(&[0x04b12, 0x001a5, 0x00001, 0x089b2]);
-    assert_eq!(rt; run(&mut several, &mut kinds), Some(NotReady::Stopped));
-    assert_eq!(rt; kinds[6], Kind::Stop(1));
-    assert_eq!(rt; several.stop(), 1);
+    let reason = run(&mut several, &mut kinds);
+    holds(&rt, reason == Some(NotReady::Stopped));
+    holds(&rt, kinds[6] == Kind::Stop(1));
+    same(&rt, u32::from(several.stop()), 1);
 }
 
 /// Nobody but this neighbour, on the right, below, on the left or above.
@@ -122,62 +136,80 @@ const SHOWN: [(u32, Beside, u32); 16] = [
     (3, Beside::Writing, 0x15755),
 ];
 
-#[test]
-fn io_shows_each_side(rt: HostRuntime) -> Result<(), Fail> {
-    for (side, neighbour, word) in SHOWN {
-        let seen = beside(side, neighbour);
-        assert_eq!(rt; seen.io_word().get(), word);
-        // `@b . . .`, with B at `io` and another word written there.
-        let mut node = Node::new(0);
-        node.set(Place::Io, 7);
-        node.set(Place::I, 0x009b2);
-        node.set(Place::Slot, 0);
-        let (kind, saved) = node.own(seen)?;
-        assert_eq!(rt; kind, Kind::Run(0x0a));
-        assert_eq!(rt; node.d(0), word);
-        node.restore(&saved);
-        assert_eq!(rt; node.d(0), 0x15555);
-    }
-    let all_reading = Seen {
-        right: Beside::Reading,
-        down: Beside::Reading,
-        left: Beside::Reading,
-        up: Beside::Reading,
-    };
-    assert_eq!(rt; all_reading.io_word().get(), 0x00155);
-    let all_writing = Seen {
-        right: Beside::Writing,
-        down: Beside::Writing,
-        left: Beside::Writing,
-        up: Beside::Writing,
-    };
-    assert_eq!(rt; all_writing.io_word().get(), 0x1ff55);
+/// What `@b . . .` reads, with B at `io` and another word written there.
+fn reads(rt: &impl Abort, seen: Seen, word: u32) -> Result<(), NotReady> {
+    let mut node = Node::new(0);
+    node.set(Place::Io, 7);
+    node.set(Place::I, 0x009b2);
+    node.set(Place::Slot, 0);
+    let (kind, saved) = node.own(seen)?;
+    holds(rt, kind == Kind::Run(0x0a));
+    same(rt, node.d(0), word);
+    node.restore(&saved);
+    same(rt, node.d(0), 0x15555);
     Ok(())
 }
 
 #[test]
+fn io_shows_each_side(rt: HostRuntime) -> Result<(), Fail> {
+    for (side, neighbour, word) in SHOWN {
+        let seen = beside(side, neighbour);
+        same(&rt, seen.io_word().get(), word);
+        reads(&rt, seen, word)?;
+    }
+    Ok(())
+}
+
+/// All four neighbours.
+fn all(neighbour: Beside) -> Seen {
+    Seen {
+        right: neighbour,
+        down: neighbour,
+        left: neighbour,
+        up: neighbour,
+    }
+}
+
+#[test]
+fn io_shows_all_sides(rt: HostRuntime) {
+    same(&rt, all(Beside::Reading).io_word().get(), 0x00155);
+    same(&rt, all(Beside::Writing).io_word().get(), 0x1ff55);
+}
+
+/// `@p`, `@+`, `@b` and `@`, each with `. . .`, and their codes; and an address in all three registers, whether it is looked at
+/// there, and what is read.
+const READS: [(u32, u8, u32, bool, u32); 8] = [
+    (0x049b2, 0x08, 0x15d, true, 0x05555),
+    (0x049b2, 0x08, 0x020, false, 0),
+    (0x069b2, 0x09, 0x15d, true, 0x05555),
+    (0x069b2, 0x09, 0x020, false, 0),
+    (0x009b2, 0x0a, 0x15d, true, 0x05555),
+    (0x009b2, 0x0a, 0x020, false, 0),
+    (0x029b2, 0x0b, 0x15d, true, 0x05555),
+    (0x029b2, 0x0b, 0x020, false, 0),
+];
+
+/// A node with this instruction, and this address in its registers.
+fn reader(word: u32, address: u32) -> Node {
+    let address = address % 0x200;
+    let mut node = Node::new(address);
+    node.set(Place::A, address);
+    node.set(Place::B, address);
+    node.set(Place::I, Word18::truncated(word).get());
+    node.set(Place::Slot, 0);
+    node
+}
+
+#[test]
 fn looks_by_each_read(rt: HostRuntime) -> Result<(), Fail> {
-    let seen = beside(0, Beside::Reading);
-    // `@p`, `@+`, `@b` and `@`, each with `. . .`: all three registers name `io`, or none does.
-    for (word, code) in [
-        (0x049b2, 0x08),
-        (0x069b2, 0x09),
-        (0x009b2, 0x0a),
-        (0x029b2, 0x0b),
-    ] {
-        for (address, look) in [(0x15d, true), (0x020, false)] {
-            let mut node = Node::new(address);
-            node.set(Place::A, address);
-            node.set(Place::B, address);
-            node.set(Place::I, word);
-            node.set(Place::Slot, 0);
-            assert_eq!(rt; node.looks(), look);
-            let (kind, _) = node.own(seen)?;
-            assert_eq!(rt; kind, Kind::Run(code));
-            assert_eq!(rt; node.d(0), if look { 0x05555 } else { 0 });
-            assert_eq!(rt; node.get(Place::Slot), 1);
-            assert!(rt; !node.looks());
-        }
+    for (word, code, address, look, read) in READS {
+        let mut node = reader(word, address);
+        holds(&rt, node.looks() == look);
+        let (kind, _) = node.own(beside(0, Beside::Reading))?;
+        holds(&rt, kind == Kind::Run(code));
+        same(&rt, node.d(0), read);
+        same(&rt, node.get(Place::Slot), 1);
+        holds(&rt, !node.looks());
     }
     Ok(())
 }
@@ -185,17 +217,45 @@ fn looks_by_each_read(rt: HostRuntime) -> Result<(), Fail> {
 #[test]
 fn fetches_from_io(rt: HostRuntime) -> Result<(), Fail> {
     let mut node = Node::new(0x15d);
-    assert!(rt; node.looks());
+    holds(&rt, node.looks());
     let (kind, saved) = node.own(beside(2, Beside::Writing))?;
-    assert_eq!(rt; kind, Kind::Fetch);
-    assert_eq!(rt; node.get(Place::I), 0x15d55);
-    assert_eq!(rt; node.get(Place::P), 0x15d);
-    assert_eq!(rt; node.get(Place::Slot), 0);
+    holds(&rt, kind == Kind::Fetch);
+    same(&rt, node.get(Place::I), 0x15d55);
+    same(&rt, node.get(Place::P), 0x15d);
+    same(&rt, node.get(Place::Slot), 0);
     node.restore(&saved);
-    assert_eq!(rt; node.get(Place::I), 0);
-    assert_eq!(rt; node.get(Place::Slot), 4);
-    let blind = Node::new(0x020);
-    assert!(rt; !blind.looks());
+    same(&rt, node.get(Place::I), 0);
+    same(&rt, node.get(Place::Slot), 4);
+    holds(&rt, !Node::new(0x020).looks());
+    Ok(())
+}
+
+/// The two ends of a transfer behind it.
+fn are_behind(rt: &impl Abort, sender: &Node, taker: &Node) {
+    same(rt, taker.d(0), 0x2a);
+    same(rt, taker.get(Place::Slot), 3);
+    same(rt, sender.get(Place::Slot), 1);
+}
+
+/// And before it.
+fn are_before(rt: &impl Abort, sender: &Node, taker: &Node) {
+    same(rt, sender.get(Place::Wait), 56);
+    same(rt, taker.get(Place::Wait), 40);
+    same(rt, sender.d(0), 0x2a);
+    same(rt, taker.d(0), 0x15555);
+}
+
+fn transfer(rt: &impl Abort, sender: &mut Node, taker: &mut Node) -> Result<(), Fail> {
+    let (Wait::Write(_), Wait::Read(_)) = (sender.wait(), taker.wait()) else {
+        return Err(Fail::new("no wait"));
+    };
+    let (word, given) = sender.send_half();
+    let taken = taker.take_half(word);
+    same(rt, word.get(), 0x2a);
+    are_behind(rt, sender, taker);
+    sender.restore(&given);
+    taker.restore(&taken);
+    are_before(rt, sender, taker);
     Ok(())
 }
 
@@ -206,71 +266,71 @@ fn transfers_and_takes_back(rt: HostRuntime) -> Result<(), Fail> {
     let mut taker = loaded(&[0x04b02, 0x001d5]);
     let _reason = run(&mut sender, &mut kinds);
     let _reason = run(&mut taker, &mut kinds);
-    let (Wait::Write(_), Wait::Read(_)) = (sender.wait(), taker.wait()) else {
+    transfer(&rt, &mut sender, &mut taker)
+}
+
+fn takes_an_instruction(rt: &impl Abort, node: &mut Node) -> Result<(), Fail> {
+    let Wait::Fetch(_) = node.wait() else {
         return Err(Fail::new("no wait"));
     };
-    let (word, given) = sender.send_half();
-    let taken = taker.take_half(word);
-    assert_eq!(rt; word.get(), 0x2a);
-    assert_eq!(rt; taker.d(0), 0x2a);
-    assert_eq!(rt; taker.get(Place::Slot), 3);
-    assert_eq!(rt; sender.get(Place::Slot), 1);
-    sender.restore(&given);
-    taker.restore(&taken);
-    assert_eq!(rt; sender.get(Place::Wait), 56);
-    assert_eq!(rt; taker.get(Place::Wait), 40);
-    assert_eq!(rt; sender.d(0), 0x2a);
-    assert_eq!(rt; taker.d(0), 0x15555);
+    let taken = node.take_half(Word18::truncated(0x2a));
+    same(rt, node.get(Place::I), 0x2a);
+    same(rt, node.get(Place::Slot), 0);
+    node.restore(&taken);
+    same(rt, node.get(Place::Wait), 30);
+    same(rt, node.get(Place::Slot), 4);
     Ok(())
 }
 
 #[test]
 fn waits_for_an_instruction(rt: HostRuntime) -> Result<(), Fail> {
     let mut node = Node::new(0x1b5);
-    let mut kinds = [Kind::Fetch; 2];
-    assert_eq!(rt; run(&mut node, &mut kinds), Some(NotReady::Waiting));
-    assert_eq!(rt; kinds[0], Kind::Wait);
-    assert_eq!(rt; node.get(Place::Wait), 30);
-    assert_eq!(rt; node.get(Place::P), 0x1b5);
-    let Wait::Fetch(_) = node.wait() else {
-        return Err(Fail::new("no wait"));
-    };
-    let taken = node.take_half(Word18::truncated(0x2a));
-    assert_eq!(rt; node.get(Place::I), 0x2a);
-    assert_eq!(rt; node.get(Place::Slot), 0);
-    node.restore(&taken);
-    assert_eq!(rt; node.get(Place::Wait), 30);
-    assert_eq!(rt; node.get(Place::Slot), 4);
-    Ok(())
+    holds(&rt, is_run(&mut node, &[Kind::Wait], NotReady::Waiting));
+    same(&rt, node.get(Place::Wait), 30);
+    same(&rt, node.get(Place::P), 0x1b5);
+    takes_an_instruction(&rt, &mut node)
 }
 
-#[test]
-fn saves_what_it_overwrites(rt: HostRuntime) -> Result<(), Fail> {
-    // `push . . .` with 5 in T.
+/// What `push` overwrites, in this order.
+const OVERWRITTEN: [(Place, u32); 7] = [
+    (Place::ReturnPointer, 0),
+    (Place::ReturnCell(7), 0x15555),
+    (Place::R, 0x15555),
+    (Place::DataPointer, 0),
+    (Place::S, 0x15555),
+    (Place::T, 5),
+    (Place::Slot, 0),
+];
+
+fn is_saved(saved: &Saved) -> bool {
+    for (place, pair) in OVERWRITTEN.iter().enumerate() {
+        if place >= saved.len() || saved.at(place) != *pair {
+            return false;
+        }
+    }
+    saved.len() == 7
+}
+
+/// `push . . .` with 5 in T.
+fn pushing() -> Node {
     let mut node = Node::new(0);
     node.set(Place::T, 5);
     node.set(Place::I, 0x2e9b2);
     node.set(Place::Slot, 0);
+    node
+}
+
+#[test]
+fn saves_what_it_overwrites(rt: HostRuntime) -> Result<(), Fail> {
+    let mut node = pushing();
     let (kind, saved) = node.own(Seen::nobody())?;
-    assert_eq!(rt; kind, Kind::Run(0x1d));
-    let overwritten = [
-        (Place::ReturnPointer, 0),
-        (Place::ReturnCell(7), 0x15555),
-        (Place::R, 0x15555),
-        (Place::DataPointer, 0),
-        (Place::S, 0x15555),
-        (Place::T, 5),
-        (Place::Slot, 0),
-    ];
-    assert_eq!(rt; saved.len(), 7);
-    for (k, pair) in overwritten.iter().enumerate() {
-        assert_eq!(rt; saved.at(k), *pair);
-    }
-    assert_eq!(rt; node.r(0), 5);
-    assert_eq!(rt; node.d(0), 0x15555);
+    holds(&rt, kind == Kind::Run(0x1d));
+    holds(&rt, is_saved(&saved));
+    same(&rt, node.r(0), 5);
+    same(&rt, node.d(0), 0x15555);
     node.restore(&saved);
-    assert_eq!(rt; node.d(0), 5);
-    assert_eq!(rt; node.get(Place::Slot), 0);
+    same(&rt, node.d(0), 5);
+    same(&rt, node.get(Place::Slot), 0);
     Ok(())
 }
 
@@ -286,6 +346,6 @@ fn greatest_values(rt: HostRuntime) {
         (Place::Wait, 56),
         (Place::Stop, 3),
     ] {
-        assert_eq!(rt; place.greatest(), value);
+        same(&rt, place.greatest(), value);
     }
 }

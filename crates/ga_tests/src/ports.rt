@@ -1,3 +1,4 @@
+use crate::same::{holds, same, there};
 use ga_ports::{PortSet, Side, Target, advance_a, advance_p, classify, matches};
 use ga_word::Word18;
 use std::test::Fail;
@@ -10,54 +11,60 @@ fn advances(rt: HostRuntime) -> Result<(), Fail> {
         (0x1d5, 0x1d5),
         (0x27f, 0x200),
     ] {
-        assert_eq!(rt; advance_p(p), next);
+        same(&rt, u32::from(advance_p(p)), next);
     }
     for (a, next) in [(0x2007f, 0x20000), (0x155, 0x155)] {
-        let a = Word18::new(a).ok_or("no word")?;
-        assert_eq!(rt; advance_a(a).get(), next);
+        let a = there(Word18::new(a))?;
+        same(&rt, advance_a(a).get(), next);
     }
     Ok(())
 }
 
+// What names ports, and their sides.
+const PORTS: [(u32, u8); 8] = [
+    (0x1d5, 8),
+    (0x115, 4),
+    (0x175, 2),
+    (0x145, 1),
+    (0x1a5, 15),
+    (0x195, 12),
+    (0x1b5, 14),
+    (0x185, 13),
+];
+
+// What names something else, or nothing.
+const TARGETS: [(u32, Target); 8] = [
+    (0x000, Target::Ram(0)),
+    (0x07f, Target::Ram(63)),
+    (0x080, Target::Rom(0)),
+    (0x0c1, Target::Rom(1)),
+    (0x15d, Target::Io),
+    (0x141, Target::Bad),
+    (0x155, Target::Bad),
+    (0x201, Target::Ram(1)),
+];
+
 #[test]
 fn addresses(rt: HostRuntime) -> Result<(), Fail> {
-    for (address, sides) in [
-        (0x1d5, 8),
-        (0x115, 4),
-        (0x175, 2),
-        (0x145, 1),
-        (0x1a5, 15),
-        (0x195, 12),
-        (0x1b5, 14),
-        (0x185, 13),
-    ] {
-        let set = PortSet::new(sides).ok_or("no set")?;
-        assert_eq!(rt; classify(address), Target::Ports(set));
+    for (address, sides) in PORTS {
+        let set = there(PortSet::new(sides))?;
+        holds(&rt, classify(address) == Target::Ports(set));
     }
-    for (address, target) in [
-        (0x000, Target::Ram(0)),
-        (0x07f, Target::Ram(63)),
-        (0x080, Target::Rom(0)),
-        (0x0c1, Target::Rom(1)),
-        (0x15d, Target::Io),
-        (0x141, Target::Bad),
-        (0x155, Target::Bad),
-        (0x201, Target::Ram(1)),
-    ] {
-        assert_eq!(rt; classify(address), target);
+    for (address, target) in TARGETS {
+        holds(&rt, classify(address) == target);
     }
     Ok(())
 }
 
 #[test]
 fn sets(rt: HostRuntime) -> Result<(), Fail> {
-    assert!(rt; PortSet::new(0).is_none());
-    assert!(rt; PortSet::new(16).is_none());
-    let set = PortSet::new(10).ok_or("no set")?;
-    assert_eq!(rt; set.single(), None);
-    assert_eq!(rt; PortSet::of(4).single(), Some(Side::Down));
-    assert!(rt; matches(set, Side::Left, Side::Left));
-    assert!(rt; !matches(set, Side::Right, Side::Left));
-    assert!(rt; !matches(set, Side::Up, Side::Up));
+    holds(&rt, PortSet::new(0).is_none());
+    holds(&rt, PortSet::new(16).is_none());
+    let set = there(PortSet::new(10))?;
+    holds(&rt, set.single().is_none());
+    holds(&rt, PortSet::of(4).single() == Some(Side::Down));
+    holds(&rt, matches(set, Side::Left, Side::Left));
+    holds(&rt, !matches(set, Side::Right, Side::Left));
+    holds(&rt, !matches(set, Side::Up, Side::Up));
     Ok(())
 }

@@ -1,3 +1,4 @@
+use crate::same::{holds, same, there};
 use ga_slots::{Op, encode, opcode, target};
 use ga_word::Word18;
 use std::test::Fail;
@@ -10,21 +11,21 @@ fn words(rt: HostRuntime) -> Result<(), Fail> {
         ([Op::Dup, Op::Dup, Op::Dup, Op::Drop], None),
     ];
     for (ops, wanted) in rows {
-        let word = encode(ops).map(|word| word.get());
-        assert_eq!(rt; word, wanted);
+        let word = encode(ops).map(Word18::get);
+        holds(&rt, word == wanted);
     }
     Ok(())
 }
 
 #[test]
 fn fields(rt: HostRuntime) -> Result<(), Fail> {
-    let word = Word18::new(0x1203f).ok_or("no word")?;
-    assert_eq!(rt; opcode(word, 0), Op::Call);
-    assert_eq!(rt; target(0x001, word, 0), 0x03f);
-    let word = Word18::new(0x15534).ok_or("no word")?;
-    assert_eq!(rt; target(0x281, word, 1), 0x234);
-    let word = Word18::new(0x15552).ok_or("no word")?;
-    assert_eq!(rt; target(0x045, word, 2), 0x042);
+    let word = there(Word18::new(0x1203f))?;
+    holds(&rt, opcode(word, 0) == Op::Call);
+    same(&rt, target(0x001, word, 0), 0x03f);
+    let word = there(Word18::new(0x15534))?;
+    same(&rt, target(0x281, word, 1), 0x234);
+    let word = there(Word18::new(0x15552))?;
+    same(&rt, target(0x045, word, 2), 0x042);
     Ok(())
 }
 
@@ -39,7 +40,7 @@ static NAMES: [&str; 32] = [
 fn names(rt: HostRuntime) {
     for code in 0..32u8 {
         let op = Op::from_code(code);
-        assert_eq!(rt; op.code(), code);
-        assert_eq!(rt; op.name().as_bytes(), NAMES[code as usize].as_bytes());
+        same(&rt, u32::from(op.code()), u32::from(code));
+        holds(&rt, op.name().as_bytes() == NAMES[code as usize].as_bytes());
     }
 }

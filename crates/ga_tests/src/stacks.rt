@@ -1,29 +1,36 @@
+use crate::same::same;
 use ga_stacks::{DataStack, ReturnStack, StackPlace};
 use ga_word::Word18;
+use std::process::Abort;
 
-/// The words of a data stack, the top first.
-fn words(stack: &DataStack) -> [u32; 10] {
-    let mut words = [0; 10];
-    for (place, word) in words.iter_mut().enumerate() {
-        *word = stack.at(place as u8).get();
+/// The words of a data stack are these, the top first.
+fn has_words(rt: &impl Abort, stack: &DataStack, wanted: &[u32; 10]) {
+    for place in 0..10u8 {
+        same(rt, stack.at(place).get(), wanted[place as usize]);
     }
-    words
+}
+
+/// The words of a return stack are these, the top first.
+fn has_returns(rt: &impl Abort, stack: &ReturnStack, wanted: &[u32; 9]) {
+    for place in 0..9u8 {
+        same(rt, stack.at(place).get(), wanted[place as usize]);
+    }
 }
 
 #[test]
 fn wraps_around(rt: HostRuntime) {
     let mut stack = DataStack::new();
-    assert_eq!(rt; words(&stack), [0x15555; 10]);
+    has_words(&rt, &stack, &[0x15555; 10]);
     for number in 1..12 {
         let _overwritten = stack.push(Word18::truncated(number));
     }
-    assert_eq!(rt; words(&stack), [11, 10, 9, 8, 7, 6, 5, 4, 3, 2]);
+    has_words(&rt, &stack, &[11, 10, 9, 8, 7, 6, 5, 4, 3, 2]);
     let _overwritten = stack.pop();
-    assert_eq!(rt; words(&stack), [10, 9, 8, 7, 6, 5, 4, 3, 2, 9]);
+    has_words(&rt, &stack, &[10, 9, 8, 7, 6, 5, 4, 3, 2, 9]);
     for _ in 0..10u8 {
         let _overwritten = stack.pop();
     }
-    assert_eq!(rt; words(&stack), [8, 7, 6, 5, 4, 3, 2, 9, 8, 7]);
+    has_words(&rt, &stack, &[8, 7, 6, 5, 4, 3, 2, 9, 8, 7]);
 }
 
 #[test]
@@ -34,13 +41,11 @@ fn of_lists(rt: HostRuntime) {
     let mut stack = DataStack::of([
         first, other, other, other, other, other, other, other, other, last,
     ]);
-    assert_eq!(rt; words(&stack), [1, 2, 2, 2, 2, 2, 2, 2, 2, 3]);
+    has_words(&rt, &stack, &[1, 2, 2, 2, 2, 2, 2, 2, 2, 3]);
     let _overwritten = stack.push(Word18::truncated(0));
-    assert_eq!(rt; words(&stack), [0, 1, 2, 2, 2, 2, 2, 2, 2, 2]);
+    has_words(&rt, &stack, &[0, 1, 2, 2, 2, 2, 2, 2, 2, 2]);
     let stack = ReturnStack::of([first, other, other, other, other, other, other, other, last]);
-    for (place, word) in [1, 2, 2, 2, 2, 2, 2, 2, 3].iter().enumerate() {
-        assert_eq!(rt; stack.at(place as u8).get(), *word);
-    }
+    has_returns(&rt, &stack, &[1, 2, 2, 2, 2, 2, 2, 2, 3]);
 }
 
 #[test]
@@ -49,22 +54,24 @@ fn places(rt: HostRuntime) {
     for number in 1..4 {
         let _overwritten = stack.push(Word18::truncated(number));
     }
-    assert_eq!(rt; stack.second().get(), 2);
-    assert_eq!(rt; stack.get(StackPlace::Top), 3);
-    assert_eq!(rt; stack.get(StackPlace::Second), 2);
-    assert_eq!(rt; stack.get(StackPlace::Pointer), 5);
-    assert_eq!(rt; stack.get(StackPlace::Cell(5)), 1);
+    same(&rt, stack.second().get(), 2);
+    same(&rt, stack.get(StackPlace::Top), 3);
+    same(&rt, stack.get(StackPlace::Second), 2);
+    same(&rt, stack.get(StackPlace::Pointer), 5);
+    same(&rt, stack.get(StackPlace::Cell(5)), 1);
     stack.set(StackPlace::Cell(5), 7);
     stack.set(StackPlace::Second, 8);
     let rest = 0x15555;
-    assert_eq!(rt;
-        words(&stack),
-        [3, 8, 7, rest, rest, rest, rest, rest, rest, rest]
+    has_words(
+        &rt,
+        &stack,
+        &[3, 8, 7, rest, rest, rest, rest, rest, rest, rest],
     );
     stack.set(StackPlace::Pointer, 4);
-    assert_eq!(rt;
-        words(&stack),
-        [3, 8, rest, 7, rest, rest, rest, rest, rest, rest]
+    has_words(
+        &rt,
+        &stack,
+        &[3, 8, rest, 7, rest, rest, rest, rest, rest, rest],
     );
 }
 
@@ -73,12 +80,12 @@ fn places_of_returns(rt: HostRuntime) {
     let mut stack = ReturnStack::new();
     stack.set(StackPlace::Top, 9);
     stack.set(StackPlace::Cell(0), 6);
-    assert_eq!(rt; stack.get(StackPlace::Top), 9);
-    assert_eq!(rt; stack.get(StackPlace::Cell(0)), 6);
-    assert_eq!(rt; stack.at(1).get(), 6);
+    same(&rt, stack.get(StackPlace::Top), 9);
+    same(&rt, stack.get(StackPlace::Cell(0)), 6);
+    same(&rt, stack.at(1).get(), 6);
     stack.set(StackPlace::Pointer, 7);
-    assert_eq!(rt; stack.get(StackPlace::Pointer), 7);
-    assert_eq!(rt; stack.at(2).get(), 6);
+    same(&rt, stack.get(StackPlace::Pointer), 7);
+    same(&rt, stack.at(2).get(), 6);
 }
 
 #[test]
@@ -88,16 +95,14 @@ fn return_ring_wraps(rt: HostRuntime) {
         let _overwritten = stack.push(Word18::truncated(number));
     }
     for place in 0..9u8 {
-        assert_eq!(rt; stack.at(place).get(), 10 - u32::from(place));
+        same(&rt, stack.at(place).get(), 10 - u32::from(place));
     }
     let _overwritten = stack.pop();
-    assert_eq!(rt; stack.at(8).get(), 9);
+    same(&rt, stack.at(8).get(), 9);
     for _ in 0..8u8 {
         let _overwritten = stack.pop();
     }
-    for (place, word) in [9, 8, 7, 6, 5, 4, 3, 2, 9].iter().enumerate() {
-        assert_eq!(rt; stack.at(place as u8).get(), *word);
-    }
+    has_returns(&rt, &stack, &[9, 8, 7, 6, 5, 4, 3, 2, 9]);
 }
 
 #[test]
@@ -105,9 +110,9 @@ fn returns(rt: HostRuntime) {
     let mut stack = ReturnStack::new();
     let _overwritten = stack.push(Word18::truncated(7));
     let _overwritten = stack.replace_top(Word18::truncated(8));
-    assert_eq!(rt; stack.top().get(), 8);
-    assert_eq!(rt; stack.at(1).get(), 0x15555);
+    same(&rt, stack.top().get(), 8);
+    same(&rt, stack.at(1).get(), 0x15555);
     let _overwritten = stack.pop();
-    assert_eq!(rt; stack.top().get(), 0x15555);
-    assert_eq!(rt; stack.at(8).get(), 0x15555);
+    same(&rt, stack.top().get(), 0x15555);
+    same(&rt, stack.at(8).get(), 0x15555);
 }

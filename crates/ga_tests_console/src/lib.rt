@@ -4,4 +4,6 @@
 #[cfg(test)]
 mod console;
 #[cfg(test)]
+mod same;
+#[cfg(test)]
 mod source;

@@ -1,10 +1,13 @@
 //! Pictures: one worked by hand, and those that are refused or can't be written.
 
+use crate::same::{ends, holds, joined, same};
 use ga_console::Status;
 use ga_draw::draw_session;
 use ga_drawing::View;
 use ga_grid::NodeId;
+use std::alloc::Global;
 use std::io::{Error, ErrorKind, Read, Result, Write};
+use std::process::Abort;
 use std::test::Fail;
 
 /// A chip whose node 000 waits to write to node 001, and three events of it, in the second of which 001 takes the word.
@@ -60,74 +63,68 @@ impl Write for Short {
     }
 }
 
+/// What comes of an input.
+#[derive(Drop)]
+struct Drawn {
+    status: Status,
+    picture: Vec<u8>,
+    errors: Vec<u8>,
+}
+
+fn picture_of(alloc: Global, mut input: &[u8], view: View, limit: u32) -> Drawn {
+    let mut picture = Vec::new(alloc);
+    let mut errors = Vec::new(alloc);
+    let status = draw_session(alloc, &mut input, &mut picture, &mut errors, view, limit);
+    Drawn {
+        status,
+        picture,
+        errors,
+    }
+}
+
+const HEAD: &[u8] = b"<svg xmlns='http://www.w3.org/2000/svg' viewBox='0 0 290 106'";
+
 #[test]
-fn three_events(rt: HostRuntime) -> std::result::Result<(), Fail> {
-    let mut reader = INPUT;
-    let mut output = Vec::new(rt.alloc());
-    let mut errors = Vec::new(rt.alloc());
-    let status = draw_session(
-        rt.alloc(),
-        &mut reader,
-        &mut output,
-        &mut errors,
-        view(2),
-        9,
-    );
-    assert_eq!(rt; status, Status::Done);
-    assert!(rt;
-        output.as_slice().starts_with(
-            b"<svg xmlns='http://www.w3.org/2000/svg' viewBox='0 0 290 106'"
-        )
-    );
-    assert!(rt; output.as_slice().ends_with(PICTURE));
-    Ok(())
+fn three_events(rt: HostRuntime) {
+    let drawn = picture_of(rt.alloc(), INPUT, view(2), 9);
+    ends(&rt, drawn.status, Status::Done);
+    holds(&rt, drawn.picture.as_slice().starts_with(HEAD));
+    holds(&rt, drawn.picture.as_slice().ends_with(PICTURE));
 }
 
 /// What is drawn of the events behind these commands, at most so many of which are kept.
-fn drawn(
-    rt: &HostRuntime,
-    commands: &str,
+fn drawn_behind(
+    rt: &impl Abort,
+    alloc: Global,
+    commands: &[u8],
     limit: u32,
-) -> std::result::Result<(Status, Vec<u8>), Fail> {
-    let mut input = Vec::new(rt.alloc());
-    input.extend_from_slice(IMAGE)?;
-    input.extend_from_slice(commands.as_bytes())?;
-    let mut reader = input.as_slice();
-    let mut output = Vec::new(rt.alloc());
+) -> std::result::Result<Vec<u8>, Fail> {
+    let input = joined(alloc, IMAGE, commands)?;
     let view = View {
         cause: None,
         rewind: None,
         from: 0,
         to: u32::MAX,
     };
-    let mut errors = Vec::new(rt.alloc());
-    let status = draw_session(
-        rt.alloc(),
-        &mut reader,
-        &mut output,
-        &mut errors,
-        view,
-        limit,
-    );
-    Ok((status, output))
+    let drawn = picture_of(alloc, input.as_slice(), view, limit);
+    ends(rt, drawn.status, Status::Done);
+    Ok(drawn.picture)
 }
 
 #[test]
 fn a_run_is_followed(rt: HostRuntime) -> std::result::Result<(), Fail> {
     // Node 000 waits, so 001 and 002 are the first that have an event.
-    let ran = drawn(&rt, "run 2\nchip\nrun 2 until\n", 9)?;
-    let stepped = drawn(&rt, "step 001\nstep 002\n", 9)?;
-    assert_eq!(rt; ran.0, Status::Done);
-    assert_eq!(rt; ran.1.as_slice(), stepped.1.as_slice());
+    let ran = drawn_behind(&rt, rt.alloc(), b"run 2\nchip\nrun 2 until\n", 9)?;
+    let stepped = drawn_behind(&rt, rt.alloc(), b"step 001\nstep 002\n", 9)?;
+    same(&rt, ran.as_slice(), stepped.as_slice());
     Ok(())
 }
 
 #[test]
 fn no_more_events_than_the_limit(rt: HostRuntime) -> std::result::Result<(), Fail> {
-    let full = drawn(&rt, "step 001\nstep 001\nrun\n", 1)?;
-    let one = drawn(&rt, "step 001\n", 9)?;
-    assert_eq!(rt; full.0, Status::Done);
-    assert_eq!(rt; full.1.as_slice(), one.1.as_slice());
+    let full = drawn_behind(&rt, rt.alloc(), b"step 001\nstep 001\nrun\n", 1)?;
+    let one = drawn_behind(&rt, rt.alloc(), b"step 001\n", 9)?;
+    same(&rt, full.as_slice(), one.as_slice());
     Ok(())
 }
 
@@ -149,100 +146,68 @@ impl Read for Broken {
     }
 }
 
-#[test]
-fn a_read_fails(rt: HostRuntime) -> std::result::Result<(), Fail> {
-    let inputs: [&'static [u8]; 3] = [b"", b"ga144 1\nend\n", b"ga144 1\nend\nstep 000\n"];
-    for left in inputs {
-        let mut reader = Broken { left };
-        let mut output = Vec::new(rt.alloc());
-        let mut errors = Vec::new(rt.alloc());
-        let status = draw_session(
-            rt.alloc(),
-            &mut reader,
-            &mut output,
-            &mut errors,
-            view(1),
-            9,
-        );
-        assert_eq!(rt; status, Status::StreamFault, "after {} bytes", left.len());
-        assert_eq!(rt; output.len(), 0);
-    }
-    Ok(())
+static FRONTS: [&[u8]; 3] = [b"", b"ga144 1\nend\n", b"ga144 1\nend\nstep 000\n"];
+
+/// A reader fails behind this input.
+fn breaks_off(rt: &impl Abort, alloc: Global, left: &'static [u8]) {
+    let mut reader = Broken { left };
+    let mut output = Vec::new(alloc);
+    let mut errors = Vec::new(alloc);
+    let status = draw_session(alloc, &mut reader, &mut output, &mut errors, view(1), 9);
+    ends(rt, status, Status::StreamFault);
+    same(rt, output.as_slice(), b"");
 }
 
 #[test]
-fn no_such_step(rt: HostRuntime) -> std::result::Result<(), Fail> {
+fn a_read_fails(rt: HostRuntime) {
+    for left in &FRONTS {
+        breaks_off(&rt, rt.alloc(), left);
+    }
+}
+
+/// An input that is refused, with what is written on standard output.
+fn is_refused(rt: &impl Abort, alloc: Global, input: &[u8], rewind: u32, wanted: &[u8]) {
+    let drawn = picture_of(alloc, input, view(rewind), 9);
+    ends(rt, drawn.status, Status::ImageRefused);
+    same(rt, drawn.picture.as_slice(), wanted);
+}
+
+#[test]
+fn no_such_step(rt: HostRuntime) {
+    is_refused(&rt, rt.alloc(), INPUT, 3, b"no 6 nostep\n");
+}
+
+#[test]
+fn a_refused_image(rt: HostRuntime) {
+    let input: &[u8] = b"ga144 1\nnode 000\nx\nend\nstep 000\n";
+    is_refused(&rt, rt.alloc(), input, 1, b"no 12 line line 3\n");
+}
+
+#[test]
+fn source_with_a_fault(rt: HostRuntime) {
+    let input: &[u8] = b"node 000\nfoo\nend\nstep 000\n";
+    let drawn = picture_of(rt.alloc(), input, view(1), 9);
+    ends(&rt, drawn.status, Status::ImageRefused);
+    same(&rt, drawn.picture.as_slice(), b"");
+    same(
+        &rt,
+        drawn.errors.as_slice(),
+        b"ga144: line 2: what is foo\n",
+    );
+}
+
+/// A writer fails behind so many bytes.
+fn fails_behind(rt: &impl Abort, alloc: Global, room: usize) {
     let mut reader = INPUT;
-    let mut output = Vec::new(rt.alloc());
-    let mut errors = Vec::new(rt.alloc());
-    let status = draw_session(
-        rt.alloc(),
-        &mut reader,
-        &mut output,
-        &mut errors,
-        view(3),
-        9,
-    );
-    assert_eq!(rt; status, Status::ImageRefused);
-    assert_eq!(rt; output.as_slice(), b"no 6 nostep\n".as_slice());
-    Ok(())
+    let mut writer = Short { room };
+    let mut errors = Vec::new(alloc);
+    let status = draw_session(alloc, &mut reader, &mut writer, &mut errors, view(1), 9);
+    ends(rt, status, Status::StreamFault);
 }
 
 #[test]
-fn a_refused_image(rt: HostRuntime) -> std::result::Result<(), Fail> {
-    let mut reader = b"ga144 1\nnode 000\nx\nend\nstep 000\n".as_slice();
-    let mut output = Vec::new(rt.alloc());
-    let mut errors = Vec::new(rt.alloc());
-    let status = draw_session(
-        rt.alloc(),
-        &mut reader,
-        &mut output,
-        &mut errors,
-        view(1),
-        9,
-    );
-    assert_eq!(rt; status, Status::ImageRefused);
-    assert_eq!(rt; output.as_slice(), b"no 12 line line 3\n".as_slice());
-    Ok(())
-}
-
-#[test]
-fn source_with_a_fault(rt: HostRuntime) -> std::result::Result<(), Fail> {
-    let mut reader = b"node 000\nfoo\nend\nstep 000\n".as_slice();
-    let mut output = Vec::new(rt.alloc());
-    let mut errors = Vec::new(rt.alloc());
-    let status = draw_session(
-        rt.alloc(),
-        &mut reader,
-        &mut output,
-        &mut errors,
-        view(1),
-        9,
-    );
-    assert_eq!(rt; status, Status::ImageRefused);
-    assert_eq!(rt; output.len(), 0);
-    assert_eq!(rt;
-        errors.as_slice(),
-        b"ga144: line 2: what is foo\n".as_slice()
-    );
-    Ok(())
-}
-
-#[test]
-fn a_write_fails(rt: HostRuntime) -> std::result::Result<(), Fail> {
-    for room in [0, 1, 1000] {
-        let mut reader = INPUT;
-        let mut writer = Short { room };
-        let mut errors = Vec::new(rt.alloc());
-        let status = draw_session(
-            rt.alloc(),
-            &mut reader,
-            &mut writer,
-            &mut errors,
-            view(1),
-            9,
-        );
-        assert_eq!(rt; status, Status::StreamFault, "after {room} bytes");
-    }
-    Ok(())
+fn a_write_fails(rt: HostRuntime) {
+    fails_behind(&rt, rt.alloc(), 0);
+    fails_behind(&rt, rt.alloc(), 1);
+    fails_behind(&rt, rt.alloc(), 1000);
 }

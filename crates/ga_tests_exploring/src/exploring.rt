@@ -1,25 +1,35 @@
 //! Sessions of exploring whose commands are changed, cut or added to.
 
+use crate::same::{ends, joined, same};
 use ga_console::Status;
 use ga_exploring::explore;
 use ga_given::{changed, inserted};
 use std::alloc::{AllocError, Global};
+use std::process::Abort;
 use std::test::Fail;
 
 /// Bytes that stand in no line, and the one that stands there once between words.
 static STRANGE: [u8; 4] = [b'\r', 0x00, 0xff, b' '];
 
-/// What is written for commands behind the empty image.
-fn is_said(alloc: Global, commands: &[u8], said: &[u8]) -> Result<bool, AllocError> {
-    let mut input = b"ga144 1\nend\n".as_slice().to_vec(alloc)?;
-    input.extend_from_slice(commands)?;
-    let mut text = b"ready\n".as_slice().to_vec(alloc)?;
-    text.extend_from_slice(said)?;
-    let mut reader = input.as_slice();
+/// Whether just this is written for an input.
+fn is_answered(alloc: Global, mut input: &[u8], text: &[u8]) -> bool {
     let mut output = Vec::new(alloc);
     let mut errors = Vec::new(alloc);
-    let status = explore(alloc, &mut reader, &mut output, &mut errors, 1_000_000);
-    Ok(status == Status::Done && output.as_slice() == text.as_slice())
+    let status = explore(alloc, &mut input, &mut output, &mut errors, 1_000_000);
+    status == Status::Done && output.as_slice() == text
+}
+
+/// What is written for commands behind the empty image.
+fn is_said(alloc: Global, commands: &[u8], said: &[u8]) -> Result<bool, AllocError> {
+    let input = joined(alloc, b"ga144 1\nend\n", commands)?;
+    let text = joined(alloc, b"ready\n", said)?;
+    Ok(is_answered(alloc, input.as_slice(), text.as_slice()))
+}
+
+fn says(rt: &impl Abort, alloc: Global, commands: &[u8], said: &[u8]) -> Result<(), Fail> {
+    let is_so = is_said(alloc, commands, said)?;
+    assert!(rt; is_so, "{commands:?}");
+    Ok(())
 }
 
 static COMMANDS: [&str; 17] = [
@@ -42,20 +52,32 @@ static COMMANDS: [&str; 17] = [
     "help",
 ];
 
+/// A strange byte is put in a place of a command.
+fn refuses_at(
+    rt: &impl Abort,
+    alloc: Global,
+    line: &[u8],
+    place: usize,
+    byte: u8,
+) -> Result<(), Fail> {
+    let input = inserted(alloc, line, place, byte)?;
+    says(rt, alloc, input.as_slice(), b"no 31 syntax\n")
+}
+
+/// Each strange byte, in each place.
+fn refuses_each(rt: &impl Abort, alloc: Global, line: &[u8]) -> Result<(), Fail> {
+    for place in 0..line.len().saturating_add(1) {
+        for byte in &STRANGE {
+            refuses_at(rt, alloc, line, place, *byte)?;
+        }
+    }
+    Ok(())
+}
+
 #[test]
 fn every_strange_byte(rt: HostRuntime) -> Result<(), Fail> {
-    let alloc = rt.alloc();
     for command in &COMMANDS {
-        let line = command.as_bytes();
-        for place in 0..line.len().saturating_add(1) {
-            for byte in &STRANGE {
-                let input = inserted(alloc, line, place, *byte)?;
-                assert!(rt;
-                    is_said(alloc, input.as_slice(), b"no 31 syntax\n")?,
-                    "{byte} at {place} of {command}"
-                );
-            }
-        }
+        refuses_each(&rt, rt.alloc(), command.as_bytes())?;
     }
     Ok(())
 }
@@ -89,17 +111,18 @@ fn said(alloc: Global, place: usize, byte: u8) -> Result<String, AllocError> {
     }
 }
 
+/// Another byte is put in a place of the two.
+fn says_of_byte(rt: &impl Abort, alloc: Global, place: usize, byte: u8) -> Result<(), Fail> {
+    let input = changed(alloc, PAIR, place, byte)?;
+    let wanted = said(alloc, place, byte)?;
+    says(rt, alloc, input.as_slice(), wanted.as_bytes())
+}
+
 #[test]
 fn every_byte(rt: HostRuntime) -> Result<(), Fail> {
-    let alloc = rt.alloc();
     for place in 0..PAIR.len() {
         for byte in 0..=255u8 {
-            let input = changed(alloc, PAIR, place, byte)?;
-            let wanted = said(alloc, place, byte)?;
-            assert!(rt;
-                is_said(alloc, input.as_slice(), wanted.as_bytes())?,
-                "{byte} at {place}"
-            );
+            says_of_byte(&rt, rt.alloc(), place, byte)?;
         }
     }
     Ok(())
@@ -115,29 +138,54 @@ static LINES: [(&str, &str); 6] = [
     ("run until step 000 2", "quiet 143\n"),
 ];
 
+/// What is answered to the first bytes of a line.
+fn answer_of(line: &str, front: &[u8], answer: &'static str) -> &'static [u8] {
+    if front.len() == line.len() {
+        answer.as_bytes()
+    } else if front == b"run".as_slice() {
+        b"quiet 143\n"
+    } else if front.is_empty() {
+        b""
+    } else {
+        b"no 31 syntax\n"
+    }
+}
+
+/// The first bytes of a line, behind other lines with their answers.
+fn says_of_front(
+    rt: &impl Abort,
+    alloc: Global,
+    before: (&[u8], &[u8]),
+    front: &[u8],
+    answer: &[u8],
+) -> Result<(), Fail> {
+    let input = joined(alloc, before.0, front)?;
+    let wanted = joined(alloc, before.1, answer)?;
+    says(rt, alloc, input.as_slice(), wanted.as_slice())
+}
+
+/// A line is cut at each of its bytes, behind other lines with their answers.
+fn cut_line(
+    rt: &impl Abort,
+    alloc: Global,
+    before: (&[u8], &[u8]),
+    line: &str,
+    answer: &'static str,
+) -> Result<(), Fail> {
+    for place in 0..line.len().saturating_add(1) {
+        let (front, _) = line.as_bytes().split_at(place.min(line.len()));
+        says_of_front(rt, alloc, before, front, answer_of(line, front, answer))?;
+    }
+    Ok(())
+}
+
 #[test]
 fn cut_at_every_byte(rt: HostRuntime) -> Result<(), Fail> {
-    let alloc = rt.alloc();
-    let mut whole = Vec::new(alloc);
-    let mut answers = Vec::new(alloc);
+    let mut whole = Vec::new(rt.alloc());
+    let mut answers = Vec::new(rt.alloc());
     for (line, answer) in &LINES {
-        for place in 0..line.len().saturating_add(1) {
-            let (front, _) = line.as_bytes().split_at(place.min(line.len()));
-            let mut input = whole.as_slice().to_vec(alloc)?;
-            input.extend_from_slice(front)?;
-            let mut wanted = answers.as_slice().to_vec(alloc)?;
-            if place == line.len() {
-                wanted.extend_from_slice(answer.as_bytes())?;
-            } else if front == b"run".as_slice() {
-                wanted.extend_from_slice(b"quiet 143\n")?;
-            } else if place > 0 {
-                wanted.extend_from_slice(b"no 31 syntax\n")?;
-            }
-            assert!(rt;
-                is_said(alloc, input.as_slice(), wanted.as_slice())?,
-                "{place} of {line}"
-            );
-        }
+        let before = (whole.as_slice(), answers.as_slice());
+        cut_line(&rt, rt.alloc(), before, line, answer)?;
         whole.extend_from_slice(line.as_bytes())?;
         whole.push(b'\n')?;
         answers.extend_from_slice(answer.as_bytes())?;
@@ -145,40 +193,45 @@ fn cut_at_every_byte(rt: HostRuntime) -> Result<(), Fail> {
     Ok(())
 }
 
-/// Numbers at their bound and one past it, and lines at theirs.
+/// Numbers at their bound and one past it.
+static BOUNDS: [(&str, &str); 12] = [
+    ("run 4294967295", "quiet 144\n"),
+    ("run 4294967296", "no 31 syntax\n"),
+    ("run random 4294967295 0", "made 0\n"),
+    ("run random 4294967296 0", "no 31 syntax\n"),
+    ("run until step 717 4294967295", "quiet 144\n"),
+    ("run until step 717 4294967296", "no 31 syntax\n"),
+    ("run until wait 718", "no 31 syntax\n"),
+    ("effects 717 4294967295", "no 6 nostep\n"),
+    ("effects 717 4294967296", "no 31 syntax\n"),
+    ("words 717 716", "words 717 716 0\n"),
+    ("words 717 718", "no 31 syntax\n"),
+    ("words 717 715", "no 34 nolink\n"),
+];
+
 #[test]
 fn bounds(rt: HostRuntime) -> Result<(), Fail> {
-    let alloc = rt.alloc();
-    let table = [
-        ("run 4294967295", "quiet 144\n"),
-        ("run 4294967296", "no 31 syntax\n"),
-        ("run random 4294967295 0", "made 0\n"),
-        ("run random 4294967296 0", "no 31 syntax\n"),
-        ("run until step 717 4294967295", "quiet 144\n"),
-        ("run until step 717 4294967296", "no 31 syntax\n"),
-        ("run until wait 718", "no 31 syntax\n"),
-        ("effects 717 4294967295", "no 6 nostep\n"),
-        ("effects 717 4294967296", "no 31 syntax\n"),
-        ("words 717 716", "words 717 716 0\n"),
-        ("words 717 718", "no 31 syntax\n"),
-        ("words 717 715", "no 34 nolink\n"),
-    ];
-    for (command, answer) in table {
-        assert!(rt;
-            is_said(alloc, command.as_bytes(), answer.as_bytes())?,
-            "{command}"
-        );
-    }
-    for (count, answer) in [(200usize, "no 31 syntax\n"), (201, "no 32 long\n")] {
-        let mut line = b"run until ".as_slice().to_vec(alloc)?;
-        for _ in line.len()..count {
-            line.push(b'x')?;
-        }
-        assert!(rt; is_said(alloc, line.as_slice(), answer.as_bytes())?);
-        line.push(b'\n')?;
-        assert!(rt; is_said(alloc, line.as_slice(), answer.as_bytes())?);
+    for (command, answer) in &BOUNDS {
+        says(&rt, rt.alloc(), command.as_bytes(), answer.as_bytes())?;
     }
     Ok(())
+}
+
+/// A line of so many bytes, without a line feed and with one.
+fn long_line(rt: &impl Abort, alloc: Global, count: usize, answer: &[u8]) -> Result<(), Fail> {
+    let mut line = b"run until ".as_slice().to_vec(alloc)?;
+    for _ in line.len()..count {
+        line.push(b'x')?;
+    }
+    says(rt, alloc, line.as_slice(), answer)?;
+    line.push(b'\n')?;
+    says(rt, alloc, line.as_slice(), answer)
+}
+
+#[test]
+fn long_lines(rt: HostRuntime) -> Result<(), Fail> {
+    long_line(&rt, rt.alloc(), 200, b"no 31 syntax\n")?;
+    long_line(&rt, rt.alloc(), 201, b"no 32 long\n")
 }
 
 /// A session on source: a label, a literal and a jump.
@@ -190,12 +243,12 @@ const TOLD_OF_SOURCE: &[u8] =
     b"ready\nno 31 syntax\nmade 2\n000 1 fetch t 015555 s 015555 r 015555 a 000000 b 00015d p 000001 \\ 000 main 2: : main 5 b! dup main ;\n";
 
 #[test]
-fn lines_of_a_source(rt: HostRuntime) -> Result<(), Fail> {
+fn lines_of_a_source(rt: HostRuntime) {
     let mut reader = ON_SOURCE;
     let mut output = Vec::new(rt.alloc());
     let mut errors = Vec::new(rt.alloc());
     let status = explore(rt.alloc(), &mut reader, &mut output, &mut errors, 1_000_000);
-    assert!(rt; status == Status::Done && errors.is_empty());
-    assert_eq!(rt; output.as_slice(), TOLD_OF_SOURCE);
-    Ok(())
+    ends(&rt, status, Status::Done);
+    same(&rt, errors.as_slice(), b"");
+    same(&rt, output.as_slice(), TOLD_OF_SOURCE);
 }

@@ -5,3 +5,5 @@
 mod drawing;
 #[cfg(test)]
 mod exploring;
+#[cfg(test)]
+mod same;

@@ -16,9 +16,8 @@ use std::alloc::Global;
 use std::process::Abort;
 use std::test::Fail;
 
+mod looks;
 mod marks;
-
-use marks::{seen, take_turns};
 
 // A list of one old value, a slot number.
 fn slot(number: u32) -> Saved {
@@ -37,14 +36,6 @@ fn is_own(effect: &Effect, wanted: Kind, number: u32) -> bool {
     match effect {
         Effect::Own(kind, saved) => *kind == wanted && is_slot(saved, number),
         Effect::Look(..) => false,
-        Effect::Pass { .. } => false,
-    }
-}
-
-fn is_look(effect: &Effect, wanted: Kind, number: u32) -> bool {
-    match effect {
-        Effect::Own(..) => false,
-        Effect::Look(kind, saved) => *kind == wanted && is_slot(saved, number),
         Effect::Pass { .. } => false,
     }
 }
@@ -107,43 +98,132 @@ fn linked(alloc: Global) -> Result<Journal, JournalFault>
     Ok(journal)
 }
 
-#[test]
-fn tells_events(rt: HostRuntime) -> Result<(), Fail> {
-    let own = Event::Own(NodeId::new(0));
-    let journal = linked(rt.alloc())?;
-    assert_eq!(rt;
-        (journal.kept(), journal.made(), journal.limit()),
-        (2, 2, 2)
+fn holds(rt: &impl Abort, is_so: bool) {
+    assert!(rt; is_so);
+}
+
+fn same(rt: &impl Abort, found: u64, wanted: u64) {
+    assert_eq!(rt; found, wanted);
+}
+
+// How many events are kept, and how many were made.
+fn counts(rt: &impl Abort, journal: &Journal, kept: u32, made: u64) {
+    same(rt, u64::from(journal.kept()), u64::from(kept));
+    same(rt, journal.made(), made);
+}
+
+// How many of the events are of nodes 000 and 001.
+fn steps_are(rt: &impl Abort, journal: &Journal, first: u32, second: u32) {
+    same(
+        rt,
+        u64::from(journal.steps_of(NodeId::new(0))),
+        u64::from(first),
     );
-    let chronicle = Chronicle { journal };
-    for (place, event) in [(0, Some(own)), (1, Some(passed())), (2, None)] {
-        assert_eq!(rt; chronicle.event_at(place), event, "at {place}");
-    }
-    let causes = [cause(own, false), cause(passed(), false)];
-    assert_eq!(rt; chronicle.causes()?.as_slice(), causes.as_slice());
+    same(
+        rt,
+        u64::from(journal.steps_of(NodeId::new(1))),
+        u64::from(second),
+    );
+}
+
+fn tells_event(rt: &impl Abort, chronicle: &Chronicle, place: u32, wanted: Option<Event>)
+    requires { IsWhole chronicle.now.journal.histories chronicle.now.journal.made }
+{
+    assert_eq!(rt; chronicle.event_at(place), wanted, "at {place}");
+}
+
+fn tells_made(rt: &impl Abort, chronicle: &Chronicle, place: u32, wanted: Option<Made>)
+    requires { IsWhole chronicle.now.journal.histories chronicle.now.journal.made }
+{
+    assert_eq!(rt; chronicle.made_at(place), wanted, "at {place}");
+}
+
+fn tells_causes(rt: &impl Abort, chronicle: &Chronicle, wanted: &[Cause]) -> Result<(), Fail>
+    requires { IsWhole chronicle.now.journal.histories chronicle.now.journal.made }
+{
+    let told = chronicle.causes()?;
+    assert_eq!(rt; told.as_slice(), wanted);
+    Ok(())
+}
+
+fn tells_history(
+    rt: &impl Abort,
+    chronicle: &Chronicle,
+    node: NodeId,
+    wanted: &[Made],
+) -> Result<(), Fail>
+    requires { IsWhole chronicle.now.journal.histories chronicle.now.journal.made }
+{
+    let told = chronicle.history(node)?;
+    assert_eq!(rt; told.as_slice(), wanted);
     Ok(())
 }
 
 #[test]
-fn tells_steps(rt: HostRuntime) -> Result<(), Fail> {
-    let n000 = NodeId::new(0);
-    let n001 = NodeId::new(1);
+fn tells_events(rt: HostRuntime) -> Result<(), Fail> {
+    let own = Event::Own(NodeId::new(0));
     let journal = linked(rt.alloc())?;
-    let pass = Made::Pass {
-        writer: n000,
+    counts(&rt, &journal, 2, 2);
+    same(&rt, u64::from(journal.limit()), 2);
+    let chronicle = Chronicle { journal };
+    tells_event(&rt, &chronicle, 0, Some(own));
+    tells_event(&rt, &chronicle, 1, Some(passed()));
+    tells_event(&rt, &chronicle, 2, None);
+    let causes = [cause(own, false), cause(passed(), false)];
+    tells_causes(&rt, &chronicle, &causes)
+}
+
+// The pass of the two.
+fn told_pass() -> Made {
+    Made::Pass {
+        writer: NodeId::new(0),
         writer_step: 2,
-        reader: n001,
+        reader: NodeId::new(1),
         reader_step: 1,
         word: Word18::truncated(0x2a),
-    };
-    assert_eq!(rt; (journal.steps_of(n000), journal.steps_of(n001)), (2, 1));
+    }
+}
+
+#[test]
+fn tells_steps(rt: HostRuntime) -> Result<(), Fail> {
+    let journal = linked(rt.alloc())?;
+    steps_are(&rt, &journal, 2, 1);
     let chronicle = Chronicle { journal };
-    assert_eq!(rt; chronicle.history(n001)?.as_slice(), [pass].as_slice());
-    assert_eq!(rt;
-        (chronicle.made_at(1), chronicle.made_at(2)),
-        (Some(pass), None)
-    );
-    Ok(())
+    tells_made(&rt, &chronicle, 1, Some(told_pass()));
+    tells_made(&rt, &chronicle, 2, None);
+    tells_history(&rt, &chronicle, NodeId::new(1), &[told_pass()])
+}
+
+fn has_room(rt: &impl Abort, journal: &mut Journal, event: Event, wanted: Result<(), JournalFault>)
+    ensures whole { IsWhole journal.old.histories journal.old.made → IsWhole journal.new.histories journal.new.made }
+    ensures rest { IsAtRest journal.old → IsAtRest journal.new }
+{
+    assert_eq!(rt; journal.room(event), wanted);
+}
+
+// Whether the pass comes out of a journal, with what its ends wrote; then an own event.
+fn pops_pass(journal: &mut Journal, sent: u32, taken: u32) -> bool
+    requires whole { IsWhole journal.old.histories journal.old.made }
+    requires rest { IsAtRest journal.old }
+    ensures whole { IsWhole journal.new.histories journal.new.made }
+    ensures rest { IsAtRest journal.new }
+{
+    match journal.pop() {
+        Some((event, effect)) => event == passed() && is_pass(&effect, sent, taken),
+        None => false,
+    }
+}
+
+fn pops_own(journal: &mut Journal, own: Event, kind: Kind, number: u32) -> bool
+    requires whole { IsWhole journal.old.histories journal.old.made }
+    requires rest { IsAtRest journal.old }
+    ensures whole { IsWhole journal.new.histories journal.new.made }
+    ensures rest { IsAtRest journal.new }
+{
+    match journal.pop() {
+        Some((event, effect)) => event == own && is_own(&effect, kind, number),
+        None => false,
+    }
 }
 
 // The newest event comes out first. There is room for another then, and how many were made stays.
@@ -151,14 +231,12 @@ fn tells_steps(rt: HostRuntime) -> Result<(), Fail> {
 fn pops_the_newest(rt: HostRuntime) -> Result<(), Fail> {
     let own = Event::Own(NodeId::new(0));
     let mut journal = linked(rt.alloc())?;
-    assert_eq!(rt; journal.room(own), Err(JournalFault::Full));
-    let (event, effect) = journal.pop().ok_or("none")?;
-    assert!(rt; event == passed() && is_pass(&effect, 1, 2));
-    assert_eq!(rt; (journal.kept(), journal.made()), (1, 2));
-    assert_eq!(rt; journal.room(own), Ok(()));
-    let (event, effect) = journal.pop().ok_or("none")?;
-    assert!(rt; event == own && is_own(&effect, Kind::Wait, 0));
-    assert!(rt; journal.pop().is_none());
+    has_room(&rt, &mut journal, own, Err(JournalFault::Full));
+    holds(&rt, pops_pass(&mut journal, 1, 2));
+    counts(&rt, &journal, 1, 2);
+    has_room(&rt, &mut journal, own, Ok(()));
+    holds(&rt, pops_own(&mut journal, own, Kind::Wait, 0));
+    holds(&rt, journal.pop().is_none());
     Ok(())
 }
 
@@ -179,131 +257,48 @@ fn make_next(journal: &mut Journal, chip: &mut Chip, node: NodeId) -> Result<Mad
     }
 }
 
+// Makes and keeps the next event of a node, and tells whether it is this own event.
+fn makes_own(journal: &mut Journal, chip: &mut Chip, node: NodeId, kind: Kind) -> Result<bool, Fail>
+    requires whole { IsWhole journal.old.histories journal.old.made }
+    requires rest { IsAtRest journal.old }
+    ensures whole { OnOk result (IsWhole journal.new.histories journal.new.made) }
+    ensures rest { OnOk result (IsAtRest journal.new) }
+    ensures back { OnOk result (TakesBack chip.new journal.new.histories journal.new.made) }
+{
+    let made = make_next(journal, chip, node)?;
+    let step = 1;
+    Ok(made == Made::Own { node, step, kind })
+}
+
+// Whether the newest event is this one, which is taken back.
+fn is_undone(journal: &mut Journal, chip: &mut Chip, event: Event) -> bool
+    requires rest { IsAtRest journal.old }
+    requires back { TakesBack chip.old journal.old.histories journal.old.made }
+    ensures whole { IsWhole journal.new.histories journal.new.made }
+    ensures rest { IsAtRest journal.new }
+{
+    journal.undo(chip) == Some(event)
+}
+
+fn waits(rt: &impl Abort, chip: &Chip, node: NodeId, wanted: u32) {
+    same(
+        rt,
+        u64::from(chip.node(node).get(Place::Wait)),
+        u64::from(wanted),
+    );
+}
+
 // A node at load posts a wait for an instruction from its neighbours, and has no event of its own then.
 #[test]
 fn makes_and_undoes(rt: HostRuntime) -> Result<(), Fail> {
     let n001 = NodeId::new(1);
-    let own = Event::Own(n001);
     let mut chip = Chip::new(rt.alloc())?;
     let mut journal = Journal::new(rt.alloc(), 2)?;
-    let wanted = Made::Own {
-        node: n001,
-        step: 1,
-        kind: Kind::Wait,
-    };
-    assert_eq!(rt; make_next(&mut journal, &mut chip, n001)?, wanted);
-    assert_eq!(rt; chip.node(n001).get(Place::Wait), 30);
-    assert_eq!(rt; journal.undo(&mut chip), Some(own));
-    assert_eq!(rt; chip.node(n001).get(Place::Wait), 0);
-    assert_eq!(rt; make_next(&mut journal, &mut chip, n001)?, wanted);
-    assert_eq!(rt; (journal.kept(), journal.made()), (1, 2));
-    Ok(())
-}
-
-// An own event of node 000, a look of node 001, a word to it from node 000, and a look of node 001 again.
-fn looked(alloc: Global) -> Result<Journal, JournalFault>
-    ensures whole { IfOk result (λ journal. IsWhole journal.histories journal.made) }
-    ensures rest { IfOk result (λ journal. IsAtRest journal) }
-{
-    let mut journal = Journal::new(alloc, 4)?;
-    let own = Effect::Own(Kind::Fetch, slot(0));
-    keep(&mut journal, Event::Own(NodeId::new(0)), own)?;
-    let first = Effect::Look(Kind::Fetch, slot(1));
-    keep(&mut journal, Event::Own(NodeId::new(1)), first)?;
-    let pass = Effect::Pass {
-        word: Word18::truncated(0x2a),
-        writer: slot(2),
-        reader: slot(3),
-    };
-    let event = Event::Pass {
-        writer: NodeId::new(0),
-        reader: NodeId::new(1),
-        side: Side::Right,
-    };
-    keep(&mut journal, event, pass)?;
-    let second = Effect::Look(Kind::Fetch, slot(4));
-    keep(&mut journal, Event::Own(NodeId::new(1)), second)?;
-    Ok(journal)
-}
-
-// A look is told as another own event is, and its cause says that it looked.
-#[test]
-fn tells_looks(rt: HostRuntime) -> Result<(), Fail> {
-    let n001 = NodeId::new(1);
-    let look = Event::Own(n001);
-    let journal = looked(rt.alloc())?;
-    let causes = [
-        cause(Event::Own(NodeId::new(0)), false),
-        cause(look, true),
-        cause(passed(), false),
-        cause(look, true),
-    ];
-    let mut chronicle = Chronicle { journal };
-    assert_eq!(rt; chronicle.causes()?.as_slice(), causes.as_slice());
-    assert_eq!(rt; chronicle.event_at(3), Some(look));
-    let made = Made::Own {
-        node: n001,
-        step: 3,
-        kind: Kind::Fetch,
-    };
-    assert_eq!(rt; chronicle.made_at(3), Some(made));
-    let (event, effect) = chronicle.journal.pop().ok_or("none")?;
-    assert!(rt; event == look && is_look(&effect, Kind::Fetch, 4));
-    assert_eq!(rt; chronicle.causes()?.as_slice(), &causes[..3]);
-    Ok(())
-}
-
-// A look that was popped is found no more.
-#[test]
-fn forgets_a_popped_look(rt: HostRuntime) -> Result<(), Fail> {
-    let n000 = NodeId::new(0);
-    let mut journal = looked(rt.alloc())?;
-    let _last = journal.pop().ok_or("none")?;
-    assert_eq!(rt; seen(&journal), (2, 2, 0));
-    take_turns(
-        &rt,
-        &mut journal,
-        [
-            (n000, Some(1), None, (1, 2, 1)),
-            (n000, None, None, (1, 2, 2)),
-            (n000, Some(0), None, (0, 2, 3)),
-            (n000, None, Some(0), (0, 2, 4)),
-        ],
-    );
-    Ok(())
-}
-
-// Node 001 runs `@b`, where B names `io`: its fetch is no look, and its read is one.
-#[test]
-fn makes_and_undoes_a_look(rt: HostRuntime) -> Result<(), Fail> {
-    let n000 = NodeId::new(0);
-    let n001 = NodeId::new(1);
-    let own = Event::Own(n001);
-    let mut chip = Chip::new(rt.alloc())?;
-    chip.node_mut(n001).set(Place::P, 0);
-    chip.node_mut(n001).set(Place::Ram(0), 0x009b2);
-    let mut journal = Journal::new(rt.alloc(), 3)?;
-    let _waits = make_next(&mut journal, &mut chip, n000)?;
-    let _fetches = make_next(&mut journal, &mut chip, n001)?;
-    let _looks = make_next(&mut journal, &mut chip, n001)?;
-    let mut chronicle = Chronicle { journal };
-    let causes = [
-        cause(Event::Own(n000), false),
-        cause(own, false),
-        cause(own, true),
-    ];
-    assert_eq!(rt; chronicle.causes()?.as_slice(), causes.as_slice());
-    assert_eq!(rt; chronicle.journal.undo(&mut chip), Some(own));
-    assert_eq!(rt; chronicle.causes()?.as_slice(), &causes[..2]);
-    let Chronicle { mut journal } = chronicle;
-    assert_eq!(rt; seen(&journal), (1, 1, 0));
-    take_turns(
-        &rt,
-        &mut journal,
-        [
-            (n000, Some(0), None, (0, 1, 1)),
-            (n000, None, None, (0, 1, 1)),
-        ],
-    );
+    holds(&rt, makes_own(&mut journal, &mut chip, n001, Kind::Wait)?);
+    waits(&rt, &chip, n001, 30);
+    holds(&rt, is_undone(&mut journal, &mut chip, Event::Own(n001)));
+    waits(&rt, &chip, n001, 0);
+    holds(&rt, makes_own(&mut journal, &mut chip, n001, Kind::Wait)?);
+    counts(&rt, &journal, 1, 2);
     Ok(())
 }

@@ -1,7 +1,8 @@
+use crate::asserts::{each_same, same};
 use ga_given::{first_difference, is_same, load, sender, taker};
 use ga_grid::{Chip, NodeId};
 use ga_lab::{Lab, LabFault, Made};
-use ga_node::{Kind, Place};
+use ga_node::{Kind, Node, Place};
 use ga_word::Word18;
 use std::alloc::Global;
 use std::process::Abort;
@@ -28,6 +29,12 @@ fn steps(lab: &mut Lab, node: NodeId, count: u32) -> Result<(), LabFault> {
     Ok(())
 }
 
+// Takes a step back, with what depends on it.
+fn goes(lab: &mut Lab, node: NodeId, step: u32) -> Result<(), LabFault> {
+    let _removed = lab.rewind(node, step)?;
+    Ok(())
+}
+
 fn own(node: NodeId, step: u32, kind: Kind) -> Made {
     Made::Own { node, step, kind }
 }
@@ -51,6 +58,7 @@ fn the_pass() -> Made {
 #[derive(Clone, Copy)]
 enum Act {
     Steps(NodeId, u32),
+    Goes(NodeId, u32),
     Makes(NodeId, Made),
     Refuses(NodeId, LabFault),
     Undoes(Result<(), LabFault>),
@@ -60,21 +68,23 @@ enum Act {
     Holds(NodeId, u8, u32),
 }
 
+// How many events a lab keeps, and how many it ever made.
+fn keeps(rt: &impl Abort, lab: &Lab, kept: u32, made: u64) {
+    let counts = lab.counts();
+    same(rt, &(counts.kept, counts.made), &(kept, made));
+}
+
 fn play_one(rt: &impl Abort, lab: &mut Lab, act: &Act) -> Result<(), LabFault> {
     match act {
         Act::Steps(node, count) => steps(lab, *node, *count)?,
-        Act::Makes(node, made) => assert_eq!(rt; lab.step(*node), Ok(*made)),
-        Act::Refuses(node, why) => assert_eq!(rt; lab.step(*node), Err(*why)),
-        Act::Undoes(answer) => assert_eq!(rt; lab.undo(), *answer),
-        Act::Rewinds(node, step, answer) => assert_eq!(rt; lab.rewind(*node, *step), *answer),
-        Act::Keeps(kept, made) => {
-            let counts = lab.counts();
-            assert!(rt; counts.kept == *kept && counts.made == *made);
-        }
-        Act::Waits(node, wait) => assert_eq!(rt; lab.node(*node).get(Place::Wait), *wait),
-        Act::Holds(node, address, word) => {
-            assert_eq!(rt; lab.memory(*node, *address).get(), *word)
-        }
+        Act::Goes(node, step) => goes(lab, *node, *step)?,
+        Act::Makes(node, made) => same(rt, &lab.step(*node), &Ok(*made)),
+        Act::Refuses(node, why) => same(rt, &lab.step(*node), &Err(*why)),
+        Act::Undoes(answer) => same(rt, &lab.undo(), answer),
+        Act::Rewinds(node, step, answer) => same(rt, &lab.rewind(*node, *step), answer),
+        Act::Keeps(kept, made) => keeps(rt, lab, *kept, *made),
+        Act::Waits(node, wait) => same(rt, &lab.node(*node).get(Place::Wait), wait),
+        Act::Holds(node, address, word) => same(rt, &lab.memory(*node, *address).get(), word),
     }
     Ok(())
 }
@@ -114,6 +124,12 @@ fn passed_and(rt: &impl Abort, alloc: Global, acts: &[Act]) -> Result<Lab, Fail>
     Ok(lab)
 }
 
+// The pair answers so behind the pass.
+fn plays_behind(rt: &impl Abort, alloc: Global, acts: &[Act]) -> Result<(), Fail> {
+    let _lab = passed_and(rt, alloc, acts)?;
+    Ok(())
+}
+
 #[test]
 fn makes_and_undoes(rt: HostRuntime) -> Result<(), Fail> {
     let n000 = NodeId::new(0);
@@ -133,19 +149,42 @@ fn makes_and_undoes(rt: HostRuntime) -> Result<(), Fail> {
         Act::Waits(n000, 56),
         Act::Waits(n001, 40),
     ];
-    let _back = passed_and(&rt, rt.alloc(), &back)?;
-    Ok(())
+    plays_behind(&rt, rt.alloc(), &back)
 }
 
 // The contract lets a step be refused for want of memory at any time: where there is memory, each is made.
 #[test]
 fn step_always_out_of_memory(rt: HostRuntime) -> Result<(), Fail> {
     let lab = passed(&rt, rt.alloc())?;
-    assert_eq!(rt; (lab.counts().kept, lab.counts().made), (12, 12));
+    keeps(&rt, &lab, 12, 12);
     Ok(())
 }
 
-// A node as it was after a step is that of a lab in which the next step was taken back, and at the last step as it stands.
+// A node as it was after a step is this.
+fn peeks_one(rt: &impl Abort, lab: &Lab, node: NodeId, step: u32, wanted: &Node) {
+    let is_wanted = match lab.peek(node, step) {
+        Some(then) => is_same(&then, wanted),
+        None => false,
+    };
+    same(rt, &(step, is_wanted), &(step, true));
+}
+
+// It is that of a lab in which the next step was taken back.
+fn peeks_before(
+    rt: &impl Abort,
+    alloc: Global,
+    lab: &Lab,
+    node: NodeId,
+    step: u8,
+) -> Result<(), Fail> {
+    let step = u32::from(step);
+    let next = step + 1;
+    let other = passed_and(rt, alloc, &[Act::Goes(node, next)])?;
+    peeks_one(rt, lab, node, step, other.node(node));
+    Ok(())
+}
+
+// Each node before a step, and at the last step as it stands.
 fn peeks_at(
     rt: &impl Abort,
     alloc: Global,
@@ -153,20 +192,12 @@ fn peeks_at(
     node: NodeId,
     steps: u8,
 ) -> Result<(), Fail> {
+    for step in 0..steps {
+        peeks_before(rt, alloc, lab, node, step)?;
+    }
     let last = u32::from(steps);
-    for step in 0..last {
-        let mut other = passed(rt, alloc)?;
-        other.rewind(node, step + 1)?;
-        match lab.peek(node, step) {
-            Some(then) => assert!(rt; is_same(&then, other.node(node))),
-            None => assert!(rt; false),
-        }
-    }
-    match lab.peek(node, last) {
-        Some(then) => assert!(rt; is_same(&then, lab.node(node))),
-        None => assert!(rt; false),
-    }
-    assert!(rt; lab.peek(node, last + 1).is_none());
+    peeks_one(rt, lab, node, last, lab.node(node));
+    same(rt, &lab.peek(node, last + 1).is_none(), &true);
     Ok(())
 }
 
@@ -176,19 +207,19 @@ fn peeks(rt: HostRuntime) -> Result<(), Fail> {
     peeks_at(&rt, rt.alloc(), &lab, NodeId::new(0), 8)?;
     peeks_at(&rt, rt.alloc(), &lab, NodeId::new(1), 5)?;
     peeks_at(&rt, rt.alloc(), &lab, NodeId::new(2), 0)?;
-    assert_eq!(rt; (lab.counts().kept, lab.counts().made), (12, 12));
+    keeps(&rt, &lab, 12, 12);
     Ok(())
 }
 
 // What is told of a node, and of the event at a place.
 fn tells(rt: &impl Abort, lab: &Lab, node: NodeId, wanted: &[Made]) -> Result<(), Fail> {
     let told = lab.history(node)?;
-    assert_eq!(rt; told.as_slice(), wanted);
+    each_same(rt, &told, wanted);
     Ok(())
 }
 
 fn tells_at(rt: &impl Abort, lab: &Lab, place: u32, wanted: Option<Made>) {
-    assert_eq!(rt; lab.made_at(place), wanted);
+    same(rt, &lab.made_at(place), &wanted);
 }
 
 #[test]
@@ -244,21 +275,20 @@ fn rewinds_a_cause(rt: HostRuntime) -> Result<(), Fail> {
         Act::Keeps(10, 12),
         Act::Waits(n001, 40),
     ];
-    let _writer = passed_and(&rt, rt.alloc(), &writer)?;
+    plays_behind(&rt, rt.alloc(), &writer)?;
     let later = [
         Act::Makes(n001, own(n001, 6, Kind::Run(0x1c))),
         Act::Rewinds(n000, 7, Ok(3)),
         Act::Keeps(10, 13),
         Act::Waits(n001, 40),
     ];
-    let _later = passed_and(&rt, rt.alloc(), &later)?;
+    plays_behind(&rt, rt.alloc(), &later)?;
     let reader = [
         Act::Rewinds(n001, 1, Ok(5)),
         Act::Keeps(7, 12),
         Act::Waits(n000, 56),
     ];
-    let _reader = passed_and(&rt, rt.alloc(), &reader)?;
-    Ok(())
+    plays_behind(&rt, rt.alloc(), &reader)
 }
 
 // In one order the second step is gone, in the other both are there.
@@ -314,15 +344,20 @@ fn keeps_the_other_cause(rt: HostRuntime) -> Result<(), Fail> {
     Ok(())
 }
 
+// Two labs keep the same events of a node.
+fn assert_same_history(rt: &impl Abort, one: &Lab, other: &Lab, node: NodeId) -> Result<(), Fail> {
+    let told = one.history(node)?;
+    let wanted = other.history(node)?;
+    each_same(rt, &told, &wanted);
+    Ok(())
+}
+
 // Whether two labs keep the same events and hold the same nodes.
 fn assert_same(rt: &impl Abort, one: &Lab, other: &Lab) -> Result<(), Fail> {
-    assert_eq!(rt; one.counts().kept, other.counts().kept);
+    same(rt, &one.counts().kept, &other.counts().kept);
     for number in 0..144u8 {
-        let node = NodeId::new(number);
-        let told = one.history(node)?;
-        let wanted = other.history(node)?;
-        assert_eq!(rt; told.as_slice(), wanted.as_slice(), "node {number}");
+        assert_same_history(rt, one, other, NodeId::new(number))?;
     }
-    assert_eq!(rt; first_difference(one.chip(), other.chip()), None);
+    same(rt, &first_difference(one.chip(), other.chip()), &None);
     Ok(())
 }

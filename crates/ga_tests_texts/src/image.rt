@@ -14,10 +14,8 @@ use std::process::Abort;
 type Refusal = Option<(u8, u32)>;
 
 fn refusal(alloc: Global, text: &[u8]) -> Refusal {
-    match parse(alloc, text) {
-        Ok(_) => None,
-        Err(fault) => Some((fault.cause.number(), fault.line)),
-    }
+    let fault = parse(alloc, text).err()?;
+    Some((fault.cause.number(), fault.line))
 }
 
 /// Asserts how a text is refused.

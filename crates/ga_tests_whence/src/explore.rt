@@ -1,3 +1,4 @@
+use crate::asserts::{each_same, same};
 use ga_explore::{
     Condition, Effect, End, Ran, Schedule, Sent, Words, are_linked, count_words, find_effects,
     find_stuck, run,
@@ -49,13 +50,22 @@ fn effect(node: NodeId, first: u32, steps: u32) -> Effect {
     Effect { node, first, steps }
 }
 
+// What is kept at a place.
+fn is_made_at(rt: &impl Abort, lab: &Lab, place: u32, wanted: Made) {
+    same(rt, &lab.made_at(place), &Some(wanted));
+}
+
+// How many events a run made, and why it ended.
+fn ends(rt: &impl Abort, ran: Ran, events: u64, end: End) {
+    same(rt, &ran, &Ran { events, end });
+}
+
 // In rounds both nodes make four events in turn, then 000 alone goes on up to its wait.
 #[test]
 fn rounds(rt: HostRuntime) -> Result<(), Fail> {
     let mut lab = pair(rt.alloc())?;
     let ran = run(&mut lab, Schedule::in_rounds(), 12, &Condition::Never);
-    let (events, end) = (12, End::Made);
-    assert_eq!(rt; ran, Ran { events, end });
+    ends(&rt, ran, 12, End::Made);
     is_made_at(&rt, &lab, 0, own(0, 1, Kind::Fetch));
     is_made_at(&rt, &lab, 1, own(1, 1, Kind::Fetch));
     is_made_at(&rt, &lab, 7, own(1, 4, Kind::Wait));
@@ -64,20 +74,15 @@ fn rounds(rt: HostRuntime) -> Result<(), Fail> {
     Ok(())
 }
 
-fn is_made_at(rt: &impl Abort, lab: &Lab, place: u32, wanted: Made) {
-    assert_eq!(rt; lab.made_at(place), Some(wanted));
-}
-
 // Greedily 000 makes all its seven events before 001 makes one.
 #[test]
 fn greedy(rt: HostRuntime) -> Result<(), Fail> {
     let mut lab = pair(rt.alloc())?;
     let ran = run(&mut lab, Schedule::greedily(), 12, &Condition::Never);
-    let (events, end) = (12, End::Made);
-    assert_eq!(rt; ran, Ran { events, end });
-    assert_eq!(rt; lab.made_at(6), Some(own(0, 7, Kind::Wait)));
-    assert_eq!(rt; lab.made_at(7), Some(own(1, 1, Kind::Fetch)));
-    assert_eq!(rt; lab.made_at(11), Some(the_pass()));
+    ends(&rt, ran, 12, End::Made);
+    is_made_at(&rt, &lab, 6, own(0, 7, Kind::Wait));
+    is_made_at(&rt, &lab, 7, own(1, 1, Kind::Fetch));
+    is_made_at(&rt, &lab, 11, the_pass());
     Ok(())
 }
 
@@ -95,10 +100,9 @@ fn drawn(rt: HostRuntime) -> Result<(), Fail> {
             5,
             &Condition::Never,
         );
-        let (events, end) = (5, End::Made);
-        assert_eq!(rt; ran, Ran { events, end });
+        ends(&rt, ran, 5, End::Made);
         for (place, node) in wanted.iter().enumerate() {
-            assert_eq!(rt; lab.made_at(place as u32), Some(own(*node, 1, Kind::Wait)));
+            is_made_at(&rt, &lab, place as u32, own(*node, 1, Kind::Wait));
         }
     }
     Ok(())
@@ -113,8 +117,7 @@ fn reaches(
     made: Made,
 ) -> Result<(), Fail> {
     let ran = run(&mut lab, Schedule::in_rounds(), 100, &until);
-    let end = End::Reached(made);
-    assert_eq!(rt; ran, Ran { events, end });
+    ends(rt, ran, events, End::Reached(made));
     Ok(())
 }
 
@@ -166,21 +169,22 @@ fn reaches_a_word_in_a_cell(rt: HostRuntime) -> Result<(), Fail> {
     reaches(&rt, lab, holds, 11, own(0, 7, Kind::Run(0xe)))
 }
 
+// In rounds up to a stop, how many events are made, and why no more.
+fn goes_up_to(rt: &impl Abort, lab: &mut Lab, events: u64, end: End) {
+    let ran = run(lab, Schedule::in_rounds(), 100, &Condition::Stops);
+    ends(rt, ran, events, end);
+}
+
 // Both nodes wait for a word that neither sends; and a limit of three events.
 #[test]
 fn quiet_and_full(rt: HostRuntime) -> Result<(), Fail> {
-    let mut lab = lab_of(rt.alloc(), taker(0x1d5), taker(0x1d5))?;
-    let ran = run(&mut lab, Schedule::in_rounds(), 100, &Condition::Stops);
-    let (events, end) = (8, End::Quiet);
-    assert_eq!(rt; ran, Ran { events, end });
-    let mut lab = Lab::new(rt.alloc(), Chip::new(rt.alloc())?, 3)?;
-    let ran = run(&mut lab, Schedule::in_rounds(), 100, &Condition::Stops);
-    let (events, end) = (3, End::Refused(LabFault::Full));
-    assert_eq!(rt; ran, Ran { events, end });
+    let mut quiet = lab_of(rt.alloc(), taker(0x1d5), taker(0x1d5))?;
+    goes_up_to(&rt, &mut quiet, 8, End::Quiet);
+    let mut full = Lab::new(rt.alloc(), Chip::new(rt.alloc())?, 3)?;
+    goes_up_to(&rt, &mut full, 3, End::Refused(LabFault::Full));
     Ok(())
 }
 
-// The wait of 000 in its step 7 goes with the pass alone, the first step of 001 with all that 001 made and the pass.
 // What a rollback would take, which takes nothing.
 fn has_effects(
     rt: &impl Abort,
@@ -191,25 +195,30 @@ fn has_effects(
     wanted: &[Effect],
 ) -> Result<(), Fail> {
     let told = find_effects(alloc, lab, at.0, at.1)?;
-    assert_eq!(rt; told.events, events);
-    assert_eq!(rt; told.nodes.as_slice(), wanted);
+    same(rt, &told.events, &events);
+    each_same(rt, &told.nodes, wanted);
     Ok(())
 }
 
-#[test]
-fn tells_effects(rt: HostRuntime) -> Result<(), Fail> {
-    let alloc = rt.alloc();
-    let mut lab = pair(alloc)?;
-    run(&mut lab, Schedule::in_rounds(), 12, &Condition::Never);
+// What a rollback of each of two steps would take, and of one that is not there.
+fn effects(rt: &impl Abort, alloc: Global, lab: &mut Lab) -> Result<(), Fail> {
     let (left, right) = (NodeId::new(0), NodeId::new(1));
     let wanted = [effect(left, 7, 2), effect(right, 5, 1)];
-    has_effects(&rt, alloc, &mut lab, (left, 7), 2, &wanted)?;
+    has_effects(rt, alloc, lab, (left, 7), 2, &wanted)?;
     let wanted = [effect(left, 8, 1), effect(right, 1, 5)];
-    has_effects(&rt, alloc, &mut lab, (right, 1), 5, &wanted)?;
-    let refused = find_effects(alloc, &mut lab, left, 9);
-    assert!(rt; matches!(refused, Err(LabFault::NoStep)));
-    assert_eq!(rt; lab.counts().kept, 12);
+    has_effects(rt, alloc, lab, (right, 1), 5, &wanted)?;
+    let refused = find_effects(alloc, lab, left, 9).err();
+    same(rt, &refused, &Some(LabFault::NoStep));
+    same(rt, &lab.counts().kept, &12);
     Ok(())
+}
+
+// The wait of 000 in its step 7 goes with the pass alone, the first step of 001 with all that 001 made and the pass.
+#[test]
+fn tells_effects(rt: HostRuntime) -> Result<(), Fail> {
+    let mut lab = pair(rt.alloc())?;
+    run(&mut lab, Schedule::in_rounds(), 12, &Condition::Never);
+    effects(&rt, rt.alloc(), &mut lab)
 }
 
 // The sender loops: 13 steps from one word to the next. The taker reads again behind its fetch of an empty cell.
@@ -233,10 +242,10 @@ fn tells_words(rt: HostRuntime) -> Result<(), Fail> {
             reader_step,
             word,
         };
-        assert_eq!(rt; words.next(&lab), Some(sent));
+        same(&rt, &words.next(&lab), &Some(sent));
     }
-    assert_eq!(rt; words.next(&lab), None);
-    assert_eq!(rt; Words::new(reader, writer).next(&lab), None);
+    let rest = [words.next(&lab), Words::new(reader, writer).next(&lab)];
+    each_same(&rt, &rest, &[None, None]);
     Ok(())
 }
 
@@ -252,7 +261,7 @@ fn counts_words(rt: HostRuntime) -> Result<(), Fail> {
         number: 2,
     };
     run(&mut lab, Schedule::in_rounds(), 12, &until);
-    assert_eq!(rt; count_words(&lab, writer, reader), 1);
+    same(&rt, &count_words(&lab, writer, reader), &1);
     let made = Made::Pass {
         writer,
         writer_step: 21,
@@ -261,12 +270,14 @@ fn counts_words(rt: HostRuntime) -> Result<(), Fail> {
         word: Word18::truncated(0x2a),
     };
     let ran = run(&mut lab, Schedule::in_rounds(), 100, &until);
-    let (events, end) = (16, End::Reached(made));
-    assert_eq!(rt; ran, Ran { events, end });
-    assert_eq!(rt; count_words(&lab, writer, reader), 2);
-    assert_eq!(rt; count_words(&lab, reader, writer), 0);
+    ends(&rt, ran, 16, End::Reached(made));
+    let counts = [
+        count_words(&lab, writer, reader),
+        count_words(&lab, reader, writer),
+    ];
+    each_same(&rt, &counts, &[2, 0]);
     lab.undo()?;
-    assert_eq!(rt; count_words(&lab, writer, reader), 1);
+    same(&rt, &count_words(&lab, writer, reader), &1);
     Ok(())
 }
 
@@ -274,25 +285,39 @@ fn counts_words(rt: HostRuntime) -> Result<(), Fail> {
 #[test]
 fn tells_neighbours(rt: HostRuntime) -> Result<(), Fail> {
     let node = NodeId::new(0);
-    assert!(rt; are_linked(node, NodeId::new(1)) && are_linked(NodeId::new(1), node));
-    assert!(rt; are_linked(node, NodeId::new(18)) && are_linked(NodeId::new(1), NodeId::new(2)));
-    assert!(rt; !are_linked(node, node) && !are_linked(node, NodeId::new(2)));
-    assert!(rt; !are_linked(node, NodeId::new(17)) && !are_linked(node, NodeId::new(19)));
+    let linked = [
+        are_linked(node, NodeId::new(1)),
+        are_linked(NodeId::new(1), node),
+        are_linked(node, NodeId::new(18)),
+        are_linked(NodeId::new(1), NodeId::new(2)),
+    ];
+    each_same(&rt, &linked, &[true; 4]);
+    let apart = [
+        are_linked(node, node),
+        are_linked(node, NodeId::new(2)),
+        are_linked(node, NodeId::new(17)),
+        are_linked(node, NodeId::new(19)),
+    ];
+    each_same(&rt, &apart, &[false; 4]);
     Ok(())
+}
+
+// Which nodes can never go on, after so many more events.
+fn stuck_after(lab: &mut Lab, events: u64) -> [bool; 144] {
+    run(lab, Schedule::in_rounds(), events, &Condition::Never);
+    find_stuck(lab.chip())
 }
 
 // Two nodes that read from one another can never go on; where one writes, or still runs, both may.
 #[test]
 fn finds_the_stuck(rt: HostRuntime) -> Result<(), Fail> {
-    let mut lab = lab_of(rt.alloc(), taker(0x1d5), taker(0x1d5))?;
-    run(&mut lab, Schedule::in_rounds(), 7, &Condition::Never);
-    let flags = find_stuck(lab.chip());
-    assert!(rt; !flags[0] && !flags[1] && flags[2] && flags[143]);
-    run(&mut lab, Schedule::in_rounds(), 1, &Condition::Never);
-    assert!(rt; find_stuck(lab.chip()) == [true; 144]);
-    let mut lab = pair(rt.alloc())?;
-    run(&mut lab, Schedule::in_rounds(), 11, &Condition::Never);
-    let flags = find_stuck(lab.chip());
-    assert!(rt; !flags[0] && !flags[1] && flags[2]);
+    let mut both_read = lab_of(rt.alloc(), taker(0x1d5), taker(0x1d5))?;
+    let flags = stuck_after(&mut both_read, 7);
+    let shown = [flags[0], flags[1], flags[2], flags[143]];
+    each_same(&rt, &shown, &[false, false, true, true]);
+    same(&rt, &stuck_after(&mut both_read, 1), &[true; 144]);
+    let mut one_writes = pair(rt.alloc())?;
+    let flags = stuck_after(&mut one_writes, 11);
+    each_same(&rt, &flags[..3], &[false, false, true]);
     Ok(())
 }

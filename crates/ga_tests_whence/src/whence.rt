@@ -1,5 +1,7 @@
 ghost use Rattle.std.specs.Prelude.{◌≡◌};
+ghost use Rattle.ga_flow.specs.Flow.{IsPart};
 
+use crate::asserts::{each_same, same};
 use ga_flow::Part;
 use ga_given::{load, sender, taker};
 use ga_grid::{Chip, NodeId};
@@ -41,47 +43,67 @@ fn alone(alloc: Global, words: [u32; 5], count: u32) -> Result<Lab, Fail> {
     Ok(lab)
 }
 
-fn is_all(listing: &Listing, rows: &[Row]) -> bool {
-    listing.is_whole && listing.rows.as_slice() == rows
+// A listing has these rows, and says whether they are all.
+fn lists(rt: &impl Abort, listing: &Listing, is_whole: bool, rows: &[Row]) {
+    same(rt, &listing.is_whole, &is_whole);
+    each_same(rt, &listing.rows, rows);
+}
+
+// What a value comes from, in all.
+fn comes_from(
+    rt: &impl Abort,
+    alloc: Global,
+    lab: &Lab,
+    asked: Value,
+    rows: &[Row],
+) -> Result<(), Fail>
+    requires { IsPart asked.part }
+{
+    is_cut(rt, alloc, lab, asked, MOST, true, rows)
+}
+
+// What it comes from, as far as so many rows tell it.
+fn is_cut(
+    rt: &impl Abort,
+    alloc: Global,
+    lab: &Lab,
+    asked: Value,
+    most: u32,
+    is_whole: bool,
+    rows: &[Row],
+) -> Result<(), Fail>
+    requires { IsPart asked.part }
+{
+    let listing = whence(alloc, lab, asked, most)?;
+    lists(rt, &listing, is_whole, rows);
+    Ok(())
 }
 
 // `@p dup dup .` with a literal, then `or`: the word that cancels itself is named once, and neither `dup` is.
 #[test]
 fn word_with_itself(rt: HostRuntime) -> Result<(), Fail> {
     let lab = alone(rt.alloc(), [0x4d92, 5, 0x389b2, 0, 0], 7)?;
-    let listing = whence(rt.alloc(), &lab, at(0, 7, Part::T), MOST)?;
-    assert!(rt;
-        is_all(
-            &listing,
-            &[
-                row(0, 0, 7, Part::T),
-                row(1, 0, 2, Part::T),
-                row(2, 0, 0, Part::Ram(1)),
-            ]
-        )
-    );
-    Ok(())
+    let rows = [
+        row(0, 0, 7, Part::T),
+        row(1, 0, 2, Part::T),
+        row(2, 0, 0, Part::Ram(1)),
+    ];
+    comes_from(&rt, rt.alloc(), &lab, at(0, 7, Part::T), &rows)
 }
 
 // `@p @p over .` with two literals, then `or or`: each `or` and each literal is named once, and `over` isn't.
 #[test]
 fn word_with_another_twice(rt: HostRuntime) -> Result<(), Fail> {
     let lab = alone(rt.alloc(), [0x5d82, 5, 6, 0x383b2, 0], 8)?;
-    let listing = whence(rt.alloc(), &lab, at(0, 8, Part::T), MOST)?;
-    assert!(rt;
-        is_all(
-            &listing,
-            &[
-                row(0, 0, 8, Part::T),
-                row(1, 0, 7, Part::T),
-                row(2, 0, 2, Part::T),
-                row(3, 0, 0, Part::Ram(1)),
-                row(2, 0, 3, Part::T),
-                row(3, 0, 0, Part::Ram(2)),
-            ]
-        )
-    );
-    Ok(())
+    let rows = [
+        row(0, 0, 8, Part::T),
+        row(1, 0, 7, Part::T),
+        row(2, 0, 2, Part::T),
+        row(3, 0, 0, Part::Ram(1)),
+        row(2, 0, 3, Part::T),
+        row(3, 0, 0, Part::Ram(2)),
+    ];
+    comes_from(&rt, rt.alloc(), &lab, at(0, 8, Part::T), &rows)
 }
 
 // Node 000 sends 2a in its step 8, node 001 takes it in its step 5.
@@ -104,28 +126,20 @@ fn word_over_a_link(rt: HostRuntime) -> Result<(), Fail> {
         row(2, 0, 0, Part::Ram(2)),
     ];
     let asked = at(1, 6, Part::T);
-    assert_eq!(rt; origin_of(&lab, asked), at(1, 5, Part::T));
-    let listing = whence(rt.alloc(), &lab, asked, 3)?;
-    assert!(rt; is_all(&listing, &rows));
-    let listing = whence(rt.alloc(), &lab, asked, 2)?;
-    assert!(rt; !listing.is_whole && listing.rows.as_slice() == &rows[..2]);
-    let listing = whence(rt.alloc(), &lab, at(1, 6, Part::B), MOST)?;
-    assert!(rt;
-        is_all(
-            &listing,
-            &[
-                row(0, 1, 3, Part::B),
-                row(1, 1, 2, Part::T),
-                row(2, 1, 0, Part::Ram(1)),
-            ]
-        )
-    );
-    Ok(())
+    same(&rt, &origin_of(&lab, asked), &at(1, 5, Part::T));
+    is_cut(&rt, rt.alloc(), &lab, asked, 3, true, &rows)?;
+    is_cut(&rt, rt.alloc(), &lab, asked, 2, false, &rows[..2])?;
+    let of_b = [
+        row(0, 1, 3, Part::B),
+        row(1, 1, 2, Part::T),
+        row(2, 1, 0, Part::Ram(1)),
+    ];
+    comes_from(&rt, rt.alloc(), &lab, at(1, 6, Part::B), &of_b)
 }
 
 // Of a fetch the instruction word, of `@p` T, of `b!` B, of the wait behind it B before it; of the pass T, before it and behind it.
 fn asks(rt: &impl Abort, lab: &Lab, node: u8, step: u32, wanted: Option<Value>) {
-    assert_eq!(rt; asked_of(lab, NodeId::new(node % 144), step), wanted);
+    same(rt, &asked_of(lab, NodeId::new(node % 144), step), &wanted);
 }
 
 #[test]
@@ -146,11 +160,11 @@ fn what_is_asked_for(rt: HostRuntime) -> Result<(), Fail> {
 fn what_was_loaded(rt: HostRuntime) -> Result<(), Fail> {
     let lab = passed(rt.alloc())?;
     for step in 0..9u32 {
-        let listing = whence(rt.alloc(), &lab, at(0, step % 9, Part::Rom(3)), MOST)?;
-        assert!(rt; is_all(&listing, &[row(0, 0, 0, Part::Rom(3))]));
+        let rows = [row(0, 0, 0, Part::Rom(3))];
+        comes_from(&rt, rt.alloc(), &lab, at(0, step, Part::Rom(3)), &rows)?;
     }
-    let refused = whence(rt.alloc(), &lab, at(0, 9, Part::T), MOST);
-    assert!(rt; matches!(refused, Err(LabFault::NoStep)));
+    let refused = whence(rt.alloc(), &lab, at(0, 9, Part::T), MOST).err();
+    same(&rt, &refused, &Some(LabFault::NoStep));
     Ok(())
 }
 
@@ -165,22 +179,25 @@ fn multiplier(chip: &mut Chip) {
     }
 }
 
-// Each of the 18 steps of the product is named once, with the two factors, the 0 that it began with, and what came over the link.
-#[test]
-fn product_of_what_came(rt: HostRuntime) -> Result<(), Fail> {
-    let mut chip = Chip::new(rt.alloc())?;
+// The chip on which node 000 sends 6 and node 001 multiplies it, behind the product.
+fn multiplied(alloc: Global) -> Result<Lab, Fail> {
+    let mut chip = Chip::new(alloc)?;
     load(&mut chip, NodeId::new(0), sender(0x1d5, 6));
     multiplier(&mut chip);
-    let mut lab = Lab::new(rt.alloc(), chip, 1_000)?;
+    let mut lab = Lab::new(alloc, chip, 1_000)?;
     steps(&mut lab, 0, 7)?;
     steps(&mut lab, 1, 57)?;
-    assert_eq!(rt; lab.node(NodeId::new(1)).d(0), 42);
-    let listing = whence(rt.alloc(), &lab, at(1, 57, Part::T), MOST)?;
+    Ok(lab)
+}
+
+// The rows of the 18 steps of the product, and behind them those of what they began with.
+fn is_product(rt: &impl Abort, listing: &Listing) {
     let rows = listing.rows.as_slice();
-    assert!(rt; listing.is_whole && rows.len() == 25);
+    same(rt, &listing.is_whole, &true);
+    assert_eq!(rt; rows.len(), 25);
     for depth in 0..18u32 {
         let step = 52 - 2 * depth;
-        assert_eq!(rt; rows[depth as usize], row(depth, 1, step, Part::T));
+        same(rt, &rows[depth as usize], &row(depth, 1, step, Part::T));
     }
     let factors = [
         row(18, 1, 10, Part::T),
@@ -191,6 +208,15 @@ fn product_of_what_came(rt: HostRuntime) -> Result<(), Fail> {
         row(19, 0, 4, Part::T),
         row(20, 0, 0, Part::Ram(2)),
     ];
-    assert!(rt; &rows[18..] == factors.as_slice());
+    each_same(rt, &rows[18..], &factors);
+}
+
+// Each of the 18 steps of the product is named once, with the two factors, the 0 that it began with, and what came over the link.
+#[test]
+fn product_of_what_came(rt: HostRuntime) -> Result<(), Fail> {
+    let lab = multiplied(rt.alloc())?;
+    same(&rt, &lab.node(NodeId::new(1)).d(0), &42);
+    let listing = whence(rt.alloc(), &lab, at(1, 57, Part::T), MOST)?;
+    is_product(&rt, &listing);
     Ok(())
 }

@@ -1,5 +1,6 @@
 //! Readers that fail, and writers that take one byte at a time and fail, at each of their calls.
 
+use crate::same::{ends, holds, same};
 use ga_console::{Status, session};
 use ga_given::{SENDER_AND_TAKER, WAITING};
 use std::alloc::{AllocError, Global};
@@ -150,21 +151,26 @@ fn answers(alloc: Global, talk: &Talk, read: usize) -> std::result::Result<Vec<u
     Ok(text)
 }
 
+/// Lets a reader fail behind so many bytes.
+fn fail_read(rt: &impl Abort, alloc: Global, input: &[u8], read: usize, wanted: &[u8]) {
+    let mut reader = Dripping {
+        left: input,
+        calls: 0,
+        fails_at: read.saturating_add(1),
+    };
+    let mut output = Vec::new(alloc);
+    let status = session(alloc, &mut reader, &mut output, LIMIT);
+    ends(rt, status, Status::StreamFault);
+    holds(rt, reader.calls == reader.fails_at);
+    same(rt, output.as_slice(), wanted);
+}
+
 /// Lets a talk's reader fail at each of its calls.
 fn fail_reads(rt: &impl Abort, alloc: Global, talk: &Talk) -> std::result::Result<(), Fail> {
     let input = input(alloc, talk)?;
     for read in 0..input.len().saturating_add(1) {
-        let mut reader = Dripping {
-            left: input.as_slice(),
-            calls: 0,
-            fails_at: read.saturating_add(1),
-        };
-        let mut output = Vec::new(alloc);
-        let status = session(alloc, &mut reader, &mut output, LIMIT);
-        assert_eq!(rt; status, Status::StreamFault);
-        assert_eq!(rt; reader.calls, reader.fails_at);
         let wanted = answers(alloc, talk, read)?;
-        assert!(rt; output.as_slice() == wanted.as_slice(), "{read} bytes");
+        fail_read(rt, alloc, input.as_slice(), read, wanted.as_slice());
     }
     Ok(())
 }
@@ -179,31 +185,34 @@ fn every_read_fails_in_the_second_format(rt: HostRuntime) -> std::result::Result
     fail_reads(&rt, rt.alloc(), &second_format())
 }
 
+/// Lets a writer fail at one of its calls; tells whether there was no such call, and all was written.
+fn is_whole(rt: &impl Abort, alloc: Global, input: &[u8], fails_at: usize, wanted: &[u8]) -> bool {
+    let mut reader = input;
+    let mut writer = Narrow {
+        taken: Vec::new(alloc),
+        calls: 0,
+        fails_at,
+    };
+    let status = session(alloc, &mut reader, &mut writer, LIMIT);
+    if status == Status::Done {
+        holds(rt, writer.calls < fails_at);
+        same(rt, writer.taken.as_slice(), wanted);
+        return true;
+    }
+    ends(rt, status, Status::StreamFault);
+    holds(rt, writer.calls == fails_at);
+    holds(rt, wanted.starts_with(writer.taken.as_slice()));
+    false
+}
+
 /// Lets a talk's writer fail at each of its calls.
 fn fail_writes(rt: &impl Abort, alloc: Global, talk: &Talk) -> std::result::Result<(), Fail> {
     let input = input(alloc, talk)?;
     let wanted = answers(alloc, talk, input.len())?;
-    let mut fails_at = 1usize;
-    for _ in 0..10000u32 {
-        let mut reader = input.as_slice();
-        let mut writer = Narrow {
-            taken: Vec::new(alloc),
-            calls: 0,
-            fails_at,
-        };
-        let status = session(alloc, &mut reader, &mut writer, LIMIT);
-        if status == Status::Done {
-            assert!(rt; writer.calls < fails_at);
-            assert!(rt; writer.taken.as_slice() == wanted.as_slice());
+    for fails_at in 1..10001usize {
+        if is_whole(rt, alloc, input.as_slice(), fails_at, wanted.as_slice()) {
             return Ok(());
         }
-        assert_eq!(rt; status, Status::StreamFault);
-        assert_eq!(rt; writer.calls, fails_at);
-        assert!(rt;
-            wanted.as_slice().starts_with(writer.taken.as_slice()),
-            "call {fails_at}"
-        );
-        fails_at = fails_at.saturating_add(1);
     }
     Err(Fail::from("it fails at each call"))
 }

@@ -1,5 +1,6 @@
 //! A session as a call of the library. Other worked sessions stand as files in the folder `sessions` at the top.
 
+use crate::same::{ends, same};
 use ga_console::{Status, session};
 use std::test::Fail;
 
@@ -15,7 +16,7 @@ fn a_word_goes_over(rt: HostRuntime) -> Result<(), Fail> {
     let mut reader = INPUT;
     let mut output = Vec::new(rt.alloc());
     let status = session(rt.alloc(), &mut reader, &mut output, 1_000_000);
-    assert_eq!(rt; output.as_slice(), OUTPUT);
-    assert_eq!(rt; status, Status::Done);
+    same(&rt, output.as_slice(), OUTPUT);
+    ends(&rt, status, Status::Done);
     Ok(())
 }

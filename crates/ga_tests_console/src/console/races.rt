@@ -2,17 +2,17 @@
 
 ghost use Rattle.std.specs.Prelude.{◌≤◌};
 
+use crate::same::{ends, holds, same};
 use arrayvec::ArrayVec;
 use ga_console::{Status, race_report};
+use ga_given::SENDER_AND_TAKER;
 use std::io::{Error, ErrorKind, Read, Result, Write};
+use std::process::Abort;
 use std::sync::Wait;
 use std::test::Fail;
 use std::thread::Threads;
 
 const SENDER: &[u8] = b"ga144 1\nnode 000\np 000000\nram 00 004b12 0001d5 00002a 0089b2\nend\n";
-
-const SENDER_AND_TAKER: &[u8] =
-    b"ga144 1\nnode 000\np 000000\nram 00 004b12 0001d5 00002a 0089b2\nnode 001\np 000000\nram 00 004b02 0001d5\nend\n";
 
 /// Whether a race on the image ends with this status and text.
 fn is_reported<R: Threads + Wait + Sync + AllocGlobal>(
@@ -36,13 +36,19 @@ fn is_reported<R: Threads + Wait + Sync + AllocGlobal>(
 fn reports(rt: HostRuntime) {
     let done = Status::Done;
     let eight = (done, b"calls 8\nmade 8\nkept 8\n".as_slice());
-    assert!(rt; is_reported(&rt, SENDER_AND_TAKER, 2, 4, 1000000, eight));
+    holds(
+        &rt,
+        is_reported(&rt, SENDER_AND_TAKER, 2, 4, 1000000, eight),
+    );
     let seven = (done, b"calls 8\nmade 7\nkept 7\n".as_slice());
-    assert!(rt; is_reported(&rt, SENDER, 1, 8, 1000000, seven));
+    holds(&rt, is_reported(&rt, SENDER, 1, 8, 1000000, seven));
     let three = (done, b"calls 8\nmade 3\nkept 3\n".as_slice());
-    assert!(rt; is_reported(&rt, SENDER, 1, 8, 3, three));
+    holds(&rt, is_reported(&rt, SENDER, 1, 8, 3, three));
     let refused = (Status::ImageRefused, b"no 17 truncated line 3\n".as_slice());
-    assert!(rt; is_reported(&rt, b"ga144 1\nnode 000\n", 16, 1, 1, refused));
+    holds(
+        &rt,
+        is_reported(&rt, b"ga144 1\nnode 000\n", 16, 1, 1, refused),
+    );
 }
 
 /// Hands out one byte at a call, counts the calls, and fails at one of them.
@@ -120,40 +126,38 @@ impl Write for Failing {
     }
 }
 
+/// Races on an image whose reader fails at a call, or at none; answers how many calls it got. So much is left of the image.
+fn races<R: Threads + Wait + Sync + AllocGlobal + Abort>(
+    rt: &R,
+    image: &'static [u8],
+    fails_at: usize,
+    wanted: Status,
+    left: &[u8],
+) -> usize {
+    let mut reader = OneByOne {
+        left: image,
+        calls: 0,
+        fails_at,
+    };
+    let mut output = Vec::new(rt.alloc());
+    let status = race_report(rt, rt.alloc(), &mut reader, &mut output, 1, 1, 1);
+    ends(rt, status, wanted);
+    holds(rt, status != Status::StreamFault || output.is_empty());
+    same(rt, reader.left, left);
+    reader.calls
+}
+
 // Nothing is read after the line `end`, and a read that fails before leaves nothing written.
 #[test]
 fn reads_to_the_line_end(rt: HostRuntime) {
-    let alloc = rt.alloc();
     let image: &'static [u8] = b"ga144 1\nend\n";
-    let mut reader = OneByOne {
-        left: b"ga144 1\nend\nend\n",
-        calls: 0,
-        fails_at: 0,
-    };
-    let mut output = Vec::new(alloc);
-    let status = race_report(&rt, alloc, &mut reader, &mut output, 1, 1, 1);
-    assert_eq!(rt; status, Status::Done);
-    assert_eq!(rt; reader.calls, image.len());
-    assert_eq!(rt; reader.left, b"end\n".as_slice());
-    let mut reader = OneByOne {
-        left: b"ga144 9\nend\nend\n",
-        calls: 0,
-        fails_at: 0,
-    };
-    let mut output = Vec::new(alloc);
-    let status = race_report(&rt, alloc, &mut reader, &mut output, 1, 1, 1);
-    assert_eq!(rt; status, Status::ImageRefused);
-    assert_eq!(rt; reader.left, b"end\n".as_slice());
+    let calls = races(&rt, b"ga144 1\nend\nend\n", 0, Status::Done, b"end\n");
+    holds(&rt, calls == image.len());
+    let wrong: &'static [u8] = b"ga144 9\nend\nend\n";
+    let _calls = races(&rt, wrong, 0, Status::ImageRefused, b"end\n");
     for before in 0..image.len() {
-        let mut reader = OneByOne {
-            left: image,
-            calls: 0,
-            fails_at: before + 1,
-        };
-        let mut output = Vec::new(alloc);
-        let status = race_report(&rt, alloc, &mut reader, &mut output, 1, 1, 1);
-        assert_eq!(rt; status, Status::StreamFault);
-        assert!(rt; output.is_empty());
+        let (_, left) = image.split_at(before);
+        let _calls = races(&rt, image, before + 1, Status::StreamFault, left);
     }
 }
 
@@ -223,13 +227,14 @@ fn is_broken_off<R: Threads + Wait + Sync + AllocGlobal>(
 #[test]
 fn a_report_is_not_written(rt: HostRuntime) -> std::result::Result<(), Fail> {
     for report in &REPORTS {
-        let calls = calls_of(&rt, report).ok_or("not written whole")?;
+        let Some(calls) = calls_of(&rt, report) else {
+            return Err(Fail::new("not written whole"));
+        };
         // At least the write and the flush.
-        assert!(rt; calls >= 2);
+        holds(&rt, calls >= 2);
         for before in 0..calls {
-            let fails_at = before + 1;
-            assert!(rt; is_broken_off(&rt, report, fails_at, false));
-            assert!(rt; is_broken_off(&rt, report, fails_at, true));
+            holds(&rt, is_broken_off(&rt, report, before + 1, false));
+            holds(&rt, is_broken_off(&rt, report, before + 1, true));
         }
     }
     Ok(())

@@ -2,228 +2,209 @@
 
 use ga_console::{LineFault, Settings, arguments};
 use ga_grid::NodeId;
-use std::test::Fail;
+use std::alloc::Global;
+use std::process::Abort;
 
-#[derive(Drop)]
-struct CommandLine {
-    words: &'static [&'static str],
-    settings: Option<Settings>,
-}
+/// Command lines that are refused.
+static NO_SETTINGS: [&[&str]; 15] = [
+    &["ga144", "debug", "--limit", "0"],
+    &["ga144", "debug", "--limit", "4000001"],
+    &["ga144", "debug", "--limit", "4294967297"],
+    &["ga144", "debug", "--limit", "3", "--limit", "4"],
+    &["ga144", "debug", "--limit"],
+    &["ga144", "debug", "x"],
+    &["ga144"],
+    &["ga144", "debugger"],
+    &["ga144", "race", "--workers", "17", "--calls", "1"],
+    &["ga144", "race", "--workers", "0", "--calls", "1"],
+    &["ga144", "race", "--workers", "1", "--calls", "100001"],
+    &["ga144", "race", "--workers", "1"],
+    &["ga144", "explore", "--limit", "4000001"],
+    &["ga144", "asm", "first.f18"],
+    &["ga144", "dis", "--limit", "3"],
+];
 
-/// The command lines with what they ask for.
-fn lines() -> [CommandLine; 26] {
-    [
-        CommandLine {
-            words: &["ga144", "debug"],
-            settings: Some(Settings::Debug { limit: 1_000_000 }),
-        },
-        CommandLine {
-            words: &["ga144", "debug", "--limit", "3"],
-            settings: Some(Settings::Debug { limit: 3 }),
-        },
-        CommandLine {
-            words: &["ga144", "debug", "--limit=3"],
-            settings: Some(Settings::Debug { limit: 3 }),
-        },
-        CommandLine {
-            words: &["ga144", "debug", "--limit", "4000000"],
-            settings: Some(Settings::Debug { limit: 4_000_000 }),
-        },
-        CommandLine {
-            words: &["ga144", "debug", "--limit", "0"],
-            settings: None,
-        },
-        CommandLine {
-            words: &["ga144", "debug", "--limit", "4000001"],
-            settings: None,
-        },
-        CommandLine {
-            words: &["ga144", "debug", "--limit", "4294967297"],
-            settings: None,
-        },
-        CommandLine {
-            words: &["ga144", "debug", "--limit", "3", "--limit", "4"],
-            settings: None,
-        },
-        CommandLine {
-            words: &["ga144", "debug", "--limit"],
-            settings: None,
-        },
-        CommandLine {
-            words: &["ga144", "debug", "x"],
-            settings: None,
-        },
-        CommandLine {
-            words: &["ga144"],
-            settings: None,
-        },
-        CommandLine {
-            words: &["ga144", "debugger"],
-            settings: None,
-        },
-        CommandLine {
-            words: &["ga144", "race", "--workers", "2", "--calls", "4"],
-            settings: Some(Settings::Race {
-                workers: 2,
-                calls: 4,
-                limit: 1_000_000,
-            }),
-        },
-        CommandLine {
-            words: &[
-                "ga144",
-                "race",
-                "--calls",
-                "100000",
-                "--limit",
-                "7",
-                "--workers",
-                "16",
-            ],
-            settings: Some(Settings::Race {
-                workers: 16,
-                calls: 100_000,
-                limit: 7,
-            }),
-        },
-        CommandLine {
-            words: &["ga144", "race", "--workers", "17", "--calls", "1"],
-            settings: None,
-        },
-        CommandLine {
-            words: &["ga144", "race", "--workers", "0", "--calls", "1"],
-            settings: None,
-        },
-        CommandLine {
-            words: &["ga144", "race", "--workers", "1", "--calls", "100001"],
-            settings: None,
-        },
-        CommandLine {
-            words: &["ga144", "race", "--workers", "1"],
-            settings: None,
-        },
-        CommandLine {
-            words: &["ga144", "explore"],
-            settings: Some(Settings::Explore { limit: 1_000_000 }),
-        },
-        CommandLine {
-            words: &["ga144", "explore", "--limit", "7"],
-            settings: Some(Settings::Explore { limit: 7 }),
-        },
-        CommandLine {
-            words: &["ga144", "explore", "--limit", "4000001"],
-            settings: None,
-        },
-        CommandLine {
-            words: &["ga144", "asm"],
-            settings: Some(Settings::Assemble),
-        },
-        CommandLine {
-            words: &["ga144", "list"],
-            settings: Some(Settings::List),
-        },
-        CommandLine {
-            words: &["ga144", "dis"],
-            settings: Some(Settings::Disassemble),
-        },
-        CommandLine {
-            words: &["ga144", "asm", "first.f18"],
-            settings: None,
-        },
-        CommandLine {
-            words: &["ga144", "dis", "--limit", "3"],
-            settings: None,
-        },
-    ]
-}
-
-#[test]
-fn command_lines(rt: HostRuntime) -> Result<(), Fail> {
-    for line in lines() {
-        let words = line.words;
-        match arguments(rt.alloc(), words) {
-            Ok(settings) => assert_eq!(rt; Some(settings), line.settings, "{words:?}"),
-            Err(LineFault::Refused) => assert_eq!(rt; None, line.settings, "{words:?}"),
-            Err(LineFault::Help(_)) => assert!(rt; false, "{words:?}"),
-        }
+/// Whether a command line asks for this, or is refused where it asks for nothing.
+fn is_asked(alloc: Global, words: &[&str], wanted: Option<Settings>) -> bool {
+    match arguments(alloc, words) {
+        Ok(settings) => wanted == Some(settings),
+        Err(LineFault::Refused) => wanted.is_none(),
+        Err(LineFault::Help(_)) => false,
     }
-    Ok(())
+}
+
+fn asks(rt: &impl Abort, alloc: Global, words: &[&str], wanted: Option<Settings>) {
+    assert!(rt; is_asked(alloc, words, wanted), "{words:?}");
 }
 
 #[test]
-fn pictures(rt: HostRuntime) -> Result<(), Fail> {
+fn command_lines(rt: HostRuntime) {
+    for words in &NO_SETTINGS {
+        asks(&rt, rt.alloc(), words, None);
+    }
+}
+
+#[test]
+fn debug_lines(rt: HostRuntime) {
+    asks(
+        &rt,
+        rt.alloc(),
+        &["ga144", "debug"],
+        Some(Settings::Debug { limit: 1_000_000 }),
+    );
+    asks(
+        &rt,
+        rt.alloc(),
+        &["ga144", "debug", "--limit", "3"],
+        Some(Settings::Debug { limit: 3 }),
+    );
+    asks(
+        &rt,
+        rt.alloc(),
+        &["ga144", "debug", "--limit=3"],
+        Some(Settings::Debug { limit: 3 }),
+    );
+    asks(
+        &rt,
+        rt.alloc(),
+        &["ga144", "debug", "--limit", "4000000"],
+        Some(Settings::Debug { limit: 4_000_000 }),
+    );
+}
+
+#[test]
+fn race_lines(rt: HostRuntime) {
+    let race = Settings::Race {
+        workers: 2,
+        calls: 4,
+        limit: 1_000_000,
+    };
+    let words = ["ga144", "race", "--workers", "2", "--calls", "4"];
+    asks(&rt, rt.alloc(), &words, Some(race));
+    let race = Settings::Race {
+        workers: 16,
+        calls: 100_000,
+        limit: 7,
+    };
+    let words = [
+        "ga144",
+        "race",
+        "--calls",
+        "100000",
+        "--limit",
+        "7",
+        "--workers",
+        "16",
+    ];
+    asks(&rt, rt.alloc(), &words, Some(race));
+}
+
+#[test]
+fn explore_lines(rt: HostRuntime) {
+    asks(
+        &rt,
+        rt.alloc(),
+        &["ga144", "explore"],
+        Some(Settings::Explore { limit: 1_000_000 }),
+    );
+    asks(
+        &rt,
+        rt.alloc(),
+        &["ga144", "explore", "--limit", "7"],
+        Some(Settings::Explore { limit: 7 }),
+    );
+}
+
+#[test]
+fn source_lines(rt: HostRuntime) {
+    asks(&rt, rt.alloc(), &["ga144", "asm"], Some(Settings::Assemble));
+    asks(&rt, rt.alloc(), &["ga144", "list"], Some(Settings::List));
+    asks(
+        &rt,
+        rt.alloc(),
+        &["ga144", "dis"],
+        Some(Settings::Disassemble),
+    );
+}
+
+/// Command lines of pictures that are refused.
+static NO_PICTURES: [&[&str]; 7] = [
+    &["ga144", "draw", "--cause", "001"],
+    &["ga144", "draw", "--cause", "001", "01"],
+    &["ga144", "draw", "--rewind", "018", "1"],
+    &["ga144", "draw", "--rewind", "1", "1"],
+    &[
+        "ga144", "draw", "--cause", "001", "1", "--cause", "001", "2",
+    ],
+    &["ga144", "draw", "--from", "0"],
+    &["ga144", "draw", "--to", "4294967296"],
+];
+
+#[test]
+fn no_pictures(rt: HostRuntime) {
+    for words in &NO_PICTURES {
+        asks(&rt, rt.alloc(), words, None);
+    }
+}
+
+static PART: [&str; 11] = [
+    "ga144", "draw", "--to", "9", "--rewind", "717", "0", "--from=2", "--cause", "001", "10",
+];
+
+#[test]
+fn pictures(rt: HostRuntime) {
     let whole = Settings::Draw {
         cause: None,
         rewind: None,
         from: 1,
         to: 4_294_967_295,
     };
+    asks(&rt, rt.alloc(), &["ga144", "draw"], Some(whole));
     let part = Settings::Draw {
         cause: Some((NodeId::new(1), 10)),
         rewind: Some((NodeId::new(143), 0)),
         from: 2,
         to: 9,
     };
-    let lines: [(&[&str], Option<Settings>); 9] = [
-        (&["ga144", "draw"], Some(whole)),
-        (
-            &[
-                "ga144", "draw", "--to", "9", "--rewind", "717", "0", "--from=2", "--cause", "001",
-                "10",
-            ],
-            Some(part),
-        ),
-        (&["ga144", "draw", "--cause", "001"], None),
-        (&["ga144", "draw", "--cause", "001", "01"], None),
-        (&["ga144", "draw", "--rewind", "018", "1"], None),
-        (&["ga144", "draw", "--rewind", "1", "1"], None),
-        (
-            &[
-                "ga144", "draw", "--cause", "001", "1", "--cause", "001", "2",
-            ],
-            None,
-        ),
-        (&["ga144", "draw", "--from", "0"], None),
-        (&["ga144", "draw", "--to", "4294967296"], None),
-    ];
-    for (words, wanted) in lines {
-        match arguments(rt.alloc(), words) {
-            Ok(settings) => assert_eq!(rt; Some(settings), wanted, "{words:?}"),
-            Err(LineFault::Refused) => assert_eq!(rt; None, wanted, "{words:?}"),
-            Err(LineFault::Help(_)) => assert!(rt; false, "{words:?}"),
+    asks(&rt, rt.alloc(), &PART, Some(part));
+}
+
+static HELP: [&[&str]; 4] = [
+    &["ga144", "--help"],
+    &["ga144", "-h"],
+    &["ga144", "help"],
+    &["ga144", "debug", "--help"],
+];
+
+/// Whether a command line is answered by a text that has each of these parts.
+fn is_helped(alloc: Global, words: &[&str], parts: &[&str]) -> bool {
+    let Err(LineFault::Help(text)) = arguments(alloc, words) else {
+        return false;
+    };
+    for part in parts {
+        if !text.as_str().contains(*part) {
+            return false;
         }
     }
-    Ok(())
+    !text.is_empty()
+}
+
+fn helps(rt: &impl Abort, alloc: Global, words: &[&str], parts: &[&str]) {
+    assert!(rt; is_helped(alloc, words, parts), "{words:?}");
 }
 
 #[test]
-fn help_is_text(rt: HostRuntime) -> Result<(), Fail> {
-    let asked: [&[&str]; 4] = [
-        &["ga144", "--help"],
-        &["ga144", "-h"],
-        &["ga144", "help"],
-        &["ga144", "debug", "--help"],
-    ];
-    for words in asked {
-        match arguments(rt.alloc(), words) {
-            Err(LineFault::Help(text)) => assert!(rt; !text.is_empty(), "{words:?}"),
-            _ => assert!(rt; false, "{words:?}"),
-        }
+fn help_is_text(rt: HostRuntime) {
+    for words in &HELP {
+        helps(&rt, rt.alloc(), words, &[]);
     }
-    Ok(())
 }
+
+/// What stands in the help of source.
+static NOTATION: [&str; 6] = ["node YXX", ": NAME", "X ,", "org N", "+cy", "unext"];
 
 #[test]
 fn help_shows_the_notation(rt: HostRuntime) {
-    let asked: [&[&str]; 2] = [&["ga144", "asm", "--help"], &["ga144", "list", "-h"]];
-    for words in asked {
-        match arguments(rt.alloc(), words) {
-            Err(LineFault::Help(text)) => {
-                for form in ["node YXX", ": NAME", "X ,", "org N", "+cy", "unext"] {
-                    assert!(rt; text.as_str().contains(form), "{form}");
-                }
-            }
-            _ => assert!(rt; false, "{words:?}"),
-        }
-    }
+    helps(&rt, rt.alloc(), &["ga144", "asm", "--help"], &NOTATION);
+    helps(&rt, rt.alloc(), &["ga144", "list", "-h"], &NOTATION);
 }

@@ -1,10 +1,12 @@
 //! Streams that hand out little, fail, or are watched.
 
+use crate::same::{ends, holds, same};
 use arrayvec::ArrayVec;
 use ga_console::{Status, session};
+use std::alloc::Global;
 use std::cell::Cell;
 use std::io::{Error, ErrorKind, Read, Result, Write};
-use std::test::Fail;
+use std::process::Abort;
 
 mod bound;
 mod large;
@@ -97,76 +99,103 @@ impl Write for Narrow {
     }
 }
 
-#[test]
-fn one_byte_at_a_time(rt: HostRuntime) -> std::result::Result<(), Fail> {
-    let runs: [(&'static [u8], &[u8]); 2] = [(INPUT, OUTPUT), (WAITING, DUMPED)];
-    for (input, wanted) in runs {
-        for most in [1, 2, 7, 64, 4096] {
-            let mut reader = Dripping::new(input, most, 0);
-            let mut output = Vec::new(rt.alloc());
-            let status = session(rt.alloc(), &mut reader, &mut output, 9);
-            assert_eq!(rt; status, Status::Done);
-            assert_eq!(rt; output.as_slice(), wanted, "{most} bytes at a time");
-        }
-    }
-    Ok(())
+/// A session whose reader hands out up to so many bytes at a call.
+fn drips(rt: &impl Abort, alloc: Global, input: &'static [u8], most: usize, wanted: &[u8]) {
+    let mut reader = Dripping::new(input, most, 0);
+    let mut output = Vec::new(alloc);
+    let status = session(alloc, &mut reader, &mut output, 9);
+    ends(rt, status, Status::Done);
+    same(rt, output.as_slice(), wanted);
 }
 
 #[test]
-fn a_read_fails(rt: HostRuntime) -> std::result::Result<(), Fail> {
+fn one_byte_at_a_time(rt: HostRuntime) {
+    for most in [1, 2, 7, 64, 4096] {
+        drips(&rt, rt.alloc(), INPUT, most, OUTPUT);
+        drips(&rt, rt.alloc(), WAITING, most, DUMPED);
+    }
+}
+
+/// What is answered to the lines that are read whole by so many calls, and no more.
+fn answered(before: u32) -> &'static [u8] {
+    if before < 51 {
+        b""
+    } else if before < 60 {
+        b"ready\n"
+    } else if before < 65 {
+        b"ready\n000 1 fetch\n"
+    } else if before < 70 {
+        b"ready\n000 1 fetch\nremoved 1 kept 0\n"
+    } else {
+        b"ready\n000 1 fetch\nremoved 1 kept 0\nno 5 empty\n"
+    }
+}
+
+/// A reader fails behind so many calls.
+fn breaks_off(rt: &impl Abort, alloc: Global, before: u32) {
+    let fails_at = before.saturating_add(1);
+    let mut reader = Dripping::new(INPUT, 1, fails_at);
+    let mut output = Vec::new(alloc);
+    let status = session(alloc, &mut reader, &mut output, 9);
+    ends(rt, status, Status::StreamFault);
+    holds(rt, reader.calls == fails_at);
+    same(rt, output.as_slice(), answered(before));
+}
+
+#[test]
+fn a_read_fails(rt: HostRuntime) {
     let mut whole = Dripping::new(INPUT, 1, 0);
     let mut output = Vec::new(rt.alloc());
     let _status = session(rt.alloc(), &mut whole, &mut output, 9);
     for before in 0..whole.calls {
-        let k = before + 1;
-        let mut reader = Dripping::new(INPUT, 1, k);
-        let mut output = Vec::new(rt.alloc());
-        let status = session(rt.alloc(), &mut reader, &mut output, 9);
-        assert_eq!(rt; status, Status::StreamFault, "call {k}");
-        assert_eq!(rt; reader.calls, k);
-        // What was answered to the lines read whole before, and no more.
-        let answered = if before < 51 {
-            0
-        } else if before < 60 {
-            6
-        } else if before < 65 {
-            18
-        } else if before < 70 {
-            35
-        } else {
-            46
-        };
-        assert!(rt; answered <= OUTPUT.len());
-        assert_eq!(rt; output.as_slice(), &OUTPUT[..answered], "call {k}");
+        breaks_off(&rt, rt.alloc(), before);
     }
-    Ok(())
+}
+
+/// How many calls a writer gets that takes all.
+fn calls_of(rt: &impl Abort, alloc: Global, input: &'static [u8], wanted: &[u8]) -> u32 {
+    let mut reader = Dripping::new(input, 1, 0);
+    let mut whole = failing_writer(alloc, 0, false);
+    let status = session(alloc, &mut reader, &mut whole, 9);
+    ends(rt, status, Status::Done);
+    same(rt, whole.taken.as_slice(), wanted);
+    whole.calls
+}
+
+/// A writer fails at this call, and gets none behind it.
+fn fails_at(
+    rt: &impl Abort,
+    alloc: Global,
+    input: &'static [u8],
+    call: u32,
+    empty: bool,
+    wanted: &[u8],
+) {
+    let mut reader = Dripping::new(input, 1, 0);
+    let mut writer = failing_writer(alloc, call, empty);
+    let status = session(alloc, &mut reader, &mut writer, 9);
+    ends(rt, status, Status::StreamFault);
+    holds(rt, writer.calls == call);
+    holds(rt, wanted.starts_with(writer.taken.as_slice()));
+}
+
+/// A writer fails at each of its calls.
+fn fails_at_each(rt: &impl Abort, alloc: Global, input: &'static [u8], wanted: &[u8]) {
+    for before in 0..calls_of(rt, alloc, input, wanted) {
+        let call = before.saturating_add(1);
+        fails_at(rt, alloc, input, call, false, wanted);
+        fails_at(rt, alloc, input, call, true, wanted);
+    }
 }
 
 #[test]
-fn a_write_fails(rt: HostRuntime) -> std::result::Result<(), Fail> {
-    let runs: [(&'static [u8], &[u8]); 3] = [(INPUT, OUTPUT), (LISTS, LISTED), (WAITING, DUMPED)];
-    for (input, wanted) in runs {
-        let mut reader = Dripping::new(input, 1, 0);
-        let mut whole = failing_writer(rt.alloc(), 0, false);
-        let status = session(rt.alloc(), &mut reader, &mut whole, 9);
-        assert_eq!(rt; status, Status::Done);
-        assert_eq!(rt; whole.taken.as_slice(), wanted);
-        for before in 0..whole.calls {
-            let k = before + 1;
-            for empty in [false, true] {
-                let mut reader = Dripping::new(input, 1, 0);
-                let mut writer = failing_writer(rt.alloc(), k, empty);
-                let status = session(rt.alloc(), &mut reader, &mut writer, 9);
-                assert_eq!(rt; status, Status::StreamFault, "call {k}");
-                assert_eq!(rt; writer.calls, k, "no call behind the failed one");
-                assert!(rt; wanted.starts_with(writer.taken.as_slice()), "call {k}");
-            }
-        }
-    }
-    Ok(())
+fn a_write_fails(rt: HostRuntime) {
+    fails_at_each(&rt, rt.alloc(), INPUT, OUTPUT);
+    fails_at_each(&rt, rt.alloc(), LISTS, LISTED);
+    fails_at_each(&rt, rt.alloc(), WAITING, DUMPED);
 }
 
-fn failing_writer(alloc: std::alloc::Global, fails_at: u32, empty: bool) -> Narrow {
+fn failing_writer(alloc: Global, fails_at: u32, empty: bool) -> Narrow {
     Narrow {
         taken: Vec::new(alloc),
         most: 5,
@@ -198,49 +227,49 @@ impl Write for Flushed {
 }
 
 #[test]
-fn all_is_handed_on(rt: HostRuntime) -> std::result::Result<(), Fail> {
+fn all_is_handed_on(rt: HostRuntime) {
     let mut reader = INPUT;
     let mut writer = Flushed {
         taken: ArrayVec::new(),
         flushed: 0,
     };
     let status = session(rt.alloc(), &mut reader, &mut writer, 9);
-    assert_eq!(rt; status, Status::Done);
-    assert_eq!(rt; writer.taken.as_slice(), OUTPUT);
-    assert_eq!(rt; writer.flushed, OUTPUT.len());
-    Ok(())
+    ends(&rt, status, Status::Done);
+    same(&rt, writer.taken.as_slice(), OUTPUT);
+    holds(&rt, writer.flushed == OUTPUT.len());
+}
+
+/// A session that reads up to its line `back` and no further.
+fn leaves_back(rt: &impl Abort, alloc: Global, input: &'static [u8], wanted: Status, text: &[u8]) {
+    let mut reader = Dripping::new(input, 1, 0);
+    let mut output = Vec::new(alloc);
+    let status = session(alloc, &mut reader, &mut output, 9);
+    ends(rt, status, wanted);
+    same(rt, output.as_slice(), text);
+    same(rt, reader.left, b"back\n");
 }
 
 #[test]
-fn nothing_is_read_behind_quit(rt: HostRuntime) -> std::result::Result<(), Fail> {
-    let mut reader = Dripping::new(b"ga144 1\nend\nquit\nback\n", 1, 0);
-    let mut output = Vec::new(rt.alloc());
-    let status = session(rt.alloc(), &mut reader, &mut output, 9);
-    assert_eq!(rt; status, Status::Done);
-    assert_eq!(rt; reader.left, b"back\n".as_slice());
-    Ok(())
+fn nothing_is_read_behind_quit(rt: HostRuntime) {
+    let input: &'static [u8] = b"ga144 1\nend\nquit\nback\n";
+    leaves_back(&rt, rt.alloc(), input, Status::Done, b"ready\n");
 }
+
+static REFUSED: [(&[u8], &[u8]); 3] = [
+    (b"ga144 9\nend\nback\n", b"no 11 header line 1\n"),
+    (b"ga144 1\nnode 018\nend\nback\n", b"no 13 node line 2\n"),
+    (
+        b"ga144 2\nnode 000\nwait read r---\nend\nback\n",
+        b"no 20 state line 4\n",
+    ),
+];
 
 // A person at a terminal is told of a fault once `end` is typed, not at the next line.
 #[test]
-fn nothing_is_read_behind_a_refused_image(rt: HostRuntime) -> std::result::Result<(), Fail> {
-    let images: [(&'static [u8], &'static [u8]); 3] = [
-        (b"ga144 9\nend\nback\n", b"no 11 header line 1\n"),
-        (b"ga144 1\nnode 018\nend\nback\n", b"no 13 node line 2\n"),
-        (
-            b"ga144 2\nnode 000\nwait read r---\nend\nback\n",
-            b"no 20 state line 4\n",
-        ),
-    ];
-    for (input, wanted) in images {
-        let mut reader = Dripping::new(input, 1, 0);
-        let mut output = Vec::new(rt.alloc());
-        let status = session(rt.alloc(), &mut reader, &mut output, 9);
-        assert_eq!(rt; status, Status::ImageRefused);
-        assert_eq!(rt; output.as_slice(), wanted);
-        assert_eq!(rt; reader.left, b"back\n".as_slice());
+fn nothing_is_read_behind_a_refused_image(rt: HostRuntime) {
+    for (input, text) in &REFUSED {
+        leaves_back(&rt, rt.alloc(), input, Status::ImageRefused, text);
     }
-    Ok(())
 }
 
 /// Hands out a line at each read, and notes how much was handed on before it.
@@ -284,7 +313,7 @@ impl<'a> Write for Counting<'a> {
 }
 
 #[test]
-fn answers_are_written_before_more_is_read(rt: HostRuntime) -> std::result::Result<(), Fail> {
+fn answers_are_written_before_more_is_read(rt: HostRuntime) {
     let written = Cell::new(0);
     let mut reader = Watching {
         left: b"ga144 1\nend\nback\nback\n",
@@ -296,8 +325,7 @@ fn answers_are_written_before_more_is_read(rt: HostRuntime) -> std::result::Resu
         written: &written,
     };
     let status = session(rt.alloc(), &mut reader, &mut writer, 9);
-    assert_eq!(rt; status, Status::Done);
+    ends(&rt, status, Status::Done);
     // Two lines of the image, then `ready`, then an answer each time.
-    assert_eq!(rt; reader.seen.as_slice(), [0, 0, 6, 17, 28].as_slice());
-    Ok(())
+    holds(&rt, reader.seen.as_slice() == [0, 0, 6, 17, 28].as_slice());
 }

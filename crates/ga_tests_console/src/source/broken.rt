@@ -1,8 +1,10 @@
 //! Small sources that are cut or changed: each ends, and a source with a fault gives no image.
 
+use crate::same::holds;
 use ga_console::{Status, assemble_source};
 use ga_image::parse;
 use std::alloc::Global;
+use std::process::Abort;
 
 const SOURCE: &[u8] =
     b"node 000\n: main right b! 0xa8 2* !b\nnode 001 /a left ( c )\n: go begin @ drop\n3 for dup unext again\n'go , ..\nif 5 else 6 then go ;\n";
@@ -32,18 +34,23 @@ fn came(alloc: Global, source: &[u8]) -> Outcome {
     }
 }
 
+/// Whether a source is refused, and else it is an image.
+fn is_refused(rt: &impl Abort, alloc: Global, source: &[u8]) -> bool {
+    let outcome = came(alloc, source);
+    assert!(rt; outcome != Outcome::Wrong, "{source:?}");
+    outcome == Outcome::Refused
+}
+
 #[test]
 fn cut_at_each_byte(rt: HostRuntime) {
     let mut refused = 0u32;
     for length in 0..SOURCE.len() {
-        match came(rt.alloc(), &SOURCE[..length]) {
-            Outcome::Image => {}
-            Outcome::Refused => refused = refused.saturating_add(1),
-            Outcome::Wrong => assert!(rt; false, "{length} bytes"),
+        if is_refused(&rt, rt.alloc(), &SOURCE[..length]) {
+            refused = refused.saturating_add(1);
         }
     }
-    assert!(rt; refused > 40);
-    assert!(rt; came(rt.alloc(), SOURCE) == Outcome::Image);
+    holds(&rt, refused > 40);
+    holds(&rt, came(rt.alloc(), SOURCE) == Outcome::Image);
 }
 
 /// A small source, in which each byte is put in each place.
@@ -55,10 +62,7 @@ fn each_byte_at_each_place(rt: HostRuntime) {
         let mut changed = SMALL;
         for byte in 0..=255u8 {
             changed[place] = byte;
-            assert!(rt;
-                came(rt.alloc(), &changed) != Outcome::Wrong,
-                "{byte} at {place}"
-            );
+            let _refused = is_refused(&rt, rt.alloc(), &changed);
         }
     }
 }

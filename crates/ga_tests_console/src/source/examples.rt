@@ -1,12 +1,16 @@
 //! The examples' images from source, word for word, and what listings and sources of images look like.
 
+ghost use Rattle.std.specs.Prelude.{◌<◌};
+
+use crate::same::{ends, holds, same};
 use ga_console::{Status, assemble_source, disassemble, list_source};
-use ga_given::is_same;
+use ga_given::first_difference;
 use ga_grid::{Chip, NODES, NodeId};
 use ga_image::{parse, print};
-use ga_node::Place;
+use ga_node::{Node, Place};
 use ga_source::assemble;
 use std::alloc::Global;
+use std::process::Abort;
 use std::test::Fail;
 
 const FIRST: &[u8] = b"\\ doubles 3\nnode 000\n: main 3 dup +\n";
@@ -35,7 +39,7 @@ const IMAGES: [(&[u8], &[u8]); 3] = [
 fn chip_of(alloc: Global, image: &[u8]) -> Result<Chip, Fail> {
     match parse(alloc, image) {
         Ok(chip) => Ok(chip),
-        Err(_) => Err("an image is refused".into()),
+        Err(_) => Err(Fail::new("an image is refused")),
     }
 }
 
@@ -46,24 +50,33 @@ fn image_of(alloc: Global, source: &[u8]) -> Result<Vec<u8>, Fail> {
     let mut errors = Vec::new(alloc);
     match assemble_source(alloc, &mut reader, &mut image, &mut errors) {
         Status::Done => Ok(image),
-        _ => Err("a source is refused".into()),
+        _ => Err(Fail::new("a source is refused")),
     }
+}
+
+/// The text of a chip.
+fn text_of(alloc: Global, chip: &Chip) -> Result<Vec<u8>, Fail> {
+    match print(alloc, chip) {
+        Ok(text) => Ok(text),
+        Err(_) => Err(Fail::new("no memory")),
+    }
+}
+
+/// The image of a source is this one, as a chip and as it is printed.
+fn gives(rt: &impl Abort, alloc: Global, source: &[u8], image: &[u8]) -> Result<(), Fail> {
+    let wanted = chip_of(alloc, image)?;
+    let found = image_of(alloc, source)?;
+    let chip = chip_of(alloc, found.as_slice())?;
+    holds(rt, first_difference(&chip, &wanted).is_none());
+    let text = text_of(alloc, &wanted)?;
+    same(rt, found.as_slice(), text.as_slice());
+    Ok(())
 }
 
 #[test]
 fn images_of_the_examples(rt: HostRuntime) -> Result<(), Fail> {
     for (source, image) in IMAGES {
-        let wanted = chip_of(rt.alloc(), image)?;
-        let found = image_of(rt.alloc(), source)?;
-        let chip = chip_of(rt.alloc(), found.as_slice())?;
-        for number in 0..NODES as u8 {
-            let node = NodeId::new(number);
-            assert!(rt; is_same(chip.node(node), wanted.node(node)));
-        }
-        match print(rt.alloc(), &wanted) {
-            Ok(text) => assert_eq!(rt; found.as_slice(), text.as_slice()),
-            Err(_) => return Err("no memory".into()),
-        }
+        gives(&rt, rt.alloc(), source, image)?;
     }
     Ok(())
 }
@@ -71,20 +84,18 @@ fn images_of_the_examples(rt: HostRuntime) -> Result<(), Fail> {
 #[test]
 fn assemble_builds_what_the_image_says(rt: HostRuntime) -> Result<(), Fail> {
     let Ok(assembled) = assemble(rt.alloc(), FAULT) else {
-        return Err("refused".into());
+        return Err(Fail::new("refused"));
     };
-    assert_eq!(rt; assembled.programs.len(), 3);
+    holds(&rt, assembled.programs.len() == 3);
     let node = assembled.chip.node(NodeId::new(36));
-    assert_eq!(rt; node.get(Place::Ram(0)), 0x4df2);
-    assert_eq!(rt; node.get(Place::Ram(1)), 3);
+    holds(&rt, node.get(Place::Ram(0)) == 0x4df2);
+    holds(&rt, node.get(Place::Ram(1)) == 3);
     Ok(())
 }
 
-#[test]
-fn listed(rt: HostRuntime) -> Result<(), Fail> {
-    let mut source: &[u8] =
-        b"node 001\n: main right b! @b go\n  \\ nothing\n: go 'go go ;\n12 ,\nend\nx";
-    let wanted: &[u8] = b"node 001
+const SOURCE: &[u8] = b"node 001\n: main right b! @b go\n  \\ nothing\n: go 'go go ;\n12 ,\nend\nx";
+
+const LISTING: &[u8] = b"node 001
 main:
 000 004b02 @p b! @b \\ : main right b! @b go
 001 0001d5 0x001d5
@@ -94,20 +105,22 @@ go:
 004 000003 'go
 005 00000c 0x0000c \\ 12 ,
 ";
+
+#[test]
+fn listed(rt: HostRuntime) {
+    let mut source = SOURCE;
     let mut output = Vec::new(rt.alloc());
     let mut errors = Vec::new(rt.alloc());
     let status = list_source(rt.alloc(), &mut source, &mut output, &mut errors);
-    assert_eq!(rt; status, Status::Done);
-    assert_eq!(rt; output.as_slice(), wanted);
-    assert!(rt; errors.is_empty());
-    Ok(())
+    ends(&rt, status, Status::Done);
+    same(&rt, output.as_slice(), LISTING);
+    same(&rt, errors.as_slice(), b"");
 }
 
-#[test]
-fn source_of_an_image(rt: HostRuntime) -> Result<(), Fail> {
-    let mut image: &[u8] =
-        b"ga144 2\nnode 001\na 000005\np 000003\nram 00 004b02 0001d5 000000 005703 000003\nrom 3f 012003\nnode 002\nb 0001d5\nend\n";
-    let wanted: &[u8] = b"node 001
+const IMAGE: &[u8] =
+    b"ga144 2\nnode 001\na 000005\np 000003\nram 00 004b02 0001d5 000000 005703 000003\nrom 3f 012003\nnode 002\nb 0001d5\nend\n";
+
+const SOURCE_OF_IMAGE: &[u8] = b"node 001
 /p 0x00003
 /a 0x00005
 0x004b02 , \\ @p b! @b .
@@ -120,11 +133,14 @@ org 0xbf
 node 002
 /b 0x001d5
 ";
+
+#[test]
+fn source_of_an_image(rt: HostRuntime) {
+    let mut image = IMAGE;
     let mut output = Vec::new(rt.alloc());
     let status = disassemble(rt.alloc(), &mut image, &mut output);
-    assert_eq!(rt; status, Status::Done);
-    assert_eq!(rt; output.as_slice(), wanted);
-    Ok(())
+    ends(&rt, status, Status::Done);
+    same(&rt, output.as_slice(), SOURCE_OF_IMAGE);
 }
 
 /// The source of an image, assembled again.
@@ -133,16 +149,22 @@ fn again(alloc: Global, image: &[u8]) -> Result<Vec<u8>, Fail> {
     let mut source = Vec::new(alloc);
     match disassemble(alloc, &mut reader, &mut source) {
         Status::Done => image_of(alloc, source.as_slice()),
-        _ => Err("an image is refused".into()),
+        _ => Err(Fail::new("an image is refused")),
     }
+}
+
+/// An image is that of its source.
+fn comes_back(rt: &impl Abort, alloc: Global, image: &[u8]) -> Result<(), Fail> {
+    let other = again(alloc, image)?;
+    same(rt, other.as_slice(), image);
+    Ok(())
 }
 
 #[test]
 fn there_and_back(rt: HostRuntime) -> Result<(), Fail> {
     for (source, _) in IMAGES {
         let image = image_of(rt.alloc(), source)?;
-        let other = again(rt.alloc(), image.as_slice())?;
-        assert_eq!(rt; other.as_slice(), image.as_slice());
+        comes_back(&rt, rt.alloc(), image.as_slice())?;
     }
     Ok(())
 }
@@ -153,36 +175,44 @@ fn next(seed: &mut u32) -> u32 {
     *seed / 0x4000
 }
 
+/// Puts numbers of the generator into some places of a node.
+fn fill(node: &mut Node, seed: &mut u32, round: u32)
+    requires { round < 12 }
+{
+    if next(seed) % 3 == 0 {
+        node.set(Place::A, next(seed) % 0x4_0000);
+        node.set(Place::B, next(seed) % 0x200);
+    }
+    if next(seed) % 3 == 0 {
+        node.set(Place::P, next(seed) % 0x400);
+    }
+    if next(seed) % 3 == 0 {
+        for cell in 0..64u8 {
+            if next(seed) % (1 + round) == 0 {
+                node.set(Place::Ram(cell), next(seed) % 0x4_0000);
+                node.set(Place::Rom(cell), next(seed) % 0x4_0000);
+            }
+        }
+    }
+}
+
+/// The image of a chip whose nodes hold numbers of the generator.
+fn generated(alloc: Global, seed: &mut u32, round: u32) -> Result<Vec<u8>, Fail>
+    requires { round < 12 }
+{
+    let mut chip = Chip::new(alloc)?;
+    for number in 0..NODES as u8 {
+        fill(chip.node_mut(NodeId::new(number)), seed, round);
+    }
+    text_of(alloc, &chip)
+}
+
 #[test]
 fn generated_chips_there_and_back(rt: HostRuntime) -> Result<(), Fail> {
     let mut seed = 26u32;
     for round in 0..12u32 {
-        let Ok(mut chip) = Chip::new(rt.alloc()) else {
-            return Err("no memory".into());
-        };
-        for number in 0..NODES as u8 {
-            let node = chip.node_mut(NodeId::new(number));
-            if next(&mut seed) % 3 == 0 {
-                node.set(Place::A, next(&mut seed) % 0x4_0000);
-                node.set(Place::B, next(&mut seed) % 0x200);
-            }
-            if next(&mut seed) % 3 == 0 {
-                node.set(Place::P, next(&mut seed) % 0x400);
-            }
-            if next(&mut seed) % 3 == 0 {
-                for cell in 0..64u8 {
-                    if next(&mut seed) % (1 + round) == 0 {
-                        node.set(Place::Ram(cell), next(&mut seed) % 0x4_0000);
-                        node.set(Place::Rom(cell), next(&mut seed) % 0x4_0000);
-                    }
-                }
-            }
-        }
-        let Ok(image) = print(rt.alloc(), &chip) else {
-            return Err("no memory".into());
-        };
-        let other = again(rt.alloc(), image.as_slice())?;
-        assert_eq!(rt; other.as_slice(), image.as_slice(), "round {round}");
+        let image = generated(rt.alloc(), &mut seed, round)?;
+        comes_back(&rt, rt.alloc(), image.as_slice())?;
     }
     Ok(())
 }

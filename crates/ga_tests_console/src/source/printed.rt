@@ -1,8 +1,10 @@
 //! What standard output and standard error get, by which stream fails.
 
+use crate::same::{ends, holds, same};
 use ga_console::{Status, assemble_source, disassemble, list_source};
+use std::alloc::Global;
 use std::io::{Error, ErrorKind, Read, Result, Write};
-use std::test::Fail;
+use std::process::Abort;
 
 /// A stream that fails.
 #[derive(Drop)]
@@ -64,91 +66,134 @@ static REFUSED: [Row; 8] = [
     },
 ];
 
+/// A source is refused with this text, and nothing comes of it.
+fn is_refused(rt: &impl Abort, alloc: Global, mut source: &[u8], wanted: &[u8]) {
+    let mut output = Vec::new(alloc);
+    let mut errors = Vec::new(alloc);
+    let status = assemble_source(alloc, &mut source, &mut output, &mut errors);
+    ends(rt, status, Status::ImageRefused);
+    same(rt, output.as_slice(), b"");
+    same(rt, errors.as_slice(), wanted);
+}
+
+/// It is not listed either.
+fn is_not_listed(rt: &impl Abort, alloc: Global, mut source: &[u8], wanted: &[u8]) {
+    let mut output = Vec::new(alloc);
+    let mut errors = Vec::new(alloc);
+    let status = list_source(alloc, &mut source, &mut output, &mut errors);
+    ends(rt, status, Status::ImageRefused);
+    same(rt, output.as_slice(), b"");
+    same(rt, errors.as_slice(), wanted);
+}
+
 #[test]
 fn refusals(rt: HostRuntime) {
     for row in &REFUSED {
-        let mut source = row.source;
-        let mut output = Vec::new(rt.alloc());
-        let mut errors = Vec::new(rt.alloc());
-        let status = assemble_source(rt.alloc(), &mut source, &mut output, &mut errors);
-        assert_eq!(rt; status, Status::ImageRefused);
-        assert!(rt; output.is_empty());
-        assert_eq!(rt; errors.as_slice(), row.errors);
-        let mut source = row.source;
-        let mut errors = Vec::new(rt.alloc());
-        let status = list_source(rt.alloc(), &mut source, &mut output, &mut errors);
-        assert_eq!(rt; status, Status::ImageRefused);
-        assert!(rt; output.is_empty());
-        assert_eq!(rt; errors.as_slice(), row.errors);
+        is_refused(&rt, rt.alloc(), row.source, row.errors);
+        is_not_listed(&rt, rt.alloc(), row.source, row.errors);
     }
 }
 
-/// Stores over code are told, and come with the image.
+/// Sources, and what is told of stores over code.
+static WARNED: [Row; 10] = [
+    Row {
+        source: b"node 000\n1 b!\n5 !b",
+        errors: b"ga144: line 3: warning: this writes 001, which holds code of line 2\n",
+    },
+    Row {
+        source: b"node 000 0 a! dup\n!",
+        errors: b"ga144: line 2: warning: this writes 000, which holds code of line 1\n",
+    },
+    // A goes up by one: 3 is behind the code.
+    Row {
+        source: b"node 000 1 a! dup dup\n!+ !+ !+",
+        errors: b"ga144: line 2: warning: this writes 001, which holds code of line 1\nga144: line 2: warning: this writes 002, which holds code of line 2\n",
+    },
+    Row {
+        source: b"node 000 'data b! !b ; : data 0 ,",
+        errors: b"",
+    },
+    Row {
+        source: b"node 000 right b! !b",
+        errors: b"",
+    },
+    Row {
+        source: b"node 000 0 b! right b! !b",
+        errors: b"",
+    },
+    Row {
+        source: b"node 000 0 b! foo !b ; : foo ;",
+        errors: b"",
+    },
+    Row {
+        source: b"node 000 0 b! : foo !b ;",
+        errors: b"",
+    },
+    Row {
+        source: b"node 000 0 drop b! !b",
+        errors: b"",
+    },
+    Row {
+        source: b"node 000 0x40 b! !b",
+        errors: b"ga144: line 1: warning: this writes 040, which holds code of line 1\n",
+    },
+];
+
+/// A source is assembled with this text on standard error.
+fn is_assembled(rt: &impl Abort, alloc: Global, mut source: &[u8], header: &[u8], told: &[u8]) {
+    let mut output = Vec::new(alloc);
+    let mut errors = Vec::new(alloc);
+    let status = assemble_source(alloc, &mut source, &mut output, &mut errors);
+    ends(rt, status, Status::Done);
+    holds(rt, output.as_slice().starts_with(header));
+    same(rt, errors.as_slice(), told);
+}
+
+// Stores over code are told, and come with the image.
 #[test]
 fn warnings(rt: HostRuntime) {
-    let rows: [(&'static [u8], &'static [u8]); 10] = [
-        (
-            b"node 000\n1 b!\n5 !b",
-            b"ga144: line 3: warning: this writes 001, which holds code of line 2\n",
-        ),
-        (
-            b"node 000 0 a! dup\n!",
-            b"ga144: line 2: warning: this writes 000, which holds code of line 1\n",
-        ),
-        // A goes up by one: 3 is behind the code.
-        (
-            b"node 000 1 a! dup dup\n!+ !+ !+",
-            b"ga144: line 2: warning: this writes 001, which holds code of line 1\nga144: line 2: warning: this writes 002, which holds code of line 2\n",
-        ),
-        (b"node 000 'data b! !b ; : data 0 ,", b""),
-        (b"node 000 right b! !b", b""),
-        (b"node 000 0 b! right b! !b", b""),
-        (b"node 000 0 b! foo !b ; : foo ;", b""),
-        (b"node 000 0 b! : foo !b ;", b""),
-        (b"node 000 0 drop b! !b", b""),
-        (
-            b"node 000 0x40 b! !b",
-            b"ga144: line 1: warning: this writes 040, which holds code of line 1\n",
-        ),
-    ];
-    for (mut source, wanted) in rows {
-        let mut output = Vec::new(rt.alloc());
-        let mut errors = Vec::new(rt.alloc());
-        let status = assemble_source(rt.alloc(), &mut source, &mut output, &mut errors);
-        assert_eq!(rt; status, Status::Done);
-        assert!(rt; output.as_slice().starts_with(b"ga144 2\n"));
-        assert_eq!(rt; errors.as_slice(), wanted);
+    for row in &WARNED {
+        is_assembled(&rt, rt.alloc(), row.source, b"ga144 2\n", row.errors);
     }
+}
+
+const RIGHT: &[u8] = b"node 000 dup";
+
+#[test]
+fn nothing_is_read(rt: HostRuntime) {
+    let mut kept = Vec::new(rt.alloc());
+    let status = assemble_source(rt.alloc(), &mut Closed, &mut kept, &mut Closed);
+    ends(&rt, status, Status::StreamFault);
+    let status = list_source(rt.alloc(), &mut Closed, &mut kept, &mut Closed);
+    ends(&rt, status, Status::StreamFault);
+    let status = disassemble(rt.alloc(), &mut Closed, &mut kept);
+    ends(&rt, status, Status::StreamFault);
+    same(&rt, kept.as_slice(), b"");
 }
 
 #[test]
 fn streams_that_fail(rt: HostRuntime) {
-    let source: &[u8] = b"node 000 dup";
-    let refused: &[u8] = b"node 000 foo";
-    let image: &[u8] = b"ga144 1\nnode 000\np 000000\nend\n";
     let mut kept = Vec::new(rt.alloc());
-    let status = assemble_source(rt.alloc(), &mut Closed, &mut kept, &mut Closed);
-    assert_eq!(rt; status, Status::StreamFault);
-    let status = list_source(rt.alloc(), &mut Closed, &mut kept, &mut Closed);
-    assert_eq!(rt; status, Status::StreamFault);
-    let status = disassemble(rt.alloc(), &mut Closed, &mut kept);
-    assert_eq!(rt; status, Status::StreamFault);
-    assert!(rt; kept.is_empty());
-    let mut reader = source;
+    let mut reader = RIGHT;
     let status = assemble_source(rt.alloc(), &mut reader, &mut Closed, &mut kept);
-    assert_eq!(rt; status, Status::StreamFault);
-    let mut reader = source;
+    ends(&rt, status, Status::StreamFault);
+    let mut reader = RIGHT;
     let status = list_source(rt.alloc(), &mut reader, &mut Closed, &mut kept);
-    assert_eq!(rt; status, Status::StreamFault);
-    let mut reader = image;
+    ends(&rt, status, Status::StreamFault);
+    let mut reader: &[u8] = b"ga144 1\nnode 000\np 000000\nend\n";
     let status = disassemble(rt.alloc(), &mut reader, &mut Closed);
-    assert_eq!(rt; status, Status::StreamFault);
-    assert!(rt; kept.is_empty());
-    // That a refusal can't be told doesn't change the status.
-    let mut reader = refused;
+    ends(&rt, status, Status::StreamFault);
+    same(&rt, kept.as_slice(), b"");
+}
+
+// That a refusal can't be told doesn't change the status.
+#[test]
+fn a_refusal_is_not_told(rt: HostRuntime) {
+    let mut kept = Vec::new(rt.alloc());
+    let mut reader: &[u8] = b"node 000 foo";
     let status = assemble_source(rt.alloc(), &mut reader, &mut kept, &mut Closed);
-    assert_eq!(rt; status, Status::ImageRefused);
-    assert!(rt; kept.is_empty());
+    ends(&rt, status, Status::ImageRefused);
+    same(&rt, kept.as_slice(), b"");
 }
 
 #[test]
@@ -156,17 +201,17 @@ fn an_image_that_is_refused(rt: HostRuntime) {
     let mut image: &[u8] = b"ga144 1\nnode 018\nend\n";
     let mut output = Vec::new(rt.alloc());
     let status = disassemble(rt.alloc(), &mut image, &mut output);
-    assert_eq!(rt; status, Status::ImageRefused);
-    assert_eq!(rt; output.as_slice(), b"no 13 node line 2\n".as_slice());
+    ends(&rt, status, Status::ImageRefused);
+    same(&rt, output.as_slice(), b"no 13 node line 2\n");
 }
 
 #[test]
-fn what_stands_behind_the_end_is_left_out(rt: HostRuntime) -> std::result::Result<(), Fail> {
-    let mut source: &[u8] = b"node 000 dup\nend\nnode 000 foo";
-    let mut output = Vec::new(rt.alloc());
-    let mut errors = Vec::new(rt.alloc());
-    let status = assemble_source(rt.alloc(), &mut source, &mut output, &mut errors);
-    assert_eq!(rt; status, Status::Done);
-    assert!(rt; errors.is_empty());
-    Ok(())
+fn what_stands_behind_the_end_is_left_out(rt: HostRuntime) {
+    is_assembled(
+        &rt,
+        rt.alloc(),
+        b"node 000 dup\nend\nnode 000 foo",
+        b"",
+        b"",
+    );
 }

@@ -1,19 +1,24 @@
 //! What a rollback asks of a journal: marks, and the looks that are to go.
 
-use super::{linked, looked};
+use super::looks::looked;
+use super::{linked, steps_are};
 use ga_grid::NodeId;
 use ga_journal::Journal;
 use std::process::Abort;
 use std::test::Fail;
 
 // What is seen of a rollback: the marks of nodes 000 and 001, and the ticks.
-pub(crate) fn seen(journal: &Journal) -> (u32, u32, u64) {
+fn seen(journal: &Journal) -> (u32, u32, u64) {
     let (first, second) = (NodeId::new(0), NodeId::new(1));
     (
         journal.mark_of(first),
         journal.mark_of(second),
         journal.ticks(),
     )
+}
+
+pub(crate) fn is_seen(rt: &impl Abort, journal: &Journal, wanted: (u32, u32, u64)) {
+    assert_eq!(rt; seen(journal), wanted);
 }
 
 // Lowers the mark of node 000 or 001 where it stands above; or, with no mark, seeks the newest look of the other of them that
@@ -47,6 +52,20 @@ fn taken_up(journal: &mut Journal) -> Option<NodeId> {
     journal.take_up()
 }
 
+fn has_partner(
+    rt: &impl Abort,
+    journal: &mut Journal,
+    node: NodeId,
+    at: u32,
+    wanted: Option<(NodeId, u32)>,
+) {
+    assert_eq!(rt; partner(journal, node, at), wanted);
+}
+
+fn takes_up(rt: &impl Abort, journal: &mut Journal, wanted: Option<NodeId>) {
+    assert_eq!(rt; taken_up(journal), wanted);
+}
+
 // The ends of a pass name each other, and an own event names none. A node whose mark is lowered is taken up once, and
 // where none waits that is no tick.
 #[test]
@@ -54,34 +73,34 @@ fn looks_and_lowers(rt: HostRuntime) -> Result<(), Fail> {
     let n000 = NodeId::new(0);
     let n001 = NodeId::new(1);
     let mut journal = linked(rt.alloc())?;
-    assert_eq!(rt; (journal.steps_of(n000), journal.steps_of(n001)), (2, 1));
-    assert_eq!(rt; seen(&journal), (2, 1, 0));
-    for (node, at, end, wanted) in [
-        (n000, 0, None, (2, 1, 1)),
-        (n000, 1, Some((n001, 0)), (2, 1, 2)),
-        (n001, 0, Some((n000, 1)), (2, 1, 3)),
-    ] {
-        assert_eq!(rt; partner(&mut journal, node, at), end);
-        assert_eq!(rt; seen(&journal), wanted);
-    }
+    steps_are(&rt, &journal, 2, 1);
+    is_seen(&rt, &journal, (2, 1, 0));
+    has_partner(&rt, &mut journal, n000, 0, None);
+    is_seen(&rt, &journal, (2, 1, 1));
+    has_partner(&rt, &mut journal, n000, 1, Some((n001, 0)));
+    is_seen(&rt, &journal, (2, 1, 2));
+    has_partner(&rt, &mut journal, n001, 0, Some((n000, 1)));
+    is_seen(&rt, &journal, (2, 1, 3));
     let _lowered = turn(&mut journal, n001, Some(0));
-    assert_eq!(rt; seen(&journal), (2, 0, 4));
-    for (node, wanted) in [(Some(n001), (2, 0, 5)), (None, (2, 0, 5))] {
-        assert_eq!(rt; taken_up(&mut journal), node);
-        assert_eq!(rt; seen(&journal), wanted);
-    }
+    is_seen(&rt, &journal, (2, 0, 4));
+    takes_up(&rt, &mut journal, Some(n001));
+    is_seen(&rt, &journal, (2, 0, 5));
+    takes_up(&rt, &mut journal, None);
+    is_seen(&rt, &journal, (2, 0, 5));
     Ok(())
 }
 
-// Takes turns, each a node, a mark to lower or none, what is found and what is seen behind it.
-pub(crate) fn take_turns<const N: usize>(
-    rt: &impl Abort,
-    journal: &mut Journal,
-    turns: [(NodeId, Option<u32>, Option<u32>, (u32, u32, u64)); N],
-) {
+// A turn: a node, a mark to lower or none, what is found and what is seen behind it.
+type Turn = (NodeId, Option<u32>, Option<u32>, (u32, u32, u64));
+
+fn finds(rt: &impl Abort, found: Option<u32>, wanted: Option<u32>) {
+    assert_eq!(rt; found, wanted);
+}
+
+pub(crate) fn take_turns(rt: &impl Abort, journal: &mut Journal, turns: &[Turn]) {
     for (node, mark, found, wanted) in turns {
-        assert_eq!(rt; turn(journal, node, mark), found);
-        assert_eq!(rt; seen(journal), wanted);
+        finds(rt, turn(journal, *node, *mark), *found);
+        is_seen(rt, journal, *wanted);
     }
 }
 
@@ -92,24 +111,21 @@ fn finds_looks_to_go(rt: HostRuntime) -> Result<(), Fail> {
     let n000 = NodeId::new(0);
     let n001 = NodeId::new(1);
     let mut journal = looked(rt.alloc())?;
-    assert_eq!(rt; seen(&journal), (2, 3, 0));
-    take_turns(
-        &rt,
-        &mut journal,
-        [
-            (n000, None, None, (2, 3, 1)),
-            (n000, Some(1), None, (1, 3, 2)),
-            (n001, None, None, (1, 3, 2)),
-            (n000, None, Some(2), (1, 3, 3)),
-            (n001, Some(2), None, (1, 2, 4)),
-            (n000, None, None, (1, 2, 5)),
-            (n000, Some(0), None, (0, 2, 6)),
-            (n000, None, Some(0), (0, 2, 7)),
-            (n001, Some(1), None, (0, 1, 8)),
-            (n000, None, Some(0), (0, 1, 9)),
-            (n001, Some(0), None, (0, 0, 10)),
-            (n000, None, None, (0, 0, 11)),
-        ],
-    );
+    is_seen(&rt, &journal, (2, 3, 0));
+    let turns = [
+        (n000, None, None, (2, 3, 1)),
+        (n000, Some(1), None, (1, 3, 2)),
+        (n001, None, None, (1, 3, 2)),
+        (n000, None, Some(2), (1, 3, 3)),
+        (n001, Some(2), None, (1, 2, 4)),
+        (n000, None, None, (1, 2, 5)),
+        (n000, Some(0), None, (0, 2, 6)),
+        (n000, None, Some(0), (0, 2, 7)),
+        (n001, Some(1), None, (0, 1, 8)),
+        (n000, None, Some(0), (0, 1, 9)),
+        (n001, Some(0), None, (0, 0, 10)),
+        (n000, None, None, (0, 0, 11)),
+    ];
+    take_turns(&rt, &mut journal, &turns);
     Ok(())
 }

@@ -1,8 +1,17 @@
 //! What a lab's refusals say to a person.
 
+use crate::asserts::same;
 use ga_lab::LabFault;
+use std::alloc::Global;
 use std::process::Abort;
 use std::test::Fail;
+
+/// What is printed of a refusal.
+fn is_told(rt: &impl Abort, alloc: Global, fault: LabFault, text: &str) -> Result<(), Fail> {
+    let told = format!(in alloc; "{fault}")?;
+    same(rt, &told.as_str(), &text);
+    Ok(())
+}
 
 #[test]
 fn refusals_in_words(rt: HostRuntime) -> Result<(), Fail> {
@@ -16,7 +25,7 @@ fn refusals_in_words(rt: HostRuntime) -> Result<(), Fail> {
         (LabFault::Spent, "no more events can be counted"),
     ];
     for (fault, text) in rows {
-        assert_eq!(rt; format!(in rt.alloc(); "{fault}")?.as_str(), text);
+        is_told(&rt, rt.alloc(), fault, text)?;
     }
     Ok(())
 }

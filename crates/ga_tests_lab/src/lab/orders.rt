@@ -1,6 +1,7 @@
 //! Rollbacks of a busy chip, and what they cost.
 
 use super::{Act, LIMIT, answered, assert_same, pair, steps};
+use crate::asserts::same;
 use ga_given::{load, reader_of_io, sender, taker};
 use ga_grid::{Chip, NodeId};
 use ga_lab::{Lab, LabFault, Made, Ticks};
@@ -57,7 +58,7 @@ fn rewind_both(
     let removed = lab.rewind(first.0, first.1)?;
     assert!(rt; removed > 0 && removed < before.kept);
     let _again = lab.rewind(second.0, second.1);
-    assert_eq!(rt; lab.counts().made, before.made);
+    same(rt, &lab.counts().made, &before.made);
     Ok(())
 }
 
@@ -122,13 +123,13 @@ fn newest(lab: &Lab) -> Result<(NodeId, u32), Fail> {
 fn newest_rewound(rt: &impl Abort, alloc: Global) -> Result<Lab, Fail> {
     let mut lab = busy(rt, alloc, 6000)?;
     let (node, step) = newest(&lab)?;
-    assert_eq!(rt; lab.rewind(node, step), Ok(1));
+    same(rt, &lab.rewind(node, step), &Ok(1));
     Ok(lab)
 }
 
 fn newest_undone(rt: &impl Abort, alloc: Global) -> Result<Lab, Fail> {
     let mut lab = busy(rt, alloc, 6000)?;
-    assert_eq!(rt; lab.undo(), Ok(()));
+    same(rt, &lab.undo(), &Ok(()));
     Ok(lab)
 }
 
@@ -156,7 +157,8 @@ fn passed_beside(alloc: Global, others: u16) -> Result<Lab, Fail> {
 // The ticks of a rollback that removes so many events.
 fn ticks_where(rt: &impl Abort, lab: &mut Lab, at: (NodeId, u32), removed: u32) -> u64 {
     let mut ticks = Ticks::new();
-    assert_eq!(rt; lab.rewind_ticked(at.0, at.1, &mut ticks), Ok(removed));
+    let answer = lab.rewind_ticked(at.0, at.1, &mut ticks);
+    same(rt, &answer, &Ok(removed));
     ticks.count()
 }
 
@@ -171,7 +173,7 @@ fn ticks_of(
 ) -> Result<u64, Fail> {
     let mut lab = passed_beside(alloc, others)?;
     let ticks = ticks_where(rt, &mut lab, at, removed);
-    assert_eq!(rt; lab.counts().kept, kept);
+    same(rt, &lab.counts().kept, &kept);
     Ok(ticks)
 }
 
@@ -184,8 +186,9 @@ fn ticks_by_what_goes(rt: HostRuntime) -> Result<(), Fail> {
     let rows = [(n000, 7, 2, 10, 1010, 10), (n001, 1, 5, 7, 1007, 16)];
     for (node, step, removed, few, many, ticks) in rows {
         let at = (node, step);
-        assert_eq!(rt; ticks_of(&rt, rt.alloc(), 0, at, removed, few)?, ticks);
-        assert_eq!(rt; ticks_of(&rt, rt.alloc(), 1000, at, removed, many)?, ticks);
+        let with_few = ticks_of(&rt, rt.alloc(), 0, at, removed, few)?;
+        let with_many = ticks_of(&rt, rt.alloc(), 1000, at, removed, many)?;
+        same(&rt, &(with_few, with_many), &(ticks, ticks));
     }
     Ok(())
 }
@@ -210,7 +213,8 @@ fn ticks_of_looks(rt: HostRuntime) -> Result<(), Fail> {
     let n001 = NodeId::new(1);
     for (node, step, removed, wanted) in [(n000, 7, 2, 10), (n001, 2, 1, 4)] {
         let mut lab = looked(rt.alloc())?;
-        assert_eq!(rt; ticks_where(&rt, &mut lab, (node, step), removed), wanted);
+        let ticks = ticks_where(&rt, &mut lab, (node, step), removed);
+        same(&rt, &ticks, &wanted);
     }
     Ok(())
 }

@@ -1,6 +1,7 @@
 //! Chains of causes between steps, and what is told of them.
 
-use super::{own, passed, steps, tells_at, the_pass};
+use super::{Act, own, passed_and, tells_at, the_pass};
+use crate::asserts::{each_same, same};
 use ga_grid::NodeId;
 use ga_lab::{Lab, LabFault, Made};
 use ga_node::Kind;
@@ -10,9 +11,7 @@ use std::test::Fail;
 
 // Behind the pass node 001 makes one step more.
 fn later(rt: &impl Abort, alloc: Global) -> Result<Lab, Fail> {
-    let mut lab = passed(rt, alloc)?;
-    steps(&mut lab, NodeId::new(1), 1)?;
-    Ok(lab)
+    passed_and(rt, alloc, &[Act::Steps(NodeId::new(1), 1)])
 }
 
 // How many links the chain between two steps has.
@@ -32,11 +31,28 @@ fn links_tell(
     wanted: &[Made],
 ) -> Result<(), Fail> {
     let chain = lab.why(from, to)?.ok_or("independent")?;
-    assert_eq!(rt; chain.len(), wanted.len());
+    same(rt, &chain.len(), &wanted.len());
     for (link, told) in chain.links().iter().zip(wanted) {
         tells_at(rt, lab, link.place, Some(*told));
     }
     Ok(())
+}
+
+// Whether a chain leads from one step to another, and how long it is.
+fn tells_links(rt: &impl Abort, lab: &Lab) {
+    let n000 = NodeId::new(0);
+    let n001 = NodeId::new(1);
+    // the last but two are not later, and the last two are no steps
+    for (from, to, wanted) in [
+        ((n000, 1), (n001, 5), Ok(Some(2))),
+        ((n001, 1), (n001, 1), Ok(Some(1))),
+        ((n001, 1), (n000, 7), Ok(None)),
+        ((n001, 6), (n000, 7), Ok(None)),
+        ((n000, 9), (n001, 1), Err(LabFault::NoStep)),
+        ((n001, 1), (n000, 0), Err(LabFault::NoStep)),
+    ] {
+        same(rt, &links(lab, from, to), &wanted);
+    }
 }
 
 #[test]
@@ -50,17 +66,7 @@ fn tells_why(rt: HostRuntime) -> Result<(), Fail> {
         own(n001, 6, Kind::Run(0x1c)),
     ];
     links_tell(&rt, &lab, (n000, 7), (n001, 6), &told)?;
-    // the last but two are not later, and the last two are no steps
-    for (from, to, wanted) in [
-        ((n000, 1), (n001, 5), Ok(Some(2))),
-        ((n001, 1), (n001, 1), Ok(Some(1))),
-        ((n001, 1), (n000, 7), Ok(None)),
-        ((n001, 6), (n000, 7), Ok(None)),
-        ((n000, 9), (n001, 1), Err(LabFault::NoStep)),
-        ((n001, 1), (n000, 0), Err(LabFault::NoStep)),
-    ] {
-        assert_eq!(rt; links(&lab, from, to), wanted);
-    }
+    tells_links(&rt, &lab);
     Ok(())
 }
 
@@ -73,17 +79,17 @@ fn explains(
     wanted: &[Made],
 ) -> Result<(), Fail> {
     let told = lab.explain(from, to)?.ok_or("independent")?;
-    assert_eq!(rt; told.as_slice(), wanted);
+    each_same(rt, &told, wanted);
     Ok(())
 }
 
 // And where there is none.
 fn explains_nothing(rt: &impl Abort, lab: &Lab, from: (NodeId, u32), to: (NodeId, u32)) {
-    assert!(rt; matches!(lab.explain(from, to), Ok(None)));
+    same(rt, &matches!(lab.explain(from, to), Ok(None)), &true);
 }
 
 fn refuses_to_explain(rt: &impl Abort, lab: &Lab, from: (NodeId, u32), to: (NodeId, u32)) {
-    assert_eq!(rt; lab.explain(from, to).err(), Some(LabFault::NoStep));
+    same(rt, &lab.explain(from, to).err(), &Some(LabFault::NoStep));
 }
 
 #[test]

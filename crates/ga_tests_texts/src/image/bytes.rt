@@ -87,8 +87,13 @@ enum Says {
 
 /// The digit at a place of a text.
 fn digit_at(text: &[u8], at: usize) -> u32 {
-    let byte = text.get(at).copied().unwrap_or(0);
-    char::from(byte).to_digit(16).unwrap_or(0)
+    let Some(byte) = text.get(at) else {
+        return 0;
+    };
+    match char::from(*byte).to_digit(16) {
+        Some(digit) => digit,
+        None => 0,
+    }
 }
 
 /// The node that the row at place 13 and the column at places 14 and 15 name.
@@ -196,21 +201,21 @@ fn every_byte_of_the_second_format(rt: HostRuntime) -> Result<(), Fail> {
     change(&rt, rt.alloc(), STATES.0, STATES.1, Says::State)
 }
 
+/// A second line of so many bytes, at the end of a text and in front of another line.
+fn assert_line(rt: &impl Abort, alloc: Global, count: usize, number: u8) -> Result<(), Fail> {
+    let mut text = b"ga144 1\n".as_slice().to_vec(alloc)?;
+    for _ in 0..count {
+        text.push(b'x')?;
+    }
+    assert_refusal(rt, alloc, text.as_slice(), Some((number, 2)));
+    text.push(b'\n')?;
+    assert_refusal(rt, alloc, text.as_slice(), Some((number, 2)));
+    Ok(())
+}
+
 /// The lines that are as long as may be, and one byte longer.
 #[test]
 fn longest_lines(rt: HostRuntime) -> Result<(), Fail> {
-    let alloc = rt.alloc();
-    for (count, number) in [
-        (200usize, ImageCause::Line.number()),
-        (201, ImageCause::Long.number()),
-    ] {
-        let mut text = b"ga144 1\n".as_slice().to_vec(alloc)?;
-        for _ in 0..count {
-            text.push(b'x')?;
-        }
-        assert_refusal(&rt, alloc, text.as_slice(), Some((number, 2)));
-        text.push(b'\n')?;
-        assert_refusal(&rt, alloc, text.as_slice(), Some((number, 2)));
-    }
-    Ok(())
+    assert_line(&rt, rt.alloc(), 200, ImageCause::Line.number())?;
+    assert_line(&rt, rt.alloc(), 201, ImageCause::Long.number())
 }

@@ -1,6 +1,7 @@
 //! Texts that are refused, with the first fault of each.
 
 use super::{Refusal, assert_refusals};
+use crate::asserts::same;
 use ga_image::{ImageCause, ImageFault, parse};
 use std::test::Fail;
 
@@ -136,34 +137,31 @@ fn first_faults_of_the_second_format(rt: HostRuntime) {
 /// With enough memory a text without any line is told as one that ends too early.
 #[test]
 fn empty_text(rt: HostRuntime) {
-    match parse(rt.alloc(), b"") {
-        Ok(_) => assert!(rt; false, "accepted"),
-        Err(fault) => assert_eq!(rt;
-            fault,
-            ImageFault {
-                line: 1,
-                cause: ImageCause::Truncated,
-            }
-        ),
-    }
+    let wanted = ImageFault {
+        line: 1,
+        cause: ImageCause::Truncated,
+    };
+    same(&rt, &parse(rt.alloc(), b"").err(), &Some(wanted));
 }
+
+/// The causes, with their numbers and words.
+static CAUSES: [(ImageCause, u8, &str); 10] = [
+    (ImageCause::Header, 11, "header"),
+    (ImageCause::Line, 12, "line"),
+    (ImageCause::Node, 13, "node"),
+    (ImageCause::Word, 14, "word"),
+    (ImageCause::Repeated, 15, "repeated"),
+    (ImageCause::Place, 16, "place"),
+    (ImageCause::Truncated, 17, "truncated"),
+    (ImageCause::Long, 18, "long"),
+    (ImageCause::Memory, 19, "memory"),
+    (ImageCause::State, 20, "state"),
+];
 
 #[test]
 fn causes(rt: HostRuntime) {
-    let table = [
-        (ImageCause::Header, 11, "header"),
-        (ImageCause::Line, 12, "line"),
-        (ImageCause::Node, 13, "node"),
-        (ImageCause::Word, 14, "word"),
-        (ImageCause::Repeated, 15, "repeated"),
-        (ImageCause::Place, 16, "place"),
-        (ImageCause::Truncated, 17, "truncated"),
-        (ImageCause::Long, 18, "long"),
-        (ImageCause::Memory, 19, "memory"),
-        (ImageCause::State, 20, "state"),
-    ];
-    for (cause, number, word) in table {
-        assert_eq!(rt; (cause.number(), cause.word()), (number, word));
+    for (cause, number, word) in &CAUSES {
+        same(&rt, &(cause.number(), cause.word()), &(*number, *word));
     }
 }
 

@@ -2,10 +2,18 @@
 
 use super::{Refusal, assert_fronts, assert_refusal};
 use std::alloc::{AllocError, Global};
+use std::process::Abort;
 use std::test::Fail;
 
 /// The image of a node that sends a word to the right.
 const SENDER: &[u8] = b"ga144 1\nnode 000\np 000000\nram 00 004b12 0001d5 00002a 0089b2\nend\n";
+
+fn add_repeated(text: &mut Vec<u8>, piece: &[u8], count: u32) -> Result<(), AllocError> {
+    for _ in 0..count {
+        text.extend_from_slice(piece)?;
+    }
+    Ok(())
+}
 
 /// A text of pieces, the second of them so many times.
 fn repeated(
@@ -16,11 +24,23 @@ fn repeated(
     back: &[u8],
 ) -> Result<Vec<u8>, AllocError> {
     let mut text = front.to_vec(alloc)?;
-    for _ in 0..count {
-        text.extend_from_slice(piece)?;
-    }
+    add_repeated(&mut text, piece, count)?;
     text.extend_from_slice(back)?;
     Ok(text)
+}
+
+/// Asserts how a text of a front, so many pieces and the last line is refused.
+fn assert_repeated(
+    rt: &impl Abort,
+    alloc: Global,
+    front: &[u8],
+    piece: &[u8],
+    count: u32,
+    wanted: Refusal,
+) -> Result<(), Fail> {
+    let text = repeated(alloc, front, piece, count, b"\nend\n")?;
+    assert_refusal(rt, alloc, &text, wanted);
+    Ok(())
 }
 
 /// Lines that have no form.
@@ -45,9 +65,9 @@ const STRANGE_LINES: &[&[u8]] = &[
 
 #[test]
 fn strange_bytes(rt: HostRuntime) -> Result<(), Fail> {
+    let front = b"ga144 1\nnode 000\n";
     for line in STRANGE_LINES {
-        let text = repeated(rt.alloc(), b"ga144 1\nnode 000\n", line, 1, b"\nend\n")?;
-        assert_refusal(&rt, rt.alloc(), &text, Some((12, 3)));
+        assert_repeated(&rt, rt.alloc(), front, line, 1, Some((12, 3)))?;
     }
     Ok(())
 }
@@ -94,8 +114,7 @@ const LONG_LINES: &[(&[u8], &[u8], u32, Refusal)] = &[
 #[test]
 fn long_lines(rt: HostRuntime) -> Result<(), Fail> {
     for (front, piece, count, wanted) in LONG_LINES {
-        let text = repeated(rt.alloc(), front, piece, *count, b"\nend\n")?;
-        assert_refusal(&rt, rt.alloc(), &text, *wanted);
+        assert_repeated(&rt, rt.alloc(), front, piece, *count, *wanted)?;
     }
     Ok(())
 }

@@ -3,36 +3,45 @@
 ghost use Rattle.std.specs.Prelude.{◌<◌, ◌^◌};
 
 use super::assert_fronts;
+use crate::asserts::{each_same, same};
 use ga_given::first_difference;
 use ga_grid::{Chip, NodeId};
 use ga_image::{parse, print};
 use ga_node::{Node, Place};
 use ga_word::Word18;
 use std::alloc::Global;
+use std::process::Abort;
 use std::test::Fail;
 
 /// The image of a node that waits to send a word to the right.
 const SENDER: &[u8] =
     b"ga144 2\nnode 000\nb 0001d5\np 000004\ni 0089b2\nslot 0\nd 00002a 015555 015555 015555 015555 015555 015555 015555 015555 015555\nwait write r---\nram 00 004b12 0001d5 00002a 0089b2 000000 000000 000000 000000\nend\n";
 
+/// Asserts how the chip of a text is printed.
+fn assert_printed(rt: &impl Abort, alloc: Global, text: &[u8], wanted: &[u8]) -> Result<(), Fail> {
+    let printed = print(alloc, &parse(alloc, text)?)?;
+    each_same(rt, &printed, wanted);
+    Ok(())
+}
+
 #[test]
 fn chip_at_load(rt: HostRuntime) -> Result<(), Fail> {
     let text = print(rt.alloc(), &Chip::new(rt.alloc())?)?;
-    assert!(rt; text.as_slice() == b"ga144 2\nend\n".as_slice());
+    each_same(&rt, &text, b"ga144 2\nend\n");
     Ok(())
 }
 
 /// Texts that are printed as they stand.
+const PRINTED: &[&[u8]] = &[
+    SENDER,
+    b"ga144 2\nnode 001\na 03ffff\nb 000000\np 0003ff\ni 000001\nio 000000\ncarry 1\nslot 3\nd 015555 000000 015555 015555 015555 015555 015555 015555 015555 015555\nr 015555 015555 015555 015555 015555 015555 015555 015555 000000\nwait read rdlu\nend\n",
+    b"ga144 2\nnode 017\nwait fetch -d--\nnode 100\nstop 3\nram 08 000000 000000 000000 000000 000000 000000 000000 000001\nram 38 03abcd 000000 000000 000000 000000 000000 000000 000000\nrom 00 000001 000000 000000 000000 000000 000000 000000 000000\nnode 717\np 000000\nend\n",
+];
+
 #[test]
 fn same_texts(rt: HostRuntime) -> Result<(), Fail> {
-    for text in [
-        SENDER,
-        b"ga144 2\nnode 001\na 03ffff\nb 000000\np 0003ff\ni 000001\nio 000000\ncarry 1\nslot 3\nd 015555 000000 015555 015555 015555 015555 015555 015555 015555 015555\nr 015555 015555 015555 015555 015555 015555 015555 015555 000000\nwait read rdlu\nend\n".as_slice(),
-        b"ga144 2\nnode 017\nwait fetch -d--\nnode 100\nstop 3\nram 08 000000 000000 000000 000000 000000 000000 000000 000001\nram 38 03abcd 000000 000000 000000 000000 000000 000000 000000\nrom 00 000001 000000 000000 000000 000000 000000 000000 000000\nnode 717\np 000000\nend\n".as_slice(),
-    ] {
-        let chip = parse(rt.alloc(), text)?;
-        let printed = print(rt.alloc(), &chip)?;
-        assert!(rt; printed.as_slice() == text, "at {text:?}");
+    for text in PRINTED {
+        assert_printed(&rt, rt.alloc(), text, text)?;
     }
     Ok(())
 }
@@ -44,9 +53,7 @@ fn other_texts(rt: HostRuntime) -> Result<(), Fail> {
         b"ga144 1\nnode 717\nnode 000\nrom 07 00000A 00000B\na 000000\nb 00015D\nram 3f 000000\nend".as_slice();
     let wanted =
         b"ga144 2\nnode 000\nrom 00 000000 000000 000000 000000 000000 000000 000000 00000a\nrom 08 00000b 000000 000000 000000 000000 000000 000000 000000\nend\n".as_slice();
-    let printed = print(rt.alloc(), &parse(rt.alloc(), text)?)?;
-    assert!(rt; printed.as_slice() == wanted);
-    Ok(())
+    assert_printed(&rt, rt.alloc(), text, wanted)
 }
 
 /// The next of a row of numbers.
@@ -107,14 +114,21 @@ fn generated(alloc: Global, seed: u32) -> Result<Chip, Fail> {
     Ok(chip)
 }
 
+/// Asserts that the image of a chip is long, and gives the same chip.
+fn assert_read_back(rt: &impl Abort, alloc: Global, seed: u32, chip: &Chip) -> Result<(), Fail> {
+    let text = print(alloc, chip)?;
+    assert!(rt; text.len() > 10_000);
+    let again = parse(alloc, &text)?;
+    let difference = first_difference(chip, &again);
+    same(rt, &(seed, difference), &(seed, None));
+    Ok(())
+}
+
 #[test]
 fn read_back(rt: HostRuntime) -> Result<(), Fail> {
     for seed in [1, 2, 3] {
         let chip = generated(rt.alloc(), seed)?;
-        let text = print(rt.alloc(), &chip)?;
-        assert!(rt; text.len() > 10_000);
-        let again = parse(rt.alloc(), &text)?;
-        assert_eq!(rt; first_difference(&chip, &again), None, "of {seed}");
+        assert_read_back(&rt, rt.alloc(), seed, &chip)?;
     }
     Ok(())
 }

@@ -1,7 +1,9 @@
 //! What the images of both formats give.
 
+ghost use Rattle.std.specs.Prelude.{◌<◌};
 ghost use Rattle.ga_node.specs.State.{IsPlace};
 
+use crate::asserts::same;
 use ga_grid::{Chip, NodeId};
 use ga_image::parse;
 use ga_node::{Node, Place};
@@ -18,7 +20,7 @@ fn assert_held(rt: &impl Abort, chip: &Chip, yxx: u32, place: Place, value: u32)
         Some(node) => Some(chip.node(node).get(place)),
         None => None,
     };
-    assert_eq!(rt; held, Some(value), "at {yxx} {place:?}");
+    same(rt, &(yxx, place, held), &(yxx, place, Some(value)));
 }
 
 #[test]
@@ -88,7 +90,7 @@ fn assert_stacks(rt: &impl Abort, first: &Node, second: &Node) {
         [1, 2, 3, 4, 5, 6, 7, 8, 0x3ffff],
         0x15555,
     );
-    assert_eq!(rt; (data, returns, first.r(0)), wanted);
+    same(rt, &(data, returns, first.r(0)), &wanted);
 }
 
 /// A word that differs from place to place.
@@ -108,16 +110,23 @@ fn add_memory(text: &mut Vec<u8>, name: &[u8], number: u8, salt: u8) -> Result<(
     Ok(())
 }
 
+/// A node with the lines of both memories.
+fn add_node(text: &mut Vec<u8>, number: u8) -> Result<(), AllocError>
+    requires { number < 144 }
+{
+    let (row, column) = (number / 18, number % 18);
+    text.extend_from_slice(b"node ")?;
+    text.extend_from_slice(&[b'0' + row, b'0' + column / 10, b'0' + column % 10])?;
+    text.extend_from_slice(b"\n")?;
+    add_memory(text, b"ram ", number, 1)?;
+    add_memory(text, b"rom ", number, 2)
+}
+
 /// An image that gives each cell of each node in a line of its own.
 fn full_image(alloc: Global) -> Result<Vec<u8>, AllocError> {
     let mut text = b"ga144 1\n".to_vec(alloc)?;
     for number in 0..144u8 {
-        let (row, column) = (number / 18, number % 18);
-        text.extend_from_slice(b"node ")?;
-        text.extend_from_slice(&[b'0' + row, b'0' + column / 10, b'0' + column % 10])?;
-        text.extend_from_slice(b"\n")?;
-        add_memory(&mut text, b"ram ", number, 1)?;
-        add_memory(&mut text, b"rom ", number, 2)?;
+        add_node(&mut text, number)?;
     }
     text.extend_from_slice(b"end\n")?;
     Ok(text)
@@ -139,6 +148,6 @@ fn assert_cells(rt: &impl Abort, node: &Node, number: u8) {
     for cell in 0..64u8 {
         let held = (node.get(Place::Ram(cell)), node.get(Place::Rom(cell)));
         let wanted = (word(number, cell, 1).get(), word(number, cell, 2).get());
-        assert_eq!(rt; held, wanted, "cell {cell} of {number}");
+        same(rt, &(number, cell, held), &(number, cell, wanted));
     }
 }

@@ -8,10 +8,8 @@ use std::test::Fail;
 
 /// The fault of a source, and its line.
 fn fault<'s>(alloc: Global, source: &'s [u8]) -> Option<(u32, Cause<'s>)> {
-    match assemble(alloc, source) {
-        Ok(_) => None,
-        Err(fault) => Some((fault.line, fault.cause)),
-    }
+    let fault = assemble(alloc, source).err()?;
+    Some((fault.line, fault.cause))
 }
 
 /// Asserts that a source has this fault, or none.
@@ -129,89 +127,111 @@ static LINES: [Row; 25] = [
     },
 ];
 
-#[test]
-fn on_the_first_a_middle_and_the_last_line(rt: HostRuntime) -> Result<(), Fail> {
-    for row in &LINES {
-        let mut first = Vec::from_slice(rt.alloc(), b"node 000 ")?;
-        first.extend_from_slice(row.text.as_bytes())?;
-        assert_fault(&rt, rt.alloc(), first.as_slice(), Some((1, row.cause)));
-        first.extend_from_slice(b"\ndup\n")?;
-        assert_fault(&rt, rt.alloc(), first.as_slice(), Some((1, row.cause)));
-        let mut middle = Vec::from_slice(rt.alloc(), b"node 000\n\ndup\n")?;
-        middle.extend_from_slice(row.text.as_bytes())?;
-        assert_fault(&rt, rt.alloc(), middle.as_slice(), Some((4, row.cause)));
-        middle.extend_from_slice(b"\ndup\nend\nfoo")?;
-        assert_fault(&rt, rt.alloc(), middle.as_slice(), Some((4, row.cause)));
+/// Asserts the fault of a line behind a front, at the end of the source and with more behind it.
+fn assert_behind(
+    rt: &impl Abort,
+    alloc: Global,
+    front: &[u8],
+    row: &Row,
+    more: &[u8],
+    line: u32,
+) -> Result<(), Fail> {
+    let mut source = Vec::from_slice(alloc, front)?;
+    source.extend_from_slice(row.text.as_bytes())?;
+    assert_fault(rt, alloc, source.as_slice(), Some((line, row.cause)));
+    source.extend_from_slice(more)?;
+    assert_fault(rt, alloc, source.as_slice(), Some((line, row.cause)));
+    Ok(())
+}
+
+/// Asserts the fault of each row, on the first and the last line and on one in the middle.
+fn assert_rows(rt: &impl Abort, alloc: Global, rows: &[Row]) -> Result<(), Fail> {
+    for row in rows {
+        assert_behind(rt, alloc, b"node 000 ", row, b"\ndup\n", 1)?;
+        let middle = b"node 000\n\ndup\n";
+        assert_behind(rt, alloc, middle, row, b"\ndup\nend\nfoo", 4)?;
     }
     Ok(())
 }
 
 #[test]
-fn of_more_than_a_line(rt: HostRuntime) {
-    let rows: [(&'static [u8], (u32, Cause<'static>)); 22] = [
-        (b"dup", (1, Cause::NoNode)),
-        (b"\n\nfoo node 000", (3, Cause::NoNode)),
-        (b"node", (1, Cause::Missing)),
-        (b"node 00", (1, Cause::NoSuchNode)),
-        (b"node 018", (1, Cause::NoSuchNode)),
-        (b"node 800", (1, Cause::NoSuchNode)),
-        (b"node 000\nnode 001\nnode 000", (3, Cause::NodeTwice)),
-        (b"node 000\n: ab dup\n: ab dup", (3, Cause::LabelTwice)),
-        (b"node 000\nbegin\nif\ndup", (2, Cause::Open)),
-        (b"node 000\nif\nnode 001", (2, Cause::Open)),
-        (b"node 000 dup\n:", (2, Cause::Missing)),
-        (b"node 000 dup\n/p\nnode 001", (2, Cause::Missing)),
-        (b"node 000\n1 ,\n2 ,\norg 0\n3 ,", (5, Cause::CellTwice(2))),
-        // The literal's cell is given, on the line of the literal.
-        (
-            b"node 000\norg 1 1 ,\norg 0 dup\n5",
-            (4, Cause::CellTwice(2)),
-        ),
-        (b"node 000 org 0x3f\n1 ,\n2 ,", (3, Cause::Past)),
-        (b"node 000 org 0xbf dup\n5", (2, Cause::Past)),
-        (b"node 000\nbegin\nunext", (3, Cause::Loop)),
-        (b"node 000\nbegin dup 5\nunext", (3, Cause::Loop)),
-        (
-            b"node 000 begin dup dup dup dup\ndup unext",
-            (2, Cause::Loop),
-        ),
-        // Slot 1 holds eight bits, which bit 9 isn't of.
-        (b"node 000 dup\nfoo\n+cy : foo ;", (2, Cause::Reach)),
-        (b"node 000 +cy : foo ;\n/b foo", (2, Cause::Number)),
-        (
-            b"node 000 org 0x3e 1 ,\n: foo dup .. : bar ;",
-            (2, Cause::Past),
-        ),
-    ];
+fn on_the_first_a_middle_and_the_last_line(rt: HostRuntime) -> Result<(), Fail> {
+    assert_rows(&rt, rt.alloc(), &LINES)
+}
+
+/// Asserts the fault of each source of a table.
+fn assert_faults(rt: &impl Abort, alloc: Global, rows: &[(&'static [u8], (u32, Cause<'static>))]) {
     for (source, wanted) in rows {
-        assert_fault(&rt, rt.alloc(), source, Some(wanted));
+        assert_fault(rt, alloc, source, Some(*wanted));
     }
 }
 
+/// Sources of more than a line, each with its fault.
+static SEVERAL_LINES: [(&[u8], (u32, Cause)); 22] = [
+    (b"dup", (1, Cause::NoNode)),
+    (b"\n\nfoo node 000", (3, Cause::NoNode)),
+    (b"node", (1, Cause::Missing)),
+    (b"node 00", (1, Cause::NoSuchNode)),
+    (b"node 018", (1, Cause::NoSuchNode)),
+    (b"node 800", (1, Cause::NoSuchNode)),
+    (b"node 000\nnode 001\nnode 000", (3, Cause::NodeTwice)),
+    (b"node 000\n: ab dup\n: ab dup", (3, Cause::LabelTwice)),
+    (b"node 000\nbegin\nif\ndup", (2, Cause::Open)),
+    (b"node 000\nif\nnode 001", (2, Cause::Open)),
+    (b"node 000 dup\n:", (2, Cause::Missing)),
+    (b"node 000 dup\n/p\nnode 001", (2, Cause::Missing)),
+    (b"node 000\n1 ,\n2 ,\norg 0\n3 ,", (5, Cause::CellTwice(2))),
+    // The literal's cell is given, on the line of the literal.
+    (
+        b"node 000\norg 1 1 ,\norg 0 dup\n5",
+        (4, Cause::CellTwice(2)),
+    ),
+    (b"node 000 org 0x3f\n1 ,\n2 ,", (3, Cause::Past)),
+    (b"node 000 org 0xbf dup\n5", (2, Cause::Past)),
+    (b"node 000\nbegin\nunext", (3, Cause::Loop)),
+    (b"node 000\nbegin dup 5\nunext", (3, Cause::Loop)),
+    (
+        b"node 000 begin dup dup dup dup\ndup unext",
+        (2, Cause::Loop),
+    ),
+    // Slot 1 holds eight bits, which bit 9 isn't of.
+    (b"node 000 dup\nfoo\n+cy : foo ;", (2, Cause::Reach)),
+    (b"node 000 +cy : foo ;\n/b foo", (2, Cause::Number)),
+    (
+        b"node 000 org 0x3e 1 ,\n: foo dup .. : bar ;",
+        (2, Cause::Past),
+    ),
+];
+
+#[test]
+fn of_more_than_a_line(rt: HostRuntime) {
+    assert_faults(&rt, rt.alloc(), &SEVERAL_LINES);
+}
+
+/// Sources of several faults, each with the one that is told.
+static SEVERAL_FAULTS: [(&[u8], (u32, Cause)); 6] = [
+    // The words of a node come before its names, and its names before its cells.
+    (b"node 000\nfoo\nthen", (3, Cause::Unmatched)),
+    (b"node 000\n1 , org 0 1 ,\nfoo", (3, Cause::Unknown(b"foo"))),
+    (b"node 000\nfoo bar", (2, Cause::Unknown(b"foo"))),
+    (
+        b"node 000\n1 ,\norg 0 1 ,\nbegin unext",
+        (3, Cause::CellTwice(2)),
+    ),
+    // A node comes before those behind it.
+    (
+        b"node 000\n1 ,\norg 0 1 ,\nnode 001\nthen",
+        (3, Cause::CellTwice(2)),
+    ),
+    (
+        b"node 000\nfoo\nnode 001 ( dup",
+        (2, Cause::Unknown(b"foo")),
+    ),
+];
+
 #[test]
 fn the_first_of_several(rt: HostRuntime) {
-    let rows: [(&'static [u8], (u32, Cause<'static>)); 6] = [
-        // The words of a node come before its names, and its names before its cells.
-        (b"node 000\nfoo\nthen", (3, Cause::Unmatched)),
-        (b"node 000\n1 , org 0 1 ,\nfoo", (3, Cause::Unknown(b"foo"))),
-        (b"node 000\nfoo bar", (2, Cause::Unknown(b"foo"))),
-        (
-            b"node 000\n1 ,\norg 0 1 ,\nbegin unext",
-            (3, Cause::CellTwice(2)),
-        ),
-        // A node comes before those behind it.
-        (
-            b"node 000\n1 ,\norg 0 1 ,\nnode 001\nthen",
-            (3, Cause::CellTwice(2)),
-        ),
-        (
-            b"node 000\nfoo\nnode 001 ( dup",
-            (2, Cause::Unknown(b"foo")),
-        ),
-    ];
-    for (source, wanted) in rows {
-        assert_fault(&rt, rt.alloc(), source, Some(wanted));
-    }
+    assert_faults(&rt, rt.alloc(), &SEVERAL_FAULTS);
 }
 
 #[test]
@@ -238,22 +258,32 @@ fn up_to_the_line_end(rt: HostRuntime) {
 }
 
 /// Words that no label may have as a name.
-#[test]
-fn names_that_are_taken(rt: HostRuntime) -> Result<(), Fail> {
-    let names = [
-        "xor", "nop", "inv", "-", "!", "@", ";", "call", "next", "*next", "-while", "0x1f", "-3",
-        "999999", "right", "io", "r---", ",", "..", "+cy", "-cy", ":", "/p", "'foo",
-    ];
+static TAKEN: [&str; 24] = [
+    "xor", "nop", "inv", "-", "!", "@", ";", "call", "next", "*next", "-while", "0x1f", "-3",
+    "999999", "right", "io", "r---", ",", "..", "+cy", "-cy", ":", "/p", "'foo",
+];
+
+/// Asserts the fault of a label of this name.
+fn assert_label(rt: &impl Abort, alloc: Global, name: &str, wanted: Cause) {
+    let mut source: ArrayVec<u8, 64> = ArrayVec::new();
+    let _fits = source.try_extend_from_slice(b"node 000 : ");
+    let _fits = source.try_extend_from_slice(name.as_bytes());
+    assert_fault(rt, alloc, source.as_slice(), Some((1, wanted)));
+}
+
+fn assert_taken(rt: &impl Abort, alloc: Global, names: &[&'static str]) {
     for name in names {
-        let mut source: ArrayVec<u8, 64> = ArrayVec::new();
-        let _fits = source.try_extend_from_slice(b"node 000 : ");
-        let _fits = source.try_extend_from_slice(name.as_bytes());
-        let wanted = if name == "," {
+        let wanted = if *name == "," {
             Cause::Missing
         } else {
             Cause::Taken
         };
-        assert_fault(&rt, rt.alloc(), source.as_slice(), Some((1, wanted)));
+        assert_label(rt, alloc, name, wanted);
     }
+}
+
+#[test]
+fn names_that_are_taken(rt: HostRuntime) -> Result<(), Fail> {
+    assert_taken(&rt, rt.alloc(), &TAKEN);
     Ok(())
 }

@@ -1,5 +1,8 @@
 //! Sources and the words of RAM that they ask for, worked out by hand from the packing rule.
 
+ghost use Rattle.std.specs.Prelude.{◌<◌};
+
+use crate::asserts::same;
 use ga_grid::NodeId;
 use ga_node::{Node, Place};
 use ga_source::assemble;
@@ -189,24 +192,42 @@ static ROWS: [Row; 34] = [
     },
 ];
 
-#[test]
-fn each_row(rt: HostRuntime) -> Result<(), Fail> {
-    for row in &ROWS {
-        let Ok(assembled) = assemble(rt.alloc(), row.source.as_bytes()) else {
-            return Err(row.name.into());
-        };
-        assert_row(&rt, assembled.chip.node(NodeId::new(0)), row);
-    }
-    Ok(())
+/// Asserts what a node holds in a cell of RAM, and that it holds nothing in the same cell of ROM.
+fn assert_cell(rt: &impl Abort, node: &Node, cell: u8, row: &Row)
+    requires { cell < 64 }
+{
+    let held = (node.get(Place::Ram(cell)), node.get(Place::Rom(cell)));
+    let wanted = match row.words.get(cell as usize) {
+        Some(word) => *word,
+        None => 0,
+    };
+    same(rt, &(row.name, cell, held), &(row.name, cell, (wanted, 0)));
 }
 
 /// Asserts that a node holds the words of a row in RAM, and nothing in ROM.
 fn assert_row(rt: &impl Abort, node: &Node, row: &Row) {
     for cell in 0..64u8 {
-        let held = (node.get(Place::Ram(cell)), node.get(Place::Rom(cell)));
-        let wanted = row.words.get(cell as usize).copied().unwrap_or(0);
-        assert_eq!(rt; held, (wanted, 0), "{}, cell {cell}", row.name);
+        assert_cell(rt, node, cell, row);
     }
+}
+
+fn assert_assembled(rt: &impl Abort, alloc: Global, row: &Row) -> Result<(), Fail> {
+    let assembled = assemble(alloc, row.source.as_bytes());
+    let chip = assembled.ok().ok_or(row.name)?.chip;
+    assert_row(rt, chip.node(NodeId::new(0)), row);
+    Ok(())
+}
+
+fn assert_rows(rt: &impl Abort, alloc: Global, rows: &[Row]) -> Result<(), Fail> {
+    for row in rows {
+        assert_assembled(rt, alloc, row)?;
+    }
+    Ok(())
+}
+
+#[test]
+fn each_row(rt: HostRuntime) -> Result<(), Fail> {
+    assert_rows(&rt, rt.alloc(), &ROWS)
 }
 
 /// The registers of node 000 of a source.
@@ -216,25 +237,29 @@ fn registers(alloc: Global, source: &str) -> Option<(u32, u32, u32)> {
     Some((node.get(Place::P), node.get(Place::A), node.get(Place::B)))
 }
 
+/// Sources, and P, A and B of node 000.
+///
+/// Node 000 has neighbours on its right and its down side: 155 exclusive-ored with 80 and 40.
+static REGISTERS: [(&str, (u32, u32, u32)); 9] = [
+    ("", (0x195, 0, 0x15d)),
+    ("node 000", (0x195, 0, 0x15d)),
+    ("node 000 dup", (0, 0, 0x15d)),
+    ("node 000 dup .. : main drop", (1, 0, 0x15d)),
+    (
+        "node 000 /p foo dup .. : main drop .. : foo drop",
+        (2, 0, 0x15d),
+    ),
+    ("node 000 /p 0x3ff /a -1 /b right", (0x3ff, 0x3ffff, 0x1d5)),
+    ("node 000 /a foo /b foo dup .. : foo drop", (0, 1, 1)),
+    ("node 000 /p 0", (0, 0, 0x15d)),
+    ("node 000 : main", (0x195, 0, 0x15d)),
+];
+
 #[test]
 fn registers_at_load(rt: HostRuntime) {
-    // Node 000 has neighbours on its right and its down side: 155 exclusive-ored with 80 and 40.
-    let rows = [
-        ("", (0x195, 0, 0x15d)),
-        ("node 000", (0x195, 0, 0x15d)),
-        ("node 000 dup", (0, 0, 0x15d)),
-        ("node 000 dup .. : main drop", (1, 0, 0x15d)),
-        (
-            "node 000 /p foo dup .. : main drop .. : foo drop",
-            (2, 0, 0x15d),
-        ),
-        ("node 000 /p 0x3ff /a -1 /b right", (0x3ff, 0x3ffff, 0x1d5)),
-        ("node 000 /a foo /b foo dup .. : foo drop", (0, 1, 1)),
-        ("node 000 /p 0", (0, 0, 0x15d)),
-        ("node 000 : main", (0x195, 0, 0x15d)),
-    ];
-    for (source, wanted) in rows {
-        assert_eq!(rt; registers(rt.alloc(), source), Some(wanted), "{source}");
+    for (source, wanted) in &REGISTERS {
+        let held = registers(rt.alloc(), source);
+        same(&rt, &(*source, held), &(*source, Some(*wanted)));
     }
 }
 
@@ -252,6 +277,6 @@ fn rom(rt: HostRuntime) -> Result<(), Fail> {
         node.get(Place::P),
     ];
     // `dup . . .`: 18, 1c, 1c and the upper three bits of 1c, exclusive-ored with 15555.
-    assert_eq!(rt; held, [0x249b2, 5, 6, 0]);
+    same(&rt, &held, &[0x249b2, 5, 6, 0]);
     Ok(())
 }

@@ -105,61 +105,97 @@ fn text_of(alloc: Global, lines: &[Line]) -> Result<Vec<u8>, AllocError> {
     Ok(text)
 }
 
-/// What is said of an image that ends behind so many bytes of a line: a cause and a line, or nothing where it is whole.
-fn fault_of(lines: &[Line], place: usize, length: usize) -> Option<(&'static str, usize)> {
-    let number = place.saturating_add(1);
-    let Some(line) = lines.get(place) else {
-        return None;
-    };
-    if length == 0 {
-        return Some(("17 truncated", number));
-    }
-    if !line.good.iter().any(|good| *good == length) {
-        let cause = if place == 0 { "11 header" } else { "12 line" };
-        return Some((cause, number));
-    }
-    if number == lines.len() {
-        None
-    } else {
-        Some(("17 truncated", number.saturating_add(1)))
+/// A cause of refusal, and a line.
+#[derive(Clone, Copy)]
+struct Fault {
+    cause: &'static str,
+    number: usize,
+}
+
+fn truncated(number: usize) -> Fault {
+    Fault {
+        cause: "17 truncated",
+        number,
     }
 }
 
-/// Whether a session on this text says just this of it.
-fn is_said(
-    alloc: Global,
-    text: &[u8],
-    fault: Option<(&'static str, usize)>,
-) -> Result<bool, AllocError> {
-    let Some(fault) = fault else {
-        return Ok(is_answered(alloc, text, Status::Done, b"ready\n"));
-    };
-    let (cause, number) = fault;
+/// What is said of a line that is none.
+fn wrong_line(place: usize) -> Fault {
+    let number = place.saturating_add(1);
+    if place == 0 {
+        let cause = "11 header";
+        Fault { cause, number }
+    } else {
+        let cause = "12 line";
+        Fault { cause, number }
+    }
+}
+
+fn is_good(line: &Line, length: usize) -> bool {
+    for good in line.good {
+        if *good == length {
+            return true;
+        }
+    }
+    false
+}
+
+/// What is said of an image of so many lines that ends behind so many bytes of a line, or nothing where it is whole.
+fn fault_of(line: &Line, place: usize, length: usize, count: usize) -> Option<Fault> {
+    let number = place.saturating_add(1);
+    if length == 0 {
+        Some(truncated(number))
+    } else if !is_good(line, length) {
+        Some(wrong_line(place))
+    } else if number == count {
+        None
+    } else {
+        Some(truncated(number.saturating_add(1)))
+    }
+}
+
+/// A session on this text says just this of it.
+fn refused(alloc: Global, text: &[u8], fault: Fault) -> Result<bool, AllocError> {
+    let (cause, number) = (fault.cause, fault.number);
     let wanted = format!(in alloc; "no {cause} line {number}\n")?;
     Ok(is_answered(alloc, text, Status::ImageRefused, wanted.as_bytes()))
+}
+
+fn says(rt: &impl Abort, alloc: Global, text: &[u8], fault: Option<Fault>) -> Result<(), Fail> {
+    let is_so = match fault {
+        None => is_answered(alloc, text, Status::Done, b"ready\n"),
+        Some(fault) => refused(alloc, text, fault)?,
+    };
+    assert!(rt; is_so, "{text:?}");
+    Ok(())
+}
+
+/// Puts a line behind a text, byte by byte.
+fn cut_line(
+    rt: &impl Abort,
+    alloc: Global,
+    text: &mut Vec<u8>,
+    line: &Line,
+    place: usize,
+    lines: usize,
+) -> Result<(), Fail> {
+    says(rt, alloc, text.as_slice(), fault_of(line, place, 0, lines))?;
+    for (count, byte) in line.text.iter().enumerate() {
+        text.push(*byte)?;
+        let fault = fault_of(line, place, count.saturating_add(1), lines);
+        says(rt, alloc, text.as_slice(), fault)?;
+    }
+    text.push(b'\n')?;
+    Ok(())
 }
 
 /// Cuts an image after each of its bytes.
 fn cut(rt: &impl Abort, alloc: Global, lines: &[Line]) -> Result<(), Fail> {
     let mut text = Vec::new(alloc);
     for (place, line) in lines.iter().enumerate() {
-        assert!(rt;
-            is_said(alloc, text.as_slice(), fault_of(lines, place, 0))?,
-            "{place}"
-        );
-        for (count, byte) in line.text.iter().enumerate() {
-            text.push(*byte)?;
-            let length = count.saturating_add(1);
-            let fault = fault_of(lines, place, length);
-            assert!(rt;
-                is_said(alloc, text.as_slice(), fault)?,
-                "{place} at {length}"
-            );
-        }
-        text.push(b'\n')?;
+        cut_line(rt, alloc, &mut text, line, place, lines.len())?;
     }
-    assert!(rt; is_said(alloc, text.as_slice(), None)?);
-    Ok(())
+    says(rt, alloc, text.as_slice(), None)
 }
 
 #[test]
@@ -168,19 +204,30 @@ fn every_cut(rt: HostRuntime) -> Result<(), Fail> {
     cut(&rt, rt.alloc(), SECOND)
 }
 
+/// Puts each strange byte at a place of an image.
+fn add_at(
+    rt: &impl Abort,
+    alloc: Global,
+    text: &[u8],
+    at: usize,
+    fault: Fault,
+) -> Result<(), Fail> {
+    for byte in &STRANGE {
+        let input = inserted(alloc, text, at, *byte)?;
+        let is_so = refused(alloc, input.as_slice(), fault)?;
+        assert!(rt; is_so, "{byte} at {at}");
+    }
+    Ok(())
+}
+
 /// Puts each strange byte at each place of an image.
 fn add(rt: &impl Abort, alloc: Global, lines: &[Line]) -> Result<(), Fail> {
     let text = text_of(alloc, lines)?;
     let mut start = 0usize;
     for (place, line) in lines.iter().enumerate() {
-        let cause = if place == 0 { "11 header" } else { "12 line" };
-        let fault = Some((cause, place.saturating_add(1)));
         let next = start.saturating_add(line.text.len()).saturating_add(1);
         for at in start..next {
-            for byte in &STRANGE {
-                let input = inserted(alloc, text.as_slice(), at, *byte)?;
-                assert!(rt; is_said(alloc, input.as_slice(), fault)?, "{byte} at {at}");
-            }
+            add_at(rt, alloc, text.as_slice(), at, wrong_line(place))?;
         }
         start = next;
     }

@@ -1,8 +1,10 @@
 //! Inputs near their bound.
 
+use crate::same::{ends, same};
 use ga_console::{Status, session};
+use std::alloc::Global;
 use std::io::{Error, ErrorKind, Read, Result};
-use std::test::Fail;
+use std::process::Abort;
 
 /// A text, then so many bytes `x`, then another text. Behind them the input ends or fails.
 #[derive(Drop)]
@@ -144,20 +146,22 @@ static BOUNDS: [Bound; 10] = [
     },
 ];
 
+fn comes_out(rt: &impl Abort, alloc: Global, bound: &Bound) {
+    let mut reader = Filled {
+        head: bound.head,
+        left: bound.left,
+        tail: bound.tail,
+        fails: bound.fails,
+    };
+    let mut output = Vec::new(alloc);
+    let status = session(alloc, &mut reader, &mut output, 9);
+    same(rt, output.as_slice(), bound.text);
+    ends(rt, status, bound.status);
+}
+
 #[test]
-fn the_bound_of_an_input(rt: HostRuntime) -> std::result::Result<(), Fail> {
+fn the_bound_of_an_input(rt: HostRuntime) {
     for bound in &BOUNDS {
-        let mut reader = Filled {
-            head: bound.head,
-            left: bound.left,
-            tail: bound.tail,
-            fails: bound.fails,
-        };
-        let mut output = Vec::new(rt.alloc());
-        let status = session(rt.alloc(), &mut reader, &mut output, 9);
-        let left = bound.left;
-        assert_eq!(rt; status, bound.status, "{left}");
-        assert_eq!(rt; output.as_slice(), bound.text, "{left}");
+        comes_out(&rt, rt.alloc(), bound);
     }
-    Ok(())
 }

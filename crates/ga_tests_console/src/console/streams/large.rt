@@ -1,8 +1,10 @@
 //! A dump that is longer than what is gathered before it is written.
 
 use super::Narrow;
+use crate::same::{ends, holds, joined};
 use ga_console::{Status, session};
 use std::alloc::{AllocError, Global};
+use std::process::Abort;
 use std::test::Fail;
 
 /// The cells with which the lines of a memory begin, and a digit for each.
@@ -40,18 +42,27 @@ fn put_memory(text: &mut Vec<u8>, memory: &str, name: &str) -> Result<(), AllocE
     Ok(())
 }
 
+/// A node with full memories.
+fn put_node(text: &mut Vec<u8>, name: &str) -> Result<(), AllocError> {
+    put(text, &["node ", name, "\n"])?;
+    put_memory(text, "ram", name)?;
+    put_memory(text, "rom", name)
+}
+
+fn name_of(alloc: Global, number: u32) -> Result<String, AllocError> {
+    let row = number / 18;
+    let tens = number % 18 / 10;
+    let ones = number % 18 % 10;
+    format!(in alloc; "{row}{tens}{ones}")
+}
+
 /// An image of all nodes with full memories, as a dump writes it: 8 bytes, for each node 9 and sixteen lines of 63, and 4.
 fn image_of_all(alloc: Global) -> Result<Vec<u8>, AllocError> {
     let mut text = Vec::new(alloc);
     put(&mut text, &["ga144 2\n"])?;
     for number in 0..144u32 {
-        let row = number / 18;
-        let tens = number % 18 / 10;
-        let ones = number % 18 % 10;
-        let name = format!(in alloc; "{row}{tens}{ones}")?;
-        put(&mut text, &["node ", name.as_str(), "\n"])?;
-        put_memory(&mut text, "ram", name.as_str())?;
-        put_memory(&mut text, "rom", name.as_str())?;
+        let name = name_of(alloc, number)?;
+        put_node(&mut text, name.as_str())?;
     }
     put(&mut text, &["end\n"])?;
     Ok(text)
@@ -68,30 +79,42 @@ fn wide_writer(alloc: Global, fails_at: u32) -> Narrow {
     }
 }
 
+/// The dump of an image that a dump could have written is this image.
+fn is_dump(text: &[u8], image: &[u8]) -> bool {
+    text.len() == 146_466
+        && text.starts_with(FIRST)
+        && text.ends_with(LAST)
+        && text.strip_prefix(b"ready\n") == Some(image)
+}
+
+/// A writer fails at this call, and gets none behind it.
+fn fails_at(rt: &impl Abort, alloc: Global, input: &[u8], call: u32, wanted: &[u8]) {
+    let mut reader = input;
+    let mut writer = wide_writer(alloc, call);
+    let status = session(alloc, &mut reader, &mut writer, 9);
+    ends(rt, status, Status::StreamFault);
+    holds(rt, writer.calls == call);
+    holds(rt, wanted.starts_with(writer.taken.as_slice()));
+}
+
 #[test]
 fn a_dump_of_all_nodes(rt: HostRuntime) -> Result<(), Fail> {
-    let alloc = rt.alloc();
-    let mut input = image_of_all(alloc)?;
-    let length = input.len();
-    put(&mut input, &["dump\n"])?;
+    let image = image_of_all(rt.alloc())?;
+    let input = joined(rt.alloc(), image.as_slice(), b"dump\n")?;
     let mut reader = input.as_slice();
-    let mut whole = wide_writer(alloc, 0);
-    let status = session(alloc, &mut reader, &mut whole, 9);
-    assert_eq!(rt; status, Status::Done);
-    assert_eq!(rt; whole.taken.len(), 146_466);
-    let text = whole.taken.as_slice();
-    assert!(rt; text.starts_with(FIRST) && text.ends_with(LAST));
-    // The dump of an image that a dump could have written is this image.
-    let dump = text.strip_prefix(b"ready\n").ok_or("not ready")?;
-    assert!(rt; dump.len() == length && input.as_slice().starts_with(dump));
+    let mut whole = wide_writer(rt.alloc(), 0);
+    let status = session(rt.alloc(), &mut reader, &mut whole, 9);
+    ends(&rt, status, Status::Done);
+    holds(&rt, is_dump(whole.taken.as_slice(), image.as_slice()));
     for before in 0..whole.calls {
-        let k = before + 1;
-        let mut reader = input.as_slice();
-        let mut writer = wide_writer(alloc, k);
-        let status = session(alloc, &mut reader, &mut writer, 9);
-        assert_eq!(rt; status, Status::StreamFault, "call {k}");
-        assert_eq!(rt; writer.calls, k, "no call behind the failed one");
-        assert!(rt; text.starts_with(writer.taken.as_slice()), "call {k}");
+        let call = before.saturating_add(1);
+        fails_at(
+            &rt,
+            rt.alloc(),
+            input.as_slice(),
+            call,
+            whole.taken.as_slice(),
+        );
     }
     Ok(())
 }
