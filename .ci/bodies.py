@@ -139,27 +139,41 @@ class Copy:
             write(f"{folder}/proofs/{'/'.join(new)}/{file}", text)
 
 
+def names_itself(function, body):
+    """Whether a function has its own name in its body."""
+    return re.search(rf"\b{function.name}\(", body.partition("{\n")[2])
+
+
 def copies_of(folder, edits):
-    """A copy with each edit, and one of each edited function as it is where something is written of its proof."""
+    """A copy with each edit that isn't tried in its place, and one of each edited function as it is, where something is written of its
+    proof or an edit is tried in its place; but for what can't be copied."""
     wrong, plain = [], {}
     for number, edit in enumerate(edits):
-        place = edit.function.place()
-        if os.path.isdir(f"{folder}/proofs/{'/'.join(place)}"):
-            before, _ = edit.texts[edit.function.path]
-            plain[tuple(place)] = Copy(edit.function, before[edit.function.start : edit.function.end], "as_it_is", None)
-        wrong.append(Copy(edit.function, edit.body, f"wrong_{number}", edit))
-    return wrong, plain
+        function, place = edit.function, edit.function.place()
+        before, _ = edit.texts[function.path]
+        whole = before[function.start : function.end]
+        can_be = not function.is_of_trait and not names_itself(function, whole)
+        if (edit.is_alone and can_be) or (not edit.is_alone and os.path.isdir(f"{folder}/proofs/{'/'.join(place)}")):
+            plain[tuple(place)] = Copy(function, whole, "as_it_is", None)
+        if not edit.is_alone:
+            wrong.append(Copy(function, edit.body, f"wrong_{number}", edit))
+    return wrong, [*plain.values()]
 
 
-def write_copies(folder, copies):
+def write_bodies(folder, copies, edits):
+    """Writes copies beside their functions, and edits in their places."""
     written = {}
     for copy in copies:
         copy.write_proofs(folder)
-        written.setdefault(copy.function.path, []).append(copy)
+        function = copy.function
+        written.setdefault(function.path, []).append((function.end, function.end, f"\n{copy.text}"))
+    for edit in edits:
+        function = edit.function
+        written.setdefault(function.path, []).append((function.start, function.end, edit.body))
     for path, those in written.items():
         text = read(f"{folder}/{path}")
-        for copy in sorted(those, key=lambda it: -it.function.start):
-            text = f"{text[: copy.function.end]}\n{copy.text}{text[copy.function.end :]}"
+        for start, end, body in sorted(those, key=lambda it: (-it[0], -it[1])):
+            text = f"{text[:start]}{body}{text[end:]}"
         write(f"{folder}/{path}", text)
 
 
