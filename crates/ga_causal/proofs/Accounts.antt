@@ -1,6 +1,5 @@
 -- The account of a node after a rollback.
 use Rattle.std.proofs.Common.{◌≡◌, ℕ, zero, suc, ◌+◌, ◌==◌, Bool, true, false, ◌||◌, cond, List, [], ◌∷◌, ◌++◌, map, take, Option, Some, None, refl, sym, ◌∙◌, ap, subst, ⊎_elim, arith, eqb-true, append-nil}
-use Rattle.std.specs.Prelude.{IsSome, is_some}
 use Rattle.std.specs.List.{filter, zip}
 use Rattle.std.proofs.lemmas.Bool.{cases_Bool, or_left, or_right, both_ways, cond-true, cond-false, false_from_ne_true}
 use Rattle.ga_event.specs.declared.event.Event.{Event}
@@ -15,7 +14,6 @@ use Rattle.ga_causal.specs.Steps.{counted, numbered_seen}
 use Rattle.ga_causal.proofs.Exact.{any-mono}
 use Rattle.ga_causal.proofs.Runs.{causes, kept, run_rest}
 use Rattle.ga_causal.proofs.Counts.{seen_rest}
-use Rattle.ga_causal.proofs.Refusals.{place-touched, place-other, some-shift}
 use Rattle.ga_causal.proofs.Rollbacks.{kept-dropped, kept-kept, rewound-first, rewound-touched, rewound-other}
 use Rattle.ga_causal.proofs.Shuffles.{numbers, entries}
 use Rattle.ga_causal.proofs.Consistent.{causes_without, made_of}

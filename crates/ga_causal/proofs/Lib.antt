@@ -24,3 +24,4 @@ pub mod Moved
 pub mod Words
 pub mod Received
 pub mod Tails
+pub mod Flags

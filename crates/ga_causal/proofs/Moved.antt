@@ -1,5 +1,5 @@
 -- Where the events of a list stand in one that differs by swaps of neighbours that are apart, and its chains there.
-use Rattle.std.proofs.Common.{◌≡◌, ℕ, zero, suc, ◌<◌, ◌≢◌, List, [], ◌∷◌, length, map, Some, refl, sym, ◌∙◌, ap, ap₂, subst, arith}
+use Rattle.std.proofs.Common.{◌≡◌, ℕ, zero, suc, ◌<◌, ◌≢◌, List, [], ◌∷◌, length, map, Some, refl, sym, ◌∙◌, ap, ap₂, arith}
 use Rattle.std.specs.Prelude.{slice_index_or}
 use Rattle.std.proofs.lemmas.Bool.{both_ways}
 use Rattle.ga_event.specs.declared.event.Event.{Event}
@@ -8,7 +8,7 @@ use Rattle.ga_event.specs.Apply.{Told, run}
 use Rattle.ga_event.specs.Touches.{meets}
 use Rattle.ga_node.specs.Record.{NodeRecord}
 use Rattle.ga_causal.specs.declared.chain.Link.{Link}
-use Rattle.ga_causal.specs.Dependence.{cause_touches, rule_of, event_at, rule_between, IsDirect}
+use Rattle.ga_causal.specs.Dependence.{cause_touches, rule_of, event_at, rule_between}
 use Rattle.ga_causal.specs.Chains.{IsNext, IsLinked, IsChain}
 use Rattle.ga_causal.specs.Steps.{named, no_entry, counted}
 use Rattle.ga_causal.specs.Equivalence.{AreApart, AreEquivalent}

@@ -5,6 +5,7 @@ mod chain;
 mod firsts;
 pub mod laws;
 mod marks;
+mod nodes;
 mod rule;
 mod step;
 
@@ -12,4 +13,5 @@ pub use chain::{Chain, Link, check_chain, find_chain, find_later_chain};
 pub use ga_event::Cause;
 pub use ga_grid::Memory;
 pub use marks::{Marks, closure};
+pub use nodes::Nodes;
 pub use step::place_of;

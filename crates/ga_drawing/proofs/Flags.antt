@@ -1,13 +1,8 @@
--- Flags of nodes, and tests on the nodes of a list.
-use Rattle.std.proofs.Common.{◌≡◌, ℕ, zero, suc, ◌==◌, Bool, true, false, ◌||◌, List, [], ◌∷◌, replicate, get_or, refl, sym, subst, ⊎_elim, eqb-true, eq-eqb}
+-- Tests on the nodes of a list.
+use Rattle.std.proofs.Common.{◌≡◌, ℕ, ◌==◌, Bool, true, false, List, [], ◌∷◌, refl, sym, subst, ⊎_elim, eqb-true, eq-eqb}
 use Rattle.std.specs.List.{list_any}
 use Rattle.std.proofs.lemmas.Bool.{or_left, or_right, or_cases, both_ways}
 use Rattle.ga_causal.proofs.Exact.{any-mono}
-
-pub none_marked : (k n : ℕ) → get_or (replicate k false) n false ≡ false
-none_marked zero n = refl
-none_marked (suc k) zero = refl
-none_marked (suc k) (suc n) = none_marked k n
 
 -- one of a list that passes
 pub any_of_one : (p : ℕ → Bool) (n : ℕ) → p n ≡ true → (ns : List ℕ) → list_any (λ m. m == n) ns ≡ true → list_any p ns ≡ true
@@ -19,12 +14,3 @@ any_at p (m ∷ ms) t = ⊎_elim
     (λ u. (m, or_left (m == m) (list_any (λ k. k == m) ms) (eq-eqb m m refl), u))
     (λ u. let r = any_at p ms u in (r.0, or_right (m == r.0) (list_any (λ k. k == r.0) ms) r.1, r.2))
     (or_cases (p m) (list_any p ms) t)
-
--- the sides of a node, one after another
-pub four_sides : (a r d l u : Bool) → ((((a || r) || d) || l) || u) ≡ (a || (r || (d || (l || (u || false)))))
-four_sides true r d l u = refl
-four_sides false true d l u = refl
-four_sides false false true l u = refl
-four_sides false false false true u = refl
-four_sides false false false false true = refl
-four_sides false false false false false = refl

@@ -8,7 +8,8 @@ use Rattle.ga_event.specs.Touches.{seen_by}
 use Rattle.ga_causal.specs.Dependence.{cause_nodes, cause_touches, event_at, IsDirect, DependsOn, itself, through}
 use Rattle.ga_causal.specs.Equivalence.{sees}
 use Rattle.ga_causal.proofs.Exact.{rule_meets, meets_rule}
-use Rattle.ga_drawing.proofs.Flags.{none_marked, any_of_one, any_at}
+use Rattle.ga_causal.proofs.Flags.{none_marked}
+use Rattle.ga_drawing.proofs.Flags.{any_of_one, any_at}
 
 -- the first link of a chain of dependence
 pub record First (es : List Cause) (i j : ℕ) : Type 0 where

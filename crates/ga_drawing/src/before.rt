@@ -3,8 +3,7 @@
 ghost use Rattle.std.specs.Prelude.{◌≡◌, ◌↔◌, ◌<◌, ℕ, false, length, slice_index_or, IfOk, IsTrue};
 ghost use Rattle.ga_causal.specs.Dependence.{DependsOn};
 
-use crate::nodes::Nodes;
-use ga_causal::{Cause, Memory};
+use ga_causal::{Cause, Memory, Nodes};
 use std::alloc::Global;
 
 /// Of each event of the list, whether the one at the place depends on it. Places count from 0. Walks once back over the events

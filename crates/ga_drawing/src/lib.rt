@@ -5,7 +5,6 @@
 mod before;
 mod lines;
 mod marks;
-mod nodes;
 mod placing;
 mod reports;
 mod shade;

@@ -4,8 +4,7 @@ ghost use Rattle.std.specs.Prelude.{◌≡◌, replicate, IfOk};
 ghost use Rattle.ga_causal.specs.Dependence.{is_marked};
 ghost use Rattle.ga_drawing.specs.kept.Lines.{AreLines};
 
-use crate::nodes::Nodes;
-use ga_causal::Memory;
+use ga_causal::{Memory, Nodes};
 use ga_grid::{NODES, NodeId};
 use std::alloc::Global;
 

@@ -4,8 +4,7 @@ ghost use Rattle.std.specs.Prelude.{◌≡◌, ◌≤◌, ◌<◌, ℕ, true, le
 ghost use Rattle.ga_causal.specs.Dependence.{cause_touches, is_marked, event_at};
 ghost use Rattle.ga_drawing.specs.Drawing.{IsTouched};
 
-use crate::nodes::Nodes;
-use ga_causal::Cause;
+use ga_causal::{Cause, Nodes};
 
 /// The nodes that the events from one place on and up to another touch.
 pub(crate) fn touched_by(events: &[Cause], from: usize, to: usize) -> Nodes

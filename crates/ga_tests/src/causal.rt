@@ -1,7 +1,7 @@
 ghost use Rattle.std.specs.Prelude.{◌<◌, ◌^◌, length};
 
 use crate::same::{holds, there};
-use ga_causal::{Cause, Chain, Link, Marks, check_chain, closure, find_chain, place_of};
+use ga_causal::{Cause, Chain, Link, Marks, Nodes, check_chain, closure, find_chain, place_of};
 use ga_event::Event;
 use ga_grid::NodeId;
 use ga_ports::Side;
@@ -74,6 +74,27 @@ fn dependents(rt: HostRuntime) -> Result<(), Fail> {
     holds(&rt, !marks.take(own(2)));
     holds(&rt, marks.take(pass(0, 1, Side::Right)));
     holds(&rt, marks.take(own(0)));
+    Ok(())
+}
+
+// The nodes that events touch and see: 001 looks at its neighbours 000, 002 and 101.
+#[test]
+fn sets_of_nodes(rt: HostRuntime) -> Result<(), Fail> {
+    let mut touched = Nodes::none();
+    holds(&rt, !touched.has(NodeId::new(1)));
+    touched.add_touched(&look(1));
+    holds(
+        &rt,
+        touched.has(NodeId::new(1)) && !touched.has(NodeId::new(2)),
+    );
+    let mut seen = Nodes::none();
+    seen.add_seen(&look(1));
+    holds(&rt, seen.has(NodeId::new(2)) && !seen.has(NodeId::new(3)));
+    holds(
+        &rt,
+        seen.met_by(&pass(2, 3, Side::Left)) && !seen.met_by(&look(3)),
+    );
+    holds(&rt, seen.seen_by(&look(3)) && !seen.seen_by(&look(4)));
     Ok(())
 }
 

@@ -1,22 +1,21 @@
-//! Sets of nodes.
+//! Sets of nodes, as events touch and see them.
 
 ghost use Rattle.std.specs.Prelude.{◌≡◌, ℕ, false, ◌||◌, ◌==◌};
 ghost use Rattle.std.specs.List.{list_any};
 ghost use Rattle.ga_grid.specs.Grid.{neighbour_of};
-ghost use Rattle.ga_event.specs.Touches.{neighbours};
+ghost use Rattle.ga_event.specs.Touches.{neighbours, meets};
 ghost use Rattle.ga_causal.specs.Dependence.{cause_nodes, cause_touches, is_marked};
 ghost use Rattle.ga_causal.specs.kept.Firsts.{any_of};
 ghost use Rattle.ga_causal.specs.Equivalence.{sees};
 
-use ga_causal::Cause;
-use ga_event::Event;
+use ga_event::{Cause, Event};
 use ga_grid::{NODES, NodeId, neighbour};
 use ga_ports::Side;
 use std::marker::Model;
 
 /// Some nodes, by a flag for each of the chip.
 #[derive(Drop)]
-pub(crate) struct Nodes {
+pub struct Nodes {
     flags: [bool; 144],
 }
 
@@ -32,7 +31,7 @@ impl Model for Nodes {
 
 impl Nodes {
     /// None.
-    pub(crate) fn none() -> Self
+    pub fn none() -> Self
         ensures { (n : ℕ) → is_marked result n ≡ false }
     {
         Nodes {
@@ -41,14 +40,14 @@ impl Nodes {
     }
 
     /// Whether the node is one of them.
-    pub(crate) fn has(&self, node: NodeId) -> bool
+    pub fn has(&self, node: NodeId) -> bool
         ensures { result ≡ is_marked self.now node.number }
     {
         self.flags[node.index()]
     }
 
     /// Whether the event touches one of them.
-    pub(crate) fn met_by(&self, event: &Cause) -> bool
+    pub fn met_by(&self, event: &Cause) -> bool
         ensures { result ≡ list_any (is_marked self.now) (cause_nodes event.now) }
     {
         match event.event {
@@ -57,8 +56,19 @@ impl Nodes {
         }
     }
 
+    /// Whether the event touches one of them, or looks at one.
+    #[tactic(auto, unfolding(ga_event::specs::Touches::seen_by))]
+    pub fn seen_by(&self, event: &Cause) -> bool
+        ensures { result ≡ meets (is_marked self.now) event.now }
+    {
+        match event.event {
+            Event::Own(node) => self.has(node) || (event.look && self.has_beside(node)),
+            Event::Pass { writer, reader, .. } => self.has(writer) || self.has(reader),
+        }
+    }
+
     /// Adds the nodes that an event touches.
-    pub(crate) fn add_touched(&mut self, event: &Cause)
+    pub fn add_touched(&mut self, event: &Cause)
         ensures { (n : ℕ) → is_marked self.new n ≡ (is_marked self.old n || cause_touches event.now n) }
     {
         match event.event {
@@ -72,7 +82,7 @@ impl Nodes {
 
     /// Adds the nodes that an event touches or looks at.
     #[tactic(auto, unfolding(ga_event::specs::Touches::seen_by))]
-    pub(crate) fn add_seen(&mut self, event: &Cause)
+    pub fn add_seen(&mut self, event: &Cause)
         ensures { (n : ℕ) → is_marked self.new n ≡ (is_marked self.old n || sees event.now n) }
     {
         match event.event {
@@ -86,6 +96,28 @@ impl Nodes {
                 self.add(writer);
                 self.add(reader);
             }
+        }
+    }
+
+    // Whether a neighbour of the node is one of them.
+    #[tactic(auto, using(crate::proofs::Looks::any_neighbours))]
+    fn has_beside(&self, node: NodeId) -> bool
+        ensures { result ≡ list_any (is_marked self.now) (neighbours node.number) }
+    {
+        let right = self.has_on(node, Side::Right);
+        let down = self.has_on(node, Side::Down);
+        let left = self.has_on(node, Side::Left);
+        let up = self.has_on(node, Side::Up);
+        right || down || left || up
+    }
+
+    // Whether the neighbour on a side is one of them.
+    fn has_on(&self, node: NodeId, side: Side) -> bool
+        ensures { result ≡ any_of (is_marked self.now) (neighbour_of node.number side) }
+    {
+        match neighbour(node, side) {
+            Some(other) => self.has(other),
+            None => false,
         }
     }
 

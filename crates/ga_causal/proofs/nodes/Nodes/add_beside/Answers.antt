@@ -4,8 +4,8 @@ use Rattle.ga_grid.specs.Grid.{neighbour_of}
 use Rattle.ga_causal.specs.kept.Firsts.{any_of}
 use Rattle.ga_causal.specs.Dependence.{is_marked}
 use Rattle.ga_causal.proofs.Looks.{any_neighbours}
-use Rattle.ga_drawing.proofs.Flags.{four_sides}
-use Rattle.ga_drawing.proofs.nodes.Nodes.add_beside.Goals as goal
+use Rattle.ga_causal.proofs.Flags.{four_sides}
+use Rattle.ga_causal.proofs.nodes.Nodes.add_beside.Goals as goal
 
 pub returns : goal.returns
 returns c n =

@@ -1,0 +1,5 @@
+use Rattle.ga_causal.proofs.Flags.{none_marked}
+use Rattle.ga_causal.proofs.nodes.Nodes.none.Goals as goal
+
+pub returns : goal.returns
+returns c n = none_marked 144 n

@@ -1,5 +1,0 @@
-use Rattle.ga_drawing.proofs.Flags.{none_marked}
-use Rattle.ga_drawing.proofs.nodes.Nodes.none.Goals as goal
-
-pub returns : goal.returns
-returns c n = none_marked 144 n
