@@ -380,9 +380,11 @@ impl History {
         requires can { CanWalk node.old (drop to (take from self.now.items)) }
         ensures { node.new ≡ walked node.old (drop to (take from self.now.items)) }
     {
+        let mut aside = node.set_aside();
         for k in 0..from - to {
             let entry = &self.entries[from - 1 - k];
-            node.restore(&entry.saved);
+            node.write_back(&mut aside, &entry.saved);
         }
+        node.take_back(aside);
     }
 }

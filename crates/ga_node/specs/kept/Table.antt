@@ -1,7 +1,6 @@
 -- The kind of an event, without its changes.
 use Rattle.std.specs.Prelude.{Result, Ok, Err}
 use Rattle.ga_node.specs.declared.kind.Kind.{Kind}
-use Rattle.ga_node.specs.declared.kind.Kind.TheVariants as kind
 
 -- the same of kinds alone
 abbrev pub kind_of : Kind → Result (Unit {0}) Kind → Kind

@@ -1,31 +1,75 @@
-//! Taking an event back.
+//! Taking events back.
 
 use super::Node;
+use crate::aside::Aside;
 use crate::place::Place;
 use crate::saved::Saved;
 use crate::wait::Wait;
 
 impl Node {
     ghost use Rattle.std.specs.Prelude.{◌≡◌, ◌≤◌};
-    ghost use Rattle.ga_node.specs.State.{with_value, restored, IsInRange, AreFit, IsApart};
+    ghost use Rattle.ga_node.specs.State.{with_value, restored, with_aside, IsInRange, AreFit, IsApart, IsCleared};
 
-    /// Writes one old value back, of a node whose wait and stop are kept beside it.
+    /// Writes one old value back, of a node whose wait and stop are set aside.
     #[inline(always)]
-    fn put_back(&mut self, wait: &mut Wait, stop: &mut u8, place: Place, old: u32)
+    fn put_back(&mut self, aside: &mut Aside, place: Place, old: u32)
         requires fit { IsInRange place old }
-        requires no_wait { self.old.wait ≡ Wait.Nothing }
-        requires no_stop { self.old.stop ≡ 0 }
-        requires in_range { stop.old ≤ 3 }
-        ensures back { record self.new { wait = wait.new; stop = stop.new } ≡ with_value (record self.old { wait = wait.old; stop = stop.old }) place old }
-        ensures no_wait { self.new.wait ≡ Wait.Nothing }
-        ensures no_stop { self.new.stop ≡ 0 }
-        ensures in_range { stop.new ≤ 3 }
+        requires cleared { IsCleared self.old }
+        requires in_range { aside.old.stop ≤ 3 }
+        ensures back { with_aside self.new aside.new ≡ with_value (with_aside self.old aside.old) place old }
+        ensures cleared { IsCleared self.new }
+        ensures in_range { aside.new.stop ≤ 3 }
     {
         match place {
-            Place::Wait => *wait = Wait::from_code(old),
-            Place::Stop => *stop = old as u8,
+            Place::Wait => aside.wait = Wait::from_code(old),
+            Place::Stop => aside.stop = old as u8,
             _ => self.set(place, old),
         }
+    }
+
+    /// Sets the wait and the stop aside, for old values of many events to be written back by `write_back`.
+    #[inline(always)]
+    pub fn set_aside(&mut self) -> Aside
+        ensures same { with_aside self.new result ≡ self.old }
+        ensures apart { IsApart self.old }
+        ensures cleared { IsCleared self.new }
+        ensures in_range { result.stop ≤ 3 }
+    {
+        let aside = Aside {
+            wait: self.wait,
+            stop: self.stop,
+        };
+        self.wait = Wait::Nothing;
+        self.stop = 0;
+        aside
+    }
+
+    /// Writes the values that an event overwrote back, the last of them first, where the wait and the stop are set aside.
+    #[inline(always)]
+    pub fn write_back(&mut self, aside: &mut Aside, saved: &Saved)
+        requires fit { AreFit saved.now }
+        requires cleared { IsCleared self.old }
+        requires in_range { aside.old.stop ≤ 3 }
+        ensures back { with_aside self.new aside.new ≡ restored (with_aside self.old aside.old) saved.now }
+        ensures cleared { IsCleared self.new }
+        ensures in_range { aside.new.stop ≤ 3 }
+    {
+        let count = saved.len();
+        for k in 0..count {
+            let (place, old) = saved.at(count - 1 - k);
+            self.put_back(aside, place, old);
+        }
+    }
+
+    /// Gives the node the wait and the stop that were set aside.
+    #[inline(always)]
+    pub fn take_back(&mut self, aside: Aside)
+        requires in_range { aside.stop ≤ 3 }
+        requires apart { IsApart (with_aside self.old aside) }
+        ensures { self.new ≡ with_aside self.old aside }
+    {
+        self.wait = aside.wait;
+        self.stop = aside.stop;
     }
 
     /// Writes the values that an event overwrote back, the last of them first.
@@ -34,16 +78,8 @@ impl Node {
         requires apart { IsApart (restored self.old saved.now) }
         ensures { self.new ≡ restored self.old saved.now }
     {
-        let mut wait = self.wait;
-        let mut stop = self.stop;
-        self.wait = Wait::Nothing;
-        self.stop = 0;
-        let count = saved.len();
-        for k in 0..count {
-            let (place, old) = saved.at(count - 1 - k);
-            self.put_back(&mut wait, &mut stop, place, old);
-        }
-        self.wait = wait;
-        self.stop = stop;
+        let mut aside = self.set_aside();
+        self.write_back(&mut aside, saved);
+        self.take_back(aside);
     }
 }

@@ -1,0 +1,13 @@
+//! A wait and a stop that are set aside.
+
+use crate::wait::Wait;
+
+/// What a node waits for, and why it is stopped, set aside while old values are written to it: in between both may stand, as what
+/// was waited for before a stop.
+#[derive(Clone, Copy, PartialEq, Eq, Debug)]
+pub struct Aside {
+    /// The wait.
+    pub wait: Wait,
+    /// The number of the stop, 0 for none.
+    pub stop: u8,
+}
