@@ -24,7 +24,8 @@ async function text_in(link) {
   return text_of(await piped(packed, new DecompressionStream("deflate-raw")));
 }
 
-function listen(page, examples) {
+// What each key does.
+function acts_of(page) {
   const theme = () => { const root = document.documentElement; root.dataset.theme = root.dataset.theme === "light" ? "dark" : "light"; page.draw(); };
   const look = act => () => { act(); page.draw_picture(); };
   // Where the browser gives no clipboard, the text is selected to be copied.
@@ -35,7 +36,7 @@ function listen(page, examples) {
   };
   const save = () => { const it = document.createElement("a"); it.href = URL.createObjectURL(new Blob([page.session.text])); it.download = "session"; it.click(); };
   const link = async () => { const it = await link_of(page.session.text); if (it) history.replaceState(null, "", it); page.say("link", [it ? "the address holds the session" : "too long for an address: save it"]); };
-  const acts = {
+  return {
     s: () => page.command("step " + page.selected), r: () => page.round(), m: () => page.run(find("most").value.trim()), u: () => find("until").focus(), v: () => page.next_order(), b: () => page.command("back"),
     t: () => page.take(), Enter: () => page.take(), w: () => page.why(), h: () => page.command("who"), f: () => page.effects(), y: () => page.words(), q: () => page.whence(), Escape: () => { page.forget(); page.draw(); },
     ",": () => page.along(-1), ".": () => page.along(1), PageUp: () => page.along(-20), PageDown: () => page.along(20), Home: () => page.along(-1e9), End: () => page.along(1e9), p: () => page.across(),
@@ -44,6 +45,9 @@ function listen(page, examples) {
     e: () => find("examples").focus(), a: () => find("idle").click(), n: () => find("most").focus(), "/": () => find("line").focus(), l: theme, "?": () => find("keys").showModal(),
     c: () => copy(page.session.text), d: () => copy(page.session.script), x: save, o: () => find("file").click(), "#": link, i: () => { find("session").open = true; find("text").focus(); },
   };
+}
+
+function listen_to_keys(acts) {
   const buttons = { step: "s", round: "r", run: "m", back: "b", who: "h", effects: "f", words: "y", whence: "q", take: "t", theme: "l", help: "?", in: "+", out: "-", fit: "0", earlier: "[", later: "]", copy: "c", plain: "d", save: "x", load: "o", link: "#" };
   for (const id in buttons) find(id).onclick = () => acts[buttons[id]]();
   document.onkeydown = event => {
@@ -53,6 +57,9 @@ function listen(page, examples) {
     if (event.key === "Enter" && event.target.tagName !== "BODY" && event.target.id !== "chip") return;
     event.preventDefault(); acts[event.key]();
   };
+}
+
+function listen_to_fields(page, acts, examples) {
   find("line").onkeydown = event => { if (event.key === "Enter") { page.command(find("line").value); find("line").value = ""; } };
   find("text").onkeydown = event => { if (event.key === "Enter" && event.ctrlKey) page.open(find("text").value); };
   // (Then the keys are the page's again.)
@@ -65,6 +72,10 @@ function listen(page, examples) {
   find("examples").onchange = () => { find("examples").blur(); choose_example(page, examples); };
   find("open").onclick = () => page.open(find("text").value);
   find("file").onchange = async () => page.open(await find("file").files[0].text());
+}
+
+// Source, an image or a session that is dropped or pasted.
+function listen_to_texts(page) {
   document.ondragover = event => event.preventDefault();
   document.ondrop = async event => {
     event.preventDefault();
@@ -72,6 +83,13 @@ function listen(page, examples) {
     if (text) page.open(text);
   };
   document.onpaste = event => { if (!/INPUT|TEXTAREA/.test(event.target.tagName)) page.open(event.clipboardData.getData("text")); };
+}
+
+function listen(page, examples) {
+  const acts = acts_of(page);
+  listen_to_keys(acts);
+  listen_to_fields(page, acts, examples);
+  listen_to_texts(page);
   listen_to_picture(page);
 }
 

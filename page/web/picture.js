@@ -76,12 +76,16 @@ class Picture {
     // Over the lines the labels, and over these the events.
     for (const [label, x, y, tint, align] of labels) { g.textAlign = align; lettered(g, label, x, y, tint, back); }
     g.textAlign = "left";
+    this.draw_dots(g, dots, unit, colours);
+    if (chosen) this.draw_pick(g, chosen, line, left, unit, pick);
+  }
+
+  draw_dots(g, dots, unit, colours) {
     const size = Math.min(4, Math.max(.6, unit / 3));
     for (const [kind, x, y, hollow] of dots) {
       g.strokeStyle = g.fillStyle = colours[kind];
       if (size < 2) g.fillRect(x, y - 2, Math.max(1, unit), 4); else shape(g, kind, x, y, size, hollow);
     }
-    if (chosen) this.draw_pick(g, chosen, line, left, unit, pick);
   }
 
   // From afar: of each node and each kind one mark for a column of the screen, the kinds of most weight last.

@@ -1,4 +1,4 @@
--- Numbers and ports as words of a source (docs/REFERENCE.md, "Source" and "Ports and addresses"; the notation is this project's own).
+-- Numbers and ports as words of a source (docs/REFERENCE.md, "Source" and "Addresses"; the notation is this project's own).
 use Rattle.std.specs.Prelude.{ℕ, ◌+◌, ◌-◌, ◌%◌, ◌==◌, nat_lt, nat_le, bit_xor, ◌&&◌, if◌then◌else◌, List, [], ◌∷◌, length, take, drop, codes, bytes_eq, Bool, Option, Some, None}
 use Rattle.std.specs.List.{list_all}
 use Rattle.std.specs.Option.{option_or, option_and_then, option_map_or}
