@@ -8,6 +8,7 @@ use Rattle.std.proofs.lemmas.Nat.{pow-add, and_mask, shr-shr}
 use Rattle.std.proofs.lemmas.Bool.{and_parts, and_from, lt-ltb, cond-true, eqb-true}
 use Rattle.hex.specs.Hex.{lower_digits}
 use Rattle.ga_word.specs.Word.{hex_digit}
+use Rattle.ga_ports.specs.Letters.{set_number}
 use Rattle.ga_source.specs.Numbers.{is_numeral, digits_in, set_in, number_in}
 use Rattle.ga_source.specs.Plain.{by_number}
 use Rattle.ga_console.specs.kept.Disassembling.{hex_of, number_word}
@@ -82,7 +83,7 @@ digits_back (suc k) n =
     ∙ (ap (λ (m : ℕ). digits_value_after 16 m (hex_of k n)) (higher n k) ∙ digits_back k n)
 
 none_in : (rest : List ℕ) → set_in (48 ∷ rest) ≡ None
-unfolding set_in
+unfolding set_number
 none_in [] = refl
 none_in (a ∷ []) = refl
 none_in (a ∷ b ∷ []) = refl

@@ -10,7 +10,8 @@ use Rattle.ga_node.specs.Record.{NodeState}
 use Rattle.ga_image.specs.Lines.{Text}
 use Rattle.ga_image.specs.Spelling.{decimal3_of}
 use Rattle.ga_source.specs.Saying.{Said, parted, is_word, lines_of, said_from, up_to_fault, said_in}
-use Rattle.ga_source.specs.Plain.{words_in, is_node, body_in, bodies_in, digit_in, yxx_in}
+use Rattle.ga_grid.specs.Names.{decimal_digit, node_number}
+use Rattle.ga_source.specs.Plain.{words_in, is_node, body_in, bodies_in, yxx_in}
 use Rattle.ga_console.specs.kept.Disassembling.{Word, Says, number_word, register_words, address_words, cell_words, next_of, cells_words, next_behind, usual_p, registers_words, memory_words, holds_words, node_words, named_words, source_words}
 
 -- ---- all that a text says
@@ -145,7 +146,7 @@ all_bodies n (node ∷ nodes) within =
 
 -- ---- the names of nodes
 
-digit_back : (d : ℕ) → d < 10 → digit_in (48 + d) ≡ Some d
+digit_back : (d : ℕ) → d < 10 → decimal_digit (48 + d) ≡ Some d
 digit_back d small =
     let one : nat_le 48 (48 + d) ≡ true = le-leb 48 (48 + d) (omega arith) in
     let two : nat_le (48 + d) 57 ≡ true = le-leb (48 + d) 57 (omega arith) in
@@ -160,6 +161,7 @@ number_back n within =
     rw (one, two) (ap Some e)
 
 pub name_back : (n : ℕ) → n < 144 → yxx_in (decimal3_of (yxx_of n)) ≡ Some n
+unfolding node_number
 name_back n within =
     let name = yxx_of n in
     let all : 100 * (name / 100) + 10 * (name / 10 % 10) + name % 10 ≡ name = omega arith in

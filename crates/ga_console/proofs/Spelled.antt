@@ -8,7 +8,8 @@ use Rattle.ga_console.specs.declared.command.Command.{Command}
 use Rattle.ga_console.specs.declared.command.Command.TheVariants.{Step, Back, Rewind, Node, Memory, Trace, Why, Count, Dump, Quit}
 use Rattle.ga_console.specs.Texts.{name_of}
 use Rattle.ga_console.specs.Commands.{IsNumber, SpellsAddress, SpellsCommand}
-use Rattle.ga_console.specs.Parsing.{cut, node_in, number_in, byte_in}
+use Rattle.ga_image.specs.Digits.{byte_in}
+use Rattle.ga_console.specs.Parsing.{cut, node_in, number_in}
 use Rattle.ga_console.specs.kept.Parsing.{step_in, rewind_in, memory_in, why_in, alone, with_arguments, command_by, command_in}
 use Rattle.ga_console.proofs.Cuts.{cut_joined, word_cut}
 use Rattle.ga_console.proofs.Taking.{first_step, mapped, node_name, name_node, name_word, number_decimal, decimal_number, decimal_word, byte_address, address_byte}

@@ -11,13 +11,14 @@ use Rattle.ga_word.specs.Word.{hex_digit}
 use Rattle.ga_grid.specs.Grid.{yxx_of, node_of, node_id}
 use Rattle.ga_grid.specs.declared.node_id.NodeId.{NodeId}
 use Rattle.ga_grid.proofs.NodeIds.{node_id-number}
-use Rattle.ga_image.specs.Digits.{decimal_digit as digit_in, node_number, cell_number}
-use Rattle.ga_image.specs.Steps.{◌>>=◌}
+use Rattle.ga_grid.specs.Names.{decimal_digit as digit_in, node_number}
+use Rattle.ga_image.specs.Digits.{byte_in}
+use Rattle.ga_ports.specs.Steps.{◌>>=◌}
 use Rattle.ga_image.specs.Spelling.{decimal3_of, hex2_of}
 use Rattle.ga_image.proofs.Numbers.{cell_spelled, cell_read, node_spelled, node_read}
 use Rattle.ga_console.specs.Texts.{name_of}
 use Rattle.ga_console.specs.Commands.{IsNumber, SpellsAddress}
-use Rattle.ga_console.specs.Parsing.{node_in, fitting, with_digit, with_digits, number_in, byte_in}
+use Rattle.ga_console.specs.Parsing.{node_in, fitting, with_digit, with_digits, number_in}
 use Rattle.ga_console.proofs.Cuts.{IsWord}
 
 -- the first step gave something
@@ -181,7 +182,7 @@ decimal_word k small = decimal_by_steps Whole (λ n digit. (omega arith, tt)) (�
 -- ---- addresses
 
 pub byte_address : (word : List ℕ) (address : ℕ) → byte_in word ≡ Some address → SpellsAddress address word
-unfolding cell_number
+unfolding byte_in
 byte_address [] address e = cc
 byte_address (a ∷ []) address e = cc
 byte_address (a ∷ b ∷ []) address e = let is = cell_spelled a b address e in record { in_range = is.0; digits = is.1 }

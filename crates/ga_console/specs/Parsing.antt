@@ -3,8 +3,8 @@ use Rattle.std.specs.Prelude.{ℕ, ◌+◌, ◌*◌, ◌^◌, ◌==◌, nat_lt, 
 use Rattle.ga_image.specs.Lines.{Text}
 use Rattle.ga_grid.specs.Grid.{node_of, node_id}
 use Rattle.ga_grid.specs.declared.node_id.NodeId.{NodeId}
-use Rattle.ga_image.specs.Digits.{decimal_digit, node_number, cell_number}
-use Rattle.ga_image.specs.Steps.{◌>>=◌}
+use Rattle.ga_grid.specs.Names.{decimal_digit, node_number}
+use Rattle.ga_ports.specs.Steps.{◌>>=◌}
 
 -- a byte more in front of the first part
 abbrev pub in_front : ℕ → Option (Text × Text) → Option (Text × Text)
@@ -47,7 +47,3 @@ number_in [] = None
 number_in (byte ∷ text) = do
   digit ← decimal_digit byte
   with_digits digit text
-
--- the number of two hexadecimal digits
-abbrev pub byte_in : Text → Option ℕ
-byte_in word = cell_number word

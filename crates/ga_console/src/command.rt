@@ -2,13 +2,15 @@
 
 ghost use Rattle.std.specs.Prelude.{◌≡◌, ◌+◌, ◌*◌, ◌<◌, [], ◌∷◌, IfSome, IfNone, option_map};
 ghost use Rattle.ga_grid.specs.Grid.{node_of as node_numbered, node_id};
-ghost use Rattle.ga_image.specs.Digits.{decimal_digit};
+ghost use Rattle.ga_grid.specs.Names.{decimal_digit};
 ghost use Rattle.ga_console.specs.Commands.{SpellsCommand};
-ghost use Rattle.ga_console.specs.Parsing.{cut, node_in, number_in, byte_in, with_digit};
+ghost use Rattle.ga_image.specs.Digits.{byte_in};
+ghost use Rattle.ga_console.specs.Parsing.{cut, node_in, number_in, with_digit};
 ghost use Rattle.ga_console.specs.kept.Parsing.{step_in, rewind_in, memory_in, why_in, alone, with_arguments};
 ghost use Rattle.ga_console.specs.declared.command.Command.{Command};
 
-use ga_grid::NodeId;
+use ga_grid::{NodeId, decimal_digit};
+use ga_image::byte_of;
 
 /// A command of a session. Steps are numbered from 1, but any number may be asked for.
 #[derive(Clone, Copy, PartialEq, Eq, Debug)]
@@ -137,7 +139,7 @@ pub fn cut(text: &[u8]) -> Option<(&[u8], &[u8])>
 }
 
 /// The node that is named by three decimal digits: its row, and two of its column.
-#[tactic(auto, unfolding(crate::specs::Parsing::node_in, ga_image::specs::Digits::node_number))]
+#[tactic(auto, unfolding(crate::specs::Parsing::node_in, ga_grid::specs::Names::node_number))]
 pub fn node_of(word: &[u8]) -> Option<NodeId>
     ensures { result ≡ node_in word.now }
 {
@@ -148,14 +150,14 @@ pub fn node_of(word: &[u8]) -> Option<NodeId>
 }
 
 /// The node of three such digits.
-#[tactic(auto, unfolding(crate::specs::Parsing::node_in, ga_image::specs::Digits::node_number))]
+#[tactic(auto, unfolding(crate::specs::Parsing::node_in, ga_grid::specs::Names::node_number))]
 #[inline(always)]
 pub fn node_named(row: u8, tens: u8, ones: u8) -> Option<NodeId>
     ensures { result ≡ node_in (row ∷ tens ∷ ones ∷ []) }
 {
-    let row = digit_of(row)?;
-    let tens = digit_of(tens)?;
-    let ones = digit_of(ones)?;
+    let row = decimal_digit(row)?;
+    let tens = decimal_digit(tens)?;
+    let ones = decimal_digit(ones)?;
     node_at(row, 10 * tens + ones)
 }
 
@@ -177,7 +179,7 @@ pub fn number_of(word: &[u8]) -> Option<u32>
     ensures { result ≡ number_in word.now }
 {
     let (first, rest) = word.split_first()?;
-    let mut number = digit_of(*first)?;
+    let mut number = decimal_digit(*first)?;
     'digits: for byte in rest {
         number = with_digit(number, *byte)?;
     }
@@ -191,27 +193,6 @@ fn with_digit(number: u32, byte: u8) -> Option<u32>
     if number == 0 {
         return None;
     }
-    let digit = digit_of(byte)?;
+    let digit = decimal_digit(byte)?;
     number.checked_mul(10)?.checked_add(digit)
-}
-
-fn digit_of(byte: u8) -> Option<u32>
-    ensures value { result ≡ decimal_digit byte }
-    ensures in_range { IfSome result (λ digit. digit < 10) }
-{
-    match byte {
-        b'0'..=b'9' => Some(u32::from(byte - b'0')),
-        _ => None,
-    }
-}
-
-/// A number of two hexadecimal digits in either case.
-pub fn byte_of(word: &[u8]) -> Option<u8>
-    ensures { result ≡ byte_in word.now }
-{
-    let mut byte = [0];
-    let Ok(()) = hex::decode_to_slice(word, &mut byte) else {
-        return None;
-    };
-    Some(byte[0])
 }

@@ -29,7 +29,7 @@ mod text;
 mod whole;
 
 pub use assembling::{assemble_source, tell_stores};
-pub use command::{Command, byte_of, command_of, cut, node_of, number_of};
+pub use command::{Command, command_of, cut, node_of, number_of};
 pub use commands::{Ending, serve};
 pub use disassembly::disassemble;
 pub use event::{push_made, refusal};

@@ -4,8 +4,9 @@ use Rattle.std.specs.Prelude.{ℕ, ◌+◌, ◌*◌, ◌^◌, nat_eq, nat_lt, na
 use Rattle.std.specs.Cmp.Lexicographic.{pointwise}
 use Rattle.ga_image.specs.Lines.{Line}
 use Rattle.ga_grid.specs.declared.node_id.NodeId.{NodeId}
-use Rattle.ga_image.specs.Steps.{◌>>=◌}
-use Rattle.ga_console.specs.Parsing.{cut, node_in, number_in, byte_in}
+use Rattle.ga_ports.specs.Steps.{◌>>=◌}
+use Rattle.ga_image.specs.Digits.{byte_in}
+use Rattle.ga_console.specs.Parsing.{cut, node_in, number_in}
 use Rattle.ga_explore.specs.Schedules.{in_rounds, greedily, at_random}
 use Rattle.ga_explore.specs.declared.schedule.Schedule.{Schedule}
 use Rattle.ga_explore.specs.declared.condition.Condition.{Condition}

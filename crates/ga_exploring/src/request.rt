@@ -4,7 +4,8 @@ ghost use Rattle.std.specs.Prelude.{◌≡◌};
 ghost use Rattle.ga_exploring.specs.Reading.{request_in, lone_request, named_request, effects_in, words_in, writes_in, at_in, around_in, whence_in};
 
 use crate::run_request::run_of;
-use ga_console::{byte_of, cut, node_of, number_of};
+use ga_console::{cut, node_of, number_of};
+use ga_image::byte_of;
 use ga_explore::{Condition, Schedule};
 use ga_grid::NodeId;
 use ga_notes::Notes;

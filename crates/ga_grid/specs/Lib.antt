@@ -3,3 +3,4 @@ pub mod Load
 pub mod Chip
 pub mod Lending
 pub mod Steady
+pub mod Names

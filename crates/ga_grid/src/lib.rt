@@ -3,8 +3,10 @@
 
 mod chip;
 mod link;
+mod name;
 mod node_id;
 
 pub use chip::{Chip, Memory, load_p};
 pub use link::neighbour;
+pub use name::{decimal_digit, node_number};
 pub use node_id::{NODES, NodeId};

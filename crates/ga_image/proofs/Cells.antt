@@ -6,7 +6,7 @@ use Rattle.std.proofs.lemmas.Bool.{ne_eqb, eqb-false}
 use Rattle.hex.specs.declared.error.FromHexError.{FromHexError}
 use Rattle.hex.specs.declared.error.FromHexError.TheVariants.{OddLength, InvalidStringLength}
 use Rattle.hex.specs.Hex.{decode_pairs, decode_sized, digit_or_error, hex_digit_value, ◌>>=◌}
-use Rattle.ga_image.specs.Digits.{cell_number}
+use Rattle.ga_image.specs.Digits.{byte_in}
 
 -- a byte, or the error of its digits, against a number
 abbrev pub Agrees : Result (List ℕ) FromHexError → Option ℕ → Type 0
@@ -35,8 +35,8 @@ refused false true bytes other = absurd (let clash : true ≡ false = other refl
 refused false false bytes other = refl
 
 -- two digits decode to a byte where they name a cell
-pub cell_agrees : (text : List ℕ) → Agrees (decode_sized text 1) (cell_number text)
-unfolding decode_pairs cell_number
+pub cell_agrees : (text : List ℕ) → Agrees (decode_sized text 1) (byte_in text)
+unfolding decode_pairs byte_in
 cell_agrees [] = refl
 cell_agrees (x ∷ []) = refl
 cell_agrees (x ∷ y ∷ []) = pair_agrees x y (hex_digit_value x) (hex_digit_value y)

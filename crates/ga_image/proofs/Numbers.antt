@@ -8,8 +8,10 @@ use Rattle.std.proofs.lemmas.Bool.Decides.{nat_tests}
 use Rattle.hex.specs.Hex.{hex_digit_value, lower_digits}
 use Rattle.hex.proofs.HexLemmas.{IsDigits-lower_digits}
 use Rattle.ga_word.specs.Word.{hex_digit, hex6_of, read6_of}
-use Rattle.ga_image.specs.Digits.{decimal_digit, cell_number, node_number, side_value, set_number}
-use Rattle.ga_image.specs.Steps.{◌>>=◌}
+use Rattle.ga_grid.specs.Names.{decimal_digit, node_number}
+use Rattle.ga_ports.specs.Letters.{side_value, set_number}
+use Rattle.ga_image.specs.Digits.{byte_in}
+use Rattle.ga_ports.specs.Steps.{◌>>=◌}
 use Rattle.ga_image.specs.Spelling.{hex2_of, decimal3_of, letter, set_text}
 
 -- a digit has the same value in either case
@@ -143,8 +145,8 @@ pair_stepped (Some a) None n is = cc
 pair_stepped (Some a) (Some b) n is = let same : a * 16 + b ≡ n = cc in (a, b, refl, refl, same)
 
 -- two digits that give a number are that number's
-pub cell_spelled : (a b n : ℕ) → cell_number (a ∷ b ∷ []) ≡ Some n → (n < 256) × (str_to_ascii_lowercase (a ∷ b ∷ []) ≡ hex2_of n)
-unfolding cell_number
+pub cell_spelled : (a b n : ℕ) → byte_in (a ∷ b ∷ []) ≡ Some n → (n < 256) × (str_to_ascii_lowercase (a ∷ b ∷ []) ≡ hex2_of n)
+unfolding byte_in
 cell_spelled a b n is =
     let (u, v, ua, vb, whole) = pair_stepped (hex_digit_value a) (hex_digit_value b) n is in
     let (u_small, a_is) = digit_spelled a u ua in
@@ -154,8 +156,8 @@ cell_spelled a b n is =
     (omega arith, two_equal _ _ _ _ (a_is ∙ ap (slice_index lower_digits) first) (b_is ∙ ap (slice_index lower_digits) second))
 
 -- the digits of a number give it back
-pub cell_read : (a b n : ℕ) → n < 256 → to_ascii_lowercase a ≡ hex_digit n 1 → to_ascii_lowercase b ≡ hex_digit n 0 → cell_number (a ∷ b ∷ []) ≡ Some n
-unfolding cell_number
+pub cell_read : (a b n : ℕ) → n < 256 → to_ascii_lowercase a ≡ hex_digit n 1 → to_ascii_lowercase b ≡ hex_digit n 0 → byte_in (a ∷ b ∷ []) ≡ Some n
+unfolding byte_in
 cell_read a b n small first second =
     let whole : n / 16 % 16 * 16 + n / 1 % 16 ≡ n = omega arith in
     rw (digit_read a _ (omega arith) first, digit_read b _ (omega arith) second) (ap (λ (k : ℕ). Some k) whole)

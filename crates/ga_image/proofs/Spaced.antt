@@ -4,7 +4,7 @@ use Rattle.std.specs.Cmp.Lexicographic.{pointwise}
 use Rattle.std.proofs.Common.{◌≡◌, ℕ, ◌<◌, ◌≤◌, List, [], ◌∷◌, ◌++◌, length, take, drop, Option, Some, None, Bool, true, false, cond, ap, refl, arith, append_assoc, length-append}
 use Rattle.std.proofs.lemmas.Bool.Decides.{nat_tests}
 use Rattle.ga_word.specs.Word.{read6_of}
-use Rattle.ga_image.specs.Steps.{◌>>=◌}
+use Rattle.ga_ports.specs.Steps.{◌>>=◌}
 use Rattle.ga_image.specs.Forms.{spaced_words, words, few}
 
 -- what the words of a text behind those seen so far come to

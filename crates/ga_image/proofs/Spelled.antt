@@ -13,9 +13,11 @@ use Rattle.ga_word.specs.Word.{hex6_of, read6_of}
 use Rattle.ga_ports.specs.Address.{is_single}
 use Rattle.ga_image.specs.declared.field.Field.{Field}
 use Rattle.ga_image.specs.declared.field.Field.TheVariants.{A, B, P, I, Io, Carry, Slot, Wait, Stop, Data, Return, Ram, Rom}
-use Rattle.ga_image.specs.Steps.{◌>>=◌}
+use Rattle.ga_ports.specs.Steps.{◌>>=◌}
 use Rattle.ga_node.specs.Waits.{IsWaitCode}
-use Rattle.ga_image.specs.Digits.{cell_number, node_number, set_number}
+use Rattle.ga_grid.specs.Names.{node_number}
+use Rattle.ga_ports.specs.Letters.{set_number}
+use Rattle.ga_image.specs.Digits.{byte_in}
 use Rattle.ga_image.specs.Spelling.{Form, Node, Words, End, hex2_of, words_text, set_text, wait_text, field_name, numbers_of, code_text, HasCount, SpellsWords, IsCode, SpellsCode, SpellsField, Spells}
 use Rattle.ga_image.specs.Forms.{form, spaced_words, few, words, word_form, cells_form, stack_form, digit_form, set_form, side_form, wait_form, node_form, wide_form, state_form, begins}
 use Rattle.ga_image.proofs.Numbers.{word_spelled, word_read, cell_spelled, node_spelled, set_spelled, between}
@@ -158,7 +160,7 @@ unfolding cells_form
 cells_parts [] field f e = cc
 cells_parts (x ∷ []) field f e = cc
 cells_parts (x ∷ y ∷ text) field f e =
-    let (cell, digits, more) = first_step (cell_number (x ∷ y ∷ [])) _ f e in
+    let (cell, digits, more) = first_step (byte_in (x ∷ y ∷ [])) _ f e in
     let (ws, row, made) = first_step (words text) _ f more in
     let same : Words (field cell) ws ≡ f = cc in
     let (small, front) = cell_spelled x y cell digits in

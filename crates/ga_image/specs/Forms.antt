@@ -6,8 +6,10 @@ use Rattle.ga_word.specs.Word.{read6_of}
 use Rattle.ga_ports.specs.Address.{is_single}
 use Rattle.ga_image.specs.declared.field.Field.{Field}
 use Rattle.ga_image.specs.declared.field.Field.TheVariants.{A, B, P, I, Io, Carry, Slot, Wait, Stop, Data, Return, Ram, Rom}
-use Rattle.ga_image.specs.Steps.{◌>>=◌}
-use Rattle.ga_image.specs.Digits.{cell_number, node_number, set_number}
+use Rattle.ga_ports.specs.Steps.{◌>>=◌}
+use Rattle.ga_grid.specs.Names.{node_number}
+use Rattle.ga_ports.specs.Letters.{set_number}
+use Rattle.ga_image.specs.Digits.{byte_in}
 use Rattle.ga_image.specs.Spelling.{Form, Node, Words, End}
 
 -- numbers of six digits, each behind one space
@@ -40,7 +42,7 @@ word_form field text = do
 -- a cell, and the words from it on
 unfoldable pub cells_form : (ℕ → Field) → Text → Option Form
 cells_form field (x ∷ y ∷ text) = do
-  cell ← cell_number (x ∷ y ∷ [])
+  cell ← byte_in (x ∷ y ∷ [])
   found ← words text
   Some (Words (field cell) found)
 cells_form field _ = None

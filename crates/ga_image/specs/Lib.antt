@@ -4,7 +4,6 @@ pub mod Fields
 pub mod Held
 pub mod Spelling
 pub mod Grammar
-pub mod Steps
 pub mod Digits
 pub mod Forms
 pub mod Progress

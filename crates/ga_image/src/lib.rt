@@ -14,6 +14,7 @@ mod lines;
 mod parser;
 mod printing;
 
+pub use digits::byte_of;
 pub use fault::{ImageCause, ImageFault};
 pub use image::parse;
 pub use parser::LINE_LIMIT;

@@ -6,9 +6,11 @@ ghost use Rattle.std.specs.Option.{option_map};
 ghost use Rattle.ga_image.specs.kept.Forms.{form_of, field_in};
 ghost use Rattle.ga_image.specs.Forms.{words, word_form, cells_form, stack_form, digit_form, set_form, side_form, wait_form, node_form, wide_form, state_form, form};
 
-use super::digits::{cell_number, node_number, set_number};
+use super::digits::byte_of;
 use super::field::{Bank, Field};
 use arrayvec::ArrayVec;
+use ga_grid::node_number;
+use ga_ports::set_number;
 use ga_word::Word18;
 
 /// A line behind the header.
@@ -56,7 +58,7 @@ fn cells_line(bank: Bank, text: &[u8]) -> Option<Line>
         return None;
     }
     let (digits, rest) = text.split_at(2);
-    let cell = cell_number(digits)?;
+    let cell = byte_of(digits)?;
     let words = read_words(rest)?;
     Some(Line::Words(bank.field(cell), words))
 }

@@ -14,7 +14,9 @@ use Rattle.ga_source.specs.declared.item.Request.TheVariants.{Put, Go}
 use Rattle.ga_source.specs.declared.draft.Expect.{Expect}
 use Rattle.ga_source.specs.declared.draft.Expect.TheVariants.{Word, Address, Name, Register, Nothing}
 use Rattle.ga_source.specs.Reading.{carried}
-use Rattle.ga_source.specs.Numbers.{◌>>=◌, by_name, set_in, number_in}
+use Rattle.ga_ports.specs.Steps.{◌>>=◌}
+use Rattle.ga_ports.specs.Letters.{set_number}
+use Rattle.ga_source.specs.Numbers.{by_name, number_in}
 use Rattle.ga_source.specs.Plain.{Plain, with_words, with_request, by_number, only_if, is_cell, plain_from}
 use Rattle.ga_source.specs.Vocabulary.{directives}
 use Rattle.ga_source.specs.kept.Hearing.{Heard, end_of, may_give, next_of, hear, hear_all}
@@ -61,7 +63,7 @@ no_number e = subst is_of e tt
 
 -- a word with an apostrophe in front says no number
 label_no_number : (name : List ℕ) → number_in (39 ∷ name) ≡ NoNumber
-unfolding set_in
+unfolding set_number
 label_no_number [] = refl
 label_no_number (a ∷ []) = refl
 label_no_number (a ∷ b ∷ []) = refl

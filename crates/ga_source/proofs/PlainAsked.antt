@@ -28,7 +28,8 @@ use Rattle.ga_source.specs.Asking.{Mention, is_waiting}
 use Rattle.ga_source.specs.Asking.Wrong.{LongLine, OpenComment}
 use Rattle.ga_source.specs.Reading.{carried}
 use Rattle.ga_source.specs.Saying.{Said}
-use Rattle.ga_source.specs.Numbers.{by_name, begins, number_in, ◌>>=◌}
+use Rattle.ga_ports.specs.Steps.{◌>>=◌}
+use Rattle.ga_source.specs.Numbers.{by_name, begins, number_in}
 use Rattle.ga_source.specs.Plain.{Plain, with_request, by_number, only_if, is_cell, asked_by, value_in, plain_of, no_request}
 use Rattle.ga_source.specs.Vocabulary.{directives, directive_in, bound_of}
 use Rattle.ga_source.specs.Asking.{Asking, Refusal, asking as asks, nothing_asked, by_range, value_said, cell, directive, word_asks, named_word, address_asks, register_asks, given_in, with_given, hear as hear_asking, expected, of_kind, asked_from, asked_of, finished, all_closed, all_placed, next_text, ◌▷◌}

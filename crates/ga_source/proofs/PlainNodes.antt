@@ -23,7 +23,8 @@ use Rattle.ga_source.specs.declared.item.Registers.{Registers}
 use Rattle.ga_source.specs.declared.item.Asked.{Asked}
 use Rattle.ga_source.specs.declared.item.Program.{Program}
 use Rattle.ga_source.specs.declared.labels.Label.{Label as Name}
-use Rattle.ga_source.specs.Numbers.{◌>>=◌, number_in}
+use Rattle.ga_ports.specs.Steps.{◌>>=◌}
+use Rattle.ga_source.specs.Numbers.{number_in}
 use Rattle.ga_source.specs.Programs.{given_of, value_or, is_item, has_cells, or_start, at_load, HasProgram, IsLoaded, IsUnnamed, IsAssembled}
 use Rattle.ga_source.specs.Cells.{is_asked}
 use Rattle.ga_source.specs.Reading.{begin_at, resolved}

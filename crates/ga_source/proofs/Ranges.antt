@@ -7,7 +7,9 @@ use Rattle.std.proofs.lemmas.Bool.{cases_Bool, ltb-true}
 use Rattle.std.proofs.lemmas.Nat.{xor_lt}
 use Rattle.ga_source.specs.declared.number.Number.{Number}
 use Rattle.ga_source.specs.declared.number.Number.TheVariants.{Of, Nothing}
-use Rattle.ga_source.specs.Numbers.{◌>>=◌, begins, plain_in, word_of_size, word_below, numeral_in, side_bit, set_in, by_name, ports, port_in, number_in}
+use Rattle.ga_ports.specs.Letters.{side_value, set_number}
+use Rattle.ga_ports.specs.Steps.{◌>>=◌}
+use Rattle.ga_source.specs.Numbers.{begins, plain_in, word_of_size, word_below, numeral_in, set_address, set_in, by_name, ports, port_in, number_in}
 
 abbrev IsSmall : Number → Type 0
 IsSmall (Of n) = n < 262144
@@ -42,7 +44,7 @@ numeral_small text = elim (cases_Bool (begins text (codes "-"))) [
 
 -- ---- ports
 
-side_small : (letter bit byte : ℕ) (k : ℕ → Option ℕ) → ((n : ℕ) → n ≤ bit → IsSmallAddress (k n)) → IsSmallAddress (side_bit letter bit byte >>= k)
+side_small : (letter bit byte : ℕ) (k : ℕ → Option ℕ) → ((n : ℕ) → n ≤ bit → IsSmallAddress (k n >>= set_address)) → IsSmallAddress ((side_value letter bit byte >>= k) >>= set_address)
 side_small letter bit byte k small = elim (cases_Bool (byte == letter)) [
   | inl is ↦ rw is (small bit (omega arith))
   | inr other ↦ elim (cases_Bool (byte == 45)) [
@@ -59,14 +61,14 @@ sides_small n true small = tt
 sides_small n false small = xor_lt 9 0x155 n (omega arith) small
 
 set_small : (text : List ℕ) → IsSmallAddress (set_in text)
-unfolding set_in
+unfolding set_number
 set_small [] = tt
 set_small (a ∷ []) = tt
 set_small (a ∷ b ∷ []) = tt
 set_small (a ∷ b ∷ c ∷ []) = tt
 set_small (right ∷ down ∷ left ∷ up ∷ []) =
-    side_small 114 0x80 right _ (λ r r_small. side_small 100 0x40 down _ (λ d d_small. side_small 108 0x20 left _ (λ l l_small. side_small 117 0x10 up _ (λ u u_small.
-    sides_small (r + d + l + u) (r + d + l + u == 0) (omega arith)))))
+    side_small 114 8 right _ (λ r r_small. side_small 100 4 down _ (λ d d_small. side_small 108 2 left _ (λ l l_small. side_small 117 1 up _ (λ u u_small.
+    sides_small (16 * (r + d + l + u)) (r + d + l + u == 0) (omega arith)))))
 set_small (a ∷ b ∷ c ∷ d ∷ e ∷ text) = tt
 
 abbrev AreSmall : List (List ℕ × ℕ) → Type 0

@@ -1,16 +1,14 @@
 -- Numbers and ports as words of a source (docs/REFERENCE.md, "Source" and "Addresses"; the notation is this project's own).
-use Rattle.std.specs.Prelude.{ℕ, ◌+◌, ◌-◌, ◌%◌, ◌==◌, nat_lt, nat_le, bit_xor, ◌&&◌, if◌then◌else◌, List, [], ◌∷◌, length, take, drop, codes, bytes_eq, Bool, Option, Some, None}
+use Rattle.std.specs.Prelude.{ℕ, ◌+◌, ◌-◌, ◌*◌, ◌%◌, ◌==◌, nat_lt, nat_le, bit_xor, ◌&&◌, if◌then◌else◌, List, [], ◌∷◌, length, take, drop, codes, bytes_eq, Bool, Option, Some, None}
 use Rattle.std.specs.List.{list_all}
+use Rattle.ga_ports.specs.Steps.{◌>>=◌}
+use Rattle.ga_ports.specs.Letters.{set_number}
 use Rattle.std.specs.Option.{option_or, option_and_then, option_map_or}
 use Rattle.std.specs.Char.{is_digit}
 use Rattle.std.specs.Str.Parse.{digits_value}
 use Rattle.ga_source.specs.declared.number.Number.{Number}
 use Rattle.ga_source.specs.declared.number.Number.TheVariants.{Of, OutOfRange, Nothing}
 use Rattle.ga_source.specs.Saying.{has_bytes}
-
-infixl 10 ◌>>=◌
-abbrev pub ◌>>=◌ : {A B : Type 0} → Option A → (A → Option B) → Option B
-o >>= f = option_and_then f o
 
 -- ---- numbers
 
@@ -59,19 +57,13 @@ ports =
     ∷ (codes "io", 0x15d)
     ∷ []
 
--- the bit of a side, where its letter stands
-abbrev pub side_bit : ℕ → ℕ → ℕ → Option ℕ
-side_bit letter bit byte = if byte == letter then Some bit else if byte == 45 then Some 0 else None
+-- the address of a set of ports, by the number of the set (DB001, ports): a side that it has turns a bit over; none where it is empty
+abbrev pub set_address : ℕ → Option ℕ
+set_address set = if set == 0 then None else Some (bit_xor 0x155 (16 * set))
 
 -- a set of ports: a letter or a hyphen for each side
-unfoldable pub set_in : List ℕ → Option ℕ
-set_in (right ∷ down ∷ left ∷ up ∷ []) = do
-  r ← side_bit 114 0x80 right
-  d ← side_bit 100 0x40 down
-  l ← side_bit 108 0x20 left
-  u ← side_bit 117 0x10 up
-  if r + d + l + u == 0 then None else Some (bit_xor 0x155 (r + d + l + u))
-set_in _ = None
+abbrev pub set_in : List ℕ → Option ℕ
+set_in text = set_number text >>= set_address
 
 abbrev pub port_in : List ℕ → Option ℕ
 port_in text = option_or (by_name ports text) (set_in text)

@@ -14,7 +14,9 @@ use Rattle.ga_source.specs.declared.item.Given.{Given}
 use Rattle.ga_source.specs.declared.item.Registers.{Registers}
 use Rattle.ga_source.specs.declared.item.Program.{Program}
 use Rattle.ga_source.specs.Saying.{said_in}
-use Rattle.ga_source.specs.Numbers.{◌>>=◌, number_in}
+use Rattle.ga_grid.specs.Names.{node_number}
+use Rattle.ga_ports.specs.Steps.{◌>>=◌}
+use Rattle.ga_source.specs.Numbers.{number_in}
 
 -- ---- the words of each node
 
@@ -36,18 +38,9 @@ unfoldable pub bodies_in : List (List ℕ) → List (List (List ℕ))
 bodies_in [] = []
 bodies_in (word ∷ words) = if is_node word then body_in words ∷ bodies_in words else bodies_in words
 
--- the value of a decimal digit
-abbrev pub digit_in : ℕ → Option ℕ
-digit_in byte = if nat_le 48 byte && nat_le byte 57 then Some (byte - 48) else None
-
 -- the number of the node with a name of three digits
 abbrev pub yxx_in : List ℕ → Option ℕ
-yxx_in (row ∷ tens ∷ ones ∷ []) = do
-  y ← digit_in row
-  x ← digit_in tens
-  z ← digit_in ones
-  node_of (100 * y + 10 * x + z)
-yxx_in _ = None
+yxx_in text = node_number text >>= node_of
 
 -- ---- what plain words ask for
 

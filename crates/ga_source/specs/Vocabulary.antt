@@ -12,7 +12,8 @@ use Rattle.ga_source.specs.declared.vocabulary.Register.{Register}
 use Rattle.ga_source.specs.declared.vocabulary.Register.TheVariants.{P, A, B}
 use Rattle.ga_source.specs.declared.number.Number.{Number}
 use Rattle.ga_source.specs.declared.number.Number.TheVariants.{Of, OutOfRange, Nothing}
-use Rattle.ga_source.specs.Numbers.{◌>>=◌, by_name, begins, number_in}
+use Rattle.ga_ports.specs.Steps.{◌>>=◌}
+use Rattle.ga_source.specs.Numbers.{by_name, begins, number_in}
 
 -- ---- opcodes
 

@@ -4,7 +4,9 @@ ghost use Rattle.std.specs.Prelude.{◌≡◌, ◌<◌, ◌≤◌, ◌^◌, min,
 ghost use Rattle.std.specs.Char.{digit_value};
 ghost use Rattle.std.specs.Option.{option_map_or, SomeIff};
 ghost use Rattle.ga_source.specs.declared.number.Number.TheVariants.{Nothing};
-ghost use Rattle.ga_source.specs.Numbers.{digits_in, plain_in, word_of_size, word_below, numeral_in, side_bit, set_in, port_in, number_in};
+ghost use Rattle.ga_source.specs.Numbers.{digits_in, plain_in, word_of_size, word_below, numeral_in, set_in, port_in, number_in};
+
+use ga_ports::set_number;
 
 /// What a word says of a number.
 #[derive(Clone, Copy, PartialEq, Eq, Debug)]
@@ -116,20 +118,6 @@ pub(crate) fn number_of(text: &[u8]) -> Number
     }
 }
 
-/// The bit of a letter of a set of ports, none for a hyphen.
-fn side(byte: u8, letter: u8, bit: u32) -> Option<u32>
-    ensures value { result ≡ side_bit letter bit byte }
-    ensures in_range { IfSome result (λ found. found ≤ bit) }
-{
-    if byte == letter {
-        Some(bit)
-    } else if byte == b'-' {
-        Some(0)
-    } else {
-        None
-    }
-}
-
 /// The address of a port or of a set of ports.
 fn port(text: &[u8]) -> Option<u32>
     ensures { result ≡ port_in text.now }
@@ -149,19 +137,10 @@ fn port(text: &[u8]) -> Option<u32>
     }
 }
 
-#[tactic(auto, unfolding(crate::specs::Numbers::set_in))]
+/// The address of a set of ports.
 fn ports(text: &[u8]) -> Option<u32>
     ensures { result ≡ set_in text.now }
 {
-    match text {
-        [right, down, left, up] => {
-            let right = side(*right, b'r', 0x80)?;
-            let down = side(*down, b'd', 0x40)?;
-            let left = side(*left, b'l', 0x20)?;
-            let up = side(*up, b'u', 0x10)?;
-            let set = right + down + left + up;
-            if set == 0 { None } else { Some(0x155 ^ set) }
-        }
-        _ => None,
-    }
+    let set = set_number(text)?;
+    if set == 0 { None } else { Some(0x155 ^ (16 * set)) }
 }

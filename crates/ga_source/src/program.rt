@@ -28,7 +28,7 @@ use super::loading::load;
 use super::packing::pack;
 use super::reading::resolve;
 use super::scan::{Token, scan};
-use ga_grid::{Chip, NODES, NodeId};
+use ga_grid::{Chip, NODES, NodeId, node_number};
 use ga_node::{Node, Place};
 use std::alloc::Global;
 
@@ -36,18 +36,7 @@ use std::alloc::Global;
 fn node_named(text: &[u8]) -> Option<NodeId>
     ensures { number_in result ≡ yxx_in text.now }
 {
-    match text {
-        [row, tens, ones] => {
-            let row = row.checked_sub(b'0')?;
-            let tens = tens.checked_sub(b'0')?;
-            let ones = ones.checked_sub(b'0')?;
-            if row > 9 || tens > 9 || ones > 9 {
-                return None;
-            }
-            NodeId::from_yxx(100 * u32::from(row) + 10 * u32::from(tens) + u32::from(ones))
-        }
-        _ => None,
-    }
+    NodeId::from_yxx(node_number(text)?)
 }
 
 /// Whether the program of a node begins here.

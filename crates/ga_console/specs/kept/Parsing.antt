@@ -3,10 +3,11 @@ use Rattle.std.specs.Prelude.{ℕ, nat_eq, if◌then◌else◌, codes, Option, S
 use Rattle.std.specs.Cmp.Lexicographic.{pointwise}
 use Rattle.ga_image.specs.Lines.{Text, Line}
 use Rattle.ga_grid.specs.declared.node_id.NodeId.{NodeId}
-use Rattle.ga_image.specs.Steps.{◌>>=◌}
+use Rattle.ga_ports.specs.Steps.{◌>>=◌}
 use Rattle.ga_console.specs.declared.command.Command.{Command}
 use Rattle.ga_console.specs.declared.command.Command.TheVariants.{Step, Back, Rewind, Node, Memory, Trace, Why, Count, Dump, Quit}
-use Rattle.ga_console.specs.Parsing.{cut, node_in, number_in, byte_in}
+use Rattle.ga_image.specs.Digits.{byte_in}
+use Rattle.ga_console.specs.Parsing.{cut, node_in, number_in}
 
 -- a node and a step of it
 unfoldable pub step_in : Text → Option (NodeId × ℕ)

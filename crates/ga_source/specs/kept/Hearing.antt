@@ -12,7 +12,8 @@ use Rattle.ga_source.specs.declared.draft.Expect.{Expect}
 use Rattle.ga_source.specs.declared.draft.Expect.TheVariants.{Word, Address, Name, Register, Nothing}
 use Rattle.ga_source.specs.declared.scan.Token.{Token}
 use Rattle.ga_source.specs.Asking.{Asking}
-use Rattle.ga_source.specs.Numbers.{◌>>=◌, by_name, number_in}
+use Rattle.ga_ports.specs.Steps.{◌>>=◌}
+use Rattle.ga_source.specs.Numbers.{by_name, number_in}
 use Rattle.ga_source.specs.Plain.{Plain, no_request, with_request, by_number, only_if, is_cell, may_be, asked_by}
 use Rattle.ga_source.specs.Vocabulary.{directives}
 

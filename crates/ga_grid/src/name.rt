@@ -1,0 +1,32 @@
+//! The names of the nodes as texts.
+
+ghost use Rattle.std.specs.Prelude.{◌≡◌, ◌<◌, IfSome};
+ghost use Rattle.ga_grid.specs.Names.{decimal_digit, node_number};
+
+/// The value of a decimal digit.
+pub fn decimal_digit(byte: u8) -> Option<u32>
+    ensures value { result ≡ decimal_digit byte }
+    ensures in_range { IfSome result (λ digit. digit < 10) }
+{
+    match byte {
+        b'0'..=b'9' => Some(u32::from(byte - b'0')),
+        _ => None,
+    }
+}
+
+/// The row and the column of a node, as three decimal digits. `NodeId::from_yxx` says whether there is one.
+#[tactic(auto, unfolding(crate::specs::Names::node_number))]
+pub fn node_number(text: &[u8]) -> Option<u32>
+    ensures value { result ≡ node_number text.now }
+    ensures in_range { IfSome result (λ yxx. yxx < 1000) }
+{
+    match text {
+        [row, tens, ones] => {
+            let row = decimal_digit(*row)?;
+            let tens = decimal_digit(*tens)?;
+            let ones = decimal_digit(*ones)?;
+            Some(100 * row + 10 * tens + ones)
+        }
+        _ => None,
+    }
+}

@@ -1,0 +1,36 @@
+//! Sets of sides as texts.
+
+ghost use Rattle.std.specs.Prelude.{◌≡◌, ◌≤◌, IfSome};
+ghost use Rattle.ga_ports.specs.Letters.{side_value, set_number};
+
+/// What a letter of a set says: the value of its side, or 0 where a hyphen stands.
+fn side_value(name: u8, value: u32, byte: u8) -> Option<u32>
+    ensures value { result ≡ side_value name value byte }
+    ensures in_range { IfSome result (λ v. v ≤ value) }
+{
+    if byte == name {
+        Some(value)
+    } else if byte == b'-' {
+        Some(0)
+    } else {
+        None
+    }
+}
+
+/// The number of a set of sides: right 8, down 4, left 2, up 1.
+#[tactic(auto, unfolding(crate::specs::Letters::set_number))]
+pub fn set_number(text: &[u8]) -> Option<u32>
+    ensures value { result ≡ set_number text.now }
+    ensures in_range { IfSome result (λ sides. sides ≤ 15) }
+{
+    match text {
+        [right, down, left, up] => {
+            let right = side_value(b'r', 8, *right)?;
+            let down = side_value(b'd', 4, *down)?;
+            let left = side_value(b'l', 2, *left)?;
+            let up = side_value(b'u', 1, *up)?;
+            Some(right + down + left + up)
+        }
+        _ => None,
+    }
+}
