@@ -1,5 +1,6 @@
 -- What a session of exploring begins on: an image, or source (docs/REFERENCE.md, "Exploring"; this project's own).
 use Rattle.std.specs.Prelude.{◌≡◌, ℕ, ◌⊎◌, Bool, true, false, List, [], ◌++◌, length, take, codes, bytes_eq, Result, Ok, Err, Some, None}
+use Rattle.std.specs.List.{All}
 use Rattle.ga_node.specs.Record.{NodeState}
 use Rattle.ga_grid.specs.Chip.{records_of}
 use Rattle.ga_image.specs.Lines.{Bytes, Text}
@@ -9,6 +10,7 @@ use Rattle.ga_source.specs.declared.item.Program.{Program}
 use Rattle.ga_source.specs.Programs.{IsAssembled}
 use Rattle.ga_source.specs.Plain.{AreRead}
 use Rattle.ga_source.specs.Asks.{AreAsked}
+use Rattle.ga_source.specs.Groups.{HasGroups}
 use Rattle.ga_source.specs.Made.{IsMade}
 use Rattle.ga_notes.specs.declared.notes.Notes.{Notes}
 use Rattle.ga_notes.specs.Source.{AreOfSource}
@@ -33,6 +35,7 @@ pub record OpensSource (source : Text) (limit : ℕ) (begun : Exploring) : Type 
   pub assembled : IsAssembled chip programs
   pub read : AreRead source programs
   pub asked : AreAsked source programs
+  pub groups : All HasGroups programs
   pub made : IsMade source chip
   pub load : begun.lab ≡ first (records_of chip) limit
   pub noted : begun.notes ≡ Some notes

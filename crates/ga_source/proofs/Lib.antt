@@ -3,6 +3,7 @@ pub mod Held
 pub mod Laying
 pub mod Walking
 pub mod Marking
+pub mod Grouped
 pub mod Targets
 pub mod Written
 pub mod Loaded

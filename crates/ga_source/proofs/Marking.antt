@@ -60,7 +60,7 @@ pending_unext p q before line label whole_by filling spot_is groups labels_are w
 -- ---- labels and new cells
 
 -- a label that wasn't known is
-label_extends : (labels : List (Option ℕ)) (label address : ℕ) → slice_index_or labels label None ≡ None → Extends labels (set labels label (Some address))
+pub label_extends : (labels : List (Option ℕ)) (label address : ℕ) → slice_index_or labels label None ≡ None → Extends labels (set labels label (Some address))
 label_extends labels label address unknown k found e = elim (cases_eq k label) [
   | inl same ↦ absurd (None≢Some found (sym unknown ∙ (ap (λ (j : ℕ). slice_index_or labels j None) (sym same) ∙ e)))
   | inr other ↦ get_or-set_other labels label k (Some address) None other ∙ e

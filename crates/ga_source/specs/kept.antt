@@ -1,5 +1,6 @@
 pub mod Answering
 pub mod Drafting
+pub mod Grouping
 pub mod Hearing
 pub mod Layout
 pub mod Loading

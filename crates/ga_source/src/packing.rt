@@ -1,6 +1,6 @@
 //! Requests packed into groups.
 
-ghost use Rattle.std.specs.Prelude.{◌≡◌, ℕ, [], ◌∷◌, ◌++◌, List, IsTrue, true, IfOk, IfErr, OnOk, slice_index_or};
+ghost use Rattle.std.specs.Prelude.{◌≡◌, ℕ, [], ◌∷◌, ◌++◌, List, IsTrue, true, IfOk, IfErr, OnOk, map, slice_index_or};
 ghost use Rattle.ga_source.specs.declared.item.Asked.{Asked};
 ghost use Rattle.ga_source.specs.Reading.{after_request};
 ghost use Rattle.ga_source.specs.declared.fault.Cause.TheVariants.{Memory};
@@ -8,6 +8,8 @@ ghost use Rattle.ga_source.specs.declared.item.Value.TheVariants.{Number};
 ghost use Rattle.ga_source.specs.declared.item.Request.{Request as RequestOf};
 ghost use Rattle.ga_source.specs.Reading.{fits as fits_of, begin_at as begin_of};
 ghost use Rattle.ga_source.specs.Sound.{cells_from};
+ghost use Rattle.ga_source.specs.Groups.{laid_by, groups_of};
+ghost use Rattle.ga_source.specs.kept.Grouping.{IsGathered, IsGrouped, IsPutting};
 ghost use Rattle.ga_source.specs.kept.Packing.{requests_of, IsPlainRequest, ArePlain, AreCellGroups, IsPackedPlain};
 ghost use Rattle.ga_source.specs.kept.Layout.{IsClosed, IsFilling, IsInCell, IsKnown, IsLaidOut, IsPending, IsWalked};
 
@@ -76,6 +78,7 @@ impl Packer {
     /// Ends the cell that is being filled.
     fn close(&mut self) -> Result<(), AllocError>
         ensures closed { OnOk result (IsClosed self.old self.new) }
+        ensures gathered { OnOk result (IsGathered self.old self.new) }
         ensures stays { self.old.filling.items ≡ [] → self.old.broken ≡ None → self.new ≡ self.old }
         ensures cell { OnOk result ((n : ℕ) (cells : List (ℕ × ℕ)) → self.old.filling.items ≡ Item.Cell (Number n) ∷ [] → self.old.broken ≡ None →
             AreCellGroups cells self.old.groups.items → AreCellGroups (cells ++ (self.old.spot.at, n) ∷ []) self.new.groups.items) }
@@ -99,6 +102,8 @@ impl Packer {
         ensures stays { fits_of self.old.labels.items self.old.spot item ≡ true → self.new ≡ self.old }
         ensures pending { OnOk result ((before : List Asked) (line : ℕ) → IsKnown self.old.labels.items item → IsWalked self.old before →
             IsPending self.new (before ++ record { line = line; request = Request.Put item } ∷ []) item) }
+        ensures putting { OnOk result ((before : List Asked) (line : ℕ) → IsKnown self.old.labels.items item → IsWalked self.old before → IsGrouped self.old before →
+            IsPutting self.new (before ++ record { line = line; request = Request.Put item } ∷ []) item line) }
     {
         if fits(self.labels.as_slice(), self.spot, item) {
             return Ok(());
@@ -114,6 +119,7 @@ impl Packer {
         requires { IsInCell self.old }
         ensures cell { OnOk result (IsInCell self.new) }
         ensures walked { OnOk result ((asked : List Asked) → IsPending self.old asked item → IsWalked self.new asked) }
+        ensures grouped { OnOk result ((asked : List Asked) → IsPutting self.old asked item line → IsGrouped self.new asked) }
         ensures packed { OnOk result ((n : ℕ) (requests : List RequestOf) → item ≡ Item.Cell (Number n) → IsPackedPlain self.old requests →
             IsPackedPlain self.new (requests ++ Request.Put item ∷ [])) }
     {
@@ -147,6 +153,7 @@ impl Packer {
         requires put { asked.request ≡ Request.Put item }
         ensures cell { OnOk result (IsInCell self.new) }
         ensures walked { OnOk result ((before : List Asked) → IsWalked self.old before → IsWalked self.new (before ++ asked ∷ [])) }
+        ensures grouped { OnOk result ((before : List Asked) → IsWalked self.old before → IsGrouped self.old before → IsGrouped self.new (before ++ asked ∷ [])) }
         ensures packed { OnOk result ((n : ℕ) (requests : List RequestOf) → item ≡ Item.Cell (Number n) → IsPackedPlain self.old requests →
             IsPackedPlain self.new (requests ++ Request.Put item ∷ [])) }
         ensures refused { IfErr result (λ fault. (n : ℕ) → item ≡ Item.Cell (Number n) → fault.cause ≡ Memory) }
@@ -165,6 +172,7 @@ impl Packer {
         requires unext { asked.request ≡ Request.Unext label }
         ensures cell { OnOk result (IsInCell self.new) }
         ensures walked { OnOk result ((before : List Asked) → IsWalked self.old before → IsWalked self.new (before ++ asked ∷ [])) }
+        ensures grouped { OnOk result ((before : List Asked) → IsWalked self.old before → IsGrouped self.old before → IsGrouped self.new (before ++ asked ∷ [])) }
     {
         let is_loop = self.is_loop(label);
         let broken = broken_by(self.broken, asked.line, is_loop);
@@ -179,6 +187,7 @@ impl Packer {
         requires mark { asked.request ≡ Request.Mark label }
         ensures cell { OnOk result (IsInCell self.new) }
         ensures walked { OnOk result ((before : List Asked) → IsWalked self.old before → IsWalked self.new (before ++ asked ∷ [])) }
+        ensures grouped { OnOk result ((before : List Asked) → IsWalked self.old before → IsGrouped self.old before → IsGrouped self.new (before ++ asked ∷ [])) }
     {
         self.close()?;
         let next = next_cell(self.spot);
@@ -201,6 +210,7 @@ impl Packer {
         requires after { after_request self.old.labels.items self.old.spot asked.request ≡ spot }
         ensures cell { OnOk result (IsInCell self.new) }
         ensures walked { OnOk result ((before : List Asked) → IsWalked self.old before → IsWalked self.new (before ++ asked ∷ [])) }
+        ensures grouped { OnOk result ((before : List Asked) → IsWalked self.old before → IsGrouped self.old before → IsGrouped self.new (before ++ asked ∷ [])) }
         ensures packed { OnOk result ((address : ℕ) (requests : List RequestOf) → spot ≡ begin_of address → IsPackedPlain self.old requests →
             IsPackedPlain self.new (requests ++ Request.Go address ∷ [])) }
         ensures refused { IfErr result (λ fault. fault.cause ≡ Memory) }
@@ -214,6 +224,7 @@ impl Packer {
         requires { IsInCell self.old }
         ensures cell { OnOk result (IsInCell self.new) }
         ensures walked { OnOk result ((before : List Asked) → IsWalked self.old before → IsWalked self.new (before ++ asked ∷ [])) }
+        ensures grouped { OnOk result ((before : List Asked) → IsWalked self.old before → IsGrouped self.old before → IsGrouped self.new (before ++ asked ∷ [])) }
         ensures packed { OnOk result ((requests : List RequestOf) → IsPlainRequest asked.request → IsPackedPlain self.old requests →
             IsPackedPlain self.new (requests ++ asked.request ∷ [])) }
         ensures refused { IfErr result (λ fault. IsPlainRequest asked.request → fault.cause ≡ Memory) }
@@ -233,6 +244,7 @@ impl Packer {
 /// Packs requests, which name so many labels.
 pub(crate) fn pack(alloc: Global, asked: &[Asked], labels: usize) -> Result<Packed, Fault<'static>>
     ensures laid_out { IfOk result (λ packed. IsLaidOut packed asked.now) }
+    ensures groups { IfOk result (λ packed. map laid_by packed.groups.items ≡ groups_of packed.labels.items asked.now) }
     ensures cells { IfOk result (λ packed. ArePlain (requests_of asked.now) → AreCellGroups (cells_from 0 (requests_of asked.now)) packed.groups.items) }
     ensures refused { IfErr result (λ fault. ArePlain (requests_of asked.now) → fault.cause ≡ Memory) }
 {

@@ -9,6 +9,7 @@ ghost use Rattle.ga_source.specs.Cells.{IsEmptyElsewhere};
 ghost use Rattle.ga_grid.specs.Grid.{number_in};
 ghost use Rattle.ga_source.specs.Plain.{Plain, is_node as is_node_word, body_in, bodies_in, yxx_in, plain_of, value_in, asked_by, AreRead};
 ghost use Rattle.ga_source.specs.Asks.{said_body, said_bodies, AsksFor, AreAsked};
+ghost use Rattle.ga_source.specs.Groups.{HasGroups};
 ghost use Rattle.ga_source.specs.kept.Telling.{all_said};
 ghost use Rattle.ga_source.specs.Saying.{Said};
 ghost use Rattle.ga_source.specs.Made.{IsMade};
@@ -176,6 +177,7 @@ fn assemble_node<'s>(
     ensures node { IfOk result (λ program. program.node ≡ id) }
     ensures loaded { IfOk result (λ program. HasProgram node.old node.new program) }
     ensures asked { IfOk result (AsksFor line (all_said tokens.now)) }
+    ensures groups { IfOk result HasGroups }
     ensures asks { IfOk result (λ program. (plain : Plain) → plain_of (texts_of tokens.now) ≡ Some plain → asked_by program.asked.items program.registers ≡ plain) }
     ensures names { IfOk result (λ program. (plain : Plain) → plain_of (texts_of tokens.now) ≡ Some plain → program.names.items ≡ []) }
     ensures refused { IfErr result (λ fault. (plain : Plain) → All (λ token. token.kind ≡ Word) tokens.now → plain_of (texts_of tokens.now) ≡ Some plain →
@@ -223,6 +225,7 @@ fn assemble_first<'s>(
     requires loaded { AreLoaded chip.old begun.old programs.old.items }
     ensures count { IfOk result (λ count. (0 < count) × (count ≤ length words.now)) }
     ensures loaded { OnOk result (AreLoaded chip.new begun.new programs.new.items) }
+    ensures groups { OnOk result (All HasGroups programs.old.items → All HasGroups programs.new.items) }
     ensures read { (all : List (List (List ℕ))) → AreOfFirst all programs.old.items (bodies_in (texts_of words.now)) →
         IfOk result (λ count. AreOfFirst all programs.new.items (bodies_in (texts_of (drop count words.now)))) }
     ensures asked { (all : List (List Said)) → AreAskedFirst all programs.old.items (said_bodies (all_said words.now)) →
@@ -264,6 +267,9 @@ pub fn assemble(alloc: Global, source: &[u8]) -> Result<Assembled<'_>, Fault<'_>
     // Each program is that of the words behind a `node`, in order, and asks for just what these ask for: the requests with their lines,
     // the labels and the registers.
     ensures asked { IfOk result (λ all. AreAsked source.now all.programs.items) }
+
+    // Its groups are the cells that these requests make, in order: each has just their items, each item with its request's line.
+    ensures groups { IfOk result (λ all. All HasGroups all.programs.items) }
 
     // So it asks for what they ask for as plain words, where they are.
     ensures read { IfOk result (λ all. AreRead source.now all.programs.items) }

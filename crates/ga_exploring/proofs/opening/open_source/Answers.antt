@@ -12,6 +12,7 @@ returns-in-Ok-new g c = record {
   assembled = c.in-Ok.ensures.programs;
   read = c.in-Ok.ensures.read;
   asked = c.in-Ok.ensures.asked;
+  groups = c.in-Ok.ensures.groups;
   made = c.in-Ok.ensures.made;
   load = ap (λ (begun : Exploring). begun.lab) c.of.ensures ∙ c.in-Ok-new.ensures.ok;
   noted = ap (λ (begun : Exploring). begun.notes) c.of.ensures;

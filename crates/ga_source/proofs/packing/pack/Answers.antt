@@ -2,14 +2,16 @@ use Rattle.std.proofs.Common.{rules, ◌≡◌, List, arith, ◌<◌, length, ta
 use Rattle.std.specs.Prelude.{Err}
 use Rattle.std.proofs.lemmas.List.{take_all, take_more, map-append}
 use Rattle.ga_source.specs.kept.Layout.{IsWalked}
+use Rattle.ga_source.specs.kept.Grouping.{IsGrouped}
 use Rattle.ga_source.specs.declared.item.Asked.{Asked}
 use Rattle.ga_source.specs.kept.Packing.{requests_of, IsPackedPlain}
 use Rattle.ga_source.proofs.CellGroups.{none_packed, one_plain}
 use Rattle.ga_source.proofs.Marking.{walked_none, laid_out}
+use Rattle.ga_source.proofs.Grouped.{grouped_none, grouped}
 use Rattle.ga_source.proofs.packing.pack.Goals as goal
 
 pub loop-one-init : goal.loop-one-init
-loop-one-init c = record { cell = record { slot = search rules; size = search rules }; walked = walked_none _ (search rules) (search rules) (search rules); packed = λ plain. none_packed _ c.new-2.ensures refl c.begin_at.ensures c.new.ensures.items }
+loop-one-init c = record { cell = record { slot = search rules; size = search rules }; walked = walked_none _ (search rules) (search rules) (search rules); grouped = grouped_none _ (search rules) (search rules) (search rules) refl; packed = λ plain. none_packed _ c.new-2.ensures refl c.begin_at.ensures c.new.ensures.items }
 
 pub loop-one-preserved : goal.loop-one-preserved
 loop-one-preserved c =
@@ -17,6 +19,7 @@ loop-one-preserved c =
     record {
       cell = c.in_ok-take.ensures.cell;
       walked = subst (IsWalked c.take.new.self) (sym (take_more c.args.asked.now c.loop-one.one-index _ l)) (c.in_ok-take.ensures.walked (take c.loop-one.one-index c.args.asked.now) c.loop-one.invariant.walked);
+      grouped = subst (IsGrouped c.take.new.self) (sym (take_more c.args.asked.now c.loop-one.one-index _ l)) (c.in_ok-take.ensures.grouped (take c.loop-one.one-index c.args.asked.now) c.loop-one.invariant.walked c.loop-one.invariant.grouped);
       packed = λ plain.
           subst (λ (list : List Asked). IsPackedPlain c.take.new.self (requests_of list)) (sym (take_more c.args.asked.now c.loop-one.one-index _ l))
           (subst (IsPackedPlain c.take.new.self) (sym (map-append (λ one. one.request) (take c.loop-one.one-index c.args.asked.now) _))
@@ -32,3 +35,8 @@ pub returns-in_err-take-clause-refused : goal.returns-in_err-take-clause-refused
 returns-in_err-take-clause-refused c =
     let e : c.from_residual-in_err-take.result ≡ Err c.in_err-take.field-0.0 = search rules in
     rw e (λ plain. c.in_err-take.ensures.refused (one_plain c.args.asked.now c.loop-one.one-index _ c.loop-one-test.true plain))
+
+pub returns-clause-groups : goal.returns-clause-groups
+returns-clause-groups c =
+    let all = subst (IsGrouped c.loop-one.packer) (take_all c.loop-one.one-index c.args.asked.now (omega arith)) c.loop-one.invariant.grouped in
+    grouped c.loop-one.packer c.close.new.self c.args.asked.now all c.in_ok-close.ensures.closed c.in_ok-close.ensures.gathered

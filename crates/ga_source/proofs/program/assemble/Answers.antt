@@ -12,6 +12,7 @@ pub loop-start-init : goal.loop-start-init
 loop-start-init c = record {
   size = c.none_begun-begun.ensures.size;
   loaded = search rules;
+  groups = search rules;
   read = none_read c.args.source.now c.in_ok-tokens.tokens.items c.as_slice-words.result.now c.new-programs.result.items
       c.in_ok-tokens.ensures c.as_slice-words.ensures.value c.new-programs.ensures.items;
   asked = none_asked c.args.source.now c.in_ok-tokens.tokens.items c.as_slice-words.result.now c.new-programs.result.items

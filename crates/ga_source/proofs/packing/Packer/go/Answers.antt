@@ -1,5 +1,6 @@
 use Rattle.ga_source.proofs.CellGroups.{gone_packed}
 use Rattle.ga_source.proofs.Marking.{gone}
+use Rattle.ga_source.proofs.Grouped.{passed_on}
 use Rattle.ga_source.proofs.packing.Packer.go.Goals as goal
 
 pub returns-clause-walked : goal.returns-clause-walked
@@ -8,3 +9,6 @@ returns-clause-walked c = λ before w. gone c.args.self.now c.close.new.self c.a
 pub returns-clause-packed : goal.returns-clause-packed
 returns-clause-packed c = λ address requests is w.
     gone_packed c.args.self.now c.close.new.self c.args.spot address requests is w (c.close.ensures.stays w.filling w.whole)
+
+pub returns-clause-grouped : goal.returns-clause-grouped
+returns-clause-grouped c = λ before w g. passed_on c.args.self.now c.close.new.self c.args.spot before c.args.asked c.requires.fills g c.in_ok-close.ensures.closed c.in_ok-close.ensures.gathered
