@@ -6,6 +6,7 @@ use Rattle.ga_source.specs.declared.scan.Token.{Token}
 use Rattle.ga_source.specs.kept.Hearing.{texts_of}
 use Rattle.std.specs.Prelude.{codes, map}
 use Rattle.std.proofs.lemmas.Bool.{cases_Bool}
+use Rattle.ga_grid.specs.Names.{node_number}
 use Rattle.ga_source.specs.Plain.{Plain, is_node, body_in, bodies_in, yxx_in, plain_of, asked_by, words_in, IsOf, AreOf, AreRead}
 use Rattle.ga_source.specs.Saying.{said_in}
 use Rattle.ga_source.specs.kept.Telling.{all_said}
@@ -105,6 +106,7 @@ drop_twice (a ∷ b ∷ list) count = let same : suc (suc count) ≡ count + 2 =
 
 -- a node's name is no `node`
 pub name_is_other : (name : List ℕ) (n : ℕ) → yxx_in name ≡ Some n → is_node name ≡ false
+unfolding node_number
 name_is_other name n is = elim (cases_Bool (is_node name)) [
   | inl node ↦ absurd (no_number (ap yxx_in (sym (same_text name (codes "node") node)) ∙ is))
   | inr other ↦ other

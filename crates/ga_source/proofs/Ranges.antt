@@ -1,7 +1,7 @@
 -- The numbers that words say are below 2^18.
 use Rattle.std.specs.Prelude.{codes, bytes_eq, if◌then◌else◌, bit_xor, ◌==◌}
 use Rattle.std.specs.Option.{option_map_or, option_or}
-use Rattle.std.proofs.Common.{◌≡◌, ℕ, ◌+◌, ◌<◌, ◌≤◌, inl, inr, Bool, true, false, List, drop, [], ◌∷◌, Option, Some, None, ltb, leb, subst, arith}
+use Rattle.std.proofs.Common.{◌≡◌, ℕ, ◌+◌, ◌*◌, ◌<◌, ◌≤◌, inl, inr, Bool, true, false, List, drop, [], ◌∷◌, Option, Some, None, ltb, leb, subst, arith}
 use Rattle.std.proofs.Math.Nat.{mod-lt}
 use Rattle.std.proofs.lemmas.Bool.{cases_Bool, ltb-true}
 use Rattle.std.proofs.lemmas.Nat.{xor_lt}

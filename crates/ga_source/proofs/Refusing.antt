@@ -8,6 +8,7 @@ use Rattle.ga_source.specs.declared.scan.Kind.{Kind}
 use Rattle.ga_source.specs.declared.scan.Kind.TheVariants.{Word, LongLine, OpenComment}
 use Rattle.ga_source.specs.declared.scan.Token.{Token}
 use Rattle.ga_source.specs.Saying.{is_word, is_word_kind, said_in}
+use Rattle.ga_grid.specs.Names.{node_number}
 use Rattle.ga_source.specs.Plain.{Plain, is_node, body_in, bodies_in, yxx_in, words_in, plain_of}
 use Rattle.ga_source.specs.Sound.{cells_from, AreFree, IsSoundBody, IsSound}
 use Rattle.ga_source.specs.kept.Telling.{all_said}
@@ -19,6 +20,7 @@ use Rattle.ga_source.proofs.Bodies.{no_number, drop_twice, words_told}
 
 -- no words name a node
 no_body : IsSoundBody [] → ⊥
+unfolding node_number
 no_body sound = no_number sound.node
 
 abbrev has_words : List (List ℕ) → Type 0

@@ -142,5 +142,9 @@ fn ports(text: &[u8]) -> Option<u32>
     ensures { result ≡ set_in text.now }
 {
     let set = set_number(text)?;
-    if set == 0 { None } else { Some(0x155 ^ (16 * set)) }
+    if set == 0 {
+        None
+    } else {
+        Some(0x155 ^ (16 * set))
+    }
 }
