@@ -1,5 +1,5 @@
 use crate::same::{holds, same, there};
-use ga_grid::{Chip, NodeId, neighbour};
+use ga_grid::{Chip, NodeId, decimal_digit, neighbour, node_number};
 use ga_node::{Place, Wait};
 use ga_ports::Side;
 use std::test::Fail;
@@ -14,6 +14,17 @@ fn names(rt: HostRuntime) -> Result<(), Fail> {
     for yxx in [18, 99, 118, 718, 800, 4294967295] {
         holds(&rt, NodeId::from_yxx(yxx).is_none());
     }
+    Ok(())
+}
+
+#[test]
+fn names_as_texts(rt: HostRuntime) -> Result<(), Fail> {
+    same(&rt, there(node_number(b"017"))?, 17);
+    same(&rt, there(node_number(b"999"))?, 999);
+    holds(&rt, node_number(b"17").is_none());
+    holds(&rt, node_number(b"01:").is_none());
+    same(&rt, there(decimal_digit(b'9'))?, 9);
+    holds(&rt, decimal_digit(b'/').is_none());
     Ok(())
 }
 

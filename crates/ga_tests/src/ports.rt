@@ -1,5 +1,5 @@
 use crate::same::{holds, same, there};
-use ga_ports::{PortSet, Side, Target, advance_a, advance_p, classify, matches};
+use ga_ports::{PortSet, Side, Target, advance_a, advance_p, classify, matches, set_number};
 use ga_word::Word18;
 use std::test::Fail;
 
@@ -17,6 +17,16 @@ fn advances(rt: HostRuntime) -> Result<(), Fail> {
         let a = there(Word18::new(a))?;
         same(&rt, advance_a(a).get(), next);
     }
+    Ok(())
+}
+
+#[test]
+fn sets_as_texts(rt: HostRuntime) -> Result<(), Fail> {
+    same(&rt, there(set_number(b"rdlu"))?, 15);
+    same(&rt, there(set_number(b"-d-u"))?, 5);
+    same(&rt, there(set_number(b"----"))?, 0);
+    holds(&rt, set_number(b"drlu").is_none());
+    holds(&rt, set_number(b"rdl").is_none());
     Ok(())
 }
 

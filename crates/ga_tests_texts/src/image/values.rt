@@ -5,7 +5,7 @@ ghost use Rattle.ga_node.specs.State.{IsPlace};
 
 use crate::asserts::same;
 use ga_grid::{Chip, NodeId};
-use ga_image::parse;
+use ga_image::{byte_of, parse};
 use ga_node::{Node, Place};
 use ga_word::Word18;
 use std::alloc::{AllocError, Global};
@@ -21,6 +21,15 @@ fn assert_held(rt: &impl Abort, chip: &Chip, yxx: u32, place: Place, value: u32)
         None => None,
     };
     same(rt, &(yxx, place, held), &(yxx, place, Some(value)));
+}
+
+#[test]
+fn bytes_as_texts(rt: HostRuntime) -> Result<(), Fail> {
+    same(&rt, &byte_of(b"3F"), &Some(0x3f));
+    same(&rt, &byte_of(b"aB"), &Some(0xab));
+    same(&rt, &byte_of(b"0g"), &None);
+    same(&rt, &byte_of(b"003"), &None);
+    Ok(())
 }
 
 #[test]
