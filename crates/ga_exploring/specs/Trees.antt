@@ -83,10 +83,12 @@ abbrev pub head_text : Option Notes → State → NodeId → ℕ → Text
 head_text notes s node step = did_text s node step ++ step_tail notes s node step
 
 -- The step asked for is the first row where it made the value. Else it is told before the rows, which stand one level deeper.
+abbrev pub rows_by : Option Notes → State → NodeId → ℕ → Bool → List Row → Text
+rows_by notes s node step made rows =
+    if made then flat_map (row_text notes s 0) rows else head_text notes s node step ++ flat_map (row_text notes s 1) rows
+
 abbrev pub rows_text : Option Notes → State → NodeId → ℕ → Value → List Row → Text
-rows_text notes s node step value rows =
-    if (origin_of s value).step == step then flat_map (row_text notes s 0) rows
-    else head_text notes s node step ++ flat_map (row_text notes s 1) rows
+rows_text notes s node step value rows = rows_by notes s node step ((origin_of s value).step == step) rows
 
 -- where these are not all
 abbrev pub more_text : Bool → Text

@@ -1,3 +1,4 @@
-pub mod Saved
-pub mod Opening
 pub mod Exploring
+pub mod Opening
+pub mod Saved
+pub mod Trees

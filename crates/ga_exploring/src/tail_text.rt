@@ -12,7 +12,7 @@ use ga_flow::Part;
 use ga_grid::NodeId;
 use ga_lab::{Lab, Walk};
 use ga_notes::Notes;
-use ga_whence::{Value, fetched_behind, fetched_cell};
+use ga_whence::{Value, fetched_behind, fetched_near};
 use std::io::Write;
 
 /// What the source says of a cell.
@@ -36,12 +36,21 @@ fn part_cell(part: Part) -> Option<u8>
     }
 }
 
-/// The cell from which the instruction word of a step was fetched, where the source says something of cells.
-fn step_cell(lab: &Lab, notes: &Option<Notes>, node: NodeId, step: u32) -> Option<u8>
+/// The cell from which the instruction word of a step was fetched, where the source says something of cells: found from where a walk
+/// of some node stands.
+fn step_cell(
+    lab: &Lab,
+    notes: &Option<Notes>,
+    near: &Walk<'_>,
+    at: NodeId,
+    node: NodeId,
+    step: u32,
+) -> Option<u8>
+    requires { near.now ≡ standing lab.now at near.now.step }
     ensures { noted_text notes.now node result ≡ noted_text notes.now node (cell_fetched lab.now node step) }
 {
     match notes {
-        Some(_) => fetched_cell(lab, node, step),
+        Some(_) => fetched_near(lab, near, at, node, step),
         None => None,
     }
 }
@@ -72,22 +81,22 @@ fn say_tail<W: Write>(
     output.say(writer, b"\n")
 }
 
-/// Ends a line that tells of a step.
-///
-/// # Errors
-/// A write failed.
-pub(crate) fn say_step_tail<W: Write>(
+/// Ends a line that tells of a step, by where a walk of some node stands.
+fn say_step_tail<W: Write>(
     lab: &Lab,
     notes: &Option<Notes>,
+    near: &Walk<'_>,
+    at: NodeId,
     node: NodeId,
     step: u32,
     output: &mut Output,
     writer: &mut W,
 ) -> Result<(), WriteFailed>
+    requires { near.now ≡ standing lab.now at near.now.step }
     ensures { (before said : Bytes) → IsSaid (W.contents writer.old) before said output.old →
         IsSaidOrCut result (W.contents writer.new) before (said ++ step_tail notes.now lab.now node step) output.new }
 {
-    let cell = step_cell(lab, notes, node, step);
+    let cell = step_cell(lab, notes, near, at, node, step);
     say_tail(notes, node, cell, output, writer)
 }
 
@@ -111,23 +120,27 @@ pub(crate) fn say_walk_tail<W: Write>(
     say_tail(notes, node, cell, output, writer)
 }
 
-/// Ends a line that tells of a value: of the step that made it, or of the cell where it was loaded.
+/// Ends a line that tells of a value: of the step that made it, or of the cell where it was loaded; by where a walk of some node
+/// stands.
 ///
 /// # Errors
 /// A write failed.
 pub(crate) fn say_value_tail<W: Write>(
     lab: &Lab,
     notes: &Option<Notes>,
+    near: &Walk<'_>,
+    at: NodeId,
     value: Value,
     output: &mut Output,
     writer: &mut W,
 ) -> Result<(), WriteFailed>
+    requires { near.now ≡ standing lab.now at near.now.step }
     ensures { (before said : Bytes) → IsSaid (W.contents writer.old) before said output.old →
         IsSaidOrCut result (W.contents writer.new) before (said ++ value_tail notes.now lab.now value) output.new }
 {
     if value.step == 0 {
         say_tail(notes, value.node, part_cell(value.part), output, writer)
     } else {
-        say_step_tail(lab, notes, value.node, value.step, output, writer)
+        say_step_tail(lab, notes, near, at, value.node, value.step, output, writer)
     }
 }

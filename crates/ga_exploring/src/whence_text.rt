@@ -4,21 +4,22 @@ ghost use Rattle.std.specs.Prelude.{◌≡◌, ◌≤◌, ◌<◌, ◌+◌, ◌+
 ghost use Rattle.ga_image.specs.Lines.{Bytes};
 ghost use Rattle.arrayvec.specs.ArrayVec.{array_vec_len};
 ghost use Rattle.ga_flow.specs.Flow.{IsPart};
-ghost use Rattle.ga_lab.specs.Machine.{stands};
+ghost use Rattle.ga_lab.specs.Machine.{stands, standing};
 ghost use Rattle.ga_event.specs.Told.{steps_of};
 ghost use Rattle.ga_console.specs.Output.{IsSaid, IsSaidOrCut};
 ghost use Rattle.ga_console.specs.kept.Output.{Says};
-ghost use Rattle.ga_exploring.specs.Trees.{blanks, row_text, rows_text, value_text, did_text, head_text, more_text, TellsAsked, TellsWhence};
+ghost use Rattle.ga_exploring.specs.Trees.{blanks, row_text, rows_by, value_text, did_text, head_text, more_text, TellsAsked, TellsWhence};
+ghost use Rattle.ga_exploring.specs.kept.Trees.{is_first};
 
 use crate::deed_text::{DEED_ROOM, push_deed};
 use crate::part_text::{push_mark, push_part};
-use crate::tail_text::{say_step_tail, say_value_tail};
+use crate::tail_text::{say_value_tail, say_walk_tail};
 use arrayvec::ArrayVec;
 use ga_console::{Output, STEP_ROOM, Text, WriteFailed, push_node, push_step, push_text, refusal};
 use ga_grid::NodeId;
-use ga_lab::{Lab, LabFault};
+use ga_lab::{Lab, LabFault, Walk};
 use ga_notes::Notes;
-use ga_whence::{Row, Value, asked_of, origin_of, whence};
+use ga_whence::{Row, Value, asked_behind, whence_near};
 use std::alloc::Global;
 use std::io::Write;
 
@@ -28,7 +29,8 @@ const MOST_ROWS: u32 = 100;
 /// The most bytes of a step with what it did.
 const DID_ROOM: usize = STEP_ROOM + 1 + DEED_ROOM;
 
-/// `whence NNN K`: tells the steps whose values went into what a step made, as a tree.
+/// `whence NNN K`: tells the steps whose values went into what a step made, as a tree. The node is walked back to the step once, and
+/// what is told of it is found from there.
 ///
 /// # Errors
 /// A write failed.
@@ -47,42 +49,35 @@ pub(crate) fn say_whence<W: Write>(
     if !lab.stands((node, step)) {
         return output.say(writer, refusal(LabFault::NoStep));
     }
-    match asked_of(lab, node, step) {
-        Some(value) => say_asked(alloc, lab, notes, node, step, value, output, writer),
-        None => say_head(lab, notes, node, step, output, writer),
+    let near = lab.walk(node, step);
+    match asked_behind(lab, &near, node) {
+        Some(value) => say_asked(alloc, lab, notes, &near, node, value, output, writer),
+        None => say_head(lab, notes, &near, node, output, writer),
     }
 }
 
-/// Says the tree of a value, which is asked for where this step is named.
+/// Says the tree of a value, which is asked for where the step is named to which its node is walked back.
 fn say_asked<W: Write>(
     alloc: Global,
     lab: &Lab,
     notes: &Option<Notes>,
+    near: &Walk<'_>,
     node: NodeId,
-    step: u32,
     value: Value,
     output: &mut Output,
     writer: &mut W,
 ) -> Result<(), WriteFailed>
-    requires { IsPart value.part }
-    ensures { Says result (λ text. TellsAsked notes.now lab.now node step (Some value) text)
+    requires part { IsPart value.part }
+    requires near { near.now ≡ standing lab.now node near.now.step }
+    ensures { Says result (λ text. TellsAsked notes.now lab.now node near.now.step (Some value) text)
         (W.contents writer.old) output.old (W.contents writer.new) output.new }
 {
-    match whence(alloc, lab, value, MOST_ROWS) {
+    match whence_near(alloc, lab, near, node, value, MOST_ROWS) {
         Ok(listing) => {
-            say_rows(
-                lab,
-                notes,
-                node,
-                step,
-                value,
-                listing.rows.as_slice(),
-                output,
-                writer,
-            )?;
+            let rows = listing.rows.as_slice();
+            say_rows(lab, notes, near, node, rows, output, writer)?;
             output.say_blocks(writer, more(listing.is_whole))
         }
-        // The step stands, so it is memory that is wanting.
         Err(_) => output.say(writer, refusal(LabFault::Memory)),
     }
 }
@@ -94,58 +89,72 @@ fn more(is_whole: bool) -> &'static [u8]
     if is_whole { b"" } else { b"more\n" }
 }
 
-/// Says the rows of the value, behind the step asked for where this didn't make it.
+/// Whether the first of some rows is of this step.
+fn is_first(step: u32, rows: &[Row]) -> bool
+    ensures { result ≡ is_first step rows.now }
+{
+    match rows {
+        [first, ..] => first.value.step == step,
+        [] => false,
+    }
+}
+
+/// Says the rows, behind the step asked for where this isn't the first of them.
 fn say_rows<W: Write>(
     lab: &Lab,
     notes: &Option<Notes>,
+    near: &Walk<'_>,
     node: NodeId,
-    step: u32,
-    value: Value,
     rows: &[Row],
     output: &mut Output,
     writer: &mut W,
 ) -> Result<(), WriteFailed>
-    requires { IsPart value.part }
-    ensures { Says result (λ text. text ≡ rows_text notes.now lab.now node step value rows.now)
+    requires { near.now ≡ standing lab.now node near.now.step }
+    ensures { Says result (λ text. text ≡ rows_by notes.now lab.now node near.now.step (is_first near.now.step rows.now) rows.now)
         (W.contents writer.old) output.old (W.contents writer.new) output.new }
 {
-    if origin_of(lab, value).step == step {
-        return say_lines(lab, notes, 0, rows, output, writer);
+    if is_first(near.step(), rows) {
+        return say_lines(lab, notes, near, node, 0, rows, output, writer);
     }
-    say_head(lab, notes, node, step, output, writer)?;
-    say_lines(lab, notes, 1, rows, output, writer)
+    say_head(lab, notes, near, node, output, writer)?;
+    say_lines(lab, notes, near, node, 1, rows, output, writer)
 }
 
-/// Says the step asked for.
+/// Says the step asked for, to which its node is walked back.
 fn say_head<W: Write>(
     lab: &Lab,
     notes: &Option<Notes>,
+    near: &Walk<'_>,
     node: NodeId,
-    step: u32,
     output: &mut Output,
     writer: &mut W,
 ) -> Result<(), WriteFailed>
-    ensures { Says result (λ text. text ≡ head_text notes.now lab.now node step)
+    requires { near.now ≡ standing lab.now node near.now.step }
+    ensures { Says result (λ text. text ≡ head_text notes.now lab.now node near.now.step)
         (W.contents writer.old) output.old (W.contents writer.new) output.new }
 {
-    output.say_blocks(writer, head_line(lab, node, step).as_slice())?;
-    say_step_tail(lab, notes, node, step, output, writer)
+    output.say_blocks(writer, head_line(lab, node, near.step()).as_slice())?;
+    let mut walk = near.copy();
+    say_walk_tail(lab, notes, node, &mut walk, output, writer)
 }
 
-/// Says the lines of some rows, each so much deeper.
+/// Says the lines of some rows, each so much deeper, by where a walk of some node stands.
 fn say_lines<W: Write>(
     lab: &Lab,
     notes: &Option<Notes>,
+    near: &Walk<'_>,
+    at: NodeId,
     deeper: u8,
     rows: &[Row],
     output: &mut Output,
     writer: &mut W,
 ) -> Result<(), WriteFailed>
+    requires { near.now ≡ standing lab.now at near.now.step }
     ensures { Says result (λ text. text ≡ flat_map (row_text notes.now lab.now deeper) rows.now)
         (W.contents writer.old) output.old (W.contents writer.new) output.new }
 {
     'rows: for row in rows {
-        say_row(lab, notes, deeper, *row, output, writer)?;
+        say_row(lab, notes, near, at, deeper, *row, output, writer)?;
     }
     Ok(())
 }
@@ -154,17 +163,20 @@ fn say_lines<W: Write>(
 fn say_row<W: Write>(
     lab: &Lab,
     notes: &Option<Notes>,
+    near: &Walk<'_>,
+    at: NodeId,
     deeper: u8,
     row: Row,
     output: &mut Output,
     writer: &mut W,
 ) -> Result<(), WriteFailed>
+    requires { near.now ≡ standing lab.now at near.now.step }
     ensures { (before said : Bytes) → IsSaid (W.contents writer.old) before said output.old →
         IsSaidOrCut result (W.contents writer.new) before (said ++ row_text notes.now lab.now deeper row) output.new }
 {
     say_blanks(u64::from(row.depth) + u64::from(deeper), output, writer)?;
     output.say_blocks(writer, value_line(lab, row.value).as_slice())?;
-    say_value_tail(lab, notes, row.value, output, writer)
+    say_value_tail(lab, notes, near, at, row.value, output, writer)
 }
 
 /// Says two blanks for each level.

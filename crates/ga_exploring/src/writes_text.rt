@@ -1,9 +1,7 @@
 //! The steps that wrote a cell, told line by line.
 
-ghost use Rattle.std.specs.Prelude.{◌≡◌, ◌<◌, ◌++◌, Some};
-ghost use Rattle.ga_image.specs.Lines.{Bytes};
+ghost use Rattle.std.specs.Prelude.{◌≡◌, ◌<◌, Some};
 ghost use Rattle.ga_event.specs.Told.{steps_of};
-ghost use Rattle.ga_console.specs.Output.{IsSaid, IsSaidOrCut};
 ghost use Rattle.ga_console.specs.kept.Output.{Says};
 ghost use Rattle.ga_exploring.specs.Writing.{written_text, cell_writes, writes_text};
 
@@ -12,7 +10,7 @@ use arrayvec::ArrayVec;
 use ga_console::{Output, Text, WriteFailed, push_spaced, push_step, push_text};
 use ga_grid::NodeId;
 use ga_lab::Lab;
-use ga_whence::{Written, back_over};
+use ga_whence::{Written, back_to_write};
 use std::io::Write;
 
 /// `writes NNN HH`: tells the steps of a node that wrote at an address of its memory, the newest first. Takes no memory.
@@ -49,27 +47,10 @@ fn say_cell<W: Write>(
         (W.contents writer.old) output.old (W.contents writer.new) output.new }
 {
     let mut walk = lab.walk(node, lab.steps(node));
-    'going: while walk.step() > 0 {
-        let written = back_over(lab, &mut walk, node, cell);
-        say_written(node, written, output, writer)?;
+    'going: while let Some(written) = back_to_write(lab, &mut walk, node, cell) {
+        output.say_blocks(writer, written_line(node, written).as_slice())?;
     }
     Ok(())
-}
-
-/// Says a step, where it wrote.
-fn say_written<W: Write>(
-    node: NodeId,
-    written: Option<Written>,
-    output: &mut Output,
-    writer: &mut W,
-) -> Result<(), WriteFailed>
-    ensures { (before said : Bytes) → IsSaid (W.contents writer.old) before said output.old →
-        IsSaidOrCut result (W.contents writer.new) before (said ++ written_text node written) output.new }
-{
-    match written {
-        Some(written) => output.say_blocks(writer, written_line(node, written).as_slice()),
-        None => Ok(()),
-    }
 }
 
 /// A step that wrote: its number, the opcode's name, and the word.

@@ -4,6 +4,9 @@ pub mod Telling
 pub mod Causes
 pub mod Walking
 pub mod Closed
+pub mod First
 pub mod Stored
 pub mod Asking
+pub mod Ran
 pub mod Keeping
+pub mod Newest

@@ -1,6 +1,6 @@
 -- The steps of a node that wrote a cell of its RAM (F18A Technology Reference DB001, opcodes; Flow.antt of ga_flow says of each where
 -- the word comes from that then stands there).
-use Rattle.std.specs.Prelude.{ℕ, ◌+◌, Bool, true, not, if◌then◌else◌, Option, None, option_map, slice_index}
+use Rattle.std.specs.Prelude.{ℕ, zero, suc, ◌+◌, Bool, true, not, if◌then◌else◌, Option, Some, None, option_map, slice_index}
 use Rattle.std.specs.List.{slice_get}
 use Rattle.ga_event.specs.declared.made.Made.{Made}
 use Rattle.ga_lab.specs.Machine.{State, history_of}
@@ -23,3 +23,13 @@ written_at s n cell k =
     if is_written (flow_at s n k (part.Ram cell))
     then option_map (written (k + 1) (slice_index (node_after s n (k + 1)).ram cell)) (slice_get (history_of s n) k)
     else None
+
+-- what the first names, or else the second
+abbrev pub either : Option Written → Option Written → Option Written
+either (Some written) other = Some written
+either None other = other
+
+-- the newest of so many steps of a node that wrote the cell
+abbrev pub newest_written : State → ℕ → ℕ → ℕ → Option Written
+newest_written s n cell zero = None
+newest_written s n cell (suc k) = either (written_at s n cell k) (newest_written s n cell k)

@@ -4,6 +4,7 @@ ghost use Rattle.std.specs.Prelude.{◌≡◌, ◌≤◌, ◌<◌, ◌+◌, ◌^
 ghost use Rattle.ga_ports.specs.Address.{classified, IsTarget};
 ghost use Rattle.ga_node.specs.Record.{record_of};
 ghost use Rattle.ga_node.specs.Table.{due_of};
+ghost use Rattle.ga_lab.specs.Machine.{standing};
 ghost use Rattle.ga_flow.specs.Flow.{IsPart};
 ghost use Rattle.ga_whence.specs.Asked.{read_asked, write_asked, op_asked, due_asked, take_asked, told_asked, value_asked, asked_of};
 ghost use Rattle.ga_whence.specs.kept.Open.{IsAsked};
@@ -12,7 +13,7 @@ use crate::value::Value;
 use ga_event::Made;
 use ga_flow::{Part, due_in};
 use ga_grid::NodeId;
-use ga_lab::Lab;
+use ga_lab::{Lab, Walk};
 use ga_node::{Due, Node, Place, Wait};
 use ga_ports::{Target, classify};
 use ga_slots::Op;
@@ -188,7 +189,23 @@ pub fn asked_of(lab: &Lab, node: NodeId, step: u32) -> Option<Value>
     if place >= lab.steps(node) {
         return None;
     }
+    let near = lab.walk(node, step);
+    asked_behind(lab, &near, node)
+}
+
+/// The same of the step to which a node is walked back; the walk isn't walked on. Takes as long whatever is kept.
+pub fn asked_behind(lab: &Lab, walk: &Walk<'_>, node: NodeId) -> Option<Value>
+    requires { walk.now ≡ standing lab.now node walk.now.step }
+    ensures value { result ≡ asked_of lab.now node walk.now.step }
+    ensures part { IfSome result (λ value. IsPart value.part) }
+{
+    let step = walk.step();
+    if step == 0 {
+        return None;
+    }
+    let place = step - 1;
     let made = lab.told(node, place)?;
-    let walk = lab.walk(node, place);
-    value_of(node, place, asked_of_told(&made, walk.node(), node))
+    let mut before = walk.copy();
+    before.back();
+    value_of(node, place, asked_of_told(&made, before.node(), node))
 }

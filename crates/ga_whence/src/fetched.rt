@@ -6,7 +6,7 @@ ghost use Rattle.ga_node.specs.Record.{record_of};
 ghost use Rattle.ga_lab.specs.Machine.{standing};
 ghost use Rattle.ga_whence.specs.Fetched.{cell_of, fetched_cell};
 
-use crate::origin::{kept_step, origin_behind};
+use crate::origin::{kept_step, origin_behind, walk_near};
 use crate::value::Value;
 use ga_flow::Part;
 use ga_grid::NodeId;
@@ -27,8 +27,16 @@ fn named_by(node: &Node) -> Option<u8>
 }
 
 /// The cell from which the instruction word was fetched that stood in I behind a step: 0 to 63 of RAM, 128 to 191 of ROM. None
-/// where it was loaded, or came from elsewhere than a memory. Takes time by how many steps the node made since.
-pub fn fetched_cell(lab: &Lab, node: NodeId, step: u32) -> Option<u8>
+/// where it was loaded, or came from elsewhere than a memory. It is found from where a walk of some node stands, which isn't walked
+/// on: takes time by how many steps of the node lie between, or, where the walk is of another node or earlier, were made since.
+pub fn fetched_near<'l>(
+    lab: &'l Lab,
+    near: &Walk<'l>,
+    at: NodeId,
+    node: NodeId,
+    step: u32,
+) -> Option<u8>
+    requires { near.now ≡ standing lab.now at near.now.step }
     ensures { result ≡ fetched_cell lab.now node step }
 {
     let value = Value {
@@ -36,7 +44,7 @@ pub fn fetched_cell(lab: &Lab, node: NodeId, step: u32) -> Option<u8>
         step,
         part: Part::I,
     };
-    let mut walk = lab.walk(node, kept_step(lab, value));
+    let mut walk = walk_near(lab, near, at, node, kept_step(lab, value));
     fetched_behind(lab, &mut walk, node)
 }
 

@@ -9,9 +9,9 @@ mod origin;
 mod value;
 mod writes;
 
-pub use asked::asked_of;
-pub use fetched::{fetched_behind, fetched_cell};
-pub use listing::{Listing, Row, whence};
+pub use asked::{asked_behind, asked_of};
+pub use fetched::{fetched_behind, fetched_near};
+pub use listing::{Listing, Row, whence, whence_near};
 pub use origin::origin_of;
 pub use value::Value;
-pub use writes::{Written, back_over};
+pub use writes::{Written, back_to_write};

@@ -8,7 +8,7 @@ ghost use Rattle.ga_whence.specs.Origins.{value_at};
 ghost use Rattle.ga_whence.specs.Rows.{is_named, row_at, sender_in, sources_by, below, AreRows};
 ghost use Rattle.ga_whence.specs.kept.Open.{IsOpen};
 
-use crate::origin::{flow_behind, kept_step, origin_near};
+use crate::origin::{flow_behind, origin_near};
 use crate::value::Value;
 use arrayvec::ArrayVec;
 use ga_event::Made;
@@ -137,20 +137,32 @@ fn push_below(todo: &mut Vec<Row>, lab: &Lab, before: &Walk<'_>, row: Row) -> Re
     }
 }
 
-// The rows of a value, at most so many.
-fn listed(alloc: Global, lab: &Lab, value: Value, most: u32) -> Result<Listing, AllocError>
-    requires { IsPart value.part }
+/// The steps whose values went into a value, through stacks, memories, registers and links, down to the load: as a tree, of which
+/// each is told once, and at most so many. They are found from where a walk of some node stands, which isn't walked on. Takes memory
+/// by how many are told, and for each value time by how many steps of its node lie between, or, where the walk is of another node or
+/// earlier, were made since.
+///
+/// # Errors
+/// Memory is wanting.
+pub fn whence_near<'l>(
+    alloc: Global,
+    lab: &'l Lab,
+    near: &Walk<'l>,
+    at: NodeId,
+    value: Value,
+    most: u32,
+) -> Result<Listing, AllocError>
+    requires part { IsPart value.part }
+    requires near { near.now ≡ standing lab.now at near.now.step }
     ensures rows { IfOk result (λ listing. AreRows lab.now [] (row_at 0 value ∷ []) listing.rows.items listing.is_whole) }
     ensures most { IfOk result (λ listing. length listing.rows.items ≤ most) }
     ensures cut { IfOk result (λ listing. listing.is_whole ≡ false → length listing.rows.items ≡ most) }
 {
     let mut rows: Vec<Row> = Vec::new(alloc);
     let mut todo: Vec<Row> = Vec::new(alloc);
-    let near = lab.walk(value.node, kept_step(lab, value));
-    let at = value.node;
     todo.push(Row { depth: 0, value })?;
     'telling: while let Some(next) = todo.pop() {
-        let origin = origin_near(lab, &near, at, next.value);
+        let origin = origin_near(lab, near, at, next.value);
         let row = Row {
             depth: next.depth,
             value: origin.value,
@@ -173,9 +185,7 @@ fn listed(alloc: Global, lab: &Lab, value: Value, most: u32) -> Result<Listing, 
     })
 }
 
-/// The steps whose values went into a value, through stacks, memories, registers and links, down to the load: as a tree, of which
-/// each is told once, and at most so many. Takes memory by how many are told, and for each value time by how many steps its
-/// node made since, on the node asked for since the step asked for.
+/// The same, found from the value's own step, to which its node is walked back.
 ///
 /// # Errors
 /// `NoStep`, where the node has no such step; then `Memory`.
@@ -190,7 +200,8 @@ pub fn whence(alloc: Global, lab: &Lab, value: Value, most: u32) -> Result<Listi
     if value.step > lab.steps(value.node) {
         return Err(LabFault::NoStep);
     }
-    match listed(alloc, lab, value, most) {
+    let near = lab.walk(value.node, value.step);
+    match whence_near(alloc, lab, &near, value.node, value, most) {
         Ok(listing) => Ok(listing),
         Err(_) => Err(LabFault::Memory),
     }

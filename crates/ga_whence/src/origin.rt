@@ -145,7 +145,13 @@ pub(crate) struct Origin<'l> {
 }
 
 // A node as it was right after a step, walked back from where another walk stands, where that is of the same node and not earlier.
-fn walk_near<'l>(lab: &'l Lab, near: &Walk<'l>, at: NodeId, node: NodeId, step: u32) -> Walk<'l>
+pub(crate) fn walk_near<'l>(
+    lab: &'l Lab,
+    near: &Walk<'l>,
+    at: NodeId,
+    node: NodeId,
+    step: u32,
+) -> Walk<'l>
     requires within { step ≤ steps_of node.number lab.now.kept }
     requires near { near.now ≡ standing lab.now at near.now.step }
     ensures { result ≡ standing lab.now node step }

@@ -1,21 +1,19 @@
 //! The steps that wrote a cell of memory.
 
-ghost use Rattle.std.specs.Prelude.{◌≡◌, ◌<◌, ◌-◌, ◌%◌, slice_index};
+ghost use Rattle.std.specs.Prelude.{◌≡◌, ◌<◌, ◌-◌, ◌%◌, IfSome, slice_index};
 ghost use Rattle.std.specs.List.{slice_get};
 ghost use Rattle.ga_node.specs.Record.{record_of};
-ghost use Rattle.ga_node.specs.Table.{due_of};
 ghost use Rattle.ga_lab.specs.Machine.{history_of, standing};
 ghost use Rattle.ga_flow.specs.Following.{flow_of};
-ghost use Rattle.ga_whence.specs.Writes.{is_written, written_at, written};
-ghost use Rattle.ga_whence.specs.kept.Stores.{is_store, stores};
+ghost use Rattle.ga_whence.specs.Writes.{is_written, written_at, written, newest_written};
+ghost use Rattle.ga_whence.specs.kept.Stores.{ran_store};
 
 use crate::origin::{flow_behind, is_cell};
 use ga_event::Made;
-use ga_flow::{Flow, Part, due_in};
+use ga_flow::{Flow, Part};
 use ga_grid::NodeId;
 use ga_lab::{Lab, Walk};
-use ga_node::{Due, Node, Place};
-use ga_slots::Op;
+use ga_node::{Kind, Node, Place};
 use ga_word::Word18;
 
 /// A step that wrote a cell, and the word that stood there behind it.
@@ -48,31 +46,23 @@ fn word_in(node: &Node, cell: u8) -> Word18
     Word18::truncated(node.get(Place::Ram(cell)))
 }
 
-// Whether the opcode writes at an address.
-fn is_store(op: Op) -> bool
-    ensures { result ≡ is_store op }
+// Whether a step of which this is told ran a store, whose codes are 0c to 0f: nothing else writes memory.
+fn ran_store(told: Option<Made>) -> bool
+    ensures { result ≡ ran_store told }
 {
-    match op {
-        Op::StoreP => true,
-        Op::StorePlus => true,
-        Op::StoreB => true,
-        Op::Store => true,
+    match told {
+        Some(
+            Made::Own {
+                kind: Kind::Run(code),
+                ..
+            },
+        ) => code / 4 == 3,
         _ => false,
     }
 }
 
-// Whether a node that runs stores next: nothing else writes memory.
-fn stores(node: &Node) -> bool
-    ensures { result ≡ stores (due_of (record_of node.now)) }
-{
-    match due_in(node) {
-        Due::Fetch => false,
-        Due::Run(op) => is_store(op),
-    }
-}
-
-/// Walks a node back over a step, and tells of the step where it wrote that cell of the node's RAM.
-pub fn back_over(lab: &Lab, walk: &mut Walk<'_>, node: NodeId, cell: u8) -> Option<Written>
+// Walks a node back over a step, and tells of the step where it wrote that cell of the node's RAM.
+fn back_over(lab: &Lab, walk: &mut Walk<'_>, node: NodeId, cell: u8) -> Option<Written>
     requires cell { cell < 64 }
     requires some { 0 < walk.old.step }
     requires walk { walk.old ≡ standing lab.now node walk.old.step }
@@ -82,13 +72,32 @@ pub fn back_over(lab: &Lab, walk: &mut Walk<'_>, node: NodeId, cell: u8) -> Opti
     let step = walk.step();
     let word = word_in(walk.node(), cell);
     walk.back();
-    if !stores(walk.node()) {
-        return None;
-    }
     let flow = flow_behind(lab, walk, node, Part::Ram(cell));
     if !is_written(&flow) {
         return None;
     }
     let made = lab.told(node, step - 1)?;
     Some(Written { step, made, word })
+}
+
+/// Walks a node back over the newest step that wrote that cell of its RAM, and tells of it; none where no step did. Steps that ran
+/// no store are passed over by what is told of them, and only for a store it walks. Takes no memory.
+pub fn back_to_write(lab: &Lab, walk: &mut Walk<'_>, node: NodeId, cell: u8) -> Option<Written>
+    requires cell { cell < 64 }
+    requires walk { walk.old ≡ standing lab.now node walk.old.step }
+    ensures value { result ≡ newest_written lab.now node.number cell walk.old.step }
+    ensures walk { IfSome result (λ written. walk.new ≡ standing lab.now node (written.step - 1)) }
+    ensures stands { walk.new ≡ standing lab.now node walk.new.step }
+{
+    let mut left = walk.step();
+    'going: while left > 0 {
+        if ran_store(lab.told(node, left - 1)) {
+            walk.back_to(left);
+            if let Some(written) = back_over(lab, walk, node, cell) {
+                return Some(written);
+            }
+        }
+        left -= 1;
+    }
+    None
 }

@@ -6,9 +6,8 @@ use Rattle.ga_flow.specs.declared.part.Part.TheVariants.{Ram}
 use Rattle.ga_flow.specs.Following.{flow_of}
 use Rattle.ga_whence.specs.Origins.{node_after, flow_at}
 use Rattle.ga_whence.specs.Writes.{is_written}
-use Rattle.ga_whence.proofs.Made.{then_of, stood_of, within_so, back_so}
+use Rattle.ga_whence.proofs.Made.{then_of}
 use Rattle.ga_whence.proofs.Stored.{some_written}
-use Rattle.ga_whence.proofs.Keeping.{none_written}
 use Rattle.ga_whence.proofs.writes.back_over.Goals as goal
 
 pub returns-clause-value : goal.returns-clause-value
@@ -27,14 +26,3 @@ returns-clause-value c =
     wrote
     (c.in_ok-made.ensures ∙ ap (slice_get (history_of s n)) behind)
     (c.word_in-word.ensures ∙ ap (λ (z : NodeRecord). slice_index z.ram c.args.cell) (stood ∙ ap (node_after s n) (sym step)))
-
-pub returns-then-not-stores-clause-value : goal.returns-then-not-stores-clause-value
-returns-then-not-stores-clause-value c =
-    let s = c.args.lab.now in
-    let walk = c.args.walk.now in
-    let step = c.step-step.ensures.value in
-    let within = within_so s c.args.node walk c.step-step.result c.requires.walk c.step-step.ensures.within in
-    let stood : record_of c.node-2.result.now ≡ node_after s c.args.node.number (walk.step - 1) =
-    stood_of s c.args.node c.back.new.self (walk.step - 1) (record_of c.node-2.result.now) (back_so s c.args.node walk c.back.new.self c.requires.walk c.back.ensures)
-    (omega (arith, step, within)) c.node-2.ensures in
-    none_written s c.args.node.number c.args.cell (walk.step - 1) (record_of c.node-2.result.now) stood (sym c.stores.ensures ∙ c.if-not-stores.true)

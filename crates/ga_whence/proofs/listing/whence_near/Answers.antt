@@ -1,7 +1,7 @@
 use Rattle.std.proofs.Common.{◌≡◌, ◌≤◌, ◌+◌, true, false, [], length, vec_len, sym, ap, ◌∙◌, arith}
 use Rattle.ga_whence.specs.Rows.{is_named, row_at, below}
 use Rattle.ga_whence.proofs.Walking.{told_again, told_on, told_cut, told_all, no_items, grown_by, open_top, open_left, open_on}
-use Rattle.ga_whence.proofs.listing.listed.Goals as goal
+use Rattle.ga_whence.proofs.listing.whence_near.Goals as goal
 
 pub origin_near-origin-requires-clause-part : goal.origin_near-origin-requires-clause-part
 origin_near-origin-requires-clause-part c =

@@ -3,7 +3,7 @@ use Rattle.std.specs.List.{All}
 use Rattle.ga_whence.specs.Rows.{row_at}
 use Rattle.ga_whence.specs.kept.Open.{IsOpen}
 use Rattle.ga_whence.proofs.Walking.{Tells}
-use Rattle.ga_whence.proofs.listing.listed.Given as goal
+use Rattle.ga_whence.proofs.listing.whence_near.Given as goal
 
 abbrev pub invariant-telling : goal.invariant-telling
 invariant-telling l = record {
