@@ -4,9 +4,9 @@ ghost use Rattle.std.specs.Prelude.{◌≡◌};
 ghost use Rattle.ga_exploring.specs.Reading.{condition_in, lone_condition, named_condition, steps_in, passes_in, passed_in, holds_in, comes_in, address_in, label_in, equal_in, word_in};
 
 use ga_console::{cut, node_of, number_of};
-use ga_image::byte_of;
 use ga_explore::Condition;
 use ga_grid::NodeId;
+use ga_image::byte_of;
 use ga_notes::Notes;
 use ga_word::Word18;
 

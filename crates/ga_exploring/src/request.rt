@@ -5,9 +5,9 @@ ghost use Rattle.ga_exploring.specs.Reading.{request_in, lone_request, named_req
 
 use crate::run_request::run_of;
 use ga_console::{cut, node_of, number_of};
-use ga_image::byte_of;
 use ga_explore::{Condition, Schedule};
 use ga_grid::NodeId;
+use ga_image::byte_of;
 use ga_notes::Notes;
 
 /// How many events are made at most where no number is given.
