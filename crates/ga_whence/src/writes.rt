@@ -16,6 +16,9 @@ use ga_lab::{Lab, Walk};
 use ga_node::{Kind, Node, Place};
 use ga_word::Word18;
 
+/// So many steps are looked at before the node is walked back over them: few enough that what is kept of them is still at hand.
+const AT_ONCE: u32 = 64;
+
 /// A step that wrote a cell, and the word that stood there behind it.
 #[derive(Clone, Copy, PartialEq, Eq, Debug)]
 pub struct Written {
@@ -80,8 +83,8 @@ fn back_over(lab: &Lab, walk: &mut Walk<'_>, node: NodeId, cell: u8) -> Option<W
     Some(Written { step, made, word })
 }
 
-/// Walks a node back over the newest step that wrote that cell of its RAM, and tells of it; none where no step did. Steps that ran
-/// no store are passed over by what is told of them, and only for a store it walks. Takes no memory.
+/// Walks a node back over the newest step that wrote that cell of its RAM, and tells of it; none where no step did. Of a step that
+/// ran no store only what is told of it is looked at. Takes no memory, and time by how many steps it goes back over.
 pub fn back_to_write(lab: &Lab, walk: &mut Walk<'_>, node: NodeId, cell: u8) -> Option<Written>
     requires cell { cell < 64 }
     requires walk { walk.old ≡ standing lab.now node walk.old.step }
@@ -98,6 +101,9 @@ pub fn back_to_write(lab: &Lab, walk: &mut Walk<'_>, node: NodeId, cell: u8) -> 
             }
         }
         left -= 1;
+        if left % AT_ONCE == 0 {
+            walk.back_to(left);
+        }
     }
     None
 }
