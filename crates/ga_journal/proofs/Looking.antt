@@ -1,6 +1,6 @@
 -- Where the newest look stands.
 use Rattle.std.proofs.Common.{◌≡◌, ℕ, zero, suc, ◌+◌, ◌-◌, ◌<◌, ◌≤◌, Bool, true, false, not, nat_eq, List, [], ◌∷◌, ◌++◌, length, map, get_or, refl, sym, ◌∙◌, ap, subst, arith, ⊎_elim, add-one}
-use Rattle.std.specs.Prelude.{Option, None, Some, IfNone, slice_get}
+use Rattle.std.specs.Prelude.{Some, slice_get}
 use Rattle.std.specs.Bool.{OnTrue, OnFalse}
 use Rattle.std.proofs.Math.ListN.{get_or-append}
 use Rattle.std.proofs.Math.Seq.{get_or-append_seam}
@@ -194,7 +194,3 @@ none_looked items (suc at) h = subst (λ b. OnFalse (not b) (HasNoLook items (le
 -- where there is none, none came after anything
 pub none_after : (items : List Past) (mark : ℕ) (others : List Past) (place : ℕ) → HasNoLook items (length items) → HasNoLookAfter items mark others place
 none_after items mark others place none p e f below found looked first = absurd (both_ways (has_looked_in e.act) (none p e (slice_get_within items p e found) found) looked)
-
-pub on_none : {X : Type 0} {A B : Type 0} (o : Option X) → (A → B) → IfNone o A → IfNone o B
-on_none None f h = f h
-on_none (Some x) f h = h

@@ -2,7 +2,7 @@
 use Rattle.std.specs.Prelude.{◌≡◌, ℕ, ◌<◌, ◌≤◌, true, false, List, length, Some, slice_get}
 use Rattle.ga_journal.specs.Histories.{Past, Book, history}
 use Rattle.ga_journal.specs.Events.{has_looked_in}
-use Rattle.ga_journal.specs.Marks.{mark_of, ticked}
+use Rattle.ga_journal.specs.Marks.{mark_of, ticked_in_vain}
 
 -- the newest look among the first entries of a history, as many as the mark says
 pub record IsNewestLook (entries : List Past) (mark at : ℕ) : Type 0 where
@@ -43,7 +43,7 @@ abbrev pub SawNoneToGo : Book → ℕ → ℕ → Type 0
 SawNoneToGo book node looker =
     HasNoLookAfter (history book.histories looker) (mark_of book looker) (history book.histories node) (mark_of book node)
 
--- looking for it reads entries, and so is a tick, where the looker has a look at all
+-- looking for it in vain reads entries, and so is a tick, where the looker has a look at all
 pub data IsSought (old : Book) (looker : ℕ) (new : Book) : Type 0 where
   Never : HasNoLook (history old.histories looker) (length (history old.histories looker)) → new ≡ old → IsSought old looker new
-  Once : HasLook (history old.histories looker) → new ≡ ticked old → IsSought old looker new
+  Once : HasLook (history old.histories looker) → new ≡ ticked_in_vain old → IsSought old looker new

@@ -18,6 +18,7 @@ impl Chronicle {
     ghost use Rattle.std.specs.Prelude.{◌≡◌, ◌<◌, ◌≤◌, ◌+◌, ◌^◌, ◌↔◌, length, map, take, drop, Some, IfOk, IfErr, IsNone};
     ghost use Rattle.std.specs.List.{slice_get, All};
     ghost use Rattle.std.specs.List.Sorted.{IsStrictlyIncreasing};
+    ghost use Rattle.ga_journal.specs.Work.{no_work};
     ghost use Rattle.ga_journal.specs.Histories.{history};
     ghost use Rattle.ga_journal.specs.Walked.{walked, CanWalk};
     ghost use Rattle.ga_journal.specs.Events.{kept_of, causes_of, events_of};
@@ -121,7 +122,7 @@ impl Chronicle {
 
     /// Counts ticks from 0 on again.
     pub fn count_anew(&mut self)
-        ensures { self.new.journal ≡ record self.old.journal { ticks = 0 } }
+        ensures { self.new.journal ≡ record self.old.journal { ticks = no_work } }
     {
         self.journal.count_anew();
     }

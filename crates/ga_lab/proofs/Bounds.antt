@@ -1,11 +1,12 @@
 -- The entries that a journal holds are the steps of its list.
-use Rattle.std.proofs.Common.{◌≡◌, ℕ, ◌+◌, ◌*◌, ◌^◌, ◌<◌, List, [], length, Result, Ok, Err, sym, ◌∙◌, ap, subst, arith, ext_get_or}
+use Rattle.std.proofs.Common.{◌≡◌, ◌+◌, ◌*◌, ◌^◌, ◌<◌, List, [], length, Result, Ok, Err, sym, ◌∙◌, ap, subst, arith, ext_get_or}
 use Rattle.std.specs.Prelude.{map, OnOk}
 use Rattle.std.specs.List.{sum, range_with_len}
 use Rattle.std.proofs.lemmas.List.{length-map, get_or-map}
 use Rattle.std.proofs.lemmas.List.FromFn.{get_or-map-range_with_len, length-map-range_with_len}
 use Rattle.std.proofs.lemmas.List.Sums.{sum-map}
 use Rattle.ga_node.specs.Record.{NodeState}
+use Rattle.ga_journal.specs.Work.{Work, no_work}
 use Rattle.ga_journal.specs.Histories.{Book}
 use Rattle.ga_journal.specs.Events.{events_of}
 use Rattle.ga_event.specs.Told.{steps_of}
@@ -36,18 +37,24 @@ entries_steps chip book lab =
     ∙ ap steps_in (sym (kept_state chip book))
 
 -- what a rollback's ticks are bounded by, in the machine's terms
-pub bounded_by : (chip now : List NodeState) (old new : Book) (from to : ℕ) → IsLab chip old → IsLab now new → IsTicked old new → old.ticks ≡ 0 → to ≡ from + new.ticks
-    → IsBounded (state_of chip old).kept (state_of now new).kept from to
-bounded_by chip now old new from to before after ticked anew rise = record {
-  gone = ticked.gone;
-  left = ap (λ z. z + ticked.gone) (sym (entries_steps now new after)) ∙ ticked.entries_left ∙ entries_steps chip old before;
-  least = let a = ticked.least in omega arith;
-  most = let a = ticked.most in let b = ticked.among in omega arith;
-}
+pub bounded_by : (chip now : List NodeState) (old new : Book) → IsLab chip old → IsLab now new → IsTicked old new → old.ticks ≡ no_work → IsBounded (state_of chip old).kept (state_of now new).kept new.ticks.count new.ticks.vain
+bounded_by chip now old new before after ticked anew =
+    let none : old.ticks.count ≡ 0 = ap (λ (w : Work). w.count) anew in
+    let no_vain : old.ticks.vain ≡ 0 = ap (λ (w : Work). w.vain) anew in
+    let apart = ticked.apart in
+    let among = ticked.among in
+    record {
+      gone = ticked.gone;
+      left = ap (λ z. z + ticked.gone) (sym (entries_steps now new after)) ∙ ticked.entries_left ∙ entries_steps chip old before;
+      few = let a = ticked.few in omega arith;
+      least = let a = ticked.least in omega arith;
+      most = let a = ticked.most in omega arith;
+    }
 
 -- and they fit
-pub ticks_within : (old new : Book) → IsTicked old new → old.ticks ≡ 0 → 40 * entries old + 8 < 2 ^ 63 → new.ticks < 2 ^ 63
-ticks_within old new ticked anew short = let a = ticked.most in let b = ticked.among in let c = ticked.entries_left in omega arith
+pub ticks_within : (old new : Book) → IsTicked old new → old.ticks ≡ no_work → 40 * entries old + 8 < 2 ^ 63 → new.ticks.count < 2 ^ 63
+ticks_within old new ticked anew short =
+    let none : old.ticks.count ≡ 0 = ap (λ (w : Work). w.count) anew in let a = ticked.most in let b = ticked.among in let c = ticked.entries_left in let d = ticked.few in omega arith
 
 pub on_ok : {T E : Type 0} (A : Type 0) (r : Result T E) (x : T) → r ≡ Ok x → A → OnOk r A
 on_ok A r x is a = subst (λ z. OnOk z A) (sym is) a

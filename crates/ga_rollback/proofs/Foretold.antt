@@ -4,6 +4,7 @@ use Rattle.std.specs.List.{sum_by}
 use Rattle.std.proofs.lemmas.Bool.{cases_eq, cases_lt}
 use Rattle.std.proofs.lemmas.List.{length-take-le, set_past}
 use Rattle.std.proofs.lemmas.List.Sums.{sum_by-set}
+use Rattle.ga_journal.specs.Work.{one_more}
 use Rattle.ga_journal.specs.Histories.{Past, Book, history}
 use Rattle.ga_journal.specs.Events.{kept_of, causes_of, events_of}
 use Rattle.ga_event.specs.Told.{steps_of}
@@ -52,7 +53,7 @@ raising_more first book events n new now sound raising some same counted =
     let go : sum_by (λ (x : ℕ). x) (set book.going n (get_or book.going n 0 - 1)) + get_or book.going n 0 ≡ sum_by (λ (x : ℕ). x) book.going + (get_or book.going n 0 - 1) =
     sum_by-set (λ (x : ℕ). x) book.going n (get_or book.going n 0 - 1) 0 in_going in
     let after : IsRaising first (raised book n) now = record {
-      others = ap (λ (b : Book). record b { going = set book.going n (get_or book.going n 0 - 1); ticks = book.ticks + 1 }) raising.others;
+      others = ap (λ (b : Book). record b { going = set book.going n (get_or book.going n 0 - 1); ticks = one_more book.ticks }) raising.others;
       sized = length-set book.going n (get_or book.going n 0 - 1) ∙ raising.sized;
       ticked = let a = raising.ticked in omega arith;
       number = let a = raising.number in omega arith;
@@ -153,7 +154,7 @@ as_before old mid new events sound rest marks same idle raising none =
 
 -- its ticks
 pub forecast_ticks : (old mid new : Book) (events : ℕ) (steps : List ℕ) → AreMarks mid → AreCounted old mid → IsRaising mid new events → ((m : ℕ) → going_of new m ≡ 0) → length steps ≡ 144 → ((m : ℕ) → get_or steps m 0 ≡ going_of mid m)
-    → new.ticks ≤ old.ticks + 9 * sum_by (λ (x : ℕ). x) steps
+    → new.ticks.count ≤ old.ticks.count + 9 * sum_by (λ (x : ℕ). x) steps
 forecast_ticks old mid new events steps sound counted raising none size each =
     let zero : to_go new ≡ 0 = sum_none (λ (x : ℕ). x) 0 new.going none in
     let all : sum_by (λ (x : ℕ). x) steps ≡ to_go mid = ap (sum_by (λ (x : ℕ). x)) (ext_get_or 0 steps mid.going (size ∙ sym sound.going_size) (λ m l. each m)) in

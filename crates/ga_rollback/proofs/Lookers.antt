@@ -6,35 +6,36 @@ use Rattle.ga_ports.specs.declared.side.Side.{Side}
 use Rattle.ga_ports.specs.declared.side.Side.TheVariants.{Right, Down, Left, Up}
 use Rattle.ga_grid.specs.Grid.{neighbour_of}
 use Rattle.ga_grid.proofs.Links.{neighbour_of-other}
+use Rattle.ga_journal.specs.Work.{one_more, one_in_vain}
 use Rattle.ga_journal.specs.Histories.{Past, Book}
 use Rattle.ga_journal.specs.Events.{has_looked_in}
-use Rattle.ga_journal.specs.Marks.{entry_at, mark_of, going_of, entries, ticked, lowered, AreMarks}
+use Rattle.ga_journal.specs.Marks.{entry_at, mark_of, going_of, entries, ticked, ticked_in_vain, lowered, AreMarks}
 use Rattle.ga_journal.specs.kept.Marks.{to_go}
 use Rattle.ga_journal.specs.Looks.{IsLookToGo, SawNoneToGo, IsSought, Never, Once}
 use Rattle.ga_rollback.specs.kept.Marked.{stamp_at, IsDue, Saw, AreLowered, Same, Further, Vain, AreLoweredBy, IsMarking, IsUnseen, IsDone}
-use Rattle.ga_rollback.proofs.Lowering.{lowered_sound, lowered_other, lowered_go, lowered_line, line_grows, one_lowered, ticked_sound, marked_ticked, saw_lowered}
+use Rattle.ga_rollback.proofs.Lowering.{lowered_sound, lowered_other, lowered_go, lowered_line, line_grows, one_lowered, sound_with, marked_with, saw_lowered}
 use Rattle.ga_rollback.proofs.Marking.{go_under, marking_fewer, marking_vain, marking_lowered, done_lowered}
 
 -- what such marks leave as it was
 pub record AreAfter (old : Book) (node vain : ℕ) (new : Book) : Type 0 where
   pub sound : AreMarks new
-  pub rise : old.ticks ≤ new.ticks
-  pub bound : new.ticks + 2 * to_go old ≤ old.ticks + 2 * to_go new + vain
+  pub rise : old.ticks.count ≤ new.ticks.count
+  pub bound : new.ticks.count + 2 * to_go old ≤ old.ticks.count + 2 * to_go new + vain
   pub size : entries new ≡ entries old
   pub going : going_of new node ≡ going_of old node
 
 further : (old : Book) (node vain : ℕ) (book : Book) (m p : ℕ) → AreAfter old node vain book → p < mark_of book m → node ≢ m → AreAfter old node vain (lowered (ticked book) m p)
 further old node vain book m p after below apart = record {
-  sound = lowered_sound (ticked book) m p (ticked_sound book after.sound) below;
+  sound = lowered_sound (ticked book) m p (sound_with book (one_more book.ticks) after.sound) below;
   rise = let a = after.rise in omega arith;
   bound = let a = after.bound in let b = lowered_go book m p after.sound below in omega arith;
   size = after.size;
   going = (lowered_other book m p node apart).0 ∙ after.going;
 }
 
-one_vain : (old : Book) (node before : ℕ) (book : Book) → AreAfter old node before book → AreAfter old node (before + 1) (ticked book)
+one_vain : (old : Book) (node before : ℕ) (book : Book) → AreAfter old node before book → AreAfter old node (before + 1) (ticked_in_vain book)
 one_vain old node before book after = record {
-  sound = ticked_sound book after.sound;
+  sound = sound_with book (one_in_vain book.ticks) after.sound;
   rise = let a = after.rise in omega arith;
   bound = let a = after.bound in omega arith;
   size = after.size;
@@ -49,7 +50,7 @@ after_lowered old node vain new sound (Further book m p side chain beside look s
     (further old node vain book m p (after_lowered old node vain book sound chain) look.look.below (neighbour_of-other m node side beside))
 after_lowered old node vain new sound (Vain book before m chain look more same) =
     subst (λ z. AreAfter old node vain z) (sym same)
-    (subst (λ z. AreAfter old node z (ticked book)) (sym more) (one_vain old node before book (after_lowered old node before book sound chain)))
+    (subst (λ z. AreAfter old node z (ticked_in_vain book)) (sym more) (one_vain old node before book (after_lowered old node before book sound chain)))
 
 -- one after the other
 then_chain : (old : Book) (node first : ℕ) (mid : Book) (then all : ℕ) (new : Book) → AreLowered old node first mid → AreLowered mid node then new → all ≡ first + then → AreLowered old node all new
@@ -114,12 +115,13 @@ look_found first n k book visited more node m p side marking beside look =
     let grows = line_grows book m p sound low in
     let go = lowered_go book m p sound low in
     record {
-      marked = marked_ticked (lowered book m p) visited n k next.marked;
-      others = ap (λ (b : Book). record b { ticks = book.ticks + 1 + 1 }) next.others;
+      marked = marked_with (lowered book m p) (one_more (one_more book.ticks)) visited n k next.marked;
+      others = ap (λ (b : Book). record b { ticks = one_more (one_more book.ticks) }) next.others;
       size = next.size;
       fits = next.fits;
       found = marking.found + 1;
       vain = marking.vain;
+      apart = marking.apart;
       looks = let a = marking.looks in let b = one_lowered book m p look.look.entry sound low look.look.found look.look.looked in omega arith;
       searches = let a = marking.searches in omega arith;
       blind = marking.blind;
@@ -157,17 +159,17 @@ all_done most old node new visited sound by all unseen done x = ⊎_elim
     (cases_eq x node)
 
 -- and the ticks fit, for more of them too
-pub rise_after : (most : ℕ) (old : Book) (node : ℕ) (new : Book) → AreMarks old → AreLoweredBy most old node new → old.ticks ≤ new.ticks
+pub rise_after : (most : ℕ) (old : Book) (node : ℕ) (new : Book) → AreMarks old → AreLoweredBy most old node new → old.ticks.count ≤ new.ticks.count
 rise_after most old node new sound by = (after_lowered old node by.vain new sound by.chain).rise
 
 pub sound_after : (most : ℕ) (old : Book) (node : ℕ) (new : Book) → AreMarks old → AreLoweredBy most old node new → AreMarks new
 sound_after most old node new sound by = (after_lowered old node by.vain new sound by.chain).sound
 
-pub room_after : (most slack : ℕ) (old : Book) (node : ℕ) (new : Book) (room : ℕ) → AreMarks old → AreLoweredBy most old node new → old.ticks + 2 * entries old + (slack + most) < room + 2 * to_go old → new.ticks + 2 * entries new + slack < room + 2 * to_go new
+pub room_after : (most slack : ℕ) (old : Book) (node : ℕ) (new : Book) (room : ℕ) → AreMarks old → AreLoweredBy most old node new → old.ticks.count + 2 * entries old + (slack + most) < room + 2 * to_go old → new.ticks.count + 2 * entries new + slack < room + 2 * to_go new
 room_after most slack old node new room sound by fits =
     let after = after_lowered old node by.vain new sound by.chain in let a = after.bound in let b = after.size in let c = by.few in omega arith
 
-pub ticks_fit : (old : Book) (node : ℕ) (new : Book) → AreMarks old → AreLowered old node 0 new → new.ticks + 2 * to_go old ≤ old.ticks + 2 * entries old
+pub ticks_fit : (old : Book) (node : ℕ) (new : Book) → AreMarks old → AreLowered old node 0 new → new.ticks.count + 2 * to_go old ≤ old.ticks.count + 2 * entries old
 ticks_fit old node new sound chain =
     let after = after_lowered old node 0 new sound chain in
     let a = after.bound in

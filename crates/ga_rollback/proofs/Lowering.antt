@@ -8,8 +8,9 @@ use Rattle.std.proofs.lemmas.List.{get_or_past}
 use Rattle.std.proofs.lemmas.List.Sums.{sum_by-set}
 use Rattle.ga_journal.specs.declared.entry.Act.{Act}
 use Rattle.ga_journal.specs.declared.entry.Act.TheVariants.{Own, Sent, Took}
+use Rattle.ga_journal.specs.Work.{Work}
 use Rattle.ga_journal.specs.Histories.{Past, Book, history}
-use Rattle.ga_journal.specs.Marks.{partner_of, entry_at, mark_of, going_of, waits, ticked, lowered, AreMarks}
+use Rattle.ga_journal.specs.Marks.{partner_of, entry_at, mark_of, going_of, waits, lowered, AreMarks}
 use Rattle.ga_journal.specs.kept.Marks.{to_go, in_line}
 use Rattle.ga_journal.specs.Events.{has_looked_in}
 use Rattle.ga_journal.specs.Looks.{SawNoneToGo}
@@ -138,9 +139,12 @@ pub one_lowered : (book : Book) (j q : ℕ) (e : Past) → AreMarks book → q <
 one_lowered book j q e sound l found looked =
     let a = looks_lowered book j q sound l in let b = looks_one q (mark_of book j) (history book.histories j) e found looked l in omega arith
 
--- a tick more changes no mark
-pub ticked_sound : (book : Book) → AreMarks book → AreMarks (ticked book)
-ticked_sound book sound = record {
+-- ticks change no mark
+abbrev pub with_ticks : Book → Work → Book
+with_ticks book work = record book { ticks = work }
+
+pub sound_with : (book : Book) (work : Work) → AreMarks book → AreMarks (with_ticks book work)
+sound_with book work sound = record {
   size = sound.size;
   matched = sound.matched;
   going_size = sound.going_size;
@@ -148,17 +152,17 @@ ticked_sound book sound = record {
   within = sound.within;
 }
 
-pub due_ticked : (book : Book) (s m p : ℕ) (e : Past) → IsDue book s m p e → IsDue (ticked book) s m p e
-due_ticked book s m p e (Start h) = Start h
-due_ticked book s m p e (Later h) = Later h
-due_ticked book s m p e (Other i r names h) = Other i r names h
-due_ticked book s m p e (Saw i r side f looked beside there h before) = Saw i r side f looked beside there h before
+pub due_with : (book : Book) (work : Work) (s m p : ℕ) (e : Past) → IsDue book s m p e → IsDue (with_ticks book work) s m p e
+due_with book work s m p e (Start h) = Start h
+due_with book work s m p e (Later h) = Later h
+due_with book work s m p e (Other i r names h) = Other i r names h
+due_with book work s m p e (Saw i r side f looked beside there h before) = Saw i r side f looked beside there h before
 
-pub marked_ticked : (book : Book) (visited : List ℕ) (n k : ℕ) → IsMarked book visited n k → IsMarked (ticked book) visited n k
-marked_ticked book visited n k marked = record {
-  sound = ticked_sound book marked.sound;
+pub marked_with : (book : Book) (work : Work) (visited : List ℕ) (n k : ℕ) → IsMarked book visited n k → IsMarked (with_ticks book work) visited n k
+marked_with book work visited n k marked = record {
+  sound = sound_with book work marked.sound;
   start = marked.start;
-  caused = λ x p e found due. due_ticked book (stamp_at book n k) x p e (marked.caused x p e found due);
+  caused = λ x p e found due. due_with book work (stamp_at book n k) x p e (marked.caused x p e found due);
   whole = marked.whole;
 }
 

@@ -35,14 +35,18 @@ pub record WouldGo (old : Book) (n k : ℕ) (events : ℕ) (steps : List ℕ) : 
   pub each : (m : ℕ)
       → slice_index steps m + steps_of m (events_in (rewound_list (causes_of old) n k)) ≡ steps_of m (events_of old)
 
--- How much a rollback did: at least two ticks for each entry that it removed and two more, and at most eight for each and one
--- for each look among them, whatever else is kept; at most four for each where no kept entry was a look.
+-- How much a rollback did, whatever else is kept: at most four searches in vain for each entry that it removed, and none where no
+-- kept entry was a look; beside them at least two ticks for each and two more, and at most four for each and one for each look
+-- among them.
 pub record IsTicked (old new : Book) : Type 0 where
   pub gone : ℕ
   pub looks_gone : ℕ
+  pub vain : ℕ
   pub entries_left : entries new + gone ≡ entries old
   pub looks_left : looks_of new.histories + looks_gone ≡ looks_of old.histories
   pub among : looks_gone ≤ gone
-  pub least : old.ticks + 2 * gone + 2 ≤ new.ticks
-  pub most : new.ticks ≤ old.ticks + 8 * gone + looks_gone
-  pub blind : looks_of old.histories ≡ 0 → new.ticks ≤ old.ticks + 4 * gone
+  pub apart : new.ticks.vain ≡ old.ticks.vain + vain
+  pub few : vain ≤ 4 * gone
+  pub blind : looks_of old.histories ≡ 0 → vain ≡ 0
+  pub least : old.ticks.count + 2 * gone + 2 + vain ≤ new.ticks.count
+  pub most : new.ticks.count ≤ old.ticks.count + 4 * gone + looks_gone + vain

@@ -33,11 +33,11 @@ pub struct Going {
 pub fn would_rewind(journal: &mut Journal, node: NodeId, step: u32) -> Result<Going, RollbackFault>
     requires rest { IsAtRest journal.old }
     requires whole { IsWhole journal.old.histories journal.old.made }
-    requires fits { journal.old.ticks + 40 * entries journal.old + 8 < 2 ^ 64 }
+    requires fits { journal.old.ticks.count + 40 * entries journal.old + 8 < 2 ^ 64 }
     ensures ok { IfOk result (λ going. WouldGo journal.old node.number step going.events going.steps) }
     ensures same { journal.new ≡ record journal.old { ticks = journal.new.ticks } }
     ensures ticked { IfOk result (λ going.
-        journal.new.ticks ≤ journal.old.ticks + 9 * sum_by (λ (x : ℕ). x) going.steps) }
+        journal.new.ticks.count ≤ journal.old.ticks.count + 9 * sum_by (λ (x : ℕ). x) going.steps) }
 
     // `NoStep`, just where the step is 0 or past the node's steps
     ensures refused { (result ≡ Err RollbackFault.NoStep)
@@ -65,7 +65,7 @@ fn release(journal: &mut Journal, going: &Visited) -> u32
     requires going { (m : ℕ) → slice_index going.now m ≡ going_of journal.old m }
     requires sound { AreMarks journal.old }
     requires few { counted_of journal.old.histories < 2 ^ 32 }
-    requires fits { journal.old.ticks + to_go journal.old < 2 ^ 64 }
+    requires fits { journal.old.ticks.count + to_go journal.old < 2 ^ 64 }
     ensures done { IsRaising journal.old journal.new result }
     ensures none { (m : ℕ) → going_of journal.new m ≡ 0 }
 {
@@ -85,7 +85,7 @@ fn release(journal: &mut Journal, going: &Visited) -> u32
 fn let_stay(journal: &mut Journal, node: NodeId, events: u32) -> u32
     requires going { mark_of journal.old node.number < length (history journal.old.histories node.number) }
     requires few { events + one_counted (counted_at journal.old.histories node.number (mark_of journal.old node.number)) < 2 ^ 32 }
-    requires fits { journal.old.ticks + 1 < 2 ^ 64 }
+    requires fits { journal.old.ticks.count + 1 < 2 ^ 64 }
     ensures counted { result
         ≡ events + one_counted (counted_at journal.old.histories node.number (mark_of journal.old node.number)) }
     ensures raised { journal.new ≡ raised journal.old node.number }

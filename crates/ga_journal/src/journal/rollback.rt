@@ -6,21 +6,22 @@ use ga_grid::{Chip, NodeId};
 
 impl Journal {
     ghost use Rattle.std.specs.Prelude.{◌≡◌, ◌<◌, ◌+◌, ◌^◌, ℕ, Some, length, true, false, IfSome, IfNone};
+    ghost use Rattle.ga_journal.specs.Work.{no_work};
     ghost use Rattle.ga_journal.specs.Histories.{history};
     ghost use Rattle.ga_journal.specs.Marks.{AreMarks, mark_of, waits, named, partner_at, counted_at, ticked, lowered, raised, taken_up};
     ghost use Rattle.ga_journal.specs.Marks.{CanTakeBack, IsTakenBack};
     ghost use Rattle.ga_journal.specs.Looks.{IsLookToGo, SawNoneToGo, IsSought};
 
-    /// How many ticks were counted.
-    pub fn ticks(&self) -> u64
-        ensures { result ≡ self.now.ticks }
+    /// The ticks that were counted.
+    pub fn ticks(&self) -> &Ticks
+        ensures { result.now ≡ self.now.ticks }
     {
-        self.ticks.count()
+        &self.ticks
     }
 
     /// Counts from 0 on again.
     pub(crate) fn count_anew(&mut self)
-        ensures { self.new ≡ record self.old { ticks = 0 } }
+        ensures { self.new ≡ record self.old { ticks = no_work } }
     {
         self.ticks = Ticks::new();
     }
@@ -29,7 +30,7 @@ impl Journal {
     /// One tick.
     pub fn look(&mut self, node: NodeId, at: u32) -> Option<(NodeId, u32)>
         requires there { at < length (history self.old.histories node.number) }
-        requires fits { self.old.ticks + 1 < 2 ^ 64 }
+        requires fits { self.old.ticks.count + 1 < 2 ^ 64 }
         ensures value { named result ≡ partner_at self.old.histories node.number at }
         ensures ticks { self.new ≡ ticked self.old }
     {
@@ -46,9 +47,10 @@ impl Journal {
     }
 
     /// The position of the newest look of `looker` that is to stay so far, where it came after an entry of `node` that is
-    /// to go: then it saw what is to go. One tick, and none where no entry of `looker` is a look.
+    /// to go: then it saw what is to go. One tick, counted as one in vain where it finds none; no tick where no entry of `looker`
+    /// is a look.
     pub fn look_to_go(&mut self, node: NodeId, looker: NodeId) -> Option<u32>
-        requires { self.old.ticks + 1 < 2 ^ 64 }
+        requires { self.old.ticks.count + 1 < 2 ^ 64 }
         ensures some { IfSome result (λ at.
             IsLookToGo self.old node.number looker.number at × (self.new ≡ ticked self.old)) }
         ensures none { IfNone result (
@@ -59,14 +61,22 @@ impl Journal {
         }
         let stay = self.mark_of(looker);
         let gone = self.mark_of(node);
-        self.ticks.raise();
-        self.histories.look_after((looker, stay), (node, gone))
+        match self.histories.look_after((looker, stay), (node, gone)) {
+            Some(at) => {
+                self.ticks.raise();
+                Some(at)
+            }
+            None => {
+                self.ticks.raise_in_vain();
+                None
+            }
+        }
     }
 
     /// Lowers a node's mark: only its first `to` entries are to stay. The node waits from then on. One tick.
     pub fn lower(&mut self, node: NodeId, to: u32)
         requires smaller { to < mark_of self.old node.number }
-        requires fits { self.old.ticks + 1 < 2 ^ 64 }
+        requires fits { self.old.ticks.count + 1 < 2 ^ 64 }
         ensures { self.new ≡ lowered self.old node.number to }
     {
         self.ticks.raise();
@@ -79,7 +89,7 @@ impl Journal {
     /// counted by that entry, as an own event is, and a pass by its writer's. One tick.
     pub fn raise(&mut self, node: NodeId) -> bool
         requires going { mark_of self.old node.number < length (history self.old.histories node.number) }
-        requires fits { self.old.ticks + 1 < 2 ^ 64 }
+        requires fits { self.old.ticks.count + 1 < 2 ^ 64 }
         ensures counted { Some result ≡ counted_at self.old.histories node.number (mark_of self.old node.number) }
         ensures raised { self.new ≡ raised self.old node.number }
     {
@@ -91,7 +101,7 @@ impl Journal {
 
     /// Takes one of the nodes that wait out, in one tick. None, and no tick, where none waits.
     pub fn take_up(&mut self) -> Option<NodeId>
-        requires { self.old.ticks + 1 < 2 ^ 64 }
+        requires { self.old.ticks.count + 1 < 2 ^ 64 }
         ensures some { IfSome result (λ node.
             (waits self.old node.number ≡ true) × (self.new ≡ taken_up self.old node.number)) }
         ensures none { IfNone result (((n : ℕ) → waits self.old n ≡ false) × (self.new ≡ self.old)) }
@@ -106,7 +116,7 @@ impl Journal {
     pub fn restore_last(&mut self, chip: &mut Chip, node: NodeId)
         requires going { mark_of self.old node.number < length (history self.old.histories node.number) }
         requires sound { CanTakeBack self.old chip.old node.number }
-        requires fits { self.old.ticks + 1 < 2 ^ 64 }
+        requires fits { self.old.ticks.count + 1 < 2 ^ 64 }
         ensures { IsTakenBack self.old chip.old node.number self.new chip.new }
     {
         self.ticks.raise();

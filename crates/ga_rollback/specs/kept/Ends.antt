@@ -27,5 +27,6 @@ pub record IsRestoring (chip : List NodeState) (first : Book) (now : List NodeSt
   pub marks : (m : ℕ) → mark_of book m ≡ mark_of first m
   pub sized : length book.going ≡ 144
   pub others : book ≡ record first { histories = book.histories; ready = book.ready; going = book.going; ticks = book.ticks }
-  pub count : book.ticks + to_go book ≡ first.ticks + to_go first
+  pub count : book.ticks.count + to_go book ≡ first.ticks.count + to_go first
+  pub vain : book.ticks.vain ≡ first.ticks.vain
   pub falls : entries book + to_go first ≡ entries first + to_go book

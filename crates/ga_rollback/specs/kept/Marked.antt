@@ -5,7 +5,7 @@ use Rattle.ga_ports.specs.declared.side.Side.{Side}
 use Rattle.ga_grid.specs.Grid.{neighbour_of}
 use Rattle.ga_journal.specs.Histories.{Past, Book, history}
 use Rattle.ga_journal.specs.Events.{has_looked_in}
-use Rattle.ga_journal.specs.Marks.{partner_of, partner_at, entry_at, mark_of, going_of, waits, ticked, lowered, AreMarks}
+use Rattle.ga_journal.specs.Marks.{partner_of, partner_at, entry_at, mark_of, going_of, waits, ticked, ticked_in_vain, lowered, AreMarks}
 use Rattle.ga_journal.specs.kept.Marks.{to_go, in_line}
 use Rattle.ga_journal.specs.Looks.{HasLook, IsLookToGo, SawNoneToGo}
 use Rattle.ga_rollback.specs.Marked.{looks_of}
@@ -59,7 +59,7 @@ pub data AreLowered (old : Book) (node : ℕ) : ℕ → Book → Type 0 where
       → neighbour_of m side ≡ Some node → IsLookToGo book node m p → new ≡ lowered (ticked book) m p
       → AreLowered old node vain new
   Vain : {vain : ℕ} {new : Book} (book : Book) (before m : ℕ) → AreLowered old node before book
-      → HasLook (history book.histories m) → vain ≡ before + 1 → new ≡ ticked book → AreLowered old node vain new
+      → HasLook (history book.histories m) → vain ≡ before + 1 → new ≡ ticked_in_vain book → AreLowered old node vain new
 
 -- the same, with at most so many such searches
 pub record AreLoweredBy (most : ℕ) (old : Book) (node : ℕ) (new : Book) : Type 0 where
@@ -82,11 +82,12 @@ pub record IsMarking (first : Book) (n k : ℕ) (book : Book) (visited : List �
   pub fits : (m : ℕ) → slice_index visited m ≤ going_of book m
   pub found : ℕ
   pub vain : ℕ
+  pub apart : book.ticks.vain ≡ first.ticks.vain + vain
   pub looks : looks_of (staying book.histories book.going) + found ≤ looks_of book.histories
   pub searches : vain + 4 * in_line book + more ≤ 4 * to_go book
   pub blind : looks_of book.histories ≡ 0 → vain ≡ 0
-  pub least : first.ticks + 2 + sum_by (λ (x : ℕ). x) visited ≤ book.ticks + in_line book
-  pub bound : book.ticks + in_line book ≤ first.ticks + 2 * to_go book + sum_by (λ (x : ℕ). x) visited + found + vain
+  pub least : first.ticks.count + 2 + sum_by (λ (x : ℕ). x) visited + vain ≤ book.ticks.count + in_line book
+  pub bound : book.ticks.count + in_line book ≤ first.ticks.count + 2 * to_go book + sum_by (λ (x : ℕ). x) visited + found + vain
 
 -- of a node that does not wait all entries to go were visited, and no look that is to stay saw one of them
 abbrev pub IsDone : Book → List ℕ → ℕ → Type 0

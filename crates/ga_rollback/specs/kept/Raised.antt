@@ -26,5 +26,5 @@ one_counted (Some b) = if b then 1 else 0
 pub record IsRaising (first book : Book) (events : ℕ) : Type 0 where
   pub others : book ≡ record first { going = book.going; ticks = book.ticks }
   pub sized : length book.going ≡ 144
-  pub ticked : book.ticks + to_go book ≡ first.ticks + to_go first
+  pub ticked : book.ticks.count + to_go book ≡ first.ticks.count + to_go first
   pub number : events + counted_staying first ≡ counted_staying book

@@ -13,7 +13,7 @@ fn seen(journal: &Journal) -> (u32, u32, u64) {
     (
         journal.mark_of(first),
         journal.mark_of(second),
-        journal.ticks(),
+        journal.ticks().count(),
     )
 }
 
@@ -24,7 +24,7 @@ pub(crate) fn is_seen(rt: &impl Abort, journal: &Journal, wanted: (u32, u32, u64
 // Lowers the mark of node 000 or 001 where it stands above; or, with no mark, seeks the newest look of the other of them that
 // saw what is to go of this one.
 fn turn(journal: &mut Journal, node: NodeId, mark: Option<u32>) -> Option<u32> {
-    if journal.ticks() == u64::MAX {
+    if journal.ticks().count() == u64::MAX {
         return None;
     }
     let Some(to) = mark else {
@@ -38,7 +38,7 @@ fn turn(journal: &mut Journal, node: NodeId, mark: Option<u32>) -> Option<u32> {
 
 // The other end of an entry, where the node has so many.
 fn partner(journal: &mut Journal, node: NodeId, at: u32) -> Option<(NodeId, u32)> {
-    if at < journal.steps_of(node) && journal.ticks() < u64::MAX {
+    if at < journal.steps_of(node) && journal.ticks().count() < u64::MAX {
         return journal.look(node, at);
     }
     None
@@ -46,7 +46,7 @@ fn partner(journal: &mut Journal, node: NodeId, at: u32) -> Option<(NodeId, u32)
 
 // A node that waits.
 fn taken_up(journal: &mut Journal) -> Option<NodeId> {
-    if journal.ticks() == u64::MAX {
+    if journal.ticks().count() == u64::MAX {
         return None;
     }
     journal.take_up()
@@ -105,7 +105,7 @@ pub(crate) fn take_turns(rt: &impl Abort, journal: &mut Journal, turns: &[Turn])
 }
 
 // The newest look that is to stay is found where it came after what is to go of the other node. A search is a tick where the
-// looker has a look.
+// looker has a look; three of these are in vain.
 #[test]
 fn finds_looks_to_go(rt: HostRuntime) -> Result<(), Fail> {
     let n000 = NodeId::new(0);
@@ -127,5 +127,6 @@ fn finds_looks_to_go(rt: HostRuntime) -> Result<(), Fail> {
         (n000, None, None, (0, 0, 11)),
     ];
     take_turns(&rt, &mut journal, &turns);
+    assert_eq!(rt; journal.ticks().vain(), 3);
     Ok(())
 }

@@ -19,7 +19,7 @@ look_to_go-requires c =
 pub lower-requires-clause-fits : goal.lower-requires-clause-fits
 lower-requires-clause-fits c =
     let a = ticks_fit c.args.journal.now c.args.node.number c.finding.journal c.requires.sound c.finding.invariant in
-    let b : c.look_to_go.new.self.ticks ≡ c.finding.journal.ticks + 1 = ap (λ (z : Book). z.ticks) c.in-Some-look_to_go.ensures.some.1 in
+    let b : c.look_to_go.new.self.ticks.count ≡ c.finding.journal.ticks.count + 1 = ap (λ (z : Book). z.ticks.count) c.in-Some-look_to_go.ensures.some.1 in
     let f = c.requires.fits in omega arith
 
 pub lower-requires-clause-smaller : goal.lower-requires-clause-smaller

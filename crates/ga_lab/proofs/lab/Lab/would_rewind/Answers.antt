@@ -20,7 +20,7 @@ would_rewind-requires-clause-fits c =
     let lab = lab_anew c.self.inside.chip c.self.inside.chronicle.journal book c.count_anew.ensures c.self.invariant in
     let short : length (kept_of c.self.inside.chronicle.journal) < 4294967296 = (let v = c.kept-kept.ensures.value in let r : c.kept-kept.result < 4294967296 = c.kept-kept.type_inv in omega arith) in
     let same : length (kept_of book) ≡ length (kept_of c.self.inside.chronicle.journal) = ap (λ (b : Book). length (kept_of b)) c.count_anew.ensures in
-    let none : book.ticks ≡ 0 = ap (λ (b : Book). b.ticks) c.count_anew.ensures in
+    let none : book.ticks.count ≡ 0 = ap (λ (b : Book). b.ticks.count) c.count_anew.ensures in
     let a = entries_fit c.self.inside.chip book lab (omega arith) in
     omega arith
 
