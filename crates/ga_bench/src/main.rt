@@ -4,9 +4,9 @@
 //! `ga_bench busy MODE EVENTS ROUNDS` and `ga_bench mixed MODE EVENTS ROUNDS` make events; MODE is `own`, `into`, `values` or
 //! `back`. `ga_bench image NODES ROUNDS` reads an image of each format that gives all of so many nodes, and prints the second.
 //! `ga_bench lab NODES STEPS` steps the first nodes of a lab in turn, takes all steps back, and makes them again. `ga_bench
-//! rewind EVENTS ROUNDS` makes rollbacks that remove three entries where so many events are kept, `ga_bench rewind-all EVENTS`
-//! one that removes so many, and `ga_bench rewind-looks LOOKS ROUNDS` rollbacks of a wait that take so many looks of a
-//! neighbour along. The best of the rounds counts.
+//! rewind EVENTS ROUNDS` makes rollbacks that remove three entries where so many events are kept, and `ga_bench foretell EVENTS
+//! ROUNDS` asks what they would take. `ga_bench rewind-all EVENTS` makes one that removes so many, and `ga_bench rewind-looks
+//! LOOKS ROUNDS` rollbacks of a wait that take so many looks of a neighbour along. The best of the rounds counts.
 #![tactic(auto)]
 
 mod events;
@@ -97,9 +97,9 @@ fn main(rt: HostRuntime) -> io::Result<()> {
             let nodes = number(words.get(2), 1);
             print_lab(&rt, nodes, number(words.get(3), 1_000_000))
         }
-        "rewind" => {
+        "rewind" | "foretell" => {
             let count = number(words.get(2), 1_000_000);
-            let timed = time_small(&rt, count, number(words.get(3), 200))?;
+            let timed = time_small(&rt, count, number(words.get(3), 200), what == "rewind")?;
             print_rewind(&rt, timed)
         }
         "rewind-all" => {

@@ -68,6 +68,18 @@ fn rewind_pairs(lab: &mut Lab) -> u32 {
     removed
 }
 
+/// Asks of each pair what that would take, and counts the events that would go.
+#[inline(never)]
+fn foretell_pairs(lab: &mut Lab) -> u32 {
+    let mut going = 0u32;
+    for pair in 0..PAIRS {
+        if let Ok(gone) = lab.would_rewind(NodeId::new(2 * pair), 7) {
+            going = going.wrapping_add(gone.events);
+        }
+    }
+    going
+}
+
 /// Passes each word again.
 #[inline(never)]
 fn pass_again(lab: &mut Lab) {
@@ -77,8 +89,13 @@ fn pass_again(lab: &mut Lab) {
 }
 
 /// The nanoseconds of the best of some rounds of 71 rollbacks that remove three entries each, where the last node keeps so many
-/// own events, and the number of events removed; none without memory.
-pub fn time_small(rt: &HostRuntime, own: u32, rounds: u32) -> io::Result<Option<(u128, u32)>> {
+/// own events, and the number of events removed; none without memory. Where they are not done, they are asked about.
+pub fn time_small(
+    rt: &HostRuntime,
+    own: u32,
+    rounds: u32,
+    is_done: bool,
+) -> io::Result<Option<(u128, u32)>> {
     let mut lab = match passed(rt.alloc(), own) {
         Some(lab) => lab,
         None => return Ok(None),
@@ -87,9 +104,15 @@ pub fn time_small(rt: &HostRuntime, own: u32, rounds: u32) -> io::Result<Option<
     let mut removed = 0u32;
     for _ in 0..rounds {
         let start = Instant::now(rt)?;
-        removed = rewind_pairs(&mut lab);
+        removed = if is_done {
+            rewind_pairs(&mut lab)
+        } else {
+            foretell_pairs(&mut lab)
+        };
         best = best.min(start.elapsed(rt)?.as_nanos());
-        pass_again(&mut lab);
+        if is_done {
+            pass_again(&mut lab);
+        }
     }
     Ok(Some((best / u128::from(PAIRS), removed)))
 }
