@@ -9,4 +9,5 @@ pub mod Stored
 pub mod Asking
 pub mod Ran
 pub mod Keeping
+pub mod Moves
 pub mod Newest

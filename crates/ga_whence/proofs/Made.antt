@@ -87,21 +87,20 @@ moved_on s node k at from e = ap (λ o. unwrap_or (option_map (origin_from s nod
 pub made_there : (s : State) (node : NodeId) (k : ℕ) (at : Part) → moved_at s node.number k at ≡ None → origin_from s node (suc k) at ≡ value_at node (suc k) (told_part (flow_at s node.number k at) at)
 made_there s node k at e = ap (λ o. unwrap_or (option_map (origin_from s node k) o) (value_at node (suc k) (told_part (flow_at s node.number k at) at))) e
 
-pub moved_by : (s : State) (n k : ℕ) (at : Part) (flow : Flow) (o : Option Part) → flow ≡ flow_at s n k at → o ≡ moved_from flow at → moved_at s n k at ≡ o
-moved_by s n k at flow o is e = ap (λ (z : Flow). moved_from z at) (sym is) ∙ sym e
+pub moved_so : (s : State) (n k : ℕ) (at : Part) (flow : Flow) (o : Option Part) → flow ≡ flow_at s n k at → o ≡ moved_from flow at → moved_at s n k at ≡ o
+moved_so s n k at flow o is e = ap (λ (z : Flow). moved_from z at) (sym is) ∙ sym e
 
 -- the walk back goes on, and ends at the step or at the load
-pub back_on : (s : State) (node : NodeId) (step k : ℕ) (at from : Part) (flow : Flow) (value : Value) → suc k ≡ step → flow ≡ flow_at s node.number k at → Some from ≡ moved_from flow at
+pub back_on : (s : State) (node : NodeId) (step k : ℕ) (at from : Part) (value : Value) → suc k ≡ step → Some from ≡ moved_at s node.number k at
     → origin_from s node step at ≡ value → origin_from s node k from ≡ value
-back_on s node step k at from flow value is e moved same =
-    sym (moved_on s node k at from (moved_by s node.number k at flow (Some from) e moved)) ∙ ap (λ (z : ℕ). origin_from s node z at) is ∙ same
+back_on s node step k at from value is moved same = sym (moved_on s node k at from (sym moved)) ∙ ap (λ (z : ℕ). origin_from s node z at) is ∙ same
 
-pub back_end : (s : State) (node : NodeId) (step end k : ℕ) (at told : Part) (flow : Flow) (value : Value) → end ≡ suc k → suc k ≡ step → flow ≡ flow_at s node.number k at → None ≡ moved_from flow at
-    → told ≡ told_part flow at → origin_from s node step at ≡ value → value_at node end told ≡ value
-back_end s node step end k at told flow value ends is e moved part same =
-    ap (λ (z : ℕ). value_at node z told) ends
+pub back_end : (s : State) (node : NodeId) (step k : ℕ) (at told : Part) (flow : Flow) (value : Value) → suc k ≡ step → flow ≡ flow_at s node.number k at → None ≡ moved_at s node.number k at
+    → told ≡ told_part flow at → origin_from s node step at ≡ value → value_at node step told ≡ value
+back_end s node step k at told flow value is e moved part same =
+    ap (λ (z : ℕ). value_at node z told) (sym is)
     ∙ ap (value_at node (suc k)) (part ∙ ap (λ (z : Flow). told_part z at) e)
-    ∙ sym (made_there s node k at (moved_by s node.number k at flow None e moved))
+    ∙ sym (made_there s node k at (sym moved))
     ∙ ap (λ (z : ℕ). origin_from s node z at) is ∙ same
 
 pub back_load : (s : State) (node : NodeId) (step : ℕ) (at : Part) (value : Value) → step ≡ 0 → origin_from s node step at ≡ value → value_at node 0 at ≡ value
@@ -158,7 +157,7 @@ origin_past : (s : State) (node : NodeId) (steps : ℕ) (at : Part) → IsPart a
 origin_past s node steps at is e zero = ap (λ (z : ℕ). origin_from s node z at) (let f : steps ≡ 0 + steps = omega arith in f)
 origin_past s node steps at is e (suc more) =
     origin_past s node steps at is e more
-    ∙ sym (moved_on s node (more + steps) at at (moved_by s node.number (more + steps) at (Same at) (Some at) (flow_past s node.number (more + steps) at (omega (arith, e))) (stays at is)))
+    ∙ sym (moved_on s node (more + steps) at at (moved_so s node.number (more + steps) at (Same at) (Some at) (flow_past s node.number (more + steps) at (omega (arith, e))) (stays at is)))
     ∙ ap (λ (z : ℕ). origin_from s node z at) (let f : suc (more + steps) ≡ suc more + steps = omega arith in f)
 
 pub origin_last : (s : State) (node : NodeId) (step steps : ℕ) (at : Part) → IsPart at → steps ≡ length (history_of s node.number) → steps ≤ step

@@ -5,6 +5,7 @@ mod asked;
 mod fetched;
 pub mod laws;
 mod listing;
+mod moving;
 mod origin;
 mod value;
 mod writes;

@@ -8,7 +8,7 @@ ghost use Rattle.ga_whence.specs.Origins.{value_at};
 ghost use Rattle.ga_whence.specs.Rows.{is_named, row_at, sender_in, sources_by, below, AreRows};
 ghost use Rattle.ga_whence.specs.kept.Open.{IsOpen};
 
-use crate::origin::{flow_behind, origin_near};
+use crate::origin::{Origin, flow_behind, origin_near};
 use crate::value::Value;
 use arrayvec::ArrayVec;
 use ga_event::Made;
@@ -161,13 +161,17 @@ pub fn whence_near<'l>(
     let mut rows: Vec<Row> = Vec::new(alloc);
     let mut todo: Vec<Row> = Vec::new(alloc);
     todo.push(Row { depth: 0, value })?;
+    let mut last = Origin {
+        value: Value { node: at, ..value },
+        before: near.copy(),
+    };
     'telling: while let Some(next) = todo.pop() {
-        let origin = origin_near(lab, near, at, next.value);
+        last = origin_near(lab, near, at, last, next.value);
         let row = Row {
             depth: next.depth,
-            value: origin.value,
+            value: last.value,
         };
-        if is_named(&rows, origin.value) {
+        if is_named(&rows, last.value) {
             continue 'telling;
         }
         if rows.as_slice().len() == most as usize {
@@ -176,7 +180,7 @@ pub fn whence_near<'l>(
                 is_whole: false,
             });
         }
-        push_below(&mut todo, lab, &origin.before, row)?;
+        push_below(&mut todo, lab, &last.before, row)?;
         rows.push(row)?;
     }
     Ok(Listing {

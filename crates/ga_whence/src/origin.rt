@@ -1,19 +1,23 @@
 //! The step that made a value.
 
-ghost use Rattle.std.specs.Prelude.{◌≡◌, ◌≤◌, ◌-◌, IfSome};
+ghost use Rattle.std.specs.Prelude.{◌≡◌, ◌<◌, ◌≤◌, ◌-◌, None, IfSome};
 ghost use Rattle.ga_node.specs.Record.{record_of};
 ghost use Rattle.ga_event.specs.Told.{steps_of};
 ghost use Rattle.ga_lab.specs.Machine.{standing};
 ghost use Rattle.ga_flow.specs.Flow.{IsPart};
 ghost use Rattle.ga_flow.specs.Following.{flow_of, AreSources};
-ghost use Rattle.ga_whence.specs.Origins.{is_cell, crosses, moved_from, is_of_three, told_part, told_flow, flow_at, origin_from, origin_of};
+ghost use Rattle.ga_whence.specs.Origins.{is_cell, crosses, moved_from, is_of_three, told_part, told_flow, flow_at, moved_at, origin_from, origin_of};
 
+use crate::moving::moved_by;
 use crate::value::Value;
 use ga_event::Made;
 use ga_flow::{Flow, Part, own_flow, send_flow, take_flow};
 use ga_grid::NodeId;
 use ga_lab::{Lab, Walk};
 use ga_node::Node;
+
+/// So many steps are looked at before the node is walked back over them: few enough that what is kept of them is still at hand.
+pub(crate) const AT_ONCE: u32 = 64;
 
 // Whether the part is a cell of memory.
 pub(crate) fn is_cell(part: Part) -> bool
@@ -165,15 +169,48 @@ pub(crate) fn walk_near<'l>(
     }
 }
 
-// What made a value, found from where a walk of some node stands, which is not walked on.
-pub(crate) fn origin_near<'l>(lab: &'l Lab, near: &Walk<'l>, at: NodeId, value: Value) -> Origin<'l>
+// A node as it was right after a step, walked on from before the origin that was found last, where that is of the same node and not
+// earlier, or else from where another walk stands.
+fn walk_on<'l>(
+    lab: &'l Lab,
+    near: &Walk<'l>,
+    at: NodeId,
+    last: Origin<'l>,
+    node: NodeId,
+    step: u32,
+) -> Walk<'l>
+    requires within { step ≤ steps_of node.number lab.now.kept }
+    requires near { near.now ≡ standing lab.now at near.now.step }
+    requires last { last.before ≡ standing lab.now last.value.node last.before.step }
+    ensures { result ≡ standing lab.now node step }
+{
+    let Origin { value, before } = last;
+    if value.node == node && step <= before.step() {
+        let mut walk = before;
+        walk.back_to(step);
+        walk
+    } else {
+        walk_near(lab, near, at, node, step)
+    }
+}
+
+// What made a value, found from before the origin that was found last or from where a walk of some node stands, which is not walked
+// on.
+pub(crate) fn origin_near<'l>(
+    lab: &'l Lab,
+    near: &Walk<'l>,
+    at: NodeId,
+    last: Origin<'l>,
+    value: Value,
+) -> Origin<'l>
     requires part { IsPart value.part }
     requires near { near.now ≡ standing lab.now at near.now.step }
+    requires last { last.before ≡ standing lab.now last.value.node last.before.step }
     ensures value { result.value ≡ origin_of lab.now value }
     ensures part { IsPart result.value.part }
     ensures before { result.before ≡ standing lab.now result.value.node (result.value.step - 1) }
 {
-    let mut walk = walk_near(lab, near, at, value.node, kept_step(lab, value));
+    let mut walk = walk_on(lab, near, at, last, value.node, kept_step(lab, value));
     let origin = origin_behind(lab, &mut walk, value.node, value.part);
     Origin {
         value: origin,
@@ -181,7 +218,27 @@ pub(crate) fn origin_near<'l>(lab: &'l Lab, near: &Walk<'l>, at: NodeId, value: 
     }
 }
 
-/// The same of a part where the node is walked back to, which is walked on to right before the step that made the value.
+// The part from which the step behind so many moved a value, or None where it made it: by what is told of the step, or else by the node
+// before it, to which the walk goes back.
+fn moved_over(lab: &Lab, walk: &mut Walk<'_>, node: NodeId, place: u32, part: Part) -> Option<Part>
+    requires part { IsPart part }
+    requires place { place < walk.old.step }
+    requires walk { walk.old ≡ standing lab.now node walk.old.step }
+    ensures value { result ≡ moved_at lab.now node.number place part }
+    ensures part { IfSome result (λ from. IsPart from) }
+    ensures walk { walk.new ≡ standing lab.now node walk.new.step }
+    ensures within { place ≤ walk.new.step }
+    ensures made { result ≡ None → walk.new.step ≡ place }
+{
+    if let Some(from) = moved_by(lab.told(node, place), part) {
+        return Some(from);
+    }
+    walk.back_to(place);
+    moved_from(&flow_behind(lab, walk, node, part), part)
+}
+
+/// The same of a part where the node is walked back to, which is walked on to right before the step that made the value. Of a step of
+/// which what is told says from where it moved the value only that is looked at.
 pub(crate) fn origin_behind(lab: &Lab, walk: &mut Walk<'_>, node: NodeId, mut part: Part) -> Value
     requires part { IsPart part }
     requires walk { walk.old ≡ standing lab.now node walk.old.step }
@@ -191,21 +248,21 @@ pub(crate) fn origin_behind(lab: &Lab, walk: &mut Walk<'_>, node: NodeId, mut pa
     ensures node { result.node ≡ node }
     ensures walk { walk.new ≡ standing lab.now node (result.step - 1) }
 {
-    'steps: while walk.step() > 0 {
-        walk.back();
-        let flow = flow_behind(lab, walk, node, part);
-        match moved_from(&flow, part) {
+    let mut step = walk.step();
+    'steps: while step > 0 {
+        match moved_over(lab, walk, node, step - 1, part) {
             Some(from) => part = from,
             None => {
-                let step = walk.step() + 1;
+                let flow = flow_behind(lab, walk, node, part);
                 let part = told_part(&flow, part);
                 return Value { node, step, part };
             }
         }
+        step -= 1;
+        if step % AT_ONCE == 0 {
+            walk.back_to(step);
+        }
     }
-    Value {
-        node,
-        step: 0,
-        part,
-    }
+    walk.back_to(0);
+    Value { node, step, part }
 }

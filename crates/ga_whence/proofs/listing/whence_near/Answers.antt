@@ -1,10 +1,11 @@
-use Rattle.std.proofs.Common.{◌≡◌, ◌≤◌, ◌+◌, true, false, [], length, vec_len, sym, ap, ◌∙◌, arith}
+use Rattle.std.proofs.Common.{◌≡◌, ◌≤◌, ◌+◌, ◌-◌, true, false, [], length, vec_len, sym, ap, ◌∙◌, arith}
 use Rattle.ga_whence.specs.Rows.{is_named, row_at, below}
+use Rattle.ga_whence.proofs.Made.{stands_so}
 use Rattle.ga_whence.proofs.Walking.{told_again, told_on, told_cut, told_all, no_items, grown_by, open_top, open_left, open_on}
 use Rattle.ga_whence.proofs.listing.whence_near.Goals as goal
 
-pub origin_near-origin-requires-clause-part : goal.origin_near-origin-requires-clause-part
-origin_near-origin-requires-clause-part c =
+pub origin_near-last-requires-clause-part : goal.origin_near-last-requires-clause-part
+origin_near-last-requires-clause-part c =
     let top = open_top (length c.telling.rows.items) c.telling.todo.items c.pop.new.self.items c.in-Some.next c.in-Some.ensures.items c.telling.invariant.ready in top.0
 
 pub push_below-requires-clause-deep : goal.push_below-requires-clause-deep
@@ -16,25 +17,26 @@ push_below-requires-clause-deep c =
 
 pub telling-preserved-then-is_named : goal.telling-preserved-then-is_named
 telling-preserved-then-is_named c =
-    let named : is_named c.telling.rows.items c.origin_near-origin.result.value ≡ true =
-    sym (ap (λ z. is_named z c.origin_near-origin.result.value) c.deref.ensures.value) ∙ sym c.is_named.ensures ∙ c.if-is_named.true in
+    let named : is_named c.telling.rows.items c.origin_near-last.result.value ≡ true =
+    sym (ap (λ z. is_named z c.origin_near-last.result.value) c.deref.ensures.value) ∙ sym c.is_named.ensures ∙ c.if-is_named.true in
     record {
-      tells = told_again c.args.lab.now (row_at 0 c.args.value) c.telling.rows.items c.telling.todo.items c.pop.new.self.items c.in-Some.next c.origin_near-origin.result.value c.in-Some.ensures.items c.origin_near-origin.ensures.value named c.telling.invariant.tells;
+      tells = told_again c.args.lab.now (row_at 0 c.args.value) c.telling.rows.items c.telling.todo.items c.pop.new.self.items c.in-Some.next c.origin_near-last.result.value c.in-Some.ensures.items c.origin_near-last.ensures.value named c.telling.invariant.tells;
       ready = open_left (length c.telling.rows.items) c.telling.todo.items c.pop.new.self.items c.in-Some.next c.in-Some.ensures.items c.telling.invariant.ready;
       most = c.telling.invariant.most;
+      last = stands_so c.args.lab.now c.origin_near-last.result.value.node (c.origin_near-last.result.value.step - 1) c.origin_near-last.result.before c.origin_near-last.ensures.before;
     }
 
 pub returns-then-as_slice-most-clause-rows : goal.returns-then-as_slice-most-clause-rows
 returns-then-as_slice-most-clause-rows c =
-    let named : is_named c.telling.rows.items c.origin_near-origin.result.value ≡ false =
-    sym (ap (λ z. is_named z c.origin_near-origin.result.value) c.deref.ensures.value) ∙ sym c.is_named.ensures ∙ c.if-is_named.false in
-    told_cut c.args.lab.now (row_at 0 c.args.value) c.telling.rows.items c.telling.todo.items c.pop.new.self.items c.in-Some.next c.origin_near-origin.result.value c.in-Some.ensures.items c.origin_near-origin.ensures.value named c.telling.invariant.tells
+    let named : is_named c.telling.rows.items c.origin_near-last.result.value ≡ false =
+    sym (ap (λ z. is_named z c.origin_near-last.result.value) c.deref.ensures.value) ∙ sym c.is_named.ensures ∙ c.if-is_named.false in
+    told_cut c.args.lab.now (row_at 0 c.args.value) c.telling.rows.items c.telling.todo.items c.pop.new.self.items c.in-Some.next c.origin_near-last.result.value c.in-Some.ensures.items c.origin_near-last.ensures.value named c.telling.invariant.tells
 
 pub telling-preserved : goal.telling-preserved
 telling-preserved c =
-    let named : is_named c.telling.rows.items c.origin_near-origin.result.value ≡ false =
-    sym (ap (λ z. is_named z c.origin_near-origin.result.value) c.deref.ensures.value) ∙ sym c.is_named.ensures ∙ c.if-is_named.false in
-    let row = row_at c.in-Some.next.depth c.origin_near-origin.result.value in
+    let named : is_named c.telling.rows.items c.origin_near-last.result.value ≡ false =
+    sym (ap (λ z. is_named z c.origin_near-last.result.value) c.deref.ensures.value) ∙ sym c.is_named.ensures ∙ c.if-is_named.false in
+    let row = row_at c.in-Some.next.depth c.origin_near-last.result.value in
     let grown : length c.push-in-Some.new.self.items ≡ length c.telling.rows.items + 1 = grown_by c.telling.rows.items c.push-in-Some.new.self.items row c.in_ok-push-2.ensures.items in
     let top = open_top (length c.telling.rows.items) c.telling.todo.items c.pop.new.self.items c.in-Some.next c.in-Some.ensures.items c.telling.invariant.ready in
     let less : length c.telling.rows.items ≤ length c.push-in-Some.new.self.items = omega (arith, grown) in
@@ -43,11 +45,12 @@ telling-preserved c =
     let long = ap length c.as_slice.ensures.value in
     let most : length c.push-in-Some.new.self.items ≤ c.args.most = omega (arith, grown, long, c.if-as_slice-most.false, c.telling.invariant.most) in
     record {
-      tells = told_on c.args.lab.now (row_at 0 c.args.value) c.telling.rows.items c.push-in-Some.new.self.items c.telling.todo.items c.pop.new.self.items c.push_below.new.todo.items c.in-Some.next c.origin_near-origin.result.value
-          c.in-Some.ensures.items c.origin_near-origin.ensures.value named c.in_ok-push-2.ensures.items c.in_ok-push_below.ensures.ok c.telling.invariant.tells;
+      tells = told_on c.args.lab.now (row_at 0 c.args.value) c.telling.rows.items c.push-in-Some.new.self.items c.telling.todo.items c.pop.new.self.items c.push_below.new.todo.items c.in-Some.next c.origin_near-last.result.value
+          c.in-Some.ensures.items c.origin_near-last.ensures.value named c.in_ok-push-2.ensures.items c.in_ok-push_below.ensures.ok c.telling.invariant.tells;
       ready = open_on (length c.telling.rows.items) (length c.push-in-Some.new.self.items) (c.in-Some.next.depth + 1) c.telling.todo.items c.pop.new.self.items c.push_below.new.todo.items (below c.args.lab.now row) c.in-Some.next
           c.in-Some.ensures.items less deep c.telling.invariant.ready c.in_ok-push_below.ensures.ready c.in_ok-push_below.ensures.ok;
       most = most;
+      last = stands_so c.args.lab.now c.origin_near-last.result.value.node (c.origin_near-last.result.value.step - 1) c.origin_near-last.result.before c.origin_near-last.ensures.before;
     }
 
 pub returns-clause-rows : goal.returns-clause-rows

@@ -1,5 +1,6 @@
-use Rattle.std.proofs.Common.{◌+◌, ◌-◌, ◌*◌, ◌≤◌, length, reverse}
+use Rattle.std.proofs.Common.{◌≡◌, ◌+◌, ◌-◌, ◌*◌, ◌≤◌, length, reverse}
 use Rattle.std.specs.List.{All}
+use Rattle.ga_lab.specs.Machine.{standing}
 use Rattle.ga_whence.specs.Rows.{row_at}
 use Rattle.ga_whence.specs.kept.Open.{IsOpen}
 use Rattle.ga_whence.proofs.Walking.{Tells}
@@ -10,6 +11,7 @@ invariant-telling l = record {
   tells : Tells l.lab (row_at 0 l.fn.value) l.rows.items (reverse l.todo.items);
   ready : All (IsOpen (length l.rows.items)) (reverse l.todo.items);
   most : length l.rows.items ≤ l.most;
+  last : l.last.before ≡ standing l.lab l.last.value.node l.last.before.step;
 }
 
 -- each row that is told puts at most three values on the stack, and takes one from it

@@ -1,0 +1,243 @@
+//! Moves from part to part of a node that what is told of a step says by itself, whatever stood there.
+
+ghost use Rattle.std.specs.Prelude.{◌≡◌, ◌<◌, IfSome};
+ghost use Rattle.ga_flow.specs.Flow.{IsPart};
+ghost use Rattle.ga_whence.specs.kept.Moving.{on_data, on_return, pushed, popped_to_data, moved_to_data, popped_to_return, moved_to_return, moved_to_a, unless_stored, by_op, by_fetch, moved_by};
+
+use ga_event::Made;
+use ga_flow::Part;
+use ga_node::Kind;
+use ga_slots::Op;
+
+/// What an opcode does to the words of a stack.
+#[derive(Clone, Copy, PartialEq, Eq, Debug)]
+pub(crate) enum Shift {
+    /// Each keeps its place.
+    Stays,
+    /// The top is computed, the others keep their places.
+    Computes,
+    /// A word is pushed.
+    Pushes,
+    /// The top is popped, and the last gets a copy of another.
+    Pops,
+    /// The top is popped and the new one computed.
+    Combines,
+    /// A test decides.
+    Unsure,
+}
+
+// What an opcode does to the data stack.
+fn on_data(op: Op) -> Shift
+    ensures { result ≡ on_data op }
+{
+    match op {
+        Op::Return | Op::Execute | Op::Jump | Op::Call => Shift::Stays,
+        Op::Unext | Op::Next | Op::If | Op::MinusIf => Shift::Stays,
+        Op::FetchP | Op::FetchPlus | Op::FetchB | Op::Fetch => Shift::Pushes,
+        Op::StoreP | Op::StorePlus | Op::StoreB | Op::Store => Shift::Pops,
+        Op::MultiplyStep | Op::TwoStar | Op::TwoSlash | Op::Invert => Shift::Computes,
+        Op::Plus | Op::And | Op::Or => Shift::Combines,
+        Op::Dup | Op::Pop | Op::Over | Op::A => Shift::Pushes,
+        Op::Nop => Shift::Stays,
+        Op::Drop | Op::Push | Op::BStore | Op::AStore => Shift::Pops,
+    }
+}
+
+// What it does to the return stack.
+fn on_return(op: Op) -> Shift
+    ensures { result ≡ on_return op }
+{
+    match op {
+        Op::Return | Op::Pop => Shift::Pops,
+        Op::Execute => Shift::Computes,
+        Op::Call | Op::Push => Shift::Pushes,
+        Op::Unext | Op::Next => Shift::Unsure,
+        _ => Shift::Stays,
+    }
+}
+
+// The part whose word an opcode pushes. What it reads is that of none.
+fn pushed(op: Op) -> Option<Part>
+    ensures value { result ≡ pushed op }
+    ensures part { IfSome result (λ from. IsPart from) }
+{
+    match op {
+        Op::Dup | Op::Push => Some(Part::T),
+        Op::Over => Some(Part::S),
+        Op::Pop => Some(Part::R),
+        Op::A => Some(Part::A),
+        Op::Call => Some(Part::P),
+        _ => None,
+    }
+}
+
+// Where a word of the data stack stood before a pop.
+fn popped_to_data(place: u8) -> Part
+    requires { place < 10 }
+    ensures value { result ≡ popped_to_data place }
+    ensures part { IsPart result }
+{
+    if place == 9 {
+        Part::Data(2)
+    } else {
+        Part::Data(place + 1)
+    }
+}
+
+// The part whose word an opcode leaves at a place of the data stack.
+fn moved_to_data(op: Op, place: u8) -> Option<Part>
+    requires { place < 10 }
+    ensures value { result ≡ moved_to_data op place }
+    ensures part { IfSome result (λ from. IsPart from) }
+{
+    match on_data(op) {
+        Shift::Stays => Some(Part::Data(place)),
+        Shift::Computes => {
+            if place == 0 {
+                None
+            } else {
+                Some(Part::Data(place))
+            }
+        }
+        Shift::Pushes => {
+            if place == 0 {
+                pushed(op)
+            } else {
+                Some(Part::Data(place - 1))
+            }
+        }
+        Shift::Pops => Some(popped_to_data(place)),
+        Shift::Combines => {
+            if place == 0 {
+                None
+            } else {
+                Some(popped_to_data(place))
+            }
+        }
+        Shift::Unsure => None,
+    }
+}
+
+// Where a word of the return stack stood before a pop.
+fn popped_to_return(place: u8) -> Part
+    requires { place < 9 }
+    ensures value { result ≡ popped_to_return place }
+    ensures part { IsPart result }
+{
+    if place == 8 {
+        Part::Return(1)
+    } else {
+        Part::Return(place + 1)
+    }
+}
+
+// The part whose word an opcode leaves at a place of the return stack.
+fn moved_to_return(op: Op, place: u8) -> Option<Part>
+    requires { place < 9 }
+    ensures value { result ≡ moved_to_return op place }
+    ensures part { IfSome result (λ from. IsPart from) }
+{
+    match on_return(op) {
+        Shift::Stays => Some(Part::Return(place)),
+        Shift::Computes => {
+            if place == 0 {
+                None
+            } else {
+                Some(Part::Return(place))
+            }
+        }
+        Shift::Pushes => {
+            if place == 0 {
+                pushed(op)
+            } else {
+                Some(Part::Return(place - 1))
+            }
+        }
+        Shift::Pops => Some(popped_to_return(place)),
+        Shift::Combines => None,
+        Shift::Unsure => None,
+    }
+}
+
+// The part whose word it leaves in A.
+fn moved_to_a(op: Op) -> Option<Part>
+    ensures value { result ≡ moved_to_a op }
+    ensures part { IfSome result (λ from. IsPart from) }
+{
+    match op {
+        Op::FetchPlus | Op::StorePlus | Op::MultiplyStep => None,
+        Op::AStore => Some(Part::T),
+        _ => Some(Part::A),
+    }
+}
+
+// What a store may write stays under every other opcode.
+fn unless_stored(op: Op, part: Part) -> Option<Part>
+    requires { IsPart part }
+    ensures value { result ≡ unless_stored op part }
+    ensures part { IfSome result (λ from. IsPart from) }
+{
+    match op {
+        Op::StoreP | Op::StorePlus | Op::StoreB | Op::Store => None,
+        _ => Some(part),
+    }
+}
+
+// The part whose value an opcode leaves in a part. P and the slot are left to what stood in the node.
+fn by_op(op: Op, part: Part) -> Option<Part>
+    requires { IsPart part }
+    ensures value { result ≡ by_op op part }
+    ensures part { IfSome result (λ from. IsPart from) }
+{
+    match part {
+        Part::Data(place) => moved_to_data(op, place),
+        Part::Return(place) => moved_to_return(op, place),
+        Part::Ram(_) | Part::Io => unless_stored(op, part),
+        Part::Rom(_) | Part::I => Some(part),
+        Part::A => moved_to_a(op),
+        Part::B => { if op == Op::BStore { None } else { Some(part) } }
+        Part::Carry => { if op == Op::Plus { None } else { Some(part) } }
+        Part::P | Part::Slot | Part::Wait | Part::Stop | Part::Outside => None,
+    }
+}
+
+// The same of a fetch.
+fn by_fetch(part: Part) -> Option<Part>
+    requires { IsPart part }
+    ensures value { result ≡ by_fetch part }
+    ensures part { IfSome result (λ from. IsPart from) }
+{
+    match part {
+        Part::P | Part::I | Part::Slot | Part::Wait | Part::Stop | Part::Outside => None,
+        _ => Some(part),
+    }
+}
+
+/// The part from which a step moved a value to this one, where what is told of the step says so whatever stood in the node.
+pub(crate) fn moved_by(told: Option<Made>, part: Part) -> Option<Part>
+    requires { IsPart part }
+    ensures value { result ≡ moved_by told part }
+    ensures part { IfSome result (λ from. IsPart from) }
+{
+    match told {
+        Some(
+            Made::Own {
+                kind: Kind::Run(code),
+                ..
+            },
+        ) => {
+            if code < 32 {
+                by_op(Op::from_code(code), part)
+            } else {
+                None
+            }
+        }
+        Some(
+            Made::Own {
+                kind: Kind::Fetch,
+                ..
+            },
+        ) => by_fetch(part),
+        _ => None,
+    }
+}
