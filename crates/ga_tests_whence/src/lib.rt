@@ -6,4 +6,6 @@ mod asserts;
 #[cfg(test)]
 mod explore;
 #[cfg(test)]
+mod far;
+#[cfg(test)]
 mod whence;

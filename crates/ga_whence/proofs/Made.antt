@@ -16,7 +16,7 @@ use Rattle.ga_flow.specs.declared.part.Part.TheVariants.{Data, Return, Ram, Rom,
 use Rattle.ga_flow.specs.Flow.{Flow, Same, IsPart}
 use Rattle.ga_flow.specs.Following.{IsSource}
 use Rattle.ga_whence.specs.declared.value.Value.{Value}
-use Rattle.ga_whence.specs.Origins.{place_after, node_after, told_flow, flow_told, flow_at, moved_from, moved_at, told_part, value_at, origin_from}
+use Rattle.ga_whence.specs.Origins.{place_after, node_after, told_flow, flow_told, flow_at, moved_from, moved_at, told_part, value_at, origin_from, origin_of}
 
 steps-cons : (n : ℕ) (e : Event) (es : List Event) → steps_of n (e ∷ es) ≡ cond (touches e n) 1 0 + steps_of n es
 steps-cons n e es = sum_by-cons (λ (x : Event). cond (touches x n) 1 0) e es
@@ -103,8 +103,10 @@ back_end s node step k at told flow value is e moved part same =
     ∙ sym (made_there s node k at (sym moved))
     ∙ ap (λ (z : ℕ). origin_from s node z at) is ∙ same
 
-pub back_load : (s : State) (node : NodeId) (step : ℕ) (at : Part) (value : Value) → step ≡ 0 → origin_from s node step at ≡ value → value_at node 0 at ≡ value
-back_load s node step at value is same = ap (λ (z : ℕ). origin_from s node z at) (sym is) ∙ same
+pub told_so : (s : State) (node : NodeId) (value told made : Value) → value.node ≡ node → told.node ≡ value.node → origin_of s told ≡ origin_of s value → origin_from s node value.step value.part ≡ made
+    → origin_from s node told.step told.part ≡ made
+told_so s node value told made is same e there =
+    ap (λ (m : NodeId). origin_from s m told.step told.part) (sym (same ∙ is)) ∙ e ∙ ap (λ (m : NodeId). origin_from s m value.step value.part) is ∙ there
 
 -- a node that is walked back to so many of its steps
 pub stands_so : (s : State) (node : NodeId) (step : ℕ) (walk : Standing) → walk ≡ standing s node step → walk ≡ standing s node walk.step

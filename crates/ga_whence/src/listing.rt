@@ -138,9 +138,9 @@ fn push_below(todo: &mut Vec<Row>, lab: &Lab, before: &Walk<'_>, row: Row) -> Re
 }
 
 /// The steps whose values went into a value, through stacks, memories, registers and links, down to the load: as a tree, of which
-/// each is told once, and at most so many. They are found from where a walk of some node stands, which isn't walked on. Takes memory
-/// by how many are told, and for each value time by how many steps of its node lie between, or, where the walk is of another node or
-/// earlier, were made since.
+/// each is told once, and at most so many. Each value is found from before the step that was told last, where that is of the same node
+/// and not earlier; else from where a walk of some node stands, which isn't walked on, where the same holds of it; else from the newest
+/// step. Takes memory by how many are told, and for each value time by how many steps of its node lie between.
 ///
 /// # Errors
 /// Memory is wanting.

@@ -1,4 +1,4 @@
-//! Moves from part to part of a node that what is told of a step says by itself, whatever stood there.
+//! From which part a step moved a value, where what is told of the step says so by itself, whatever stood in the node.
 
 ghost use Rattle.std.specs.Prelude.{◌≡◌, ◌<◌, IfSome};
 ghost use Rattle.ga_flow.specs.Flow.{IsPart};
@@ -14,13 +14,13 @@ use ga_slots::Op;
 pub(crate) enum Shift {
     /// Each keeps its place.
     Stays,
-    /// The top is computed, the others keep their places.
-    Computes,
+    /// The top gets another word, the others keep their places.
+    Replaces,
     /// A word is pushed.
     Pushes,
     /// The top is popped, and the last gets a copy of another.
     Pops,
-    /// The top is popped and the new one computed.
+    /// The top two become one word.
     Combines,
     /// A test decides.
     Unsure,
@@ -35,7 +35,7 @@ fn on_data(op: Op) -> Shift
         Op::Unext | Op::Next | Op::If | Op::MinusIf => Shift::Stays,
         Op::FetchP | Op::FetchPlus | Op::FetchB | Op::Fetch => Shift::Pushes,
         Op::StoreP | Op::StorePlus | Op::StoreB | Op::Store => Shift::Pops,
-        Op::MultiplyStep | Op::TwoStar | Op::TwoSlash | Op::Invert => Shift::Computes,
+        Op::MultiplyStep | Op::TwoStar | Op::TwoSlash | Op::Invert => Shift::Replaces,
         Op::Plus | Op::And | Op::Or => Shift::Combines,
         Op::Dup | Op::Pop | Op::Over | Op::A => Shift::Pushes,
         Op::Nop => Shift::Stays,
@@ -49,14 +49,14 @@ fn on_return(op: Op) -> Shift
 {
     match op {
         Op::Return | Op::Pop => Shift::Pops,
-        Op::Execute => Shift::Computes,
+        Op::Execute => Shift::Replaces,
         Op::Call | Op::Push => Shift::Pushes,
         Op::Unext | Op::Next => Shift::Unsure,
         _ => Shift::Stays,
     }
 }
 
-// The part whose word an opcode pushes. What it reads is that of none.
+// The part whose word an opcode pushes on either stack. What it reads is that of none.
 fn pushed(op: Op) -> Option<Part>
     ensures value { result ≡ pushed op }
     ensures part { IfSome result (λ from. IsPart from) }
@@ -92,7 +92,7 @@ fn moved_to_data(op: Op, place: u8) -> Option<Part>
 {
     match on_data(op) {
         Shift::Stays => Some(Part::Data(place)),
-        Shift::Computes => {
+        Shift::Replaces => {
             if place == 0 {
                 None
             } else {
@@ -139,7 +139,7 @@ fn moved_to_return(op: Op, place: u8) -> Option<Part>
 {
     match on_return(op) {
         Shift::Stays => Some(Part::Return(place)),
-        Shift::Computes => {
+        Shift::Replaces => {
             if place == 0 {
                 None
             } else {
@@ -183,7 +183,7 @@ fn unless_stored(op: Op, part: Part) -> Option<Part>
     }
 }
 
-// The part whose value an opcode leaves in a part. P and the slot are left to what stood in the node.
+// The part whose value an opcode leaves in a part. Of P and the slot it isn't said: nearly every step makes them anew.
 fn by_op(op: Op, part: Part) -> Option<Part>
     requires { IsPart part }
     ensures value { result ≡ by_op op part }

@@ -1,12 +1,12 @@
 //! The step that made a value.
 
-ghost use Rattle.std.specs.Prelude.{◌≡◌, ◌<◌, ◌≤◌, ◌-◌, None, IfSome};
+ghost use Rattle.std.specs.Prelude.{◌≡◌, ◌≤◌, ◌-◌, IfSome};
 ghost use Rattle.ga_node.specs.Record.{record_of};
 ghost use Rattle.ga_event.specs.Told.{steps_of};
 ghost use Rattle.ga_lab.specs.Machine.{standing};
 ghost use Rattle.ga_flow.specs.Flow.{IsPart};
 ghost use Rattle.ga_flow.specs.Following.{flow_of, AreSources};
-ghost use Rattle.ga_whence.specs.Origins.{is_cell, crosses, moved_from, is_of_three, told_part, told_flow, flow_at, moved_at, origin_from, origin_of};
+ghost use Rattle.ga_whence.specs.Origins.{is_cell, crosses, moved_from, is_of_three, told_part, told_flow, flow_at, origin_from, origin_of};
 
 use crate::moving::moved_by;
 use crate::value::Value;
@@ -170,7 +170,7 @@ pub(crate) fn walk_near<'l>(
 }
 
 // A node as it was right after a step, walked on from before the origin that was found last, where that is of the same node and not
-// earlier, or else from where another walk stands.
+// earlier; else as `walk_near` has it.
 fn walk_on<'l>(
     lab: &'l Lab,
     near: &Walk<'l>,
@@ -194,7 +194,7 @@ fn walk_on<'l>(
     }
 }
 
-// What made a value, found from before the origin that was found last or from where a walk of some node stands, which is not walked
+// What made a value, found from before the origin that was found last, or from where a walk of some node stands, which is not walked
 // on.
 pub(crate) fn origin_near<'l>(
     lab: &'l Lab,
@@ -218,28 +218,35 @@ pub(crate) fn origin_near<'l>(
     }
 }
 
-// The part from which the step behind so many moved a value, or None where it made it: by what is told of the step, or else by the node
-// before it, to which the walk goes back.
-fn moved_over(lab: &Lab, walk: &mut Walk<'_>, node: NodeId, place: u32, part: Part) -> Option<Part>
-    requires part { IsPart part }
-    requires place { place < walk.old.step }
-    requires walk { walk.old ≡ standing lab.now node walk.old.step }
-    ensures value { result ≡ moved_at lab.now node.number place part }
-    ensures part { IfSome result (λ from. IsPart from) }
-    ensures walk { walk.new ≡ standing lab.now node walk.new.step }
-    ensures within { place ≤ walk.new.step }
-    ensures made { result ≡ None → walk.new.step ≡ place }
+// A value followed back over the steps of its node of which what is told says from where they moved it, at most to right behind this
+// one.
+fn told_back(lab: &Lab, value: Value, first: u32) -> Value
+    requires part { IsPart value.part }
+    requires order { first ≤ value.step }
+    ensures same { origin_of lab.now result ≡ origin_of lab.now value }
+    ensures part { IsPart result.part }
+    ensures node { result.node ≡ value.node }
+    ensures order { first ≤ result.step }
+    ensures within { result.step ≤ value.step }
 {
-    if let Some(from) = moved_by(lab.told(node, place), part) {
-        return Some(from);
+    let Value {
+        node,
+        mut step,
+        mut part,
+    } = value;
+    'telling: while step > first {
+        match moved_by(lab.told(node, step - 1), part) {
+            Some(from) => part = from,
+            None => return Value { node, step, part },
+        }
+        step -= 1;
     }
-    walk.back_to(place);
-    moved_from(&flow_behind(lab, walk, node, part), part)
+    Value { node, step, part }
 }
 
-/// The same of a part where the node is walked back to, which is walked on to right before the step that made the value. Of a step of
-/// which what is told says from where it moved the value only that is looked at.
-pub(crate) fn origin_behind(lab: &Lab, walk: &mut Walk<'_>, node: NodeId, mut part: Part) -> Value
+/// The step that made what stands in a part where the node is walked back to, which is walked on to right before that step. Where what
+/// is told of a step says from where it moved the value, only that is looked at.
+pub(crate) fn origin_behind(lab: &Lab, walk: &mut Walk<'_>, node: NodeId, part: Part) -> Value
     requires part { IsPart part }
     requires walk { walk.old ≡ standing lab.now node walk.old.step }
     ensures value { result ≡ origin_from lab.now node walk.old.step part }
@@ -248,21 +255,32 @@ pub(crate) fn origin_behind(lab: &Lab, walk: &mut Walk<'_>, node: NodeId, mut pa
     ensures node { result.node ≡ node }
     ensures walk { walk.new ≡ standing lab.now node (result.step - 1) }
 {
-    let mut step = walk.step();
-    'steps: while step > 0 {
-        match moved_over(lab, walk, node, step - 1, part) {
-            Some(from) => part = from,
+    let step = walk.step();
+    let mut value = Value { node, step, part };
+    'steps: while value.step > 0 {
+        let first = (value.step - 1) / AT_ONCE * AT_ONCE;
+        value = told_back(lab, value, first);
+        if value.step == first {
+            walk.back_to(first);
+            continue 'steps;
+        }
+        let Value { step, part, .. } = value;
+        walk.back_to(step - 1);
+        let flow = flow_behind(lab, walk, node, part);
+        match moved_from(&flow, part) {
+            Some(from) => {
+                let step = step - 1;
+                value = Value {
+                    node,
+                    step,
+                    part: from,
+                };
+            }
             None => {
-                let flow = flow_behind(lab, walk, node, part);
                 let part = told_part(&flow, part);
                 return Value { node, step, part };
             }
         }
-        step -= 1;
-        if step % AT_ONCE == 0 {
-            walk.back_to(step);
-        }
     }
-    walk.back_to(0);
-    Value { node, step, part }
+    value
 }

@@ -13,7 +13,7 @@ use Rattle.ga_flow.specs.declared.part.Part.{Part}
 use Rattle.ga_flow.specs.declared.part.Part.TheVariants.{Data, Return, Ram, Rom, A, B, P, I, Io, Carry, Slot, Wait, Stop, Outside}
 use Rattle.ga_flow.specs.Flow.{top, second, top_return}
 use Rattle.ga_whence.specs.declared.moving.Shift.{Shift}
-use Rattle.ga_whence.specs.declared.moving.Shift.TheVariants.{Stays, Computes, Pushes, Pops, Combines, Unsure}
+use Rattle.ga_whence.specs.declared.moving.Shift.TheVariants.{Stays, Replaces, Pushes, Pops, Combines, Unsure}
 
 -- what an opcode does to the data stack
 abbrev pub on_data : Op → Shift
@@ -25,10 +25,10 @@ on_data op.StoreP = Pops  -- 0c !p
 on_data op.StorePlus = Pops  -- 0d !+
 on_data op.StoreB = Pops  -- 0e !b
 on_data op.Store = Pops  -- 0f !
-on_data op.MultiplyStep = Computes  -- 10 +*
-on_data op.TwoStar = Computes  -- 11 2*
-on_data op.TwoSlash = Computes  -- 12 2/
-on_data op.Invert = Computes  -- 13 invert
+on_data op.MultiplyStep = Replaces  -- 10 +*
+on_data op.TwoStar = Replaces  -- 11 2*
+on_data op.TwoSlash = Replaces  -- 12 2/
+on_data op.Invert = Replaces  -- 13 invert
 on_data op.Plus = Combines  -- 14 +
 on_data op.And = Combines  -- 15 and
 on_data op.Or = Combines  -- 16 or
@@ -45,7 +45,7 @@ on_data _ = Stays
 -- and to the return stack
 abbrev pub on_return : Op → Shift
 on_return op.Return = Pops  -- 00 ;
-on_return op.Execute = Computes  -- 01 ex
+on_return op.Execute = Replaces  -- 01 ex
 on_return op.Call = Pushes  -- 03 call
 on_return op.Unext = Unsure  -- 04 unext
 on_return op.Next = Unsure  -- 05 next
@@ -73,7 +73,7 @@ popped_to_return k = if k == 8 then Return 1 else Return (k + 1)
 -- the part whose word an opcode leaves at a place of a stack
 abbrev pub shifted_data : Shift → Option Part → ℕ → Option Part
 shifted_data Stays new k = Some (Data k)
-shifted_data Computes new k = if k == 0 then None else Some (Data k)
+shifted_data Replaces new k = if k == 0 then None else Some (Data k)
 shifted_data Pushes new k = if k == 0 then new else Some (Data (k - 1))
 shifted_data Pops new k = Some (popped_to_data k)
 shifted_data Combines new k = if k == 0 then None else Some (popped_to_data k)
@@ -84,7 +84,7 @@ moved_to_data o k = shifted_data (on_data o) (pushed o) k
 
 abbrev pub shifted_return : Shift → Option Part → ℕ → Option Part
 shifted_return Stays new k = Some (Return k)
-shifted_return Computes new k = if k == 0 then None else Some (Return k)
+shifted_return Replaces new k = if k == 0 then None else Some (Return k)
 shifted_return Pushes new k = if k == 0 then new else Some (Return (k - 1))
 shifted_return Pops new k = Some (popped_to_return k)
 shifted_return Combines new k = None

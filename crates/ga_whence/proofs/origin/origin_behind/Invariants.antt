@@ -6,12 +6,12 @@ use Rattle.ga_whence.proofs.origin.origin_behind.Given as goal
 
 abbrev pub invariant-steps : goal.invariant-steps
 invariant-steps l = record {
-  part : IsPart l.part;
-  walk : l.walk ≡ standing l.lab l.node l.walk.step;
-  within : l.step ≤ l.walk.step;
-  back : l.step ≤ l.fn.walk.step;
-  same : origin_from l.lab l.node l.step l.part ≡ origin_from l.lab l.node l.fn.walk.step l.fn.part;
+  node : l.value.node ≡ l.node;
+  part : IsPart l.value.part;
+  walk : l.walk ≡ standing l.lab l.node l.value.step;
+  back : l.value.step ≤ l.fn.walk.step;
+  same : origin_from l.lab l.node l.value.step l.value.part ≡ origin_from l.lab l.node l.fn.walk.step l.fn.part;
 }
 
 abbrev pub decreases-steps : goal.decreases-steps
-decreases-steps l = l.step
+decreases-steps l = l.value.step
