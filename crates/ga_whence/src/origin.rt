@@ -1,12 +1,14 @@
 //! The step that made a value.
 
-ghost use Rattle.std.specs.Prelude.{◌≡◌, ◌≤◌, ◌-◌, IfSome};
+ghost use Rattle.std.specs.Prelude.{◌≡◌, ◌<◌, ◌≤◌, ◌-◌, None, IfSome};
+ghost use Rattle.std.specs.List.{slice_get};
 ghost use Rattle.ga_node.specs.Record.{record_of};
 ghost use Rattle.ga_event.specs.Told.{steps_of};
-ghost use Rattle.ga_lab.specs.Machine.{standing};
+ghost use Rattle.ga_lab.specs.Machine.{history_of, standing};
 ghost use Rattle.ga_flow.specs.Flow.{IsPart};
 ghost use Rattle.ga_flow.specs.Following.{flow_of, AreSources};
 ghost use Rattle.ga_whence.specs.Origins.{is_cell, crosses, moved_from, is_of_three, told_part, told_flow, flow_at, origin_from, origin_of};
+ghost use Rattle.ga_whence.specs.kept.Moving.{moved_by};
 
 use crate::moving::moved_by;
 use crate::value::Value;
@@ -228,6 +230,8 @@ fn told_back(lab: &Lab, value: Value, first: u32) -> Value
     ensures node { result.node ≡ value.node }
     ensures order { first ≤ result.step }
     ensures within { result.step ≤ value.step }
+    ensures ends { first < result.step
+        → moved_by (slice_get (history_of lab.now value.node.number) (result.step - 1)) result.part ≡ None }
 {
     let Value {
         node,
