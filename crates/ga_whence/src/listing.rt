@@ -137,23 +137,36 @@ fn push_below(todo: &mut Vec<Row>, lab: &Lab, before: &Walk<'_>, row: Row) -> Re
     }
 }
 
+// Walks on to right before a row's step, where the row is the first and of the same node.
+fn go_on<'l>(lab: &'l Lab, near: &mut Walk<'l>, at: NodeId, row: Row, before: &Walk<'l>)
+    requires near { near.old ≡ standing lab.now at near.old.step }
+    requires before { before.now ≡ standing lab.now row.value.node (row.value.step - 1) }
+    ensures { near.new ≡ standing lab.now at near.new.step }
+{
+    if row.depth == 0 && row.value.node == at {
+        *near = before.copy();
+    }
+}
+
 /// The steps whose values went into a value, through stacks, memories, registers and links, down to the load: as a tree, of which
 /// each is told once, and at most so many. Each value is found from before the step that was told last, where that is of the same node
-/// and not earlier; else from where a walk of some node stands, which isn't walked on, where the same holds of it; else from the newest
-/// step. Takes memory by how many are told, and for each value time by how many steps of its node lie between.
+/// and not earlier; else from where a walk of some node stands, where the same holds of it; else from the newest step. The walk goes on
+/// to right before the first step that is told, where that is of its node. Takes memory by how many are told, and for each value time
+/// by how many steps of its node lie between.
 ///
 /// # Errors
 /// Memory is wanting.
 pub fn whence_near<'l>(
     alloc: Global,
     lab: &'l Lab,
-    near: &Walk<'l>,
+    near: &mut Walk<'l>,
     at: NodeId,
     value: Value,
     most: u32,
 ) -> Result<Listing, AllocError>
     requires part { IsPart value.part }
-    requires near { near.now ≡ standing lab.now at near.now.step }
+    requires near { near.old ≡ standing lab.now at near.old.step }
+    ensures near { near.new ≡ standing lab.now at near.new.step }
     ensures rows { IfOk result (λ listing. AreRows lab.now [] (row_at 0 value ∷ []) listing.rows.items listing.is_whole) }
     ensures most { IfOk result (λ listing. length listing.rows.items ≤ most) }
     ensures cut { IfOk result (λ listing. listing.is_whole ≡ false → length listing.rows.items ≡ most) }
@@ -171,6 +184,7 @@ pub fn whence_near<'l>(
             depth: next.depth,
             value: last.value,
         };
+        go_on(lab, near, at, row, &last.before);
         if is_named(&rows, last.value) {
             continue 'telling;
         }
@@ -204,8 +218,8 @@ pub fn whence(alloc: Global, lab: &Lab, value: Value, most: u32) -> Result<Listi
     if value.step > lab.steps(value.node) {
         return Err(LabFault::NoStep);
     }
-    let near = lab.walk(value.node, value.step);
-    match whence_near(alloc, lab, &near, value.node, value, most) {
+    let mut near = lab.walk(value.node, value.step);
+    match whence_near(alloc, lab, &mut near, value.node, value, most) {
         Ok(listing) => Ok(listing),
         Err(_) => Err(LabFault::Memory),
     }

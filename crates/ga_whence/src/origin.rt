@@ -44,7 +44,7 @@ fn crosses(from: Part, to: Part) -> bool
 }
 
 // The part from which a value was moved to another part of the node alone, where it was.
-fn moved_from(flow: &Flow, to: Part) -> Option<Part>
+pub(crate) fn moved_from(flow: &Flow, to: Part) -> Option<Part>
     requires { AreSources (flow_of flow.now) }
     ensures value { result ≡ moved_from (flow_of flow.now) to }
     ensures part { IfSome result (λ from. IsPart from) }

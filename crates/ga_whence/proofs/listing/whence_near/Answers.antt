@@ -23,6 +23,7 @@ telling-preserved-then-is_named c =
       tells = told_again c.args.lab.now (row_at 0 c.args.value) c.telling.rows.items c.telling.todo.items c.pop.new.self.items c.in-Some.next c.origin_near-last.result.value c.in-Some.ensures.items c.origin_near-last.ensures.value named c.telling.invariant.tells;
       ready = open_left (length c.telling.rows.items) c.telling.todo.items c.pop.new.self.items c.in-Some.next c.in-Some.ensures.items c.telling.invariant.ready;
       most = c.telling.invariant.most;
+      near = c.go_on.ensures;
       last = stands_so c.args.lab.now c.origin_near-last.result.value.node (c.origin_near-last.result.value.step - 1) c.origin_near-last.result.before c.origin_near-last.ensures.before;
     }
 
@@ -50,6 +51,7 @@ telling-preserved c =
       ready = open_on (length c.telling.rows.items) (length c.push-in-Some.new.self.items) (c.in-Some.next.depth + 1) c.telling.todo.items c.pop.new.self.items c.push_below.new.todo.items (below c.args.lab.now row) c.in-Some.next
           c.in-Some.ensures.items less deep c.telling.invariant.ready c.in_ok-push_below.ensures.ready c.in_ok-push_below.ensures.ok;
       most = most;
+      near = c.go_on.ensures;
       last = stands_so c.args.lab.now c.origin_near-last.result.value.node (c.origin_near-last.result.value.step - 1) c.origin_near-last.result.before c.origin_near-last.ensures.before;
     }
 
