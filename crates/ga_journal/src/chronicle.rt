@@ -20,7 +20,7 @@ impl Chronicle {
     ghost use Rattle.std.specs.List.Sorted.{IsStrictlyIncreasing};
     ghost use Rattle.ga_journal.specs.Work.{no_work};
     ghost use Rattle.ga_journal.specs.Histories.{history};
-    ghost use Rattle.ga_journal.specs.Walked.{walked, CanWalk};
+    ghost use Rattle.ga_journal.specs.Walked.{walked, CanWalk, p_before};
     ghost use Rattle.ga_journal.specs.Events.{kept_of, causes_of, events_of};
     ghost use Rattle.ga_event.specs.Told.{steps_of, mades_of, made_in};
     ghost use Rattle.ga_journal.specs.Since.{IsSince};
@@ -44,6 +44,14 @@ impl Chronicle {
         ensures { result ≡ slice_get (mades_of (kept_of self.now.journal) node.number) place }
     {
         self.journal.told(node, place)
+    }
+
+    /// P as it was before a node's step, the one at a place from 0 on; none where the step left it, or past the node's steps. It
+    /// reads one entry.
+    pub fn p_before(&self, node: NodeId, place: u32) -> Option<u32>
+        ensures { result ≡ p_before (history self.now.journal.histories node.number) place }
+    {
+        self.journal.p_before(node, place)
     }
 
     /// Writes back to a node what its entries from the position `to` on and below `from` overwrote, those of the last entry

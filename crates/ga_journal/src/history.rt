@@ -11,6 +11,8 @@ use ga_node::{Kind, Node, Saved};
 use std::alloc::Global;
 use std::marker::Model;
 
+mod overwritten;
+
 /// The entries of one node, the oldest first. The passes among them stand in a list of their own, so that an own event
 /// takes no more memory than it has to.
 #[derive(Drop)]

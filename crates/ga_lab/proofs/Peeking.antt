@@ -24,7 +24,7 @@ use Rattle.ga_lab.specs.Machine.{chip_of, earlier}
 use Rattle.ga_lab.specs.kept.Tied.{LeadsBack, IsTied, state_of}
 
 -- the first events of a list are no more steps
-steps_front : (n place : ℕ) (events : List Event) → steps_of n (take place events) ≤ steps_of n events
+pub steps_front : (n place : ℕ) (events : List Event) → steps_of n (take place events) ≤ steps_of n events
 steps_front n place events =
     let all : steps_of n (take place events ++ drop place events) ≡ steps_of n (take place events) + steps_of n (drop place events) =
     sum_by-append (λ (e : Event). cond (touches e n) 1 0) (take place events) (drop place events) in

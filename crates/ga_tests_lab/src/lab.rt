@@ -242,6 +242,19 @@ fn tells_histories(rt: HostRuntime) -> Result<(), Fail> {
     Ok(())
 }
 
+// A fetch and `@p` go on by an address; `b!`, a wait and a word that is taken leave P.
+#[test]
+fn tells_p_before_a_step(rt: HostRuntime) -> Result<(), Fail> {
+    let n001 = NodeId::new(1);
+    let lab = passed(&rt, rt.alloc())?;
+    same(&rt, &lab.p_before(n001, 0), &Some(0));
+    same(&rt, &lab.p_before(n001, 1), &Some(1));
+    for place in 2..6 {
+        same(&rt, &lab.p_before(n001, place), &None);
+    }
+    Ok(())
+}
+
 #[test]
 fn refuses_in_order(rt: HostRuntime) -> Result<(), Fail> {
     let n000 = NodeId::new(0);

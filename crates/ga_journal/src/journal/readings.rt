@@ -12,7 +12,7 @@ impl Journal {
     ghost use Rattle.std.specs.List.{slice_get, All};
     ghost use Rattle.std.specs.List.Sorted.{IsStrictlyIncreasing};
     ghost use Rattle.ga_journal.specs.Histories.{history};
-    ghost use Rattle.ga_journal.specs.Walked.{walked, CanWalk};
+    ghost use Rattle.ga_journal.specs.Walked.{walked, CanWalk, p_before};
     ghost use Rattle.ga_journal.specs.Events.{kept_of, causes_of, events_of};
     ghost use Rattle.ga_event.specs.Told.{steps_of, mades_of, made_in};
     ghost use Rattle.ga_journal.specs.Logs.{IsWhole};
@@ -36,6 +36,13 @@ impl Journal {
         ensures { result ≡ slice_get (mades_of (kept_of self.now) node.number) place }
     {
         self.histories.made_of(node, place)
+    }
+
+    /// P as it was before a node's step, the one at a place from 0 on; none where the step left it, or past the node's steps.
+    pub(crate) fn p_before(&self, node: NodeId, place: u32) -> Option<u32>
+        ensures { result ≡ p_before (history self.now.histories node.number) place }
+    {
+        self.histories.p_before(node, place)
     }
 
     /// Writes back to a node what its entries from the position `to` on and below `from` overwrote, those of the last entry

@@ -85,9 +85,10 @@ impl<'l> Walk<'l> {
 }
 
 impl Lab {
-    ghost use Rattle.std.specs.Prelude.{◌≡◌, ◌≤◌};
+    ghost use Rattle.std.specs.Prelude.{◌≡◌, ◌<◌, ◌≤◌, ◌+◌, ℕ, take, IfSome, IfNone};
+    ghost use Rattle.ga_grid.specs.Chip.{record_at};
     ghost use Rattle.ga_event.specs.Told.{steps_of};
-    ghost use Rattle.ga_lab.specs.Machine.{standing};
+    ghost use Rattle.ga_lab.specs.Machine.{chip_of, earlier, standing};
 
     /// A node as it was right after its step, or at load for step 0, to be walked back from there. Takes no memory, and time by how
     /// many steps the node made since.
@@ -105,5 +106,18 @@ impl Lab {
             step,
             node: copy,
         }
+    }
+
+    /// P as it was right before a node's step, the one at a place from 0 on, where the step wrote P, as most do: what is kept of the
+    /// step says it, with no walk. None where it didn't, or past the node's steps.
+    pub fn p_before(&self, node: NodeId, place: u32) -> Option<u32>
+        ensures value { IfSome result (λ p. (at : ℕ) → steps_of node.number (take at self.now.kept) ≡ place
+            → (record_at (chip_of (earlier self.now at)) node.number).p ≡ p) }
+        ensures within { IfSome result (λ p. place < steps_of node.number self.now.kept) }
+        ensures left { IfNone result ((before behind : ℕ) → steps_of node.number (take before self.now.kept) ≡ place
+            → steps_of node.number (take behind self.now.kept) ≡ place + 1
+            → (record_at (chip_of (earlier self.now behind)) node.number).p ≡ (record_at (chip_of (earlier self.now before)) node.number).p) }
+    {
+        self.chronicle.p_before(node, place)
     }
 }
