@@ -100,7 +100,7 @@ fn say_place<W: Write>(
     let mut walk = base.copy();
     walk.back_to(place + 1);
     output.say_blocks(writer, place_line(lab, node, place, &walk).as_slice())?;
-    say_walk_tail(lab, notes, node, &mut walk, output, writer)
+    say_walk_tail(lab, notes, node, &walk, output, writer)
 }
 
 /// What is told of the step at a place, right behind which a walk stands.

@@ -12,7 +12,7 @@ use ga_flow::Part;
 use ga_grid::NodeId;
 use ga_lab::{Lab, Walk};
 use ga_notes::Notes;
-use ga_whence::{Value, fetched_behind, fetched_near};
+use ga_whence::{Value, fetched_near};
 use std::io::Write;
 
 /// What the source says of a cell.
@@ -55,17 +55,6 @@ fn step_cell(
     }
 }
 
-/// The same of the step to which a node is walked back; the walk goes on from there.
-fn cell_behind(lab: &Lab, notes: &Option<Notes>, node: NodeId, walk: &mut Walk<'_>) -> Option<u8>
-    requires { walk.old ≡ standing lab.now node walk.old.step }
-    ensures { noted_text notes.now node result ≡ noted_text notes.now node (cell_fetched lab.now node walk.old.step) }
-{
-    match notes {
-        Some(_) => fetched_behind(lab, walk, node),
-        None => None,
-    }
-}
-
 /// Says what the source says of a cell, and ends the line.
 fn say_tail<W: Write>(
     notes: &Option<Notes>,
@@ -100,7 +89,7 @@ fn say_step_tail<W: Write>(
     say_tail(notes, node, cell, output, writer)
 }
 
-/// Ends a line that tells of the step to which a node is walked back; the walk goes on from there.
+/// Ends a line that tells of the step to which a node is walked back.
 ///
 /// # Errors
 /// A write failed.
@@ -108,16 +97,15 @@ pub(crate) fn say_walk_tail<W: Write>(
     lab: &Lab,
     notes: &Option<Notes>,
     node: NodeId,
-    walk: &mut Walk<'_>,
+    walk: &Walk<'_>,
     output: &mut Output,
     writer: &mut W,
 ) -> Result<(), WriteFailed>
-    requires { walk.old ≡ standing lab.now node walk.old.step }
+    requires { walk.now ≡ standing lab.now node walk.now.step }
     ensures { (before said : Bytes) → IsSaid (W.contents writer.old) before said output.old →
-        IsSaidOrCut result (W.contents writer.new) before (said ++ step_tail notes.now lab.now node walk.old.step) output.new }
+        IsSaidOrCut result (W.contents writer.new) before (said ++ step_tail notes.now lab.now node walk.now.step) output.new }
 {
-    let cell = cell_behind(lab, notes, node, walk);
-    say_tail(notes, node, cell, output, writer)
+    say_step_tail(lab, notes, walk, node, node, walk.step(), output, writer)
 }
 
 /// Ends a line that tells of a value: of the step that made it, or of the cell where it was loaded; by where a walk of some node

@@ -57,11 +57,11 @@ pub(crate) fn say_whence<W: Write>(
 }
 
 /// Says the tree of a value, which is asked for where the step is named to which its node is walked back.
-fn say_asked<'l, W: Write>(
+fn say_asked<W: Write>(
     alloc: Global,
-    lab: &'l Lab,
+    lab: &Lab,
     notes: &Option<Notes>,
-    near: &Walk<'l>,
+    near: &Walk<'_>,
     node: NodeId,
     value: Value,
     output: &mut Output,
@@ -72,11 +72,10 @@ fn say_asked<'l, W: Write>(
     ensures { Says result (λ text. TellsAsked notes.now lab.now node near.now.step (Some value) text)
         (W.contents writer.old) output.old (W.contents writer.new) output.new }
 {
-    let mut behind = near.copy();
-    match whence_near(alloc, lab, &mut behind, node, value, MOST_ROWS) {
+    match whence_near(alloc, lab, near, node, value, MOST_ROWS) {
         Ok(listing) => {
             let rows = listing.rows.as_slice();
-            say_rows(lab, notes, near, &behind, node, rows, output, writer)?;
+            say_rows(lab, notes, near, node, rows, output, writer)?;
             output.say_blocks(writer, more(listing.is_whole))
         }
         Err(_) => output.say(writer, refusal(LabFault::Memory)),
@@ -100,27 +99,25 @@ fn is_first(step: u32, rows: &[Row]) -> bool
     }
 }
 
-/// Says the rows, by where a second walk stands, behind the step asked for where this isn't the first of them.
+/// Says the rows, behind the step asked for where this isn't the first of them.
 fn say_rows<W: Write>(
     lab: &Lab,
     notes: &Option<Notes>,
     near: &Walk<'_>,
-    behind: &Walk<'_>,
     node: NodeId,
     rows: &[Row],
     output: &mut Output,
     writer: &mut W,
 ) -> Result<(), WriteFailed>
-    requires near { near.now ≡ standing lab.now node near.now.step }
-    requires behind { behind.now ≡ standing lab.now node behind.now.step }
+    requires { near.now ≡ standing lab.now node near.now.step }
     ensures { Says result (λ text. text ≡ rows_by notes.now lab.now node near.now.step (is_first near.now.step rows.now) rows.now)
         (W.contents writer.old) output.old (W.contents writer.new) output.new }
 {
     if is_first(near.step(), rows) {
-        return say_lines(lab, notes, behind, node, 0, rows, output, writer);
+        return say_lines(lab, notes, near, node, 0, rows, output, writer);
     }
     say_head(lab, notes, near, node, output, writer)?;
-    say_lines(lab, notes, behind, node, 1, rows, output, writer)
+    say_lines(lab, notes, near, node, 1, rows, output, writer)
 }
 
 /// Says the step asked for, to which its node is walked back.
@@ -137,8 +134,7 @@ fn say_head<W: Write>(
         (W.contents writer.old) output.old (W.contents writer.new) output.new }
 {
     output.say_blocks(writer, head_line(lab, node, near.step()).as_slice())?;
-    let mut walk = near.copy();
-    say_walk_tail(lab, notes, node, &mut walk, output, writer)
+    say_walk_tail(lab, notes, node, near, output, writer)
 }
 
 /// Says the lines of some rows, each so much deeper, by where a walk of some node stands.

@@ -10,4 +10,5 @@ pub mod Asking
 pub mod Ran
 pub mod Keeping
 pub mod Moves
+pub mod Leaving
 pub mod Newest

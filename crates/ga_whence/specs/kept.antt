@@ -1,3 +1,4 @@
+pub mod Known
 pub mod Moving
 pub mod Open
 pub mod Stores

@@ -1,38 +1,70 @@
 //! The cell of the instruction word to which a step belongs.
 
-ghost use Rattle.std.specs.Prelude.{◌≡◌, ◌≤◌, ◌+◌};
+ghost use Rattle.std.specs.Prelude.{◌≡◌, None, IfSome};
 ghost use Rattle.ga_ports.specs.Address.{classified};
 ghost use Rattle.ga_node.specs.Record.{record_of};
-ghost use Rattle.ga_event.specs.Told.{steps_of};
 ghost use Rattle.ga_lab.specs.Machine.{standing};
-ghost use Rattle.ga_flow.specs.Flow.{IsPart};
-ghost use Rattle.ga_whence.specs.Origins.{origin_from};
-ghost use Rattle.ga_whence.specs.Fetched.{cell_of, fetched_by, fetched_cell};
+ghost use Rattle.ga_flow.specs.declared.part.Part.TheVariants.{I};
+ghost use Rattle.ga_whence.specs.Origins.{moved_at, node_after};
+ghost use Rattle.ga_whence.specs.Fetched.{cell_of, fetched_cell};
 
-use crate::origin::{flow_behind, kept_step, moved_from, origin_behind, walk_near};
+use crate::origin::{kept_step, origin_behind, told_back, walk_near};
 use crate::value::Value;
+use ga_event::Made;
 use ga_flow::Part;
 use ga_grid::NodeId;
 use ga_lab::{Lab, Walk};
-use ga_node::{Node, Place};
+use ga_node::{Kind, Node, Place};
 use ga_ports::{Target, classify};
 
-/// The cell that P names.
-#[tactic(auto, unfolding(ga_node::specs::Record::record_of))]
-fn named_by(node: &Node) -> Option<u8>
-    ensures { result ≡ cell_of (classified (record_of node.now).p) }
+/// The cell that an address names.
+fn cell_of(address: u32) -> Option<u8>
+    ensures { result ≡ cell_of (classified address) }
 {
-    match classify(node.get(Place::P)) {
+    match classify(address) {
         Target::Ram(cell) => Some(cell),
         Target::Rom(cell) => Some(128 + cell),
         _ => None,
     }
 }
 
+/// The cell that P names.
+#[tactic(auto, unfolding(ga_node::specs::Record::record_of))]
+fn named_by(node: &Node) -> Option<u8>
+    ensures { result ≡ cell_of (classified (record_of node.now).p) }
+{
+    cell_of(node.get(Place::P))
+}
+
+/// P before the step at a place, where that was a fetch: what is kept of the step says both.
+fn p_at_fetch(lab: &Lab, node: NodeId, place: u32) -> Option<u32>
+    ensures p { IfSome result (λ p. (node_after lab.now node.number place).p ≡ p) }
+    ensures made { IfSome result (λ p. moved_at lab.now node.number place I ≡ None) }
+{
+    match lab.told(node, place)? {
+        Made::Own {
+            kind: Kind::Fetch,
+            ..
+        } => lab.p_before(node, place),
+        _ => None,
+    }
+}
+
+/// The same where the instruction word is asked for that it made.
+fn p_at_word(lab: &Lab, node: NodeId, place: u32, part: Part) -> Option<u32>
+    ensures p { IfSome result (λ p. (node_after lab.now node.number place).p ≡ p) }
+    ensures made { IfSome result (λ p. moved_at lab.now node.number place part ≡ None) }
+{
+    match part {
+        Part::I => p_at_fetch(lab, node, place),
+        _ => None,
+    }
+}
+
 /// The cell from which the instruction word was fetched that stood in I behind a step: 0 to 63 of RAM, 128 to 191 of ROM. None
-/// where it was loaded, or came from elsewhere than a memory. It is found from where a walk of some node stands, which isn't walked
-/// on: takes time by how many steps of the node lie between, or, where the walk is of another node, or earlier than right before the
-/// step, were made since.
+/// where it was loaded, or came from elsewhere than a memory. Takes time by how many steps the node made since the fetch. Only where a
+/// word came over a link, its node is walked back there: from where a walk of some node stands, where that is of the same node and
+/// not earlier, else from its newest step.
 pub fn fetched_near<'l>(
     lab: &'l Lab,
     near: &Walk<'l>,
@@ -43,51 +75,20 @@ pub fn fetched_near<'l>(
     requires { near.now ≡ standing lab.now at near.now.step }
     ensures { result ≡ fetched_cell lab.now node step }
 {
-    if at == node && step > 0 && step - 1 == near.step() {
-        return fetched_next(lab, near, node);
+    let part = Part::I;
+    let step = kept_step(lab, Value { node, step, part });
+    let value = told_back(lab, Value { node, step, part });
+    if value.step == 0 {
+        return None;
     }
-    let value = Value {
-        node,
-        step,
-        part: Part::I,
-    };
-    let mut walk = walk_near(lab, near, at, node, kept_step(lab, value));
-    fetched_behind(lab, &mut walk, node)
-}
-
-/// The same of the step behind those that the node had made where it is walked back to.
-fn fetched_next(lab: &Lab, before: &Walk<'_>, node: NodeId) -> Option<u8>
-    requires before { before.now ≡ standing lab.now node before.now.step }
-    requires within { before.now.step ≤ steps_of before.now.node.number before.now.machine.kept }
-    ensures { result ≡ fetched_cell lab.now node (before.now.step + 1) }
-{
-    let flow = flow_behind(lab, before, node, Part::I);
-    match moved_from(&flow, Part::I) {
-        Some(from) => {
-            let mut walk = before.copy();
-            fetched_from(lab, &mut walk, node, from)
-        }
-        None => named_by(before.node()),
+    if let Some(p) = p_at_word(lab, node, value.step - 1, value.part) {
+        return cell_of(p);
     }
-}
-
-/// The same where the node is walked back to, which is walked on from there.
-pub fn fetched_behind(lab: &Lab, walk: &mut Walk<'_>, node: NodeId) -> Option<u8>
-    requires { walk.old ≡ standing lab.now node walk.old.step }
-    ensures { result ≡ fetched_cell lab.now node walk.old.step }
-{
-    fetched_from(lab, walk, node, Part::I)
-}
-
-// Of the step that made what stands in a part there: the cell that P named before it.
-fn fetched_from(lab: &Lab, walk: &mut Walk<'_>, node: NodeId, part: Part) -> Option<u8>
-    requires part { IsPart part }
-    requires walk { walk.old ≡ standing lab.now node walk.old.step }
-    ensures { result ≡ fetched_by lab.now node.number (origin_from lab.now node walk.old.step part).step }
-{
-    let made = origin_behind(lab, walk, node, part);
+    let mut walk = walk_near(lab, near, at, node, value.step);
+    let made = origin_behind(lab, &mut walk, node, value.step, value.part);
     if made.step == 0 {
         return None;
     }
+    walk.back_to(made.step - 1);
     named_by(walk.node())
 }

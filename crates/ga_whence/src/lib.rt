@@ -3,6 +3,7 @@
 
 mod asked;
 mod fetched;
+mod known;
 pub mod laws;
 mod listing;
 mod moving;
@@ -11,7 +12,7 @@ mod value;
 mod writes;
 
 pub use asked::{asked_behind, asked_of};
-pub use fetched::{fetched_behind, fetched_near};
+pub use fetched::fetched_near;
 pub use listing::{Listing, Row, whence, whence_near};
 pub use origin::origin_of;
 pub use value::Value;

@@ -8,7 +8,7 @@ ghost use Rattle.ga_whence.specs.Origins.{value_at};
 ghost use Rattle.ga_whence.specs.Rows.{is_named, row_at, sender_in, sources_by, below, AreRows};
 ghost use Rattle.ga_whence.specs.kept.Open.{IsOpen};
 
-use crate::origin::{Origin, flow_behind, origin_near};
+use crate::origin::{Origin, flow_by_walk, origin_near};
 use crate::value::Value;
 use arrayvec::ArrayVec;
 use ga_event::Made;
@@ -113,14 +113,21 @@ fn push_parts(
     Ok(())
 }
 
-// Puts what a row's value came from on the top, the first uppermost, where its node is walked back to right before the row's step.
-fn push_below(todo: &mut Vec<Row>, lab: &Lab, before: &Walk<'_>, row: Row) -> Result<(), AllocError>
+// Puts what a row's value came from on the top, the first uppermost, by a walk of its node that has not come past the row's step.
+fn push_below(
+    todo: &mut Vec<Row>,
+    lab: &Lab,
+    walk: &mut Walk<'_>,
+    row: Row,
+) -> Result<(), AllocError>
     requires part { IsPart row.value.part }
-    requires before { before.now ≡ standing lab.now row.value.node (row.value.step - 1) }
+    requires walk { walk.old ≡ standing lab.now row.value.node walk.old.step }
+    requires order { row.value.step - 1 ≤ walk.old.step }
     requires deep { row.depth + 1 < 2 ^ 32 }
     ensures ok { OnOk result (reverse todo.new.items ≡ below lab.now row ++ reverse todo.old.items) }
     ensures few { OnOk result (length todo.new.items ≤ length todo.old.items + 3) }
     ensures ready { OnOk result (All (IsOpen (row.depth + 1)) (below lab.now row)) }
+    ensures walk { walk.new ≡ standing lab.now row.value.node walk.new.step }
 {
     let Value { node, step, part } = row.value;
     if step == 0 {
@@ -128,7 +135,7 @@ fn push_below(todo: &mut Vec<Row>, lab: &Lab, before: &Walk<'_>, row: Row) -> Re
     }
     let place = step - 1;
     let depth = row.depth + 1;
-    match flow_behind(lab, before, node, part) {
+    match flow_by_walk(lab, walk, node, place, part) {
         Flow::Same(from) => {
             let told = lab.told(node, place);
             push_some(todo, depth, source_in(node, place, told, from))
@@ -137,36 +144,24 @@ fn push_below(todo: &mut Vec<Row>, lab: &Lab, before: &Walk<'_>, row: Row) -> Re
     }
 }
 
-// Walks on to right before a row's step, where the row is the first and of the same node.
-fn go_on<'l>(lab: &'l Lab, near: &mut Walk<'l>, at: NodeId, row: Row, before: &Walk<'l>)
-    requires near { near.old ≡ standing lab.now at near.old.step }
-    requires before { before.now ≡ standing lab.now row.value.node (row.value.step - 1) }
-    ensures { near.new ≡ standing lab.now at near.new.step }
-{
-    if row.depth == 0 && row.value.node == at {
-        *near = before.copy();
-    }
-}
-
 /// The steps whose values went into a value, through stacks, memories, registers and links, down to the load: as a tree, of which
-/// each is told once, and at most so many. Each value is found from before the step that was told last, where that is of the same node
-/// and not earlier; else from where a walk of some node stands, where the same holds of it; else from the newest step. The walk goes on
-/// to right before the first step that is told, where that is of its node. Takes memory by how many are told, and for each value time
-/// by how many steps of its node lie between.
+/// each is told once, and at most so many. Each value is followed back by what is kept of its node's steps. Only where that doesn't
+/// say from where a step has a value, the node is walked back to that step: from where it was walked to for the value that was told
+/// last, where that is of the same node and not earlier; else from where a walk of some node stands, where the same holds of it; else
+/// from the newest step. Takes memory by how many are told, and for each value time by how many steps of its node lie between.
 ///
 /// # Errors
 /// Memory is wanting.
 pub fn whence_near<'l>(
     alloc: Global,
     lab: &'l Lab,
-    near: &mut Walk<'l>,
+    near: &Walk<'l>,
     at: NodeId,
     value: Value,
     most: u32,
 ) -> Result<Listing, AllocError>
     requires part { IsPart value.part }
-    requires near { near.old ≡ standing lab.now at near.old.step }
-    ensures near { near.new ≡ standing lab.now at near.new.step }
+    requires near { near.now ≡ standing lab.now at near.now.step }
     ensures rows { IfOk result (λ listing. AreRows lab.now [] (row_at 0 value ∷ []) listing.rows.items listing.is_whole) }
     ensures most { IfOk result (λ listing. length listing.rows.items ≤ most) }
     ensures cut { IfOk result (λ listing. listing.is_whole ≡ false → length listing.rows.items ≡ most) }
@@ -176,15 +171,10 @@ pub fn whence_near<'l>(
     todo.push(Row { depth: 0, value })?;
     let mut last = Origin {
         value: Value { node: at, ..value },
-        before: near.copy(),
+        walk: near.copy(),
     };
     'telling: while let Some(next) = todo.pop() {
         last = origin_near(lab, near, at, last, next.value);
-        let row = Row {
-            depth: next.depth,
-            value: last.value,
-        };
-        go_on(lab, near, at, row, &last.before);
         if is_named(&rows, last.value) {
             continue 'telling;
         }
@@ -194,7 +184,11 @@ pub fn whence_near<'l>(
                 is_whole: false,
             });
         }
-        push_below(&mut todo, lab, &last.before, row)?;
+        let row = Row {
+            depth: next.depth,
+            value: last.value,
+        };
+        push_below(&mut todo, lab, &mut last.walk, row)?;
         rows.push(row)?;
     }
     Ok(Listing {
@@ -218,8 +212,8 @@ pub fn whence(alloc: Global, lab: &Lab, value: Value, most: u32) -> Result<Listi
     if value.step > lab.steps(value.node) {
         return Err(LabFault::NoStep);
     }
-    let mut near = lab.walk(value.node, value.step);
-    match whence_near(alloc, lab, &mut near, value.node, value, most) {
+    let near = lab.walk(value.node, value.step);
+    match whence_near(alloc, lab, &near, value.node, value, most) {
         Ok(listing) => Ok(listing),
         Err(_) => Err(LabFault::Memory),
     }

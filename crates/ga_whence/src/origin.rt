@@ -10,6 +10,7 @@ ghost use Rattle.ga_flow.specs.Following.{flow_of, AreSources};
 ghost use Rattle.ga_whence.specs.Origins.{is_cell, crosses, moved_from, is_of_three, told_part, told_flow, flow_at, origin_from, origin_of};
 ghost use Rattle.ga_whence.specs.kept.Moving.{moved_by};
 
+use crate::known::known_flow;
 use crate::moving::moved_by;
 use crate::value::Value;
 use ga_event::Made;
@@ -17,9 +18,6 @@ use ga_flow::{Flow, Part, own_flow, send_flow, take_flow};
 use ga_grid::NodeId;
 use ga_lab::{Lab, Walk};
 use ga_node::Node;
-
-/// So many steps are looked at before the node is walked back over them: few enough that what is kept of them is still at hand.
-pub(crate) const AT_ONCE: u32 = 64;
 
 // Whether the part is a cell of memory.
 pub(crate) fn is_cell(part: Part) -> bool
@@ -139,18 +137,20 @@ pub fn origin_of(lab: &Lab, value: Value) -> Value
     ensures part { IsPart result.part }
     ensures within { result.step ≤ steps_of value.node.number lab.now.kept }
 {
-    let mut walk = lab.walk(value.node, kept_step(lab, value));
-    origin_behind(lab, &mut walk, value.node, value.part)
+    let step = kept_step(lab, value);
+    let mut walk = lab.walk(value.node, step);
+    origin_behind(lab, &mut walk, value.node, step, value.part)
 }
 
-// A value that a step made, and its node walked back to right before that step.
+// A value that a step made, and a walk of its node that has not come past that step.
 #[derive(Drop)]
 pub(crate) struct Origin<'l> {
     pub value: Value,
-    pub before: Walk<'l>,
+    pub walk: Walk<'l>,
 }
 
-// A node as it was right after a step, walked back from where another walk stands, where that is of the same node and not earlier.
+// A walk of a node that has not come past a step: another walk once more, where that is of the same node and not earlier, else from the
+// newest step.
 pub(crate) fn walk_near<'l>(
     lab: &'l Lab,
     near: &Walk<'l>,
@@ -160,19 +160,17 @@ pub(crate) fn walk_near<'l>(
 ) -> Walk<'l>
     requires within { step ≤ steps_of node.number lab.now.kept }
     requires near { near.now ≡ standing lab.now at near.now.step }
-    ensures { result ≡ standing lab.now node step }
+    ensures stands { result ≡ standing lab.now node result.step }
+    ensures order { step ≤ result.step }
 {
     if at == node && step <= near.step() {
-        let mut walk = near.copy();
-        walk.back_to(step);
-        walk
+        near.copy()
     } else {
-        lab.walk(node, step)
+        lab.walk(node, lab.steps(node))
     }
 }
 
-// A node as it was right after a step, walked on from before the origin that was found last, where that is of the same node and not
-// earlier; else as `walk_near` has it.
+// The same where the walk to the origin that was found last may serve too.
 fn walk_on<'l>(
     lab: &'l Lab,
     near: &Walk<'l>,
@@ -183,21 +181,19 @@ fn walk_on<'l>(
 ) -> Walk<'l>
     requires within { step ≤ steps_of node.number lab.now.kept }
     requires near { near.now ≡ standing lab.now at near.now.step }
-    requires last { last.before ≡ standing lab.now last.value.node last.before.step }
-    ensures { result ≡ standing lab.now node step }
+    requires last { last.walk ≡ standing lab.now last.value.node last.walk.step }
+    ensures stands { result ≡ standing lab.now node result.step }
+    ensures order { step ≤ result.step }
 {
-    let Origin { value, before } = last;
-    if value.node == node && step <= before.step() {
-        let mut walk = before;
-        walk.back_to(step);
+    let Origin { value, walk } = last;
+    if value.node == node && step <= walk.step() {
         walk
     } else {
         walk_near(lab, near, at, node, step)
     }
 }
 
-// What made a value, found from before the origin that was found last, or from where a walk of some node stands, which is not walked
-// on.
+// What made a value, found by the walk to the origin that was found last, or by a walk of some node, which is not walked on.
 pub(crate) fn origin_near<'l>(
     lab: &'l Lab,
     near: &Walk<'l>,
@@ -207,30 +203,29 @@ pub(crate) fn origin_near<'l>(
 ) -> Origin<'l>
     requires part { IsPart value.part }
     requires near { near.now ≡ standing lab.now at near.now.step }
-    requires last { last.before ≡ standing lab.now last.value.node last.before.step }
+    requires last { last.walk ≡ standing lab.now last.value.node last.walk.step }
     ensures value { result.value ≡ origin_of lab.now value }
     ensures part { IsPart result.value.part }
-    ensures before { result.before ≡ standing lab.now result.value.node (result.value.step - 1) }
+    ensures stands { result.walk ≡ standing lab.now result.value.node result.walk.step }
+    ensures order { result.value.step - 1 ≤ result.walk.step }
 {
-    let mut walk = walk_on(lab, near, at, last, value.node, kept_step(lab, value));
-    let origin = origin_behind(lab, &mut walk, value.node, value.part);
+    let step = kept_step(lab, value);
+    let mut walk = walk_on(lab, near, at, last, value.node, step);
+    let origin = origin_behind(lab, &mut walk, value.node, step, value.part);
     Origin {
         value: origin,
-        before: walk,
+        walk,
     }
 }
 
-// A value followed back over the steps of its node of which what is told says from where they moved it, at most to right behind this
-// one.
-fn told_back(lab: &Lab, value: Value, first: u32) -> Value
-    requires part { IsPart value.part }
-    requires order { first ≤ value.step }
+// A value followed back over the steps of its node of which what is told says from where they moved it.
+pub(crate) fn told_back(lab: &Lab, value: Value) -> Value
+    requires { IsPart value.part }
     ensures same { origin_of lab.now result ≡ origin_of lab.now value }
     ensures part { IsPart result.part }
     ensures node { result.node ≡ value.node }
-    ensures order { first ≤ result.step }
     ensures within { result.step ≤ value.step }
-    ensures ends { first < result.step
+    ensures ends { 0 < result.step
         → moved_by (slice_get (history_of lab.now value.node.number) (result.step - 1)) result.part ≡ None }
 {
     let Value {
@@ -238,7 +233,7 @@ fn told_back(lab: &Lab, value: Value, first: u32) -> Value
         mut step,
         mut part,
     } = value;
-    'telling: while step > first {
+    'telling: while step > 0 {
         match moved_by(lab.told(node, step - 1), part) {
             Some(from) => part = from,
             None => return Value { node, step, part },
@@ -248,37 +243,58 @@ fn told_back(lab: &Lab, value: Value, first: u32) -> Value
     Value { node, step, part }
 }
 
-/// The step that made what stands in a part where the node is walked back to, which is walked on to right before that step. Where what
-/// is told of a step says from where it moved the value, only that is looked at.
-pub(crate) fn origin_behind(lab: &Lab, walk: &mut Walk<'_>, node: NodeId, part: Part) -> Value
+// Where the value comes from that the step at a place leaves in a part of its node. The node is walked back to right before the step
+// only where what is kept of the step doesn't say it.
+pub(crate) fn flow_by_walk(
+    lab: &Lab,
+    walk: &mut Walk<'_>,
+    node: NodeId,
+    place: u32,
+    part: Part,
+) -> Flow
     requires part { IsPart part }
     requires walk { walk.old ≡ standing lab.now node walk.old.step }
-    ensures value { result ≡ origin_from lab.now node walk.old.step part }
-    ensures part { IsPart result.part }
-    ensures within { result.step ≤ steps_of node.number lab.now.kept }
-    ensures node { result.node ≡ node }
-    ensures walk { walk.new ≡ standing lab.now node (result.step - 1) }
+    requires order { place ≤ walk.old.step }
+    ensures value { flow_of result ≡ flow_at lab.now node.number place part }
+    ensures sources { AreSources (flow_of result) }
+    ensures walk { walk.new ≡ standing lab.now node walk.new.step }
+    ensures order { place ≤ walk.new.step }
 {
-    let step = walk.step();
-    let mut value = Value { node, step, part };
+    if let Some(flow) = known_flow(lab, node, place, part) {
+        return flow;
+    }
+    walk.back_to(place);
+    flow_behind(lab, walk, node, part)
+}
+
+/// The step that made what stands in a part of a node behind a step, by a walk of the node that has not come past that step, nor then
+/// past the one that made it. The walk goes on only where what is kept of a step doesn't say from where the step has the value.
+pub(crate) fn origin_behind(
+    lab: &Lab,
+    walk: &mut Walk<'_>,
+    node: NodeId,
+    step: u32,
+    part: Part,
+) -> Value
+    requires part { IsPart part }
+    requires walk { walk.old ≡ standing lab.now node walk.old.step }
+    requires order { step ≤ walk.old.step }
+    ensures value { result ≡ origin_from lab.now node step part }
+    ensures part { IsPart result.part }
+    ensures within { result.step ≤ step }
+    ensures node { result.node ≡ node }
+    ensures walk { walk.new ≡ standing lab.now node walk.new.step }
+    ensures order { result.step - 1 ≤ walk.new.step }
+{
+    let mut value = told_back(lab, Value { node, step, part });
     'steps: while value.step > 0 {
-        let first = (value.step - 1) / AT_ONCE * AT_ONCE;
-        value = told_back(lab, value, first);
-        if value.step == first {
-            walk.back_to(first);
-            continue 'steps;
-        }
         let Value { step, part, .. } = value;
-        walk.back_to(step - 1);
-        let flow = flow_behind(lab, walk, node, part);
+        let flow = flow_by_walk(lab, walk, node, step - 1, part);
         match moved_from(&flow, part) {
             Some(from) => {
                 let step = step - 1;
-                value = Value {
-                    node,
-                    step,
-                    part: from,
-                };
+                let part = from;
+                value = told_back(lab, Value { node, step, part });
             }
             None => {
                 let part = told_part(&flow, part);

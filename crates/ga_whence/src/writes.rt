@@ -8,13 +8,16 @@ ghost use Rattle.ga_flow.specs.Following.{flow_of};
 ghost use Rattle.ga_whence.specs.Writes.{is_written, written_at, written, newest_written};
 ghost use Rattle.ga_whence.specs.kept.Stores.{ran_store};
 
-use crate::origin::{AT_ONCE, flow_behind, is_cell};
+use crate::origin::{flow_behind, is_cell};
 use ga_event::Made;
 use ga_flow::{Flow, Part};
 use ga_grid::NodeId;
 use ga_lab::{Lab, Walk};
 use ga_node::{Kind, Node, Place};
 use ga_word::Word18;
+
+/// So many steps are looked at before the node is walked back over them: few enough that what is kept of them is still at hand.
+const AT_ONCE: u32 = 64;
 
 /// A step that wrote a cell, and the word that stood there behind it.
 #[derive(Clone, Copy, PartialEq, Eq, Debug)]

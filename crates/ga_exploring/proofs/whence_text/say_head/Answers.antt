@@ -1,5 +1,4 @@
-use Rattle.std.proofs.Common.{◌≡◌, List, ℕ, ◌++◌, refl, ap, ◌∙◌}
-use Rattle.ga_lab.specs.Machine.{Standing}
+use Rattle.std.proofs.Common.{List, ℕ, ◌++◌, refl, ap, ◌∙◌}
 use Rattle.ga_console.proofs.SaidLemmas.{cut_here, cut_within}
 use Rattle.ga_exploring.specs.Tails.{step_tail}
 use Rattle.ga_exploring.specs.Trees.{did_text}
@@ -18,13 +17,9 @@ returns-in_err-say_blocks g c = λ before said h.
 
 pub returns : goal.returns
 returns g c = λ before said h.
-    let s = c.args.lab.now in
-    let step = c.args.near.now.step in
-    let tail : ℕ → List ℕ = step_tail c.args.notes.now s c.args.node in
-    let line : List ℕ = c.as_slice.result.now in
-    let k : ℕ = c.copy-walk.result.step in
-    let is : k ≡ step = ap (λ (z : Standing). z.step) c.copy-walk.ensures in (
-      line ++ tail k,
-      ap (λ (n : ℕ). line ++ tail n) is ∙ ap (λ (t : List ℕ). t ++ tail step) (c.as_slice.ensures.value ∙ c.head_line.ensures ∙ ap (did_text s c.args.node) c.step.ensures.value),
-      joined_said c.say_walk_tail.result _ before said line (tail k) _ (c.say_walk_tail.ensures before (said ++ line) (c.in_ok-say_blocks.ensures before said h)),
+    let tail = step_tail c.args.notes.now c.args.lab.now c.args.node c.args.near.now.step in
+    let line : List ℕ = c.as_slice.result.now in (
+      line ++ tail,
+      ap (λ (t : List ℕ). t ++ tail) (c.as_slice.ensures.value ∙ c.head_line.ensures ∙ ap (did_text c.args.lab.now c.args.node) c.step.ensures.value),
+      joined_said c.say_walk_tail.result _ before said line tail _ (c.say_walk_tail.ensures before (said ++ line) (c.in_ok-say_blocks.ensures before said h)),
     )

@@ -1,27 +1,42 @@
-use Rattle.std.proofs.Common.{rules, ◌≡◌, ap, ◌∙◌}
-use Rattle.ga_flow.specs.declared.part.Part.TheVariants as part
-use Rattle.ga_grid.specs.declared.node_id.NodeId.{NodeId}
-use Rattle.ga_grid.proofs.NodeIds.{NodeId-same}
-use Rattle.ga_lab.specs.Machine.{Standing, standing}
+use Rattle.std.proofs.Common.{◌≡◌, ℕ, suc, ◌-◌, ◌≤◌, refl, sym, ap, ◌∙◌, arith}
+use Rattle.ga_ports.specs.Address.{classified}
+use Rattle.ga_node.specs.Record.{NodeRecord, record_of}
+use Rattle.ga_event.specs.Told.{steps_of}
+use Rattle.ga_lab.specs.Machine.{Standing}
+use Rattle.ga_flow.specs.declared.part.Part.TheVariants.{I}
 use Rattle.ga_whence.specs.declared.value.Value.{Value}
-use Rattle.ga_whence.specs.Origins.{origin_from}
-use Rattle.ga_whence.specs.Fetched.{fetched_by}
-use Rattle.ga_whence.proofs.Made.{stands_so}
+use Rattle.ga_whence.specs.Origins.{value_at, origin_from, origin_of}
+use Rattle.ga_whence.specs.Fetched.{cell_of, fetched_by}
+use Rattle.ga_whence.proofs.Made.{made_there, stood_of, told_so}
 use Rattle.ga_whence.proofs.fetched.fetched_near.Goals as goal
 
-pub fetched_next-requires-clause-before : goal.fetched_next-requires-clause-before
-fetched_next-requires-clause-before c =
-    let number : c.args.at.number ≡ c.args.node.number = search rules in
-    let same : c.args.at ≡ c.args.node = NodeId-same c.args.at c.args.node number in
-    c.requires ∙ ap (λ (n : NodeId). standing c.args.lab.now n c.args.near.now.step) same
-
-pub fetched_behind-requires : goal.fetched_behind-requires
-fetched_behind-requires c = stands_so c.args.lab.now c.args.node c.kept_step.result c.walk_near-walk.result c.walk_near-walk.ensures
+pub returns-in-Some : goal.returns-in-Some
+returns-in-Some c =
+    let s = c.args.lab.now in
+    let node = c.args.node in
+    let value = c.told_back-value.result in
+    let k : ℕ = value.step - 1 in
+    let is : suc k ≡ value.step = omega (arith, c.if-value-eq0.false) in
+    let made = origin_of s (value_at node c.args.step I) in
+    let same : origin_from s node value.step value.part ≡ made =
+    told_so s node (value_at node c.kept_step-step.result I) value made refl c.told_back-value.ensures.node c.told_back-value.ensures.same c.kept_step-step.ensures.same in
+    c.cell_of.ensures
+    ∙ ap (λ (p : ℕ). cell_of (classified p)) (sym c.in-Some.ensures.p)
+    ∙ ap (λ (v : Value). fetched_by s node.number v.step) (sym (made_there s node k value.part c.in-Some.ensures.made))
+    ∙ ap (λ (m : ℕ). fetched_by s node.number (origin_from s node m value.part).step) is
+    ∙ ap (λ (v : Value). fetched_by s node.number v.step) same
 
 pub returns : goal.returns
 returns c =
     let s = c.args.lab.now in
     let node = c.args.node in
-    c.fetched_behind.ensures
-    ∙ ap (λ (z : Standing). fetched_by s node.number (origin_from s node z.step part.I).step) c.walk_near-walk.ensures
-    ∙ ap (λ (v : Value). fetched_by s node.number v.step) c.kept_step.ensures.same
+    let value = c.told_back-value.result in
+    let k : ℕ = c.origin_behind-made.result.step - 1 in
+    let is : suc k ≡ c.origin_behind-made.result.step = omega (arith, c.if-made-eq0.false) in
+    let made = origin_of s (value_at node c.args.step I) in
+    let same : origin_from s node value.step value.part ≡ made =
+    told_so s node (value_at node c.kept_step-step.result I) value made refl c.told_back-value.ensures.node c.told_back-value.ensures.same c.kept_step-step.ensures.same in
+    let within : k ≤ steps_of node.number s.kept = omega (arith, c.origin_behind-made.ensures.within, c.told_back-value.ensures.within, c.kept_step-step.ensures.within) in
+    let stood = stood_of s node c.back_to.new.self k (record_of c.node.result.now) (c.back_to.ensures ∙ ap (λ (z : Standing). record z { step = k }) c.origin_behind-made.ensures.walk) within c.node.ensures in
+    c.named_by.ensures ∙ ap (λ (n : NodeRecord). cell_of (classified n.p)) stood
+    ∙ ap (fetched_by s node.number) is ∙ ap (λ (v : Value). fetched_by s node.number v.step) (c.origin_behind-made.ensures.value ∙ same)

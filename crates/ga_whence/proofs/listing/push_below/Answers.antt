@@ -2,8 +2,7 @@ use Rattle.std.proofs.Common.{◌≡◌, suc, ◌+◌, ◌-◌, ◌++◌, map, r
 use Rattle.std.specs.List.{slice_get}
 use Rattle.std.proofs.lemmas.Result.{on_ok_weaker}
 use Rattle.ga_flow.specs.Flow.{Same, From}
-use Rattle.ga_lab.specs.Machine.{Standing, history_of}
-use Rattle.ga_whence.specs.Origins.{flow_at}
+use Rattle.ga_lab.specs.Machine.{history_of}
 use Rattle.ga_whence.specs.Rows.{row_at}
 use Rattle.ga_whence.proofs.Sources.{below_load, below_made, below_open, load_open}
 use Rattle.ga_whence.proofs.listing.push_below.Goals as goal
@@ -16,34 +15,30 @@ returns-then-step-eq0-clause-ready c = load_open c.args.lab.now c.args.row c.if-
 
 pub returns-in-Same-clause-ok : goal.returns-in-Same-clause-ok
 returns-in-Same-clause-ok c =
-    let went = ap (λ (z : Standing). flow_at c.args.lab.now c.args.row.value.node.number z.step c.args.row.value.part) c.requires.before in
     let is : suc (c.args.row.value.step - 1) ≡ c.args.row.value.step = omega (arith, c.if-step-eq0.false) in
     on_ok_weaker c.push_some.result
     (λ e. e ∙ ap (λ z. z ++ reverse c.args.todo.now.items) (ap (map (row_at (c.args.row.depth + 1))) c.source_in.ensures
-    ∙ below_made c.args.lab.now c.args.row (c.args.row.value.step - 1) c.told-told.result (Same c.in-Same.from) is c.told-told.ensures (c.in-Same.ensures.value ∙ went)))
+    ∙ below_made c.args.lab.now c.args.row (c.args.row.value.step - 1) c.told-told.result (Same c.in-Same.from) is c.told-told.ensures c.in-Same.ensures.value))
     c.push_some.ensures.ok
 
 pub returns-in-Same-clause-ready : goal.returns-in-Same-clause-ready
 returns-in-Same-clause-ready c =
-    let went = ap (λ (z : Standing). flow_at c.args.lab.now c.args.row.value.node.number z.step c.args.row.value.part) c.requires.before in
     let is : suc (c.args.row.value.step - 1) ≡ c.args.row.value.step = omega (arith, c.if-step-eq0.false) in
     on_ok_weaker c.push_some.result
-    (λ e. below_open c.args.lab.now c.args.row (c.args.row.value.step - 1) c.told-told.result (Same c.in-Same.from) is c.told-told.ensures (c.in-Same.ensures.value ∙ went) c.in-Same.ensures.sources)
+    (λ e. below_open c.args.lab.now c.args.row (c.args.row.value.step - 1) c.told-told.result (Same c.in-Same.from) is c.told-told.ensures c.in-Same.ensures.value c.in-Same.ensures.sources)
     c.push_some.ensures.ok
 
 pub returns-in-From-clause-ok : goal.returns-in-From-clause-ok
 returns-in-From-clause-ok c =
-    let went = ap (λ (z : Standing). flow_at c.args.lab.now c.args.row.value.node.number z.step c.args.row.value.part) c.requires.before in
     let is : suc (c.args.row.value.step - 1) ≡ c.args.row.value.step = omega (arith, c.if-step-eq0.false) in
     on_ok_weaker c.push_parts.result
     (λ e. e ∙ ap (λ z. z ++ reverse c.args.todo.now.items)
-    (below_made c.args.lab.now c.args.row (c.args.row.value.step - 1) (slice_get (history_of c.args.lab.now c.args.row.value.node.number) (c.args.row.value.step - 1)) (From c.in-From.parts.items) is refl (c.in-From.ensures.value ∙ went)))
+    (below_made c.args.lab.now c.args.row (c.args.row.value.step - 1) (slice_get (history_of c.args.lab.now c.args.row.value.node.number) (c.args.row.value.step - 1)) (From c.in-From.parts.items) is refl c.in-From.ensures.value))
     c.push_parts.ensures.ok
 
 pub returns-in-From-clause-ready : goal.returns-in-From-clause-ready
 returns-in-From-clause-ready c =
-    let went = ap (λ (z : Standing). flow_at c.args.lab.now c.args.row.value.node.number z.step c.args.row.value.part) c.requires.before in
     let is : suc (c.args.row.value.step - 1) ≡ c.args.row.value.step = omega (arith, c.if-step-eq0.false) in
     on_ok_weaker c.push_parts.result
-    (λ e. below_open c.args.lab.now c.args.row (c.args.row.value.step - 1) (slice_get (history_of c.args.lab.now c.args.row.value.node.number) (c.args.row.value.step - 1)) (From c.in-From.parts.items) is refl (c.in-From.ensures.value ∙ went) c.in-From.ensures.sources)
+    (λ e. below_open c.args.lab.now c.args.row (c.args.row.value.step - 1) (slice_get (history_of c.args.lab.now c.args.row.value.node.number) (c.args.row.value.step - 1)) (From c.in-From.parts.items) is refl c.in-From.ensures.value c.in-From.ensures.sources)
     c.push_parts.ensures.ok

@@ -1,6 +1,5 @@
-use Rattle.std.proofs.Common.{◌≡◌, ◌≤◌, ◌+◌, ◌-◌, true, false, [], length, vec_len, sym, ap, ◌∙◌, arith}
+use Rattle.std.proofs.Common.{◌≡◌, ◌≤◌, ◌+◌, true, false, [], length, vec_len, sym, ap, ◌∙◌, arith}
 use Rattle.ga_whence.specs.Rows.{is_named, row_at, below}
-use Rattle.ga_whence.proofs.Made.{stands_so}
 use Rattle.ga_whence.proofs.Walking.{told_again, told_on, told_cut, told_all, no_items, grown_by, open_top, open_left, open_on}
 use Rattle.ga_whence.proofs.listing.whence_near.Goals as goal
 
@@ -23,8 +22,7 @@ telling-preserved-then-is_named c =
       tells = told_again c.args.lab.now (row_at 0 c.args.value) c.telling.rows.items c.telling.todo.items c.pop.new.self.items c.in-Some.next c.origin_near-last.result.value c.in-Some.ensures.items c.origin_near-last.ensures.value named c.telling.invariant.tells;
       ready = open_left (length c.telling.rows.items) c.telling.todo.items c.pop.new.self.items c.in-Some.next c.in-Some.ensures.items c.telling.invariant.ready;
       most = c.telling.invariant.most;
-      near = c.go_on.ensures;
-      last = stands_so c.args.lab.now c.origin_near-last.result.value.node (c.origin_near-last.result.value.step - 1) c.origin_near-last.result.before c.origin_near-last.ensures.before;
+      last = c.origin_near-last.ensures.stands;
     }
 
 pub returns-then-as_slice-most-clause-rows : goal.returns-then-as_slice-most-clause-rows
@@ -51,8 +49,7 @@ telling-preserved c =
       ready = open_on (length c.telling.rows.items) (length c.push-in-Some.new.self.items) (c.in-Some.next.depth + 1) c.telling.todo.items c.pop.new.self.items c.push_below.new.todo.items (below c.args.lab.now row) c.in-Some.next
           c.in-Some.ensures.items less deep c.telling.invariant.ready c.in_ok-push_below.ensures.ready c.in_ok-push_below.ensures.ok;
       most = most;
-      near = c.go_on.ensures;
-      last = stands_so c.args.lab.now c.origin_near-last.result.value.node (c.origin_near-last.result.value.step - 1) c.origin_near-last.result.before c.origin_near-last.ensures.before;
+      last = c.in_ok-push_below.ensures.walk;
     }
 
 pub returns-clause-rows : goal.returns-clause-rows

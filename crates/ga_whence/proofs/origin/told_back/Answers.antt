@@ -11,7 +11,6 @@ telling-preserved c =
     let is : suc (c.telling.step - 1) ≡ c.telling.step = omega (arith, c.telling-test.true) in
     record {
       part = c.in-Some.ensures.part;
-      order = omega (arith, c.telling-test.true);
       within = omega (arith, c.telling.invariant.within);
       same = back_on s node c.telling.step (c.telling.step - 1) c.telling.part c.in-Some.from (origin_of s c.args.value) is
           (moves_as_told s node.number (c.telling.step - 1) c.telling.part c.in-Some.from c.told.result c.told.ensures c.in-Some.ensures.value) c.telling.invariant.same;

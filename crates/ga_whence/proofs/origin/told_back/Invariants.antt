@@ -6,7 +6,6 @@ use Rattle.ga_whence.proofs.origin.told_back.Given as goal
 abbrev pub invariant-telling : goal.invariant-telling
 invariant-telling l = record {
   part : IsPart l.part;
-  order : l.first ≤ l.step;
   within : l.step ≤ l.fn.value.step;
   same : origin_from l.lab l.fn.value.node l.step l.part ≡ origin_of l.lab l.fn.value;
 }
