@@ -5,7 +5,8 @@ use Rattle.ga_slots.specs.declared.op.Op.TheVariants as op
 use Rattle.ga_ports.specs.Address.{classified}
 use Rattle.ga_node.specs.Record.{NodeRecord}
 use Rattle.ga_node.specs.Table.{due_of}
-use Rattle.ga_flow.specs.Flow.{Test, At, choice, chosen_by, AreAlike, Agree}
+use Rattle.ga_flow.specs.declared.choice.Choice.TheVariants.{Test, At}
+use Rattle.ga_flow.specs.Flow.{choice, chosen_by, AreAlike, Agree}
 use Rattle.ga_flow.specs.declared.part.Part.TheVariants.{I as OfI, Slot as OfSlot}
 use Rattle.ga_node.specs.declared.due.Due.{Due}
 use Rattle.ga_node.specs.declared.due.Due.TheVariants as due

@@ -13,7 +13,7 @@ use Rattle.ga_node.specs.Io.{io_word}
 use Rattle.ga_node.specs.Changes.{Change, after_changes}
 use Rattle.ga_node.specs.Changes as change
 use Rattle.ga_node.specs.Table.{t, r, posts, halts, found, stored, followed, named, effect, is_extended, due_of, done_by, own_event, own, sent, taken, taking}
-use Rattle.ga_flow.specs.Flow.{Flow, Same, From, Move, top, second, top_return, part_of, IsPart, moved_all, from, read_moves, write_moves, moves, moves_by, take_moves, own_flow, send_flow, take_flow, Choice, Plain, Test, At, choice, AreAlike, Comes}
+use Rattle.ga_flow.specs.Flow.{Flow, Same, From, Move, top, second, top_return, part_of, IsPart, moved_all, from, read_moves, write_moves, moves, moves_by, take_moves, own_flow, send_flow, take_flow, choice, target_of, holds, AreAlike, Comes}
 use Rattle.ga_flow.specs.declared.part.Part.{Part}
 use Rattle.ga_flow.specs.declared.part.Part.TheVariants.{Ram as OfRam, Rom as OfRom, A as OfA, P as OfP, I as OfI, Carry as OfCarry, Slot as OfSlot, Outside}
 use Rattle.ga_flow.specs.Flow as move
@@ -27,16 +27,6 @@ use Rattle.ga_node.specs.declared.wait.Wait.TheVariants as wait
 use Rattle.ga_node.specs.declared.wait.Reader.{Reader}
 use Rattle.ga_node.specs.declared.wait.Reader.TheVariants.{Instruction, Stack}
 use Rattle.ga_flow.proofs.Tracks.{push_data, pop_data, set_top, pop_to, push_return, pop_return, set_top_return, set_p, set_a, set_b, set_i, set_io, set_carry, set_ram, go_on, skip, start_again, set_wait, set_stop, AreMoves, none, then, comes_after, sizes_after}
-
-abbrev test_of : Choice → Bool
-test_of Plain = true
-test_of (Test b) = b
-test_of (At target) = true
-
-abbrev target_of : Choice → Target
-target_of Plain = Bad
-target_of (Test b) = Bad
-target_of (At target) = target
 
 abbrev posts_to : ℕ → Kind × List Change
 posts_to sides = posts (wait.Write (side_of sides))
@@ -120,10 +110,10 @@ module _ (seen other : Seen) (n m : NodeRecord) where
   effect_row op.Execute e k = (refl, then (set_p (from_one (λ v. v % 2 ^ 10) top_return)) (then (set_top_return (refl, refl)) skips))
   effect_row op.Jump e k = (refl, jump_row)
   effect_row op.Call e k = (refl, then (push_return (refl, refl)) jump_row)
-  effect_row op.Unext e k = (refl, either (r n == 0) (r m == 0) _ _ _ _ _ _ (ap test_of e) (then pop_return goes_on) (then (set_top_return (from_one (λ v. v - 1) top_return)) (then start_again none)))
-  effect_row op.Next e k = (refl, either (r n == 0) (r m == 0) _ _ _ _ _ _ (ap test_of e) (then pop_return skips) (then (set_top_return (from_one (λ v. v - 1) top_return)) jump_row))
-  effect_row op.If e k = (refl, either (t n == 0) (t m == 0) _ _ _ _ _ _ (ap test_of e) jump_row skips)
-  effect_row op.MinusIf e k = (refl, either (t n / 2 ^ 17 == 0) (t m / 2 ^ 17 == 0) _ _ _ _ _ _ (ap test_of e) jump_row skips)
+  effect_row op.Unext e k = (refl, either (r n == 0) (r m == 0) _ _ _ _ _ _ (ap holds e) (then pop_return goes_on) (then (set_top_return (from_one (λ v. v - 1) top_return)) (then start_again none)))
+  effect_row op.Next e k = (refl, either (r n == 0) (r m == 0) _ _ _ _ _ _ (ap holds e) (then pop_return skips) (then (set_top_return (from_one (λ v. v - 1) top_return)) jump_row))
+  effect_row op.If e k = (refl, either (t n == 0) (t m == 0) _ _ _ _ _ _ (ap holds e) jump_row skips)
+  effect_row op.MinusIf e k = (refl, either (t n / 2 ^ 17 == 0) (t m / 2 ^ 17 == 0) _ _ _ _ _ _ (ap holds e) jump_row skips)
   effect_row op.FetchP e k = read_row (classified n.p) (classified m.p) Stack k _ _ _ (ap target_of e) (λ flow x y comes. then (push_data comes) (then (set_p (from_one advanced OfP)) goes_on))
   effect_row op.FetchPlus e k = read_row (classified n.a) (classified m.a) Stack k _ _ _ (ap target_of e) (λ flow x y comes. then (push_data comes) (then (set_a (from_one advanced OfA)) goes_on))
   effect_row op.FetchB e k = read_row (classified n.b) (classified m.b) Stack k _ _ _ (ap target_of e) (λ flow x y comes. then (push_data comes) goes_on)
@@ -139,7 +129,7 @@ module _ (seen other : Seen) (n m : NodeRecord) where
   effect_row op.Invert e k = (refl, then (set_top (from_one (λ v. 0x3ffff - v) top)) goes_on)
   effect_row op.Plus e k = (
     refl,
-    either (is_extended n) (is_extended m) _ _ _ _ _ _ (ap test_of e)
+    either (is_extended n) (is_extended m) _ _ _ _ _ _ (ap holds e)
         (then (set_carry (from_three (λ t s c. carry_value (nat_le words (t + s + c))) top second OfCarry)) (then (pop_to (from_three (λ t s c. (t + s + c) % words) top second OfCarry)) goes_on))
         (then (pop_to (from_two (λ t s. (t + s) % words) top second)) goes_on),
   )

@@ -1,19 +1,20 @@
 -- Following a part back through the moves of an event finds where its value comes from.
-use Rattle.std.proofs.Common.{◌≡◌, ◌==◌, ◌+◌, ◌-◌, ◌/◌, ◌^◌, Bool, true, false, cond, List, [], ◌∷◌, refl, sym, ap, ◌∙◌}
+use Rattle.std.proofs.Common.{◌≡◌, ◌==◌, ◌+◌, ◌-◌, Bool, true, false, cond, List, [], ◌∷◌, refl, sym, ap, ◌∙◌}
 use Rattle.ga_slots.specs.declared.op.Op.{Op}
 use Rattle.ga_slots.specs.declared.op.Op.TheVariants as op
-use Rattle.ga_ports.specs.Address.{classified, is_single}
+use Rattle.ga_ports.specs.Address.{is_single}
 use Rattle.ga_ports.specs.declared.address.Target.{Target}
 use Rattle.ga_ports.specs.declared.address.Target.TheVariants as target
 use Rattle.ga_node.specs.Record.{NodeRecord}
-use Rattle.ga_node.specs.Table.{t, r, is_extended, due_of}
+use Rattle.ga_node.specs.Table.{due_of}
 use Rattle.ga_node.specs.declared.due.Due.{Due}
 use Rattle.ga_node.specs.declared.due.Due.TheVariants as due
 use Rattle.ga_node.specs.declared.wait.Wait.{Wait}
 use Rattle.ga_node.specs.declared.wait.Wait.TheVariants as wait
+use Rattle.ga_flow.specs.declared.choice.Choice.{Choice}
 use Rattle.ga_flow.specs.declared.part.Part.{Part}
 use Rattle.ga_flow.specs.declared.part.Part.TheVariants.{Data, Return, Ram, Rom, A, B, P, I, Io, Carry, Slot, Wait as WaitPart, Stop, Outside}
-use Rattle.ga_flow.specs.Flow.{Flow, Same, From, Flows, Move, PushData, PopData, SetTop, PopTo, PushReturn, PopReturn, SetTopReturn, SetP, SetA, SetB, SetI, SetIo, SetCarry, SetRam, GoOn, Skip, StartAgain, SetWait, SetStop, is_same, with_flow, pushed_data, popped_data, pushed_return, popped_return, by, moved, moved_all, top, top_return, read_moves, write_moves, moves, moves_by, send_moves, take_moves, own_flow, send_flow, take_flow}
+use Rattle.ga_flow.specs.Flow.{Flow, Same, From, Flows, Move, PushData, PopData, SetTop, PopTo, PushReturn, PopReturn, SetTopReturn, SetP, SetA, SetB, SetI, SetIo, SetCarry, SetRam, GoOn, Skip, StartAgain, SetWait, SetStop, is_same, with_flow, pushed_data, popped_data, pushed_return, popped_return, by, moved, moved_all, top, top_return, choice, target_of, holds, read_moves, write_moves, moves_where, moves_by, send_moves, take_moves, flow_where, own_flow, send_flow, take_flow}
 use Rattle.ga_flow.specs.kept.Following.{Trace, At, Found, set_at, push_data, pop_data, push_return, pop_return, before, before_all, settled, read_before, write_before}
 
 -- the flow of what stands there
@@ -186,48 +187,57 @@ write_last target.Io next rest last = (tt, last)
 write_last (target.Ports sides) next rest last = either_last (is_single sides) _ _ tt tt
 write_last target.Bad next rest last = tt
 
-op_last : (op : Op) (n : NodeRecord) → SlotLast (moves op n)
-op_last op.Return n = (tt, (tt, tt))
-op_last op.Execute n = (tt, (tt, tt))
-op_last op.Jump n = (tt, tt)
-op_last op.Call n = (tt, (tt, tt))
-op_last op.Unext n = either_last (r n == 0) _ _ (tt, tt) (tt, tt)
-op_last op.Next n = either_last (r n == 0) _ _ (tt, tt) (tt, (tt, tt))
-op_last op.If n = either_last (t n == 0) _ _ (tt, tt) tt
-op_last op.MinusIf n = either_last (t n / 2 ^ 17 == 0) _ _ (tt, tt) tt
-op_last op.FetchP n = read_last (classified n.p) _ (λ flow. (tt, (tt, tt)))
-op_last op.FetchPlus n = read_last (classified n.a) _ (λ flow. (tt, (tt, tt)))
-op_last op.FetchB n = read_last (classified n.b) _ (λ flow. (tt, tt))
-op_last op.Fetch n = read_last (classified n.a) _ (λ flow. (tt, tt))
-op_last op.StoreP n = write_last (classified n.p) _ _ (tt, (tt, tt))
-op_last op.StorePlus n = write_last (classified n.a) _ _ (tt, (tt, tt))
-op_last op.StoreB n = write_last (classified n.b) _ _ (tt, tt)
-op_last op.Store n = write_last (classified n.a) _ _ (tt, tt)
-op_last op.MultiplyStep n = (tt, (tt, tt))
-op_last op.TwoStar n = (tt, tt)
-op_last op.TwoSlash n = (tt, tt)
-op_last op.Invert n = (tt, tt)
-op_last op.Plus n = either_last (is_extended n) _ _ (tt, (tt, tt)) (tt, tt)
-op_last op.And n = (tt, tt)
-op_last op.Or n = (tt, tt)
-op_last op.Drop n = (tt, tt)
-op_last op.Dup n = (tt, tt)
-op_last op.Pop n = (tt, (tt, tt))
-op_last op.Over n = (tt, tt)
-op_last op.A n = (tt, tt)
-op_last op.Nop n = tt
-op_last op.Push n = (tt, (tt, tt))
-op_last op.BStore n = (tt, (tt, tt))
-op_last op.AStore n = (tt, (tt, tt))
+op_last : (op : Op) (c : Choice) → SlotLast (moves_where (due.Run op) c)
+op_last op.Return c = (tt, (tt, tt))
+op_last op.Execute c = (tt, (tt, tt))
+op_last op.Jump c = (tt, tt)
+op_last op.Call c = (tt, (tt, tt))
+op_last op.Unext c = either_last (holds c) _ _ (tt, tt) (tt, tt)
+op_last op.Next c = either_last (holds c) _ _ (tt, tt) (tt, (tt, tt))
+op_last op.If c = either_last (holds c) _ _ (tt, tt) tt
+op_last op.MinusIf c = either_last (holds c) _ _ (tt, tt) tt
+op_last op.FetchP c = read_last (target_of c) _ (λ flow. (tt, (tt, tt)))
+op_last op.FetchPlus c = read_last (target_of c) _ (λ flow. (tt, (tt, tt)))
+op_last op.FetchB c = read_last (target_of c) _ (λ flow. (tt, tt))
+op_last op.Fetch c = read_last (target_of c) _ (λ flow. (tt, tt))
+op_last op.StoreP c = write_last (target_of c) _ _ (tt, (tt, tt))
+op_last op.StorePlus c = write_last (target_of c) _ _ (tt, (tt, tt))
+op_last op.StoreB c = write_last (target_of c) _ _ (tt, tt)
+op_last op.Store c = write_last (target_of c) _ _ (tt, tt)
+op_last op.MultiplyStep c = (tt, (tt, tt))
+op_last op.TwoStar c = (tt, tt)
+op_last op.TwoSlash c = (tt, tt)
+op_last op.Invert c = (tt, tt)
+op_last op.Plus c = either_last (holds c) _ _ (tt, (tt, tt)) (tt, tt)
+op_last op.And c = (tt, tt)
+op_last op.Or c = (tt, tt)
+op_last op.Drop c = (tt, tt)
+op_last op.Dup c = (tt, tt)
+op_last op.Pop c = (tt, (tt, tt))
+op_last op.Over c = (tt, tt)
+op_last op.A c = (tt, tt)
+op_last op.Nop c = tt
+op_last op.Push c = (tt, (tt, tt))
+op_last op.BStore c = (tt, (tt, tt))
+op_last op.AStore c = (tt, (tt, tt))
 
 -- what is found before what comes next in a node, and before the halves of a transfer
-due_last : (d : Due) (n : NodeRecord) → SlotLast (moves_by d n)
-due_last due.Fetch n = read_last (classified n.p) _ (λ flow. (tt, (tt, tt)))
-due_last (due.Run op) n = op_last op n
+due_last : (d : Due) (c : Choice) → SlotLast (moves_where d c)
+due_last due.Fetch c = read_last (target_of c) _ (λ flow. (tt, (tt, tt)))
+due_last (due.Run op) c = op_last op c
 
-pub due_found : (d : Due) (n : NodeRecord) (part : Part) → d ≡ due_of n → settled (before_all (moves_by d n) (At part)) ≡ own_flow n part
-unfolding own_flow
-due_found d n part is = found_flow (moves_by d n) part (due_last d n) ∙ ap (λ d. moved_all (moves_by d n) Same part) is
+pub where_found : (d : Due) (c : Choice) (part : Part) → settled (before_all (moves_where d c) (At part)) ≡ flow_where d c part
+unfolding flow_where
+where_found d c part = found_flow (moves_where d c) part (due_last d c)
+
+in_node : (d : Due) (n : NodeRecord) → moves_where d (choice d n) ≡ moves_by d n
+in_node due.Fetch n = refl
+in_node (due.Run op) n = refl
+
+pub own_found : (d : Due) (c : Choice) (n : NodeRecord) (part : Part) → d ≡ due_of n → c ≡ choice d n → flow_where d c part ≡ own_flow n part
+unfolding flow_where own_flow
+own_found d c n part is so =
+    ap (λ (moves : List Move). moved_all moves Same part) (ap (moves_where d) so ∙ in_node d n) ∙ ap (λ d. moved_all (moves_by d n) Same part) is
 
 pub send_found : (part : Part) → settled (before_all send_moves (At part)) ≡ send_flow part
 unfolding send_flow

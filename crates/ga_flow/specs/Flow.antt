@@ -1,6 +1,6 @@
 -- Where the values come from that an event leaves in a node: the table of ga_node's Table.antt once more, with the sources of each word
 -- in the place of the word.
-use Rattle.std.specs.Prelude.{ℕ, ◌+◌, ◌-◌, ◌/◌, ◌^◌, ◌==◌, ◌≡◌, ◌<◌, Bool, ◌&&◌, if◌then◌else◌, List, [], ◌∷◌, slice_index}
+use Rattle.std.specs.Prelude.{ℕ, ◌+◌, ◌-◌, ◌/◌, ◌^◌, ◌==◌, ◌≡◌, ◌<◌, Bool, false, ◌&&◌, if◌then◌else◌, List, [], ◌∷◌, slice_index}
 use Rattle.ga_word.specs.Word.{carry_value}
 use Rattle.ga_slots.specs.declared.op.Op.{Op}
 use Rattle.ga_slots.specs.declared.op.Op.TheVariants.{Return, Execute, Jump, Call, Unext, Next, If, MinusIf, FetchP, FetchPlus, FetchB, Fetch, StoreP, StorePlus, StoreB, Store, MultiplyStep, TwoStar, TwoSlash, Invert, Plus, And, Or, Drop, Dup, Pop, Over, A, Nop, Push, BStore, AStore}
@@ -10,6 +10,8 @@ use Rattle.ga_ports.specs.declared.address.Target.TheVariants.{Ram, Rom, Io, Por
 use Rattle.ga_node.specs.Record.{NodeRecord}
 use Rattle.ga_node.specs.Waits.{wait_code}
 use Rattle.ga_node.specs.Table.{t, r, is_extended, due_of}
+use Rattle.ga_flow.specs.declared.choice.Choice.{Choice}
+use Rattle.ga_flow.specs.declared.choice.Choice.TheVariants.{Plain, Test, At}
 use Rattle.ga_flow.specs.declared.part.Part.{Part}
 use Rattle.ga_flow.specs.declared.part.Part.TheVariants.{Data as OfD, Return as OfR, Ram as OfRam, Rom as OfRom, A as OfA, B as OfB, P as OfP, I as OfI, Io as OfIo, Carry as OfCarry, Slot as OfSlot, Wait as OfWait, Stop as OfStop, Outside}
 use Rattle.ga_node.specs.declared.due.Due.{Due}
@@ -165,6 +167,53 @@ abbrev pub moved_all : List Move → Flows → Flows
 moved_all [] f = f
 moved_all (move ∷ rest) f = moved_all rest (moved move f)
 
+-- ---- what decides an event
+
+-- beside the opcode: a test, or the target of an address
+abbrev pub choice : Due → NodeRecord → Choice
+choice due.Fetch n = At (classified n.p)
+choice (due.Run Unext) n = Test (r n == 0)
+choice (due.Run Next) n = Test (r n == 0)
+choice (due.Run If) n = Test (t n == 0)
+choice (due.Run MinusIf) n = Test (t n / 2 ^ 17 == 0)
+choice (due.Run Plus) n = Test (is_extended n)
+choice (due.Run FetchP) n = At (classified n.p)
+choice (due.Run FetchPlus) n = At (classified n.a)
+choice (due.Run FetchB) n = At (classified n.b)
+choice (due.Run Fetch) n = At (classified n.a)
+choice (due.Run StoreP) n = At (classified n.p)
+choice (due.Run StorePlus) n = At (classified n.a)
+choice (due.Run StoreB) n = At (classified n.b)
+choice (due.Run Store) n = At (classified n.a)
+choice (due.Run _) n = Plain
+
+-- and the parts from which it comes
+abbrev pub chosen_by : Due → List Part
+chosen_by due.Fetch = OfP ∷ []
+chosen_by (due.Run Unext) = top_return ∷ []
+chosen_by (due.Run Next) = top_return ∷ []
+chosen_by (due.Run If) = top ∷ []
+chosen_by (due.Run MinusIf) = top ∷ []
+chosen_by (due.Run Plus) = OfP ∷ []
+chosen_by (due.Run FetchP) = OfP ∷ []
+chosen_by (due.Run FetchPlus) = OfA ∷ []
+chosen_by (due.Run FetchB) = OfB ∷ []
+chosen_by (due.Run Fetch) = OfA ∷ []
+chosen_by (due.Run StoreP) = OfP ∷ []
+chosen_by (due.Run StorePlus) = OfA ∷ []
+chosen_by (due.Run StoreB) = OfB ∷ []
+chosen_by (due.Run Store) = OfA ∷ []
+chosen_by (due.Run _) = []
+
+-- what the address of a choice names, and whether its test held
+abbrev pub target_of : Choice → Target
+target_of (At target) = target
+target_of _ = Bad
+
+abbrev pub holds : Choice → Bool
+holds (Test held) = held
+holds _ = false
+
 -- ---- the table
 
 -- what a read gives, and what comes after it
@@ -203,44 +252,49 @@ add_moves extended =
 abbrev pub multiply_moves : List Move
 multiply_moves = let sum = From (top ∷ second ∷ OfA ∷ []) in SetA sum ∷ SetTop sum ∷ GoOn ∷ []
 
--- the moves of each opcode in their order
-abbrev pub moves : Op → NodeRecord → List Move
-moves Return n = SetP (from top_return) ∷ PopReturn ∷ Skip ∷ []
-moves Execute n = execute_moves
-moves Jump n = jump_moves
-moves Call n = PushReturn (Same OfP) ∷ jump_moves
-moves Unext n = if r n == 0 then PopReturn ∷ GoOn ∷ [] else SetTopReturn (from top_return) ∷ StartAgain ∷ []
-moves Next n = if r n == 0 then PopReturn ∷ Skip ∷ [] else SetTopReturn (from top_return) ∷ jump_moves
-moves If n = if t n == 0 then jump_moves else Skip ∷ []
-moves MinusIf n = if t n / 2 ^ 17 == 0 then jump_moves else Skip ∷ []
-moves FetchP n = read_moves (classified n.p) (λ word. PushData word ∷ SetP (from OfP) ∷ GoOn ∷ [])
-moves FetchPlus n = read_moves (classified n.a) (λ word. PushData word ∷ SetA (from OfA) ∷ GoOn ∷ [])
-moves FetchB n = read_moves (classified n.b) (λ word. PushData word ∷ GoOn ∷ [])
-moves Fetch n = read_moves (classified n.a) (λ word. PushData word ∷ GoOn ∷ [])
-moves StoreP n = write_moves (classified n.p) (PopData ∷ SetP (from OfP) ∷ GoOn ∷ [])
-moves StorePlus n = write_moves (classified n.a) (PopData ∷ SetA (from OfA) ∷ GoOn ∷ [])
-moves StoreB n = write_moves (classified n.b) (PopData ∷ GoOn ∷ [])
-moves Store n = write_moves (classified n.a) (PopData ∷ GoOn ∷ [])
-moves MultiplyStep n = multiply_moves
-moves TwoStar n = SetTop (from top) ∷ GoOn ∷ []
-moves TwoSlash n = SetTop (from top) ∷ GoOn ∷ []
-moves Invert n = SetTop (from top) ∷ GoOn ∷ []
-moves Plus n = add_moves (is_extended n)
-moves And n = PopTo from_t_and_s ∷ GoOn ∷ []
-moves Or n = PopTo from_t_and_s ∷ GoOn ∷ []
-moves Drop n = PopData ∷ GoOn ∷ []
-moves Dup n = PushData (Same top) ∷ GoOn ∷ []
-moves Pop n = PushData (Same top_return) ∷ PopReturn ∷ GoOn ∷ []
-moves Over n = PushData (Same second) ∷ GoOn ∷ []
-moves A n = PushData (Same OfA) ∷ GoOn ∷ []
-moves Nop n = GoOn ∷ []
-moves Push n = PushReturn (Same top) ∷ PopData ∷ GoOn ∷ []
-moves BStore n = SetB (from top) ∷ PopData ∷ GoOn ∷ []
-moves AStore n = SetA (Same top) ∷ PopData ∷ GoOn ∷ []
-
--- the moves of a fetch, by what P names, and of what comes next in a node
+-- the moves of a fetch, by what P names
 abbrev pub fetch_moves : Target → List Move
 fetch_moves target = read_moves target (λ word. SetI word ∷ SetP (from OfP) ∷ StartAgain ∷ [])
+
+-- the moves of what comes next in their order, by the opcode and what decides the event beside it
+abbrev pub moves_where : Due → Choice → List Move
+moves_where due.Fetch c = fetch_moves (target_of c)
+moves_where (due.Run Return) c = SetP (from top_return) ∷ PopReturn ∷ Skip ∷ []
+moves_where (due.Run Execute) c = execute_moves
+moves_where (due.Run Jump) c = jump_moves
+moves_where (due.Run Call) c = PushReturn (Same OfP) ∷ jump_moves
+moves_where (due.Run Unext) c = if holds c then PopReturn ∷ GoOn ∷ [] else SetTopReturn (from top_return) ∷ StartAgain ∷ []
+moves_where (due.Run Next) c = if holds c then PopReturn ∷ Skip ∷ [] else SetTopReturn (from top_return) ∷ jump_moves
+moves_where (due.Run If) c = if holds c then jump_moves else Skip ∷ []
+moves_where (due.Run MinusIf) c = if holds c then jump_moves else Skip ∷ []
+moves_where (due.Run FetchP) c = read_moves (target_of c) (λ word. PushData word ∷ SetP (from OfP) ∷ GoOn ∷ [])
+moves_where (due.Run FetchPlus) c = read_moves (target_of c) (λ word. PushData word ∷ SetA (from OfA) ∷ GoOn ∷ [])
+moves_where (due.Run FetchB) c = read_moves (target_of c) (λ word. PushData word ∷ GoOn ∷ [])
+moves_where (due.Run Fetch) c = read_moves (target_of c) (λ word. PushData word ∷ GoOn ∷ [])
+moves_where (due.Run StoreP) c = write_moves (target_of c) (PopData ∷ SetP (from OfP) ∷ GoOn ∷ [])
+moves_where (due.Run StorePlus) c = write_moves (target_of c) (PopData ∷ SetA (from OfA) ∷ GoOn ∷ [])
+moves_where (due.Run StoreB) c = write_moves (target_of c) (PopData ∷ GoOn ∷ [])
+moves_where (due.Run Store) c = write_moves (target_of c) (PopData ∷ GoOn ∷ [])
+moves_where (due.Run MultiplyStep) c = multiply_moves
+moves_where (due.Run TwoStar) c = SetTop (from top) ∷ GoOn ∷ []
+moves_where (due.Run TwoSlash) c = SetTop (from top) ∷ GoOn ∷ []
+moves_where (due.Run Invert) c = SetTop (from top) ∷ GoOn ∷ []
+moves_where (due.Run Plus) c = add_moves (holds c)
+moves_where (due.Run And) c = PopTo from_t_and_s ∷ GoOn ∷ []
+moves_where (due.Run Or) c = PopTo from_t_and_s ∷ GoOn ∷ []
+moves_where (due.Run Drop) c = PopData ∷ GoOn ∷ []
+moves_where (due.Run Dup) c = PushData (Same top) ∷ GoOn ∷ []
+moves_where (due.Run Pop) c = PushData (Same top_return) ∷ PopReturn ∷ GoOn ∷ []
+moves_where (due.Run Over) c = PushData (Same second) ∷ GoOn ∷ []
+moves_where (due.Run A) c = PushData (Same OfA) ∷ GoOn ∷ []
+moves_where (due.Run Nop) c = GoOn ∷ []
+moves_where (due.Run Push) c = PushReturn (Same top) ∷ PopData ∷ GoOn ∷ []
+moves_where (due.Run BStore) c = SetB (from top) ∷ PopData ∷ GoOn ∷ []
+moves_where (due.Run AStore) c = SetA (Same top) ∷ PopData ∷ GoOn ∷ []
+
+-- and those of an opcode and of what comes next, in a node
+abbrev pub moves : Op → NodeRecord → List Move
+moves op n = moves_where (due.Run op) (choice (due.Run op) n)
 
 abbrev pub moves_by : Due → NodeRecord → List Move
 moves_by due.Fetch n = fetch_moves (classified n.p)
@@ -256,7 +310,11 @@ take_moves (wait.Read sides) = SetWait ∷ PushData (Same Outside) ∷ GoOn ∷ 
 take_moves wait.Nothing = []
 take_moves (wait.Write side) = []
 
--- where the value of a part comes from after a node's own event, after it sent a word, and after it took one
+-- where the value of a part comes from after what comes next, where this decides it
+unfoldable pub flow_where : Due → Choice → Part → Flow
+flow_where due choice = moved_all (moves_where due choice) Same
+
+-- after a node's own event, after it sent a word, and after it took one
 unfoldable pub own_flow : NodeRecord → Part → Flow
 own_flow n = moved_all (moves_by (due_of n) n) Same
 
@@ -265,49 +323,6 @@ send_flow = moved_all send_moves Same
 
 unfoldable pub take_flow : Wait → Part → Flow
 take_flow wait = moved_all (take_moves wait) Same
-
--- ---- what decides an event
-
--- beside the opcode: a test, or the target of an address
-pub data Choice : Type 0 where
-  Plain : Choice
-  Test : Bool → Choice
-  At : Target → Choice
-
-abbrev pub choice : Due → NodeRecord → Choice
-choice due.Fetch n = At (classified n.p)
-choice (due.Run Unext) n = Test (r n == 0)
-choice (due.Run Next) n = Test (r n == 0)
-choice (due.Run If) n = Test (t n == 0)
-choice (due.Run MinusIf) n = Test (t n / 2 ^ 17 == 0)
-choice (due.Run Plus) n = Test (is_extended n)
-choice (due.Run FetchP) n = At (classified n.p)
-choice (due.Run FetchPlus) n = At (classified n.a)
-choice (due.Run FetchB) n = At (classified n.b)
-choice (due.Run Fetch) n = At (classified n.a)
-choice (due.Run StoreP) n = At (classified n.p)
-choice (due.Run StorePlus) n = At (classified n.a)
-choice (due.Run StoreB) n = At (classified n.b)
-choice (due.Run Store) n = At (classified n.a)
-choice (due.Run _) n = Plain
-
--- and the parts from which it comes
-abbrev pub chosen_by : Due → List Part
-chosen_by due.Fetch = OfP ∷ []
-chosen_by (due.Run Unext) = top_return ∷ []
-chosen_by (due.Run Next) = top_return ∷ []
-chosen_by (due.Run If) = top ∷ []
-chosen_by (due.Run MinusIf) = top ∷ []
-chosen_by (due.Run Plus) = OfP ∷ []
-chosen_by (due.Run FetchP) = OfP ∷ []
-chosen_by (due.Run FetchPlus) = OfA ∷ []
-chosen_by (due.Run FetchB) = OfB ∷ []
-chosen_by (due.Run Fetch) = OfA ∷ []
-chosen_by (due.Run StoreP) = OfP ∷ []
-chosen_by (due.Run StorePlus) = OfA ∷ []
-chosen_by (due.Run StoreB) = OfB ∷ []
-chosen_by (due.Run Store) = OfA ∷ []
-chosen_by (due.Run _) = []
 
 -- ---- two runs
 

@@ -1,14 +1,15 @@
 //! Where the values come from that an event leaves: the table of opcodes once more, its changes from the last to the first.
 
 ghost use Rattle.std.specs.Prelude.{◌≡◌, ◌≤◌, ◌∷◌, []};
-ghost use Rattle.ga_ports.specs.Address.{classified};
+ghost use Rattle.ga_ports.specs.Address.{IsTarget};
 ghost use Rattle.ga_node.specs.Record.{record_of};
 ghost use Rattle.ga_node.specs.Table.{due_of};
 ghost use Rattle.ga_flow.specs.declared.part.Part.TheVariants.{P};
-ghost use Rattle.ga_flow.specs.Flow.{Same, From, SetI, SetP, StartAgain, IsPart, moves, moves_by, fetch_moves, execute_moves, multiply_moves, send_moves, take_moves, own_flow, send_flow, take_flow};
+ghost use Rattle.ga_flow.specs.Flow.{Same, From, SetI, SetP, StartAgain, IsPart, choice, target_of, moves_where, fetch_moves, execute_moves, multiply_moves, send_moves, take_moves, flow_where, own_flow, send_flow, take_flow};
 ghost use Rattle.ga_flow.specs.Following.{flow_of, AreSources, IsSource};
 ghost use Rattle.ga_flow.specs.kept.Following.{sought_of, At, before_all, read_before, write_before, IsSought};
 
+use crate::choice::Choice;
 use crate::flow::{Flow, from_one, from_three, from_two};
 use crate::part::Part;
 use crate::sought::Sought;
@@ -66,14 +67,43 @@ fn b_of(node: &Node) -> u32
     node.get(Place::B)
 }
 
-// Before a word was read at an address and pushed, where this stands before what came after it.
-fn before_read(address: u32, part: Part, later: Sought) -> Sought
+// What decides the next event beside its opcode.
+fn choice_of(node: &Node, due: Due) -> Choice
+    ensures value { result ≡ choice due (record_of node.now) }
+    ensures in_range { IsTarget (target_of result) }
+{
+    match due {
+        Due::Fetch => Choice::At(classify(p_of(node))),
+        Due::Run(op) => choice_by(node, op),
+    }
+}
+
+// The same of an opcode.
+fn choice_by(node: &Node, op: Op) -> Choice
+    ensures value { result ≡ choice (Due.Run op) (record_of node.now) }
+    ensures in_range { IsTarget (target_of result) }
+{
+    match op {
+        Op::Unext | Op::Next => Choice::Test(node.r(0) == 0),
+        Op::If => Choice::Test(node.d(0) == 0),
+        Op::MinusIf => Choice::Test(node.d(0) / 131072 == 0),
+        Op::Plus => Choice::Test(p_of(node) / 512 % 2 == 1),
+        Op::FetchP | Op::StoreP => Choice::At(classify(p_of(node))),
+        Op::FetchPlus | Op::Fetch | Op::StorePlus | Op::Store => Choice::At(classify(a_of(node))),
+        Op::FetchB | Op::StoreB => Choice::At(classify(b_of(node))),
+        _ => Choice::Plain,
+    }
+}
+
+// Before a word was read at the address and pushed, where this stands before what came after it.
+fn before_read(choice: Choice, part: Part, later: Sought) -> Sought
+    requires choice { IsTarget (target_of choice) }
     requires part { IsPart part }
     requires known { IsSought (sought_of later) }
-    ensures value { sought_of result ≡ read_before (classified address) part (sought_of later) }
+    ensures value { sought_of result ≡ read_before (target_of choice) part (sought_of later) }
     ensures known { IsSought (sought_of result) }
 {
-    match classify(address) {
+    match choice.target() {
         Target::Ram(k) => later.push_data(Flow::Same(Part::Ram(k))),
         Target::Rom(k) => later.push_data(Flow::Same(Part::Rom(k))),
         Target::Io => later.push_data(Flow::Same(Part::Outside)),
@@ -82,14 +112,15 @@ fn before_read(address: u32, part: Part, later: Sought) -> Sought
     }
 }
 
-// Before T was written at an address, where this stands before what came after it.
-fn before_write(address: u32, part: Part, later: Sought) -> Sought
+// Before T was written at the address, where this stands before what came after it.
+fn before_write(choice: Choice, part: Part, later: Sought) -> Sought
+    requires choice { IsTarget (target_of choice) }
     requires part { IsPart part }
     requires known { IsSought (sought_of later) }
-    ensures value { sought_of result ≡ write_before (classified address) part (sought_of later) }
+    ensures value { sought_of result ≡ write_before (target_of choice) part (sought_of later) }
     ensures known { IsSought (sought_of result) }
 {
-    match classify(address) {
+    match choice.target() {
         Target::Ram(k) => later.set(Part::Ram(k), Flow::Same(Part::T)),
         Target::Rom(_) => later,
         Target::Io => later.set(Part::Io, Flow::Same(Part::T)),
@@ -117,13 +148,14 @@ fn before_word(part: Part, source: Part) -> Sought
         .set(Part::I, Flow::Same(source))
 }
 
-// Before a fetch from this address.
-fn before_fetch(address: u32, part: Part) -> Sought
-    requires { IsPart part }
-    ensures value { sought_of result ≡ before_all (fetch_moves (classified address)) (At part) }
+// Before a fetch.
+fn before_fetch(choice: Choice, part: Part) -> Sought
+    requires choice { IsTarget (target_of choice) }
+    requires part { IsPart part }
+    ensures value { sought_of result ≡ before_all (fetch_moves (target_of choice)) (At part) }
     ensures known { IsSought (sought_of result) }
 {
-    match classify(address) {
+    match choice.target() {
         Target::Ram(k) => before_word(part, Part::Ram(k)),
         Target::Rom(k) => before_word(part, Part::Rom(k)),
         Target::Io => before_word(part, Part::Outside),
@@ -185,9 +217,10 @@ fn before_take(wait: Wait, part: Part) -> Sought
 
 // Before the opcode.
 #[tactic(auto, using(crate::proofs::Following::read_found, crate::proofs::Following::write_found))]
-fn before_op(node: &Node, op: Op, part: Part) -> Sought
-    requires { IsPart part }
-    ensures value { sought_of result ≡ before_all (moves op (record_of node.now)) (At part) }
+fn before_op(op: Op, choice: Choice, part: Part) -> Sought
+    requires choice { IsTarget (target_of choice) }
+    requires part { IsPart part }
+    ensures value { sought_of result ≡ before_all (moves_where (Due.Run op) choice) (At part) }
     ensures known { IsSought (sought_of result) }
 {
     let at = Sought::At(part);
@@ -196,23 +229,23 @@ fn before_op(node: &Node, op: Op, part: Part) -> Sought
         Op::Execute => before_execute(at),
         Op::Jump => at.jump(),
         Op::Call => at.jump().push_return(Flow::Same(Part::P)),
-        Op::Unext => before_unext(node, at),
-        Op::Next => before_next(node, at),
-        Op::If => at.jump_where(node.d(0) == 0),
-        Op::MinusIf => at.jump_where(node.d(0) / 131072 == 0),
-        Op::FetchP => before_read(p_of(node), part, at.go_on().advance(Part::P)),
-        Op::FetchPlus => before_read(a_of(node), part, at.go_on().advance(Part::A)),
-        Op::FetchB => before_read(b_of(node), part, at.go_on()),
-        Op::Fetch => before_read(a_of(node), part, at.go_on()),
-        Op::StoreP => before_write(p_of(node), part, at.go_on().advance(Part::P).pop_data()),
-        Op::StorePlus => before_write(a_of(node), part, at.go_on().advance(Part::A).pop_data()),
-        Op::StoreB => before_write(b_of(node), part, at.go_on().pop_data()),
-        Op::Store => before_write(a_of(node), part, at.go_on().pop_data()),
+        Op::Unext => before_unext(choice, at),
+        Op::Next => before_next(choice, at),
+        Op::If => at.jump_where(choice.holds()),
+        Op::MinusIf => at.jump_where(choice.holds()),
+        Op::FetchP => before_read(choice, part, at.go_on().advance(Part::P)),
+        Op::FetchPlus => before_read(choice, part, at.go_on().advance(Part::A)),
+        Op::FetchB => before_read(choice, part, at.go_on()),
+        Op::Fetch => before_read(choice, part, at.go_on()),
+        Op::StoreP => before_write(choice, part, at.go_on().advance(Part::P).pop_data()),
+        Op::StorePlus => before_write(choice, part, at.go_on().advance(Part::A).pop_data()),
+        Op::StoreB => before_write(choice, part, at.go_on().pop_data()),
+        Op::Store => before_write(choice, part, at.go_on().pop_data()),
         Op::MultiplyStep => before_multiply(at),
         Op::TwoStar => at.go_on().set(Part::T, from_one(Part::T)),
         Op::TwoSlash => at.go_on().set(Part::T, from_one(Part::T)),
         Op::Invert => at.go_on().set(Part::T, from_one(Part::T)),
-        Op::Plus => before_plus(node, at),
+        Op::Plus => before_plus(choice, at),
         Op::And => at.go_on().pop_to(from_two(Part::T, Part::S)),
         Op::Or => at.go_on().pop_to(from_two(Part::T, Part::S)),
         Op::Drop => at.go_on().pop_data(),
@@ -228,12 +261,12 @@ fn before_op(node: &Node, op: Op, part: Part) -> Sought
 }
 
 // Before `unext`.
-fn before_unext(node: &Node, at: Sought) -> Sought
+fn before_unext(choice: Choice, at: Sought) -> Sought
     requires { IsSought (sought_of at) }
-    ensures value { sought_of result ≡ before_all (moves Op.Unext (record_of node.now)) (sought_of at) }
+    ensures value { sought_of result ≡ before_all (moves_where (Due.Run Op.Unext) choice) (sought_of at) }
     ensures known { IsSought (sought_of result) }
 {
-    if node.r(0) == 0 {
+    if choice.holds() {
         at.go_on().pop_return()
     } else {
         at.start_again().count_down()
@@ -241,12 +274,12 @@ fn before_unext(node: &Node, at: Sought) -> Sought
 }
 
 // Before `next`.
-fn before_next(node: &Node, at: Sought) -> Sought
+fn before_next(choice: Choice, at: Sought) -> Sought
     requires { IsSought (sought_of at) }
-    ensures value { sought_of result ≡ before_all (moves Op.Next (record_of node.now)) (sought_of at) }
+    ensures value { sought_of result ≡ before_all (moves_where (Due.Run Op.Next) choice) (sought_of at) }
     ensures known { IsSought (sought_of result) }
 {
-    if node.r(0) == 0 {
+    if choice.holds() {
         at.skip().pop_return()
     } else {
         at.jump().count_down()
@@ -254,12 +287,12 @@ fn before_next(node: &Node, at: Sought) -> Sought
 }
 
 // Before `+`.
-fn before_plus(node: &Node, at: Sought) -> Sought
+fn before_plus(choice: Choice, at: Sought) -> Sought
     requires { IsSought (sought_of at) }
-    ensures value { sought_of result ≡ before_all (moves Op.Plus (record_of node.now)) (sought_of at) }
+    ensures value { sought_of result ≡ before_all (moves_where (Due.Run Op.Plus) choice) (sought_of at) }
     ensures known { IsSought (sought_of result) }
 {
-    if p_of(node) / 512 % 2 == 1 {
+    if choice.holds() {
         at.go_on()
             .pop_to(from_three(Part::T, Part::S, Part::Carry))
             .set(Part::Carry, from_three(Part::T, Part::S, Part::Carry))
@@ -268,15 +301,16 @@ fn before_plus(node: &Node, at: Sought) -> Sought
     }
 }
 
-// Before what comes next in a node.
-fn before_due(node: &Node, due: Due, part: Part) -> Sought
-    requires { IsPart part }
-    ensures value { sought_of result ≡ before_all (moves_by due (record_of node.now)) (At part) }
+// Before what comes next.
+fn before_due(due: Due, choice: Choice, part: Part) -> Sought
+    requires choice { IsTarget (target_of choice) }
+    requires part { IsPart part }
+    ensures value { sought_of result ≡ before_all (moves_where due choice) (At part) }
     ensures known { IsSought (sought_of result) }
 {
     match due {
-        Due::Fetch => before_fetch(p_of(node), part),
-        Due::Run(op) => before_op(node, op, part),
+        Due::Fetch => before_fetch(choice, part),
+        Due::Run(op) => before_op(op, choice, part),
     }
 }
 
@@ -289,7 +323,17 @@ pub fn own_flow(node: &Node, part: Part) -> Flow
     ensures sources { AreSources (flow_of result) }
 {
     let due = due_in(node);
-    before_due(node, due, part).settle()
+    flow_where(due, choice_of(node, due), part)
+}
+
+/// The same of what comes next, where this decides it: by the opcode and the choice alone, whatever else stands in the node.
+pub fn flow_where(due: Due, choice: Choice, part: Part) -> Flow
+    requires choice { IsTarget (target_of choice) }
+    requires part { IsPart part }
+    ensures value { flow_of result ≡ flow_where due choice part }
+    ensures sources { AreSources (flow_of result) }
+{
+    before_due(due, choice, part).settle()
 }
 
 /// The same of the writer's half of a transfer.
