@@ -383,8 +383,7 @@ impl History {
         ensures { node.new ≡ walked node.old (drop to (take from self.now.items)) }
     {
         let mut aside = node.set_aside();
-        for k in 0..from - to {
-            let entry = &self.entries[from - 1 - k];
+        for entry in self.entries[to..from].iter().rev() {
             node.write_back(&mut aside, &entry.saved);
         }
         node.take_back(aside);

@@ -1,68 +1,83 @@
-use Rattle.std.proofs.Common.{◌≡◌, ℕ, ◌+◌, ◌-◌, ◌∙◌, Some, take, drop, length-take, sym, ap, subst, arith}
+use Rattle.std.proofs.Common.{◌≡◌, ℕ, ◌+◌, ◌-◌, ◌∙◌, Some, take, drop, length, length-take, sym, ap, subst, arith, List}
 use Rattle.std.specs.Prelude.{slice_get}
-use Rattle.std.proofs.lemmas.List.{drop_all}
+use Rattle.std.proofs.lemmas.List.{drop_all, take_all}
 use Rattle.ga_node.specs.Record.{NodeState}
 use Rattle.ga_node.specs.State.{restored, with_aside, IsApart}
 use Rattle.ga_event.specs.Undo.{CanRestore}
+use Rattle.ga_journal.specs.declared.entry.Entry.{Entry}
 use Rattle.ga_journal.specs.Histories.{Past}
 use Rattle.ga_journal.specs.kept.Histories.{Held}
 use Rattle.ga_journal.specs.kept.Stored.{past_in}
 use Rattle.ga_journal.specs.Walked.{walked}
-use Rattle.ga_journal.proofs.Storing.{read_back}
+use Rattle.ga_journal.proofs.Backward.{slice_length, longer, left_before, read_last_left}
 use Rattle.ga_journal.proofs.Walks.{walked_one, can_one, can_later, walked_apart}
+use Rattle.ga_journal.proofs.history.History.walk_back.Goals.{After-into_iter-entry-iterator, In-Some, In-None}
 use Rattle.ga_journal.proofs.history.History.walk_back.Goals as goal
 
-pub loop-k-init : goal.loop-k-init
-loop-k-init c = record {
-  back = c.set_aside-aside.ensures.same ∙ sym (ap (walked c.args.node.now) (drop_all (c.args.from - 0) (take c.args.from c.args.self.now.items) (let long = length-take c.args.from c.args.self.now.items in omega (arith, long))));
-  cleared = c.set_aside-aside.ensures.cleared;
-  in_range = c.set_aside-aside.ensures.in_range;
-}
+-- the entries that are read
+slice_is : (c : After-into_iter-entry-iterator) → c.into_iter-entry-iterator.result.iter.rest.now ≡ take (c.args.from - c.args.to) (drop c.args.to c.self.inside.entries.items)
+slice_is c =
+    ap (λ z. z.iter.rest.now) c.into_iter-entry-iterator.ensures.into_iter_gives
+    ∙ ap (λ z. z.rest.now) c.rev-entry-items.ensures.source
+    ∙ c.iter.ensures.rest
+    ∙ ap (λ (z : List Entry). take (c.args.from - c.args.to) (drop c.args.to z)) c.deref.ensures.value
+
+-- the entry of a turn
+found : (c : In-Some) → slice_get (take c.args.from c.args.self.now.items) (c.args.to + length c.next.new.self.iter.rest.now) ≡ Some (past_in c.self.inside.passes.items c.in-Some.entry.now)
+found c =
+    read_last_left c.self.inside.passes.items c.self.inside.entries.items c.into_iter-entry-iterator.result.iter.rest.now c.loop-entry.entry-iterator.iter.rest.now c.next.new.self.iter.rest.now c.args.self.now.items c.args.from c.args.to c.in-Some.entry.now
+    (sym (ap (λ (held : Held). held.items) c.self.view_is)) c.requires.order c.requires.within (slice_is (goal.at.In-Some c).After-into_iter-entry-iterator) c.loop-entry.invariant.rest c.in-Some.ensures.steps
+
+pub loop-entry-init : goal.loop-entry-init
+loop-entry-init c =
+    let slice : List Entry = c.into_iter-entry-iterator.result.iter.rest.now in
+    let some : length slice ≡ c.args.from - c.args.to = slice_length c.self.inside.passes.items c.self.inside.entries.items slice c.args.self.now.items c.args.from c.args.to (sym (ap (λ (held : Held). held.items) c.self.view_is)) c.requires.within (slice_is c) in
+    record {
+      rest = sym (take_all (length slice) slice (omega arith));
+      back = c.set_aside-aside.ensures.same ∙ sym (ap (walked c.args.node.now) (drop_all (c.args.to + length slice) (take c.args.from c.args.self.now.items) (let long = length-take c.args.from c.args.self.now.items in omega (arith, long, some, c.requires.order))));
+      cleared = c.set_aside-aside.ensures.cleared;
+      in_range = c.set_aside-aside.ensures.in_range;
+    }
 
 pub write_back-requires-clause-fit : goal.write_back-requires-clause-fit
 write_back-requires-clause-fit c =
-    let es = c.self.inside.entries.items in
-    let ps = c.self.inside.passes.items in
-    let all = c.args.self.now.items in
-    let h = take c.args.from all in
-    let at : ℕ = c.args.from - 1 - c.loop-k.k in
-    let e : Past = past_in ps c.index-entry.result.now in
-    let found : slice_get h at ≡ Some e = read_back ps es all c.args.from at c.index-entry.result.now (sym (ap (λ (held : Held). held.items) c.self.view_is)) (omega (arith, c.loop-k-test.true)) c.requires.within c.index-entry.ensures in
-    let can : CanRestore (walked c.args.node.now (drop (at + 1) h)) e.saved =
-    can_one c.args.node.now h at e found (can_later c.args.node.now h c.args.to at (omega (arith, c.loop-k-test.true)) c.requires.can) in
+    let h = take c.args.from c.args.self.now.items in
+    let at : ℕ = c.args.to + length c.next.new.self.iter.rest.now in
+    let e : Past = past_in c.self.inside.passes.items c.in-Some.entry.now in
+    let can : CanRestore (walked c.args.node.now (drop (at + 1) h)) e.saved = can_one c.args.node.now h at e (found (goal.at.write_back-requires-clause-fit c).In-Some) (can_later c.args.node.now h c.args.to at (omega arith) c.requires.can) in
     can.fit
 
-pub loop-k-preserved : goal.loop-k-preserved
-loop-k-preserved c =
-    let es = c.self.inside.entries.items in
-    let ps = c.self.inside.passes.items in
-    let all = c.args.self.now.items in
-    let h = take c.args.from all in
-    let at : ℕ = c.args.from - 1 - c.loop-k.k in
-    let e : Past = past_in ps c.index-entry.result.now in
-    let found : slice_get h at ≡ Some e = read_back ps es all c.args.from at c.index-entry.result.now (sym (ap (λ (held : Held). held.items) c.self.view_is)) (omega (arith, c.loop-k-test.true)) c.requires.within c.index-entry.ensures in
-    let here : with_aside c.loop-k.node c.loop-k.aside ≡ walked c.args.node.now (drop (at + 1) h) = c.loop-k.invariant.back ∙ ap (λ k. walked c.args.node.now (drop k h)) (let q : c.args.from - c.loop-k.k ≡ at + 1 = omega (arith, c.loop-k-test.true) in q) in
+pub loop-entry-preserved : goal.loop-entry-preserved
+loop-entry-preserved c =
+    let h = take c.args.from c.args.self.now.items in
+    let slice : List Entry = c.into_iter-entry-iterator.result.iter.rest.now in
+    let left : List Entry = c.loop-entry.entry-iterator.iter.rest.now in
+    let rest : List Entry = c.next.new.self.iter.rest.now in
+    let at : ℕ = c.args.to + length rest in
+    let e : Past = past_in c.self.inside.passes.items c.in-Some.entry.now in
+    let long : length left ≡ length rest + 1 = longer left rest c.in-Some.entry.now c.in-Some.ensures.steps in
+    let here : with_aside c.loop-entry.node c.loop-entry.aside ≡ walked c.args.node.now (drop (at + 1) h) = c.loop-entry.invariant.back ∙ ap (λ k. walked c.args.node.now (drop k h)) (let q : c.args.to + length left ≡ at + 1 = omega (arith, long) in q) in
     record {
+      rest = left_before slice left rest c.in-Some.entry.now c.loop-entry.invariant.rest c.in-Some.ensures.steps;
       back =
           c.write_back.ensures.back
           ∙ ap (λ (z : NodeState). restored z e.saved) here
-          ∙ sym (walked_one c.args.node.now h at e found)
-          ∙ ap (λ k. walked c.args.node.now (drop k h)) (let q : at ≡ c.args.from - (c.loop-k.k + 1) = omega (arith, c.loop-k-test.true) in q);
+          ∙ sym (walked_one c.args.node.now h at e (found (goal.at.loop-entry-preserved c).In-Some));
       cleared = c.write_back.ensures.cleared;
       in_range = c.write_back.ensures.in_range;
     }
 
 -- the walk has come down to its end
+at_end : (c : In-None) → with_aside c.loop-entry.node c.loop-entry.aside ≡ walked c.args.node.now (drop c.args.to (take c.args.from c.args.self.now.items))
+at_end c =
+    let none = c.in-None.ensures.steps.0 in
+    c.loop-entry.invariant.back
+    ∙ ap (λ k. walked c.args.node.now (drop k (take c.args.from c.args.self.now.items))) (let q : c.args.to + length c.loop-entry.entry-iterator.iter.rest.now ≡ c.args.to = omega (arith, none) in q)
+
 pub take_back-requires-clause-apart : goal.take_back-requires-clause-apart
 take_back-requires-clause-apart c =
-    let h = take c.args.from c.args.self.now.items in
-    let there : with_aside c.loop-k.node c.loop-k.aside ≡ walked c.args.node.now (drop c.args.to h) =
-    c.loop-k.invariant.back ∙ ap (λ k. walked c.args.node.now (drop k h)) (let q : c.args.from - c.loop-k.k ≡ c.args.to = omega (arith, c.loop-k-test.false) in q) in
-    subst IsApart (sym there) (walked_apart c.args.node.now (drop c.args.to h) c.set_aside-aside.ensures.apart c.requires.can)
+    subst IsApart (sym (at_end (goal.at.take_back-requires-clause-apart c).In-None))
+    (walked_apart c.args.node.now (drop c.args.to (take c.args.from c.args.self.now.items)) c.set_aside-aside.ensures.apart c.requires.can)
 
 pub returns : goal.returns
-returns c =
-    let h = take c.args.from c.args.self.now.items in
-    c.take_back.ensures
-    ∙ c.loop-k.invariant.back
-    ∙ ap (λ k. walked c.args.node.now (drop k h)) (let q : c.args.from - c.loop-k.k ≡ c.args.to = omega (arith, c.loop-k-test.false) in q)
+returns c = c.take_back.ensures ∙ at_end (goal.at.returns c).In-None
