@@ -10,7 +10,7 @@ use arrayvec::ArrayVec;
 use ga_console::{Output, Text, WriteFailed, push_spaced, push_step, push_text};
 use ga_grid::NodeId;
 use ga_lab::Lab;
-use ga_whence::{Written, back_to_write};
+use ga_whence::{CellWrites, Written};
 use std::io::Write;
 
 /// `writes NNN HH`: tells the steps of a node that wrote at an address of its memory, the newest first. Takes no memory.
@@ -46,8 +46,8 @@ fn say_cell<W: Write>(
     ensures { Says result (λ text. text ≡ cell_writes lab.now node cell (steps_of node.number lab.now.kept))
         (W.contents writer.old) output.old (W.contents writer.new) output.new }
 {
-    let mut walk = lab.walk(node, lab.steps(node));
-    'going: while let Some(written) = back_to_write(lab, &mut walk, node, cell) {
+    let mut writes = CellWrites::new(lab, node, cell);
+    'going: while let Some(written) = writes.next() {
         output.say_blocks(writer, written_line(node, written).as_slice())?;
     }
     Ok(())

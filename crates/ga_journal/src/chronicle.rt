@@ -5,7 +5,7 @@ use crate::journal::Journal;
 use crate::since::Since;
 use ga_event::{Cause, Event, Made};
 use ga_grid::NodeId;
-use ga_node::Node;
+use ga_node::{Node, Place};
 
 /// A journal whose events are also told as a list. These calls read entries that no tick counts, so whoever is lent the journal
 /// alone, as a rollback is, can't make them, nor set its count back.
@@ -20,7 +20,7 @@ impl Chronicle {
     ghost use Rattle.std.specs.List.Sorted.{IsStrictlyIncreasing};
     ghost use Rattle.ga_journal.specs.Work.{no_work};
     ghost use Rattle.ga_journal.specs.Histories.{history};
-    ghost use Rattle.ga_journal.specs.Walked.{walked, CanWalk, p_before};
+    ghost use Rattle.ga_journal.specs.Walked.{walked, CanWalk, overwritten};
     ghost use Rattle.ga_journal.specs.Events.{kept_of, causes_of, events_of};
     ghost use Rattle.ga_event.specs.Told.{steps_of, mades_of, made_in};
     ghost use Rattle.ga_journal.specs.Since.{IsSince};
@@ -46,12 +46,12 @@ impl Chronicle {
         self.journal.told(node, place)
     }
 
-    /// P as it was before a node's step, the one at a place from 0 on; none where the step left it, or past the node's steps. It
-    /// reads one entry.
-    pub fn p_before(&self, node: NodeId, place: u32) -> Option<u32>
-        ensures { result ≡ p_before (history self.now.journal.histories node.number) place }
+    /// What a place of a node held before its step, the one at a position from 0 on: P, A, B, the wait or a cell of RAM. None where the
+    /// step left it, past the node's steps, and for each other place. It reads one entry.
+    pub fn overwritten(&self, node: NodeId, at: u32, what: Place) -> Option<u32>
+        ensures { result ≡ overwritten (history self.now.journal.histories node.number) at what }
     {
-        self.journal.p_before(node, place)
+        self.journal.overwritten(node, at, what)
     }
 
     /// Writes back to a node what its entries from the position `to` on and below `from` overwrote, those of the last entry

@@ -1,53 +1,189 @@
--- P right before a step, by what is kept of the step.
-use Rattle.std.proofs.Common.{◌≡◌, ℕ, ◌+◌, ◌<◌, List, length, take, drop, Option, Some, None, refl, sym, ◌∙◌, ap, arith}
-use Rattle.std.specs.Prelude.{IfSome, IfNone}
-use Rattle.ga_node.specs.Record.{NodeRecord, NodeState, record_of}
+-- What a place held right before a step, by what is kept of the step.
+use Rattle.std.proofs.Common.{◌≡◌, ℕ, ◌+◌, ◌<◌, ◌==◌, Bool, true, false, cond, List, [], ◌∷◌, length, take, drop, Option, Some, None, refl, sym, ◌∙◌, ap, subst, arith, ⊎_elim}
+use Rattle.std.specs.Prelude.{IfSome, IfNone, slice_index, slice_set}
+use Rattle.std.proofs.lemmas.Bool.{eqb-true, eqb-false}
+use Rattle.std.proofs.lemmas.List.{length-set, get_or-set_same, get_or-set_other}
+use Rattle.std.proofs.lemmas.Option.{none-some, slice_get_cases}
+use Rattle.ga_node.specs.declared.place.Place.{Place}
+use Rattle.ga_node.specs.declared.place.Place.TheVariants.{P, A, B, Ram, Wait}
+use Rattle.ga_node.specs.Record.{NodeRecord, NodeState, HasSizes, record_of}
+use Rattle.ga_node.specs.Waits.{wait_of}
+use Rattle.ga_node.specs.State.{restored, with_value, IsInRange, AreFit}
 use Rattle.ga_grid.specs.Chip.{node_at, record_at}
 use Rattle.ga_event.specs.Told.{steps_of}
-use Rattle.ga_journal.specs.Histories.{Book, history}
-use Rattle.ga_journal.specs.Walked.{walked, p_before}
-use Rattle.ga_journal.proofs.Overwritten.{p_before_within, walked_p, walked_left}
+use Rattle.ga_event.specs.Undo.{CanRestore}
+use Rattle.ga_journal.specs.Histories.{Past, Book, history}
+use Rattle.ga_journal.specs.Walked.{walked, CanWalk, over, among, before_entry, overwritten}
+use Rattle.ga_journal.proofs.Overwritten.{overwritten_within}
+use Rattle.ga_journal.proofs.Walks.{walked_one, can_one}
 use Rattle.ga_lab.specs.Machine.{chip_of, earlier}
+use Rattle.ga_lab.specs.Holding.{Holds}
 use Rattle.ga_lab.specs.kept.Tied.{IsTied, state_of}
-use Rattle.ga_lab.proofs.Peeking.{peeked, steps_front}
+use Rattle.ga_lab.proofs.Peeking.{peeked, steps_front, can_peek}
 use Rattle.ga_lab.proofs.Walking.{kept_long}
 
-pub if_some : (o : Option ℕ) (P : ℕ → Type 0) → ((p : ℕ) → o ≡ Some p → P p) → IfSome o P
-if_some None P h = tt
-if_some (Some p) P h = h p refl
+pub if_some : (o : Option ℕ) (Q : ℕ → Type 0) → ((old : ℕ) → o ≡ Some old → Q old) → IfSome o Q
+if_some None Q h = tt
+if_some (Some old) Q h = h old refl
 
-pub if_none : (o : Option ℕ) (P : Type 0) → (o ≡ None → P) → IfNone o P
-if_none None P h = h refl
-if_none (Some p) P h = tt
+pub if_none : (o : Option ℕ) (Q : Type 0) → (o ≡ None → Q) → IfNone o Q
+if_none None Q h = h refl
+if_none (Some old) Q h = tt
 
-p_of : (node : NodeState) → (record_of node).p ≡ node.p
+-- ---- one old value written back
+
+same_some : {x y : ℕ} → Some x ≡ Some y → x ≡ y
+same_some h = cc
+
+written_ram : (ram : List ℕ) (cell other old value : ℕ) (later : Option ℕ) (same : Bool) → (cell == other) ≡ same → other < length ram
+    → (later ≡ Some value → slice_index ram cell ≡ value) → cond same (Some old) later ≡ Some value → slice_index (slice_set ram other old) cell ≡ value
+written_ram ram cell other old value later true is within rest h =
+    ap (slice_index (slice_set ram other old)) (eqb-true cell other is) ∙ get_or-set_same ram other old _ within ∙ same_some h
+written_ram ram cell other old value later false is within rest h = get_or-set_other ram other cell old _ (eqb-false cell other is) ∙ rest h
+
+left_ram : (ram : List ℕ) (cell other old value : ℕ) (later : Option ℕ) (same : Bool) → (cell == other) ≡ same
+    → (later ≡ None → slice_index ram cell ≡ value) → cond same (Some old) later ≡ None → slice_index (slice_set ram other old) cell ≡ value
+left_ram ram cell other old value later true is rest h = absurd (none-some old (sym h))
+left_ram ram cell other old value later false is rest h = get_or-set_other ram other cell old _ (eqb-false cell other is) ∙ rest h
+
+holds_old : (what place : Place) (old value : ℕ) (node : NodeState) (later : Option ℕ) → IsInRange place old → length node.ram ≡ 64
+    → (later ≡ Some value → Holds (record_of node) what value) → over what place old later ≡ Some value → Holds (record_of (with_value node place old)) what value
 unfolding record_of
-p_of node = refl
+holds_old P P old value node later fit size rest h = same_some h
+holds_old P place old value node later fit size rest h = rest h
+holds_old A A old value node later fit size rest h = same_some h
+holds_old A place old value node later fit size rest h = rest h
+holds_old B B old value node later fit size rest h = same_some h
+holds_old B place old value node later fit size rest h = rest h
+holds_old Wait Wait old value node later fit size rest h = ap wait_of (same_some h)
+holds_old Wait place old value node later fit size rest h = rest h
+holds_old (Ram cell) (Ram other) old value node later fit size rest h =
+    written_ram node.ram cell other old value later (cell == other) refl (omega (arith, fit.0, size)) rest h
+holds_old (Ram cell) place old value node later fit size rest h = rest h
+holds_old what place old value node later fit size rest h = tt
 
--- P where a node had made so many steps
-p_there : (chip : List NodeState) (book : Book) (n place at : ℕ) → IsTied chip book → steps_of n (take at (state_of chip book).kept) ≡ place
-    → (record_at (chip_of (earlier (state_of chip book) at)) n).p ≡ (walked (node_at chip n) (drop place (history book.histories n))).p
-p_there chip book n place at tied so_many =
-    let node : NodeState = walked (node_at chip n) (drop place (history book.histories n)) in
-    sym (ap (λ (r : NodeRecord). r.p) (peeked chip book n at place node tied so_many refl)) ∙ p_of node
+holds_left : (what place : Place) (old value : ℕ) (node : NodeState) (later : Option ℕ)
+    → (later ≡ None → Holds (record_of node) what value) → over what place old later ≡ None → Holds (record_of (with_value node place old)) what value
+unfolding record_of
+holds_left P P old value node later rest h = absurd (none-some old (sym h))
+holds_left P place old value node later rest h = rest h
+holds_left A A old value node later rest h = absurd (none-some old (sym h))
+holds_left A place old value node later rest h = rest h
+holds_left B B old value node later rest h = absurd (none-some old (sym h))
+holds_left B place old value node later rest h = rest h
+holds_left Wait Wait old value node later rest h = absurd (none-some old (sym h))
+holds_left Wait place old value node later rest h = rest h
+holds_left (Ram cell) (Ram other) old value node later rest h = left_ram node.ram cell other old value later (cell == other) refl rest h
+holds_left (Ram cell) place old value node later rest h = rest h
+holds_left what place old value node later rest h = tt
 
-pub p_is : (chip : List NodeState) (book : Book) (n place p at : ℕ) → IsTied chip book → p_before (history book.histories n) place ≡ Some p
-    → steps_of n (take at (state_of chip book).kept) ≡ place → (record_at (chip_of (earlier (state_of chip book) at)) n).p ≡ p
-p_is chip book n place p at tied is so_many =
-    p_there chip book n place at tied so_many ∙ walked_p (node_at chip n) (history book.histories n) place p is
+fits_old : (what place : Place) (old value : ℕ) (later : Option ℕ) → IsInRange place old → (later ≡ Some value → IsInRange what value) → over what place old later ≡ Some value → IsInRange what value
+fits_old P P old value later fit rest h = subst (IsInRange P) (same_some h) fit
+fits_old A A old value later fit rest h = subst (IsInRange A) (same_some h) fit
+fits_old B B old value later fit rest h = subst (IsInRange B) (same_some h) fit
+fits_old Wait Wait old value later fit rest h = subst (IsInRange Wait) (same_some h) fit
+fits_old (Ram cell) (Ram other) old value later fit rest h = by_cell (cell == other) refl h
+  where
+    by_cell : (same : Bool) → (cell == other) ≡ same → cond same (Some old) later ≡ Some value → IsInRange (Ram cell) value
+    by_cell true is g = subst (IsInRange (Ram cell)) (same_some g) (subst (λ (k : ℕ). IsInRange (Ram k) old) (sym (eqb-true cell other is)) fit)
+    by_cell false is g = rest g
+fits_old what place old value later fit rest h = rest h
 
-pub p_within : (chip : List NodeState) (book : Book) (n place p : ℕ) → IsTied chip book → p_before (history book.histories n) place ≡ Some p
-    → place < steps_of n (state_of chip book).kept
-p_within chip book n place p tied is =
+-- ---- all of an event, and of many
+
+fit_among : (what : Place) (saved : List (Place × ℕ)) (value : ℕ) → AreFit saved → among what saved ≡ Some value → IsInRange what value
+unfolding AreFit
+fit_among what [] value fit h = absurd (none-some value h)
+fit_among what (x ∷ rest) value fit h = fits_old what x.0 x.1 value (among what rest) fit.0 (fit_among what rest value fit.1) h
+
+size_with : (place : Place) (old : ℕ) (node : NodeState) → length (with_value node place old).ram ≡ length node.ram
+size_with (Ram cell) old node = length-set node.ram cell old
+size_with place old node = refl
+
+size_restored : (node : NodeState) (saved : List (Place × ℕ)) → length (restored node saved).ram ≡ length node.ram
+unfolding restored
+size_restored node [] = refl
+size_restored node (x ∷ rest) = size_with x.0 x.1 (restored node rest) ∙ size_restored node rest
+
+size_walked : (node : NodeState) (es : List Past) → length (walked node es).ram ≡ length node.ram
+size_walked node [] = refl
+size_walked node (e ∷ es) = size_restored (walked node es) e.saved ∙ size_walked node es
+
+restored_old : (what : Place) (node : NodeState) (saved : List (Place × ℕ)) (value : ℕ) → AreFit saved → length node.ram ≡ 64 → among what saved ≡ Some value
+    → Holds (record_of (restored node saved)) what value
+unfolding restored AreFit
+restored_old what node [] value fit size h = absurd (none-some value h)
+restored_old what node (x ∷ rest) value fit size h =
+    holds_old what x.0 x.1 value (restored node rest) (among what rest) fit.0 (size_restored node rest ∙ size) (restored_old what node rest value fit.1 size) h
+
+restored_left : (what : Place) (node : NodeState) (saved : List (Place × ℕ)) (value : ℕ) → Holds (record_of node) what value → among what saved ≡ None
+    → Holds (record_of (restored node saved)) what value
+unfolding restored
+restored_left what node [] value held h = held
+restored_left what node (x ∷ rest) value held h =
+    holds_left what x.0 x.1 value (restored node rest) (among what rest) (restored_left what node rest value held) h
+
+walked_old : (now : NodeState) (h : List Past) (k value : ℕ) (what : Place) → length now.ram ≡ 64 → CanWalk now (drop k h) → overwritten h k what ≡ Some value
+    → Holds (record_of (walked now (drop k h))) what value
+walked_old now h k value what size can is = ⊎_elim
+    (λ found.
+    let fit : CanRestore (walked now (drop (k + 1) h)) found.0.saved = can_one now h k found.0 found.2 can in
+    subst (λ (z : NodeState). Holds (record_of z) what value) (sym (walked_one now h k found.0 found.2))
+    (restored_old what (walked now (drop (k + 1) h)) found.0.saved value fit.fit (size_walked now (drop (k + 1) h) ∙ size) (sym (ap (before_entry what) found.2) ∙ is)))
+    (λ past. absurd (none-some value (sym (ap (before_entry what) past.1) ∙ is)))
+    (slice_get_cases h k).1
+
+walked_fits : (now : NodeState) (h : List Past) (k value : ℕ) (what : Place) → CanWalk now (drop k h) → overwritten h k what ≡ Some value → IsInRange what value
+walked_fits now h k value what can is = ⊎_elim
+    (λ found.
+    let fit : CanRestore (walked now (drop (k + 1) h)) found.0.saved = can_one now h k found.0 found.2 can in
+    fit_among what found.0.saved value fit.fit (sym (ap (before_entry what) found.2) ∙ is))
+    (λ past. absurd (none-some value (sym (ap (before_entry what) past.1) ∙ is)))
+    (slice_get_cases h k).1
+
+walked_left : (now : NodeState) (h : List Past) (k value : ℕ) (what : Place) → k < length h → overwritten h k what ≡ None
+    → Holds (record_of (walked now (drop (k + 1) h))) what value → Holds (record_of (walked now (drop k h))) what value
+walked_left now h k value what l is held = ⊎_elim
+    (λ found.
+    subst (λ (z : NodeState). Holds (record_of z) what value) (sym (walked_one now h k found.0 found.2))
+    (restored_left what (walked now (drop (k + 1) h)) found.0.saved value held (sym (ap (before_entry what) found.2) ∙ is)))
+    (λ past. absurd (omega (arith, l, past.0)))
+    (slice_get_cases h k).1
+
+-- ---- of a node of a lab
+
+-- a node where it had made so many steps
+there : (chip : List NodeState) (book : Book) (n at place : ℕ) → IsTied chip book → steps_of n (take place (state_of chip book).kept) ≡ at
+    → record_of (walked (node_at chip n) (drop at (history book.histories n))) ≡ record_at (chip_of (earlier (state_of chip book) place)) n
+there chip book n at place tied so_many = peeked chip book n place at (walked (node_at chip n) (drop at (history book.histories n))) tied so_many refl
+
+ram_size : (node : NodeState) → HasSizes (record_of node) → length node.ram ≡ 64
+unfolding record_of
+ram_size node sizes = sizes.ram
+
+pub old_is : (chip : List NodeState) (book : Book) (n at value place : ℕ) (what : Place) → IsTied chip book → HasSizes (record_of (node_at chip n))
+    → overwritten (history book.histories n) at what ≡ Some value → steps_of n (take place (state_of chip book).kept) ≡ at
+    → Holds (record_at (chip_of (earlier (state_of chip book) place)) n) what value
+old_is chip book n at value place what tied sizes is so_many =
+    subst (λ (z : NodeRecord). Holds z what value) (there chip book n at place tied so_many)
+    (walked_old (node_at chip n) (history book.histories n) at value what (ram_size (node_at chip n) sizes) (can_peek chip book n at tied) is)
+
+pub old_in_range : (chip : List NodeState) (book : Book) (n at value : ℕ) (what : Place) → IsTied chip book → overwritten (history book.histories n) at what ≡ Some value → IsInRange what value
+old_in_range chip book n at value what tied is = walked_fits (node_at chip n) (history book.histories n) at value what (can_peek chip book n at tied) is
+
+pub old_within : (chip : List NodeState) (book : Book) (n at value : ℕ) (what : Place) → IsTied chip book → overwritten (history book.histories n) at what ≡ Some value
+    → at < steps_of n (state_of chip book).kept
+old_within chip book n at value what tied is =
     let long = kept_long chip book n tied in
-    omega (arith, long, p_before_within (history book.histories n) place p is)
+    let within = overwritten_within (history book.histories n) at value what is in omega (arith, long, within)
 
-pub p_stays : (chip : List NodeState) (book : Book) (n place before behind : ℕ) → IsTied chip book → p_before (history book.histories n) place ≡ None
-    → steps_of n (take before (state_of chip book).kept) ≡ place → steps_of n (take behind (state_of chip book).kept) ≡ place + 1
-    → (record_at (chip_of (earlier (state_of chip book) behind)) n).p ≡ (record_at (chip_of (earlier (state_of chip book) before)) n).p
-p_stays chip book n place before behind tied is first second =
-    let within : place < length (history book.histories n) =
+pub stays_there : (chip : List NodeState) (book : Book) (n at before behind value : ℕ) (what : Place) → IsTied chip book
+    → overwritten (history book.histories n) at what ≡ None
+    → steps_of n (take before (state_of chip book).kept) ≡ at → steps_of n (take behind (state_of chip book).kept) ≡ at + 1
+    → Holds (record_at (chip_of (earlier (state_of chip book) behind)) n) what value → Holds (record_at (chip_of (earlier (state_of chip book) before)) n) what value
+stays_there chip book n at before behind value what tied is first second held =
+    let within : at < length (history book.histories n) =
     (let front = steps_front n behind (state_of chip book).kept in let long = kept_long chip book n tied in omega (arith, front, long, second)) in
-    p_there chip book n (place + 1) behind tied second
-    ∙ sym (walked_left (node_at chip n) (history book.histories n) place within is)
-    ∙ sym (p_there chip book n place before tied first)
+    subst (λ (z : NodeRecord). Holds z what value) (there chip book n at before tied first)
+    (walked_left (node_at chip n) (history book.histories n) at value what within is
+    (subst (λ (z : NodeRecord). Holds z what value) (sym (there chip book n (at + 1) behind tied second)) held))

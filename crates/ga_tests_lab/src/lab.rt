@@ -242,16 +242,25 @@ fn tells_histories(rt: HostRuntime) -> Result<(), Fail> {
     Ok(())
 }
 
-// A fetch and `@p` go on by an address; `b!`, a wait and a word that is taken leave P.
+// A fetch and `@p` go on by an address, `b!` writes B, `@b` waits to the right, and a word that is taken ends that wait.
 #[test]
-fn tells_p_before_a_step(rt: HostRuntime) -> Result<(), Fail> {
+fn tells_what_steps_overwrote(rt: HostRuntime) -> Result<(), Fail> {
     let n001 = NodeId::new(1);
     let lab = passed(&rt, rt.alloc())?;
-    same(&rt, &lab.p_before(n001, 0), &Some(0));
-    same(&rt, &lab.p_before(n001, 1), &Some(1));
-    for place in 2..6 {
-        same(&rt, &lab.p_before(n001, place), &None);
+    let wanted = [
+        (Place::P, [Some(0), Some(1), None, None, None]),
+        (Place::B, [None, None, Some(0x15d), None, None]),
+        (Place::Wait, [None, None, None, Some(0), Some(40)]),
+        (Place::A, [None; 5]),
+        (Place::Ram(0), [None; 5]),
+    ];
+    for (place, values) in &wanted {
+        for at in 0..5 {
+            let told = lab.overwritten(n001, at as u32, *place);
+            same(&rt, &told, &values[at]);
+        }
     }
+    same(&rt, &lab.overwritten(n001, 5, Place::P), &None);
     Ok(())
 }
 

@@ -1,13 +1,12 @@
 -- The value that is asked for where a step is named.
-use Rattle.std.proofs.Common.{◌≡◌, ℕ, zero, suc, ◌≤◌, Some, None, sym, subst, ◌∙◌, ap, arith}
+use Rattle.std.proofs.Common.{◌≡◌, ℕ, zero, suc, ◌≤◌, Some, None, sym, ◌∙◌, ap, arith}
 use Rattle.std.specs.Prelude.{Option, option_and_then}
 use Rattle.std.specs.List.{slice_get}
 use Rattle.std.proofs.lemmas.Option.{same_Some}
 use Rattle.ga_node.specs.Record.{NodeRecord}
 use Rattle.ga_grid.specs.declared.node_id.NodeId.{NodeId}
 use Rattle.ga_event.specs.declared.made.Made.{Made}
-use Rattle.ga_event.specs.Told.{steps_of}
-use Rattle.ga_lab.specs.Machine.{State, Standing, standing, history_of}
+use Rattle.ga_lab.specs.Machine.{State, history_of}
 use Rattle.ga_whence.specs.declared.asked.Asked.{Asked}
 use Rattle.ga_whence.specs.declared.asked.Asked.TheVariants.{Behind, Before, Nothing}
 use Rattle.ga_whence.specs.declared.value.Value.{Value}
@@ -22,11 +21,6 @@ asked_here s node step k told before asked value is tells stood means e =
     ∙ ap (value_asked node k) (means ∙ ap (λ (n : NodeRecord). told_asked told n node.number) stood)
     ∙ ap (option_and_then (λ (t : Made). value_asked node k (told_asked t (node_after s node.number k) node.number))) tells
     ∙ ap (asked_of s node) is
-
--- a walk stands at a step that its node has
-pub walk_within : (s : State) (node : NodeId) (step : ℕ) (walk : Standing) → walk ≡ standing s node step → step ≤ steps_of node.number s.kept
-    → walk.step ≤ steps_of walk.node.number walk.machine.kept
-walk_within s node step walk e l = subst (λ (z : Standing). z.step ≤ steps_of z.node.number z.machine.kept) (sym e) l
 
 -- it stood in the node, behind the step or before it
 at_or_before : (node : NodeId) (k : ℕ) (asked : Asked) (value : Value) → value_asked node k asked ≡ Some value → (value.node ≡ node) × (value.step ≤ suc k)

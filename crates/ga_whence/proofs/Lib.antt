@@ -5,10 +5,12 @@ pub mod Causes
 pub mod Walking
 pub mod Closed
 pub mod First
-pub mod Stored
 pub mod Asking
 pub mod Ran
 pub mod Keeping
 pub mod Moves
-pub mod Leaving
+pub mod Missing
+pub mod Dues
+pub mod Holding
+pub mod Resting
 pub mod Newest

@@ -112,6 +112,10 @@ told_so s node value told made is same e there =
 pub stands_so : (s : State) (node : NodeId) (step : ℕ) (walk : Standing) → walk ≡ standing s node step → walk ≡ standing s node walk.step
 stands_so s node step walk e = e ∙ ap (standing s node) (sym (ap (λ (z : Standing). z.step) e))
 
+-- and one that was not walked on
+pub stays_so : (s : State) (node : NodeId) (old new : Standing) → old ≡ standing s node old.step → new ≡ old → new ≡ standing s node new.step
+stays_so s node old new e same = same ∙ e ∙ ap (λ (z : Standing). standing s node z.step) (sym same)
+
 pub within_so : (s : State) (node : NodeId) (walk : Standing) (k : ℕ) → walk ≡ standing s node walk.step → k ≤ steps_of walk.node.number walk.machine.kept
     → k ≤ steps_of node.number s.kept
 within_so s node walk k e within = subst (λ (z : Standing). k ≤ steps_of z.node.number z.machine.kept) e within

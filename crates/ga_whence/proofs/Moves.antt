@@ -22,10 +22,10 @@ use Rattle.ga_event.specs.declared.made.Made.{Made}
 use Rattle.ga_event.specs.declared.made.Made.TheVariants as made
 use Rattle.ga_lab.specs.Machine.{State, history_of}
 use Rattle.ga_flow.specs.declared.part.Part.{Part}
-use Rattle.ga_flow.specs.declared.part.Part.TheVariants.{Data, Return, Ram, Rom, A, P, Outside}
-use Rattle.ga_flow.specs.Flow.{Flow, Same, Move, PushData, PopData, SetP, SetA, SetI, SetIo, SetRam, GoOn, StartAgain, top, from, read_moves, write_moves, moves, moves_by, moved_all, own_flow}
+use Rattle.ga_flow.specs.declared.part.Part.TheVariants.{Data, Return, Ram, Rom, A, P, Wait, Stop, Outside}
+use Rattle.ga_flow.specs.Flow.{Flow, Same, Move, PushData, PopData, SetP, SetA, SetI, SetIo, SetRam, SetWait, SetStop, GoOn, StartAgain, top, from, read_moves, write_moves, moves, moves_by, moved_all, own_flow}
 use Rattle.ga_whence.specs.Origins.{node_after, flow_told, moved_from, moved_at}
-use Rattle.ga_whence.specs.kept.Moving.{by_op, by_fetch, by_kind, moved_by}
+use Rattle.ga_whence.specs.kept.Moving.{by_op, by_fetch, by_pause, by_kind, moved_by}
 use Rattle.ga_whence.proofs.Ran.{WasNext, ran_so}
 
 -- with these moves the value came from there
@@ -54,6 +54,15 @@ up_return : (test : Bool) (k next : ℕ) (start : Part) → Some (cond test (Ret
 up_return true k next start h = h
 up_return false k next start h = h
 
+-- a wait and a stop
+waits : (at start : Part) → by_pause at ≡ Some start → Moved (SetWait ∷ []) at start
+waits Wait start h = absurd (none_some h)
+waits at start h = cc
+
+stops : (at start : Part) → by_pause at ≡ Some start → Moved (SetStop ∷ []) at start
+stops Stop start h = absurd (none_some h)
+stops at start h = cc
+
 -- a read that gave a word
 by_read : (ran : Kind) (target : Target) (reader : Reader) (seen : Seen) (n : NodeRecord) (at start : Part) (changes : ℕ → List Change) (more : Flow → List Move)
     → ((word : Flow) → by_kind ran at ≡ Some start → Moved (more word) at start) → by_kind (named ran (followed (found target reader seen n) changes)).0 at ≡ Some start → Moved (read_moves target more) at start
@@ -61,8 +70,8 @@ unfolding found followed
 by_read ran (target.Ram c) reader seen n at start changes more gave h = gave (Same (Ram c)) h
 by_read ran (target.Rom c) reader seen n at start changes more gave h = gave (Same (Rom c)) h
 by_read ran target.Io reader seen n at start changes more gave h = gave (Same Outside) h
-by_read ran (target.Ports sides) reader seen n at start changes more gave h = absurd (cc)
-by_read ran target.Bad reader seen n at start changes more gave h = absurd (cc)
+by_read ran (target.Ports sides) reader seen n at start changes more gave h = waits at start h
+by_read ran target.Bad reader seen n at start changes more gave h = stops at start h
 
 fetch_p : (word : Flow) (at start : Part) → by_op op.FetchP at ≡ Some start → Moved (PushData word ∷ SetP (from P) ∷ GoOn ∷ []) at start
 fetch_p word (Data k) start h = by_place (k == 0) _ _ _ _ (Data k) start (λ g. absurd (none_some g)) (λ g. g) h
@@ -88,12 +97,13 @@ unfolding stored followed
 by_write ran (target.Ram c) n at start more rest wrote h = (wrote h).in_ram c
 by_write ran (target.Rom c) n at start more rest wrote h = (wrote h).in_rom
 by_write ran target.Io n at start more rest wrote h = (wrote h).in_io
-by_write ran (target.Ports sides) n at start more rest wrote h = absurd (at_port (is_single sides) h)
+by_write ran (target.Ports sides) n at start more rest wrote h = at_port (is_single sides) h
   where
-    at_port : (single : Bool) → by_kind (cond single (posts (wait.Write (side_of sides))) (halts 1)).0 at ≡ Some start → ⊥
-    at_port true g = cc
-    at_port false g = cc
-by_write ran target.Bad n at start more rest wrote h = absurd (cc)
+    at_port : (single : Bool) → by_kind (cond single (posts (wait.Write (side_of sides))) (halts 1)).0 at ≡ Some start
+        → Moved (cond single (SetWait ∷ []) (SetStop ∷ [])) at start
+    at_port true g = waits at start g
+    at_port false g = stops at start g
+by_write ran target.Bad n at start more rest wrote h = stops at start h
 
 store_p : (at start : Part) → by_op op.StoreP at ≡ Some start → Wrote (PopData ∷ SetP (from P) ∷ GoOn ∷ []) at start
 store_p (Data k) start h = let up = up_data (k == 9) k (k + 1) start h in record { in_ram = λ c. up; in_rom = up; in_io = up }

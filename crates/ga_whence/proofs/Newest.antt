@@ -17,9 +17,6 @@ wrote_last s n cell left k wrote is e = ap (λ (o : Option Written). either o (n
 pub wrote_before : (s : State) (n cell left k : ℕ) → suc k ≡ left → None ≡ written_at s n cell k → newest_written s n cell k ≡ newest_written s n cell left
 wrote_before s n cell left k is e = ap (λ (o : Option Written). either o (newest_written s n cell k)) e ∙ ap (newest_written s n cell) is
 
-pub none_yet : (s : State) (n cell left : ℕ) → left ≡ 0 → None ≡ newest_written s n cell left
-none_yet s n cell left is = ap (newest_written s n cell) (sym is)
-
 -- what is told of a step has its number
 step_of : (s : State) (n cell k : ℕ) (b : Bool) (o : Option Made) (wrote : Written)
     → Some wrote ≡ cond b (option_map (written (k + 1) (slice_index (node_after s n (k + 1)).ram cell)) o) None → wrote.step ≡ k + 1

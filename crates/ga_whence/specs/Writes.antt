@@ -3,6 +3,7 @@
 use Rattle.std.specs.Prelude.{ℕ, zero, suc, ◌+◌, Bool, true, not, if◌then◌else◌, Option, Some, None, option_map, slice_index}
 use Rattle.std.specs.List.{slice_get}
 use Rattle.ga_event.specs.declared.made.Made.{Made}
+use Rattle.ga_grid.specs.declared.node_id.NodeId.{NodeId}
 use Rattle.ga_lab.specs.Machine.{State, history_of}
 use Rattle.ga_flow.specs.declared.part.Part.TheVariants as part
 use Rattle.ga_flow.specs.Flow.{Flow, Same, From}
@@ -33,3 +34,13 @@ either None other = other
 abbrev pub newest_written : State → ℕ → ℕ → ℕ → Option Written
 newest_written s n cell zero = None
 newest_written s n cell (suc k) = either (written_at s n cell k) (newest_written s n cell k)
+
+-- the steps of a node that wrote a cell, looked for among so many of the first
+pub record Search : Type 0 where
+  pub machine : State
+  pub node : NodeId
+  pub cell : ℕ
+  pub step : ℕ
+
+abbrev pub search : State → NodeId → ℕ → ℕ → Search
+search s node cell step = record { machine = s; node = node; cell = cell; step = step }

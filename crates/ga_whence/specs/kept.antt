@@ -1,4 +1,6 @@
+pub mod Kept
 pub mod Known
 pub mod Moving
 pub mod Open
+pub mod Searching
 pub mod Stores

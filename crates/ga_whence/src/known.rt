@@ -1,94 +1,36 @@
-//! Where the word on the top of the data stack comes from that a step leaves, where what is kept of the step says it.
+//! Where a value comes from that a step leaves, where what is kept of the step says it.
 
-ghost use Rattle.std.specs.Prelude.{◌≡◌, ◌<◌, ◌∷◌, [], IfSome};
-ghost use Rattle.ga_slots.specs.declared.op.Op.TheVariants as op;
-ghost use Rattle.ga_flow.specs.declared.part.Part.TheVariants.{A, Carry};
-ghost use Rattle.ga_flow.specs.Flow.{Same, From, top, second, moves, moved_all};
+ghost use Rattle.std.specs.Prelude.{◌≡◌, ◌<◌, ◌≤◌, IfSome};
+ghost use Rattle.ga_ports.specs.Address.{IsTarget};
+ghost use Rattle.ga_node.specs.Table.{due_of};
+ghost use Rattle.ga_node.specs.Waits.{wait_of};
+ghost use Rattle.ga_node.specs.declared.due.Due.TheVariants as due;
+ghost use Rattle.ga_lab.specs.Machine.{standing};
+ghost use Rattle.ga_flow.specs.Flow.{IsPart, choice, target_of, own_flow, take_flow};
 ghost use Rattle.ga_flow.specs.Following.{flow_of, AreSources};
 ghost use Rattle.ga_whence.specs.Origins.{node_after, flow_at};
-ghost use Rattle.ga_whence.specs.kept.Known.{LeavesBy};
+ghost use Rattle.ga_whence.specs.kept.Known.{IsDueBy};
 
-use arrayvec::ArrayVec;
+use crate::trail::Trail;
 use ga_event::Made;
-use ga_flow::{Flow, Part};
+use ga_flow::{Choice, Flow, Part, flow_where, send_flow, take_flow};
 use ga_grid::NodeId;
 use ga_lab::Lab;
-use ga_node::Kind;
-use ga_ports::{Target, classify};
+use ga_node::{Due, Kind, Place, Wait};
+use ga_ports::{PortSet, classify};
 use ga_slots::Op;
 
 /// So many steps are looked at for P before the first of them: an instruction word has four slots, and the fetch behind them writes P.
 const AHEAD: u32 = 8;
 
-// Computed from T, from T and S, and from these and another part.
-fn from_top() -> Flow
-    ensures { flow_of result ≡ From (top ∷ []) }
-{
-    let mut parts = ArrayVec::new();
-    parts.push(Part::T);
-    Flow::From(parts)
-}
-
-fn from_both() -> Flow
-    ensures { flow_of result ≡ From (top ∷ second ∷ []) }
-{
-    let mut parts = ArrayVec::new();
-    parts.push(Part::T);
-    parts.push(Part::S);
-    Flow::From(parts)
-}
-
-fn from_both_and_a() -> Flow
-    ensures { flow_of result ≡ From (top ∷ second ∷ A ∷ []) }
-{
-    let mut parts = ArrayVec::new();
-    parts.push(Part::T);
-    parts.push(Part::S);
-    parts.push(Part::A);
-    Flow::From(parts)
-}
-
-fn from_both_and_carry() -> Flow
-    ensures { flow_of result ≡ From (top ∷ second ∷ Carry ∷ []) }
-{
-    let mut parts = ArrayVec::new();
-    parts.push(Part::T);
-    parts.push(Part::S);
-    parts.push(Part::Carry);
-    Flow::From(parts)
-}
-
-// What `+` leaves, where P was this before it.
-fn sum_by(p: u32) -> Flow
-    ensures { LeavesBy op.Plus p (flow_of result) }
-{
-    if p / 512 % 2 == 1 {
-        from_both_and_carry()
-    } else {
-        from_both()
-    }
-}
-
-// What `@p` leaves, where P was this before it, of a cell.
-fn literal_by(p: u32) -> Option<Flow>
-    ensures value { IfSome result (λ flow. LeavesBy op.FetchP p (flow_of flow)) }
-    ensures sources { IfSome result (λ flow. AreSources (flow_of flow)) }
-{
-    match classify(p) {
-        Target::Ram(cell) => Some(Flow::Same(Part::Ram(cell))),
-        Target::Rom(cell) => Some(Flow::Same(Part::Rom(cell))),
-        _ => None,
-    }
-}
-
 // P right before the step at a place, where one of the next few steps wrote P.
-fn p_at(lab: &Lab, node: NodeId, place: u32) -> Option<u32>
+pub(crate) fn p_at(lab: &Lab, node: NodeId, place: u32) -> Option<u32>
     ensures { IfSome result (λ p. (node_after lab.now node.number place).p ≡ p) }
 {
     let steps = lab.steps(node);
     let mut at = place;
     'looking: while at < steps && at - place < AHEAD {
-        if let Some(p) = lab.p_before(node, at) {
+        if let Some(p) = lab.overwritten(node, at, Place::P) {
             return Some(p);
         }
         at += 1;
@@ -96,53 +38,128 @@ fn p_at(lab: &Lab, node: NodeId, place: u32) -> Option<u32>
     None
 }
 
-// What the step at a place leaves, which ran an opcode.
-fn left_by(lab: &Lab, node: NodeId, place: u32, op: Op) -> Option<Flow>
-    requires { flow_at lab.now node.number place top ≡ moved_all (moves op (node_after lab.now node.number place)) Same top }
-    ensures value { IfSome result (λ flow. flow_of flow ≡ flow_at lab.now node.number place top) }
-    ensures sources { IfSome result (λ flow. AreSources (flow_of flow)) }
+// What decides an opcode at a place: P is read off what is kept of the next few steps, A and B off the trail.
+fn choice_of(lab: &Lab, trail: &mut Trail<'_>, node: NodeId, place: u32, op: Op) -> Option<Choice>
+    requires trail { trail.old ≡ standing lab.now node trail.old.step }
+    requires order { place ≤ trail.old.step }
+    ensures value { IfSome result (λ known. known ≡ choice (due.Run op) (node_after lab.now node.number place)) }
+    ensures target { IfSome result (λ known. IsTarget (target_of known)) }
+    ensures same { trail.new ≡ trail.old }
 {
     match op {
-        Op::FetchP => literal_by(p_at(lab, node, place)?),
-        Op::Plus => Some(sum_by(p_at(lab, node, place)?)),
-        Op::MultiplyStep => Some(from_both_and_a()),
-        Op::TwoStar => Some(from_top()),
-        Op::TwoSlash => Some(from_top()),
-        Op::Invert => Some(from_top()),
-        Op::And => Some(from_both()),
-        Op::Or => Some(from_both()),
-        _ => None,
+        Op::Unext | Op::Next | Op::If | Op::MinusIf => None,
+        Op::FetchP | Op::StoreP => Some(Choice::At(classify(p_at(lab, node, place)?))),
+        Op::Plus => Some(Choice::Test(p_at(lab, node, place)? / 512 % 2 == 1)),
+        Op::FetchPlus | Op::Fetch | Op::StorePlus | Op::Store => {
+            let registers = trail.registers(lab, node, place);
+            Some(Choice::At(classify(registers.a)))
+        }
+        Op::FetchB | Op::StoreB => {
+            let registers = trail.registers(lab, node, place);
+            Some(Choice::At(classify(registers.b)))
+        }
+        _ => Some(Choice::Plain),
     }
 }
 
-/// Where the value comes from that the step at a place leaves in a part, where the part is T and what is kept of the step says it: its
-/// opcode, and P before it.
-pub(crate) fn known_flow(lab: &Lab, node: NodeId, place: u32, part: Part) -> Option<Flow>
-    ensures value { IfSome result (λ flow. flow_of flow ≡ flow_at lab.now node.number place part) }
-    ensures sources { IfSome result (λ flow. AreSources (flow_of flow)) }
+// What decides the step at a place, which was this.
+fn choice_at(lab: &Lab, trail: &mut Trail<'_>, node: NodeId, place: u32, due: Due) -> Option<Choice>
+    requires trail { trail.old ≡ standing lab.now node trail.old.step }
+    requires order { place ≤ trail.old.step }
+    ensures value { IfSome result (λ known. known ≡ choice due (node_after lab.now node.number place)) }
+    ensures target { IfSome result (λ known. IsTarget (target_of known)) }
+    ensures same { trail.new ≡ trail.old }
 {
-    match part {
-        Part::Data(0) => top_behind(lab, node, place),
-        _ => None,
+    match due {
+        Due::Fetch => Some(Choice::At(classify(p_at(lab, node, place)?))),
+        Due::Run(op) => choice_of(lab, trail, node, place, op),
     }
 }
 
-// The same of T.
-fn top_behind(lab: &Lab, node: NodeId, place: u32) -> Option<Flow>
-    ensures value { IfSome result (λ flow. flow_of flow ≡ flow_at lab.now node.number place top) }
+// What an own event leaves in a part, which the step at a place was.
+fn own_flow_at(
+    lab: &Lab,
+    trail: &mut Trail<'_>,
+    node: NodeId,
+    place: u32,
+    due: Due,
+    part: Part,
+) -> Option<Flow>
+    requires part { IsPart part }
+    requires trail { trail.old ≡ standing lab.now node trail.old.step }
+    requires order { place ≤ trail.old.step }
+    requires due { due_of (node_after lab.now node.number place) ≡ due }
+    ensures value { IfSome result (λ flow. flow_of flow ≡ own_flow (node_after lab.now node.number place) part) }
     ensures sources { IfSome result (λ flow. AreSources (flow_of flow)) }
+    ensures same { trail.new ≡ trail.old }
 {
-    match lab.told(node, place)? {
-        Made::Own {
-            kind: Kind::Run(code),
-            ..
-        } => {
+    match choice_at(lab, trail, node, place, due) {
+        Some(choice) => Some(flow_where(due, choice, part)),
+        None => None,
+    }
+}
+
+// What came next in a node whose event was of this kind.
+fn due_by(kind: Kind) -> Option<Due>
+    ensures { IfSome result (λ due. IsDueBy kind due) }
+{
+    match kind {
+        Kind::Fetch => Some(Due::Fetch),
+        Kind::Run(code) => {
             if code < 32 {
-                left_by(lab, node, place, Op::from_code(code))
+                Some(Due::Run(Op::from_code(code)))
             } else {
                 None
             }
         }
         _ => None,
+    }
+}
+
+// The wait of a reader, by its number.
+fn reading(code: u32) -> Option<Wait>
+    ensures { IfSome result (λ wait. wait ≡ wait_of code) }
+{
+    match code {
+        17..32 => Some(Wait::Fetch(PortSet::of((code - 16) as u8))),
+        33..48 => Some(Wait::Read(PortSet::of((code - 32) as u8))),
+        _ => None,
+    }
+}
+
+// What the reader's half of the pass at a place leaves in a part.
+fn taken_flow(lab: &Lab, node: NodeId, place: u32, part: Part) -> Option<Flow>
+    requires { IsPart part }
+    ensures value { IfSome result (λ flow. flow_of flow ≡ take_flow (node_after lab.now node.number place).wait part) }
+    ensures sources { IfSome result (λ flow. AreSources (flow_of flow)) }
+{
+    let wait = reading(lab.overwritten(node, place, Place::Wait)?)?;
+    Some(take_flow(wait, part))
+}
+
+/// Where the value comes from that the step at a place leaves in a part, where what is kept says it.
+pub(crate) fn known_flow(
+    lab: &Lab,
+    trail: &mut Trail<'_>,
+    node: NodeId,
+    place: u32,
+    part: Part,
+) -> Option<Flow>
+    requires part { IsPart part }
+    requires trail { trail.old ≡ standing lab.now node trail.old.step }
+    requires order { place ≤ trail.old.step }
+    ensures value { IfSome result (λ flow. flow_of flow ≡ flow_at lab.now node.number place part) }
+    ensures sources { IfSome result (λ flow. AreSources (flow_of flow)) }
+    ensures same { trail.new ≡ trail.old }
+{
+    match lab.told(node, place)? {
+        Made::Own { kind, .. } => own_flow_at(lab, trail, node, place, due_by(kind)?, part),
+        Made::Pass { reader, .. } => {
+            if node.number == reader.number {
+                taken_flow(lab, node, place, part)
+            } else {
+                Some(send_flow(part))
+            }
+        }
     }
 }

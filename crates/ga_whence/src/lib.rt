@@ -3,11 +3,14 @@
 
 mod asked;
 mod fetched;
+mod kept;
 mod known;
 pub mod laws;
 mod listing;
 mod moving;
 mod origin;
+mod registers;
+mod trail;
 mod value;
 mod writes;
 
@@ -16,4 +19,4 @@ pub use fetched::fetched_near;
 pub use listing::{Listing, Row, whence, whence_near};
 pub use origin::origin_of;
 pub use value::Value;
-pub use writes::{Written, back_to_write};
+pub use writes::{CellWrites, Written};

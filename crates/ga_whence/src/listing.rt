@@ -8,7 +8,8 @@ ghost use Rattle.ga_whence.specs.Origins.{value_at};
 ghost use Rattle.ga_whence.specs.Rows.{is_named, row_at, sender_in, sources_by, below, AreRows};
 ghost use Rattle.ga_whence.specs.kept.Open.{IsOpen};
 
-use crate::origin::{Origin, flow_by_walk, origin_near};
+use crate::origin::{Origin, flow_by_trail, origin_near};
+use crate::trail::Trail;
 use crate::value::Value;
 use arrayvec::ArrayVec;
 use ga_event::Made;
@@ -113,21 +114,21 @@ fn push_parts(
     Ok(())
 }
 
-// Puts what a row's value came from on the top, the first uppermost, by a walk of its node that has not come past the row's step.
+// Puts what a row's value came from on the top, the first uppermost, by a trail of its node that has not come past the row's step.
 fn push_below(
     todo: &mut Vec<Row>,
     lab: &Lab,
-    walk: &mut Walk<'_>,
+    trail: &mut Trail<'_>,
     row: Row,
 ) -> Result<(), AllocError>
     requires part { IsPart row.value.part }
-    requires walk { walk.old ≡ standing lab.now row.value.node walk.old.step }
-    requires order { row.value.step - 1 ≤ walk.old.step }
+    requires trail { trail.old ≡ standing lab.now row.value.node trail.old.step }
+    requires order { row.value.step - 1 ≤ trail.old.step }
     requires deep { row.depth + 1 < 2 ^ 32 }
     ensures ok { OnOk result (reverse todo.new.items ≡ below lab.now row ++ reverse todo.old.items) }
     ensures few { OnOk result (length todo.new.items ≤ length todo.old.items + 3) }
     ensures ready { OnOk result (All (IsOpen (row.depth + 1)) (below lab.now row)) }
-    ensures walk { walk.new ≡ standing lab.now row.value.node walk.new.step }
+    ensures trail { trail.new ≡ standing lab.now row.value.node trail.new.step }
 {
     let Value { node, step, part } = row.value;
     if step == 0 {
@@ -135,7 +136,7 @@ fn push_below(
     }
     let place = step - 1;
     let depth = row.depth + 1;
-    match flow_by_walk(lab, walk, node, place, part) {
+    match flow_by_trail(lab, trail, node, place, part) {
         Flow::Same(from) => {
             let told = lab.told(node, place);
             push_some(todo, depth, source_in(node, place, told, from))
@@ -171,7 +172,7 @@ pub fn whence_near<'l>(
     todo.push(Row { depth: 0, value })?;
     let mut last = Origin {
         value: Value { node: at, ..value },
-        walk: near.copy(),
+        trail: Trail::new(lab, at, near.copy()),
     };
     'telling: while let Some(next) = todo.pop() {
         last = origin_near(lab, near, at, last, next.value);
@@ -188,7 +189,7 @@ pub fn whence_near<'l>(
             depth: next.depth,
             value: last.value,
         };
-        push_below(&mut todo, lab, &mut last.walk, row)?;
+        push_below(&mut todo, lab, &mut last.trail, row)?;
         rows.push(row)?;
     }
     Ok(Listing {

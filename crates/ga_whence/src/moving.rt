@@ -2,11 +2,13 @@
 
 ghost use Rattle.std.specs.Prelude.{◌≡◌, ◌<◌, IfSome};
 ghost use Rattle.ga_flow.specs.Flow.{IsPart};
-ghost use Rattle.ga_whence.specs.kept.Moving.{on_data, on_return, pushed, popped_to_data, moved_to_data, popped_to_return, moved_to_return, moved_to_a, unless_stored, by_op, by_fetch, moved_by};
+ghost use Rattle.ga_whence.specs.kept.Moving.{on_data, on_return, pushed, popped_to_data, moved_to_data, popped_to_return, moved_to_return, moved_to_a, unless_stored, by_op, by_fetch, by_pause, stored_at, misses_by, misses, moved_by};
 
+use crate::registers::Registers;
 use ga_event::Made;
 use ga_flow::Part;
 use ga_node::Kind;
+use ga_ports::{Target, classify};
 use ga_slots::Op;
 
 /// What an opcode does to the words of a stack.
@@ -27,6 +29,7 @@ pub(crate) enum Shift {
 }
 
 // What an opcode does to the data stack.
+#[inline(always)]
 fn on_data(op: Op) -> Shift
     ensures { result ≡ on_data op }
 {
@@ -44,6 +47,7 @@ fn on_data(op: Op) -> Shift
 }
 
 // What it does to the return stack.
+#[inline(always)]
 fn on_return(op: Op) -> Shift
     ensures { result ≡ on_return op }
 {
@@ -57,6 +61,7 @@ fn on_return(op: Op) -> Shift
 }
 
 // The part whose word an opcode pushes on either stack. What it reads is that of none.
+#[inline(always)]
 fn pushed(op: Op) -> Option<Part>
     ensures value { result ≡ pushed op }
     ensures part { IfSome result (λ from. IsPart from) }
@@ -72,6 +77,7 @@ fn pushed(op: Op) -> Option<Part>
 }
 
 // Where a word of the data stack stood before a pop.
+#[inline(always)]
 fn popped_to_data(place: u8) -> Part
     requires { place < 10 }
     ensures value { result ≡ popped_to_data place }
@@ -85,6 +91,7 @@ fn popped_to_data(place: u8) -> Part
 }
 
 // The part whose word an opcode leaves at a place of the data stack.
+#[inline(always)]
 fn moved_to_data(op: Op, place: u8) -> Option<Part>
     requires { place < 10 }
     ensures value { result ≡ moved_to_data op place }
@@ -119,6 +126,7 @@ fn moved_to_data(op: Op, place: u8) -> Option<Part>
 }
 
 // Where a word of the return stack stood before a pop.
+#[inline(always)]
 fn popped_to_return(place: u8) -> Part
     requires { place < 9 }
     ensures value { result ≡ popped_to_return place }
@@ -132,6 +140,7 @@ fn popped_to_return(place: u8) -> Part
 }
 
 // The part whose word an opcode leaves at a place of the return stack.
+#[inline(always)]
 fn moved_to_return(op: Op, place: u8) -> Option<Part>
     requires { place < 9 }
     ensures value { result ≡ moved_to_return op place }
@@ -160,6 +169,7 @@ fn moved_to_return(op: Op, place: u8) -> Option<Part>
 }
 
 // The part whose word it leaves in A.
+#[inline(always)]
 fn moved_to_a(op: Op) -> Option<Part>
     ensures value { result ≡ moved_to_a op }
     ensures part { IfSome result (λ from. IsPart from) }
@@ -172,6 +182,7 @@ fn moved_to_a(op: Op) -> Option<Part>
 }
 
 // What a store may write stays under every other opcode.
+#[inline(always)]
 fn unless_stored(op: Op, part: Part) -> Option<Part>
     requires { IsPart part }
     ensures value { result ≡ unless_stored op part }
@@ -184,6 +195,7 @@ fn unless_stored(op: Op, part: Part) -> Option<Part>
 }
 
 // The part whose value an opcode leaves in a part. Of P and the slot it isn't said: nearly every step makes them anew.
+#[inline(always)]
 fn by_op(op: Op, part: Part) -> Option<Part>
     requires { IsPart part }
     ensures value { result ≡ by_op op part }
@@ -202,6 +214,7 @@ fn by_op(op: Op, part: Part) -> Option<Part>
 }
 
 // The same of a fetch.
+#[inline(always)]
 fn by_fetch(part: Part) -> Option<Part>
     requires { IsPart part }
     ensures value { result ≡ by_fetch part }
@@ -213,11 +226,50 @@ fn by_fetch(part: Part) -> Option<Part>
     }
 }
 
-/// The part from which a step moved a value to this one, where what is told of the step says so whatever stood in the node.
-pub(crate) fn moved_by(told: Option<Made>, part: Part) -> Option<Part>
+// The same of a wait or a stop, which stands in the place of the whole event.
+#[inline(always)]
+fn by_pause(part: Part) -> Option<Part>
     requires { IsPart part }
-    ensures value { result ≡ moved_by told part }
+    ensures value { result ≡ by_pause part }
     ensures part { IfSome result (λ from. IsPart from) }
+{
+    match part {
+        Part::Wait | Part::Stop | Part::Outside => None,
+        _ => Some(part),
+    }
+}
+
+// What the address of a store by A or B names, of the opcode with this code.
+#[inline(always)]
+fn stored_at(code: u8, before: Registers) -> Option<Target>
+    ensures { result ≡ stored_at code before }
+{
+    match code {
+        13 | 15 => Some(classify(before.a)),
+        14 => Some(classify(before.b)),
+        _ => None,
+    }
+}
+
+// Whether an opcode with this code is a store by A or B that leaves a cell as it was, where these hold this before it.
+#[inline(never)]
+fn misses_by(code: u8, before: Registers, part: Part) -> bool
+    ensures { result ≡ misses_by code before part }
+{
+    match part {
+        Part::Ram(cell) => match stored_at(code, before) {
+            Some(Target::Ram(other)) => other != cell,
+            Some(_) => true,
+            None => false,
+        },
+        _ => false,
+    }
+}
+
+/// The same of a step of which this is told.
+#[inline(always)]
+pub(crate) fn misses(told: &Option<Made>, before: Registers, part: Part) -> bool
+    ensures { result ≡ misses told.now before part }
 {
     match told {
         Some(
@@ -225,19 +277,31 @@ pub(crate) fn moved_by(told: Option<Made>, part: Part) -> Option<Part>
                 kind: Kind::Run(code),
                 ..
             },
-        ) => {
-            if code < 32 {
-                by_op(Op::from_code(code), part)
-            } else {
-                None
+        ) => misses_by(*code, before, part),
+        _ => false,
+    }
+}
+
+/// The part from which a step moved a value to this one, where what is told of the step says so whatever stood in the node.
+#[inline(always)]
+pub(crate) fn moved_by(told: &Option<Made>, part: Part) -> Option<Part>
+    requires { IsPart part }
+    ensures value { result ≡ moved_by told.now part }
+    ensures part { IfSome result (λ from. IsPart from) }
+{
+    match told {
+        Some(Made::Own { kind, .. }) => match kind {
+            Kind::Run(code) => {
+                if *code < 32 {
+                    by_op(Op::from_code(*code), part)
+                } else {
+                    None
+                }
             }
-        }
-        Some(
-            Made::Own {
-                kind: Kind::Fetch,
-                ..
-            },
-        ) => by_fetch(part),
+            Kind::Fetch => by_fetch(part),
+            Kind::Wait => by_pause(part),
+            Kind::Stop(_) => by_pause(part),
+        },
         _ => None,
     }
 }

@@ -12,6 +12,7 @@ ghost use Rattle.ga_whence.specs.kept.Moving.{moved_by};
 
 use crate::known::known_flow;
 use crate::moving::moved_by;
+use crate::trail::Trail;
 use crate::value::Value;
 use ga_event::Made;
 use ga_flow::{Flow, Part, own_flow, send_flow, take_flow};
@@ -138,62 +139,62 @@ pub fn origin_of(lab: &Lab, value: Value) -> Value
     ensures within { result.step ≤ steps_of value.node.number lab.now.kept }
 {
     let step = kept_step(lab, value);
-    let mut walk = lab.walk(value.node, step);
-    origin_behind(lab, &mut walk, value.node, step, value.part)
+    let mut trail = Trail::new(lab, value.node, lab.walk(value.node, step));
+    origin_behind(lab, &mut trail, value.node, step, value.part)
 }
 
-// A value that a step made, and a walk of its node that has not come past that step.
+// A value that a step made, and a trail of its node that has not come past that step.
 #[derive(Drop)]
 pub(crate) struct Origin<'l> {
     pub value: Value,
-    pub walk: Walk<'l>,
+    pub trail: Trail<'l>,
 }
 
-// A walk of a node that has not come past a step: another walk once more, where that is of the same node and not earlier, else from the
+// A trail of a node that has not come past a step: from another walk, where that is of the same node and not earlier, else from the
 // newest step.
-pub(crate) fn walk_near<'l>(
+pub(crate) fn trail_near<'l>(
     lab: &'l Lab,
     near: &Walk<'l>,
     at: NodeId,
     node: NodeId,
     step: u32,
-) -> Walk<'l>
+) -> Trail<'l>
     requires within { step ≤ steps_of node.number lab.now.kept }
     requires near { near.now ≡ standing lab.now at near.now.step }
     ensures stands { result ≡ standing lab.now node result.step }
     ensures order { step ≤ result.step }
 {
     if at == node && step <= near.step() {
-        near.copy()
+        Trail::new(lab, node, near.copy())
     } else {
-        lab.walk(node, lab.steps(node))
+        Trail::new(lab, node, lab.walk(node, lab.steps(node)))
     }
 }
 
-// The same where the walk to the origin that was found last may serve too.
-fn walk_on<'l>(
+// The same where the trail of the origin that was found last may serve too.
+fn trail_on<'l>(
     lab: &'l Lab,
     near: &Walk<'l>,
     at: NodeId,
     last: Origin<'l>,
     node: NodeId,
     step: u32,
-) -> Walk<'l>
+) -> Trail<'l>
     requires within { step ≤ steps_of node.number lab.now.kept }
     requires near { near.now ≡ standing lab.now at near.now.step }
-    requires last { last.walk ≡ standing lab.now last.value.node last.walk.step }
+    requires last { last.trail ≡ standing lab.now last.value.node last.trail.step }
     ensures stands { result ≡ standing lab.now node result.step }
     ensures order { step ≤ result.step }
 {
-    let Origin { value, walk } = last;
-    if value.node == node && step <= walk.step() {
-        walk
+    let Origin { value, trail } = last;
+    if value.node == node && step <= trail.step() {
+        trail
     } else {
-        walk_near(lab, near, at, node, step)
+        trail_near(lab, near, at, node, step)
     }
 }
 
-// What made a value, found by the walk to the origin that was found last, or by a walk of some node, which is not walked on.
+// What made a value, found by the trail of the origin that was found last, or by a walk of some node, which is not walked on.
 pub(crate) fn origin_near<'l>(
     lab: &'l Lab,
     near: &Walk<'l>,
@@ -203,98 +204,73 @@ pub(crate) fn origin_near<'l>(
 ) -> Origin<'l>
     requires part { IsPart value.part }
     requires near { near.now ≡ standing lab.now at near.now.step }
-    requires last { last.walk ≡ standing lab.now last.value.node last.walk.step }
+    requires last { last.trail ≡ standing lab.now last.value.node last.trail.step }
     ensures value { result.value ≡ origin_of lab.now value }
     ensures part { IsPart result.value.part }
-    ensures stands { result.walk ≡ standing lab.now result.value.node result.walk.step }
-    ensures order { result.value.step - 1 ≤ result.walk.step }
+    ensures stands { result.trail ≡ standing lab.now result.value.node result.trail.step }
+    ensures order { result.value.step - 1 ≤ result.trail.step }
 {
     let step = kept_step(lab, value);
-    let mut walk = walk_on(lab, near, at, last, value.node, step);
-    let origin = origin_behind(lab, &mut walk, value.node, step, value.part);
+    let mut trail = trail_on(lab, near, at, last, value.node, step);
+    let origin = origin_behind(lab, &mut trail, value.node, step, value.part);
     Origin {
         value: origin,
-        walk,
+        trail,
     }
-}
-
-// A value followed back over the steps of its node of which what is told says from where they moved it.
-pub(crate) fn told_back(lab: &Lab, value: Value) -> Value
-    requires { IsPart value.part }
-    ensures same { origin_of lab.now result ≡ origin_of lab.now value }
-    ensures part { IsPart result.part }
-    ensures node { result.node ≡ value.node }
-    ensures within { result.step ≤ value.step }
-    ensures ends { 0 < result.step
-        → moved_by (slice_get (history_of lab.now value.node.number) (result.step - 1)) result.part ≡ None }
-{
-    let Value {
-        node,
-        mut step,
-        mut part,
-    } = value;
-    'telling: while step > 0 {
-        match moved_by(lab.told(node, step - 1), part) {
-            Some(from) => part = from,
-            None => return Value { node, step, part },
-        }
-        step -= 1;
-    }
-    Value { node, step, part }
 }
 
 // Where the value comes from that the step at a place leaves in a part of its node. The node is walked back to right before the step
-// only where what is kept of the step doesn't say it.
-pub(crate) fn flow_by_walk(
+// only where what is kept doesn't say it.
+pub(crate) fn flow_by_trail(
     lab: &Lab,
-    walk: &mut Walk<'_>,
+    trail: &mut Trail<'_>,
     node: NodeId,
     place: u32,
     part: Part,
 ) -> Flow
     requires part { IsPart part }
-    requires walk { walk.old ≡ standing lab.now node walk.old.step }
-    requires order { place ≤ walk.old.step }
+    requires trail { trail.old ≡ standing lab.now node trail.old.step }
+    requires order { place ≤ trail.old.step }
     ensures value { flow_of result ≡ flow_at lab.now node.number place part }
     ensures sources { AreSources (flow_of result) }
-    ensures walk { walk.new ≡ standing lab.now node walk.new.step }
-    ensures order { place ≤ walk.new.step }
+    ensures trail { trail.new ≡ standing lab.now node trail.new.step }
+    ensures order { place ≤ trail.new.step }
 {
-    if let Some(flow) = known_flow(lab, node, place, part) {
+    if let Some(flow) = known_flow(lab, trail, node, place, part) {
         return flow;
     }
-    walk.back_to(place);
-    flow_behind(lab, walk, node, part)
+    trail.back_to(place);
+    flow_behind(lab, trail.walk(), node, part)
 }
 
-/// The step that made what stands in a part of a node behind a step, by a walk of the node that has not come past that step, nor then
-/// past the one that made it. The walk goes on only where what is kept of a step doesn't say from where the step has the value.
+/// The step that made what stands in a part of a node behind a step, by a trail of the node that has not come past that step, nor then
+/// past the one that made it. The node is walked back only where what is kept doesn't say from where a step has the value.
 pub(crate) fn origin_behind(
     lab: &Lab,
-    walk: &mut Walk<'_>,
+    trail: &mut Trail<'_>,
     node: NodeId,
     step: u32,
     part: Part,
 ) -> Value
     requires part { IsPart part }
-    requires walk { walk.old ≡ standing lab.now node walk.old.step }
-    requires order { step ≤ walk.old.step }
+    requires trail { trail.old ≡ standing lab.now node trail.old.step }
+    requires order { step ≤ trail.old.step }
     ensures value { result ≡ origin_from lab.now node step part }
     ensures part { IsPart result.part }
     ensures within { result.step ≤ step }
     ensures node { result.node ≡ node }
-    ensures walk { walk.new ≡ standing lab.now node walk.new.step }
-    ensures order { result.step - 1 ≤ walk.new.step }
+    ensures trail { trail.new ≡ standing lab.now node trail.new.step }
+    ensures order { result.step - 1 ≤ trail.new.step }
 {
-    let mut value = told_back(lab, Value { node, step, part });
+    let mut value = trail.told_back(lab, Value { node, step, part });
     'steps: while value.step > 0 {
         let Value { step, part, .. } = value;
-        let flow = flow_by_walk(lab, walk, node, step - 1, part);
+        let flow = flow_by_trail(lab, trail, node, step - 1, part);
         match moved_from(&flow, part) {
             Some(from) => {
                 let step = step - 1;
                 let part = from;
-                value = told_back(lab, Value { node, step, part });
+                value = trail.told_back(lab, Value { node, step, part });
             }
             None => {
                 let part = told_part(&flow, part);

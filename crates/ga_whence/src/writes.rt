@@ -1,23 +1,26 @@
 //! The steps that wrote a cell of memory.
 
-ghost use Rattle.std.specs.Prelude.{◌≡◌, ◌<◌, ◌-◌, ◌%◌, IfSome, slice_index};
+ghost use Rattle.std.specs.Prelude.{◌≡◌, ◌<◌, ◌≤◌, ◌+◌, ◌-◌, ◌^◌, IfSome, slice_index};
 ghost use Rattle.std.specs.List.{slice_get};
 ghost use Rattle.ga_node.specs.Record.{record_of};
+ghost use Rattle.ga_event.specs.Told.{steps_of};
 ghost use Rattle.ga_lab.specs.Machine.{history_of, standing};
 ghost use Rattle.ga_flow.specs.Following.{flow_of};
-ghost use Rattle.ga_whence.specs.Writes.{is_written, written_at, written, newest_written};
+ghost use Rattle.ga_whence.specs.Writes.{is_written, written_at, newest_written};
+ghost use Rattle.ga_whence.specs.kept.Searching.{IsReached};
 ghost use Rattle.ga_whence.specs.kept.Stores.{ran_store};
 
-use crate::origin::{flow_behind, is_cell};
+use crate::kept::{Kept, word_before, word_behind};
+use crate::origin::{flow_by_trail, is_cell};
+use crate::registers::{Registers, registers_before, registers_in};
+use crate::trail::Trail;
 use ga_event::Made;
 use ga_flow::{Flow, Part};
 use ga_grid::NodeId;
-use ga_lab::{Lab, Walk};
+use ga_lab::Lab;
 use ga_node::{Kind, Node, Place};
 use ga_word::Word18;
-
-/// So many steps are looked at before the node is walked back over them: few enough that what is kept of them is still at hand.
-const AT_ONCE: u32 = 64;
+use std::marker::Model;
 
 /// A step that wrote a cell, and the word that stood there behind it.
 #[derive(Clone, Copy, PartialEq, Eq, Debug)]
@@ -42,16 +45,17 @@ fn is_written(flow: &Flow) -> bool
 
 // The word in a cell of RAM.
 #[tactic(auto, unfolding(ga_node::specs::Record::record_of))]
-fn word_in(node: &Node, cell: u8) -> Word18
+fn word_in(node: &Node, cell: u8) -> u32
     requires { cell < 64 }
-    ensures { result ≡ slice_index (record_of node.now).ram cell }
+    ensures value { result ≡ slice_index (record_of node.now).ram cell }
+    ensures fits { result < 2 ^ 18 }
 {
-    Word18::truncated(node.get(Place::Ram(cell)))
+    node.get(Place::Ram(cell))
 }
 
 // Whether a step of which this is told ran a store, whose codes are 0c to 0f: nothing else writes memory.
-fn ran_store(told: Option<Made>) -> bool
-    ensures { result ≡ ran_store told }
+fn ran_store(told: &Option<Made>) -> bool
+    ensures { result ≡ ran_store told.now }
 {
     match told {
         Some(
@@ -59,51 +63,164 @@ fn ran_store(told: Option<Made>) -> bool
                 kind: Kind::Run(code),
                 ..
             },
-        ) => code / 4 == 3,
+        ) => *code / 4 == 3,
         _ => false,
     }
 }
 
-// Walks a node back over a step, and tells of the step where it wrote that cell of the node's RAM.
-fn back_over(lab: &Lab, walk: &mut Walk<'_>, node: NodeId, cell: u8) -> Option<Written>
-    requires cell { cell < 64 }
-    requires some { 0 < walk.old.step }
-    requires walk { walk.old ≡ standing lab.now node walk.old.step }
-    ensures walk { walk.new ≡ standing lab.now node (walk.old.step - 1) }
-    ensures value { result ≡ written_at lab.now node.number cell (walk.old.step - 1) }
-{
-    let step = walk.step();
-    let word = word_in(walk.node(), cell);
-    walk.back();
-    let flow = flow_behind(lab, walk, node, Part::Ram(cell));
-    if !is_written(&flow) {
-        return None;
-    }
-    let made = lab.told(node, step - 1)?;
-    Some(Written { step, made, word })
+/// How far a cell of a node was followed back: the steps that are still to be looked at, and behind them A, B and the word in the cell.
+#[derive(Clone, Copy, PartialEq, Eq, Debug)]
+struct Reached {
+    step: u32,
+    registers: Registers,
+    word: u32,
 }
 
-/// Walks a node back over the newest step that wrote that cell of its RAM, and tells of it; none where no step did. Of a step that
-/// ran no store only what is told of it is looked at. Takes no memory, and time by how many steps it goes back over.
-pub fn back_to_write(lab: &Lab, walk: &mut Walk<'_>, node: NodeId, cell: u8) -> Option<Written>
+// Goes back over the steps that ran no store, up to the newest one that did, where there is one.
+fn back_to_store(lab: &Lab, node: NodeId, cell: u8, from: Reached) -> Reached
     requires cell { cell < 64 }
-    requires walk { walk.old ≡ standing lab.now node walk.old.step }
-    ensures value { result ≡ newest_written lab.now node.number cell walk.old.step }
-    ensures walk { IfSome result (λ written. walk.new ≡ standing lab.now node (written.step - 1)) }
-    ensures stands { walk.new ≡ standing lab.now node walk.new.step }
+    requires held { IsReached lab.now node.number cell from }
+    ensures held { IsReached lab.now node.number cell result }
+    ensures same { newest_written lab.now node.number cell result.step ≡ newest_written lab.now node.number cell from.step }
+    ensures within { result.step ≤ from.step }
 {
-    let mut left = walk.step();
-    'going: while left > 0 {
-        if ran_store(lab.told(node, left - 1)) {
-            walk.back_to(left);
-            if let Some(written) = back_over(lab, walk, node, cell) {
-                return Some(written);
-            }
+    let Reached {
+        mut step,
+        mut registers,
+        mut word,
+    } = from;
+    'going: while step > 0 {
+        let at = step - 1;
+        let told = lab.told(node, at);
+        if ran_store(&told) {
+            return Reached {
+                step,
+                registers,
+                word,
+            };
         }
-        left -= 1;
-        if left % AT_ONCE == 0 {
-            walk.back_to(left);
+        registers = registers_before(lab, node, at, &told, registers);
+        word = word_behind(lab, node, at, &told, Kept::Ram(cell), word);
+        step = at;
+    }
+    Reached {
+        step,
+        registers,
+        word,
+    }
+}
+
+/// The steps of a node that wrote a cell of its RAM, the newest first. A contract sees the machine, the node, the cell, and how many
+/// steps are still to be looked at.
+#[derive(Drop)]
+pub struct CellWrites<'l> {
+    lab: &'l Lab,
+    node: NodeId,
+    cell: u8,
+    trail: Trail<'l>,
+    reached: Reached,
+}
+
+impl<'l> Model for CellWrites<'l> {
+    ghost use Rattle.ga_whence.specs.Writes.{Search, search};
+    ghost use Rattle.ga_whence.specs.kept.Searching.{IsSearch};
+
+    ghost Value = { Search };
+
+    ghost view = { λ w. search w.lab.now w.node w.cell w.reached.step };
+
+    ghost invariant = { λ w. IsSearch w.lab.now w.node w.cell w.trail w.reached };
+}
+
+impl<'l> CellWrites<'l> {
+    ghost use Rattle.std.specs.Prelude.{◌≡◌, ◌<◌, ◌≤◌, ◌+◌, IfSome};
+    ghost use Rattle.ga_event.specs.Told.{steps_of};
+    ghost use Rattle.ga_whence.specs.Writes.{written_at, newest_written, search};
+
+    /// All that a node made.
+    pub fn new(lab: &'l Lab, node: NodeId, cell: u8) -> Self
+        requires { cell < 64 }
+        ensures { result ≡ search lab.now node cell (steps_of node.number lab.now.kept) }
+    {
+        let step = lab.steps(node);
+        let walk = lab.walk(node, step);
+        let word = word_in(walk.node(), cell);
+        let registers = registers_in(lab, node, &walk);
+        CellWrites {
+            lab,
+            node,
+            cell,
+            trail: Trail::new(lab, node, walk),
+            reached: Reached {
+                step,
+                registers,
+                word,
+            },
         }
     }
-    None
+
+    /// Goes back over the newest step that wrote the cell, and tells of it; none where no step did. Takes no memory, and time by how many
+    /// steps it goes back over.
+    pub fn next(&mut self) -> Option<Written>
+        ensures value { result ≡ newest_written self.old.machine self.old.node.number self.old.cell self.old.step }
+        ensures step { IfSome result (λ written. self.new.step + 1 ≡ written.step) }
+        ensures same { self.new ≡ search self.old.machine self.old.node self.old.cell self.new.step }
+    {
+        self.seek();
+        'going: while self.left() > 0 {
+            if let Some(written) = self.back() {
+                return Some(written);
+            }
+            self.seek();
+        }
+        None
+    }
+
+    // How many steps are still to be looked at.
+    fn left(&self) -> u32
+        ensures { result ≡ self.now.step }
+    {
+        self.reached.step
+    }
+
+    // Goes back up to the newest step that ran a store.
+    fn seek(&mut self)
+        ensures newest { newest_written self.old.machine self.old.node.number self.old.cell self.new.step
+            ≡ newest_written self.old.machine self.old.node.number self.old.cell self.old.step }
+        ensures within { self.new.step ≤ self.old.step }
+        ensures same { self.new ≡ search self.old.machine self.old.node self.old.cell self.new.step }
+    {
+        self.reached = back_to_store(self.lab, self.node, self.cell, self.reached);
+    }
+
+    // Goes back over one step, and tells of it where it wrote the cell.
+    fn back(&mut self) -> Option<Written>
+        requires { 0 < self.old.step }
+        ensures value { result ≡ written_at self.old.machine self.old.node.number self.old.cell self.new.step }
+        ensures step { self.new.step + 1 ≡ self.old.step }
+        ensures same { self.new ≡ search self.old.machine self.old.node self.old.cell self.new.step }
+    {
+        let lab = self.lab;
+        let node = self.node;
+        let Reached {
+            step,
+            registers,
+            word,
+        } = self.reached;
+        let place = step - 1;
+        let told = lab.told(node, place);
+        self.trail.note(lab, node, step, registers);
+        let flow = flow_by_trail(lab, &mut self.trail, node, place, Part::Ram(self.cell));
+        self.reached = Reached {
+            step: place,
+            registers: self.trail.registers(lab, node, place),
+            word: word_before(lab, node, place, Kept::Ram(self.cell), word),
+        };
+        if !is_written(&flow) {
+            return None;
+        }
+        let made = told?;
+        let word = Word18::truncated(word);
+        Some(Written { step, made, word })
+    }
 }

@@ -1,29 +1,33 @@
 //! What an event overwrote, by its entry in a node's history.
 
 ghost use Rattle.std.specs.Prelude.{◌≡◌, None};
-ghost use Rattle.ga_journal.specs.Walked.{p_over, p_among};
+ghost use Rattle.ga_journal.specs.Walked.{over, among};
 
 use super::History;
 use ga_node::{Place, Saved};
 
-/// An old value, where it is that of P.
-fn p_over(place: Place, old: u32) -> Option<u32>
-    ensures { result ≡ p_over place old None }
+/// The old value of a place, where it is what is asked for.
+fn over(what: Place, place: Place, old: u32) -> Option<u32>
+    ensures { result ≡ over what place old None }
 {
-    match place {
-        Place::P => Some(old),
+    match (what, place) {
+        (Place::P, Place::P) => Some(old),
+        (Place::A, Place::A) => Some(old),
+        (Place::B, Place::B) => Some(old),
+        (Place::Wait, Place::Wait) => Some(old),
+        (Place::Ram(cell), Place::Ram(other)) => { if cell == other { Some(old) } else { None } }
         _ => None,
     }
 }
 
-/// P among the old values.
-fn p_among(saved: &Saved) -> Option<u32>
-    ensures { result ≡ p_among saved.now }
+/// What is asked for among the old values.
+fn among(what: Place, saved: &Saved) -> Option<u32>
+    ensures { result ≡ among what saved.now }
 {
     for k in 0..saved.len() {
         let (place, old) = saved.at(k);
-        if let Some(p) = p_over(place, old) {
-            return Some(p);
+        if let Some(value) = over(what, place, old) {
+            return Some(value);
         }
     }
     None
@@ -31,14 +35,14 @@ fn p_among(saved: &Saved) -> Option<u32>
 
 impl History {
     ghost use Rattle.std.specs.Prelude.{◌≡◌, ◌<◌, length};
-    ghost use Rattle.ga_journal.specs.Walked.{p_before};
+    ghost use Rattle.ga_journal.specs.Walked.{overwritten};
 
-    /// P as it was before the event of the entry at a position; none where the event left it.
-    pub fn p_before(&self, at: usize) -> Option<u32>
+    /// What a place held before the event of the entry at a position; none where the event left it.
+    pub fn overwritten(&self, at: usize, what: Place) -> Option<u32>
         requires { at < length self.now.items }
-        ensures { result ≡ p_before self.now.items at }
+        ensures { result ≡ overwritten self.now.items at what }
     {
         let entry = &self.entries[at];
-        p_among(&entry.saved)
+        among(what, &entry.saved)
     }
 }

@@ -5,14 +5,14 @@ use crate::fault::JournalFault;
 use crate::since::Since;
 use ga_event::{Cause, Event, Made};
 use ga_grid::NodeId;
-use ga_node::Node;
+use ga_node::{Node, Place};
 
 impl Journal {
     ghost use Rattle.std.specs.Prelude.{◌≡◌, ◌<◌, ◌≤◌, ◌+◌, ◌^◌, ◌↔◌, length, map, take, drop, Some, IfOk, IfErr, IsNone};
     ghost use Rattle.std.specs.List.{slice_get, All};
     ghost use Rattle.std.specs.List.Sorted.{IsStrictlyIncreasing};
     ghost use Rattle.ga_journal.specs.Histories.{history};
-    ghost use Rattle.ga_journal.specs.Walked.{walked, CanWalk, p_before};
+    ghost use Rattle.ga_journal.specs.Walked.{walked, CanWalk, overwritten};
     ghost use Rattle.ga_journal.specs.Events.{kept_of, causes_of, events_of};
     ghost use Rattle.ga_event.specs.Told.{steps_of, mades_of, made_in};
     ghost use Rattle.ga_journal.specs.Logs.{IsWhole};
@@ -38,11 +38,12 @@ impl Journal {
         self.histories.made_of(node, place)
     }
 
-    /// P as it was before a node's step, the one at a place from 0 on; none where the step left it, or past the node's steps.
-    pub(crate) fn p_before(&self, node: NodeId, place: u32) -> Option<u32>
-        ensures { result ≡ p_before (history self.now.histories node.number) place }
+    /// What a place of a node held before its step, the one at a position from 0 on; none where the step left it, or past the node's
+    /// steps.
+    pub(crate) fn overwritten(&self, node: NodeId, at: u32, what: Place) -> Option<u32>
+        ensures { result ≡ overwritten (history self.now.histories node.number) at what }
     {
-        self.histories.p_before(node, place)
+        self.histories.overwritten(node, at, what)
     }
 
     /// Writes back to a node what its entries from the position `to` on and below `from` overwrote, those of the last entry

@@ -3,7 +3,7 @@
 use super::Lab;
 use ga_grid::{Chip, NodeId};
 use ga_journal::Chronicle;
-use ga_node::Node;
+use ga_node::{Node, Place};
 use std::marker::Model;
 
 /// A copy of a node as it was right after one of its steps, which goes back step by step. Of the lab nothing is taken back. A
@@ -88,7 +88,9 @@ impl Lab {
     ghost use Rattle.std.specs.Prelude.{◌≡◌, ◌<◌, ◌≤◌, ◌+◌, ℕ, take, IfSome, IfNone};
     ghost use Rattle.ga_grid.specs.Chip.{record_at};
     ghost use Rattle.ga_event.specs.Told.{steps_of};
+    ghost use Rattle.ga_node.specs.State.{IsInRange};
     ghost use Rattle.ga_lab.specs.Machine.{chip_of, earlier, standing};
+    ghost use Rattle.ga_lab.specs.Holding.{Holds};
 
     /// A node as it was right after its step, or at load for step 0, to be walked back from there. Takes no memory, and time by how
     /// many steps the node made since.
@@ -108,16 +110,20 @@ impl Lab {
         }
     }
 
-    /// P as it was right before a node's step, the one at a place from 0 on, where the step wrote P, as most do: what is kept of the
-    /// step says it, with no walk. None where it didn't, or past the node's steps.
-    pub fn p_before(&self, node: NodeId, place: u32) -> Option<u32>
-        ensures value { IfSome result (λ p. (at : ℕ) → steps_of node.number (take at self.now.kept) ≡ place
-            → (record_at (chip_of (earlier self.now at)) node.number).p ≡ p) }
-        ensures within { IfSome result (λ p. place < steps_of node.number self.now.kept) }
-        ensures left { IfNone result ((before behind : ℕ) → steps_of node.number (take before self.now.kept) ≡ place
-            → steps_of node.number (take behind self.now.kept) ≡ place + 1
-            → (record_at (chip_of (earlier self.now behind)) node.number).p ≡ (record_at (chip_of (earlier self.now before)) node.number).p) }
+    /// What a place of a node held right before its step, the one at a position from 0 on, where the step wrote there: P, A, B, the
+    /// number of the wait, or a cell of RAM. What is kept of the step says it, with no walk. None where the step didn't write there, past
+    /// the node's steps, and for each other place. Takes no memory, and as long whatever is kept.
+    pub fn overwritten(&self, node: NodeId, at: u32, what: Place) -> Option<u32>
+        ensures value { IfSome result (λ old. (place : ℕ) → steps_of node.number (take place self.now.kept) ≡ at
+            → Holds (record_at (chip_of (earlier self.now place)) node.number) what old) }
+        ensures in_range { IfSome result (λ old. IsInRange what old) }
+        ensures within { IfSome result (λ old. at < steps_of node.number self.now.kept) }
+        ensures left { IfNone result ((before behind value : ℕ) → steps_of node.number (take before self.now.kept) ≡ at
+            → steps_of node.number (take behind self.now.kept) ≡ at + 1
+            → Holds (record_at (chip_of (earlier self.now behind)) node.number) what value
+            → Holds (record_at (chip_of (earlier self.now before)) node.number) what value) }
     {
-        self.chronicle.p_before(node, place)
+        self.chip.node(node).has_sizes();
+        self.chronicle.overwritten(node, at, what)
     }
 }

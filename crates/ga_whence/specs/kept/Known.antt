@@ -1,10 +1,13 @@
--- What an opcode leaves on the top of the data stack, by P alone (F18A Technology Reference DB001, opcodes; Flow.antt of ga_flow has each row
--- in full).
-use Rattle.std.specs.Prelude.{ℕ, ◌≡◌}
-use Rattle.ga_slots.specs.declared.op.Op.{Op}
-use Rattle.ga_node.specs.Record.{NodeRecord}
-use Rattle.ga_flow.specs.Flow.{Flow, Same, top, moves, moved_all}
+-- What came next in a node, by the kind of its event (F18A Technology Reference DB001, opcodes, by their codes).
+use Rattle.std.specs.Prelude.{◌≡◌}
+use Rattle.ga_slots.specs.Codes.{op_of}
+use Rattle.ga_node.specs.declared.kind.Kind.{Kind}
+use Rattle.ga_node.specs.declared.kind.Kind.TheVariants as kind
+use Rattle.ga_node.specs.declared.due.Due.{Due}
+use Rattle.ga_node.specs.declared.due.Due.TheVariants as due
 
--- in each node in which P was this before it, its word comes from there
-abbrev pub LeavesBy : Op → ℕ → Flow → Type 0
-LeavesBy op p flow = (n : NodeRecord) → n.p ≡ p → moved_all (moves op n) Same top ≡ flow
+-- a fetch or an opcode; a wait or a stop stands in the place of either
+abbrev pub IsDueBy : Kind → Due → Type 0
+IsDueBy kind.Fetch what = what ≡ due.Fetch
+IsDueBy (kind.Run code) what = what ≡ due.Run (op_of code)
+IsDueBy _ what = ⊥

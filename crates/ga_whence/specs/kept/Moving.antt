@@ -1,7 +1,10 @@
 -- The part from which a step moved a value to another part of the node, where what is told of the step says so by itself, whatever stood
 -- in the node (F18A Technology Reference DB001, opcodes, by their codes; Flow.antt of ga_flow has each row in full). Where it doesn't,
 -- none is named.
-use Rattle.std.specs.Prelude.{ℕ, ◌+◌, ◌-◌, ◌==◌, nat_lt, if◌then◌else◌, Option, Some, None}
+use Rattle.std.specs.Prelude.{ℕ, ◌+◌, ◌-◌, ◌==◌, ◌||◌, nat_lt, if◌then◌else◌, Bool, true, false, not, Option, Some, None}
+use Rattle.ga_ports.specs.Address.{classified}
+use Rattle.ga_ports.specs.declared.address.Target.{Target}
+use Rattle.ga_ports.specs.declared.address.Target.TheVariants as target
 use Rattle.ga_slots.specs.declared.op.Op.{Op}
 use Rattle.ga_slots.specs.declared.op.Op.TheVariants as op
 use Rattle.ga_slots.specs.Codes.{op_of}
@@ -12,6 +15,7 @@ use Rattle.ga_event.specs.declared.made.Made.TheVariants.{Own, Pass}
 use Rattle.ga_flow.specs.declared.part.Part.{Part}
 use Rattle.ga_flow.specs.declared.part.Part.TheVariants.{Data, Return, Ram, Rom, A, B, P, I, Io, Carry, Slot, Wait, Stop, Outside}
 use Rattle.ga_flow.specs.Flow.{top, second, top_return}
+use Rattle.ga_whence.specs.declared.registers.Registers.{Registers}
 use Rattle.ga_whence.specs.declared.moving.Shift.{Shift}
 use Rattle.ga_whence.specs.declared.moving.Shift.TheVariants.{Stays, Replaces, Pushes, Pops, Combines, Unsure}
 
@@ -143,14 +147,43 @@ by_fetch Stop = None
 by_fetch Outside = None
 by_fetch at = Some at
 
+-- of a wait or a stop, which stands in the place of the whole event
+abbrev pub by_pause : Part → Option Part
+by_pause Wait = None
+by_pause Stop = None
+by_pause Outside = None
+by_pause at = Some at
+
 -- of an event of a node's own, and of one of which this is told
 abbrev pub by_kind : Kind → Part → Option Part
 by_kind kind.Fetch at = by_fetch at
 by_kind (kind.Run code) at = if nat_lt code 32 then by_op (op_of code) at else None
-by_kind kind.Wait at = None
-by_kind (kind.Stop code) at = None
+by_kind kind.Wait at = by_pause at
+by_kind (kind.Stop code) at = by_pause at
 
 abbrev pub moved_by : Option Made → Part → Option Part
 moved_by None at = None
 moved_by (Some (Own node step kind)) at = by_kind kind at
 moved_by (Some (Pass writer i reader j word)) at = None
+
+-- what the address of a store by A or B names, of the opcode with this code: !+, !b and !
+abbrev pub stored_at : ℕ → Registers → Option Target
+stored_at code before =
+    if code == 13 || code == 15 then Some (classified before.a)
+    else if code == 14 then Some (classified before.b)
+    else None
+
+-- and that it is no such cell
+abbrev pub misses_at : Option Target → ℕ → Bool
+misses_at None cell = false
+misses_at (Some (target.Ram other)) cell = not (other == cell)
+misses_at (Some named) cell = true
+
+-- an opcode with this code stored elsewhere, where A and B were these before it, and so did a step of which this is told
+abbrev pub misses_by : ℕ → Registers → Part → Bool
+misses_by code before (Ram cell) = misses_at (stored_at code before) cell
+misses_by code before at = false
+
+abbrev pub misses : Option Made → Registers → Part → Bool
+misses (Some (Own node step (kind.Run code))) before at = misses_by code before at
+misses told before at = false

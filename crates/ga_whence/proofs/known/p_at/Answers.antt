@@ -1,11 +1,13 @@
-use Rattle.std.proofs.Common.{◌+◌, ◌≤◌, ◌∙◌, sym, arith}
+use Rattle.std.proofs.Common.{◌+◌, ◌≤◌, ◌∙◌, refl, sym, arith}
 use Rattle.ga_event.specs.Told.{steps_of}
-use Rattle.ga_whence.proofs.Leaving.{p_after, p_stays}
+use Rattle.ga_node.specs.declared.place.Place.TheVariants as place
+use Rattle.ga_whence.specs.Origins.{node_after}
+use Rattle.ga_whence.proofs.Holding.{held_old, held_left}
 use Rattle.ga_whence.proofs.known.p_at.Goals as goal
 
 pub returns-in-Some : goal.returns-in-Some
 returns-in-Some c =
-    sym c.looking.invariant.same ∙ p_after c.args.lab.now c.args.node.number c.looking.at c.in-Some.p c.in-Some.ensures.within c.in-Some.ensures.value
+    sym c.looking.invariant.same ∙ held_old c.args.lab.now c.args.node.number c.looking.at c.in-Some.p place.P c.in-Some.ensures.within c.in-Some.ensures.value
 
 pub looking-preserved : goal.looking-preserved
 looking-preserved c =
@@ -14,5 +16,5 @@ looking-preserved c =
     let within : c.looking.at + 1 ≤ steps_of n s.kept = omega (arith, c.looking-test.true, c.steps-steps.ensures.steps) in
     record {
       order = omega (arith, c.looking.invariant.order);
-      same = p_stays s n c.looking.at within c.in_default.ensures.left ∙ c.looking.invariant.same;
+      same = sym (held_left s n c.looking.at (node_after s n (c.looking.at + 1)).p place.P within c.in_default.ensures.left refl) ∙ c.looking.invariant.same;
     }

@@ -49,7 +49,7 @@ telling-preserved c =
       ready = open_on (length c.telling.rows.items) (length c.push-in-Some.new.self.items) (c.in-Some.next.depth + 1) c.telling.todo.items c.pop.new.self.items c.push_below.new.todo.items (below c.args.lab.now row) c.in-Some.next
           c.in-Some.ensures.items less deep c.telling.invariant.ready c.in_ok-push_below.ensures.ready c.in_ok-push_below.ensures.ok;
       most = most;
-      last = c.in_ok-push_below.ensures.walk;
+      last = c.in_ok-push_below.ensures.trail;
     }
 
 pub returns-clause-rows : goal.returns-clause-rows

@@ -11,7 +11,7 @@ invariant-telling l = record {
   tells : Tells l.lab (row_at 0 l.fn.value) l.rows.items (reverse l.todo.items);
   ready : All (IsOpen (length l.rows.items)) (reverse l.todo.items);
   most : length l.rows.items ≤ l.most;
-  last : l.last.walk ≡ standing l.lab l.last.value.node l.last.walk.step;
+  last : l.last.trail ≡ standing l.lab l.last.value.node l.last.trail.step;
 }
 
 -- each row that is told puts at most three values on the stack, and takes one from it

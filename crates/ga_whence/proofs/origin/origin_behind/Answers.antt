@@ -2,7 +2,8 @@ use Rattle.std.proofs.Common.{◌≡◌, ℕ, suc, ◌-◌, ap, ◌∙◌, refl,
 use Rattle.ga_flow.specs.Flow.{Flow}
 use Rattle.ga_flow.specs.Following.{flow_of}
 use Rattle.ga_whence.specs.Origins.{moved_from, value_at, origin_from}
-use Rattle.ga_whence.proofs.Made.{back_on, back_end, told_so}
+use Rattle.ga_lab.specs.Machine.{Standing}
+use Rattle.ga_whence.proofs.Made.{back_on, back_end, told_so, stays_so}
 use Rattle.ga_whence.proofs.origin.origin_behind.Goals as goal
 
 pub steps-preserved : goal.steps-preserved
@@ -17,11 +18,11 @@ steps-preserved c =
     record {
       node = told.ensures.node;
       part = told.ensures.part;
-      walk = c.flow_by_walk-flow.ensures.walk;
-      order = omega (arith, told.ensures.within, c.flow_by_walk-flow.ensures.order);
+      trail = stays_so s node c.flow_by_trail-flow.new.trail told.new.self c.flow_by_trail-flow.ensures.trail told.ensures.trail;
+      order = (let same = ap (λ (z : Standing). z.step) told.ensures.trail in omega (arith, told.ensures.within, c.flow_by_trail-flow.ensures.order, same));
       back = omega (arith, told.ensures.within, c.steps.invariant.back);
       same = told_so s node (value_at node k c.in-Some.from) told.result made refl told.ensures.node told.ensures.same
-          (back_on s node value.step k value.part c.in-Some.from made is (c.in-Some.ensures.value ∙ ap (λ (z : Flow). moved_from z value.part) c.flow_by_walk-flow.ensures.value) c.steps.invariant.same);
+          (back_on s node value.step k value.part c.in-Some.from made is (c.in-Some.ensures.value ∙ ap (λ (z : Flow). moved_from z value.part) c.flow_by_trail-flow.ensures.value) c.steps.invariant.same);
     }
 
 pub returns-in-None-clause-value : goal.returns-in-None-clause-value
@@ -31,5 +32,5 @@ returns-in-None-clause-value c =
     let value = c.steps.value in
     let k : ℕ = value.step - 1 in
     let is : suc k ≡ value.step = omega (arith, c.steps-test.true) in
-    back_end s node value.step k value.part c.told_part-part.result (flow_of c.flow_by_walk-flow.result) (origin_from s node c.args.step c.args.part)
-    is c.flow_by_walk-flow.ensures.value (c.in-None.ensures.value ∙ ap (λ (z : Flow). moved_from z value.part) c.flow_by_walk-flow.ensures.value) c.told_part-part.ensures.value c.steps.invariant.same
+    back_end s node value.step k value.part c.told_part-part.result (flow_of c.flow_by_trail-flow.result) (origin_from s node c.args.step c.args.part)
+    is c.flow_by_trail-flow.ensures.value (c.in-None.ensures.value ∙ ap (λ (z : Flow). moved_from z value.part) c.flow_by_trail-flow.ensures.value) c.told_part-part.ensures.value c.steps.invariant.same

@@ -8,8 +8,8 @@ abbrev pub invariant-steps : goal.invariant-steps
 invariant-steps l = record {
   node : l.value.node ≡ l.node;
   part : IsPart l.value.part;
-  walk : l.walk ≡ standing l.lab l.node l.walk.step;
-  order : l.value.step ≤ l.walk.step;
+  trail : l.trail ≡ standing l.lab l.node l.trail.step;
+  order : l.value.step ≤ l.trail.step;
   back : l.value.step ≤ l.fn.step;
   same : origin_from l.lab l.node l.value.step l.value.part ≡ origin_from l.lab l.node l.fn.step l.fn.part;
 }

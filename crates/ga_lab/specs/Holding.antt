@@ -1,0 +1,15 @@
+-- What a node holds at a place, of those whose old values can be asked for alone (F18A Technology Reference DB001, registers and memory).
+use Rattle.std.specs.Prelude.{ℕ, ◌≡◌, slice_index}
+use Rattle.ga_node.specs.Record.{NodeRecord}
+use Rattle.ga_node.specs.Waits.{wait_of}
+use Rattle.ga_node.specs.declared.place.Place.{Place}
+use Rattle.ga_node.specs.declared.place.Place.TheVariants.{P, A, B, Ram, Wait}
+
+-- a node holds this value at a place: in P, in A, in B or in a cell of RAM, or as the number of its wait; of other places nothing is said
+abbrev pub Holds : NodeRecord → Place → ℕ → Type 0
+Holds node P value = node.p ≡ value
+Holds node A value = node.a ≡ value
+Holds node B value = node.b ≡ value
+Holds node (Ram cell) value = slice_index node.ram cell ≡ value
+Holds node Wait value = node.wait ≡ wait_of value
+Holds node _ value = Unit {0}
