@@ -12,6 +12,7 @@ use std::alloc::Global;
 use std::marker::Model;
 
 mod overwritten;
+mod walking;
 
 /// The entries of one node, the oldest first. The passes among them stand in a list of their own, so that an own event
 /// takes no more memory than it has to.
@@ -372,20 +373,5 @@ impl History {
         drop_pass(&mut self.passes, part);
         let _ = self.entries.pop();
         act
-    }
-
-    /// Writes the values of the entries from the position `to` on and below `from` back to a node, those of the last entry
-    /// first.
-    pub fn walk_back(&self, node: &mut Node, from: usize, to: usize)
-        requires order { to ≤ from }
-        requires within { from ≤ length self.now.items }
-        requires can { CanWalk node.old (drop to (take from self.now.items)) }
-        ensures { node.new ≡ walked node.old (drop to (take from self.now.items)) }
-    {
-        let mut aside = node.set_aside();
-        for entry in self.entries[to..from].iter().rev() {
-            node.write_back(&mut aside, &entry.saved);
-        }
-        node.take_back(aside);
     }
 }

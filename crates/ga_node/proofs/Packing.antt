@@ -6,7 +6,7 @@ use Rattle.std.specs.Prelude.{Some}
 use Rattle.std.specs.List.{slice_get}
 use Rattle.std.proofs.lemmas.List.{length-map, map-append}
 use Rattle.ga_node.specs.State.{IsPlace}
-use Rattle.ga_node.specs.kept.Packed.{code_of, place_by, packed, unpacked, AreWords}
+use Rattle.ga_node.specs.kept.Packed.{code_of, place_by, packed, unpacked, IsWord, AreWords}
 
 -- the number of a kind and a cell, taken apart
 apart : (kind cell code : ℕ) → code ≡ 64 * kind + cell → cell < 64 → place_by (code / 64) (code % 64) ≡ place_by kind cell
@@ -45,13 +45,19 @@ unpacked-packed place value p l =
     ∙ ap (λ z. (z, packed place value % 262144)) (place_back place p)
     ∙ ap (λ z. (place, z)) h.1
 
+-- it is a word of a pair
+pub packed_word : (place : Place) (value : ℕ) → IsPlace place → value < 2 ^ 18 → packed place value < 1152 * 2 ^ 18 → IsWord (packed place value)
+packed_word place value p l small =
+    let code : packed place value / 262144 ≡ code_of place = (halves (code_of place) value (packed place value) refl l).0 in
+    (small, ap (λ z. code_of z.0) (unpacked-packed place value p l) ∙ sym code)
+
 -- a word of a list of words
-pub words_at : (ws : List ℕ) (i : ℕ) → AreWords ws → i < length ws → get_or ws i 0 < 1152 * 2 ^ 18
+pub words_at : (ws : List ℕ) (i : ℕ) → AreWords ws → i < length ws → IsWord (get_or ws i 0)
 words_at [] i a l = absurd (omega (arith, l))
 words_at (w ∷ ws) zero a l = a.0
 words_at (w ∷ ws) (suc i) a l = words_at ws i a.1 (omega (arith, l))
 
-pub words_push : (ws : List ℕ) (w : ℕ) → AreWords ws → w < 1152 * 2 ^ 18 → AreWords (ws ++ w ∷ [])
+pub words_push : (ws : List ℕ) (w : ℕ) → AreWords ws → IsWord w → AreWords (ws ++ w ∷ [])
 words_push [] w a l = (l, tt)
 words_push (x ∷ xs) w a l = (a.0, words_push xs w a.1 l)
 

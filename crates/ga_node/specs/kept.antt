@@ -1,3 +1,4 @@
+pub mod Gathered
 pub mod Saving
 pub mod Packed
 pub mod Table

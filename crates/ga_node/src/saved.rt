@@ -32,6 +32,7 @@ impl Saved {
     ghost use Rattle.std.specs.Prelude.{◌≡◌, ◌<◌, ◌≤◌, ◌^◌, ◌++◌, ◌∷◌, [], length, Some};
     ghost use Rattle.std.specs.List.{slice_get};
     ghost use Rattle.ga_node.specs.State.{IsPlace};
+    ghost use Rattle.ga_node.specs.kept.Packed.{unpacked, IsWord};
 
     /// A list with no pair.
     #[inline(always)]
@@ -77,7 +78,17 @@ impl Saved {
         requires { i < length self.now }
         ensures { slice_get self.now i ≡ Some result }
     {
-        unpack(self.words[i])
+        unpack(self.word(i))
+    }
+
+    /// The word of one of the pairs.
+    #[inline(always)]
+    pub(crate) fn word(&self, i: usize) -> u32
+        requires { i < length self.now }
+        ensures pair { slice_get self.now i ≡ Some (unpacked result) }
+        ensures word { IsWord result }
+    {
+        self.words[i]
     }
 }
 
@@ -170,7 +181,7 @@ fn pack(at: Place, value: u32) -> u32
 
 /// The place and the value of a word.
 #[inline(always)]
-fn unpack(word: u32) -> (Place, u32)
+pub(crate) fn unpack(word: u32) -> (Place, u32)
     requires { word < 1152 * 2 ^ 18 }
     ensures { result ≡ unpacked word }
 {

@@ -1,5 +1,5 @@
 use crate::same::{holds, same};
-use ga_node::{Beside, Kind, Node, NotReady, Place, Saved, Seen, Wait};
+use ga_node::{Beside, Gathered, Kind, Node, NotReady, Place, Saved, Seen, Wait};
 use ga_stacks::{DataStack, ReturnStack};
 use ga_word::Word18;
 use std::process::Abort;
@@ -348,4 +348,28 @@ fn greatest_values(rt: HostRuntime) {
     ] {
         same(&rt, place.greatest(), value);
     }
+}
+
+/// The values that `push` overwrote, and those of `dup` before it: of S, which both overwrote, that of `dup`.
+#[test]
+fn gathers_the_oldest_values(rt: HostRuntime) -> Result<(), Fail> {
+    let mut node = Node::new(0);
+    node.set(Place::T, 5);
+    node.set(Place::S, 6);
+    // dup push . .
+    node.set(Place::I, 0x248b2);
+    node.set(Place::Slot, 0);
+    let (_, duplicated) = node.own(Seen::nobody())?;
+    let (_, pushed) = node.own(Seen::nobody())?;
+    let mut gathered = Gathered::new();
+    gathered.add(&pushed);
+    gathered.add(&duplicated);
+    let mut aside = node.set_aside();
+    gathered.write_back(&mut node, &mut aside);
+    node.take_back(aside);
+    same(&rt, node.d(0), 5);
+    same(&rt, node.d(1), 6);
+    same(&rt, node.r(0), 0x15555);
+    same(&rt, node.get(Place::Slot), 0);
+    Ok(())
 }

@@ -1,5 +1,5 @@
 -- A place and its value in one number.
-use Rattle.std.specs.Prelude.{ℕ, ◌+◌, ◌*◌, ◌/◌, ◌%◌, ◌^◌, ◌<◌, ◌==◌, if◌then◌else◌, List, [], ◌∷◌}
+use Rattle.std.specs.Prelude.{◌≡◌, ℕ, ◌+◌, ◌*◌, ◌/◌, ◌%◌, ◌^◌, ◌<◌, ◌==◌, if◌then◌else◌, List, [], ◌∷◌}
 use Rattle.ga_node.specs.declared.place.Place.{Place}
 use Rattle.ga_node.specs.declared.place.Place.TheVariants.{T, S, DataCell, DataPointer, R, ReturnCell, ReturnPointer, Ram, Rom, A, B, P, I, Slot, Io, Carry, Wait, Stop}
 
@@ -54,7 +54,11 @@ packed place value = code_of place * 2 ^ 18 + value
 abbrev pub unpacked : ℕ → Place × ℕ
 unpacked word = (place_by (word / 2 ^ 18 / 64) (word / 2 ^ 18 % 64), word % 2 ^ 18)
 
--- each word is that of a pair
+-- a word is that of a pair
+abbrev pub IsWord : ℕ → Type 0
+IsWord word = (word < 1152 * 2 ^ 18) × (code_of (unpacked word).0 ≡ word / 2 ^ 18)
+
+-- each of them is
 abbrev pub AreWords : List ℕ → Type 0
 AreWords [] = Unit {0}
-AreWords (w ∷ ws) = (w < 1152 * 2 ^ 18) × AreWords ws
+AreWords (w ∷ ws) = IsWord w × AreWords ws

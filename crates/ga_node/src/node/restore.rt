@@ -12,7 +12,7 @@ impl Node {
 
     /// Writes one old value back, of a node whose wait and stop are set aside.
     #[inline(always)]
-    fn put_back(&mut self, aside: &mut Aside, place: Place, old: u32)
+    pub(crate) fn put_back(&mut self, aside: &mut Aside, place: Place, old: u32)
         requires fit { IsInRange place old }
         requires cleared { IsCleared self.old }
         requires in_range { aside.old.stop ≤ 3 }

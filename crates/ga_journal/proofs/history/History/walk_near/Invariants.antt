@@ -1,7 +1,7 @@
 use Rattle.std.proofs.Common.{◌≡◌, ◌≤◌, ◌+◌, take, drop, length}
 use Rattle.ga_node.specs.State.{with_aside, IsCleared}
 use Rattle.ga_journal.specs.Walked.{walked}
-use Rattle.ga_journal.proofs.history.History.walk_back.Given as goal
+use Rattle.ga_journal.proofs.history.History.walk_near.Given as goal
 
 abbrev pub invariant-loop-entry : goal.invariant-loop-entry
 invariant-loop-entry l = record {

@@ -11,8 +11,8 @@ use Rattle.ga_journal.specs.kept.Stored.{past_in}
 use Rattle.ga_journal.specs.Walked.{walked}
 use Rattle.ga_journal.proofs.Backward.{slice_length, longer, left_before, read_last_left}
 use Rattle.ga_journal.proofs.Walks.{walked_one, can_one, can_later, walked_apart}
-use Rattle.ga_journal.proofs.history.History.walk_back.Goals.{After-into_iter-entry-iterator, In-Some, In-None}
-use Rattle.ga_journal.proofs.history.History.walk_back.Goals as goal
+use Rattle.ga_journal.proofs.history.History.walk_near.Goals.{After-into_iter-entry-iterator, In-Some, In-None}
+use Rattle.ga_journal.proofs.history.History.walk_near.Goals as goal
 
 -- the entries that are read
 slice_is : (c : After-into_iter-entry-iterator) → c.into_iter-entry-iterator.result.iter.rest.now ≡ take (c.args.from - c.args.to) (drop c.args.to c.self.inside.entries.items)

@@ -1,0 +1,57 @@
+//! A node walked back along its history.
+
+use super::History;
+use ga_node::{Gathered, Node};
+
+/// From so many entries on it takes less to gather their values first.
+const FAR: usize = 512;
+
+impl History {
+    ghost use Rattle.std.specs.Prelude.{◌≡◌, ◌≤◌, length, take, drop};
+    ghost use Rattle.ga_journal.specs.Walked.{walked, CanWalk};
+
+    /// Writes the values of the entries from the position `to` on and below `from` back to a node, those of the last entry
+    /// first.
+    pub fn walk_back(&self, node: &mut Node, from: usize, to: usize)
+        requires order { to ≤ from }
+        requires within { from ≤ length self.now.items }
+        requires can { CanWalk node.old (drop to (take from self.now.items)) }
+        ensures { node.new ≡ walked node.old (drop to (take from self.now.items)) }
+    {
+        if from - to < FAR {
+            self.walk_near(node, from, to);
+        } else {
+            self.walk_far(node, from, to);
+        }
+    }
+
+    // The same, entry by entry.
+    fn walk_near(&self, node: &mut Node, from: usize, to: usize)
+        requires order { to ≤ from }
+        requires within { from ≤ length self.now.items }
+        requires can { CanWalk node.old (drop to (take from self.now.items)) }
+        ensures { node.new ≡ walked node.old (drop to (take from self.now.items)) }
+    {
+        let mut aside = node.set_aside();
+        for entry in self.entries[to..from].iter().rev() {
+            node.write_back(&mut aside, &entry.saved);
+        }
+        node.take_back(aside);
+    }
+
+    // The same, of each place the oldest value alone.
+    fn walk_far(&self, node: &mut Node, from: usize, to: usize)
+        requires order { to ≤ from }
+        requires within { from ≤ length self.now.items }
+        requires can { CanWalk node.old (drop to (take from self.now.items)) }
+        ensures { node.new ≡ walked node.old (drop to (take from self.now.items)) }
+    {
+        let mut gathered = Gathered::new();
+        for entry in self.entries[to..from].iter().rev() {
+            gathered.add(&entry.saved);
+        }
+        let mut aside = node.set_aside();
+        gathered.write_back(node, &mut aside);
+        node.take_back(aside);
+    }
+}

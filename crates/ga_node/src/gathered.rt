@@ -1,0 +1,85 @@
+//! The old values of many events, of each place the one that is written back last.
+
+ghost use Rattle.ga_node.specs.kept.Packed.{unpacked, IsWord};
+
+use crate::aside::Aside;
+use crate::node::Node;
+use crate::saved::{Saved, unpack};
+use std::marker::Model;
+
+/// So many codes of places there are: 64 for each of 18 kinds.
+const CODES: usize = 1152;
+
+/// The old values of many events, gathered from the newest event on: of each place the one that is written back last. To write
+/// these back leads to the same node as to write all of them back. A contract sees a list of pairs.
+#[derive(Drop)]
+pub struct Gathered {
+    // At the code of each place one more than the word of its pair, 0 where it has none.
+    words: [u32; CODES],
+}
+
+impl Model for Gathered {
+    ghost use Rattle.std.specs.Prelude.{◌≡◌, List, ℕ, length};
+    ghost use Rattle.ga_node.specs.declared.place.Place.{Place};
+    ghost use Rattle.ga_node.specs.kept.Gathered.{pairs_of, AreAt};
+
+    ghost Value = { List (Place × ℕ) };
+
+    ghost view = { λ g. pairs_of g.words };
+
+    ghost invariant = { λ g. (length g.words ≡ 1152) × AreAt 0 g.words };
+}
+
+impl Gathered {
+    ghost use Rattle.std.specs.Prelude.{◌≡◌, ◌≤◌, []};
+    ghost use Rattle.ga_node.specs.Record.{NodeState};
+    ghost use Rattle.ga_node.specs.State.{with_value, with_aside, restored, IsInRange, AreFit, IsCleared};
+
+    /// No old value.
+    pub fn new() -> Self
+        ensures { result ≡ [] }
+    {
+        Gathered { words: [0; CODES] }
+    }
+
+    // Adds a pair, which is written back last.
+    #[inline(always)]
+    fn put(&mut self, word: u32)
+        requires { IsWord word }
+        ensures back { (node : NodeState) → restored node self.new ≡ with_value (restored node self.old) (unpacked word).0 (unpacked word).1 }
+        ensures fit { AreFit self.old → IsInRange (unpacked word).0 (unpacked word).1 → AreFit self.new }
+    {
+        self.words[(word / 262144) as usize] = word + 1;
+    }
+
+    /// Adds the values that an event overwrote, to be written back behind those that are there.
+    #[inline(always)]
+    pub fn add(&mut self, saved: &Saved)
+        ensures back { (node : NodeState) → restored node self.new ≡ restored (restored node self.old) saved.now }
+        ensures fit { AreFit self.old → AreFit saved.now → AreFit self.new }
+    {
+        let count = saved.len();
+        for k in 0..count {
+            self.put(saved.word(count - 1 - k));
+        }
+    }
+
+    /// Writes them back to a node whose wait and stop are set aside.
+    pub fn write_back(&self, node: &mut Node, aside: &mut Aside)
+        requires fit { AreFit self.now }
+        requires cleared { IsCleared node.old }
+        requires in_range { aside.old.stop ≤ 3 }
+        ensures back { with_aside node.new aside.new ≡ restored (with_aside node.old aside.old) self.now }
+        ensures cleared { IsCleared node.new }
+        ensures in_range { aside.new.stop ≤ 3 }
+    {
+        let words = &self.words;
+        for k in 0..CODES {
+            let word = words[CODES - 1 - k];
+            if word > 0 {
+                let (place, old) = unpack(word - 1);
+                node.put_back(aside, place, old);
+            }
+        }
+    }
+}
