@@ -1,5 +1,5 @@
 -- A step moved a value from where what is told of it says so.
-use Rattle.std.proofs.Common.{◌≡◌, ◌+◌, ◌==◌, ◌/◌, ◌^◌, ℕ, Bool, true, false, cond, List, [], ◌∷◌, ◌++◌, Option, Some, None, refl, sym, ap, ◌∙◌}
+use Rattle.std.proofs.Common.{◌≡◌, ◌≢◌, ◌+◌, ◌-◌, ◌==◌, ◌/◌, ◌^◌, ℕ, suc, Bool, true, false, cond, List, [], ◌∷◌, ◌++◌, Option, Some, None, refl, sym, ap, ◌∙◌, arith}
 use Rattle.std.specs.List.{slice_get}
 use Rattle.ga_slots.specs.declared.op.Op.{Op}
 use Rattle.ga_slots.specs.declared.op.Op.TheVariants as op
@@ -24,8 +24,10 @@ use Rattle.ga_lab.specs.Machine.{State, history_of}
 use Rattle.ga_flow.specs.declared.part.Part.{Part}
 use Rattle.ga_flow.specs.declared.part.Part.TheVariants.{Data, Return, Ram, Rom, A, P, Wait, Stop, Outside}
 use Rattle.ga_flow.specs.Flow.{Flow, Same, Move, PushData, PopData, SetP, SetA, SetI, SetIo, SetRam, SetWait, SetStop, GoOn, StartAgain, top, from, read_moves, write_moves, moves, moves_by, moved_all, own_flow}
-use Rattle.ga_whence.specs.Origins.{node_after, flow_told, moved_from, moved_at}
+use Rattle.ga_whence.specs.declared.value.Value.{Value}
+use Rattle.ga_whence.specs.Origins.{node_after, flow_told, moved_from, moved_at, origin_from, origin_of}
 use Rattle.ga_whence.specs.kept.Moving.{by_op, by_fetch, by_pause, by_kind, moved_by}
+use Rattle.ga_whence.proofs.Made.{back_on}
 use Rattle.ga_whence.proofs.Ran.{WasNext, ran_so}
 
 -- with these moves the value came from there
@@ -199,6 +201,13 @@ told_moves (Some (made.Own m step ran)) before n at start next h = let was = nex
 told_moves (Some (made.Pass writer i reader j word)) before n at start next h = absurd (cc)
 
 -- of a step of a node
-pub moves_as_told : (s : State) (n k : ℕ) (at start : Part) (told : Option Made) → told ≡ slice_get (history_of s n) k → Some start ≡ moved_by told at → Some start ≡ moved_at s n k at
+moves_as_told : (s : State) (n k : ℕ) (at start : Part) (told : Option Made) → told ≡ slice_get (history_of s n) k → Some start ≡ moved_by told at → Some start ≡ moved_at s n k at
 moves_as_told s n k at start told tells is =
     sym (told_moves (slice_get (history_of s n) k) (node_after s n k) n at start (λ m step ran h. ran_so s n k step m ran h) (ap (λ (z : Option Made). moved_by z at) (sym tells) ∙ sym is))
+
+-- so a value that is followed back over it stays the same
+pub one_back : (s : State) (value : Value) (step : ℕ) (at from : Part) (told : Option Made) → step ≢ 0 → told ≡ slice_get (history_of s value.node.number) (step - 1) → Some from ≡ moved_by told at
+    → origin_from s value.node step at ≡ origin_of s value → origin_from s value.node (step - 1) from ≡ origin_of s value
+one_back s value step at from told some tells moved same =
+    let is : suc (step - 1) ≡ step = omega (arith, some) in
+    back_on s value.node step (step - 1) at from (origin_of s value) is (moves_as_told s value.node.number (step - 1) at from told tells moved) same

@@ -1,6 +1,6 @@
 //! What is kept at hand of a node that is followed back: a register that addresses, or a cell of RAM.
 
-ghost use Rattle.std.specs.Prelude.{◌≡◌, ◌<◌, ◌≤◌, ◌+◌, ◌^◌};
+ghost use Rattle.std.specs.Prelude.{◌≡◌, ◌<◌, ◌≤◌, ◌+◌, ◌^◌, ◌&&◌};
 ghost use Rattle.std.specs.List.{slice_get};
 ghost use Rattle.ga_event.specs.Told.{steps_of};
 ghost use Rattle.ga_lab.specs.Machine.{history_of};
@@ -59,6 +59,20 @@ impl Kept {
             },
             _ => false,
         }
+    }
+}
+
+/// Whether a step of which this is told left both A and B as they were, whatever stood in the node.
+#[inline(always)]
+pub(crate) fn both_rest(told: &Option<Made>) -> bool
+    ensures { result ≡ (rests Kept.A told.now && rests Kept.B told.now) }
+{
+    match told {
+        Some(Made::Own { kind, .. }) => match kind {
+            Kind::Run(code) => !Kept::A.is_written_by(*code) && !Kept::B.is_written_by(*code),
+            _ => true,
+        },
+        _ => false,
     }
 }
 

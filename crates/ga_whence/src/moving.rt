@@ -299,9 +299,21 @@ pub(crate) fn moved_by(told: &Option<Made>, part: Part) -> Option<Part>
                 }
             }
             Kind::Fetch => by_fetch(part),
-            Kind::Wait => by_pause(part),
-            Kind::Stop(_) => by_pause(part),
+            Kind::Wait | Kind::Stop(_) => by_pause(part),
         },
+        _ => None,
+    }
+}
+
+/// The same within the data stack: the place from which a step moved a word to this one.
+#[inline(always)]
+pub(crate) fn data_place(told: &Option<Made>, place: u8) -> Option<u8>
+    requires { place < 10 }
+    ensures value { IfSome result (λ from. moved_by told.now (Part.Data place) ≡ Some (Part.Data from)) }
+    ensures within { IfSome result (λ from. from < 10) }
+{
+    match moved_by(told, Part::Data(place)) {
+        Some(Part::Data(from)) => Some(from),
         _ => None,
     }
 }

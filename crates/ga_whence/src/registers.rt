@@ -6,7 +6,7 @@ ghost use Rattle.ga_node.specs.Record.{record_of};
 ghost use Rattle.ga_lab.specs.Machine.{history_of, standing};
 ghost use Rattle.ga_whence.specs.kept.Kept.{AreHeld};
 
-use crate::kept::{Kept, word_before};
+use crate::kept::{Kept, both_rest, word_before};
 use ga_event::Made;
 use ga_grid::NodeId;
 use ga_lab::{Lab, Walk};
@@ -40,6 +40,7 @@ pub(crate) fn registers_in(lab: &Lab, node: NodeId, walk: &Walk<'_>) -> Register
     requires { walk.now ≡ standing lab.now node walk.now.step }
     ensures { AreHeld lab.now node.number walk.now.step result }
 {
+    // These are asked for what their contracts say alone: that the chip has all its nodes, and that so many steps are kept.
     lab.chip().node(node);
     walk.step();
     let there = walk.node();
@@ -74,7 +75,7 @@ pub(crate) fn registers_before(
     requires held { AreHeld lab.now node.number (at + 1) behind }
     ensures { AreHeld lab.now node.number at result }
 {
-    if Kept::A.rests(told) && Kept::B.rests(told) {
+    if both_rest(told) {
         behind
     } else {
         registers_kept(lab, node, at, behind)

@@ -8,9 +8,10 @@ ghost use Rattle.ga_whence.specs.Origins.{origin_of};
 ghost use Rattle.ga_whence.specs.kept.Kept.{AreHeld};
 ghost use Rattle.ga_whence.specs.kept.Moving.{moved_by};
 
-use crate::moving::{misses, moved_by};
+use crate::moving::{data_place, misses, moved_by};
 use crate::registers::{Registers, registers_at, registers_before, registers_in};
 use crate::value::Value;
+use ga_flow::Part;
 use ga_grid::NodeId;
 use ga_lab::{Lab, Walk};
 use std::marker::Model;
@@ -20,6 +21,42 @@ use std::marker::Model;
 struct Followed {
     value: Value,
     registers: Registers,
+}
+
+// A word of the data stack followed back over the steps that moved it within that stack, and where it goes along with A and B, these
+// too. Any other value stays as it is.
+#[inline(always)]
+fn follow_data(lab: &Lab, followed: Followed, along: bool) -> Followed
+    requires part { IsPart followed.value.part }
+    requires held { along ≡ true → AreHeld lab.now followed.value.node.number followed.value.step followed.registers }
+    ensures same { origin_of lab.now result.value ≡ origin_of lab.now followed.value }
+    ensures part { IsPart result.value.part }
+    ensures node { result.value.node ≡ followed.value.node }
+    ensures within { result.value.step ≤ followed.value.step }
+    ensures held { along ≡ true → AreHeld lab.now followed.value.node.number result.value.step result.registers }
+{
+    let Followed {
+        value,
+        mut registers,
+    } = followed;
+    let Part::Data(mut place) = value.part else {
+        return followed;
+    };
+    let Value { node, mut step, .. } = value;
+    'telling: while step > 0 {
+        let told = lab.told(node, step - 1);
+        match data_place(&told, place) {
+            Some(from) => place = from,
+            None => break 'telling,
+        }
+        step -= 1;
+        if along {
+            registers = registers_before(lab, node, step, &told, registers);
+        }
+    }
+    let part = Part::Data(place);
+    let value = Value { node, step, part };
+    Followed { value, registers }
 }
 
 // A value followed back over the steps of its node of which what is told says from where they moved it, and where it goes along with A and
@@ -36,27 +73,28 @@ fn follow(lab: &Lab, value: Value, along: bool, behind: Registers) -> Followed
         → moved_by (slice_get (history_of lab.now value.node.number) (result.value.step - 1)) result.value.part ≡ None }
     ensures held { along ≡ true → AreHeld lab.now value.node.number result.value.step result.registers }
 {
-    let Value {
-        node,
-        mut step,
-        mut part,
-    } = value;
+    let mut value = value;
     let mut registers = behind;
-    'telling: while step > 0 {
-        let told = lab.told(node, step - 1);
-        match moved_by(&told, part) {
-            Some(from) => part = from,
-            None => {
-                let value = Value { node, step, part };
-                return Followed { value, registers };
+    'telling: while value.step > 0 {
+        if let Part::Data(_) = value.part {
+            let followed = follow_data(lab, Followed { value, registers }, along);
+            value = followed.value;
+            registers = followed.registers;
+            if value.step == 0 {
+                break 'telling;
             }
         }
-        step -= 1;
+        let Value { node, step, part } = value;
+        let step = step - 1;
+        let told = lab.told(node, step);
+        match moved_by(&told, part) {
+            Some(part) => value = Value { node, step, part },
+            None => return Followed { value, registers },
+        }
         if along {
             registers = registers_before(lab, node, step, &told, registers);
         }
     }
-    let value = Value { node, step, part };
     Followed { value, registers }
 }
 
