@@ -1,5 +1,5 @@
 -- A store that names another cell leaves a cell as it was.
-use Rattle.std.proofs.Common.{◌≡◌, ◌==◌, ◌||◌, ℕ, Bool, true, false, cond, not, List, [], ◌∷◌, Option, Some, None, refl, sym, ap, ◌∙◌}
+use Rattle.std.proofs.Common.{◌≡◌, ◌+◌, ◌==◌, ◌||◌, ℕ, Bool, true, false, cond, not, List, [], ◌∷◌, Option, Some, None, refl, sym, ap, ◌∙◌}
 use Rattle.std.specs.List.{slice_get}
 use Rattle.std.proofs.lemmas.Bool.{eqb-true, eq-eqb}
 use Rattle.ga_slots.specs.Codes.{op_of}
@@ -19,7 +19,9 @@ use Rattle.ga_flow.specs.declared.part.Part.{Part}
 use Rattle.ga_flow.specs.declared.part.Part.TheVariants.{Ram, A}
 use Rattle.ga_flow.specs.Flow.{Same, Move, PopData, SetA, SetWait, SetStop, GoOn, top, from, write_moves, moves_by, moved_all, own_flow}
 use Rattle.ga_whence.specs.declared.registers.Registers.{Registers}
-use Rattle.ga_whence.specs.Origins.{node_after, flow_told, moved_from, moved_at}
+use Rattle.std.specs.Prelude.{option_map, slice_index}
+use Rattle.ga_whence.specs.Origins.{node_after, flow_told, flow_at, moved_from, moved_at}
+use Rattle.ga_whence.specs.Writes.{is_written, written, written_at}
 use Rattle.ga_whence.specs.kept.Moving.{stored_at, misses_at, misses}
 use Rattle.ga_whence.proofs.Dues.{due_told}
 
@@ -87,14 +89,30 @@ false_true : false ≡ true → ⊥
 false_true h = cc
 
 -- of a step of a node
+misses_flow : (s : State) (n k cell : ℕ) (told : Option Made) (before : Registers) → told ≡ slice_get (history_of s n) k
+    → (node_after s n k).a ≡ before.a → (node_after s n k).b ≡ before.b → misses told before (Ram cell) ≡ true → flow_at s n k (Ram cell) ≡ Same (Ram cell)
+misses_flow s n k cell (Some (made.Own m step (kind.Run code))) before tells a b h =
+    ap (λ (o : Option Made). flow_told o (node_after s n k) n (Ram cell)) (sym tells)
+    ∙ own_misses (node_after s n k) code cell before a b (due_told s n k step m (kind.Run code) (due.Run (op_of code)) (sym tells) refl) h
+misses_flow s n k cell (Some (made.Own m step kind.Fetch)) before tells a b h = absurd (false_true h)
+misses_flow s n k cell (Some (made.Own m step kind.Wait)) before tells a b h = absurd (false_true h)
+misses_flow s n k cell (Some (made.Own m step (kind.Stop code))) before tells a b h = absurd (false_true h)
+misses_flow s n k cell (Some (made.Pass writer i reader j word)) before tells a b h = absurd (false_true h)
+misses_flow s n k cell None before tells a b h = absurd (false_true h)
+
 pub misses_stays : (s : State) (n k : ℕ) (at : Part) (told : Option Made) (before : Registers) → told ≡ slice_get (history_of s n) k
     → (node_after s n k).a ≡ before.a → (node_after s n k).b ≡ before.b → misses told before at ≡ true → moved_at s n k at ≡ Some at
-misses_stays s n k (Ram cell) (Some (made.Own m step (kind.Run code))) before tells a b h =
-    ap (λ (o : Option Made). moved_from (flow_told o (node_after s n k) n (Ram cell)) (Ram cell)) (sym tells)
-    ∙ ap (λ z. moved_from z (Ram cell)) (own_misses (node_after s n k) code cell before a b (due_told s n k step m (kind.Run code) (due.Run (op_of code)) (sym tells) refl) h)
+misses_stays s n k (Ram cell) told before tells a b h = ap (λ z. moved_from z (Ram cell)) (misses_flow s n k cell told before tells a b h)
 misses_stays s n k at (Some (made.Own m step (kind.Run code))) before tells a b h = absurd (false_true h)
 misses_stays s n k at (Some (made.Own m step kind.Fetch)) before tells a b h = absurd (false_true h)
 misses_stays s n k at (Some (made.Own m step kind.Wait)) before tells a b h = absurd (false_true h)
 misses_stays s n k at (Some (made.Own m step (kind.Stop code))) before tells a b h = absurd (false_true h)
 misses_stays s n k at (Some (made.Pass writer i reader j word)) before tells a b h = absurd (false_true h)
 misses_stays s n k at None before tells a b h = absurd (false_true h)
+
+-- and the cell was not written
+pub misses_writes : (s : State) (n k cell : ℕ) (told : Option Made) (before : Registers) → told ≡ slice_get (history_of s n) k
+    → (node_after s n k).a ≡ before.a → (node_after s n k).b ≡ before.b → misses told before (Ram cell) ≡ true → None ≡ written_at s n cell k
+misses_writes s n k cell told before tells a b h =
+    ap (λ (z : Bool). cond z (option_map (written (k + 1) (slice_index (node_after s n (k + 1)).ram cell)) (slice_get (history_of s n) k)) None)
+    (sym (ap is_written (misses_flow s n k cell told before tells a b h)))

@@ -11,6 +11,7 @@ ghost use Rattle.ga_whence.specs.kept.Searching.{IsReached};
 ghost use Rattle.ga_whence.specs.kept.Stores.{ran_store};
 
 use crate::kept::{Kept, word_before, word_behind};
+use crate::moving::misses;
 use crate::origin::{flow_by_trail, is_cell};
 use crate::registers::{Registers, registers_before, registers_in};
 use crate::trail::Trail;
@@ -110,6 +111,52 @@ fn back_to_store(lab: &Lab, node: NodeId, cell: u8, from: Reached) -> Reached
     }
 }
 
+// Goes back over a step that ran a store by A or B which named another cell.
+fn back_past_store(lab: &Lab, node: NodeId, cell: u8, from: Reached) -> Option<Reached>
+    requires cell { cell < 64 }
+    requires held { IsReached lab.now node.number cell from }
+    ensures held { IfSome result (λ before. IsReached lab.now node.number cell before) }
+    ensures same { IfSome result (λ before. newest_written lab.now node.number cell before.step
+        ≡ newest_written lab.now node.number cell from.step) }
+    ensures step { IfSome result (λ before. before.step + 1 ≡ from.step) }
+{
+    let Reached {
+        step,
+        registers,
+        word,
+    } = from;
+    if step == 0 {
+        return None;
+    }
+    let step = step - 1;
+    let told = lab.told(node, step);
+    let registers = registers_before(lab, node, step, &told, registers);
+    if !misses(&told, registers, Part::Ram(cell)) {
+        return None;
+    }
+    let word = word_before(lab, node, step, Kept::Ram(cell), word);
+    Some(Reached {
+        step,
+        registers,
+        word,
+    })
+}
+
+// Goes back up to the newest step that ran a store, but for those by A or B that named another cell.
+fn back_to_write(lab: &Lab, node: NodeId, cell: u8, from: Reached) -> Reached
+    requires cell { cell < 64 }
+    requires held { IsReached lab.now node.number cell from }
+    ensures held { IsReached lab.now node.number cell result }
+    ensures same { newest_written lab.now node.number cell result.step ≡ newest_written lab.now node.number cell from.step }
+    ensures within { result.step ≤ from.step }
+{
+    let mut reached = back_to_store(lab, node, cell, from);
+    'missing: while let Some(before) = back_past_store(lab, node, cell, reached) {
+        reached = back_to_store(lab, node, cell, before);
+    }
+    reached
+}
+
 /// The steps of a node that wrote a cell of its RAM, the newest first. A contract sees the machine, the node, the cell, and how many
 /// steps are still to be looked at.
 #[derive(Drop)]
@@ -183,14 +230,14 @@ impl<'l> CellWrites<'l> {
         self.reached.step
     }
 
-    // Goes back up to the newest step that ran a store.
+    // Goes back up to the newest step that may have written the cell.
     fn seek(&mut self)
         ensures newest { newest_written self.old.machine self.old.node.number self.old.cell self.new.step
             ≡ newest_written self.old.machine self.old.node.number self.old.cell self.old.step }
         ensures within { self.new.step ≤ self.old.step }
         ensures same { self.new ≡ search self.old.machine self.old.node self.old.cell self.new.step }
     {
-        self.reached = back_to_store(self.lab, self.node, self.cell, self.reached);
+        self.reached = back_to_write(self.lab, self.node, self.cell, self.reached);
     }
 
     // Goes back over one step, and tells of it where it wrote the cell.
