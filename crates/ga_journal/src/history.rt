@@ -241,15 +241,16 @@ impl History {
         self.grow_entries()
     }
 
-    // Makes the growth for an own event, whether there is room or not.
+    // Makes the growth for an own event where there is no room: fourfold, since a list's entries are copied at each growth.
     #[inline(never)]
     fn grow_entries(&mut self) -> Result<(), JournalFault>
+        requires { ¬ IsTrue self.old.room.entry }
         ensures same { self.new.items ≡ self.old.items }
         ensures room { OnOk result (IsTrue self.new.room.entry) }
-        ensures full { OnErr result (¬ IsTrue self.old.room.entry) }
         ensures err { IfErr result (λ fault. fault ≡ JournalFault.Memory) }
     {
-        match self.entries.reserve(1) {
+        let more = self.entries.len().saturating_mul(3).saturating_add(16);
+        match self.entries.reserve(more) {
             Ok(()) => Ok(()),
             Err(_) => Err(JournalFault::Memory),
         }
