@@ -4,7 +4,7 @@ use Rattle.std.proofs.Common.{◌≡◌, ℕ, zero, suc, ◌+◌, ◌*◌, ◌/�
 use Rattle.std.proofs.lemmas.Bool.Decides.{nat_tests}
 use Rattle.ga_word.specs.Word.{hex_digit, hex6_of}
 use Rattle.ga_image.specs.Spelling.{hex2_of}
-use Rattle.ga_console.specs.declared.text.TheConstants.{DECIMAL, HEXADECIMAL}
+use Rattle.ga_console.specs.declared.text.TheConstants.{DECIMAL, HEXADECIMAL, NAMES}
 
 -- so many pairs of a table are these
 abbrev pairs : List ℕ → (ℕ → ℕ) → (ℕ → ℕ) → ℕ → Bool
@@ -46,3 +46,26 @@ three_bytes n below =
     let e : n % 256 / 16 ^ 1 % 16 ≡ n / 16 ^ 1 % 16 = omega arith in
     let f : n % 256 / 16 ^ 0 % 16 ≡ n / 16 ^ 0 % 16 = omega arith in
     rw (a, b, c, d, e, f) refl
+
+-- so many names of the table of names are these
+abbrev names : ℕ → Bool
+names zero = true
+names (suc n) = (get_or NAMES (3 * n) 0 == 48 + n / 18 && (get_or NAMES (3 * n + 1) 0 == 48 + n % 18 / 10 && get_or NAMES (3 * n + 2) 0 == 48 + n % 18 % 10)) && names n
+
+name_at : (count n : ℕ) → names count ≡ true → n < count
+    → (get_or NAMES (3 * n) 0 ≡ 48 + n / 18) × (get_or NAMES (3 * n + 1) 0 ≡ 48 + n % 18 / 10) × (get_or NAMES (3 * n + 2) 0 ≡ 48 + n % 18 % 10)
+name_at zero n all below = absurd (omega arith)
+name_at (suc count) n all below =
+    let (here, rest) = both (get_or NAMES (3 * count) 0 == 48 + count / 18 && (get_or NAMES (3 * count + 1) 0 == 48 + count % 18 / 10 && get_or NAMES (3 * count + 2) 0 == 48 + count % 18 % 10)) (names count) all in
+    elim (eq-zero-or-pos (count - n)) [
+      | inl z ↦ let e : n ≡ count = omega arith in
+          let (one, more) = both (get_or NAMES (3 * count) 0 == 48 + count / 18) (get_or NAMES (3 * count + 1) 0 == 48 + count % 18 / 10 && get_or NAMES (3 * count + 2) 0 == 48 + count % 18 % 10) here in
+          let (two, three) = both (get_or NAMES (3 * count + 1) 0 == 48 + count % 18 / 10) (get_or NAMES (3 * count + 2) 0 == 48 + count % 18 % 10) more in
+          rw e (same _ _ one, same _ _ two, same _ _ three)
+      | inr g ↦ name_at count n rest (omega arith)
+    ]
+
+-- the digits of a node's name: its row, and two of its column
+pub name_triple : (n : ℕ) → n < 144
+    → (get_or NAMES (3 * n) 0 ≡ 48 + n / 18) × (get_or NAMES (3 * n + 1) 0 ≡ 48 + n % 18 / 10) × (get_or NAMES (3 * n + 2) 0 ≡ 48 + n % 18 % 10)
+name_triple n below = name_at 144 n refl below

@@ -20,7 +20,7 @@ pub fn step<W: Write>(
     ensures { Says result (λ text. Does lab.old (Step node) text lab.new)
         (W.contents writer.old) output.old (W.contents writer.new) output.new }
 {
-    match lab.step(node) {
+    match lab.step_inlined(node) {
         Ok(made) => { output.say_made(writer, made) }
         Err(fault) => output.say(writer, refusal(fault)),
     }

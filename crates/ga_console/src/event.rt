@@ -62,6 +62,22 @@ fn push_kind<const ROOM: usize>(out: &mut ArrayVec<u8, ROOM>, kind: Kind)
     ensures text { out.new.items ≡ out.old.items ++ (kind_text kind ++ codes "\n") }
 {
     match kind {
+        Kind::Run(code) => {
+            let [high, low] = hex2(code);
+            push_text(out, &[b' ', b'r', b'u', b'n', b' ', high, low, b'\n']);
+        }
+        Kind::Fetch => push_text(out, b" fetch\n"),
+        other => push_end(out, other),
+    }
+}
+
+/// The same of a wait or a stop.
+#[inline(never)]
+fn push_end<const ROOM: usize>(out: &mut ArrayVec<u8, ROOM>, kind: Kind)
+    requires { array_vec_len out.old + KIND_ROOM ≤ ROOM }
+    ensures text { out.new.items ≡ out.old.items ++ (kind_text kind ++ codes "\n") }
+{
+    match kind {
         Kind::Fetch => push_text(out, b" fetch\n"),
         Kind::Run(code) => {
             let [high, low] = hex2(code);
