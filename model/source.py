@@ -135,10 +135,10 @@ def warnings(words, layout):
         literal, before = before, None
         op = OPCODES[what[0]] if kind in ("op", "ahead", "back") else "unext" if kind == "unext" else None
         stored = {"!b": b, "!": a, "!+": a}.get(op)
-        if kind == "op" and stored is not None and stored % 0x200 < 0x100:
-            mirrored = stored % 0x100 & ~0x40
-            if mirrored in lines:
-                yield f"line {line}: warning: this writes {stored:03x}, which holds code of line {lines[mirrored]}"
+        if kind == "op" and stored is not None and stored % 0x200 < 0x80:
+            cell = stored % 0x40
+            if cell in lines:
+                yield f"line {line}: warning: this writes {cell:03x}, which holds code of line {lines[cell]}"
         if kind == "literal":
             before = layout.value(what[0])
         elif kind in ("fill", "org", "bit", "cell") or kind == "mark" and isinstance(what[0], int):

@@ -13,7 +13,7 @@ use std::alloc::{AllocError, Global};
 pub struct Store {
     /// The line of the store.
     pub line: u32,
-    /// The address that it writes.
+    /// The cell that it writes.
     pub address: u32,
     /// The line of the code.
     pub code_line: u32,
@@ -103,10 +103,11 @@ pub fn stores_over_code(alloc: Global, program: &Program<'_>) -> Result<Vec<Stor
         if let Request::Put(Item::Opcode(op)) = asked.request {
             if let Some(address) = known.stored_at(op) {
                 let code_line = code.get(index_of(address)).copied().unwrap_or(0);
-                if code_line != 0 && address % 512 < 256 {
+                // (A store to ROM changes nothing.)
+                if code_line != 0 && address % 512 < 128 {
                     stores.push(Store {
                         line: asked.line,
-                        address,
+                        address: address % 64,
                         code_line,
                     })?;
                 }

@@ -135,7 +135,7 @@ static WARNED: [Row; 10] = [
     },
     Row {
         source: b"node 000 0x40 b! !b",
-        errors: b"ga144: line 1: warning: this writes 040, which holds code of line 1\n",
+        errors: b"ga144: line 1: warning: this writes 000, which holds code of line 1\n",
     },
 ];
 
