@@ -272,10 +272,11 @@ fn nothing_is_read_behind_a_refused_image(rt: HostRuntime) {
     }
 }
 
-/// Hands out a line at each read, and notes how much was handed on before it.
+/// Hands out a line at each read, with so many bytes of the next, and notes how much was handed on before it.
 #[derive(Drop)]
 struct Watching<'a> {
     left: &'static [u8],
+    ahead: usize,
     written: &'a Cell<usize>,
     seen: ArrayVec<usize, 8>,
 }
@@ -285,7 +286,10 @@ impl<'a> Read for Watching<'a> {
         let _fits = self.seen.try_push(self.written.get());
         let line = self.left.iter().position(|byte| *byte == b'\n');
         let whole = line.map_or(self.left.len(), |end| end.saturating_add(1));
-        let count = whole.min(buf.len()).min(self.left.len());
+        let count = whole
+            .saturating_add(self.ahead)
+            .min(buf.len())
+            .min(self.left.len());
         let (front, rest) = self.left.split_at(count);
         buf[..count].copy_from_slice(front);
         self.left = rest;
@@ -312,11 +316,12 @@ impl<'a> Write for Counting<'a> {
     }
 }
 
-#[test]
-fn answers_are_written_before_more_is_read(rt: HostRuntime) {
+/// What is answered to a whole line is out before more is read, also where a part of the next line is there.
+fn is_written_before(rt: &impl Abort, alloc: Global, ahead: usize) {
     let written = Cell::new(0);
     let mut reader = Watching {
         left: b"ga144 1\nend\nback\nback\n",
+        ahead,
         written: &written,
         seen: ArrayVec::new(),
     };
@@ -324,8 +329,15 @@ fn answers_are_written_before_more_is_read(rt: HostRuntime) {
         taken: 0,
         written: &written,
     };
-    let status = session(rt.alloc(), &mut reader, &mut writer, 9);
-    ends(&rt, status, Status::Done);
+    let status = session(alloc, &mut reader, &mut writer, 9);
+    ends(rt, status, Status::Done);
     // Two lines of the image, then `ready`, then an answer each time.
-    holds(&rt, reader.seen.as_slice() == [0, 0, 6, 17, 28].as_slice());
+    holds(rt, reader.seen.as_slice() == [0, 0, 6, 17, 28].as_slice());
+}
+
+#[test]
+fn answers_are_written_before_more_is_read(rt: HostRuntime) {
+    for ahead in [0, 1, 2] {
+        is_written_before(&rt, rt.alloc(), ahead);
+    }
 }
