@@ -5,7 +5,8 @@
 //! `back`. `ga_bench image NODES ROUNDS` reads an image of each format that gives all of so many nodes, and prints the second.
 //! `ga_bench lab NODES STEPS` steps the first nodes of a lab in turn, takes all steps back, and makes them again. `ga_bench
 //! rewind EVENTS ROUNDS` makes rollbacks that remove three entries where so many events are kept, and `ga_bench foretell EVENTS
-//! ROUNDS` asks what they would take. `ga_bench rewind-all EVENTS` makes one that removes so many, and `ga_bench rewind-looks
+//! ROUNDS` asks what they would take. `ga_bench rewind-beside COUNT ROUNDS` and `ga_bench foretell-beside COUNT ROUNDS` do so where
+//! the nodes rolled back, and a neighbour that looked, keep four times so many events each. `ga_bench rewind-all EVENTS` makes one that removes so many, and `ga_bench rewind-looks
 //! LOOKS ROUNDS` rollbacks of a wait that take so many looks of a neighbour along. The best of the rounds counts.
 #![tactic(auto)]
 
@@ -17,7 +18,7 @@ mod rewinds;
 use events::time_events;
 use images::time_images;
 use labs::time_lab;
-use rewinds::{time_large, time_looks, time_small};
+use rewinds::{time_beside, time_large, time_looks, time_small};
 use std::{env, io};
 
 fn number(word: Option<&String>, otherwise: u32) -> u32 {
@@ -100,6 +101,12 @@ fn main(rt: HostRuntime) -> io::Result<()> {
         "rewind" | "foretell" => {
             let count = number(words.get(2), 1_000_000);
             let timed = time_small(&rt, count, number(words.get(3), 200), what == "rewind")?;
+            print_rewind(&rt, timed)
+        }
+        "rewind-beside" | "foretell-beside" => {
+            let count = number(words.get(2), 250_000);
+            let rounds = number(words.get(3), 200);
+            let timed = time_beside(&rt, count, rounds, what == "rewind-beside")?;
             print_rewind(&rt, timed)
         }
         "rewind-all" => {

@@ -158,3 +158,69 @@ pub fn time_looks(rt: &HostRuntime, looks: u32, rounds: u32) -> io::Result<Optio
     }
     Ok(Some((best, removed)))
 }
+
+/// `@p push . .`, the count behind it, and `. . . unext`: four events for each of the count and four more. Then what [`SENDER`] does.
+const LATE_SENDER: [u32; 8] = [0x48b2, 0, 0x2c9b4, 0x4b12, 0x1d5, 0x2a, 0x89b2, 0];
+
+/// The same, and then a word is taken from the right.
+const LATE_TAKER: [u32; 8] = [0x48b2, 0, 0x2c9b4, 0x4b02, 0x1d5, 0, 0, 0];
+
+/// Puts eight words from cell 0 of a node on, the count into cell 1, and P to cell 0.
+fn load_late(chip: &mut Chip, node: NodeId, words: [u32; 8], count: u32) {
+    let at = chip.node_mut(node);
+    at.set(Place::P, 0);
+    for cell in 0..8u8 {
+        at.set(
+            Place::Ram(cell),
+            Word18::truncated(words[cell as usize]).get(),
+        );
+    }
+    at.set(Place::Ram(1), Word18::truncated(count).get());
+}
+
+/// A lab in which node 100 looked at its neighbours again and again, and then node 000 and node 001 made own events, each of the three
+/// so many times four events, before node 000 sent a word to node 001.
+fn passed_late(alloc: Global, count: u32) -> Option<Lab> {
+    let mut chip = Chip::new(alloc).ok()?;
+    load_late(&mut chip, NodeId::new(0), LATE_SENDER, count);
+    load_late(&mut chip, NodeId::new(1), LATE_TAKER, count);
+    load(&mut chip, NodeId::new(18), LOOKER);
+    let mut lab = Lab::new(alloc, chip, u32::MAX).ok()?;
+    let own = count.saturating_mul(4);
+    let _looked = steps(&mut lab, NodeId::new(18), own);
+    let _sent = steps(&mut lab, NodeId::new(0), own.saturating_add(17));
+    let _took = steps(&mut lab, NodeId::new(1), own.saturating_add(15));
+    Some(lab)
+}
+
+/// The nanoseconds of the best of some rounds of one rollback that removes three entries of two nodes, each of which keeps so many
+/// times four own events, as a neighbour of theirs does that looked, and the number of events removed; none without memory. Where it
+/// is not done, it is asked about.
+pub fn time_beside(
+    rt: &HostRuntime,
+    count: u32,
+    rounds: u32,
+    is_done: bool,
+) -> io::Result<Option<(u128, u32)>> {
+    let mut lab = match passed_late(rt.alloc(), count) {
+        Some(lab) => lab,
+        None => return Ok(None),
+    };
+    let node = NodeId::new(0);
+    let wait = lab.steps(node).saturating_sub(1);
+    let mut best = u128::MAX;
+    let mut removed = 0u32;
+    for _ in 0..rounds {
+        let start = Instant::now(rt)?;
+        if is_done {
+            removed = lab.rewind(node, wait).unwrap_or(0);
+        } else if let Ok(going) = lab.would_rewind(node, wait) {
+            removed = going.events;
+        }
+        best = best.min(start.elapsed(rt)?.as_nanos());
+        if is_done {
+            let _made = steps(&mut lab, node, 2);
+        }
+    }
+    Ok(Some((best, removed)))
+}
