@@ -1,5 +1,0 @@
-//! The tests of what a journal keeps.
-#![tactic(auto)]
-
-#[cfg(test)]
-mod journal;

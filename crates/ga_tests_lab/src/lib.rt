@@ -1,7 +1,0 @@
-//! The tests of the lab.
-#![tactic(auto)]
-
-#[cfg(test)]
-mod asserts;
-#[cfg(test)]
-mod lab;

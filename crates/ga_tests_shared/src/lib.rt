@@ -1,5 +1,0 @@
-//! The tests of the shared chip.
-#![tactic(auto)]
-
-#[cfg(test)]
-mod shared;
