@@ -1,0 +1,111 @@
+-- Where all that can be made is a beginning of a list in another order, the list has no race.
+use Rattle.std.proofs.Common.{◌≡◌, ℕ, Bool, true, false, cond, inl, inr, List, [], ◌∷◌, ◌++◌, Option, Some, None, IsSome, refl, sym, ◌∙◌, ap, subst}
+use Rattle.std.specs.List.{list_any}
+use Rattle.std.proofs.lemmas.Bool.{cases_Bool}
+use Rattle.std.proofs.lemmas.Option.{same_Some}
+use Rattle.ga_node.specs.Record.{NodeRecord}
+use Rattle.ga_event.specs.declared.event.Event.{Event}
+use Rattle.ga_event.specs.Touches.{nodes_of, touches}
+use Rattle.ga_event.specs.Apply.{after, replay}
+use Rattle.ga_causal.specs.Words.{word_of, account_read}
+use Rattle.ga_causal.proofs.Shuffles.{touched_of}
+use Rattle.ga_races.specs.Orders.{CanBe, AreOrders, IsRace, HasNoRace}
+use Rattle.ga_races.proofs.Frees.{replay_more, first_of, can_still, apart-sym, any_of, apart_of}
+use Rattle.ga_races.proofs.Orders.{order_replay, order_read, Completed, is_some_of, can_behind}
+
+-- what stands behind a list
+
+pub replay_into : (fs ys : List Event) (c now : List NodeRecord) → replay c fs ≡ Some now → replay c (fs ++ ys) ≡ replay now ys
+replay_into [] ys c now h = ap (λ d. replay d ys) (same_Some c now h)
+replay_into (e ∷ fs) ys c now h = let p = first_of c e fs now h in replay_more c e (fs ++ ys) p.can ∙ replay_into fs ys (after c e).0 now p.then
+
+pub read_into : (n : ℕ) (fs ys : List Event) (c now : List NodeRecord) → replay c fs ≡ Some now → account_read n c (fs ++ ys) ≡ account_read n c fs ++ account_read n now ys
+read_into n [] ys c now h = ap (λ d. account_read n d ys) (same_Some c now h)
+read_into n (e ∷ fs) ys c now h =
+    let p = first_of c e fs now h in
+    go (touches e n) (read_into n fs ys (after c e).0 now p.then)
+  where
+    go : (b : Bool) → account_read n (after c e).0 (fs ++ ys) ≡ account_read n (after c e).0 fs ++ account_read n now ys
+        → cond b ((e, word_of c e) ∷ account_read n (after c e).0 (fs ++ ys)) (account_read n (after c e).0 (fs ++ ys)) ≡ cond b ((e, word_of c e) ∷ account_read n (after c e).0 fs) (account_read n (after c e).0 fs) ++ account_read n now ys
+    go true k = ap (λ (z : List (Event × Option ℕ)). (e, word_of c e) ∷ z) k
+    go false k = k
+
+pub read_touched : (n : ℕ) (c : List NodeRecord) (e : Event) (es : List Event) → touches e n ≡ true → account_read n c (e ∷ es) ≡ (e, word_of c e) ∷ account_read n (after c e).0 es
+read_touched n c e es t = ap (λ (b : Bool). cond b ((e, word_of c e) ∷ account_read n (after c e).0 es) (account_read n (after c e).0 es)) t
+
+pub read_past : (n : ℕ) (c : List NodeRecord) (e : Event) (es : List Event) → touches e n ≡ false → account_read n c (e ∷ es) ≡ account_read n (after c e).0 es
+read_past n c e es t = ap (λ (b : Bool). cond b ((e, word_of c e) ∷ account_read n (after c e).0 es) (account_read n (after c e).0 es)) t
+
+-- lists that begin alike go on alike
+abbrev pub Entry : Type 0
+Entry = Event × Option ℕ
+
+first_entry : List Entry → Option Entry
+first_entry [] = None
+first_entry (x ∷ xs) = Some x
+
+others_of : List Entry → List Entry
+others_of [] = []
+others_of (x ∷ xs) = xs
+
+pub next_same : (xs : List Entry) (a b : Entry) (ys zs : List Entry) → xs ++ a ∷ ys ≡ xs ++ b ∷ zs → a ≡ b
+unfolding first_entry others_of
+next_same [] a b ys zs h = same_Some a b (ap first_entry h)
+next_same (x ∷ xs) a b ys zs h = next_same xs a b ys zs (ap others_of h)
+
+-- of two ways to go on, both of which lead to the one list in another order, the node's next entry is the same
+next_entry : (n : ℕ) (c now : List NodeRecord) (es before ys zs : List Event) (a b : Entry) (us vs : List Entry) → replay c before ≡ Some now
+    → AreOrders c es (before ++ ys) → AreOrders c es (before ++ zs) → account_read n now ys ≡ a ∷ us → account_read n now zs ≡ b ∷ vs → a ≡ b
+next_entry n c now es before ys zs a b us vs led h k p q =
+    next_same (account_read n c before) a b us vs
+    (ap (λ (z : List Entry). account_read n c before ++ z) (sym p) ∙ sym (read_into n before ys c now led) ∙ sym (order_read n c es (before ++ ys) h)
+    ∙ order_read n c es (before ++ zs) k ∙ read_into n before zs c now led ∙ ap (λ (z : List Entry). account_read n c before ++ z) q)
+
+abbrev AllComplete : List NodeRecord → List Event → Type 0
+AllComplete c es = (fs : List Event) → IsSome (replay c fs) → Completed c es fs
+
+-- that goes on in a second way
+again : (fs ys others : List Event) → fs ++ (ys ++ others) ≡ (fs ++ ys) ++ others
+again [] ys others = refl
+again (e ∷ fs) ys others = ap (λ (z : List Event). e ∷ z) (again fs ys others)
+
+go_on : (c now last : List NodeRecord) (es before ys : List Event) → AllComplete c es → replay c before ≡ Some now → replay now ys ≡ Some last → (others : List Event) × AreOrders c es (before ++ (ys ++ others))
+go_on c now last es before ys all led h =
+    let k = all (before ++ ys) (is_some_of (replay c (before ++ ys)) last (replay_into before ys c now led ∙ h)) in
+    (k.0, subst (λ (z : List Event). AreOrders c es z) (sym (again before ys k.0)) k.1)
+
+module _ (c last : List NodeRecord) (es : List Event) (led : replay c es ≡ Some last) (all : AllComplete c es) (step other : Event) (r : IsRace c es step other) where
+  can_step : CanBe r.now step
+  can_step = can_behind r.before c r.now step r.later r.led (is_some_of (replay c (r.before ++ step ∷ r.later)) last (sym (order_replay c es (r.before ++ step ∷ r.later) r.order) ∙ led))
+
+  in_common : (n : ℕ) → touches step n ≡ true → touches other n ≡ true → ⊥
+  in_common n t u =
+      let k = go_on c r.now (after r.now other).0 es r.before (other ∷ []) all r.led (replay_more r.now other [] r.can) in
+      r.differ (ap (λ (z : Entry). z.0) (next_entry n c r.now es r.before (step ∷ r.later) (other ∷ k.0) _ _ _ _ r.led r.order k.1 (read_touched n r.now step r.later t) (read_touched n r.now other k.0 u)))
+
+  same_first : ((n : ℕ) → touches step n ≡ true → touches other n ≡ false) → word_of (after r.now other).0 step ≡ word_of r.now step
+  same_first apart =
+      let t = touched_of step in
+      let k = go_on c r.now (after (after r.now other).0 step).0 es r.before (other ∷ step ∷ []) all r.led
+      (replay_more r.now other (step ∷ []) r.can ∙ replay_more (after r.now other).0 step [] (can_still r.now step other apart r.can can_step)) in
+      ap (λ (z : Entry). z.1) (next_entry t.node c r.now es r.before (other ∷ step ∷ k.0) (step ∷ r.later) _ _ _ _ r.led k.1 r.order
+      (read_past t.node r.now other (step ∷ k.0) (apart t.node t.is) ∙ read_touched t.node (after r.now other).0 step k.0 t.is) (read_touched t.node r.now step r.later t.is))
+
+  same_second : ((n : ℕ) → touches step n ≡ true → touches other n ≡ false) → word_of (after r.now step).0 other ≡ word_of r.now other
+  same_second apart =
+      let back = apart-sym step other apart in
+      let t = touched_of other in
+      let k = go_on c r.now (after (after r.now step).0 other).0 es r.before (step ∷ other ∷ []) all r.led
+      (replay_more r.now step (other ∷ []) can_step ∙ replay_more (after r.now step).0 other [] (can_still r.now other step back can_step r.can)) in
+      let m = go_on c r.now (after r.now other).0 es r.before (other ∷ []) all r.led (replay_more r.now other [] r.can) in
+      ap (λ (z : Entry). z.1) (next_entry t.node c r.now es r.before (step ∷ other ∷ k.0) (other ∷ m.0) _ _ _ _ r.led k.1 m.1
+      (read_past t.node r.now step (other ∷ k.0) (back t.node t.is) ∙ read_touched t.node (after r.now step).0 other k.0 t.is) (read_touched t.node r.now other m.0 t.is))
+
+  no_such : ⊥
+  no_such = elim (cases_Bool (list_any (touches step) (nodes_of other))) [
+    | inl t ↦ (let k = any_of (touches step) (nodes_of other) t in in_common k.node k.marked k.listed)
+    | inr none ↦ (let apart = apart_of step other none in r.bound (record { apart = apart; first = same_first apart; second = same_second apart }))
+  ]
+
+pub no_race_of : (c last : List NodeRecord) (es : List Event) → replay c es ≡ Some last → AllComplete c es → HasNoRace c es
+no_race_of c last es led all step other r = no_such c last es led all step other r

@@ -1,0 +1,168 @@
+-- Two events that can both be made: one actor makes one event, and two that touch a common node are passes to one reader.
+use Rattle.std.proofs.Common.{◌≡◌, ◌≢◌, ℕ, ◌==◌, Bool, true, false, ◌||◌, ◌&&◌, ◌⊎◌, inl, inr, List, Option, Some, None, refl, sym, ◌∙◌, ap, subst, true≢false}
+use Rattle.std.proofs.lemmas.Bool.{or_cases, both_ways, and_parts, eqb-true}
+use Rattle.std.proofs.lemmas.Option.{same_Some}
+use Rattle.ga_ports.specs.declared.side.Side.{Side}
+use Rattle.ga_ports.specs.declared.side.Side.TheVariants.{Right, Down, Left, Up}
+use Rattle.ga_ports.specs.Address.{is_side}
+use Rattle.ga_node.specs.Record.{NodeRecord}
+use Rattle.ga_node.specs.Table.{refused_by}
+use Rattle.ga_node.specs.declared.wait.Wait.{Wait}
+use Rattle.ga_node.specs.declared.wait.Wait.TheVariants.{Nothing, Fetch, Read, Write}
+use Rattle.ga_grid.specs.declared.node_id.NodeId.{NodeId}
+use Rattle.ga_grid.specs.Grid.{neighbour_of}
+use Rattle.ga_grid.specs.Chip.{record_at}
+use Rattle.ga_grid.proofs.NodeIds.{NodeId-same}
+use Rattle.ga_grid.proofs.Links.{neighbour_of-back}
+use Rattle.ga_event.specs.declared.event.Event.{Event}
+use Rattle.ga_event.specs.declared.event.Event.TheVariants.{Own, Pass}
+use Rattle.ga_event.specs.Touches.{touches}
+use Rattle.ga_event.specs.Apply.{writes_to, reads_from, is_number, unmatched}
+use Rattle.ga_races.specs.Orders.{CanBe, AreRivals}
+
+-- the node that makes an event: of a pass the writer
+abbrev pub actor : Event → ℕ
+actor (Own a) = a.number
+actor (Pass w r side) = w.number
+
+-- what can be made says of its nodes
+runs_of : (wait : Wait) (stop : ℕ) → refused_by wait stop ≡ None → wait ≡ Nothing
+runs_of Nothing stop h = refl
+runs_of (Fetch sides) stop h = absurd (cc)
+runs_of (Read sides) stop h = absurd (cc)
+runs_of (Write side) stop h = absurd (cc)
+
+matched_of : (b : Bool) → unmatched b ≡ None → b ≡ true
+matched_of true h = refl
+matched_of false h = absurd (cc)
+
+pub record Open (c : List NodeRecord) (w r : NodeId) (side : Side) : Type 0 where
+  pub near : is_number (neighbour_of w.number side) r.number ≡ true
+  pub writes : writes_to (record_at c w.number).wait side ≡ true
+  pub reads : reads_from (record_at c r.number).wait side ≡ true
+
+pub open_of : (c : List NodeRecord) (w r : NodeId) (side : Side) → CanBe c (Pass w r side) → Open c w r side
+open_of c w r side can =
+    let near = is_number (neighbour_of w.number side) r.number in
+    let writes = writes_to (record_at c w.number).wait side in
+    let reads = reads_from (record_at c r.number).wait side in
+    let p : (near && writes ≡ true) × (reads ≡ true) = and_parts (near && writes) reads (matched_of (near && writes && reads) can) in
+    let q : (near ≡ true) × (writes ≡ true) = and_parts near writes p.0 in
+    record { near = q.0; writes = q.1; reads = p.1 }
+
+same_number : (o : Option ℕ) (n m : ℕ) → is_number o n ≡ true → is_number o m ≡ true → n ≡ m
+same_number None n m h k = absurd (true≢false (sym h))
+same_number (Some x) n m h k = sym (eqb-true x n h) ∙ eqb-true x m k
+
+is_the : (a b : Side) → is_side a b ≡ true → a ≡ b
+is_the Right Right h = refl
+is_the Down Down h = refl
+is_the Left Left h = refl
+is_the Up Up h = refl
+is_the Right Down h = absurd (true≢false (sym h))
+is_the Right Left h = absurd (true≢false (sym h))
+is_the Right Up h = absurd (true≢false (sym h))
+is_the Down Right h = absurd (true≢false (sym h))
+is_the Down Left h = absurd (true≢false (sym h))
+is_the Down Up h = absurd (true≢false (sym h))
+is_the Left Right h = absurd (true≢false (sym h))
+is_the Left Down h = absurd (true≢false (sym h))
+is_the Left Up h = absurd (true≢false (sym h))
+is_the Up Right h = absurd (true≢false (sym h))
+is_the Up Down h = absurd (true≢false (sym h))
+is_the Up Left h = absurd (true≢false (sym h))
+
+pub one_side : (wait : Wait) (s t : Side) → writes_to wait s ≡ true → writes_to wait t ≡ true → s ≡ t
+one_side Nothing s t h k = absurd (true≢false (sym h))
+one_side (Fetch sides) s t h k = absurd (true≢false (sym h))
+one_side (Read sides) s t h k = absurd (true≢false (sym h))
+one_side (Write posted) s t h k = sym (is_the posted s h) ∙ is_the posted t k
+
+-- a node that runs has no part in a pass
+no_writer : (wait : Wait) (s : Side) → wait ≡ Nothing → writes_to wait s ≡ true → ⊥
+no_writer wait s e h = true≢false (sym (sym (ap (λ z. writes_to z s) e) ∙ h))
+
+no_reader : (wait : Wait) (s : Side) → wait ≡ Nothing → reads_from wait s ≡ true → ⊥
+no_reader wait s e h = true≢false (sym (sym (ap (λ z. reads_from z s) e) ∙ h))
+
+-- and one that writes reads from none
+one_way : (wait : Wait) (s t : Side) → writes_to wait s ≡ true → reads_from wait t ≡ true → ⊥
+one_way Nothing s t h k = true≢false (sym h)
+one_way (Fetch sides) s t h k = true≢false (sym h)
+one_way (Read sides) s t h k = true≢false (sym h)
+one_way (Write posted) s t h k = true≢false (sym k)
+
+wait_at : (c : List NodeRecord) (a : NodeId) → CanBe c (Own a) → (n : ℕ) → a.number ≡ n → (record_at c n).wait ≡ Nothing
+wait_at c a can n e = subst (λ (z : ℕ). (record_at c z).wait ≡ Nothing) e (runs_of (record_at c a.number).wait (record_at c a.number).stop can)
+
+-- two passes of one writer are one
+one_pass : (c : List NodeRecord) (w r x y : NodeId) (s t : Side) → Open c w r s → Open c x y t → w.number ≡ x.number → Pass w r s ≡ Pass x y t
+one_pass c w r x y s t p q e =
+    let same : w ≡ x = NodeId-same w x e in
+    let side : s ≡ t = one_side (record_at c w.number).wait s t p.writes (subst (λ (z : ℕ). writes_to (record_at c z).wait t ≡ true) (sym e) q.writes) in
+    let near : is_number (neighbour_of w.number s) y.number ≡ true = subst (λ (z : Side). is_number (neighbour_of w.number z) y.number ≡ true) (sym side) (subst (λ (z : ℕ). is_number (neighbour_of z t) y.number ≡ true) (sym e) q.near) in
+    let there : r ≡ y = NodeId-same r y (same_number (neighbour_of w.number s) r.number y.number p.near near) in
+    ap (λ (z : NodeId). Pass z r s) same ∙ ap (λ (z : NodeId). Pass x z s) there ∙ ap (λ (z : Side). Pass x y z) side
+
+-- one actor makes one event
+pub one_event : (c : List NodeRecord) (e f : Event) → CanBe c e → CanBe c f → actor e ≡ actor f → e ≡ f
+one_event c (Own a) (Own b) can canf q = ap Own (NodeId-same a b q)
+one_event c (Own a) (Pass w r s) can canf q = absurd (no_writer (record_at c w.number).wait s (wait_at c a can w.number q) (open_of c w r s canf).writes)
+one_event c (Pass w r s) (Own a) can canf q = absurd (no_writer (record_at c w.number).wait s (wait_at c a canf w.number (sym q)) (open_of c w r s can).writes)
+one_event c (Pass w r s) (Pass x y t) can canf q = one_pass c w r x y s t (open_of c w r s can) (open_of c x y t canf) q
+
+at_node : (a n : ℕ) → ((a == n) || false) ≡ true → a ≡ n
+at_node a n h = elim (or_cases (a == n) false h) [ inl q ↦ eqb-true a n q | inr q ↦ absurd (both_ways false refl q) ]
+
+at_two : (a b n : ℕ) → ((a == n) || ((b == n) || false)) ≡ true → (a ≡ n) ⊎ (b ≡ n)
+at_two a b n h = elim (or_cases (a == n) ((b == n) || false) h) [ inl q ↦ inl (eqb-true a n q) | inr q ↦ inr (at_node b n q) ]
+
+-- a node that runs is in no pass
+alone : (c : List NodeRecord) (a w r : NodeId) (s : Side) (n : ℕ) → CanBe c (Own a) → Open c w r s → a.number ≡ n → (w.number ≡ n) ⊎ (r.number ≡ n) → ⊥
+alone c a w r s n can ends q (inl e) = no_writer (record_at c w.number).wait s (wait_at c a can w.number (q ∙ sym e)) ends.writes
+alone c a w r s n can ends q (inr e) = no_reader (record_at c r.number).wait s (wait_at c a can r.number (q ∙ sym e)) ends.reads
+
+pub number_of : (o : Option ℕ) (n : ℕ) → is_number o n ≡ true → o ≡ Some n
+number_of None n h = absurd (true≢false (sym h))
+number_of (Some m) n h = ap Some (eqb-true m n h)
+
+pub back : (c : List NodeRecord) (w r : NodeId) (side : Side) → Open c w r side → neighbour_of r.number side ≡ Some w.number
+back c w r side p = neighbour_of-back w.number r.number side w.in_range (number_of (neighbour_of w.number side) r.number p.near)
+
+rivals : (c : List NodeRecord) (w r x y : NodeId) (s t : Side) → Open c w r s → Open c x y t → Pass w r s ≢ Pass x y t → r.number ≡ y.number → AreRivals (Pass w r s) (Pass x y t)
+rivals c w r x y s t p q differ e =
+    let same : r ≡ y = NodeId-same r y e in
+    let apart : w.number ≢ x.number = λ k. differ (one_pass c w r x y s t p q k) in
+    record {
+      first = w;
+      second = x;
+      reader = r;
+      side = s;
+      other = t;
+      one = refl;
+      two = ap (λ (z : NodeId). Pass x z t) (sym same);
+      writers = apart;
+      sides = λ k. apart (same_Some w.number x.number (sym (back c w r s p) ∙ ap (λ (z : Side). neighbour_of r.number z) k ∙ ap (λ (z : ℕ). neighbour_of z t) e ∙ back c x y t q));
+    }
+
+crossed : (c : List NodeRecord) (w r x y : NodeId) (s t : Side) (n : ℕ) → Open c w r s → Open c x y t → w.number ≡ n → y.number ≡ n → ⊥
+crossed c w r x y s t n p q e k = one_way (record_at c w.number).wait s t p.writes (subst (λ (z : ℕ). reads_from (record_at c z).wait t ≡ true) (k ∙ sym e) q.reads)
+
+-- two events that can be made and touch a common node are two passes to one reader
+pub common_node : (c : List NodeRecord) (e f : Event) (n : ℕ) → CanBe c e → CanBe c f → e ≢ f → touches e n ≡ true → touches f n ≡ true → AreRivals e f
+common_node c (Own a) (Own b) n can canf differ t u = absurd (differ (ap Own (NodeId-same a b (at_node a.number n t ∙ sym (at_node b.number n u)))))
+common_node c (Own a) (Pass w r s) n can canf differ t u = absurd (alone c a w r s n can (open_of c w r s canf) (at_node a.number n t) (at_two w.number r.number n u))
+common_node c (Pass w r s) (Own a) n can canf differ t u = absurd (alone c a w r s n canf (open_of c w r s can) (at_node a.number n u) (at_two w.number r.number n t))
+common_node c (Pass w r s) (Pass x y z) n can canf differ t u = go (at_two w.number r.number n t) (at_two x.number y.number n u)
+  where
+    p : Open c w r s
+    p = open_of c w r s can
+
+    q : Open c x y z
+    q = open_of c x y z canf
+
+    go : (w.number ≡ n) ⊎ (r.number ≡ n) → (x.number ≡ n) ⊎ (y.number ≡ n) → AreRivals (Pass w r s) (Pass x y z)
+    go (inl e) (inl k) = absurd (differ (one_pass c w r x y s z p q (e ∙ sym k)))
+    go (inl e) (inr k) = absurd (crossed c w r x y s z n p q e k)
+    go (inr e) (inl k) = absurd (crossed c x y w r z s n q p k e)
+    go (inr e) (inr k) = rivals c w r x y s z p q differ (e ∙ sym k)

@@ -1,0 +1,21 @@
+-- Runs of which only one neighbour can be the writer of each word (after Kahn, "The semantics of a simple language for parallel
+-- programming", 1974: there a reader names the channel).
+use Rattle.std.specs.Prelude.{◌≡◌, true, List, ◌∷◌, ◌++◌, Some}
+use Rattle.ga_ports.specs.declared.side.Side.{Side}
+use Rattle.ga_node.specs.Record.{NodeRecord}
+use Rattle.ga_grid.specs.Grid.{neighbour_of}
+use Rattle.ga_grid.specs.Chip.{record_at}
+use Rattle.ga_grid.specs.declared.node_id.NodeId.{NodeId}
+use Rattle.ga_event.specs.declared.event.Event.{Event}
+use Rattle.ga_event.specs.declared.event.Event.TheVariants.{Pass}
+use Rattle.ga_event.specs.Apply.{writes_to, reads_from, replay}
+
+-- Whenever a node takes a word in the list, no other neighbour on the sides on which it then waits writes to it at any time of the
+-- list.
+pub record HasOneWriter (chip : List NodeRecord) (events : List Event) : Type 0 where
+  pub only : (before later first others : List Event) (now then : List NodeRecord) (writer reader neighbour : NodeId) (side another : Side)
+      → events ≡ before ++ Pass writer reader side ∷ later → replay chip before ≡ Some now
+      → reads_from (record_at now reader.number).wait another ≡ true
+      → events ≡ first ++ others → replay chip first ≡ Some then
+      → neighbour_of neighbour.number another ≡ Some reader.number → writes_to (record_at then neighbour.number).wait another ≡ true
+      → another ≡ side

@@ -1,0 +1,64 @@
+-- Other orders of the same steps, and steps that race: of which the order in which nodes happened to run decided (after Netzer and
+-- Miller, "Optimal tracing and replay for debugging message-passing parallel programs", 1992, who speak of messages; that a look
+-- races too is this project's own, as looks are).
+use Rattle.std.specs.Prelude.{◌≡◌, ◌≢◌, ℕ, true, false, List, ◌∷◌, ◌++◌, Some, None}
+use Rattle.ga_ports.specs.declared.side.Side.{Side}
+use Rattle.ga_node.specs.Record.{NodeRecord}
+use Rattle.ga_grid.specs.declared.node_id.NodeId.{NodeId}
+use Rattle.ga_event.specs.declared.event.Event.{Event}
+use Rattle.ga_event.specs.declared.event.Event.TheVariants.{Pass}
+use Rattle.ga_event.specs.Touches.{touches}
+use Rattle.ga_event.specs.Apply.{refusal_of, after, replay}
+use Rattle.ga_causal.specs.Words.{word_of}
+
+-- the event can be made on the chip
+abbrev pub CanBe : List NodeRecord → Event → Type 0
+CanBe chip event = refusal_of chip event ≡ None
+
+-- no event can
+abbrev pub IsAtEnd : List NodeRecord → Type 0
+IsAtEnd chip = (event : Event) → CanBe chip event → ⊥
+
+-- Two events touch no common node, and to each comes the same word from outside (in a pass, in `io`) where the other is made first.
+pub record AreFree (chip : List NodeRecord) (e f : Event) : Type 0 where
+  pub apart : (n : ℕ) → touches e n ≡ true → touches f n ≡ false
+  pub first : word_of (after chip f).0 e ≡ word_of chip e
+  pub second : word_of (after chip e).0 f ≡ word_of chip f
+
+-- On a chip, the one list is the other in another order: they differ by swaps of neighbours that are free of one another where they
+-- stand.
+pub data AreOrders : List NodeRecord → List Event → List Event → Type 0 where
+  same : {chip : List NodeRecord} {xs : List Event} → AreOrders chip xs xs
+  swapped : {chip : List NodeRecord} {e f : Event} {xs : List Event}
+      → CanBe chip e → CanBe chip f → AreFree chip e f → AreOrders chip (e ∷ f ∷ xs) (f ∷ e ∷ xs)
+  later : {chip : List NodeRecord} {e : Event} {xs ys : List Event}
+      → CanBe chip e → AreOrders (after chip e).0 xs ys → AreOrders chip (e ∷ xs) (e ∷ ys)
+  joined : {chip : List NodeRecord} {xs ys zs : List Event}
+      → AreOrders chip xs ys → AreOrders chip ys zs → AreOrders chip xs zs
+
+-- A step of the list races with another event: in some order of the list the step comes next where the other event can be made too,
+-- and the two are not free.
+pub record IsRace (chip : List NodeRecord) (events : List Event) (step other : Event) : Type 0 where
+  pub before : List Event
+  pub later : List Event
+  pub now : List NodeRecord
+  pub order : AreOrders chip events (before ++ step ∷ later)
+  pub led : replay chip before ≡ Some now
+  pub can : CanBe now other
+  pub differ : step ≢ other
+  pub bound : AreFree now step other → ⊥
+
+abbrev pub HasNoRace : List NodeRecord → List Event → Type 0
+HasNoRace chip events = (step other : Event) → IsRace chip events step other → ⊥
+
+-- two passes to one reader, from two writers, over two sides
+pub record AreRivals (e f : Event) : Type 0 where
+  pub first : NodeId
+  pub second : NodeId
+  pub reader : NodeId
+  pub side : Side
+  pub other : Side
+  pub one : e ≡ Pass first reader side
+  pub two : f ≡ Pass second reader other
+  pub writers : first.number ≢ second.number
+  pub sides : side ≢ other

@@ -1,0 +1,110 @@
+//! The laws of orders and races, each the contract of a function that does nothing. They stand over the definitions alone.
+
+ghost use Rattle.std.specs.Prelude.{◌≡◌, ◌≢◌, ◌≤◌, ◌↔◌, ℕ, Bool, true, length, List, [], ◌∷◌, ◌++◌, Some, IsSome, map};
+ghost use Rattle.ga_node.specs.Record.{NodeRecord};
+ghost use Rattle.ga_ports.specs.declared.side.Side.{Side};
+ghost use Rattle.ga_grid.specs.declared.node_id.NodeId.{NodeId};
+ghost use Rattle.ga_event.specs.declared.event.Event.{Event};
+ghost use Rattle.ga_event.specs.declared.event.Event.TheVariants.{Pass};
+ghost use Rattle.ga_event.specs.Touches.{touches};
+ghost use Rattle.ga_event.specs.declared.event.Cause.{Cause};
+ghost use Rattle.ga_event.specs.Apply.{Told, replay, run};
+ghost use Rattle.ga_event.specs.Told.{steps_of};
+ghost use Rattle.ga_causal.specs.Dependence.{events_in, rewound_list, NoneLooks};
+ghost use Rattle.ga_causal.specs.Equivalence.{AreEquivalent};
+ghost use Rattle.ga_causal.specs.Words.{account_read};
+ghost use Rattle.ga_races.specs.Exploring.{IsExplored};
+ghost use Rattle.ga_races.specs.Kahn.{HasOneWriter};
+ghost use Rattle.ga_races.specs.Orders.{CanBe, IsAtEnd, AreOrders, AreFree, IsRace, HasNoRace, AreRivals};
+
+/// Of two different events that can be made on a chip, either both can be made one after the other, in both orders with the same
+/// chip, where they are free of one another. Where they touch a common node they are passes to one reader from two writers, over two
+/// sides: so a word can only be lost to another word where a reader waits on several sides.
+pub fn diamond()
+    ensures order { (chip : List NodeRecord) (e f : Event) → CanBe chip e → CanBe chip f → AreFree chip e f →
+        IsSome (replay chip (e ∷ f ∷ [])) × (replay chip (e ∷ f ∷ []) ≡ replay chip (f ∷ e ∷ [])) }
+    ensures rivals { (chip : List NodeRecord) (e f : Event) (n : ℕ) → CanBe chip e → CanBe chip f → e ≢ f →
+        touches e n ≡ true → touches f n ≡ true → AreRivals e f }
+{}
+
+/// Where a list has no race, whatever else can be made from the same chip, in which no node makes more steps than in the list, is a
+/// beginning of the list in another order: it can be gone on with, until each node has the account with the words that it has in the
+/// list.
+pub fn beginnings()
+    ensures { (chip : List NodeRecord) (events others : List Event) → IsSome (replay chip events) → HasNoRace chip events →
+        IsSome (replay chip others) → ((n : ℕ) → steps_of n others ≤ steps_of n events) →
+        (later : List Event) × AreOrders chip events (others ++ later) }
+{}
+
+/// A list has no race where all else that can be made from the same chip is a beginning of it in another order. So where it ends
+/// without a next event this says the same as that it has no race (`one_end`).
+pub fn exact()
+    ensures { (chip last : List NodeRecord) (events : List Event) → replay chip events ≡ Some last →
+        ((others : List Event) → IsSome (replay chip others) → (later : List Event) × AreOrders chip events (others ++ later)) →
+        HasNoRace chip events }
+{}
+
+/// Where a list has no race and ends where no event can be made, each order of steps is a beginning of it, and each that can't be gone
+/// on with is the list in another order: it ends on the same chip. No node makes more steps in any.
+pub fn one_end()
+    ensures beginning { (chip last : List NodeRecord) (events others : List Event) → replay chip events ≡ Some last → HasNoRace chip events →
+        IsAtEnd last → IsSome (replay chip others) →
+        (later : List Event) × AreOrders chip events (others ++ later) }
+    ensures steps { (chip last : List NodeRecord) (events others : List Event) (n : ℕ) → replay chip events ≡ Some last →
+        HasNoRace chip events → IsAtEnd last → IsSome (replay chip others) →
+        steps_of n others ≤ steps_of n events }
+    ensures chip { (chip last now : List NodeRecord) (events others : List Event) → replay chip events ≡ Some last →
+        HasNoRace chip events → IsAtEnd last → replay chip others ≡ Some now → IsAtEnd now →
+        AreOrders chip events others × (now ≡ last) }
+{}
+
+/// Where no event of a list looks and the list ends without a next event, it has no race just where no rollback of a step of a
+/// node leaves a chip on which two neighbours wait to write to it while it waits for both: what `rewind` of a step leaves shows each
+/// race. (A race of two passes shows there also where the list doesn't end.)
+pub fn taken_back()
+    ensures shows { (chip last : List NodeRecord) (events : List Event) (steps : List (Cause × Told)) (w x r : NodeId) (side other : Side) →
+        run chip events ≡ Some (last, steps) → let causes = map (λ (s : Cause × Told). s.0) steps in
+        NoneLooks causes → IsRace chip events (Pass w r side) (Pass x r other) → AreRivals (Pass w r side) (Pass x r other) →
+        (k : ℕ) × (now : List NodeRecord) × (replay chip (events_in (rewound_list causes r.number k)) ≡ Some now)
+        × CanBe now (Pass w r side) × CanBe now (Pass x r other) }
+    ensures decided { (chip last : List NodeRecord) (events : List Event) (steps : List (Cause × Told)) →
+        run chip events ≡ Some (last, steps) → let causes = map (λ (s : Cause × Told). s.0) steps in
+        NoneLooks causes → IsAtEnd last →
+        (HasNoRace chip events ↔
+        ((k : ℕ) (now : List NodeRecord) (w x r : NodeId) (side other : Side) →
+        replay chip (events_in (rewound_list causes r.number k)) ≡ Some now →
+        CanBe now (Pass w r side) → CanBe now (Pass x r other) → side ≢ other → ⊥)) }
+{}
+
+/// A list has no race where no event of it looks, it ends without a next event, and whenever a node takes a word, of the neighbours on
+/// the sides on which it waits only one ever writes to it in the list (after Kahn). So every order of steps ends alike (`one_end`).
+pub fn one_writer()
+    ensures { (chip last : List NodeRecord) (events : List Event) (steps : List (Cause × Told)) →
+        run chip events ≡ Some (last, steps) → NoneLooks (map (λ (s : Cause × Told). s.0) steps) → IsAtEnd last →
+        HasOneWriter chip events → HasNoRace chip events }
+{}
+
+/// Lists that differ by swaps of neighbours that are apart are orders of one another: where neither sees what the other touches, both
+/// have the same words. The first list must be one that can be made. Orders have the same chip.
+pub fn orders()
+    ensures swaps { (chip : List NodeRecord) (events others : List Event) → AreEquivalent chip events others → IsSome (replay chip events) →
+        AreOrders chip events others }
+    ensures chip { (chip : List NodeRecord) (events others : List Event) → AreOrders chip events others →
+        replay chip events ≡ replay chip others }
+    ensures words { (chip : List NodeRecord) (events others : List Event) (n : ℕ) → AreOrders chip events others →
+        account_read n chip events ≡ account_read n chip others }
+{}
+
+/// Where no list that can be made from a chip is longer than some number, a set that goes on with each of its lists and turns each
+/// race around meets every order: whatever can be made is, in another order, a beginning of a list of the set, and what ends without a
+/// next event is a list of the set in another order. So it is enough to look at the set to know how all of them end.
+pub fn explored()
+    ensures all { (chip : List NodeRecord) (has : List Event → Bool) (most : ℕ) → IsExplored chip (λ events. has events ≡ true) →
+        ((events : List Event) → IsSome (replay chip events) → length events ≤ most) →
+        (others : List Event) → IsSome (replay chip others) →
+        (met : List Event) × (more : List Event) × (has met ≡ true) × AreOrders chip met (others ++ more) }
+    ensures ends { (chip last : List NodeRecord) (has : List Event → Bool) (most : ℕ) → IsExplored chip (λ events. has events ≡ true) →
+        ((events : List Event) → IsSome (replay chip events) → length events ≤ most) →
+        (others : List Event) → replay chip others ≡ Some last → IsAtEnd last →
+        (met : List Event) × (has met ≡ true) × AreOrders chip met others }
+{}
