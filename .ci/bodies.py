@@ -69,6 +69,14 @@ def functions_of(folder, path, text):
     return [Function(folder, path, text, it) for it in FUNCTION.finditer(text)]
 
 
+def texts_of(file):
+    """The wrong bodies of a file, each with its name: a line `# NAME`, and its lines."""
+    parts = re.split(r"^# (\w+)\n", read(file), flags=re.M)
+    if parts[0].strip():
+        raise Fault(f"{file}: something stands before the first name")
+    return [*zip(parts[1::2], parts[2::2])]
+
+
 class Edit:
     """A wrong body: the function that it changes, and the text of the function with it."""
 

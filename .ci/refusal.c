@@ -1,5 +1,5 @@
 /* Loaded before a program (LD_PRELOAD), this refuses one growth of its memory: the thousandth that the program itself asks for, counted
-   from the first of one byte, with which crates/ga_hostile begins to count. What the C library asks for, as where it starts a thread,
+   from the first of one byte, with which crates/ga_growths begins to count. What the C library asks for, as where it starts a thread,
    isn't counted. Nothing else is changed. */
 #define _GNU_SOURCE
 #include <dlfcn.h>

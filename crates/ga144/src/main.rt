@@ -10,9 +10,8 @@ use ga_console::{
     LineFault, Settings, Status, arguments, assemble_source, disassemble, list_source, race_report,
     session,
 };
-use ga_draw::draw_session;
-use ga_drawing::View;
-use ga_exploring::explore;
+use ga_explorer::explore;
+use ga_picture::{View, draw_session};
 use std::process::ExitCode;
 use std::{env, io};
 

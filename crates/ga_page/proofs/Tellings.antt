@@ -1,8 +1,8 @@
 -- What was told, of the machine that was reached.
 use Rattle.std.proofs.Common.{◌≡◌, ◌++◌, ℕ, List, length, take, Ok, ◌⊎◌, inl, inr, subst}
 use Rattle.ga_lab.specs.Machine.{State}
-use Rattle.ga_exploring.specs.Tails.{Exploring}
-use Rattle.ga_draw.specs.Following.{Reaches}
+use Rattle.ga_explorer.specs.Tails.{Exploring}
+use Rattle.ga_picture.specs.Following.{Reaches}
 use Rattle.ga_page.specs.kept.Makers.{makers_of}
 
 pub kept_told : (limit result : ℕ) (input old new read rest text : List ℕ) (seen : State) (last : Exploring)

@@ -5,8 +5,8 @@ ghost use Rattle.ga_page.specs.kept.Shaded.{AreCodes, code_of};
 
 use crate::buffer::put_front;
 use crate::made::make_all;
-use ga_drawing::{Shade, shades};
 use ga_image::parse;
+use ga_picture::{Shade, shades};
 use std::alloc::Global;
 
 /// Makes the events that the nodes with these numbers make one after another on the chip of an image, and tells of each by a

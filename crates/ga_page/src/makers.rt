@@ -2,14 +2,14 @@
 
 ghost use Rattle.std.specs.Prelude.{◌≡◌, ◌++◌, ◌⊎◌, ℕ, List, Ok, IfSome, length, map, take};
 ghost use Rattle.ga_image.specs.Lines.{Bytes};
-ghost use Rattle.ga_exploring.specs.Tails.{Exploring};
-ghost use Rattle.ga_draw.specs.Following.{Reaches};
+ghost use Rattle.ga_explorer.specs.Tails.{Exploring};
+ghost use Rattle.ga_picture.specs.Following.{Reaches};
 ghost use Rattle.ga_page.specs.kept.Makers.{maker_of, makers_of};
 
 use crate::buffer::put_front;
-use ga_draw::follow_session;
 use ga_event::{Cause, Event};
 use ga_lab::Lab;
+use ga_picture::follow_session;
 use std::alloc::Global;
 
 /// Carries a session out that is given whole, and tells of each event that is kept at its end, in their order, the number of the

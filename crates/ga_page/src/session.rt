@@ -3,12 +3,12 @@
 ghost use Rattle.std.specs.Prelude.{◌≡◌, ◌++◌, ◌∷◌, [], length, take};
 ghost use Rattle.ga_image.specs.Lines.{Bytes};
 ghost use Rattle.ga_console.specs.declared.run.Status.{Status as Ended};
-ghost use Rattle.ga_exploring.specs.Session.{Runs};
+ghost use Rattle.ga_explorer.specs.Session.{Runs};
 ghost use Rattle.ga_page.specs.kept.Ended.{number_of};
 
 use crate::buffer::put_front;
 use ga_console::Status;
-use ga_exploring::explore;
+use ga_explorer::explore;
 use std::alloc::Global;
 
 /// Answers a session that is given whole, as far as there is room for the answers, and says how many bytes they have. How it ended

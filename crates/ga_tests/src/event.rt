@@ -2,7 +2,7 @@ use crate::same::{holds, same};
 use ga_event::{
     Effect, Event, apply, cause_of, cause_with, next_event, seen_from, touches, unapply,
 };
-use ga_given::{load, reader_of_io, sender, taker};
+use ga_fixtures::{load, reader_of_io, sender, taker};
 use ga_grid::{Chip, NodeId, neighbour};
 use ga_node::{Beside, Kind, NotReady, Place, Seen, Wait};
 use ga_ports::Side;

@@ -1,12 +1,12 @@
 use crate::asserts::{each_same, same};
-use ga_explore::{
-    Condition, Effect, End, Ran, Schedule, Sent, Words, are_linked, count_words, find_effects,
-    find_stuck, run,
-};
-use ga_given::{load, sender, taker};
+use ga_fixtures::{load, sender, taker};
 use ga_grid::{Chip, NodeId};
 use ga_lab::{Lab, LabFault, Made};
 use ga_node::{Kind, Place};
+use ga_search::{
+    Condition, Effect, End, Ran, Schedule, Sent, Words, are_linked, count_words, find_effects,
+    find_stuck, run,
+};
 use ga_word::Word18;
 use std::alloc::Global;
 use std::process::Abort;

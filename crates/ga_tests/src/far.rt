@@ -8,7 +8,7 @@ use ga_flow::Part;
 use ga_grid::{Chip, NodeId};
 use ga_lab::Lab;
 use ga_node::Place;
-use ga_whence::{Row, Value, asked_of, origin_of, whence};
+use ga_origin::{Row, Value, asked_of, origin_of, whence};
 use ga_word::Word18;
 use std::alloc::Global;
 use std::process::Abort;

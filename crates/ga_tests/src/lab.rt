@@ -1,5 +1,5 @@
 use crate::asserts::{each_same, same};
-use ga_given::{first_difference, is_same, load, sender, taker};
+use ga_fixtures::{first_difference, is_same, load, sender, taker};
 use ga_grid::{Chip, NodeId};
 use ga_lab::{Lab, LabFault, Made};
 use ga_node::{Kind, Node, Place};

@@ -1,6 +1,6 @@
 ghost use Rattle.std.specs.Prelude.{◌≡◌, ◌<◌, ◌^◌, All, IfOk, vec_len};
 
-use ga_given::{first_difference, load, sender, taker};
+use ga_fixtures::{first_difference, load, sender, taker};
 use ga_grid::{Chip, NodeId};
 use ga_lab::Made;
 use ga_node::Kind;

@@ -2,12 +2,12 @@ ghost use Rattle.std.specs.Prelude.{◌≡◌};
 ghost use Rattle.ga_flow.specs.Flow.{IsPart};
 
 use crate::asserts::{each_same, same};
+use ga_fixtures::{load, sender, taker};
 use ga_flow::Part;
-use ga_given::{load, sender, taker};
 use ga_grid::{Chip, NodeId};
 use ga_lab::{Lab, LabFault};
 use ga_node::Place;
-use ga_whence::{Listing, Row, Value, asked_of, origin_of, whence};
+use ga_origin::{Listing, Row, Value, asked_of, origin_of, whence};
 use ga_word::Word18;
 use std::alloc::Global;
 use std::process::Abort;

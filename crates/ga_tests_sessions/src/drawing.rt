@@ -2,9 +2,8 @@
 
 use crate::same::{ends, holds, joined, same};
 use ga_console::Status;
-use ga_draw::draw_session;
-use ga_drawing::View;
 use ga_grid::NodeId;
+use ga_picture::{View, draw_session};
 use std::alloc::Global;
 use std::io::{Error, ErrorKind, Read, Result, Write};
 use std::process::Abort;

@@ -2,8 +2,8 @@
 
 use crate::same::{ends, joined, same};
 use ga_console::Status;
-use ga_exploring::explore;
-use ga_given::{changed, inserted};
+use ga_explorer::explore;
+use ga_fixtures::{changed, inserted};
 use std::alloc::{AllocError, Global};
 use std::process::Abort;
 use std::test::Fail;

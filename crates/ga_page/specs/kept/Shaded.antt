@@ -5,9 +5,9 @@ use Rattle.ga_grid.specs.Chip.{records_of}
 use Rattle.ga_event.specs.declared.event.Cause.{Cause}
 use Rattle.ga_image.specs.Lines.{lines_of}
 use Rattle.ga_image.specs.Grammar.{IsImage}
-use Rattle.ga_drawing.specs.Drawing.{AreShades}
-use Rattle.ga_drawing.specs.declared.shade.Shade.{Shade}
-use Rattle.ga_drawing.specs.declared.shade.Shade.TheVariants.{Black, Grey, Red}
+use Rattle.ga_picture.specs.Drawing.{AreShades}
+use Rattle.ga_picture.specs.declared.shade.Shade.{Shade}
+use Rattle.ga_picture.specs.declared.shade.Shade.TheVariants.{Black, Grey, Red}
 use Rattle.ga_page.specs.kept.Made.{MakesAll}
 
 abbrev pub code_of : Shade → ℕ

@@ -2,7 +2,7 @@
 
 use super::{Act, LIMIT, answered, assert_same, pair, steps};
 use crate::asserts::same;
-use ga_given::{load, reader_of_io, sender, taker};
+use ga_fixtures::{load, reader_of_io, sender, taker};
 use ga_grid::{Chip, NodeId};
 use ga_lab::{Lab, LabFault, Made, Ticks};
 use std::alloc::Global;

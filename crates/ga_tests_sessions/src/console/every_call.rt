@@ -2,7 +2,7 @@
 
 use crate::same::{ends, holds, same};
 use ga_console::{Status, session};
-use ga_given::{SENDER_AND_TAKER, WAITING};
+use ga_fixtures::{SENDER_AND_TAKER, WAITING};
 use std::alloc::{AllocError, Global};
 use std::io::{Error, ErrorKind, Read, Result, Write};
 use std::process::Abort;

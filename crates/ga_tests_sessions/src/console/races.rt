@@ -5,7 +5,7 @@ ghost use Rattle.std.specs.Prelude.{◌≤◌};
 use crate::same::{ends, holds, same};
 use arrayvec::ArrayVec;
 use ga_console::{Status, race_report};
-use ga_given::SENDER_AND_TAKER;
+use ga_fixtures::SENDER_AND_TAKER;
 use std::io::{Error, ErrorKind, Read, Result, Write};
 use std::process::Abort;
 use std::sync::Wait;

@@ -4,7 +4,7 @@ ghost use Rattle.std.specs.Prelude.{◌<◌};
 
 use crate::same::{ends, holds, same};
 use ga_console::{Status, assemble_source, disassemble, list_source};
-use ga_given::first_difference;
+use ga_fixtures::first_difference;
 use ga_grid::{Chip, NODES, NodeId};
 use ga_image::{parse, print};
 use ga_node::{Node, Place};

@@ -1,7 +1,7 @@
 //! Images in which one byte is changed.
 
 use super::assert_refusal;
-use ga_given::changed;
+use ga_fixtures::changed;
 use ga_grid::{Chip, NodeId};
 use ga_image::{ImageCause, parse};
 use ga_node::Place;

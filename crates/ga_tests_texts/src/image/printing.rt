@@ -4,7 +4,7 @@ ghost use Rattle.std.specs.Prelude.{◌<◌, ◌^◌};
 
 use super::assert_fronts;
 use crate::asserts::{each_same, same};
-use ga_given::first_difference;
+use ga_fixtures::first_difference;
 use ga_grid::{Chip, NodeId};
 use ga_image::{parse, print};
 use ga_node::{Node, Place};

@@ -3,7 +3,7 @@
 use super::{STRANGE, is_answered};
 use crate::same::joined;
 use ga_console::Status;
-use ga_given::{changed, inserted};
+use ga_fixtures::{changed, inserted};
 use std::alloc::{AllocError, Global};
 use std::process::Abort;
 use std::test::Fail;

@@ -2,7 +2,7 @@
 
 use super::{STRANGE, is_answered};
 use ga_console::Status;
-use ga_given::inserted;
+use ga_fixtures::inserted;
 use std::alloc::{AllocError, Global};
 use std::process::Abort;
 use std::test::Fail;

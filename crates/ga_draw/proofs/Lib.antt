@@ -1,4 +1,0 @@
-pub mod Following
-pub mod Reached
-pub mod Going
-pub mod Hearing

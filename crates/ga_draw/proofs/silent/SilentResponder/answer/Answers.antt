@@ -1,9 +1,0 @@
-use Rattle.std.proofs.Common.{[]}
-use Rattle.ga_console.proofs.SaidLemmas.{said_pending}
-use Rattle.ga_draw.proofs.Hearing.{silent_turn}
-use Rattle.ga_draw.proofs.silent.SilentResponder.answer.Goals as goal
-
-pub returns : goal.returns
-returns g c = λ before said h.
-    let heard = c.hear.ensures.heard in
-    ([], silent_turn c.args.self.now c.hear.new.self c.args.line.now.items heard.0 c.hear.result heard.1 heard.2 c.hear.ensures.ends, said_pending _ before said _ h)

@@ -1,6 +1,0 @@
-use Rattle.ga_causal.specs.Dependence.{is_marked}
-use Rattle.ga_drawing.specs.kept.Lines.{AreLines}
-use Rattle.ga_drawing.proofs.lines.lines_of.Given as goal
-
-abbrev pub invariant-nodes : goal.invariant-nodes
-invariant-nodes l = AreLines (is_marked l.used) l.nodes.items l.columns l.number

@@ -1,5 +1,0 @@
-use Rattle.ga_drawing.proofs.Drawn.{AreDrawn}
-use Rattle.ga_drawing.proofs.placing.layout.Given as goal
-
-abbrev pub invariant-events : goal.invariant-events
-invariant-events l = AreDrawn l.events l.shades l.nodes.items l.from l.place l.shapes.items

@@ -1,4 +1,0 @@
-pub mod Drawing
-pub mod Svg
-pub mod Picture
-pub mod kept

@@ -1,6 +1,0 @@
-use Rattle.ga_explore.specs.kept.Numbers.{has}
-use Rattle.ga_explore.proofs.Rounds.{within}
-use Rattle.ga_explore.proofs.ready.lowest_from.Goals as goal
-
-pub new-requires : goal.new-requires
-new-requires c = within (has c.args.ready.now) c.in-Some.number c.requires c.in-Some.ensures.in_range c.in-Some.ensures.is_in

@@ -1,0 +1,65 @@
+-- A command of exploring that was carried out.
+use Rattle.std.specs.Prelude.{Option}
+use Rattle.std.proofs.Common.{◌≡◌, ◌≤◌, ℕ, List, refl, sym, ap, subst}
+use Rattle.ga_grid.specs.declared.node_id.NodeId.{NodeId}
+use Rattle.ga_lab.specs.Machine.{State}
+use Rattle.ga_search.specs.Running.{running, after, AreMade, HasEnded}
+use Rattle.ga_search.specs.declared.schedule.Schedule.{Schedule}
+use Rattle.ga_search.specs.declared.condition.Condition.{Condition}
+use Rattle.ga_search.specs.declared.running.End.{End}
+use Rattle.ga_explorer.specs.Texts.{run_text, words_text, chip_text, help_text}
+use Rattle.ga_explorer.specs.Saved.{saved_text}
+use Rattle.ga_explorer.specs.Writing.{writes_text}
+use Rattle.ga_explorer.specs.Around.{around_text}
+use Rattle.ga_explorer.specs.Trees.{TellsWhence}
+use Rattle.ga_notes.specs.declared.notes.Notes.{Notes}
+use Rattle.ga_explorer.specs.kept.Exploring.{exploring}
+use Rattle.ga_explorer.specs.Answers.{TellsEffects, TellsWho, Explored}
+use Rattle.ga_explorer.specs.declared.request.Request.{Request}
+use Rattle.ga_explorer.specs.declared.request.Request.TheVariants.{Run, Effects, Words, Writes, At, Whence, Who, Chip, Save, Help}
+
+pub run_done : (s : State) (notes : Option Notes) (asked : Request) (schedule : Schedule) (most bound : ℕ) (until : Condition) (events : ℕ) (end : End) (new : State)
+    → asked ≡ Run schedule most until → bound ≡ most → AreMade (running s schedule) events → events ≤ bound
+    → HasEnded (running s schedule) bound until events end → new ≡ (after (running s schedule) events).state
+    → Explored (exploring s notes) asked (run_text events end) (exploring new notes)
+run_done s notes asked schedule most bound until events end new e f made within ended state =
+    subst (λ z. Explored (exploring s notes) z (run_text events end) (exploring new notes)) (sym e) (
+      record {
+        events = events;
+        end = end;
+        made = made;
+        within = subst (λ z. events ≤ z) f within;
+        ended = subst (λ z. HasEnded (running s schedule) z until events end) f ended;
+        state = state;
+        text = refl;
+      },
+      refl,
+    )
+
+pub effects_done : (s : State) (notes : Option Notes) (asked : Request) (node : NodeId) (step : ℕ) (text : List ℕ) (now : State) → asked ≡ Effects node step → now ≡ s → TellsEffects s node step text → Explored (exploring s notes) asked text (exploring now notes)
+effects_done s notes asked node step text now e same h =
+    subst (λ z. Explored (exploring s notes) z text (exploring now notes)) (sym e) (h, ap (λ z. exploring z notes) same)
+
+pub words_done : (s : State) (notes : Option Notes) (asked : Request) (from to : NodeId) (text : List ℕ) → asked ≡ Words from to → text ≡ words_text s from to → Explored (exploring s notes) asked text (exploring s notes)
+words_done s notes asked from to text e h = subst (λ z. Explored (exploring s notes) z text (exploring s notes)) (sym e) (h, refl)
+
+pub writes_done : (s : State) (notes : Option Notes) (asked : Request) (node : NodeId) (address : ℕ) (text : List ℕ) → asked ≡ Writes node address → text ≡ writes_text s node address → Explored (exploring s notes) asked text (exploring s notes)
+writes_done s notes asked node address text e h = subst (λ z. Explored (exploring s notes) z text (exploring s notes)) (sym e) (h, refl)
+
+pub at_done : (s : State) (notes : Option Notes) (asked : Request) (node : NodeId) (step around : ℕ) (text : List ℕ) → asked ≡ At node step around → text ≡ around_text notes s node step around → Explored (exploring s notes) asked text (exploring s notes)
+at_done s notes asked node step around text e h = subst (λ z. Explored (exploring s notes) z text (exploring s notes)) (sym e) (h, refl)
+
+pub whence_done : (s : State) (notes : Option Notes) (asked : Request) (node : NodeId) (step : ℕ) (text : List ℕ) → asked ≡ Whence node step → TellsWhence notes s node step text → Explored (exploring s notes) asked text (exploring s notes)
+whence_done s notes asked node step text e h = subst (λ z. Explored (exploring s notes) z text (exploring s notes)) (sym e) (h, refl)
+
+pub who_done : (s : State) (notes : Option Notes) (asked : Request) (text : List ℕ) → asked ≡ Who → TellsWho s text → Explored (exploring s notes) asked text (exploring s notes)
+who_done s notes asked text e h = subst (λ z. Explored (exploring s notes) z text (exploring s notes)) (sym e) (h, refl)
+
+pub save_done : (s : State) (notes : Option Notes) (asked : Request) (text : List ℕ) → asked ≡ Save → text ≡ saved_text s → Explored (exploring s notes) asked text (exploring s notes)
+save_done s notes asked text e h = subst (λ z. Explored (exploring s notes) z text (exploring s notes)) (sym e) (h, refl)
+
+pub chip_done : (s : State) (notes : Option Notes) (asked : Request) → asked ≡ Chip → Explored (exploring s notes) asked (chip_text s) (exploring s notes)
+chip_done s notes asked e = subst (λ z. Explored (exploring s notes) z (chip_text s) (exploring s notes)) (sym e) (refl, refl)
+
+pub help_done : (s : State) (notes : Option Notes) (asked : Request) → asked ≡ Help → Explored (exploring s notes) asked help_text (exploring s notes)
+help_done s notes asked e = subst (λ z. Explored (exploring s notes) z help_text (exploring s notes)) (sym e) (refl, refl)

@@ -1,0 +1,44 @@
+-- From the text that is read to a machine that is opened on it.
+use Rattle.std.proofs.Common.{◌≡◌, ℕ, ◌<◌, inl, inr, List, [], ◌∷◌, ◌++◌, length, true, false, refl, arith, Result, Ok, Err}
+use Rattle.ga_image.proofs.Sizes.{short_image}
+use Rattle.ga_image.specs.declared.fault.ImageFault.{ImageFault}
+use Rattle.ga_console.specs.Input.{input_limit, Unread}
+use Rattle.ga_console.specs.Image.{HasNoEnd}
+use Rattle.ga_console.specs.Run.{IsReadAlone, IsFault}
+use Rattle.ga_console.specs.declared.run.Status.{Status}
+use Rattle.ga_explorer.specs.Tails.{Exploring}
+use Rattle.ga_explorer.specs.Opening.{begins_as_image, Opens, IsFront, IsRefusedImage, IsBegun}
+use Rattle.ga_explorer.specs.Opening.Unbegun.{image_refused, source_refused}
+use Rattle.ga_explorer.specs.kept.Opening.{IsOpened}
+use Rattle.ga_explorer.specs.declared.opening.Unopened.TheVariants.{Image, Source}
+
+refused_image : (image ahead rest : List ℕ) (fault : ImageFault) → IsReadAlone image ahead rest → begins_as_image image ≡ true → IsFault image fault
+    → IsRefusedImage (image ++ ahead) rest fault
+refused_image image ahead rest fault part is (inl e) = inl e
+refused_image image ahead rest fault part is (inr e) = inr (record { image = image; ahead = ahead; splits = refl; part = part; faulty = e }, is)
+
+-- of a text that was read whole
+pub begun_after : (limit : ℕ) (left text : List ℕ) (input : Unread) (rest written : List ℕ) (result : Result Exploring Status) → left ≡ text ++ (input.bytes ++ rest)
+    → left ≡ (text ++ input.bytes) ++ rest → input.taken ≡ length text → IsFront text (input.bytes ++ rest) → IsReadAlone text input.bytes rest
+    → IsOpened limit text written result → IsBegun limit left input rest written result
+begun_after limit left text input rest written (Ok begun) split whole taken front alone opened = (opened.0, text, split, taken, front, opened.1)
+begun_after limit left text input rest written (Err status) split whole taken front alone (Image fault, why, declined) =
+    (text ++ input.bytes, whole, image_refused fault (refused_image text input.bytes rest fault alone why.0 why.1) declined)
+begun_after limit left text input rest written (Err status) split whole taken front alone (Source, why, declined) =
+    (text ++ input.bytes, whole, source_refused (record { source = text; ahead = input.bytes; splits = refl; part = alone; is_source = why }) declined.0 declined.1)
+
+not_both : (text : List ℕ) → begins_as_image text ≡ true → begins_as_image text ≡ false → ⊥
+not_both text is other = cc
+
+too_long : (limit : ℕ) (text : List ℕ) (begun : Exploring) → length text ≡ input_limit → begins_as_image text ≡ true → Opens text limit begun → ⊥
+too_long limit text begun full is (inl opens) =
+    let short : length text < 16777216 = short_image text opens.1.0 opens.1.1 in omega arith
+too_long limit text begun full is (inr opens) = not_both text is opens.0
+
+-- No image that is accepted reaches the bound of the input.
+pub begun_full : (limit byte : ℕ) (left text : List ℕ) (input : Unread) (rest written : List ℕ) (result : Result Exploring Status) → left ≡ (text ++ byte ∷ []) ++ rest
+    → length text ≡ input_limit → HasNoEnd text → begins_as_image text ≡ true → IsOpened limit text written result → IsBegun limit left input rest written result
+begun_full limit byte left text input rest written (Ok begun) whole full none is opened = absurd (too_long limit text begun full is opened.1)
+begun_full limit byte left text input rest written (Err status) whole full none is (Image fault, why, declined) =
+    (text ++ byte ∷ [], whole, image_refused fault (refused_image text (byte ∷ []) rest fault (inr (inr (full, refl, none))) why.0 why.1) declined)
+begun_full limit byte left text input rest written (Err status) whole full none is (Source, why, declined) = absurd (not_both text is why)

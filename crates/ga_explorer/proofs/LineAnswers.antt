@@ -1,0 +1,62 @@
+-- How exploring answers a line, of which the first bytes are here.
+use Rattle.std.specs.Prelude.{Option}
+use Rattle.std.proofs.Common.{◌≡◌, ◌≢◌, ◌≤◌, ℕ, List, take, length, Some, None, sym, ap, ◌∙◌, arith, rules, length-take, Result, Ok, Err}
+use Rattle.std.specs.Result.{IsErr}
+use Rattle.std.proofs.lemmas.List.{take_all}
+use Rattle.ga_console.specs.Replies.{Answer}
+use Rattle.ga_console.specs.kept.Turns.{Turns, AnswersLine}
+use Rattle.ga_console.specs.Turns.{quit_line}
+use Rattle.ga_console.specs.declared.command.Command.TheVariants.{Quit}
+use Rattle.ga_console.specs.declared.output.WriteFailed.{WriteFailed}
+use Rattle.ga_console.specs.declared.responder.Turn.{Turn}
+use Rattle.ga_console.specs.declared.responder.Turn.TheVariants as turn
+use Rattle.ga_notes.specs.declared.notes.Notes.{Notes}
+use Rattle.ga_explorer.specs.Reading.{request_in}
+use Rattle.ga_explorer.specs.Tails.{Exploring}
+use Rattle.ga_explorer.specs.kept.Exploring.{exploring}
+use Rattle.ga_explorer.specs.Answers.{Explores, Explored}
+use Rattle.ga_explorer.specs.Answers.Explores.{explored, debugged}
+use Rattle.ga_explorer.specs.declared.request.Request.{Request}
+use Rattle.ga_explorer.proofs.Apart.{debugger_alone}
+
+whole : (line part : List ℕ) → line ≡ take 201 part → length line ≤ 200 → part ≡ line
+whole line part e h = sym (e ∙ take_all 201 part (omega (arith, ap length e, length-take 201 part)))
+
+short : (line part : List ℕ) → line ≡ take 201 part → length part ≤ 200 → length line ≤ 200
+short line part e h = omega (arith, ap length e, length-take 201 part)
+
+none_some : (asked : Request) → None ≡ Some asked → ⊥
+none_some asked e = absurd cc
+
+not_quit : (notes : Option Notes) (line : List ℕ) (asked : Request) → request_in notes line ≡ Some asked → line ≢ quit_line
+not_quit notes line asked found = λ q. none_some asked (sym (debugger_alone notes Quit line q) ∙ found)
+
+-- it spells a command of exploring
+pub explored_line : (s : Exploring) (line : List ℕ) (asked : Request) (answer : List ℕ) (new : Exploring) → length line ≤ 200 → request_in s.notes line ≡ Some asked
+    → Explored s asked answer new → AnswersLine Explores s line answer new
+explored_line s line asked answer new fits found done = λ part kept.
+    let same : part ≡ line = whole line part kept fits in
+    let spelled : request_in s.notes part ≡ Some asked = ap (request_in s.notes) same ∙ found in
+    (explored asked (omega (arith, fits, ap length same)) spelled done, not_quit s.notes part asked spelled)
+
+-- it spells none
+debugged_line : (s : Exploring) (line answer : List ℕ) (new : Exploring) → (length line ≤ 200 → request_in s.notes line ≡ None) → new.notes ≡ s.notes
+    → AnswersLine Answer s.lab line answer new.lab → AnswersLine Explores s line answer new
+debugged_line s line answer new none same done = λ part kept.
+    let answered = done part kept in
+    (debugged (λ fits. let within : length line ≤ 200 = short line part kept fits in ap (request_in s.notes) (whole line part kept within) ∙ none within) answered.0 same, answered.1)
+
+same_explored : (s new : Exploring) → new.lab ≡ s.lab → new.notes ≡ s.notes → new ≡ s
+same_explored s new e f = ap (λ lab. exploring lab new.notes) e ∙ ap (exploring s.lab) f
+
+pub debugged_turn : (s : Exploring) (line : List ℕ) (new : Exploring) (result : Result Turn WriteFailed) (answer : List ℕ) → (length line ≤ 200 → request_in s.notes line ≡ None)
+    → new.notes ≡ s.notes → Turns Answer s.lab line new.lab result answer → Turns Explores s line new result answer
+debugged_turn s line new (Ok turn.Answered) answer none same done = debugged_line s line answer new none same done
+debugged_turn s line new (Ok turn.Quit) answer none same done = (done.0, same_explored s new done.1 same, done.2)
+debugged_turn s line new (Err failed) answer none same done = debugged_line s line answer new none same done
+
+-- a failed write changes nothing of what the answer is
+pub explored_err : (s : Exploring) (line : List ℕ) (new : Exploring) (result : Result Turn WriteFailed) (answer : List ℕ) → IsErr result
+    → AnswersLine Explores s line answer new → Turns Explores s line new result answer
+explored_err s line new (Ok turn) answer is h = absurd (search rules)
+explored_err s line new (Err why) answer is h = h

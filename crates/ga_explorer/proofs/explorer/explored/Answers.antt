@@ -1,0 +1,69 @@
+use Rattle.std.proofs.Common.{◌∙◌}
+use Rattle.ga_explorer.specs.Texts.{run_text, chip_text, help_text}
+use Rattle.ga_explorer.proofs.Done.{run_done, effects_done, words_done, writes_done, at_done, whence_done, who_done, save_done, chip_done, help_done}
+use Rattle.ga_explorer.proofs.Told.{told_as}
+use Rattle.ga_explorer.proofs.explorer.explored.Goals as goal
+
+pub returns-in-Run : goal.returns-in-Run
+returns-in-Run g c = λ before said h.
+    let ran = c.run-ran.result in (
+      run_text ran.events ran.end,
+      run_done c.args.lab.now c.args.notes.now c.args.asked c.in-Run.schedule c.in-Run.most c.from.result c.in-Run.until ran.events ran.end c.run-ran.new.lab
+          c.in-Run.is c.from.ensures c.run-ran.ensures.made c.run-ran.ensures.most c.run-ran.ensures.end c.run-ran.ensures.state,
+      told_as c.say_blocks.result _ before said c.as_slice.result.now (run_text ran.events ran.end) c.say_blocks.new.self
+          (c.as_slice.ensures.value ∙ c.ran_text.ensures) (c.say_blocks.ensures before said h),
+    )
+
+pub returns-in-Effects : goal.returns-in-Effects
+returns-in-Effects g c = λ before said h.
+    let done = c.say_effects.ensures.said before said h in (
+      done.0,
+      effects_done c.args.lab.now c.args.notes.now c.args.asked c.in-Effects.node c.in-Effects.step done.0 c.say_effects.new.lab c.in-Effects.is c.say_effects.ensures.same done.1,
+      done.2,
+    )
+
+pub returns-in-Words : goal.returns-in-Words
+returns-in-Words g c = λ before said h.
+    let done = c.say_words.ensures before said h in
+    (done.0, words_done c.args.lab.now c.args.notes.now c.args.asked c.in-Words.from c.in-Words.to done.0 c.in-Words.is done.1, done.2)
+
+pub returns-in-Writes : goal.returns-in-Writes
+returns-in-Writes g c = λ before said h.
+    let done = c.say_writes.ensures before said h in
+    (done.0, writes_done c.args.lab.now c.args.notes.now c.args.asked c.in-Writes.node c.in-Writes.address done.0 c.in-Writes.is done.1, done.2)
+
+pub returns-in-At : goal.returns-in-At
+returns-in-At g c = λ before said h.
+    let done = c.say_around.ensures before said h in
+    (done.0, at_done c.args.lab.now c.args.notes.now c.args.asked c.in-At.node c.in-At.step c.in-At.around done.0 c.in-At.is done.1, done.2)
+
+pub returns-in-Whence : goal.returns-in-Whence
+returns-in-Whence g c = λ before said h.
+    let done = c.say_whence.ensures before said h in
+    (done.0, whence_done c.args.lab.now c.args.notes.now c.args.asked c.in-Whence.node c.in-Whence.step done.0 c.in-Whence.is done.1, done.2)
+
+pub returns-in-Who : goal.returns-in-Who
+returns-in-Who g c = λ before said h.
+    let done = c.say_who.ensures before said h in
+    (done.0, who_done c.args.lab.now c.args.notes.now c.args.asked done.0 c.in-Who.is done.1, done.2)
+
+pub returns-in-Save : goal.returns-in-Save
+returns-in-Save g c = λ before said h.
+    let done = c.say_saved.ensures before said h in
+    (done.0, save_done c.args.lab.now c.args.notes.now c.args.asked done.0 c.in-Save.is done.1, done.2)
+
+pub returns-in-Chip : goal.returns-in-Chip
+returns-in-Chip g c = λ before said h. (
+  chip_text c.args.lab.now,
+  chip_done c.args.lab.now c.args.notes.now c.args.asked c.in-Chip.is,
+  told_as c.say_blocks-in-Chip.result _ before said c.as_slice-in-Chip.result.now (chip_text c.args.lab.now) c.say_blocks-in-Chip.new.self
+      (c.as_slice-in-Chip.ensures.value ∙ c.glance.ensures) (c.say_blocks-in-Chip.ensures before said h),
+)
+
+pub returns-in-Help : goal.returns-in-Help
+returns-in-Help g c = λ before said h. (
+  help_text,
+  help_done c.args.lab.now c.args.notes.now c.args.asked c.in-Help.is,
+  told_as c.say_blocks-in-Help.result _ before said c.help.result.now help_text c.say_blocks-in-Help.new.self
+      c.help.ensures (c.say_blocks-in-Help.ensures before said h),
+)

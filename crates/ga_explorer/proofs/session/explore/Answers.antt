@@ -1,0 +1,41 @@
+use Rattle.std.proofs.Common.{ℕ, ◌-◌, List, ◌++◌, refl, Some, sym, ap, subst, ◌∙◌, append_assoc}
+use Rattle.std.proofs.lemmas.List.{append-nil}
+use Rattle.ga_console.specs.Output.{ready}
+use Rattle.ga_console.specs.Session.{Serves}
+use Rattle.ga_console.proofs.RunLemmas.{said_fresh}
+use Rattle.ga_explorer.specs.Answers.{Explores}
+use Rattle.ga_explorer.specs.Opening.{IsFront}
+use Rattle.ga_explorer.specs.Session.Runs.{served, unbegun}
+use Rattle.ga_explorer.proofs.session.explore.Goals as goal
+
+pub returns-in-Ok : goal.returns-in-Ok
+returns-in-Ok g c = λ left before known held.
+    let begun = c.in-Ok.ensures.begun left before known held in
+    let text : List ℕ = begun.4.1 in
+    let silent = begun.3 ∙ ap Some (ap (λ (t : List ℕ). before ++ t) begun.4.0 ∙ append-nil before) in
+    let done = c.serve.ensures begun.0 before ready begun.2 (said_fresh _ before ready c.ready-output.result silent c.ready-output.ensures) in
+    let P : ℕ → Type 0 = λ n. Serves Explores (16777216 - n) c.in-Ok.begun done.0 done.1 done.2 c.serve.new.session c.serve.result in (
+      text ++ done.0,
+      done.1,
+      done.3,
+      begun.4.2 ∙ ap (λ (l : List ℕ). text ++ l) done.4 ∙ sym (append_assoc text done.0 done.1),
+      done.5,
+      done.6,
+      served c.serve.result c.status_of.ensures (record {
+        text = text;
+        commands = done.0;
+        begun = c.in-Ok.begun;
+        said = done.2;
+        splits = refl;
+        front = subst (IsFront text) done.4 begun.4.4;
+        opens = begun.4.5;
+        last = c.serve.new.session;
+        serves = subst P begun.4.3 done.7;
+        out = done.8;
+      }),
+    )
+
+pub returns-in-Err : goal.returns-in-Err
+returns-in-Err g c = λ left before known held.
+    let begun = c.in-Err.ensures.begun left before known held in
+    (begun.4.0, begun.0, begun.1, begun.4.1, begun.2, begun.3, unbegun begun.4.2)

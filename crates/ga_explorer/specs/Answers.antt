@@ -1,0 +1,67 @@
+-- What exploring answers to a line (docs/REFERENCE.md, "Exploring"; this project's own).
+use Rattle.std.specs.Prelude.{◌≡◌, ℕ, ◌≤◌, ◌⊎◌, Bool, IsOk, length, Some, None}
+use Rattle.ga_image.specs.Lines.{longest, Text}
+use Rattle.ga_grid.specs.declared.node_id.NodeId.{NodeId}
+use Rattle.ga_lab.specs.Machine.{State, chip_of, rewind_answer}
+use Rattle.ga_lab.specs.declared.fault.LabFault.TheVariants.{Memory}
+use Rattle.ga_search.specs.Effects.{effects_of}
+use Rattle.ga_search.specs.Stuck.{AreStuck}
+use Rattle.ga_search.specs.Freed.{IsWithin}
+use Rattle.ga_search.specs.Running.{running, after, AreMade, HasEnded}
+use Rattle.ga_search.specs.declared.schedule.Schedule.{Schedule}
+use Rattle.ga_search.specs.declared.condition.Condition.{Condition}
+use Rattle.ga_search.specs.declared.running.End.{End}
+use Rattle.ga_console.specs.Texts.{refusal_text}
+use Rattle.ga_console.specs.Replies.{Answer}
+use Rattle.ga_explorer.specs.Reading.{request_in}
+use Rattle.ga_explorer.specs.Tails.{Exploring}
+use Rattle.ga_explorer.specs.Texts.{run_text, effects_answer, words_text, chip_text, help_text}
+use Rattle.ga_explorer.specs.Waiting.{who_text}
+use Rattle.ga_explorer.specs.Saved.{saved_text}
+use Rattle.ga_explorer.specs.Writing.{writes_text}
+use Rattle.ga_explorer.specs.Around.{around_text}
+use Rattle.ga_explorer.specs.Trees.{TellsWhence}
+use Rattle.ga_explorer.specs.declared.request.Request.{Request}
+use Rattle.ga_explorer.specs.declared.request.Request.TheVariants.{Run, Effects, Words, Writes, At, Whence, Who, Chip, Save, Help}
+
+-- Events were made in the order of the schedule, at most so many, up to the first after which the condition holds: the text says
+-- how many and why no more, and the machine is the one after them.
+pub record IsRun (s : State) (schedule : Schedule) (most : ℕ) (until : Condition) (answer : Text) (new : State) : Type 0 where
+  pub events : ℕ
+  pub end : End
+  pub made : AreMade (running s schedule) events
+  pub within : events ≤ most
+  pub ended : HasEnded (running s schedule) most until events end
+  pub state : new ≡ (after (running s schedule) events).state
+  pub text : answer ≡ run_text events end
+
+-- It is told what a rollback would take, or memory is wanting where one could be made.
+abbrev pub TellsEffects : State → NodeId → ℕ → Text → Type 0
+TellsEffects s node step answer =
+    (answer ≡ effects_answer (effects_of s node.number step) (rewind_answer s node.number step))
+    ⊎ (IsOk (rewind_answer s node.number step) × (answer ≡ refusal_text Memory))
+
+-- Of each node that waits it is told for whom, and which nodes can never go on: of all such sets of nodes the greatest.
+pub record TellsWho (s : State) (answer : Text) : Type 0 where
+  pub marks : ℕ → Bool
+  pub stuck : AreStuck (chip_of s) marks
+  pub greatest : (others : ℕ → Bool) → AreStuck (chip_of s) others → IsWithin others marks
+  pub text : answer ≡ who_text (chip_of s) marks
+
+-- what is answered to a command of exploring, and what is explored then
+abbrev pub Explored : Exploring → Request → Text → Exploring → Type 0
+Explored e (Run schedule most until) answer new = IsRun e.lab schedule most until answer new.lab × (new.notes ≡ e.notes)
+Explored e (Effects node step) answer new = TellsEffects e.lab node step answer × (new ≡ e)
+Explored e (Words from to) answer new = (answer ≡ words_text e.lab from to) × (new ≡ e)
+Explored e (Writes node address) answer new = (answer ≡ writes_text e.lab node address) × (new ≡ e)
+Explored e (At node step around) answer new = (answer ≡ around_text e.notes e.lab node step around) × (new ≡ e)
+Explored e (Whence node step) answer new = TellsWhence e.notes e.lab node step answer × (new ≡ e)
+Explored e Who answer new = TellsWho e.lab answer × (new ≡ e)
+Explored e Chip answer new = (answer ≡ chip_text e.lab) × (new ≡ e)
+Explored e Save answer new = (answer ≡ saved_text e.lab) × (new ≡ e)
+Explored e Help answer new = (answer ≡ help_text) × (new ≡ e)
+
+-- The answer to a line: it spells a command of exploring, or is answered as the debugger answers it.
+pub data Explores (e : Exploring) (line answer : Text) (new : Exploring) : Type 0 where
+  explored : (asked : Request) → length line ≤ longest → request_in e.notes line ≡ Some asked → Explored e asked answer new → Explores e line answer new
+  debugged : (length line ≤ longest → request_in e.notes line ≡ None) → Answer e.lab line answer new.lab → new.notes ≡ e.notes → Explores e line answer new

@@ -1,0 +1,269 @@
+-- The commands of exploring, and how a line is read as one: words with one space between two of them (docs/REFERENCE.md,
+-- "Exploring"; this project's own). Nodes and numbers are spelled as in the debugger's commands.
+use Rattle.std.specs.Prelude.{ℕ, ◌+◌, ◌*◌, ◌^◌, nat_eq, nat_lt, nat_le, if◌then◌else◌, [], ◌∷◌, codes, Option, Some, None, option_map}
+use Rattle.std.specs.Cmp.Lexicographic.{pointwise}
+use Rattle.ga_image.specs.Lines.{Line}
+use Rattle.ga_grid.specs.declared.node_id.NodeId.{NodeId}
+use Rattle.ga_ports.specs.Steps.{◌>>=◌}
+use Rattle.ga_image.specs.Digits.{byte_in}
+use Rattle.ga_console.specs.Parsing.{cut, node_in, number_in}
+use Rattle.ga_search.specs.Schedules.{in_rounds, greedily, at_random}
+use Rattle.ga_search.specs.declared.schedule.Schedule.{Schedule}
+use Rattle.ga_search.specs.declared.condition.Condition.{Condition}
+use Rattle.ga_search.specs.declared.condition.Condition.TheVariants.{Never, Passes, PassesNumber, Steps, Stops, StopsAt, WaitsAt, Holds, ComesTo}
+use Rattle.ga_notes.specs.declared.notes.Notes.{Notes}
+use Rattle.ga_notes.specs.Notes.{address_of}
+use Rattle.ga_explorer.specs.declared.request.Request.{Request}
+use Rattle.ga_explorer.specs.declared.request.Request.TheVariants.{Run, Effects, Words, Writes, At, Whence, Who, Chip, Save, Help}
+
+-- how many events are made at most where no number is given
+abbrev pub most_events : ℕ
+most_events = 4294967295
+
+-- ---- a condition
+
+-- a number that fits in a word
+abbrev pub in_word : ℕ → Option ℕ
+in_word n = if nat_lt n (2 ^ 18) then Some n else None
+
+-- a word of six hexadecimal digits, in either case
+unfoldable pub word_in : Line → Option ℕ
+word_in (a ∷ b ∷ c ∷ d ∷ e ∷ f ∷ []) = do
+  high ← byte_in (a ∷ b ∷ [])
+  middle ← byte_in (c ∷ d ∷ [])
+  low ← byte_in (e ∷ f ∷ [])
+  in_word (65536 * high + 256 * middle + low)
+word_in _ = None
+
+-- `= W`
+unfoldable pub equal_in : Line → Option ℕ
+equal_in text = do
+  parts ← cut text
+  if pointwise nat_eq parts.0 (codes "=") then word_in parts.1 else None
+
+-- `NNN K`
+unfoldable pub steps_in : Line → Option Condition
+steps_in text = do
+  parts ← cut text
+  node ← node_in parts.0
+  step ← number_in parts.1
+  Some (Steps node step)
+
+-- `= W` or `J` behind `NNN MMM`
+abbrev pub passed_cut : NodeId → NodeId → Option (Line × Line) → Line → Option Condition
+passed_cut writer reader None text = option_map (PassesNumber writer reader) (number_in text)
+passed_cut writer reader (Some parts) text = option_map (Passes writer reader) (equal_in text)
+
+abbrev pub passed_in : NodeId → NodeId → Line → Option Condition
+passed_in writer reader text = passed_cut writer reader (cut text) text
+
+-- `NNN MMM = W` or `NNN MMM J`
+unfoldable pub passes_in : Line → Option Condition
+passes_in text = do
+  first ← cut text
+  second ← cut first.1
+  writer ← node_in first.0
+  reader ← node_in second.0
+  passed_in writer reader second.1
+
+-- `NNN HH = W`
+unfoldable pub holds_in : Line → Option Condition
+holds_in text = do
+  first ← cut text
+  second ← cut first.1
+  node ← node_in first.0
+  address ← byte_in second.0
+  word ← equal_in second.1
+  Some (Holds node address word)
+
+-- a label of a node, which only source gives
+abbrev pub label_in : Option Notes → NodeId → Line → Option ℕ
+label_in None node text = None
+label_in (Some notes) node text = address_of notes.names.items node text
+
+abbrev pub word_or : Option ℕ → Option ℕ → Option ℕ
+word_or None other = other
+word_or (Some word) other = Some word
+
+-- an address, or else a label
+abbrev pub address_in : Option Notes → NodeId → Line → Option ℕ
+address_in notes node text = word_or (word_in text) (label_in notes node text)
+
+-- `NNN X`
+unfoldable pub comes_in : Option Notes → Line → Option Condition
+comes_in notes text = do
+  parts ← cut text
+  node ← node_in parts.0
+  address ← address_in notes node parts.1
+  Some (ComesTo node address)
+
+-- a condition of one word
+unfoldable pub lone_condition : Line → Option Condition
+lone_condition name = if pointwise nat_eq name (codes "stop") then Some Stops else None
+
+-- a condition of a word and what stands behind it
+unfoldable pub named_condition : Option Notes → Line → Line → Option Condition
+named_condition notes name text =
+    if pointwise nat_eq name (codes "stop") then option_map StopsAt (node_in text)
+    else if pointwise nat_eq name (codes "wait") then option_map WaitsAt (node_in text)
+    else if pointwise nat_eq name (codes "step") then steps_in text
+    else if pointwise nat_eq name (codes "pass") then passes_in text
+    else if pointwise nat_eq name (codes "mem") then holds_in text
+    else if pointwise nat_eq name (codes "p") then comes_in notes text
+    else None
+
+abbrev pub condition_by : Option Notes → Option (Line × Line) → Line → Option Condition
+condition_by notes None text = lone_condition text
+condition_by notes (Some parts) text = named_condition notes parts.0 parts.1
+
+abbrev pub condition_in : Option Notes → Line → Option Condition
+condition_in notes text = condition_by notes (cut text) text
+
+-- ---- `run`
+
+abbrev pub run_until : Option Notes → Schedule → ℕ → Line → Option Request
+run_until notes schedule most text = option_map (Run schedule most) (condition_in notes text)
+
+-- `until COND` behind a number
+unfoldable pub until_in : Option Notes → Schedule → ℕ → Line → Option Request
+until_in notes schedule most text = do
+  parts ← cut text
+  if pointwise nat_eq parts.0 (codes "until") then run_until notes schedule most parts.1 else None
+
+-- `until COND`, or a number and `until COND`
+unfoldable pub bounded_by : Option Notes → Schedule → Line → Line → Option Request
+bounded_by notes schedule name text =
+    if pointwise nat_eq name (codes "until") then run_until notes schedule most_events text
+    else (do
+      most ← number_in name
+      until_in notes schedule most text)
+
+abbrev pub bounded_cut : Option Notes → Option (Line × Line) → Schedule → Line → Option Request
+bounded_cut notes None schedule text = option_map (λ most. Run schedule most Never) (number_in text)
+bounded_cut notes (Some parts) schedule text = bounded_by notes schedule parts.0 parts.1
+
+-- a number, `until COND`, or both
+abbrev pub bounded_in : Option Notes → Schedule → Line → Option Request
+bounded_in notes schedule text = bounded_cut notes (cut text) schedule text
+
+abbrev pub seeded_cut : Option Notes → Option (Line × Line) → Line → Option Request
+seeded_cut notes None text = option_map (λ seed. Run (at_random seed) most_events Never) (number_in text)
+seeded_cut notes (Some parts) text = do
+  seed ← number_in parts.0
+  bounded_in notes (at_random seed) parts.1
+
+-- a seed, and what bounds the run
+abbrev pub seeded_in : Option Notes → Line → Option Request
+seeded_in notes text = seeded_cut notes (cut text) text
+
+-- an order of one word, or what bounds a run in rounds
+unfoldable pub lone_order : Option Notes → Line → Option Request
+lone_order notes text = if pointwise nat_eq text (codes "greedy") then Some (Run greedily most_events Never) else bounded_in notes in_rounds text
+
+-- an order with what stands behind it, or what bounds a run in rounds
+unfoldable pub named_order : Option Notes → Line → Line → Line → Option Request
+named_order notes name rest text =
+    if pointwise nat_eq name (codes "greedy") then bounded_in notes greedily rest
+    else if pointwise nat_eq name (codes "random") then seeded_in notes rest
+    else bounded_in notes in_rounds text
+
+abbrev pub run_by : Option Notes → Option (Line × Line) → Line → Option Request
+run_by notes None text = lone_order notes text
+run_by notes (Some parts) text = named_order notes parts.0 parts.1 text
+
+-- what stands behind `run`
+abbrev pub run_in : Option Notes → Line → Option Request
+run_in notes text = run_by notes (cut text) text
+
+-- ---- `effects`, `words`, `writes`, `at` and `whence`
+
+-- `NNN K`
+unfoldable pub effects_in : Line → Option Request
+effects_in text = do
+  parts ← cut text
+  node ← node_in parts.0
+  step ← number_in parts.1
+  Some (Effects node step)
+
+-- `NNN MMM`
+unfoldable pub words_in : Line → Option Request
+words_in text = do
+  parts ← cut text
+  from ← node_in parts.0
+  to ← node_in parts.1
+  Some (Words from to)
+
+-- `NNN HH`
+unfoldable pub writes_in : Line → Option Request
+writes_in text = do
+  parts ← cut text
+  node ← node_in parts.0
+  address ← byte_in parts.1
+  Some (Writes node address)
+
+-- how many steps `at` tells before and behind one where no number is given, and how many at most
+abbrev pub few_steps : ℕ
+few_steps = 3
+
+abbrev pub most_steps : ℕ
+most_steps = 99
+
+abbrev pub steps_around : NodeId → ℕ → ℕ → Option Request
+steps_around node step around = if nat_le around most_steps then Some (At node step around) else None
+
+-- `K` or `K N` behind a node
+abbrev pub around_cut : NodeId → Option (Line × Line) → Line → Option Request
+around_cut node None text = option_map (λ step. At node step few_steps) (number_in text)
+around_cut node (Some parts) text = do
+  step ← number_in parts.0
+  around ← number_in parts.1
+  steps_around node step around
+
+abbrev pub around_in : NodeId → Line → Option Request
+around_in node text = around_cut node (cut text) text
+
+-- `NNN K` or `NNN K N`
+unfoldable pub at_in : Line → Option Request
+at_in text = do
+  parts ← cut text
+  node ← node_in parts.0
+  around_in node parts.1
+
+-- `NNN K`
+unfoldable pub whence_in : Line → Option Request
+whence_in text = do
+  parts ← cut text
+  node ← node_in parts.0
+  step ← number_in parts.1
+  Some (Whence node step)
+
+-- ---- a line
+
+-- a command of one word
+unfoldable pub lone_request : Line → Option Request
+lone_request name =
+    if pointwise nat_eq name (codes "run") then Some (Run in_rounds most_events Never)
+    else if pointwise nat_eq name (codes "who") then Some Who
+    else if pointwise nat_eq name (codes "chip") then Some Chip
+    else if pointwise nat_eq name (codes "save") then Some Save
+    else if pointwise nat_eq name (codes "help") then Some Help
+    else None
+
+-- a command of a word and what stands behind it
+unfoldable pub named_request : Option Notes → Line → Line → Option Request
+named_request notes name text =
+    if pointwise nat_eq name (codes "run") then run_in notes text
+    else if pointwise nat_eq name (codes "effects") then effects_in text
+    else if pointwise nat_eq name (codes "words") then words_in text
+    else if pointwise nat_eq name (codes "writes") then writes_in text
+    else if pointwise nat_eq name (codes "at") then at_in text
+    else if pointwise nat_eq name (codes "whence") then whence_in text
+    else None
+
+abbrev pub request_by : Option Notes → Option (Line × Line) → Line → Option Request
+request_by notes None line = lone_request line
+request_by notes (Some parts) line = named_request notes parts.0 parts.1
+
+-- the command of exploring that a line spells, where it spells one
+abbrev pub request_in : Option Notes → Line → Option Request
+request_in notes line = request_by notes (cut line) line

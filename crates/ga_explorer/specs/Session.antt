@@ -1,0 +1,31 @@
+-- What a whole session of exploring may write, and how it may end (docs/REFERENCE.md, "Exploring"; this project's own).
+use Rattle.std.specs.Prelude.{◌≡◌, ℕ, ◌-◌, ◌++◌, length, Result}
+use Rattle.ga_image.specs.Lines.{Bytes, Text}
+use Rattle.ga_console.specs.Input.{input_limit}
+use Rattle.ga_console.specs.Output.{ready}
+use Rattle.ga_console.specs.Run.{status_of}
+use Rattle.ga_console.specs.Session.{Serves, Written}
+use Rattle.ga_console.specs.declared.commands.Ending.{Ending}
+use Rattle.ga_console.specs.declared.output.WriteFailed.{WriteFailed}
+use Rattle.ga_console.specs.declared.run.Status.{Status}
+use Rattle.ga_explorer.specs.Tails.{Exploring}
+use Rattle.ga_explorer.specs.Answers.{Explores}
+use Rattle.ga_explorer.specs.Opening.{Opens, IsFront, Unbegun}
+
+-- The text, an image or source, was accepted, and the commands behind it were served to this ending.
+pub record Served (limit : ℕ) (read rest : Bytes) (written : Text) (ending : Result Ending WriteFailed) : Type 0 where
+  pub text : Text
+  pub commands : Bytes
+  pub begun : Exploring
+  pub said : Text
+  pub splits : read ≡ text ++ commands
+  pub front : IsFront text (commands ++ rest)
+  pub opens : Opens text limit begun
+  pub last : Exploring
+  pub serves : Serves Explores (input_limit - length text) begun commands rest said last ending
+  pub out : Written ending (ready ++ said) written
+
+-- What a session may have written, where read was read of its input and rest is left of it, and its status.
+pub data Runs (limit : ℕ) (read rest : Bytes) (written : Text) (status : Status) : Type 0 where
+  served : (ending : Result Ending WriteFailed) → status ≡ status_of ending → Served limit read rest written ending → Runs limit read rest written status
+  unbegun : Unbegun read rest written status → Runs limit read rest written status

@@ -1,0 +1,41 @@
+-- What is explored, and what a source says of cells behind the lines that name them (docs/REFERENCE.md, "Exploring"; this project's
+-- own).
+use Rattle.std.specs.Prelude.{ℕ, ◌+◌, ◌%◌, ◌==◌, if◌then◌else◌, [], ◌++◌, codes, Option, Some, None}
+use Rattle.ga_image.specs.Lines.{Text}
+use Rattle.ga_grid.specs.declared.node_id.NodeId.{NodeId}
+use Rattle.ga_lab.specs.Machine.{State}
+use Rattle.ga_flow.specs.declared.part.Part.{Part}
+use Rattle.ga_flow.specs.declared.part.Part.TheVariants as part
+use Rattle.ga_notes.specs.declared.notes.Notes.{Notes}
+use Rattle.ga_notes.specs.Notes.{text_of}
+use Rattle.ga_origin.specs.declared.value.Value.{Value}
+use Rattle.ga_origin.specs.Fetched.{fetched_cell}
+
+-- a machine, and what the source says of its cells where it began with source
+pub record Exploring : Type 0 where
+  pub lab : State
+  pub notes : Option Notes
+
+-- what is said of a cell of a node; of an image nothing
+abbrev pub noted_text : Option Notes → NodeId → Option ℕ → Text
+noted_text None node cell = []
+noted_text (Some notes) node cell = text_of notes.notes.items node cell
+
+-- and the end of the line
+abbrev pub tail_text : Option Notes → NodeId → Option ℕ → Text
+tail_text notes node cell = noted_text notes node cell ++ codes "\n"
+
+-- behind a step of a node: the cell from which its instruction word was fetched
+abbrev pub step_tail : Option Notes → State → NodeId → ℕ → Text
+step_tail notes s node step = tail_text notes node (fetched_cell s node step)
+
+-- the cell that a part of a node is
+abbrev pub part_cell : Part → Option ℕ
+part_cell (part.Ram k) = Some k
+part_cell (part.Rom k) = Some (128 + k % 64)
+part_cell _ = None
+
+-- behind a value: of the step that made it, or of the cell where it was loaded
+abbrev pub value_tail : Option Notes → State → Value → Text
+value_tail notes s value =
+    if value.step == 0 then tail_text notes value.node (part_cell value.part) else step_tail notes s value.node value.step

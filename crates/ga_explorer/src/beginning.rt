@@ -1,0 +1,75 @@
+//! The front of a session: an image or source is read, and opened.
+ghost use Rattle.std.specs.Prelude.{◌≡◌, ◌++◌, [], Some};
+ghost use Rattle.ga_image.specs.Lines.{Bytes};
+ghost use Rattle.ga_console.specs.Input.{IsWithin};
+ghost use Rattle.ga_explorer.specs.Opening.{IsBegun};
+ghost use Rattle.ga_explorer.specs.kept.Opening.{IsOpened};
+
+use crate::explorer::Explorer;
+use crate::opening::{Unopened, is_image, open_text};
+use ga_console::{ImageEnd, Input, Status, read_image, refuse, tell_long};
+use ga_image::{ImageCause, ImageFault};
+use std::alloc::Global;
+use std::io::{Read, Write};
+
+/// The fault of an image for which memory was wanting.
+const NO_MEMORY: ImageFault = ImageFault {
+    line: 0,
+    cause: ImageCause::Memory,
+};
+
+/// Reads an image or source up to its first line `end`, and opens a lab that has its chip as its load, to be explored. A text whose first line
+/// begins with `ga144` is an image, and any other is source. A refused image gets its refusal on `writer`; source gets a line on
+/// `errors`, as `ga144 asm` writes it.
+///
+/// # Errors
+/// The status of a session that ends so.
+pub fn begin<R: Read, W: Write, E: Write>(
+    alloc: Global,
+    input: &mut Input,
+    reader: &mut R,
+    writer: &mut W,
+    errors: &mut E,
+    limit: u32,
+) -> Result<Explorer, Status>
+    requires fresh { input.old ≡ record { bytes = []; taken = 0 } }
+    ensures begun { (left before : Bytes) →
+        R.remaining reader.old ≡ Some left → W.contents writer.old ≡ Some before →
+        (rest text : Bytes) × (R.remaining reader.new ≡ Some rest) × (W.contents writer.new ≡ Some (before ++ text))
+        × IsBegun limit left input.new rest text result }
+    ensures within { IsWithin input.new }
+{
+    let mut text = Vec::new(alloc);
+    match read_image(input, reader, &mut text) {
+        Err(_) => Err(refuse(writer, NO_MEMORY)),
+        Ok(ImageEnd::Failed) => Err(Status::StreamFault),
+        Ok(ImageEnd::Past) => {
+            // No image that is accepted is so long.
+            if is_image(text.as_slice()) {
+                return open_or_refuse(alloc, writer, errors, text, limit);
+            }
+            tell_long(errors);
+            Err(Status::ImageRefused)
+        }
+        Ok(ImageEnd::Ended) => open_or_refuse(alloc, writer, errors, text, limit),
+        Ok(ImageEnd::EndLine) => open_or_refuse(alloc, writer, errors, text, limit),
+    }
+}
+
+/// Opens a lab on an image or source, or refuses it.
+fn open_or_refuse<W: Write, E: Write>(
+    alloc: Global,
+    writer: &mut W,
+    errors: &mut E,
+    text: Vec<u8>,
+    limit: u32,
+) -> Result<Explorer, Status>
+    ensures { (before : Bytes) → W.contents writer.old ≡ Some before →
+        (written : Bytes) × (W.contents writer.new ≡ Some (before ++ written)) × IsOpened limit text.items written result }
+{
+    match open_text(alloc, errors, text, limit) {
+        Ok(begun) => Ok(begun),
+        Err(Unopened::Image(fault)) => Err(refuse(writer, fault)),
+        Err(Unopened::Source) => Err(Status::ImageRefused),
+    }
+}

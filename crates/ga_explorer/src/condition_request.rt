@@ -1,0 +1,165 @@
+//! Conditions, as lines spell them.
+
+ghost use Rattle.std.specs.Prelude.{◌≡◌};
+ghost use Rattle.ga_explorer.specs.Reading.{condition_in, lone_condition, named_condition, steps_in, passes_in, passed_in, holds_in, comes_in, address_in, label_in, equal_in, word_in};
+
+use ga_console::{cut, node_of, number_of};
+use ga_grid::NodeId;
+use ga_image::byte_of;
+use ga_notes::Notes;
+use ga_search::Condition;
+use ga_word::Word18;
+
+/// The condition that a text spells, or none.
+pub(crate) fn condition_of(notes: &Option<Notes>, text: &[u8]) -> Option<Condition>
+    ensures { result ≡ condition_in notes.now text.now }
+{
+    match cut(text) {
+        Some((name, rest)) => named_condition(notes, name, rest),
+        None => lone_condition(text),
+    }
+}
+
+#[tactic(auto, unfolding(crate::specs::Reading::lone_condition))]
+fn lone_condition(name: &[u8]) -> Option<Condition>
+    ensures { result ≡ lone_condition name.now }
+{
+    match name {
+        b"stop" => Some(Condition::Stops),
+        _ => None,
+    }
+}
+
+#[tactic(auto, unfolding(crate::specs::Reading::named_condition))]
+fn named_condition(notes: &Option<Notes>, name: &[u8], rest: &[u8]) -> Option<Condition>
+    ensures { result ≡ named_condition notes.now name.now rest.now }
+{
+    if name == b"stop".as_slice() {
+        Some(Condition::StopsAt(node_of(rest)?))
+    } else if name == b"wait".as_slice() {
+        Some(Condition::WaitsAt(node_of(rest)?))
+    } else if name == b"step".as_slice() {
+        steps_of(rest)
+    } else if name == b"pass".as_slice() {
+        passes_of(rest)
+    } else if name == b"mem".as_slice() {
+        holds_of(rest)
+    } else if name == b"p".as_slice() {
+        comes_of(notes, rest)
+    } else {
+        None
+    }
+}
+
+/// `NNN K`
+#[tactic(auto, unfolding(crate::specs::Reading::steps_in))]
+fn steps_of(text: &[u8]) -> Option<Condition>
+    ensures { result ≡ steps_in text.now }
+{
+    let (node, step) = cut(text)?;
+    Some(Condition::Steps {
+        node: node_of(node)?,
+        step: number_of(step)?,
+    })
+}
+
+/// `NNN MMM = W` or `NNN MMM J`
+#[tactic(auto, unfolding(crate::specs::Reading::passes_in))]
+fn passes_of(text: &[u8]) -> Option<Condition>
+    ensures { result ≡ passes_in text.now }
+{
+    let (writer, rest) = cut(text)?;
+    let (reader, rest) = cut(rest)?;
+    passed_of(node_of(writer)?, node_of(reader)?, rest)
+}
+
+/// `= W` or `J`
+fn passed_of(writer: NodeId, reader: NodeId, text: &[u8]) -> Option<Condition>
+    ensures { result ≡ passed_in writer reader text.now }
+{
+    match cut(text) {
+        Some(_) => Some(Condition::Passes {
+            writer,
+            reader,
+            word: equal_of(text)?,
+        }),
+        None => Some(Condition::PassesNumber {
+            writer,
+            reader,
+            number: number_of(text)?,
+        }),
+    }
+}
+
+/// `NNN HH = W`
+#[tactic(auto, unfolding(crate::specs::Reading::holds_in))]
+fn holds_of(text: &[u8]) -> Option<Condition>
+    ensures { result ≡ holds_in text.now }
+{
+    let (node, rest) = cut(text)?;
+    let (address, rest) = cut(rest)?;
+    Some(Condition::Holds {
+        node: node_of(node)?,
+        address: byte_of(address)?,
+        word: equal_of(rest)?,
+    })
+}
+
+/// `NNN X`
+#[tactic(auto, unfolding(crate::specs::Reading::comes_in))]
+fn comes_of(notes: &Option<Notes>, text: &[u8]) -> Option<Condition>
+    ensures { result ≡ comes_in notes.now text.now }
+{
+    let (node, address) = cut(text)?;
+    let node = node_of(node)?;
+    let address = address_of(notes, node, address)?;
+    Some(Condition::ComesTo { node, address })
+}
+
+/// An address, or else a label of the node, which only source gives.
+fn address_of(notes: &Option<Notes>, node: NodeId, text: &[u8]) -> Option<u32>
+    ensures { result ≡ address_in notes.now node text.now }
+{
+    match word_of(text) {
+        Some(word) => Some(word.get()),
+        None => label_of(notes, node, text),
+    }
+}
+
+/// The address of a label.
+fn label_of(notes: &Option<Notes>, node: NodeId, text: &[u8]) -> Option<u32>
+    ensures { result ≡ label_in notes.now node text.now }
+{
+    match notes {
+        Some(notes) => notes.address_of(node, text),
+        None => None,
+    }
+}
+
+/// `= W`
+#[tactic(auto, unfolding(crate::specs::Reading::equal_in))]
+fn equal_of(text: &[u8]) -> Option<Word18>
+    ensures { result ≡ equal_in text.now }
+{
+    let (sign, word) = cut(text)?;
+    match sign {
+        b"=" => word_of(word),
+        _ => None,
+    }
+}
+
+/// A word of six hexadecimal digits, in either case.
+#[tactic(auto, unfolding(crate::specs::Reading::word_in))]
+fn word_of(text: &[u8]) -> Option<Word18>
+    ensures { result ≡ word_in text.now }
+{
+    match text {
+        [a, b, c, d, e, f] => {
+            let high = byte_of(&[*a, *b])?;
+            let middle = byte_of(&[*c, *d])?;
+            let low = byte_of(&[*e, *f])?;
+            Word18::new(65536 * u32::from(high) + 256 * u32::from(middle) + u32::from(low))
+        }
+        _ => None,
+    }
+}

@@ -1,0 +1,150 @@
+//! What answers the lines of a session of exploring.
+
+ghost use Rattle.std.specs.Prelude.{◌≡◌, ◌≤◌, length, Some, None, IfSome, IfNone};
+ghost use Rattle.ga_console.specs.kept.Output.{Says};
+ghost use Rattle.ga_explorer.specs.Reading.{request_in};
+ghost use Rattle.ga_explorer.specs.kept.Exploring.{exploring};
+ghost use Rattle.ga_explorer.specs.Answers.{Explored};
+
+use crate::at_text::say_around;
+use crate::chip_text::glance;
+use crate::effects_text::say_effects;
+use crate::help::help;
+use crate::request::{Request, request_of};
+use crate::run_text::ran_text;
+use crate::saved_text::say_saved;
+use crate::whence_text::say_whence;
+use crate::who_text::say_who;
+use crate::words_text::say_words;
+use crate::writes_text::say_writes;
+use ga_console::{Command, Line, Output, Responder, Turn, WriteFailed};
+use ga_image::LINE_LIMIT;
+use ga_lab::Lab;
+use ga_notes::Notes;
+use ga_search::run;
+use std::alloc::Global;
+use std::io::Write;
+use std::marker::Model;
+
+/// A lab that is explored, and what its source says of the cells, where it began with source.
+#[derive(Drop)]
+pub struct Explorer {
+    lab: Lab,
+    notes: Option<Notes>,
+}
+
+impl Model for Explorer {
+    ghost use Rattle.ga_explorer.specs.Tails.{Exploring};
+    ghost use Rattle.ga_explorer.specs.kept.Exploring.{exploring};
+
+    ghost Value = { Exploring };
+
+    ghost view = { λ e. exploring e.lab e.notes };
+}
+
+impl Explorer {
+    /// To explore a lab, with these notes of its cells.
+    pub(crate) fn of(lab: Lab, notes: Option<Notes>) -> Self
+        ensures { result ≡ exploring lab notes }
+    {
+        Explorer { lab, notes }
+    }
+
+    /// The lab.
+    pub fn lab(&self) -> &Lab
+        ensures { result.now ≡ self.now.lab }
+    {
+        &self.lab
+    }
+}
+
+impl Responder for Explorer {
+    ghost use Rattle.std.specs.Prelude.{None};
+    ghost use Rattle.ga_explorer.specs.kept.Exploring.{exploring};
+    ghost use Rattle.ga_explorer.specs.Answers.{Explores};
+
+    ghost answers = { Explores };
+
+    ghost begin = { λ s. exploring s None };
+
+    fn open(lab: Lab) -> Self {
+        Explorer { lab, notes: None }
+    }
+
+    fn answer<W: Write>(
+        &mut self,
+        alloc: Global,
+        line: &Line,
+        output: &mut Output,
+        writer: &mut W,
+    ) -> Result<Turn, WriteFailed> {
+        match asked_by(&self.notes, line) {
+            Some(asked) => {
+                explored(alloc, &mut self.lab, &self.notes, asked, output, writer)?;
+                Ok(Turn::Answered)
+            }
+            None => self.lab.answer(alloc, line, output, writer),
+        }
+    }
+
+    #[inline(always)]
+    fn obey<W: Write>(
+        &mut self,
+        alloc: Global,
+        command: Command,
+        output: &mut Output,
+        writer: &mut W,
+    ) -> Result<(), WriteFailed> {
+        self.lab.obey(alloc, command, output, writer)
+    }
+}
+
+/// The command of exploring that a line spells, where it is not too long.
+fn asked_by(notes: &Option<Notes>, line: &Line) -> Option<Request>
+    ensures some { IfSome result (λ asked. (length line.now.items ≤ LINE_LIMIT) × (request_in notes.now line.now.items ≡ Some asked)) }
+    ensures none { IfNone result (length line.now.items ≤ LINE_LIMIT → request_in notes.now line.now.items ≡ None) }
+{
+    if line.len() <= LINE_LIMIT {
+        request_of(notes, line.as_slice())
+    } else {
+        None
+    }
+}
+
+/// Carries a command of exploring out.
+///
+/// # Errors
+/// A write failed.
+fn explored<W: Write>(
+    alloc: Global,
+    lab: &mut Lab,
+    notes: &Option<Notes>,
+    asked: Request,
+    output: &mut Output,
+    writer: &mut W,
+) -> Result<(), WriteFailed>
+    ensures { Says result (λ text. Explored (exploring lab.old notes.now) asked text (exploring lab.new notes.now))
+        (W.contents writer.old) output.old (W.contents writer.new) output.new }
+{
+    match asked {
+        Request::Run {
+            schedule,
+            most,
+            until,
+        } => {
+            let ran = run(lab, schedule, u64::from(most), &until);
+            output.say_blocks(writer, ran_text(&ran).as_slice())
+        }
+        Request::Effects { node, step } => say_effects(alloc, lab, node, step, output, writer),
+        Request::Words { from, to } => say_words(lab, from, to, output, writer),
+        Request::Writes { node, address } => say_writes(lab, node, address, output, writer),
+        Request::At { node, step, around } => say_around(
+            lab, notes, node, step, around, output, writer,
+        ),
+        Request::Whence { node, step } => say_whence(alloc, lab, notes, node, step, output, writer),
+        Request::Who => say_who(lab, output, writer),
+        Request::Chip => output.say_blocks(writer, glance(lab).as_slice()),
+        Request::Save => say_saved(lab, output, writer),
+        Request::Help => output.say_blocks(writer, help()),
+    }
+}

@@ -1,0 +1,17 @@
+//! A law of the definitions, the contract of a function that does nothing.
+
+ghost use Rattle.std.specs.Prelude.{length};
+ghost use Rattle.ga_lab.specs.Calls.{IsReached};
+ghost use Rattle.ga_lab.specs.Machine.{State, first};
+ghost use Rattle.ga_explorer.specs.Saved.{saved_lines, Leads};
+
+use ga_lab::laws::reached_forward;
+
+/// The lines of `save` are commands of the debugger that lead from the load back to the machine, whatever was taken back on the way
+/// to it: it keeps the same events, and has made no others.
+pub fn saved_again()
+    ensures { (s : State) → IsReached s →
+        Leads (first s.load s.limit) (saved_lines s) (record s { made = length s.kept }) }
+{
+    reached_forward();
+}

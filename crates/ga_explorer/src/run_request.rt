@@ -1,0 +1,122 @@
+//! What stands behind `run`: an order, how many events, and a condition.
+
+ghost use Rattle.std.specs.Prelude.{◌≡◌};
+ghost use Rattle.ga_explorer.specs.Reading.{run_in, lone_order, named_order, seeded_in, bounded_in, bounded_by, until_in, run_until};
+
+use crate::condition_request::condition_of;
+use crate::request::{MOST_EVENTS, Request};
+use ga_console::{cut, number_of};
+use ga_notes::Notes;
+use ga_search::{Condition, Schedule};
+
+/// What stands behind `run` and a space.
+pub(crate) fn run_of(notes: &Option<Notes>, text: &[u8]) -> Option<Request>
+    ensures { result ≡ run_in notes.now text.now }
+{
+    match cut(text) {
+        Some((name, rest)) => named_order(notes, name, rest, text),
+        None => lone_order(notes, text),
+    }
+}
+
+/// An order of one word, or what bounds a run in rounds.
+#[tactic(auto, unfolding(crate::specs::Reading::lone_order))]
+fn lone_order(notes: &Option<Notes>, text: &[u8]) -> Option<Request>
+    ensures { result ≡ lone_order notes.now text.now }
+{
+    if text == b"greedy".as_slice() {
+        Some(Request::Run {
+            schedule: Schedule::greedily(),
+            most: MOST_EVENTS,
+            until: Condition::Never,
+        })
+    } else {
+        bounded_of(notes, Schedule::in_rounds(), text)
+    }
+}
+
+/// An order with what stands behind it, or what bounds a run in rounds.
+#[tactic(auto, unfolding(crate::specs::Reading::named_order))]
+fn named_order(notes: &Option<Notes>, name: &[u8], rest: &[u8], text: &[u8]) -> Option<Request>
+    ensures { result ≡ named_order notes.now name.now rest.now text.now }
+{
+    if name == b"greedy".as_slice() {
+        bounded_of(notes, Schedule::greedily(), rest)
+    } else if name == b"random".as_slice() {
+        seeded_of(notes, rest)
+    } else {
+        bounded_of(notes, Schedule::in_rounds(), text)
+    }
+}
+
+/// A seed, and what bounds the run.
+fn seeded_of(notes: &Option<Notes>, text: &[u8]) -> Option<Request>
+    ensures { result ≡ seeded_in notes.now text.now }
+{
+    match cut(text) {
+        Some((seed, rest)) => {
+            let seed = number_of(seed)?;
+            bounded_of(notes, Schedule::at_random(u64::from(seed)), rest)
+        }
+        None => {
+            let seed = number_of(text)?;
+            Some(Request::Run {
+                schedule: Schedule::at_random(u64::from(seed)),
+                most: MOST_EVENTS,
+                until: Condition::Never,
+            })
+        }
+    }
+}
+
+/// A number, `until` and a condition, or both.
+fn bounded_of(notes: &Option<Notes>, schedule: Schedule, text: &[u8]) -> Option<Request>
+    ensures { result ≡ bounded_in notes.now schedule text.now }
+{
+    match cut(text) {
+        Some((name, rest)) => bounded_by(notes, schedule, name, rest),
+        None => Some(Request::Run {
+            schedule,
+            most: number_of(text)?,
+            until: Condition::Never,
+        }),
+    }
+}
+
+/// The same, by its first word and what stands behind that.
+#[tactic(auto, unfolding(crate::specs::Reading::bounded_by))]
+fn bounded_by(
+    notes: &Option<Notes>,
+    schedule: Schedule,
+    name: &[u8],
+    rest: &[u8],
+) -> Option<Request>
+    ensures { result ≡ bounded_by notes.now schedule name.now rest.now }
+{
+    match name {
+        b"until" => run_until(notes, schedule, MOST_EVENTS, rest),
+        _ => until_of(notes, schedule, number_of(name)?, rest),
+    }
+}
+
+/// `until` and a condition.
+#[tactic(auto, unfolding(crate::specs::Reading::until_in))]
+fn until_of(notes: &Option<Notes>, schedule: Schedule, most: u32, text: &[u8]) -> Option<Request>
+    ensures { result ≡ until_in notes.now schedule most text.now }
+{
+    let (name, rest) = cut(text)?;
+    match name {
+        b"until" => run_until(notes, schedule, most, rest),
+        _ => None,
+    }
+}
+
+fn run_until(notes: &Option<Notes>, schedule: Schedule, most: u32, text: &[u8]) -> Option<Request>
+    ensures { result ≡ run_until notes.now schedule most text.now }
+{
+    Some(Request::Run {
+        schedule,
+        most,
+        until: condition_of(notes, text)?,
+    })
+}

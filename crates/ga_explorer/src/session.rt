@@ -1,0 +1,36 @@
+//! A whole session of exploring.
+ghost use Rattle.std.specs.Prelude.{◌≡◌, ◌++◌, Some};
+ghost use Rattle.ga_image.specs.Lines.{Bytes};
+ghost use Rattle.ga_explorer.specs.Session.{Runs};
+
+use crate::beginning::begin;
+use ga_console::{Input, Output, Status, serve, status_of};
+use std::alloc::Global;
+use std::io::{Read, Write};
+
+/// Reads an image or source and then commands, and answers them as `ga_console::session` does. It knows the debugger's commands,
+/// and those of exploring besides. At most `limit` events are kept. Source that has a fault ends the session: `errors` is told of
+/// it, as by `ga144 asm`, and there is no answer.
+pub fn explore<R: Read, W: Write, E: Write>(
+    alloc: Global,
+    reader: &mut R,
+    writer: &mut W,
+    errors: &mut E,
+    limit: u32,
+) -> Status
+    // Where the streams tell their bytes: what was read, and what was written for it by the status.
+    ensures { (left before : Bytes) →
+        R.remaining reader.old ≡ Some left → W.contents writer.old ≡ Some before →
+        (read rest text : Bytes) × (left ≡ read ++ rest) × (R.remaining reader.new ≡ Some rest)
+        × (W.contents writer.new ≡ Some (before ++ text)) × Runs limit read rest text result }
+{
+    let mut input = Input::new();
+    match begin(alloc, &mut input, reader, writer, errors, limit) {
+        Ok(begun) => {
+            let mut session = begun;
+            let mut output = Output::ready();
+            status_of(serve(alloc, &mut input, reader, &mut output, writer, &mut session))
+        }
+        Err(status) => status,
+    }
+}

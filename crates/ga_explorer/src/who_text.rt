@@ -1,0 +1,214 @@
+//! Who waits for whom, told line by line.
+
+ghost use Rattle.std.specs.Prelude.{◌≡◌, ◌++◌, ◌+◌, ◌≤◌, length};
+ghost use Rattle.ga_image.specs.Lines.{Bytes};
+ghost use Rattle.arrayvec.specs.ArrayVec.{array_vec_len};
+ghost use Rattle.ga_grid.specs.Grid.{number_in};
+ghost use Rattle.ga_grid.specs.Chip.{records_of};
+ghost use Rattle.ga_causal.specs.Dependence.{is_marked};
+ghost use Rattle.ga_console.specs.Output.{IsSaid, IsSaidOrCut};
+ghost use Rattle.ga_console.specs.kept.Output.{Says};
+ghost use Rattle.ga_explorer.specs.Waiting.{doing_word, does_text, beside_text, awaited_text, awaiting_text, waiting_text, all_waiting, marked_name, marked_names, stuck_line, stuck_text};
+ghost use Rattle.ga_explorer.specs.Answers.{TellsWho};
+
+use arrayvec::ArrayVec;
+use ga_console::{Output, Text, WriteFailed, push_node, push_text};
+use ga_grid::{Chip, NodeId, neighbour};
+use ga_lab::Lab;
+use ga_node::{Node, Wait};
+use ga_ports::Side;
+use ga_search::{awaits, find_stuck};
+use std::io::Write;
+
+/// The most bytes of what a node does.
+const DOING_ROOM: usize = b"fetches".len();
+
+/// The bytes of a node's name behind a space.
+const NAME_ROOM: usize = b" 717".len();
+
+/// The most bytes of a neighbour: a space, the side, its name, a space and what it does.
+const BESIDE_ROOM: usize = b" r".len() + NAME_ROOM + 1 + DOING_ROOM;
+
+/// The bytes of all names.
+const NAMES_ROOM: usize = 144 * NAME_ROOM;
+
+/// The names of some nodes.
+type Names = ArrayVec<u8, NAMES_ROOM>;
+
+/// The most bytes of the last line.
+const STUCK_ROOM: usize = b"stuck".len() + NAMES_ROOM + 1;
+
+/// The text of the last line.
+type StuckLine = ArrayVec<u8, STUCK_ROOM>;
+
+/// `who`: tells of each node that waits what for, of whom and what that node does, and which nodes can never go on. Takes no memory.
+///
+/// # Errors
+/// A write failed.
+pub(crate) fn say_who<W: Write>(
+    lab: &Lab,
+    output: &mut Output,
+    writer: &mut W,
+) -> Result<(), WriteFailed>
+    ensures { Says result (λ text. TellsWho lab.now text)
+        (W.contents writer.old) output.old (W.contents writer.new) output.new }
+{
+    let chip = lab.chip();
+    let stuck = find_stuck(chip);
+    say_waiting(chip, output, writer)?;
+    output.say_blocks(writer, stuck_line(&stuck).as_slice())
+}
+
+/// Says the lines of the nodes that wait.
+fn say_waiting<W: Write>(
+    chip: &Chip,
+    output: &mut Output,
+    writer: &mut W,
+) -> Result<(), WriteFailed>
+    ensures { Says result (λ text. text ≡ all_waiting (records_of chip.now) 0 144)
+        (W.contents writer.old) output.old (W.contents writer.new) output.new }
+{
+    'nodes: for number in 0..144u8 {
+        say_node(chip, NodeId::new(number), output, writer)?;
+    }
+    Ok(())
+}
+
+/// Says the line of a node, where it waits.
+fn say_node<W: Write>(
+    chip: &Chip,
+    node: NodeId,
+    output: &mut Output,
+    writer: &mut W,
+) -> Result<(), WriteFailed>
+    ensures { (before said : Bytes) → IsSaid (W.contents writer.old) before said output.old →
+        IsSaidOrCut result (W.contents writer.new) before (said ++ waiting_text (records_of chip.now) node.number) output.new }
+{
+    output.say_blocks(writer, waiting_line(chip, node).as_slice())
+}
+
+/// The line of a node that waits: what it does, and of each neighbour that it awaits the side, the name and what that one does.
+fn waiting_line(chip: &Chip, node: NodeId) -> Text
+    ensures { result.items ≡ waiting_text (records_of chip.now) node.number }
+{
+    match chip.node(node).wait() {
+        Wait::Nothing => ArrayVec::new(),
+        Wait::Fetch(_) => awaiting_line(chip, node),
+        Wait::Read(_) => awaiting_line(chip, node),
+        Wait::Write(_) => awaiting_line(chip, node),
+    }
+}
+
+fn awaiting_line(chip: &Chip, node: NodeId) -> Text
+    ensures { result.items ≡ awaiting_text (records_of chip.now) node.number }
+{
+    let mut out = ArrayVec::new();
+    push_node(&mut out, node);
+    push_text(&mut out, b" ");
+    push_does(&mut out, chip, node);
+    push_awaited(&mut out, chip, node, Side::Right, b'r');
+    push_awaited(&mut out, chip, node, Side::Down, b'd');
+    push_awaited(&mut out, chip, node, Side::Left, b'l');
+    push_awaited(&mut out, chip, node, Side::Up, b'u');
+    push_text(&mut out, b"\n");
+    out
+}
+
+/// Adds what a node does.
+fn push_does(out: &mut Text, chip: &Chip, node: NodeId)
+    requires { array_vec_len out.old + DOING_ROOM ≤ 256 }
+    ensures text { out.new.items ≡ out.old.items ++ does_text (records_of chip.now) node.number }
+    ensures len { array_vec_len out.new ≤ array_vec_len out.old + DOING_ROOM }
+{
+    let at = chip.node(node);
+    push_doing(out, at.wait(), at.stop());
+}
+
+fn push_doing(out: &mut Text, wait: Wait, stop: u8)
+    requires { array_vec_len out.old + DOING_ROOM ≤ 256 }
+    ensures text { out.new.items ≡ out.old.items ++ doing_word wait stop }
+    ensures len { array_vec_len out.new ≤ array_vec_len out.old + DOING_ROOM }
+{
+    match wait {
+        Wait::Fetch(_) => push_text(out, b"fetches"),
+        Wait::Read(_) => push_text(out, b"reads"),
+        Wait::Write(_) => push_text(out, b"writes"),
+        Wait::Nothing => push_text(
+            out,
+            if stop == 0 {
+                b"runs".as_slice()
+            } else {
+                b"stopped".as_slice()
+            },
+        ),
+    }
+}
+
+/// Adds the neighbour on a side, where the node awaits it.
+fn push_awaited(out: &mut Text, chip: &Chip, node: NodeId, side: Side, letter: u8)
+    requires { array_vec_len out.old + BESIDE_ROOM ≤ 256 }
+    ensures text { out.new.items ≡ out.old.items ++ awaited_text (records_of chip.now) node.number side letter }
+    ensures len { array_vec_len out.new ≤ array_vec_len out.old + BESIDE_ROOM }
+{
+    if awaits(&chip.node(node).wait(), side) {
+        push_beside(out, chip, neighbour(node, side), letter);
+    }
+}
+
+/// Adds a neighbour, where there is one.
+fn push_beside(out: &mut Text, chip: &Chip, beside: Option<NodeId>, letter: u8)
+    requires { array_vec_len out.old + BESIDE_ROOM ≤ 256 }
+    ensures text { out.new.items ≡ out.old.items ++ beside_text (records_of chip.now) (number_in beside) letter }
+    ensures len { array_vec_len out.new ≤ array_vec_len out.old + BESIDE_ROOM }
+{
+    if let Some(other) = beside {
+        push_text(out, &[b' ', letter, b' ']);
+        push_node(out, other);
+        push_text(out, b" ");
+        push_does(out, chip, other);
+    }
+}
+
+/// The last line: the nodes that can never go on, where there are any.
+fn stuck_line(marks: &[bool; 144]) -> StuckLine
+    ensures { result.items ≡ stuck_text (is_marked marks.now) }
+{
+    line_of_names(names_of(marks).as_slice())
+}
+
+/// The line of these names.
+fn line_of_names(names: &[u8]) -> StuckLine
+    requires { length names.now ≤ NAMES_ROOM }
+    ensures { result.items ≡ stuck_line names.now }
+{
+    let mut out = ArrayVec::new();
+    if !names.is_empty() {
+        push_text(&mut out, b"stuck");
+        push_text(&mut out, names);
+        push_text(&mut out, b"\n");
+    }
+    out
+}
+
+/// The names of the marked nodes, each behind a space.
+fn names_of(marks: &[bool; 144]) -> Names
+    ensures { result.items ≡ marked_names (is_marked marks.now) 0 144 }
+{
+    let mut out = ArrayVec::new();
+    'nodes: for number in 0..144u8 {
+        push_marked(&mut out, NodeId::new(number), marks[number as usize]);
+    }
+    out
+}
+
+/// Adds a node's name behind a space, where it is marked.
+fn push_marked(out: &mut Names, node: NodeId, marked: bool)
+    requires { array_vec_len out.old + NAME_ROOM ≤ NAMES_ROOM }
+    ensures text { out.new.items ≡ out.old.items ++ marked_name node.number marked }
+    ensures len { array_vec_len out.new ≤ array_vec_len out.old + NAME_ROOM }
+{
+    if marked {
+        push_text(out, b" ");
+        push_node(out, node);
+    }
+}

@@ -1,9 +1,0 @@
-use Rattle.std.proofs.Common.{List, ℕ, ◌++◌, codes, ap}
-use Rattle.ga_exploring.specs.Tails.{tail_text, step_tail}
-use Rattle.ga_exploring.proofs.Told.{told_as}
-use Rattle.ga_exploring.proofs.tail_text.say_step_tail.Goals as goal
-
-pub returns : goal.returns
-returns g c = λ before said h.
-    told_as c.say_tail.result _ before said (tail_text c.args.notes.now c.args.node c.step_cell-cell.result) (step_tail c.args.notes.now c.args.lab.now c.args.node c.args.step) _
-    (ap (λ (t : List ℕ). t ++ codes "\n") c.step_cell-cell.ensures) (c.say_tail.ensures before said h)

@@ -1,0 +1,36 @@
+//! Laws of the definitions, each the contract of a function that does nothing.
+
+ghost use Rattle.std.specs.Prelude.{◌≡◌, ℕ, List, [], ◌∷◌, Bool, true, All, Some};
+ghost use Rattle.ga_causal.specs.Dependence.{place_of};
+ghost use Rattle.ga_grid.specs.declared.node_id.NodeId.{NodeId};
+ghost use Rattle.ga_lab.specs.Machine.{State, causes_of};
+ghost use Rattle.ga_flow.specs.Flow.{top};
+ghost use Rattle.ga_origin.specs.declared.value.Value.{Value};
+ghost use Rattle.ga_origin.specs.declared.listing.Row.{Row};
+ghost use Rattle.ga_origin.specs.Origins.{value_at};
+ghost use Rattle.ga_origin.specs.Asked.{asked_of};
+ghost use Rattle.ga_origin.specs.Rows.{row_at, sources_of, IsToldIn, AreRows};
+ghost use Rattle.ga_origin.specs.Causes.{IsNamedFor};
+
+/// Each step that is told is one on which the step asked for depends, so that `why` leads from it there. What else is told was
+/// loaded. The step asked for must be kept, as each of a node's is.
+pub fn named_steps_are_causes()
+    ensures { (s : State) (value : Value) (place : ℕ) (rows : List Row) (whole : Bool) →
+        place_of (causes_of s) value.node.number value.step ≡ Some place →
+        AreRows s [] (row_at 0 value ∷ []) rows whole → All (λ (row : Row). IsNamedFor s value row.value) rows }
+{}
+
+/// Where all rows are told, none is missing: the step that made the value asked for is told, and with each row the steps that made
+/// the values from which its own came.
+pub fn whole_listings_miss_nothing()
+    ensures asked { (s : State) (value : Value) (rows : List Row) → AreRows s [] (row_at 0 value ∷ []) rows true → IsToldIn s rows value }
+    ensures sources { (s : State) (value : Value) (rows : List Row) → AreRows s [] (row_at 0 value ∷ []) rows true →
+        All (λ (row : Row). All (IsToldIn s rows) (sources_of s row.value)) rows }
+{}
+
+/// The same of what is asked for where a step is named: each step that is told is one on which this step depends.
+pub fn asked_steps_are_causes()
+    ensures { (s : State) (node : NodeId) (step place : ℕ) (value : Value) (rows : List Row) (whole : Bool) →
+        place_of (causes_of s) node.number step ≡ Some place → asked_of s node step ≡ Some value →
+        AreRows s [] (row_at 0 value ∷ []) rows whole → All (λ (row : Row). IsNamedFor s (value_at node step top) row.value) rows }
+{}

@@ -1,0 +1,282 @@
+//! The step that made a value.
+
+ghost use Rattle.std.specs.Prelude.{◌≡◌, ◌<◌, ◌≤◌, ◌-◌, None, IfSome};
+ghost use Rattle.std.specs.List.{slice_get};
+ghost use Rattle.ga_node.specs.Record.{record_of};
+ghost use Rattle.ga_event.specs.Told.{steps_of};
+ghost use Rattle.ga_lab.specs.Machine.{history_of, standing};
+ghost use Rattle.ga_flow.specs.Flow.{IsPart};
+ghost use Rattle.ga_flow.specs.Following.{flow_of, AreSources};
+ghost use Rattle.ga_origin.specs.Origins.{is_cell, crosses, moved_from, is_of_three, told_part, told_flow, flow_at, origin_from, origin_of};
+ghost use Rattle.ga_origin.specs.kept.Moving.{moved_by};
+
+use crate::known::known_flow;
+use crate::moving::moved_by;
+use crate::trail::Trail;
+use crate::value::Value;
+use ga_event::Made;
+use ga_flow::{Flow, Part, own_flow, send_flow, take_flow};
+use ga_grid::NodeId;
+use ga_lab::{Lab, Walk};
+use ga_node::Node;
+
+// Whether the part is a cell of memory.
+pub(crate) fn is_cell(part: Part) -> bool
+    ensures { result ≡ is_cell part }
+{
+    match part {
+        Part::Ram(_) => true,
+        Part::Rom(_) => true,
+        _ => false,
+    }
+}
+
+// Whether a value that went from a part to another was read from memory or stored there.
+fn crosses(from: Part, to: Part) -> bool
+    ensures { result ≡ crosses from to }
+{
+    if is_cell(from) {
+        !is_cell(to)
+    } else {
+        is_cell(to)
+    }
+}
+
+// The part from which a value was moved to another part of the node alone, where it was.
+pub(crate) fn moved_from(flow: &Flow, to: Part) -> Option<Part>
+    requires { AreSources (flow_of flow.now) }
+    ensures value { result ≡ moved_from (flow_of flow.now) to }
+    ensures part { IfSome result (λ from. IsPart from) }
+{
+    match flow {
+        Flow::Same(Part::Outside) => None,
+        Flow::Same(from) => {
+            if crosses(*from, to) {
+                None
+            } else {
+                Some(*from)
+            }
+        }
+        Flow::From(_) => None,
+    }
+}
+
+// Whether a value is computed from three parts.
+fn is_of_three(flow: &Flow) -> bool
+    ensures { result ≡ is_of_three (flow_of flow.now) }
+{
+    match flow {
+        Flow::Same(_) => false,
+        Flow::From(parts) => parts.len() == 3,
+    }
+}
+
+// The part as which a value is told that a step made.
+fn told_part(flow: &Flow, part: Part) -> Part
+    requires { IsPart part }
+    ensures value { result ≡ told_part (flow_of flow.now) part }
+    ensures part { IsPart result }
+{
+    match part {
+        Part::A => { if is_of_three(flow) { Part::T } else { part } }
+        Part::Carry => { if is_of_three(flow) { Part::T } else { part } }
+        _ => part,
+    }
+}
+
+// Where the value of a part comes from that an event of a node leaves, of which this is told.
+fn told_flow(made: &Made, before: &Node, node: NodeId, part: Part) -> Flow
+    requires { IsPart part }
+    ensures value { flow_of result ≡ told_flow made.now (record_of before.now) node.number part }
+    ensures sources { AreSources (flow_of result) }
+{
+    match made {
+        Made::Own { .. } => own_flow(before, part),
+        Made::Pass { reader, .. } => {
+            if node.number == reader.number {
+                take_flow(before.wait(), part)
+            } else {
+                send_flow(part)
+            }
+        }
+    }
+}
+
+// The same of the step behind those that a node had made where it is walked back to; past its steps all stays.
+pub(crate) fn flow_behind(lab: &Lab, walk: &Walk<'_>, node: NodeId, part: Part) -> Flow
+    requires part { IsPart part }
+    requires walk { walk.now ≡ standing lab.now node walk.now.step }
+    ensures value { flow_of result ≡ flow_at lab.now node.number walk.now.step part }
+    ensures sources { AreSources (flow_of result) }
+{
+    match lab.told(node, walk.step()) {
+        Some(made) => told_flow(&made, walk.node(), node, part),
+        None => Flow::Same(part),
+    }
+}
+
+// The value's step, or the last of the node where it made fewer: behind that nothing is made.
+pub(crate) fn kept_step(lab: &Lab, value: Value) -> u32
+    requires { IsPart value.part }
+    ensures same { origin_from lab.now value.node result value.part ≡ origin_of lab.now value }
+    ensures within { result ≤ steps_of value.node.number lab.now.kept }
+{
+    let steps = lab.steps(value.node);
+    if value.step < steps {
+        value.step
+    } else {
+        steps
+    }
+}
+
+/// The newest step up to the value's own that made it, with the part in which it stood then, or step 0 where the value was loaded.
+/// What moved the value from part to part of the node alone, as `dup` or `push`, made nothing. Takes time by how many steps the node
+/// made since.
+pub fn origin_of(lab: &Lab, value: Value) -> Value
+    requires { IsPart value.part }
+    ensures value { result ≡ origin_of lab.now value }
+    ensures part { IsPart result.part }
+    ensures within { result.step ≤ steps_of value.node.number lab.now.kept }
+{
+    let step = kept_step(lab, value);
+    let mut trail = Trail::new(lab, value.node, lab.walk(value.node, step));
+    origin_behind(lab, &mut trail, value.node, step, value.part)
+}
+
+// A value that a step made, and a trail of its node that has not come past that step.
+#[derive(Drop)]
+pub(crate) struct Origin<'l> {
+    pub value: Value,
+    pub trail: Trail<'l>,
+}
+
+// A trail of a node that has not come past a step: from another walk, where that is of the same node and not earlier, else from the
+// newest step.
+pub(crate) fn trail_near<'l>(
+    lab: &'l Lab,
+    near: &Walk<'l>,
+    at: NodeId,
+    node: NodeId,
+    step: u32,
+) -> Trail<'l>
+    requires within { step ≤ steps_of node.number lab.now.kept }
+    requires near { near.now ≡ standing lab.now at near.now.step }
+    ensures stands { result ≡ standing lab.now node result.step }
+    ensures order { step ≤ result.step }
+{
+    if at == node && step <= near.step() {
+        Trail::new(lab, node, near.copy())
+    } else {
+        Trail::new(lab, node, lab.walk(node, lab.steps(node)))
+    }
+}
+
+// The same where the trail of the origin that was found last may serve too.
+fn trail_on<'l>(
+    lab: &'l Lab,
+    near: &Walk<'l>,
+    at: NodeId,
+    last: Origin<'l>,
+    node: NodeId,
+    step: u32,
+) -> Trail<'l>
+    requires within { step ≤ steps_of node.number lab.now.kept }
+    requires near { near.now ≡ standing lab.now at near.now.step }
+    requires last { last.trail ≡ standing lab.now last.value.node last.trail.step }
+    ensures stands { result ≡ standing lab.now node result.step }
+    ensures order { step ≤ result.step }
+{
+    let Origin { value, trail } = last;
+    if value.node == node && step <= trail.step() {
+        trail
+    } else {
+        trail_near(lab, near, at, node, step)
+    }
+}
+
+// What made a value, found by the trail of the origin that was found last, or by a walk of some node, which is not walked on.
+pub(crate) fn origin_near<'l>(
+    lab: &'l Lab,
+    near: &Walk<'l>,
+    at: NodeId,
+    last: Origin<'l>,
+    value: Value,
+) -> Origin<'l>
+    requires part { IsPart value.part }
+    requires near { near.now ≡ standing lab.now at near.now.step }
+    requires last { last.trail ≡ standing lab.now last.value.node last.trail.step }
+    ensures value { result.value ≡ origin_of lab.now value }
+    ensures part { IsPart result.value.part }
+    ensures stands { result.trail ≡ standing lab.now result.value.node result.trail.step }
+    ensures order { result.value.step - 1 ≤ result.trail.step }
+{
+    let step = kept_step(lab, value);
+    let mut trail = trail_on(lab, near, at, last, value.node, step);
+    let origin = origin_behind(lab, &mut trail, value.node, step, value.part);
+    Origin {
+        value: origin,
+        trail,
+    }
+}
+
+// Where the value comes from that the step at a place leaves in a part of its node. The node is walked back to right before the step
+// only where what is kept doesn't say it.
+pub(crate) fn flow_by_trail(
+    lab: &Lab,
+    trail: &mut Trail<'_>,
+    node: NodeId,
+    place: u32,
+    part: Part,
+) -> Flow
+    requires part { IsPart part }
+    requires trail { trail.old ≡ standing lab.now node trail.old.step }
+    requires order { place ≤ trail.old.step }
+    ensures value { flow_of result ≡ flow_at lab.now node.number place part }
+    ensures sources { AreSources (flow_of result) }
+    ensures trail { trail.new ≡ standing lab.now node trail.new.step }
+    ensures order { place ≤ trail.new.step }
+{
+    if let Some(flow) = known_flow(lab, trail, node, place, part) {
+        return flow;
+    }
+    trail.back_to(place);
+    flow_behind(lab, trail.walk(), node, part)
+}
+
+/// The step that made what stands in a part of a node behind a step, by a trail of the node that has not come past that step, nor then
+/// past the one that made it. The node is walked back only where what is kept doesn't say from where a step has the value.
+pub(crate) fn origin_behind(
+    lab: &Lab,
+    trail: &mut Trail<'_>,
+    node: NodeId,
+    step: u32,
+    part: Part,
+) -> Value
+    requires part { IsPart part }
+    requires trail { trail.old ≡ standing lab.now node trail.old.step }
+    requires order { step ≤ trail.old.step }
+    ensures value { result ≡ origin_from lab.now node step part }
+    ensures part { IsPart result.part }
+    ensures within { result.step ≤ step }
+    ensures node { result.node ≡ node }
+    ensures trail { trail.new ≡ standing lab.now node trail.new.step }
+    ensures order { result.step - 1 ≤ trail.new.step }
+{
+    let mut value = trail.told_back(lab, Value { node, step, part });
+    'steps: while value.step > 0 {
+        let Value { step, part, .. } = value;
+        let flow = flow_by_trail(lab, trail, node, step - 1, part);
+        match moved_from(&flow, part) {
+            Some(from) => {
+                let step = step - 1;
+                let part = from;
+                value = trail.told_back(lab, Value { node, step, part });
+            }
+            None => {
+                let part = told_part(&flow, part);
+                return Value { node, step, part };
+            }
+        }
+    }
+    value
+}

@@ -1,0 +1,106 @@
+-- From a session that says nothing to one whose answers are dropped.
+use Rattle.std.proofs.Common.{◌≡◌, ℕ, List, [], ◌∷◌, ◌++◌, false, inl, inr, sym, ap, ◌∙◌, Result, Ok, Err}
+use Rattle.ga_explorer.specs.Tails.{Exploring}
+use Rattle.ga_console.specs.Run.{status_of}
+use Rattle.ga_console.specs.Session.{Answers, Script, Serves}
+use Rattle.ga_console.specs.declared.commands.Ending.{Ending}
+use Rattle.ga_console.specs.declared.commands.Ending.TheVariants.{Ended, Quit, Past, ReadFailed}
+use Rattle.ga_console.specs.declared.output.WriteFailed.{WriteFailed}
+use Rattle.ga_console.specs.declared.run.Status.TheVariants.{Done}
+use Rattle.ga_picture.specs.Following.{Hears, Follows}
+use Rattle.ga_picture.specs.kept.Following.{HearsLine}
+use Rattle.ga_picture.specs.declared.silent.Silent.{Silent}
+
+-- how such a session answers a line
+abbrev pub Silently : Silent → List ℕ → List ℕ → Silent → Type 0
+Silently m line said new = HearsLine m.explorer m.short line said new.explorer new.short
+
+answers_heard : (m : Silent) (lines : List (List ℕ)) (text : List ℕ) (last : Silent) → Answers Silently m lines text last → Answers Hears m.explorer lines text last.explorer
+answers_heard m [] text last h = (h.0, ap (λ (x : Silent). x.explorer) h.1)
+answers_heard m (line ∷ lines) text last h =
+    (h.0, h.1.explorer, h.2, (h.3.0, h.3.1, h.3.2), answers_heard h.1 lines h.2 last h.4, h.5)
+
+-- where no want of memory is noted at the end, there was none
+answers_follow : (m : Silent) (lines : List (List ℕ)) (text : List ℕ) (last : Silent) → last.short ≡ false → Answers Silently m lines text last
+    → (m.short ≡ false) × Answers Follows m.explorer lines text last.explorer
+answers_follow m [] text last e h = (sym (ap (λ (x : Silent). x.short) h.1) ∙ e, (h.0, ap (λ (x : Silent). x.explorer) h.1))
+answers_follow m (line ∷ lines) text last e h =
+    let rest = answers_follow h.1 lines h.2 last e h.4 in
+    let noted = h.3.3 rest.0 in
+    (noted.0, (h.0, h.1.explorer, h.2, (h.3.0, h.3.1, h.3.2, noted.1), rest.1, h.5))
+
+nothing_said : (s : Exploring) (lines : List (List ℕ)) (text : List ℕ) (last : Exploring) → Answers Hears s lines text last → text ≡ []
+nothing_said s [] text last h = h.0
+nothing_said s (line ∷ lines) text last h =
+    h.5 ∙ ap (λ (t : List ℕ). t ++ h.2) h.3.0 ∙ nothing_said h.1 lines h.2 last h.4
+
+script_heard : (room : ℕ) (m : Silent) (read : List ℕ) (lines : List (List ℕ)) (text : List ℕ) (last : Silent) → Script Silently room m read lines text last
+    → Script Hears room m.explorer read lines text last.explorer
+script_heard room m read lines text last (inl h) = inl (answers_heard m lines text last h)
+script_heard room m read lines text last (inr h) = inr (h.0, h.1, h.2, answers_heard m lines h.2 last h.3, h.4)
+
+pub serves_heard : (room : ℕ) (m : Silent) (read rest text : List ℕ) (last : Silent) (ending : Result Ending WriteFailed) → Serves Silently room m read rest text last ending
+    → Serves Hears room m.explorer read rest text last.explorer ending
+serves_heard room m read rest text last (Ok Ended) h = record {
+  within = h.within;
+  at_end = h.at_end;
+  no_quit = h.no_quit;
+  answers = answers_heard m _ text last h.answers;
+}
+serves_heard room m read rest text last (Ok Quit) h = record {
+  within = h.within;
+  heard = h.heard;
+  after = h.after;
+  no_quit = h.no_quit;
+  answers = answers_heard m _ text last h.answers;
+  quits = h.quits;
+}
+serves_heard room m read rest text last (Ok Past) h = record {
+  over = h.over;
+  no_quit = h.no_quit;
+  said = h.said;
+  answers = answers_heard m _ h.said last h.answers;
+  told = h.told;
+}
+serves_heard room m read rest text last (Ok ReadFailed) h = record {
+  within = h.within;
+  no_quit = h.no_quit;
+  answers = answers_heard m _ text last h.answers;
+}
+serves_heard room m read rest text last (Err failed) h = record {
+  heard = h.heard;
+  after = h.after;
+  front = h.front;
+  no_quit = h.no_quit;
+  script = script_heard room m read h.heard text last h.script;
+  whole = h.whole;
+}
+
+-- to the end of the input or to `quit` nothing is said
+pub serves_silent : (room : ℕ) (m : Silent) (read rest text : List ℕ) (last : Silent) (ending : Result Ending WriteFailed) → status_of ending ≡ Done
+    → Serves Silently room m read rest text last ending → text ≡ []
+serves_silent room m read rest text last (Ok Ended) e h = nothing_said m.explorer _ text last.explorer (answers_heard m _ text last h.answers)
+serves_silent room m read rest text last (Ok Quit) e h = nothing_said m.explorer _ text last.explorer (answers_heard m _ text last h.answers)
+serves_silent room m read rest text last (Ok Past) e h = cc
+serves_silent room m read rest text last (Ok ReadFailed) e h = cc
+serves_silent room m read rest text last (Err failed) e h = cc
+
+pub serves_follow : (room : ℕ) (m : Silent) (read rest text : List ℕ) (last : Silent) (ending : Result Ending WriteFailed) → status_of ending ≡ Done → last.short ≡ false
+    → Serves Silently room m read rest text last ending → Serves Follows room m.explorer read rest text last.explorer ending
+serves_follow room m read rest text last (Ok Ended) e none h = record {
+  within = h.within;
+  at_end = h.at_end;
+  no_quit = h.no_quit;
+  answers = (answers_follow m _ text last none h.answers).1;
+}
+serves_follow room m read rest text last (Ok Quit) e none h = record {
+  within = h.within;
+  heard = h.heard;
+  after = h.after;
+  no_quit = h.no_quit;
+  answers = (answers_follow m _ text last none h.answers).1;
+  quits = h.quits;
+}
+serves_follow room m read rest text last (Ok Past) e none h = cc
+serves_follow room m read rest text last (Ok ReadFailed) e none h = cc
+serves_follow room m read rest text last (Err failed) e none h = cc

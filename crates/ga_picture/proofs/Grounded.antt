@@ -1,0 +1,136 @@
+-- The events on which one depends, found from the newest on.
+use Rattle.std.proofs.Common.{◌≡◌, ℕ, ◌+◌, ◌<◌, ◌≤◌, ◌⊎◌, ◌↔◌, Bool, true, false, ◌||◌, List, length, set, replicate, refl, sym, ◌∙◌, subst, inl, inr, ⊎_elim, arith, IsTrue, slice_index_or, length-set, get_or-set_same, get_or-set_other}
+use Rattle.std.specs.List.{list_any}
+use Rattle.std.proofs.lemmas.List.{length-replicate}
+use Rattle.std.proofs.lemmas.Bool.{or_left, or_right, or_cases, both_ways, cases_eq}
+use Rattle.ga_event.specs.declared.event.Cause.{Cause}
+use Rattle.ga_event.specs.Touches.{seen_by}
+use Rattle.ga_causal.specs.Dependence.{cause_nodes, cause_touches, event_at, IsDirect, DependsOn, itself, through}
+use Rattle.ga_causal.specs.Equivalence.{sees}
+use Rattle.ga_causal.proofs.Exact.{rule_meets, meets_rule}
+use Rattle.ga_causal.proofs.Flags.{none_marked}
+use Rattle.ga_picture.proofs.Flags.{any_of_one, any_at}
+
+-- the first link of a chain of dependence
+pub record First (es : List Cause) (i j : ℕ) : Type 0 where
+  pub middle : ℕ
+  pub direct : IsDirect es i middle
+  pub more : DependsOn es middle j
+
+pub first_link : (es : List Cause) (i j : ℕ) → DependsOn es i j → (i ≡ j) ⊎ First es i j
+first_link es i j itself = inl refl
+first_link es i j (through {middle} d s) = ⊎_elim
+    (λ e. inr (record { middle = j; direct = subst (λ z. IsDirect es z j) (sym e) s; more = itself }))
+    (λ f. inr (record { middle = f.middle; direct = f.direct; more = through {middle = middle} f.more s }))
+    (first_link es i middle d)
+
+pub joined : (es : List Cause) (i m j : ℕ) → IsDirect es i m → DependsOn es m j → DependsOn es i j
+joined es i m j s itself = through {middle = i} itself s
+joined es i m j s (through {middle} d t) = through {middle = middle} (joined es i m middle s d) t
+
+pub ordered : (es : List Cause) (i j : ℕ) → DependsOn es i j → i ≤ j
+ordered es i j itself = omega arith
+ordered es i j (through {middle} d s) = omega (arith, ordered es i middle d, s.before)
+
+-- an event from a place on, on which the last depends, sees the node
+pub record IsWanted (es : List Cause) (last at n : ℕ) : Type 0 where
+  pub middle : ℕ
+  pub behind : at ≤ middle
+  pub depends : DependsOn es middle last
+  pub seen : sees (event_at es middle) n ≡ true
+
+-- what holds once the events from a place on are looked at
+pub record AreGrounds (es : List Cause) (last at : ℕ) (flags : List Bool) (marks : ℕ → Bool) : Type 0 where
+  pub size : length flags ≡ length es
+  pub done : (j : ℕ) → at ≤ j → j < length es → IsTrue (slice_index_or flags j false) ↔ DependsOn es j last
+  pub ahead : (j : ℕ) → j < at → slice_index_or flags j false ≡ false
+  pub into : (n : ℕ) → marks n ≡ true → IsWanted es last at n
+  pub back : (n : ℕ) → IsWanted es last at n → marks n ≡ true
+
+-- an event that touches a wanted node
+direct_to : (es : List Cause) (last at n : ℕ) → last < length es → IsWanted es last (at + 1) n → cause_touches (event_at es at) n ≡ true → DependsOn es at last
+unfolding seen_by
+direct_to es last at n within w t = joined es at w.middle last
+    (record {
+      before = omega (arith, w.behind);
+      within = omega (arith, ordered es w.middle last w.depends);
+      by_rule = meets_rule (event_at es at) (event_at es w.middle) (any_of_one (cause_touches (event_at es at)) n t (seen_by (event_at es w.middle)) w.seen);
+    })
+    w.depends
+
+pub met_depends : (es : List Cause) (last at : ℕ) (flags : List Bool) (marks : ℕ → Bool) → last < length es → AreGrounds es last (at + 1) flags marks → list_any marks (cause_nodes (event_at es at)) ≡ true → DependsOn es at last
+met_depends es last at flags marks within g t =
+    let r = any_at marks (cause_nodes (event_at es at)) t in
+    direct_to es last at r.0 within (g.into r.0 r.2) r.1
+
+pub depends_met : (es : List Cause) (last at : ℕ) (flags : List Bool) (marks : ℕ → Bool) → at < last → AreGrounds es last (at + 1) flags marks → DependsOn es at last → list_any marks (cause_nodes (event_at es at)) ≡ true
+unfolding seen_by
+depends_met es last at flags marks under g d = ⊎_elim
+    (λ e. absurd (omega (arith, e)))
+    (λ f. let r = any_at (cause_touches (event_at es at)) (seen_by (event_at es f.middle)) (rule_meets (event_at es at) (event_at es f.middle) f.direct.by_rule) in
+    any_of_one marks r.0 (g.back r.0 (record { middle = f.middle; behind = omega (arith, f.direct.before); depends = f.more; seen = r.1 })) (cause_nodes (event_at es at)) r.2)
+    (first_link es at last d)
+
+-- the last one is a ground of itself
+pub grounds_first : (es : List Cause) (last : ℕ) (marks : ℕ → Bool) → last < length es → ((n : ℕ) → marks n ≡ sees (event_at es last) n) → AreGrounds es last last (set (replicate (length es) false) last true) marks
+grounds_first es last marks l m =
+    let size : length (replicate (length es) false) ≡ length es = length-replicate (length es) false in
+    let within : last < length (replicate (length es) false) = omega arith in
+    record {
+      size = length-set (replicate (length es) false) last true ∙ length-replicate (length es) false;
+      done = λ j b k. elim (cases_eq j last) [
+        | inl e ↦ (λ t. subst (λ z. DependsOn es z last) (sym e) itself, λ d. subst (λ z. slice_index_or (set (replicate (length es) false) last true) z false ≡ true) (sym e) (get_or-set_same (replicate (length es) false) last true false within))
+        | inr ne ↦ (
+          λ t. absurd (both_ways (slice_index_or (set (replicate (length es) false) last true) j false) (get_or-set_other (replicate (length es) false) last j true false ne ∙ none_marked (length es) j) t),
+          λ d. absurd (omega (arith, ordered es j last d, ne)),
+        )
+      ];
+      ahead = λ j u. get_or-set_other (replicate (length es) false) last j true false (λ e. omega (arith, e)) ∙ none_marked (length es) j;
+      into = λ n t. record { middle = last; behind = omega arith; depends = itself; seen = sym (m n) ∙ t };
+      back = λ n w. let same : w.middle ≡ last = omega (arith, w.behind, ordered es w.middle last w.depends) in
+          m n ∙ subst (λ z. sees (event_at es z) n ≡ true) same w.seen;
+    }
+
+-- one event more, which touches a wanted node
+pub grounds_met : (es : List Cause) (last at : ℕ) (flags : List Bool) (marks more : ℕ → Bool) → last < length es → at < last → AreGrounds es last (at + 1) flags marks → list_any marks (cause_nodes (event_at es at)) ≡ true → ((n : ℕ) → more n ≡ (marks n || sees (event_at es at) n)) → AreGrounds es last at (set flags at true) more
+grounds_met es last at flags marks more l u g t m =
+    let here : DependsOn es at last = met_depends es last at flags marks l g t in
+    let size : length flags ≡ length es = g.size in
+    let within : at < length flags = omega arith in
+    record {
+      size = length-set flags at true ∙ g.size;
+      done = λ j b k. elim (cases_eq j at) [
+        | inl e ↦ (λ s. subst (λ z. DependsOn es z last) (sym e) here, λ d. subst (λ z. slice_index_or (set flags at true) z false ≡ true) (sym e) (get_or-set_same flags at true false within))
+        | inr ne ↦ subst (λ z. IsTrue z ↔ DependsOn es j last) (sym (get_or-set_other flags at j true false ne)) (g.done j (omega (arith, ne)) k)
+      ];
+      ahead = λ j v. get_or-set_other flags at j true false (λ e. omega (arith, e)) ∙ g.ahead j (omega arith);
+      into = λ n s. ⊎_elim
+          (λ v. let w = g.into n v in record { middle = w.middle; behind = omega (arith, w.behind); depends = w.depends; seen = w.seen })
+          (λ v. record { middle = at; behind = omega arith; depends = here; seen = v })
+          (or_cases (marks n) (sees (event_at es at) n) (sym (m n) ∙ s));
+      back = λ n w. m n ∙ elim (cases_eq w.middle at) [
+        | inl e ↦ or_right (marks n) (sees (event_at es at) n) (subst (λ z. sees (event_at es z) n ≡ true) e w.seen)
+        | inr ne ↦ or_left (marks n) (sees (event_at es at) n) (g.back n (record { middle = w.middle; behind = omega (arith, w.behind, ne); depends = w.depends; seen = w.seen }))
+      ];
+    }
+
+-- one event more, which touches none
+pub grounds_not : (es : List Cause) (last at : ℕ) (flags : List Bool) (marks : ℕ → Bool) → last < length es → at < last → AreGrounds es last (at + 1) flags marks → list_any marks (cause_nodes (event_at es at)) ≡ false → AreGrounds es last at flags marks
+grounds_not es last at flags marks l u g f =
+    let free : ¬ DependsOn es at last = λ d. both_ways (list_any marks (cause_nodes (event_at es at))) f (depends_met es last at flags marks u g d) in
+    record {
+      size = g.size;
+      done = λ j b k. elim (cases_eq j at) [
+        | inl e ↦ (
+          λ s. absurd (both_ways (slice_index_or flags j false) (g.ahead j (omega (arith, e))) s),
+          λ d. absurd (free (subst (λ z. DependsOn es z last) e d)),
+        )
+        | inr ne ↦ g.done j (omega (arith, ne)) k
+      ];
+      ahead = λ j v. g.ahead j (omega arith);
+      into = λ n s. let w = g.into n s in record { middle = w.middle; behind = omega (arith, w.behind); depends = w.depends; seen = w.seen };
+      back = λ n w. elim (cases_eq w.middle at) [
+        | inl e ↦ absurd (free (subst (λ z. DependsOn es z last) e w.depends))
+        | inr ne ↦ g.back n (record { middle = w.middle; behind = omega (arith, w.behind, ne); depends = w.depends; seen = w.seen })
+      ];
+    }

@@ -1,0 +1,11 @@
+pub mod Flags
+pub mod Grounded
+pub mod Touching
+pub mod Lined
+pub mod Drawn
+pub mod Shaded
+pub mod Grouped
+pub mod Following
+pub mod Reached
+pub mod Going
+pub mod Hearing

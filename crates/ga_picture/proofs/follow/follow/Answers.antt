@@ -1,0 +1,31 @@
+use Rattle.std.proofs.Common.{[], ◌++◌, Some, sym, ap, ◌∙◌, append_assoc}
+use Rattle.ga_console.proofs.RunLemmas.{said_fresh}
+use Rattle.ga_picture.proofs.Going.{goes_ended, goes_broken, stream_fault}
+use Rattle.ga_picture.proofs.follow.follow.Goals as goal
+
+pub returns-in-Done : goal.returns-in-Done
+returns-in-Done g c = λ left before known held.
+    let served = c.serve-ending.ensures left before [] known (said_fresh _ before [] c.new-output.result held c.new-output.ensures) in
+    let done = sym c.status_of.ensures ∙ c.in-Done.is in
+    let last = c.reached.ensures (before ++ served.3) served.6 in (
+      served.0,
+      served.1,
+      served.3 ++ last.0,
+      served.4,
+      served.5,
+      last.1 ∙ ap Some (append_assoc before served.3 last.0),
+      goes_ended _ _ served.0 served.1 served.2 served.3 c.serve-ending.new.session c.serve-ending.result done served.7 served.8 last.0 c.reached.result last.2,
+    )
+
+pub returns-in_default : goal.returns-in_default
+returns-in_default g c = λ left before known held.
+    let served = c.serve-ending.ensures left before [] known (said_fresh _ before [] c.new-output.result held c.new-output.ensures) in
+    let fault = stream_fault c.serve-ending.result (λ e. c.in_default.not-Done (c.status_of.ensures ∙ e)) in (
+      served.0,
+      served.1,
+      served.3,
+      served.4,
+      served.5,
+      served.6,
+      goes_broken _ _ served.0 served.1 served.2 served.3 c.serve-ending.new.session c.serve-ending.result fault served.7 served.8,
+    )

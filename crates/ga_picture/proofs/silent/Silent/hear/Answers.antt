@@ -1,0 +1,26 @@
+use Rattle.std.proofs.Common.{[], Some, Ok, true≢false, ap, sym, subst}
+use Rattle.ga_explorer.specs.Tails.{Exploring}
+use Rattle.ga_console.specs.kept.Turns.{Turns}
+use Rattle.ga_console.specs.declared.responder.Turn.TheVariants.{Answered}
+use Rattle.ga_console.proofs.RunLemmas.{said_fresh}
+use Rattle.ga_explorer.specs.Answers.{Explores}
+use Rattle.ga_picture.proofs.Hearing.{quiet_notes}
+use Rattle.ga_picture.proofs.silent.Silent.hear.Goals as goal
+
+pub returns-in-Ok-Answered-clause-heard : goal.returns-in-Ok-Answered-clause-heard
+returns-in-Ok-Answered-clause-heard c =
+    let heard = rw c.in-Ok-Answered.field-0-is at c.in-Ok-Answered.ensures in
+    let done = heard [] [] (said_fresh _ [] [] c.new-output.result (ap Some c.new-said.ensures.items) c.new-output.ensures) in
+    let P : Exploring → Type 0 = λ s. Turns Explores c.args.self.now.explorer c.args.line.now.items s (Ok Answered) done.0 in
+    (done.0, subst P (sym c.note.ensures.same) done.1, c.note.ensures.noted done.0 done.2)
+
+pub returns-in-Ok-Quit-clause-heard : goal.returns-in-Ok-Quit-clause-heard
+returns-in-Ok-Quit-clause-heard c =
+    let heard = rw c.in-Ok-Quit.field-0-is at c.in-Ok-Quit.ensures in
+    let done = heard [] [] (said_fresh _ [] [] c.new-output.result (ap Some c.new-said.ensures.items) c.new-output.ensures) in
+    (done.0, done.1, quiet_notes c.args.self.now.short done.0 done.1.2)
+
+pub returns-clause-heard : goal.returns-clause-heard
+returns-clause-heard c =
+    let done = c.in-Err.ensures [] [] (said_fresh _ [] [] c.new-output.result (ap Some c.new-said.ensures.items) c.new-output.ensures) in
+    (done.0, done.1, λ e. absurd (true≢false e))

@@ -1,0 +1,6 @@
+pub mod Drawing
+pub mod Svg
+pub mod Picture
+pub mod kept
+pub mod Following
+pub mod Drawn

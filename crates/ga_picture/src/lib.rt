@@ -1,0 +1,27 @@
+//! Pictures of the kept events of a chip: a line down for each node, with marks for its own events and arrows for passes, in the
+//! order in which the events were made. `ga144 draw`: a session's commands, carried out without an answer, and at their end its
+//! picture.
+#![tactic(auto)]
+
+mod before;
+mod follow;
+mod lines;
+mod marks;
+mod placing;
+mod reports;
+mod run;
+mod shade;
+mod silent;
+mod text;
+mod touched;
+mod tracks;
+mod view;
+
+pub use before::grounds;
+pub use follow::follow_session;
+pub use placing::{Drawing, Shape, layout};
+pub use run::draw_session;
+pub use shade::{Shade, shades};
+pub use silent::Silent;
+pub use text::svg;
+pub use view::{Step, View, draw, picture};

@@ -1,0 +1,57 @@
+//! A whole session that ends with a picture.
+ghost use Rattle.std.specs.Prelude.{◌≡◌, ◌++◌, Some};
+ghost use Rattle.ga_image.specs.Lines.{Bytes};
+ghost use Rattle.ga_picture.specs.Drawn.{Draws, Pictures, IsOut};
+
+use super::follow::{decline, follow_session};
+use super::view::{View, picture};
+use ga_console::{Status, write_all};
+use ga_lab::Lab;
+use std::alloc::Global;
+use std::io::{Read, Write};
+
+/// Reads an image or source and then commands, as a session of exploring does, and carries them out without an answer. At the end
+/// of the input, or at `quit`, it writes a picture of the kept events. A refused image gets its refusal, and so does a view of a
+/// step that doesn't stand, and want of memory for the picture or for a command. Of a fault in source `errors` is told. At most
+/// `limit` events are kept.
+pub fn draw_session<R: Read, W: Write, E: Write>(
+    alloc: Global,
+    reader: &mut R,
+    writer: &mut W,
+    errors: &mut E,
+    view: View,
+    limit: u32,
+) -> Status
+    // Where the streams tell their bytes: what was read, and what was written for it by the status.
+    ensures { (left before : Bytes) →
+        R.remaining reader.old ≡ Some left → W.contents writer.old ≡ Some before →
+        (read rest text : Bytes) × (left ≡ read ++ rest) × (R.remaining reader.new ≡ Some rest)
+        × (W.contents writer.new ≡ Some (before ++ text)) × Draws limit view read rest text result }
+{
+    match follow_session(alloc, reader, writer, errors, limit) {
+        Ok(explorer) => write_picture(writer, explorer.lab(), view),
+        Err(status) => status,
+    }
+}
+
+/// Writes the picture of a lab's kept events, or why there is none.
+fn write_picture<W: Write>(writer: &mut W, lab: &Lab, view: View) -> Status
+    ensures { (before : Bytes) → W.contents writer.old ≡ Some before →
+        (text : Bytes) × (W.contents writer.new ≡ Some (before ++ text)) × Pictures lab.now view text result }
+{
+    match picture(lab, view) {
+        Ok(text) => write_out(writer, text.as_bytes()),
+        Err(fault) => decline(writer, fault),
+    }
+}
+
+/// Writes a picture.
+fn write_out<W: Write>(writer: &mut W, picture: &[u8]) -> Status
+    ensures { (before : Bytes) → W.contents writer.old ≡ Some before →
+        (text : Bytes) × (W.contents writer.new ≡ Some (before ++ text)) × IsOut picture.now text result }
+{
+    match write_all(writer, picture) {
+        Ok(()) => Status::Done,
+        Err(_) => Status::StreamFault,
+    }
+}

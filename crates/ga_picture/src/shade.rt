@@ -1,0 +1,81 @@
+//! The colours of the events.
+
+ghost use Rattle.std.specs.Prelude.{◌≡◌, ◌↔◌, ◌<◌, ◌≤◌, ℕ, Bool, true, false, List, length, Option, Some, IfOk, IfSome, IsTrue, slice_get, slice_index_or};
+ghost use Rattle.ga_picture.specs.Drawing.{AreShades, IsShade, Goes, Leads};
+
+use crate::before::grounds;
+use ga_causal::{Cause, Memory, closure};
+use std::alloc::Global;
+
+/// How an event stands out. In print each colour has its weight too.
+#[derive(Clone, Copy, PartialEq, Eq, Debug)]
+pub enum Shade {
+    /// As any event; where the causes of a step are asked for, it is one of them.
+    Black,
+    /// The step that is asked for doesn't depend on it.
+    Grey,
+    /// A rollback takes it.
+    Red,
+}
+
+/// The colour of each event: red where it depends on the event at `rewind`, which a rollback would take with it; grey where
+/// the one at `cause` doesn't depend on it; else black. Walks over the events once for each of the two that is given.
+pub fn shades(
+    alloc: Global,
+    events: &[Cause],
+    cause: Option<u32>,
+    rewind: Option<u32>,
+) -> Result<Vec<Shade>, Memory>
+    requires cause { IfSome cause (λ place. place < length events.now) }
+    requires rewind { IfSome rewind (λ place. place < length events.now) }
+    ensures { IfOk result (λ shades. AreShades events.now cause rewind shades.items) }
+{
+    let leads = leading(alloc, events, cause)?;
+    let goes = going(alloc, events, rewind)?;
+    let mut shades = Vec::with_capacity(alloc, events.len())?;
+    'events: for place in 0..events.len() {
+        shades.push(shade_for(goes[place], leads[place]))?;
+    }
+    Ok(shades)
+}
+
+/// Of each event, whether the one at the place depends on it; without a place all count as such.
+fn leading(alloc: Global, events: &[Cause], cause: Option<u32>) -> Result<Vec<bool>, Memory>
+    requires { IfSome cause (λ place. place < length events.now) }
+    ensures size { IfOk result (λ flags. length flags.items ≡ length events.now) }
+    ensures exact { IfOk result (λ flags.
+        (j : ℕ) → j < length events.now → (IsTrue (slice_index_or flags.items j false) ↔ Leads events.now cause j)) }
+{
+    match cause {
+        Some(place) => grounds(alloc, events, place),
+        None => Ok(vec![in alloc; true; events.len()]?),
+    }
+}
+
+/// Of each event, whether it depends on the one at the place; without a place none does.
+fn going(alloc: Global, events: &[Cause], rewind: Option<u32>) -> Result<Vec<bool>, Memory>
+    requires { IfSome rewind (λ place. place < length events.now) }
+    ensures size { IfOk result (λ flags. length flags.items ≡ length events.now) }
+    ensures exact { IfOk result (λ flags.
+        (j : ℕ) → j < length events.now → (IsTrue (slice_index_or flags.items j false) ↔ Goes events.now rewind j)) }
+{
+    match rewind {
+        Some(place) => closure(alloc, events, place),
+        None => Ok(vec![in alloc; false; events.len()]?),
+    }
+}
+
+/// The colour of an event that goes, or leads to the step that is asked for.
+fn shade_for(goes: bool, leads: bool) -> Shade
+    ensures red { goes ≡ true → result ≡ Shade.Red }
+    ensures black { goes ≡ false → leads ≡ true → result ≡ Shade.Black }
+    ensures grey { goes ≡ false → leads ≡ false → result ≡ Shade.Grey }
+{
+    if goes {
+        Shade::Red
+    } else if leads {
+        Shade::Black
+    } else {
+        Shade::Grey
+    }
+}

@@ -1,0 +1,120 @@
+//! A session that says nothing.
+ghost use Rattle.std.specs.Prelude.{◌≡◌, ◌↔◌, [], Some, Ok, IsTrue};
+ghost use Rattle.ga_image.specs.Lines.{Bytes};
+ghost use Rattle.ga_console.specs.Output.{IsSaid};
+ghost use Rattle.ga_console.specs.declared.responder.Turn.TheVariants.{Quit};
+ghost use Rattle.ga_console.specs.kept.Turns.{Turns, AnswersCommand};
+ghost use Rattle.ga_picture.specs.Following.{IsShort};
+ghost use Rattle.ga_picture.specs.kept.Following.{Notes};
+ghost use Rattle.ga_explorer.specs.Answers.{Explores};
+
+use ga_console::{Command, Line, Output, Responder, Turn, WriteFailed};
+use ga_explorer::Explorer;
+use ga_lab::Lab;
+use std::alloc::Global;
+use std::io::Write;
+
+/// A session that carries out what exploring would, and says none of its answers.
+#[derive(Drop)]
+pub struct Silent {
+    /// What answers.
+    pub explorer: Explorer,
+    /// Memory was wanting for an answer, or for what it tells.
+    pub short: bool,
+}
+
+impl Silent {
+    /// Answers a line, of which at least the first 201 bytes are here, and says nothing.
+    fn hear(&mut self, alloc: Global, line: &Line) -> Turn
+        ensures heard { (answer : Bytes) × Turns Explores self.old.explorer line.now.items self.new.explorer (Ok result) answer
+            × Notes self.old.short answer self.new.short }
+        ensures ends { result ≡ Quit → self.new.short ≡ self.old.short }
+    {
+        let mut output = Output::new();
+        let mut said = Vec::new(alloc);
+        match self.explorer.answer(alloc, line, &mut output, &mut said) {
+            Ok(Turn::Answered) => {
+                self.note(&mut output, &mut said);
+                Turn::Answered
+            }
+            Ok(Turn::Quit) => Turn::Quit,
+            Err(WriteFailed) => {
+                self.short = true;
+                Turn::Answered
+            }
+        }
+    }
+
+    /// Answers a line that spells a command of the debugger, and says nothing.
+    fn hear_command(&mut self, alloc: Global, command: Command)
+        ensures { (answer : Bytes) × AnswersCommand Explores self.old.explorer command self.new.explorer answer
+            × Notes self.old.short answer self.new.short }
+    {
+        let mut output = Output::new();
+        let mut said = Vec::new(alloc);
+        match self.explorer.obey(alloc, command, &mut output, &mut said) {
+            Ok(()) => self.note(&mut output, &mut said),
+            Err(WriteFailed) => self.short = true,
+        }
+    }
+
+    /// Takes note of an answer that tells of want of memory.
+    fn note(&mut self, output: &mut Output, said: &mut Vec<u8>)
+        ensures same { self.new.explorer ≡ self.old.explorer }
+        ensures noted { (answer : Bytes) → IsSaid (Some said.old.items) [] answer output.old → Notes self.old.short answer self.new.short }
+    {
+        match output.send(said) {
+            Ok(()) => self.short = self.short || is_short(said.as_slice()),
+            Err(WriteFailed) => self.short = true,
+        }
+    }
+}
+
+/// Whether an answer tells that memory was wanting.
+fn is_short(answer: &[u8]) -> bool
+    ensures { IsTrue result ↔ IsShort answer.now }
+{
+    if answer.len() < 7 {
+        return false;
+    }
+    let (front, _) = answer.split_at(7);
+    front == b"memory ".as_slice() || answer == b"no 4 memory\n".as_slice()
+}
+
+impl Responder for Silent {
+    ghost use Rattle.std.specs.Prelude.{false, None};
+    ghost use Rattle.ga_explorer.specs.kept.Exploring.{exploring};
+    ghost use Rattle.ga_picture.specs.kept.Following.{HearsLine};
+
+    ghost answers = { λ m line said new. HearsLine m.explorer m.short line said new.explorer new.short };
+
+    ghost begin = { λ s. record { explorer = exploring s None; short = false } };
+
+    fn open(lab: Lab) -> Self {
+        Silent {
+            explorer: Explorer::open(lab),
+            short: false,
+        }
+    }
+
+    fn answer<W: Write>(
+        &mut self,
+        alloc: Global,
+        line: &Line,
+        _output: &mut Output,
+        _writer: &mut W,
+    ) -> Result<Turn, WriteFailed> {
+        Ok(self.hear(alloc, line))
+    }
+
+    fn obey<W: Write>(
+        &mut self,
+        alloc: Global,
+        command: Command,
+        _output: &mut Output,
+        _writer: &mut W,
+    ) -> Result<(), WriteFailed> {
+        self.hear_command(alloc, command);
+        Ok(())
+    }
+}

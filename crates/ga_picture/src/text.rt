@@ -1,0 +1,177 @@
+//! A picture as text in SVG.
+
+ghost use Rattle.std.specs.Prelude.{◌≡◌, IfOk, string_bytes};
+ghost use Rattle.ga_picture.specs.Svg.{IsSvg, IsGroup, class_of};
+
+use crate::marks::push_event;
+use crate::placing::{Drawing, Shape};
+use crate::shade::Shade;
+use crate::tracks::Tracks;
+use ga_event::Made;
+use ga_grid::NodeId;
+use ga_node::Kind;
+use std::alloc::{AllocError, Global};
+
+/// The widths of what stands left of the first line and right of the last one, and between two lines.
+const MARGIN: u32 = 70;
+
+const BETWEEN: u32 = 120;
+
+/// The heights of what stands above the first event and below the last one, and between two events.
+const HEAD: u64 = 52;
+
+const ROW: u64 = 18;
+
+/// What the classes look like: `k` black, `g` grey, `r` red. Red is heavier too, so that it stands out in print. Each text has a
+/// white rim, and so is read over lines.
+const STYLE: &str = "<style>
+text{font:11px ui-monospace,Menlo,Consolas,'DejaVu Sans Mono',monospace;fill:#111;paint-order:stroke;stroke:#fff;stroke-width:3px}
+line,path,circle{stroke:#111;fill:none;stroke-width:1.2}
+.n{font-weight:bold;font-size:13px;text-anchor:middle}
+.l{stroke:#ddd}
+.t{stroke:#999}
+.w{stroke:#666;stroke-dasharray:1 4;stroke-linecap:round;stroke-width:2}
+.d{stroke-dasharray:5 3}
+.m{text-anchor:middle}
+.e{text-anchor:end}
+.f{fill:#111}
+.o{fill:#fff}
+.g text{fill:#767676}
+.g line,.g path,.g circle{stroke:#aaa}
+.g .f{fill:#aaa}
+.r text{fill:#b84300;font-weight:bold}
+.r line,.r path,.r circle{stroke:#d55e00;stroke-width:2.8}
+.r .f{fill:#d55e00}
+</style>
+";
+
+/// The text of a picture: a head, a group for each shape in order, and a foot. Of the events that are drawn their reports are
+/// given, in the same order; where there is none the shape has no title and no label.
+///
+/// # Errors
+/// Memory was refused.
+pub fn svg(alloc: Global, drawing: &Drawing, mades: &[Made]) -> Result<String, AllocError>
+    ensures { IfOk result (λ text. IsSvg drawing.now.shapes.items (string_bytes text)) }
+{
+    let mut text = head(alloc, drawing, mades)?;
+    'rows: for row in 0..drawing.shapes.len() {
+        let shape = drawing.shapes[row];
+        let group = group(alloc, drawing, row, shape, mades.get(row))?;
+        text.push_str(group.as_str())?;
+    }
+    text.push_str("</svg>\n")?;
+    Ok(text)
+}
+
+/// What is drawn of one event: a group of the class of its colour.
+fn group(
+    alloc: Global,
+    drawing: &Drawing,
+    row: usize,
+    shape: Shape,
+    made: Option<&Made>,
+) -> Result<String, AllocError>
+    ensures { IfOk result (λ text. IsGroup shape (string_bytes text)) }
+{
+    let mut text = String::new(alloc);
+    text.push_str(class(shape.shade()))?;
+    let body = body(alloc, drawing, y_of(row), shape, made)?;
+    text.push_str(body.as_str())?;
+    text.push_str("</g>\n")?;
+    Ok(text)
+}
+
+/// What stands in the group of an event.
+fn body(
+    alloc: Global,
+    drawing: &Drawing,
+    y: u64,
+    shape: Shape,
+    made: Option<&Made>,
+) -> Result<String, AllocError> {
+    let mut text = String::new(alloc);
+    push_event(&mut text, drawing, y, shape, made)?;
+    Ok(text)
+}
+
+/// Begins a group of this colour.
+fn class(shade: Shade) -> &'static str
+    ensures { result.now ≡ class_of shade }
+{
+    match shade {
+        Shade::Black => "<g class='k'>",
+        Shade::Grey => "<g class='g'>",
+        Shade::Red => "<g class='r'>",
+    }
+}
+
+/// Where a line stands from the left.
+pub(crate) fn x_of(line: u8) -> u32 {
+    MARGIN + BETWEEN * u32::from(line)
+}
+
+/// Where a row stands from above.
+pub(crate) fn y_of(row: usize) -> u64 {
+    (row as u64).saturating_mul(ROW).saturating_add(HEAD)
+}
+
+/// What stands before the events: the size, the classes, of each node its name and a thin line, and when it runs and waits.
+fn head(alloc: Global, drawing: &Drawing, mades: &[Made]) -> Result<String, AllocError> {
+    let mut text = String::new(alloc);
+    let width = x_of(drawing.lines.len().min(144) as u8).saturating_sub(20);
+    let height = y_of(drawing.shapes.len());
+    write!(
+        text,
+        "<svg xmlns='http://www.w3.org/2000/svg' viewBox='0 0 {width} {height}' width='{width}' height='{height}'>\n"
+    )?;
+    text.push_str(STYLE)?;
+    text.push_str("<rect width='100%' height='100%' fill='#fff'/>\n")?;
+    for (line, node) in drawing.lines.iter().take(144).enumerate() {
+        push_name(&mut text, x_of(line as u8), *node, height)?;
+    }
+    push_tracks(alloc, &mut text, drawing, mades)?;
+    Ok(text)
+}
+
+/// Adds a node's name and its thin line.
+fn push_name(text: &mut String, x: u32, node: NodeId, height: u64) -> Result<(), AllocError> {
+    let name = node.yxx();
+    let bottom = height.saturating_sub(12);
+    write!(text, "<text class='n' x='{x}' y='24'>{name:03}</text>")?;
+    write!(
+        text,
+        "<line class='l' x1='{x}' y1='32' x2='{x}' y2='{bottom}'/>\n"
+    )
+}
+
+/// Adds when each node runs and when it waits.
+fn push_tracks(
+    alloc: Global,
+    text: &mut String,
+    drawing: &Drawing,
+    mades: &[Made],
+) -> Result<(), AllocError> {
+    let mut tracks = Tracks::new(alloc, drawing.lines.len())?;
+    for (row, shape) in drawing.shapes.iter().enumerate() {
+        match *shape {
+            Shape::Mark { line, .. } => {
+                tracks.own(text, line, y_of(row), is_wait(mades.get(row)))?;
+            }
+            Shape::Arrow { from, to, .. } => {
+                tracks.passed(text, from, y_of(row))?;
+                tracks.passed(text, to, y_of(row))?;
+            }
+        }
+    }
+    tracks.end(text, y_of(drawing.shapes.len()).saturating_sub(12))
+}
+
+fn is_wait(made: Option<&Made>) -> bool {
+    matches!(
+        made,
+        Some(Made::Own {
+            kind: Kind::Wait,
+            ..
+        })
+    )
+}

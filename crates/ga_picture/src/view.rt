@@ -1,0 +1,149 @@
+//! The picture of a lab's kept events.
+
+ghost use Rattle.std.specs.Prelude.{◌≡◌, ◌↔◌, ◌⊎◌, ◌<◌, ◌≤◌, ◌^◌, false, length, Err, IfOk, IfErr, IfSome, min, string_bytes};
+ghost use Rattle.ga_picture.specs.Picture.{IsPicture, IsPictureOf, IsPictureText, all_stand, stands_for, place_for};
+
+use crate::placing::{Drawing, layout};
+use crate::reports::reports;
+use crate::shade::shades;
+use crate::text::svg;
+use ga_causal::{Cause, Memory, place_of};
+use ga_grid::NodeId;
+use ga_lab::{Lab, LabFault};
+use std::alloc::Global;
+
+/// A step: its node and its number, counted from 1.
+pub type Step = (NodeId, u32);
+
+/// What a picture is to show of the kept events.
+#[derive(Clone, Copy, PartialEq, Eq, Debug)]
+pub struct View {
+    /// The step whose causes stand out.
+    pub cause: Option<Step>,
+    /// The step of which all is marked that a rollback would take.
+    pub rewind: Option<Step>,
+    /// How many of the oldest events are left out.
+    pub from: u32,
+    /// How many of the oldest events are looked at: the last of these is the last one drawn.
+    pub to: u32,
+}
+
+/// The picture of the kept events of a lab. Takes memory and time by how many events are kept, not by how many are drawn.
+///
+/// # Errors
+/// `NoStep`, where a node has no such step; then `Memory`.
+pub fn draw(lab: &Lab, view: View) -> Result<Drawing, LabFault>
+    ensures ok { IfOk result (λ drawing. IsPicture lab.now view drawing) }
+    ensures refused { (result ≡ Err LabFault.NoStep) ↔ (all_stand lab.now view ≡ false) }
+    ensures err { IfErr result (λ why. (why ≡ LabFault.NoStep) ⊎ (why ≡ LabFault.Memory)) }
+{
+    if !all_stand(lab, view) {
+        return Err(LabFault::NoStep);
+    }
+    match drawn(lab, view) {
+        Ok(drawing) => Ok(drawing),
+        Err(_) => Err(LabFault::Memory),
+    }
+}
+
+/// The picture of the kept events of a lab, as text in SVG.
+///
+/// # Errors
+/// `NoStep`, where a node has no such step; then `Memory`.
+pub fn picture(lab: &Lab, view: View) -> Result<String, LabFault>
+    ensures ok { IfOk result (λ text. IsPictureText lab.now view (string_bytes text)) }
+    ensures refused { (result ≡ Err LabFault.NoStep) ↔ (all_stand lab.now view ≡ false) }
+    ensures err { IfErr result (λ why. (why ≡ LabFault.NoStep) ⊎ (why ≡ LabFault.Memory)) }
+{
+    if !all_stand(lab, view) {
+        return Err(LabFault::NoStep);
+    }
+    match written(lab, view) {
+        Ok(text) => Ok(text),
+        Err(_) => Err(LabFault::Memory),
+    }
+}
+
+/// Whether the steps that are asked for stand.
+fn all_stand(lab: &Lab, view: View) -> bool
+    ensures { result ≡ all_stand lab.now view }
+{
+    stands(lab, view.cause) && stands(lab, view.rewind)
+}
+
+/// Whether a step stands, where one is given.
+fn stands(lab: &Lab, step: Option<Step>) -> bool
+    ensures { result ≡ stands_for lab.now step }
+{
+    match step {
+        Some(step) => lab.stands(step),
+        None => true,
+    }
+}
+
+/// The picture of the kept events of a lab.
+fn drawn(lab: &Lab, view: View) -> Result<Drawing, Memory>
+    ensures { IfOk result (λ drawing. IsPicture lab.now view drawing) }
+{
+    // So few that a place has room in 32 bits.
+    let kept = lab.counts().kept;
+    prove!(kept <= u32::MAX);
+    let Ok(causes) = lab.causes() else {
+        return Err(Memory);
+    };
+    drawn_of(*causes.allocator(), causes.as_slice(), view)
+}
+
+/// Its text.
+fn written(lab: &Lab, view: View) -> Result<String, Memory>
+    ensures { IfOk result (λ text. IsPictureText lab.now view (string_bytes text)) }
+{
+    let drawing = drawn(lab, view)?;
+    let Ok(causes) = lab.causes() else {
+        return Err(Memory);
+    };
+    let alloc = *causes.allocator();
+    let (from, to) = span(causes.len(), view);
+    let Ok(mades) = reports(alloc, lab, causes.as_slice(), from, to) else {
+        return Err(Memory);
+    };
+    match svg(alloc, &drawing, mades.as_slice()) {
+        Ok(text) => Ok(text),
+        Err(_) => Err(Memory),
+    }
+}
+
+/// The picture of these events.
+fn drawn_of(alloc: Global, events: &[Cause], view: View) -> Result<Drawing, Memory>
+    requires { length events.now < 2 ^ 32 }
+    ensures { IfOk result (λ drawing. IsPictureOf events.now view drawing) }
+{
+    let cause = place(events, view.cause);
+    let rewind = place(events, view.rewind);
+    let shades = shades(alloc, events, cause, rewind)?;
+    let (from, to) = span(events.len(), view);
+    layout(alloc, events, shades.as_slice(), from, to)
+}
+
+/// From where to where events are drawn, of so many.
+fn span(count: usize, view: View) -> (usize, usize)
+    ensures end { result.1 ≡ min count view.to }
+    ensures start { result.0 ≡ min result.1 view.from }
+    ensures order { result.0 ≤ result.1 }
+    ensures within { result.1 ≤ count }
+{
+    let to = count.min(view.to as usize);
+    (to.min(view.from as usize), to)
+}
+
+/// The place of a step, where one is given.
+fn place(events: &[Cause], step: Option<Step>) -> Option<u32>
+    requires { length events.now < 2 ^ 32 }
+    ensures value { result ≡ place_for events.now step }
+    ensures within { IfSome result (λ place. place < length events.now) }
+{
+    match step {
+        Some((node, number)) => place_of(events, node, number),
+        None => None,
+    }
+}

@@ -1,0 +1,16 @@
+pub mod Bits
+pub mod Sets
+pub mod Nexts
+pub mod Rounds
+pub mod Looking
+pub mod Stepping
+pub mod Events
+pub mod Stuck
+pub mod Taking
+pub mod Freeing
+pub mod Telling
+pub mod Ends
+pub mod WordCounts
+pub mod Sessions
+pub mod Standing
+pub mod Offering

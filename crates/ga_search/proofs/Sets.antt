@@ -1,0 +1,66 @@
+-- A set of numbers by its bits.
+use Rattle.std.proofs.Common.{◌≡◌, ◌≢◌, ℕ, ◌+◌, ◌*◌, ◌/◌, ◌%◌, ◌<◌, ◌≤◌, ◌==◌, Bool, true, false, length, set, get_or, get_or-set_same, get_or-set_other, eq-eqb, ◌-◌, inl, inr, ⊎_elim, sym, ◌∙◌, ap, arith}
+use Rattle.std.specs.Int.{bit_at}
+use Rattle.std.proofs.lemmas.Bool.{cases_eq, cases_lt, cases_Bool}
+use Rattle.ga_search.specs.declared.numbers.Numbers.{Numbers}
+use Rattle.ga_search.specs.kept.Numbers.{has}
+
+one_is : (a : ℕ) → a ≡ 1 → (a == 1) ≡ true
+one_is a e = eq-eqb a 1 e
+
+zero_is : (a : ℕ) → a ≡ 0 → (a == 1) ≡ false
+zero_is a e = ap (λ z. z == 1) e
+
+pub has_bit : (numbers : Numbers) (n : ℕ) → bit_at (get_or numbers.words (n / 64) 0) (n % 64) ≡ 1 → has numbers n ≡ true
+unfolding has
+has_bit numbers n h = one_is _ h
+
+pub has_no_bit : (numbers : Numbers) (n : ℕ) → bit_at (get_or numbers.words (n / 64) 0) (n % 64) ≡ 0 → has numbers n ≡ false
+unfolding has
+has_no_bit numbers n h = zero_is _ h
+
+-- a number by its word and its place
+pub split : (n word place : ℕ) → n ≡ 64 * word + place → place < 64 → (n / 64 ≡ word) × (n % 64 ≡ place)
+split n word place e l = (omega arith, omega arith)
+
+pub is_in : (numbers : Numbers) (n word place : ℕ) → n ≡ 64 * word + place → place < 64 → bit_at (get_or numbers.words word 0) place ≡ 1 → has numbers n ≡ true
+is_in numbers n word place e l h =
+    let s = split n word place e l in
+    has_bit numbers n (ap (λ z. bit_at (get_or numbers.words z 0) (n % 64)) s.0 ∙ ap (bit_at (get_or numbers.words word 0)) s.1 ∙ h)
+
+pub is_out : (numbers : Numbers) (n word place : ℕ) → n ≡ 64 * word + place → place < 64 → bit_at (get_or numbers.words word 0) place ≡ 0 → has numbers n ≡ false
+is_out numbers n word place e l h =
+    let s = split n word place e l in
+    has_no_bit numbers n (ap (λ z. bit_at (get_or numbers.words z 0) (n % 64)) s.0 ∙ ap (bit_at (get_or numbers.words word 0)) s.1 ∙ h)
+
+-- another word at a number's place
+pub put_same : (old new : Numbers) (n word : ℕ) (is : Bool) → length old.words ≡ 3 → n < 192 → new.words ≡ set old.words (n / 64) word
+    → (is ≡ true → bit_at word (n % 64) ≡ 1) → (is ≡ false → bit_at word (n % 64) ≡ 0) → has new n ≡ is
+put_same old new n word is size l e one zero =
+    let w : get_or new.words (n / 64) 0 ≡ word = ap (λ z. get_or z (n / 64) 0) e ∙ get_or-set_same old.words (n / 64) word 0 (omega arith) in
+    let b : bit_at (get_or new.words (n / 64) 0) (n % 64) ≡ bit_at word (n % 64) = ap (λ z. bit_at z (n % 64)) w in
+    ⊎_elim (λ t. has_bit new n (b ∙ one t) ∙ sym t) (λ f. has_no_bit new n (b ∙ zero f) ∙ sym f) (cases_Bool is)
+
+pub put_other : (old new : Numbers) (n m word : ℕ) → length old.words ≡ 3 → n < 192 → m ≢ n → new.words ≡ set old.words (n / 64) word
+    → ((i : ℕ) → i < 64 → i ≢ n % 64 → bit_at word i ≡ bit_at (get_or old.words (n / 64) 0) i) → has new m ≡ has old m
+unfolding has
+put_other old new n m word size l ne e others =
+    ap (λ z. bit_at z (m % 64) == 1) (ap (λ z. get_or z (m / 64) 0) e)
+    ∙ ⊎_elim
+    (λ same. ap (λ z. z == 1)
+    (ap (λ z. bit_at (get_or (set old.words (n / 64) word) z 0) (m % 64)) same
+    ∙ ap (λ z. bit_at z (m % 64)) (get_or-set_same old.words (n / 64) word 0 (omega arith))
+    ∙ others (m % 64) (omega arith) (λ p. ne (omega arith))
+    ∙ ap (λ z. bit_at (get_or old.words z 0) (m % 64)) (sym same)))
+    (λ apart. ap (λ z. bit_at z (m % 64) == 1) (get_or-set_other old.words (n / 64) (m / 64) word 0 apart))
+    (cases_eq (m / 64) (n / 64))
+
+-- up to a place of a word
+pub none_until : (numbers : Numbers) (first index from place : ℕ) → place ≤ 64
+    → ((m : ℕ) → first ≤ m → m < 64 * index + from → has numbers m ≡ false)
+    → ((i : ℕ) → from ≤ i → i < place → bit_at (get_or numbers.words index 0) i ≡ 0)
+    → (m : ℕ) → first ≤ m → m < 64 * index + place → has numbers m ≡ false
+none_until numbers first index from place p before none m l h = elim (cases_lt m (64 * index + from)) [
+  | inl less ↦ before m l less
+  | inr more ↦ is_out numbers m index (m - 64 * index) (omega arith) (omega arith) (none (m - 64 * index) (omega arith) (omega arith))
+]

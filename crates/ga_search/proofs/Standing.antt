@@ -1,0 +1,212 @@
+-- Where a node stands behind a rollback: where some beginning of the list leaves it.
+use Rattle.std.proofs.Common.{◌≡◌, ℕ, zero, suc, ◌+◌, cond, Bool, true, false, ◌||◌, List, [], ◌∷◌, ◌++◌, take, length, append-nil, Option, Some, None, IsSome, refl, sym, ◌∙◌, ap, subst, arith, inl, inr}
+use Rattle.std.specs.Prelude.{option_map, option_and_then, unwrap_or}
+use Rattle.std.proofs.lemmas.Bool.{or_from, or_left, or_right, cases_Bool}
+use Rattle.std.proofs.lemmas.Option.{same_Some}
+use Rattle.std.proofs.lemmas.List.Sums.{sum_by-cons}
+use Rattle.ga_node.specs.Record.{NodeRecord}
+use Rattle.ga_grid.specs.Chip.{record_at}
+use Rattle.ga_event.specs.declared.event.Event.{Event}
+use Rattle.ga_event.specs.declared.event.Cause.{Cause}
+use Rattle.ga_event.specs.Touches.{meets, touches}
+use Rattle.ga_event.specs.Apply.{Told, apply, cause_of, run, replay}
+use Rattle.ga_event.specs.Agree.{Agree}
+use Rattle.ga_event.proofs.Locality.{Agree-sym}
+use Rattle.ga_event.specs.Told.{steps_of}
+use Rattle.ga_causal.specs.Dependence.{events_in, cause_touches, rest, place_of, rest_from}
+use Rattle.ga_causal.proofs.Runs.{kept, causes, FirstOf, first_of_run, keeps_of, Agree-marked, same_of}
+use Rattle.ga_causal.proofs.Swaps.{replay-cons}
+use Rattle.ga_races.proofs.Blind.{no_touch}
+use Rattle.ga_lab.specs.Machine.{State, chip_of, causes_of, told_by, earlier, rewound}
+use Rattle.ga_lab.proofs.Called.{Runs, runs_of}
+use Rattle.ga_lab.proofs.Reasoned.{replayed}
+
+steps-cons : (n : ℕ) (e : Event) (es : List Event) → steps_of n (e ∷ es) ≡ cond (touches e n) 1 0 + steps_of n es
+steps-cons n e es = sum_by-cons (λ (x : Event). cond (touches x n) 1 0) e es
+
+-- an event that doesn't touch the node is no step of it
+no_step : (b : Bool) (x y : ℕ) → b ≡ false → x ≡ y → cond {A = ℕ} b 1 0 + x ≡ y
+no_step true x y f e = absurd (cc)
+no_step false x y f e = omega (arith, e)
+
+-- what is kept of a list that meets no mark leaves a marked node as it was
+record Ran (b : List NodeRecord) (es : List Event) (m : ℕ) : Type 0 where
+  now : List NodeRecord
+  led : replay b es ≡ Some now
+  same : record_at b m ≡ record_at now m
+  none : steps_of m es ≡ 0
+
+abbrev part : Bool → (ℕ → Bool) → Cause → List Cause → List Cause
+part b marks x xs =
+    let then : ℕ → Bool = cond b (λ n. marks n || cause_touches x n) marks in
+    cond b (kept then xs) (x ∷ kept then xs)
+
+marked_ran : (es : List Event) (marks : ℕ → Bool) (c b last : List NodeRecord) (ts : List (Cause × Told)) (m : ℕ) → Agree marks c b → marks m ≡ true → run c es ≡ Some (last, ts) → Ran b (events_in (kept marks (causes ts))) m
+marked_ran [] marks c b last ts m a mark is =
+    subst (λ (z : List (Cause × Told)). Ran b (events_in (kept marks (causes z))) m) (ap (λ (z : List NodeRecord × List (Cause × Told)). z.1) (same_Some (c, []) (last, ts) is))
+    (record { now = b; led = refl; same = refl; none = refl })
+marked_ran (e ∷ es) marks c b last ts m a mark is =
+    let f = first_of_run c e es last ts is in
+    subst (λ (z : List (Cause × Told)). Ran b (events_in (kept marks (causes z))) m) (sym f.all)
+    (go f (meets marks (cause_of c e)) refl
+    (λ ms d ag mk. marked_ran es ms f.mid d last f.others m ag mk f.then))
+  where
+    go : (f : FirstOf c e es last ts) (t : Bool) → meets marks (cause_of c e) ≡ t
+        → ((ms : ℕ → Bool) (d : List NodeRecord) → Agree ms f.mid d → ms m ≡ true → Ran d (events_in (kept ms (causes f.others))) m)
+        → Ran b (events_in (part t marks (cause_of c e) (causes f.others))) m
+    go f true met again = again (λ n. marks n || cause_touches (cause_of c e) n) b (Agree-marked marks e c f.mid b f.told a f.first) (or_left (marks m) (cause_touches (cause_of c e) m) mark)
+    go f false met again =
+        let s = same_of marks e c f.mid b f.told a met f.first in
+        let r = again marks s.mid s.agree mark in
+        let apart : touches e m ≡ false = no_touch marks (cause_of c e) m met mark in
+        record {
+          now = r.now;
+          led = replay-cons b e (events_in (kept marks (causes f.others))) ∙ ap (λ (o : Option (List NodeRecord × Told)). option_and_then (λ first. replay first.0 (events_in (kept marks (causes f.others)))) o) s.done ∙ r.led;
+          same = (keeps_of b e s.mid f.told s.done).same m apart ∙ r.same;
+          none = steps-cons m e (events_in (kept marks (causes f.others))) ∙ no_step (touches e m) (steps_of m (events_in (kept marks (causes f.others)))) 0 apart r.none;
+        }
+
+-- the node stands at the end of what is kept as a beginning of the whole leaves it
+record Stand (c b : List NodeRecord) (es ks : List Event) (m : ℕ) : Type 0 where
+  now : List NodeRecord
+  led : replay b ks ≡ Some now
+  first : List Event
+  others : List Event
+  is : es ≡ first ++ others
+  mid : List NodeRecord
+  begun : replay c first ≡ Some mid
+  count : steps_of m first ≡ steps_of m ks
+  same : record_at mid m ≡ record_at now m
+
+-- one event that both make
+stand_both : (c d b p : List NodeRecord) (e : Event) (t : Told) (es ks : List Event) (m : ℕ) → apply c e ≡ Some (d, t) → apply b e ≡ Some (p, t) → Stand d p es ks m → Stand c b (e ∷ es) (e ∷ ks) m
+stand_both c d b p e t es ks m h k s = record {
+  now = s.now;
+  led = replay-cons b e ks ∙ ap (λ (o : Option (List NodeRecord × Told)). option_and_then (λ first. replay first.0 ks) o) k ∙ s.led;
+  first = e ∷ s.first;
+  others = s.others;
+  is = ap (λ (z : List Event). e ∷ z) s.is;
+  mid = s.mid;
+  begun = replay-cons c e s.first ∙ ap (λ (o : Option (List NodeRecord × Told)). option_and_then (λ first. replay first.0 s.first) o) h ∙ s.begun;
+  count = steps-cons m e s.first ∙ ap (λ (z : ℕ). cond {A = ℕ} (touches e m) 1 0 + z) s.count ∙ sym (steps-cons m e ks);
+  same = s.same;
+}
+
+-- one that is dropped and doesn't touch the node
+stand_past : (c d b : List NodeRecord) (e : Event) (t : Told) (es ks : List Event) (m : ℕ) → apply c e ≡ Some (d, t) → touches e m ≡ false → Stand d b es ks m → Stand c b (e ∷ es) ks m
+stand_past c d b e t es ks m h apart s = record {
+  now = s.now;
+  led = s.led;
+  first = e ∷ s.first;
+  others = s.others;
+  is = ap (λ (z : List Event). e ∷ z) s.is;
+  mid = s.mid;
+  begun = replay-cons c e s.first ∙ ap (λ (o : Option (List NodeRecord × Told)). option_and_then (λ first. replay first.0 s.first) o) h ∙ s.begun;
+  count = steps-cons m e s.first ∙ no_step (touches e m) (steps_of m s.first) (steps_of m ks) apart s.count;
+  same = s.same;
+}
+
+-- and where none of the kept touches it
+stand_here : (c b : List NodeRecord) (es ks : List Event) (m : ℕ) → record_at c m ≡ record_at b m → Ran b ks m → Stand c b es ks m
+stand_here c b es ks m at r = record { now = r.now; led = r.led; first = []; others = es; is = refl; mid = c; begun = refl; count = sym r.none; same = at ∙ r.same }
+
+stand_kept : (es : List Event) (marks : ℕ → Bool) (c b last : List NodeRecord) (ts : List (Cause × Told)) (m : ℕ) → Agree marks c b → marks m ≡ false → run c es ≡ Some (last, ts) → Stand c b es (events_in (kept marks (causes ts))) m
+stand_kept [] marks c b last ts m a free is =
+    subst (λ (z : List (Cause × Told)). Stand c b [] (events_in (kept marks (causes z))) m) (ap (λ (z : List NodeRecord × List (Cause × Told)). z.1) (same_Some (c, []) (last, ts) is))
+    (stand_here c b [] [] m (a.same m free) (record { now = b; led = refl; same = refl; none = refl }))
+stand_kept (e ∷ es) marks c b last ts m a free is =
+    let f = first_of_run c e es last ts is in
+    subst (λ (z : List (Cause × Told)). Stand c b (e ∷ es) (events_in (kept marks (causes z))) m) (sym f.all)
+    (go f (meets marks (cause_of c e)) refl (λ ms d ag mk. stand_kept es ms f.mid d last f.others m ag mk f.then))
+  where
+    go : (f : FirstOf c e es last ts) (t : Bool) → meets marks (cause_of c e) ≡ t
+        → ((ms : ℕ → Bool) (d : List NodeRecord) → Agree ms f.mid d → ms m ≡ false → Stand f.mid d es (events_in (kept ms (causes f.others))) m)
+        → Stand c b (e ∷ es) (events_in (part t marks (cause_of c e) (causes f.others))) m
+    go f true met again =
+        let ms : ℕ → Bool = λ n. marks n || cause_touches (cause_of c e) n in
+        let ag = Agree-marked marks e c f.mid b f.told a f.first in
+        elim (cases_Bool (touches e m)) [
+          | inl t ↦ stand_here c b (e ∷ es) (events_in (kept ms (causes f.others))) m (a.same m free) (marked_ran es ms f.mid b last f.others m ag (or_right (marks m) (cause_touches (cause_of c e) m) t) f.then)
+          | inr no_touch_here ↦ stand_past c f.mid b e f.told es (events_in (kept ms (causes f.others))) m f.first no_touch_here (again ms b ag (or_from (marks m) (cause_touches (cause_of c e) m) free no_touch_here))
+        ]
+    go f false met again =
+        let s = same_of marks e c f.mid b f.told a met f.first in
+        stand_both c f.mid b s.mid e f.told es (events_in (kept marks (causes f.others))) m f.first s.done (again marks s.mid s.agree free)
+
+stand_rest : (es : List Event) (i : ℕ) (c last : List NodeRecord) (ts : List (Cause × Told)) (m : ℕ) → run c es ≡ Some (last, ts) → Stand c c es (events_in (rest (causes ts) i)) m
+stand_rest [] i c last ts m is =
+    subst (λ (z : List (Cause × Told)). Stand c c [] (events_in (rest (causes z) i)) m) (ap (λ (z : List NodeRecord × List (Cause × Told)). z.1) (same_Some (c, []) (last, ts) is))
+    (stand_here c c [] [] m refl (record { now = c; led = refl; same = refl; none = refl }))
+stand_rest (e ∷ es) zero c last ts m is =
+    let f = first_of_run c e es last ts is in
+    let marks : ℕ → Bool = cause_touches (cause_of c e) in
+    let ag : Agree marks f.mid c = Agree-sym marks c f.mid (keeps_of c e f.mid f.told f.first) in
+    subst (λ (z : List (Cause × Told)). Stand c c (e ∷ es) (events_in (rest (causes z) zero)) m) (sym f.all)
+    (elim (cases_Bool (touches e m)) [
+      | inl t ↦ stand_here c c (e ∷ es) (events_in (kept marks (causes f.others))) m refl (marked_ran es marks f.mid c last f.others m ag t f.then)
+      | inr free ↦ stand_past c f.mid c e f.told es (events_in (kept marks (causes f.others))) m f.first free (stand_kept es marks f.mid c last f.others m ag free f.then)
+    ])
+stand_rest (e ∷ es) (suc i) c last ts m is =
+    let f = first_of_run c e es last ts is in
+    subst (λ (z : List (Cause × Told)). Stand c c (e ∷ es) (events_in (rest (causes z) (suc i))) m) (sym f.all)
+    (stand_both c f.mid c f.mid e f.told es (events_in (rest (causes f.others) i)) m f.first f.first (stand_rest es i f.mid last f.others m f.then))
+
+-- ---- in the machine
+
+take_first : (xs ys : List Event) → take (length xs) (xs ++ ys) ≡ xs
+take_first [] ys = refl
+take_first (x ∷ xs) ys = ap (λ (z : List Event). x ∷ z) (take_first xs ys)
+
+pub record Stands (s : State) (n k m : ℕ) : Type 0 where
+  pub place : ℕ
+  pub count : steps_of m (take place s.kept) ≡ steps_of m (rewound s n k).kept
+  pub same : record_at (chip_of (rewound s n k)) m ≡ record_at (chip_of (earlier s place)) m
+
+chip_at : (o : Option (List NodeRecord)) (c : List NodeRecord) → o ≡ Some c → unwrap_or o [] ≡ c
+chip_at o c h = ap (λ (z : Option (List NodeRecord)). unwrap_or z []) h
+
+stands_by : (s : State) (n k m : ℕ) (ks : List Event) → (rewound s n k).kept ≡ ks → Stand s.load s.load s.kept ks m → Stands s n k m
+stands_by s n k m ks left a =
+    let begins : take (length a.first) s.kept ≡ a.first = ap (λ (z : List Event). take (length a.first) z) a.is ∙ take_first a.first a.others in
+    record {
+      place = length a.first;
+      count = ap (steps_of m) begins ∙ a.count ∙ ap (steps_of m) (sym left);
+      same = ap (λ (z : List Event). record_at (unwrap_or (replay s.load z) []) m) left ∙ ap (λ z. record_at z m) (chip_at (replay s.load ks) a.now a.led)
+          ∙ sym a.same ∙ sym (ap (λ z. record_at z m) (chip_at (replay s.load a.first) a.mid a.begun)) ∙ sym (ap (λ (z : List Event). record_at (unwrap_or (replay s.load z) []) m) begins);
+    }
+
+pub stands_somewhere : (s : State) (n k m : ℕ) → IsSome (replay s.load s.kept) → Stands s n k m
+stands_somewhere s n k m some = go (place_of (causes_of s) n k) refl
+  where
+    r : Runs s
+    r = runs_of s some
+
+    told : causes_of s ≡ causes r.told
+    told = ap (λ o. causes (told_by o)) r.run_is
+
+    whole : Stand s.load s.load s.kept s.kept m
+    whole = record { now = r.last; led = chip; first = s.kept; others = []; is = sym (append-nil s.kept); mid = r.last; begun = chip; count = refl; same = refl }
+      where
+        chip : replay s.load s.kept ≡ Some r.last
+        chip = ap (λ (o : Option (List NodeRecord × List (Cause × Told))). option_map (λ z. z.0) o) r.run_is
+
+    go : (o : Option ℕ) → place_of (causes_of s) n k ≡ o → Stands s n k m
+    go None is = stands_by s n k m s.kept (ap (λ (o : Option ℕ). events_in (rest_from (causes_of s) o)) is ∙ replayed s some) whole
+    go (Some i) is = stands_by s n k m (events_in (rest (causes r.told) i)) (ap (λ (o : Option ℕ). events_in (rest_from (causes_of s) o)) is ∙ ap (λ z. events_in (rest z i)) told) (stand_rest s.kept i s.load r.last r.told m r.run_is)
+
+-- a machine whose beginnings can all be replayed can be replayed
+some_whole : (s : State) → ((place : ℕ) → replay s.load (take place s.kept) ≡ Some (chip_of (earlier s place))) → IsSome (replay s.load s.kept)
+some_whole s all =
+    let whole : take (length s.kept) s.kept ≡ s.kept = ap (λ (z : List Event). take (length s.kept) z) (sym (append-nil s.kept)) ∙ take_first s.kept [] in
+    let led : replay s.load s.kept ≡ Some (chip_of (earlier s (length s.kept))) = ap (λ (z : List Event). replay s.load z) (sym whole) ∙ all (length s.kept) in
+    subst (λ (o : Option (List NodeRecord)). IsSome o) (sym led) refl
+
+-- what is told of a node of which so many steps would go
+abbrev pub IsBehind : State → ℕ → ℕ → NodeRecord → Type 0
+IsBehind s gone m node = (place : ℕ) → steps_of m (take place s.kept) + gone ≡ steps_of m s.kept → node ≡ record_at (chip_of (earlier s place)) m
+
+pub is_rewound : (s : State) (n k m gone : ℕ) (node : NodeRecord) → ((place : ℕ) → replay s.load (take place s.kept) ≡ Some (chip_of (earlier s place)))
+    → gone + steps_of m (rewound s n k).kept ≡ steps_of m s.kept → IsBehind s gone m node → node ≡ record_at (chip_of (rewound s n k)) m
+is_rewound s n k m gone node all sum behind =
+    let a = stands_somewhere s n k m (some_whole s all) in
+    behind a.place (let c : steps_of m (take a.place s.kept) ≡ steps_of m (rewound s n k).kept = a.count in omega (arith, c, sum)) ∙ sym a.same

@@ -1,0 +1,105 @@
+-- One step of the machine, and the nodes that have an event after it.
+use Rattle.std.proofs.Common.{◌≡◌, ℕ, ◌+◌, ◌%◌, ◌<◌, ◌≤◌, Bool, true, false, cond, List, [], length, ◌⊎◌, inl, inr, Some, None, Ok, Err, refl, sym, ◌∙◌, ap, subst, arith}
+use Rattle.std.specs.Prelude.{Option, Result, option_map, unwrap_or, IfSome, IsSome, IsOk, nat_le, ◌^◌, ◌-◌}
+use Rattle.std.proofs.lemmas.Bool.{cases_lt}
+use Rattle.ga_node.specs.declared.kind.NotReady.{NotReady}
+use Rattle.ga_node.specs.Record.{NodeRecord}
+use Rattle.ga_grid.specs.declared.node_id.NodeId.{NodeId}
+use Rattle.ga_event.specs.declared.event.Event.{Event}
+use Rattle.ga_event.specs.declared.event.Event.TheVariants as event
+use Rattle.ga_event.specs.declared.event.Cause.{Cause}
+use Rattle.ga_event.specs.Touches.{touches}
+use Rattle.ga_event.specs.Agree.{Agree}
+use Rattle.ga_event.specs.Apply.{Told, apply, after, unless, refusal_of, replay}
+use Rattle.ga_event.specs.Next.{next}
+use Rattle.ga_event.proofs.Locality.{apply_keeps}
+use Rattle.ga_event.proofs.Nexts.{next_can}
+use Rattle.ga_rollback.proofs.Replays.{run_snoc}
+use Rattle.ga_event.specs.declared.made.Made.{Made}
+use Rattle.ga_lab.specs.declared.fault.LabFault.{LabFault}
+use Rattle.ga_lab.specs.declared.fault.LabFault.TheVariants.{Full, Memory, Spent}
+use Rattle.ga_lab.specs.Machine.{State, chip_of, told_next, answer_to, step_answer, with_event, unless_refused, stepped}
+use Rattle.ga_lab.proofs.Called.{Runs, runs_of, chip_is}
+use Rattle.ga_search.specs.declared.numbers.Numbers.{Numbers}
+use Rattle.ga_search.specs.kept.Numbers.{has}
+use Rattle.ga_search.specs.Ready.{can_go, first_in}
+use Rattle.ga_search.specs.kept.Ready.{HoldsReady, StaysRight, IsRefreshed}
+use Rattle.ga_search.specs.Running.{IsQuiet, IsRefusedFor}
+use Rattle.ga_search.proofs.Looking.{IsOf, refreshed, none_past}
+use Rattle.ga_search.proofs.Rounds.{first_same, none_of}
+
+-- the event of a step that was made
+pub record StepIs (s : State) (n : NodeId) (m : Made) : Type 0 where
+  pub what : Event
+  pub is : next (chip_of s) n ≡ Ok what
+  pub told : told_next s what ≡ m
+
+told_is : (a b : Bool) (here m : Made) → cond a (Err Full) (cond b (Err Spent) (Ok here)) ≡ Ok m → here ≡ m
+told_is true b here m h = absurd (cc)
+told_is false true here m h = absurd (cc)
+told_is false false here m h = cc
+
+pub step_is : (s : State) (n : NodeId) (m : Made) → step_answer s n ≡ Ok m → StepIs s n m
+step_is s n m h = go (next (chip_of s) n) refl h
+  where
+    go : (o : Result Event NotReady) → next (chip_of s) n ≡ o → answer_to s o ≡ Ok m → StepIs s n m
+    go (Err why) is k = absurd (cc)
+    go (Ok e) is k = record { what = e; is = is; told = told_is (nat_le s.limit (length s.kept)) (nat_le (2 ^ 64 - 1) s.made) (told_next s e) m k }
+
+-- the chip after it
+chip_with : (s : State) (e : Event) → IsSome (replay s.load s.kept) → refusal_of (chip_of s) e ≡ None → chip_of (with_event s (Ok e)) ≡ (after (chip_of s) e).0
+chip_with s e some can =
+    let r : Runs s = runs_of s some in
+    let made : apply r.last e ≡ Some ((after r.last e).0, (after r.last e).1) = ap (λ o. unless o (after r.last e)) (ap (λ z. refusal_of z e) (sym (chip_is s r)) ∙ can) in
+    ap (λ (o : Option (List NodeRecord × List (Cause × Told))). unwrap_or (option_map (λ (x : List NodeRecord × List (Cause × Told)). x.0) o) [])
+    (run_snoc s.load r.last (after r.last e).0 s.kept r.told e (after r.last e).1 r.run_is made)
+    ∙ ap (λ z. (after z e).0) (sym (chip_is s r))
+
+pub stepped_is : (s : State) (n : NodeId) (m : Made) (e : Event) → step_answer s n ≡ Ok m → next (chip_of s) n ≡ Ok e → stepped s n ≡ with_event s (Ok e)
+stepped_is s n m e h is =
+    ap (λ (a : Result Made LabFault). unless_refused s a (with_event s (next (chip_of s) n))) h
+    ∙ ap (with_event s) is
+
+keeps : (c : List NodeRecord) (e : Event) → refusal_of c e ≡ None → Agree (touches e) c (after c e).0
+keeps c e can = subst (λ o. IfSome (unless o (after c e)) (λ done. Agree (touches e) c done.0)) can (apply_keeps c e)
+
+of_told : (s : State) (e : Event) → IsOf e (told_next s e)
+of_told s (event.Own n) = refl
+of_told s (event.Pass w r side) = (refl, refl)
+
+-- the set of the nodes that have an event, after a step
+pub stepped_ready : (s : State) (n : NodeId) (m : Made) (old new : Numbers) → IsSome (replay s.load s.kept) → step_answer s n ≡ Ok m
+    → HoldsReady (chip_of s) old → StaysRight (chip_of (stepped s n)) old new → IsRefreshed (chip_of (stepped s n)) m new → HoldsReady (chip_of (stepped s n)) new
+stepped_ready s n m old new some h was stays right =
+    let i : StepIs s n m = step_is s n m h in
+    let can : refusal_of (chip_of s) i.what ≡ None = next_can (chip_of s) n i.what i.is in
+    let chip : chip_of (stepped s n) ≡ (after (chip_of s) i.what).0 = ap chip_of (stepped_is s n m i.what h i.is) ∙ chip_with s i.what some can in
+    let agree : Agree (touches i.what) (chip_of s) (chip_of (stepped s n)) = subst (λ z. Agree (touches i.what) (chip_of s) z) (sym chip) (keeps (chip_of s) i.what can) in
+    refreshed (chip_of s) (chip_of (stepped s n)) i.what m old new (subst (IsOf i.what) i.told (of_told s i.what)) agree
+    (λ k e. subst (λ z. refusal_of (chip_of s) z ≡ None) e can) was stays right
+
+-- what the set holds is who can go
+pub choice_is : (chip : List NodeRecord) (ready : Numbers) (turn : ℕ) → HoldsReady chip ready → first_in (has ready) turn 144 ≡ first_in (can_go chip) turn 144
+choice_is chip ready turn h = first_same (has ready) (can_go chip) turn 144 (λ m l. h m (omega arith))
+
+pub nothing_past : (chip : List NodeRecord) (ready : Numbers) → HoldsReady chip ready → (n : ℕ) → 144 ≤ n → n < 192 → has ready n ≡ false
+nothing_past chip ready h n l r = h n r ∙ none_past chip n l
+
+-- nobody is chosen: no node of the chip has an event
+pub quiet_is : (chip : List NodeRecord) (turn : ℕ) → turn < 144 → first_in (can_go chip) turn 144 ≡ None → IsQuiet chip
+quiet_is chip turn t none n l = elim (cases_lt n turn) [
+  | inl less ↦ (let e : (turn + (n + 144 - turn)) % 144 ≡ n = omega arith in ap (can_go chip) (sym e) ∙ none_of (can_go chip) turn 144 (n + 144 - turn) none (omega arith))
+  | inr more ↦ (let e : (turn + (n - turn)) % 144 ≡ n = omega arith in ap (can_go chip) (sym e) ∙ none_of (can_go chip) turn 144 (n - turn) none (omega arith))
+]
+
+-- what a lab answers to a step, against the machine
+abbrev pub Answered : Result Made LabFault → Result Made LabFault → Type 0
+Answered result answer = (result ≡ answer) ⊎ ((result ≡ Err Memory) × IsOk answer)
+
+pub answered_ok : (answer : Result Made LabFault) (m : Made) → Answered (Ok m) answer → answer ≡ Ok m
+answered_ok answer m (inl h) = sym h
+answered_ok answer m (inr h) = absurd (let q : (let r : Result Made LabFault = Ok m in r) ≡ Err Memory = h.0 in cc)
+
+pub answered_err : (answer : Result Made LabFault) (why : LabFault) → Answered (Err why) answer → IsRefusedFor why answer
+answered_err answer why (inl h) = inl (sym h)
+answered_err answer why (inr h) = inr (let q : (let r : Result Made LabFault = Err why in r) ≡ Err Memory = h.0 in cc, h.1)

@@ -1,0 +1,159 @@
+-- How many words went over a link, from one event to the next.
+use Rattle.std.proofs.Common.{◌≡◌, ℕ, ◌+◌, ◌≤◌, Bool, true, false, ◌&&◌, ◌||◌, ◌==◌, if◌then◌else◌, List, [], ◌∷◌, ◌++◌, length, drop, Some, None, Ok, refl, sym, ◌∙◌, ap, subst, arith, append_assoc, length-append}
+use Rattle.std.specs.Prelude.{Option, IsSome, option_to_list, slice_get}
+use Rattle.std.proofs.lemmas.List.{append-nil}
+use Rattle.ga_grid.specs.declared.node_id.NodeId.{NodeId}
+use Rattle.ga_event.specs.declared.event.Event.{Event}
+use Rattle.ga_event.specs.declared.event.Event.TheVariants as event
+use Rattle.ga_event.specs.declared.event.Cause.{Cause}
+use Rattle.ga_event.specs.Touches.{touches}
+use Rattle.ga_event.specs.Apply.{Told, apply, after, unless, cause_of, refusal_of, replay}
+use Rattle.ga_event.specs.Told.{made_after, mades_after, mades_of, events_told}
+use Rattle.ga_event.proofs.Nexts.{next_can}
+use Rattle.ga_causal.proofs.Consistent.{made_of}
+use Rattle.ga_rollback.proofs.Replays.{run_snoc}
+use Rattle.ga_event.specs.declared.made.Made.{Made}
+use Rattle.ga_event.specs.declared.made.Made.TheVariants as made
+use Rattle.ga_lab.specs.Machine.{State, chip_of, told_next, step_answer, with_event, stepped, told_by, told_of_kept, history_of}
+use Rattle.ga_lab.proofs.Called.{Runs, runs_of, chip_is, told_is}
+use Rattle.ga_search.specs.declared.words.Sent.{Sent}
+use Rattle.ga_search.specs.Words.{is_over, carried_as, one_over, words_after, word_count}
+use Rattle.ga_search.specs.kept.Counted.{counted_link, count_over, counted, more_over, counted_by}
+use Rattle.ga_search.specs.declared.condition.Condition.{Condition}
+use Rattle.ga_search.proofs.Telling.{read_on}
+use Rattle.ga_search.proofs.Stepping.{StepIs, step_is, stepped_is}
+
+-- one event more in front
+carried_one : (b : Bool) (sent : Sent) → length (if b then sent ∷ [] else []) ≡ (if b then 1 else 0)
+carried_one true sent = refl
+carried_one false sent = refl
+
+carried_many : (w r n : ℕ) (x : Made) → length (carried_as w r n x) ≡ one_over w r x
+carried_many w r n (made.Own m k kind) = refl
+carried_many w r n (made.Pass a k b j carried) = carried_one ((a.number == w) && (b.number == r)) _
+
+in_front : (w r n : ℕ) (x : Made) (xs : List Made) → length (words_after w r n (x ∷ xs)) ≡ one_over w r x + length (words_after w r (n + one_over w r x) xs)
+in_front w r n x xs =
+    length-append (carried_as w r (n + 1) x) (words_after w r (n + one_over w r x) xs)
+    ∙ ap (λ (z : ℕ). z + length (words_after w r (n + one_over w r x) xs)) (carried_many w r (n + 1) x)
+
+-- how many they are doesn't hang on the number of the first
+same_many : (w r a b : ℕ) (xs : List Made) → length (words_after w r a xs) ≡ length (words_after w r b xs)
+same_many w r a b [] = refl
+same_many w r a b (x ∷ xs) =
+    in_front w r a x xs ∙ ap (λ (z : ℕ). one_over w r x + z) (same_many w r (a + one_over w r x) (b + one_over w r x) xs) ∙ sym (in_front w r b x xs)
+
+one_counted : (w r : ℕ) (x : Made) (xs : List Made) → length (words_after w r 0 (x ∷ xs)) ≡ one_over w r x + length (words_after w r 0 xs)
+one_counted w r x xs = in_front w r 0 x xs ∙ ap (λ (z : ℕ). one_over w r x + z) (same_many w r (0 + one_over w r x) 0 xs)
+
+pub one_more : (w r : ℕ) (list : List Made) (i : ℕ) (x : Made) → Some x ≡ slice_get list i
+    → length (words_after w r 0 (drop i list)) ≡ one_over w r x + length (words_after w r 0 (drop (i + 1) list))
+one_more w r list i x h = ap (λ z. length (words_after w r 0 z)) (read_on list i x h) ∙ one_counted w r x (drop (i + 1) list)
+
+abbrev one_if : Bool → ℕ
+one_if b = if b then 1 else 0
+
+at_most_one : (b : Bool) → one_if b ≤ 1
+at_most_one true = omega arith
+at_most_one false = omega arith
+
+-- they are no more than the events
+pub few_words : (w r : ℕ) (xs : List Made) → length (words_after w r 0 xs) ≤ length xs
+few_words w r [] = omega arith
+few_words w r (x ∷ xs) = omega (arith, one_counted w r x xs, few_words w r xs, at_most_one (is_over w r x))
+
+-- one event more behind
+behind : (w r : ℕ) (xs : List Made) (x : Made) → length (words_after w r 0 (xs ++ x ∷ [])) ≡ length (words_after w r 0 xs) + one_over w r x
+behind w r [] x = one_counted w r x [] ∙ (let q : one_over w r x + 0 ≡ 0 + one_over w r x = omega arith in q)
+behind w r (y ∷ xs) x =
+    one_counted w r y (xs ++ x ∷ []) ∙ ap (λ (z : ℕ). one_over w r y + z) (behind w r xs x)
+    ∙ (let q : one_over w r y + (length (words_after w r 0 xs) + one_over w r x) ≡ (one_over w r y + length (words_after w r 0 xs)) + one_over w r x = omega arith in q)
+    ∙ ap (λ (z : ℕ). z + one_over w r x) (sym (one_counted w r y xs))
+
+-- what a node's history has of the last of a list
+abbrev last_of : List Event → Cause × Told → ℕ → List Made
+last_of before x n = if touches x.0.event n then option_to_list (made_after before x.0.event x.1) else []
+
+history_behind : (before : List Event) (xs : List (Cause × Told)) (x : Cause × Told) (n : ℕ)
+    → mades_after before (xs ++ x ∷ []) n ≡ mades_after before xs n ++ last_of (before ++ events_told xs) x n
+history_behind before [] x n = append-nil (last_of before x n) ∙ ap (λ (z : List Event). last_of z x n) (sym (append-nil before))
+history_behind before (y ∷ xs) x n =
+    ap (λ (z : List Made). last_of before y n ++ z) (history_behind (before ++ y.0.event ∷ []) xs x n)
+    ∙ ap (λ (z : List Event). last_of before y n ++ (mades_after (before ++ y.0.event ∷ []) xs n ++ last_of z x n)) (append_assoc before (y.0.event ∷ []) (events_told xs))
+    ∙ sym (append_assoc (last_of before y n) (mades_after (before ++ y.0.event ∷ []) xs n) (last_of (before ++ events_told (y ∷ xs)) x n))
+
+-- what is told of the event of a step
+told_last : (s : State) (e : Event) → made_after s.kept e (after (chip_of s) e).1 ≡ Some (told_next s e)
+told_last s (event.Own n) = refl
+told_last s (event.Pass w r side) = refl
+
+-- an event that doesn't touch the writer carried no word of it
+other_writer : (p q x : Bool) → (p || q) ≡ false → one_if (p && x) ≡ 0
+other_writer true q x h = absurd (cc)
+other_writer false q x h = refl
+
+none_over : (s : State) (e : Event) (w r : ℕ) → touches e w ≡ false → one_over w r (told_next s e) ≡ 0
+none_over s (event.Own n) w r h = refl
+none_over s (event.Pass a b side) w r h = other_writer (a.number == w) _ (b.number == r) h
+
+told_behind : (s : State) (e : Event) → IsSome (replay s.load s.kept) → refusal_of (chip_of s) e ≡ None
+    → told_of_kept (with_event s (Ok e)) ≡ told_of_kept s ++ (cause_of (chip_of s) e, (after (chip_of s) e).1) ∷ []
+told_behind s e some can =
+    let r : Runs s = runs_of s some in
+    let done : apply r.last e ≡ Some ((after r.last e).0, (after r.last e).1) = ap (λ o. unless o (after r.last e)) (ap (λ z. refusal_of z e) (sym (chip_is s r)) ∙ can) in
+    ap told_by (run_snoc s.load r.last (after r.last e).0 s.kept r.told e (after r.last e).1 r.run_is done)
+    ∙ ap (λ z. z ++ (cause_of r.last e, (after r.last e).1) ∷ []) (sym (told_is s r))
+    ∙ ap (λ z. told_of_kept s ++ (cause_of z e, (after z e).1) ∷ []) (sym (chip_is s r))
+
+pub kept_told : (s : State) → IsSome (replay s.load s.kept) → events_told (told_of_kept s) ≡ s.kept
+kept_told s some =
+    let r : Runs s = runs_of s some in
+    ap events_told (told_is s r) ∙ (made_of s.load r.last s.kept r.told r.run_is).1
+
+last_is : (s : State) (e : Event) (n : ℕ) (c : Cause) → c.event ≡ e → last_of s.kept (c, (after (chip_of s) e).1) n ≡ (if touches e n then told_next s e ∷ [] else [])
+last_is s e n c is =
+    ap (λ (z : Event). if touches z n then option_to_list (made_after s.kept z (after (chip_of s) e).1) else []) is
+    ∙ ap (λ (o : Option Made). if touches e n then option_to_list o else []) (told_last s e)
+
+history_with : (s : State) (e : Event) (n : ℕ) → IsSome (replay s.load s.kept) → refusal_of (chip_of s) e ≡ None
+    → history_of (with_event s (Ok e)) n ≡ history_of s n ++ (if touches e n then told_next s e ∷ [] else [])
+history_with s e n some can =
+    ap (λ z. mades_of z n) (told_behind s e some can)
+    ∙ history_behind [] (told_of_kept s) (cause_of (chip_of s) e, (after (chip_of s) e).1) n
+    ∙ ap (λ (z : List Event). history_of s n ++ last_of z (cause_of (chip_of s) e, (after (chip_of s) e).1) n) (kept_told s some)
+    ∙ ap (λ (z : List Made). history_of s n ++ z) (last_is s e n (cause_of (chip_of s) e) refl)
+
+counted_with : (s : State) (e : Event) (w r : ℕ) (b : Bool) → touches e w ≡ b
+    → length (words_after w r 0 (history_of s w ++ (if b then told_next s e ∷ [] else []))) ≡ word_count s w r + one_over w r (told_next s e)
+counted_with s e w r true is = behind w r (history_of s w) (told_next s e)
+counted_with s e w r false is =
+    ap (λ z. length (words_after w r 0 z)) (append-nil (history_of s w))
+    ∙ (let q : word_count s w r ≡ word_count s w r + one_over w r (told_next s e) = omega (arith, none_over s e w r is) in q)
+
+-- how many words of a link are kept after a step
+pub counted_step : (s : State) (n : NodeId) (m : Made) → IsSome (replay s.load s.kept) → step_answer s n ≡ Ok m
+    → (w r : ℕ) → word_count (stepped s n) w r ≡ word_count s w r + one_over w r m
+counted_step s n m some h w r =
+    let i : StepIs s n m = step_is s n m h in
+    let can : refusal_of (chip_of s) i.what ≡ None = next_can (chip_of s) n i.what i.is in
+    ap (λ z. word_count z w r) (stepped_is s n m i.what h i.is)
+    ∙ ap (λ z. length (words_after w r 0 z)) (history_with s i.what w some can)
+    ∙ counted_with s i.what w r (touches i.what w) refl
+    ∙ ap (λ z. word_count s w r + one_over w r z) i.told
+
+-- the same of the words that a condition counts
+over_on : (link : Option (NodeId × NodeId)) (s t : State) (m : Made) → ((w r : ℕ) → word_count t w r ≡ word_count s w r + one_over w r m)
+    → count_over link t ≡ count_over link s + more_over link m
+over_on None s t m h = omega arith
+over_on (Some link) s t m h = h link.0.number link.1.number
+
+pub counted_on : (until : Condition) (s t : State) (m : Made) → ((w r : ℕ) → word_count t w r ≡ word_count s w r + one_over w r m)
+    → counted until t ≡ counted until s + counted_by until m
+counted_on until s t m h = over_on (counted_link until) s t m h
+
+-- how many they are is no more than the writer's steps
+pub few_more : (until : Condition) (link : NodeId × NodeId) (s : State) (m : Made) (words : ℕ) → Some link ≡ counted_link until → counted until s ≡ words + counted_by until m
+    → words + one_over link.0.number link.1.number m ≤ length (history_of s link.0.number)
+few_more until link s m words is h =
+    let here : word_count s link.0.number link.1.number ≡ words + one_over link.0.number link.1.number m = subst (λ o. count_over o s ≡ words + more_over o m) (sym is) h in
+    omega (arith, here, few_words link.0.number link.1.number (history_of s link.0.number))

@@ -1,0 +1,11 @@
+pub mod Schedules
+pub mod Conditions
+pub mod Near
+pub mod Ready
+pub mod Running
+pub mod Stuck
+pub mod Effects
+pub mod Freed
+pub mod Words
+pub mod kept
+pub mod Offered

@@ -1,0 +1,89 @@
+-- Events made in the order of a schedule: a list of steps of the machine and nothing else. Each is a step of the first node, from
+-- the one whose turn it is on and round the chip, that has an event.
+use Rattle.std.specs.Prelude.{◌≡◌, ℕ, zero, suc, ◌+◌, ◌<◌, Bool, true, false, List, Option, Some, None, Result, Err, IsSome, IsOk, ◌⊎◌}
+use Rattle.std.specs.Result.{result_ok}
+use Rattle.ga_node.specs.Record.{NodeRecord}
+use Rattle.ga_grid.specs.declared.node_id.NodeId.{NodeId}
+use Rattle.ga_event.specs.declared.made.Made.{Made}
+use Rattle.ga_lab.specs.declared.fault.LabFault.{LabFault}
+use Rattle.ga_lab.specs.declared.fault.LabFault.TheVariants.{Memory}
+use Rattle.ga_lab.specs.Machine.{State, chip_of, step_answer, stepped}
+use Rattle.ga_search.specs.declared.schedule.Schedule.{Schedule}
+use Rattle.ga_search.specs.declared.condition.Condition.{Condition}
+use Rattle.ga_search.specs.declared.running.End.{End}
+use Rattle.ga_search.specs.declared.running.End.TheVariants as the_end
+use Rattle.ga_search.specs.Schedules.{passed_on}
+use Rattle.ga_search.specs.Conditions.{holds}
+use Rattle.ga_search.specs.Ready.{can_go, first_in}
+
+-- a machine with the schedule by which its events are made
+pub record Running : Type 0 where
+  pub state : State
+  pub schedule : Schedule
+
+abbrev pub running : State → Schedule → Running
+running s schedule = record { state = s; schedule = schedule }
+
+-- the node that makes the next event, where there is one
+abbrev pub chosen : Running → Option NodeId
+chosen r = first_in (can_go (chip_of r.state)) r.schedule.turn.number 144
+
+-- what is told of that event
+abbrev pub told_by : State → Option NodeId → Option Made
+told_by s None = None
+told_by s (Some node) = result_ok (step_answer s node)
+
+abbrev pub told : Running → Option Made
+told r = told_by r.state (chosen r)
+
+-- after that event
+abbrev pub moved_by : Running → Option NodeId → Running
+moved_by r None = r
+moved_by r (Some node) = record { state = stepped r.state node; schedule = passed_on r.schedule node }
+
+abbrev pub moved : Running → Running
+moved r = moved_by r (chosen r)
+
+-- after so many events
+abbrev pub after : Running → ℕ → Running
+after r zero = r
+after r (suc events) = moved (after r events)
+
+-- each of so many events can be made
+abbrev pub AreMade : Running → ℕ → Type 0
+AreMade r events = (k : ℕ) → k < events → IsSome (told (after r k))
+
+-- the condition holds right after the next event
+abbrev pub holds_told : Condition → Option Made → State → Bool
+holds_told until None s = false
+holds_told until (Some made) s = holds until made s
+
+abbrev pub holds_next : Condition → Running → Bool
+holds_next until r = holds_told until (told r) (moved r).state
+
+-- and after none of so many
+abbrev pub NeverHolds : Condition → Running → ℕ → Type 0
+NeverHolds until r events = (k : ℕ) → k < events → holds_next until (after r k) ≡ false
+
+-- no node has an event
+abbrev pub IsQuiet : List NodeRecord → Type 0
+IsQuiet chip = (n : ℕ) → n < 144 → can_go chip n ≡ false
+
+-- the step is refused so, or memory is where it could be made
+abbrev pub IsRefusedFor : LabFault → Result Made LabFault → Type 0
+IsRefusedFor why answer = (answer ≡ Err why) ⊎ ((why ≡ Memory) × IsOk answer)
+
+-- why no event follows
+abbrev pub IsHalted : Running → End → Type 0
+IsHalted r the_end.Quiet = IsQuiet (chip_of r.state)
+IsHalted r (the_end.Refused why) = (node : NodeId) × (chosen r ≡ Some node) × IsRefusedFor why (step_answer r.state node)
+IsHalted r (the_end.Reached made) = ⊥
+IsHalted r the_end.Made = ⊥
+
+-- how it ended after so many events, of which no more were asked for
+abbrev pub HasEnded : Running → ℕ → Condition → ℕ → End → Type 0
+HasEnded r most until events (the_end.Reached made) =
+    (k : ℕ) × (events ≡ k + 1) × NeverHolds until r k × (told (after r k) ≡ Some made) × (holds_next until (after r k) ≡ true)
+HasEnded r most until events the_end.Made = (events ≡ most) × NeverHolds until r events
+HasEnded r most until events the_end.Quiet = (events < most) × NeverHolds until r events × IsHalted (after r events) the_end.Quiet
+HasEnded r most until events (the_end.Refused why) = (events < most) × NeverHolds until r events × IsHalted (after r events) (the_end.Refused why)

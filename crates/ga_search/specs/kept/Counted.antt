@@ -1,0 +1,29 @@
+-- What private contracts, invariants and bridges cite.
+use Rattle.std.specs.Prelude.{ℕ, Option, Some, None}
+use Rattle.ga_grid.specs.declared.node_id.NodeId.{NodeId}
+use Rattle.ga_event.specs.declared.made.Made.{Made}
+use Rattle.ga_lab.specs.Machine.{State}
+use Rattle.ga_search.specs.Words.{one_over, word_count}
+use Rattle.ga_search.specs.declared.condition.Condition.{Condition}
+use Rattle.ga_search.specs.declared.condition.Condition.TheVariants.{PassesNumber}
+
+-- the link whose words a condition counts
+abbrev pub counted_link : Condition → Option (NodeId × NodeId)
+counted_link (PassesNumber writer reader number) = Some (writer, reader)
+counted_link other = None
+
+-- how many words of a link are kept, and none where there is no link
+abbrev pub count_over : Option (NodeId × NodeId) → State → ℕ
+count_over None s = 0
+count_over (Some link) s = word_count s link.0.number link.1.number
+
+abbrev pub counted : Condition → State → ℕ
+counted until s = count_over (counted_link until) s
+
+-- how many words of it an event carried
+abbrev pub more_over : Option (NodeId × NodeId) → Made → ℕ
+more_over None told = 0
+more_over (Some link) told = one_over link.0.number link.1.number told
+
+abbrev pub counted_by : Condition → Made → ℕ
+counted_by until told = more_over (counted_link until) told

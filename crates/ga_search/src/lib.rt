@@ -1,0 +1,23 @@
+//! Exploring a lab: its events in an order, up to a condition.
+#![tactic(auto)]
+
+mod condition;
+mod counting;
+mod effects;
+mod freed;
+pub mod laws;
+mod numbers;
+mod offers;
+mod ready;
+mod running;
+mod schedule;
+mod words;
+
+pub use condition::Condition;
+pub use counting::{are_linked, count_words};
+pub use effects::{Effect, Effects, find_effects};
+pub use freed::{awaits, find_stuck};
+pub use offers::offered;
+pub use running::{End, Ran, run};
+pub use schedule::{Order, Schedule};
+pub use words::{Sent, Words};

@@ -1,0 +1,66 @@
+//! What a node could have taken in place of the word that it took.
+
+ghost use Rattle.std.specs.Prelude.{◌≡◌, ◌↔◌, ◌+◌, ◌≤◌, ℕ, false, take, slice_index, Some, Err, IfOk, IfErr};
+ghost use Rattle.ga_node.specs.Record.{record_of};
+ghost use Rattle.ga_grid.specs.Chip.{record_at};
+ghost use Rattle.ga_event.specs.Told.{steps_of};
+ghost use Rattle.ga_lab.specs.Machine.{chip_of, earlier, rewound, rewind_answer, stands};
+ghost use Rattle.ga_event.specs.Apply.{replay};
+ghost use Rattle.ga_search.specs.Offered.{offered, given};
+
+use ga_event::{is_reading, is_writing};
+use ga_grid::{NodeId, neighbour};
+use ga_lab::{Lab, LabFault};
+use ga_node::Node;
+use ga_ports::Side;
+use ga_rollback::Visited;
+
+// The node as it would stand where so many of its steps went.
+fn behind(lab: &Lab, steps: &Visited, node: NodeId) -> Node
+    requires { slice_index steps.now node.number ≤ steps_of node.number lab.now.kept }
+    ensures value { (place : ℕ) → steps_of node.number (take place lab.now.kept) + slice_index steps.now node.number ≡ steps_of node.number lab.now.kept →
+        record_of result ≡ record_at (chip_of (earlier lab.now place)) node.number }
+    ensures replays { (place : ℕ) → replay lab.now.load (take place lab.now.kept) ≡ Some (chip_of (earlier lab.now place)) }
+{
+    let left = lab.steps(node) - steps.count(node);
+    match lab.peek(node, left) {
+        Some(then) => then,
+        None => lab.node(node).copy(),
+    }
+}
+
+// The word that the writer waits to give the reader over the side, if that waits for it.
+fn given(reader: &Node, writer: &Node, side: Side) -> Option<u32>
+    ensures { result ≡ given (record_of reader.now) (record_of writer.now) side }
+{
+    if is_writing(&writer.wait(), side) && is_reading(&reader.wait(), side) {
+        Some(writer.d(0))
+    } else {
+        None
+    }
+}
+
+/// The word that would come over a side of the node, were its step taken back with all that depends on it: none where no neighbour
+/// there waits to write it, or the node doesn't wait for it. So of a step by which the node took a word, the sides tell what else it
+/// could have taken. Nothing is taken back. Takes no memory, and time by what `rewind` would take.
+///
+/// # Errors
+/// `NoStep`, where the node has no such step.
+pub fn offered(lab: &mut Lab, node: NodeId, step: u32, side: Side) -> Result<Option<u32>, LabFault>
+    ensures word { IfOk result (λ word. word ≡ offered (chip_of (rewound lab.old node.number step)) node.number side) }
+    ensures err { IfErr result (λ why. rewind_answer lab.old node.number step ≡ Err why) }
+    ensures refused { (result ≡ Err LabFault.NoStep) ↔ (stands lab.old node.number step ≡ false) }
+    ensures same { lab.new ≡ lab.old }
+{
+    match lab.would_rewind(node, step) {
+        Ok(going) => match neighbour(node, side) {
+            Some(other) => {
+                let reader = behind(lab, &going.steps, node);
+                let writer = behind(lab, &going.steps, other);
+                Ok(given(&reader, &writer, side))
+            }
+            None => Ok(None),
+        },
+        Err(why) => Err(why),
+    }
+}

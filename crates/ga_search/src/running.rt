@@ -1,0 +1,117 @@
+//! Events in the order of a schedule.
+
+ghost use Rattle.std.specs.Prelude.{◌≡◌, ◌≤◌, ◌+◌, ℕ, Ok, IfOk, IfErr, IsSome, OnOk, OnErr, Some};
+ghost use Rattle.ga_event.specs.Apply.{replay};
+ghost use Rattle.ga_lab.specs.Machine.{chip_of, step_answer, stepped};
+ghost use Rattle.ga_search.specs.Words.{one_over, word_count};
+ghost use Rattle.ga_search.specs.kept.Ready.{HoldsReady};
+ghost use Rattle.ga_search.specs.Schedules.{passed_on};
+ghost use Rattle.ga_search.specs.Running.{running, told, moved, after, AreMade, IsRefusedFor, IsHalted, HasEnded};
+
+use crate::condition::Condition;
+use crate::numbers::Numbers;
+use crate::ready::{first_from, ready_nodes, refresh};
+use crate::schedule::Schedule;
+use ga_grid::NodeId;
+use ga_lab::{Lab, LabFault, Made};
+
+/// Why no more events were made.
+#[derive(Clone, Copy, PartialEq, Eq, Debug)]
+pub enum End {
+    /// The condition holds right after this event, and held after none before.
+    Reached(Made),
+    /// As many as were asked for.
+    Made,
+    /// No node of the chip has an event.
+    Quiet,
+    /// [`Lab::step`] refused the next one: `Full`, `Spent` or `Memory`.
+    Refused(LabFault),
+}
+
+/// How many events were made, and why no more.
+#[derive(Clone, Copy, PartialEq, Eq, Debug)]
+pub struct Ran {
+    /// How many.
+    pub events: u64,
+    /// Why no more.
+    pub end: End,
+}
+
+// Makes this node's next event, and looks at what that may have changed.
+fn make(
+    lab: &mut Lab,
+    ready: &mut Numbers,
+    schedule: &mut Schedule,
+    node: NodeId,
+) -> Result<Made, LabFault>
+    requires ready { HoldsReady (chip_of lab.old) ready.old }
+    requires replays { IsSome (replay lab.old.load lab.old.kept) }
+    ensures ok { IfOk result (λ made. step_answer lab.old node ≡ Ok made) }
+    ensures state { OnOk result (lab.new ≡ stepped lab.old node) }
+    ensures schedule { OnOk result (schedule.new ≡ passed_on schedule.old node) }
+    ensures ready { OnOk result (HoldsReady (chip_of lab.new) ready.new) }
+    ensures words { IfOk result (λ made. (writer reader : ℕ) →
+        word_count lab.new writer reader ≡ word_count lab.old writer reader + one_over writer reader made) }
+    ensures replays { OnOk result (IsSome (replay lab.new.load lab.new.kept)) }
+    ensures refused { IfErr result (λ why. IsRefusedFor why (step_answer lab.old node)) }
+    ensures same { OnErr result (lab.new ≡ lab.old) }
+{
+    match lab.step_inlined(node) {
+        Ok(made) => {
+            refresh(ready, lab.chip(), &made);
+            *schedule = schedule.pass_on(node);
+            Ok(made)
+        }
+        Err(why) => Err(why),
+    }
+}
+
+// Makes the next event of the schedule, where nothing halts it.
+fn advance(lab: &mut Lab, ready: &mut Numbers, schedule: &mut Schedule) -> Result<Made, End>
+    requires ready { HoldsReady (chip_of lab.old) ready.old }
+    requires replays { IsSome (replay lab.old.load lab.old.kept) }
+    ensures told { IfOk result (λ made. told (running lab.old schedule.old) ≡ Some made) }
+    ensures moved { OnOk result (running lab.new schedule.new ≡ moved (running lab.old schedule.old)) }
+    ensures ready { OnOk result (HoldsReady (chip_of lab.new) ready.new) }
+    ensures words { IfOk result (λ made. (writer reader : ℕ) →
+        word_count lab.new writer reader ≡ word_count lab.old writer reader + one_over writer reader made) }
+    ensures replays { OnOk result (IsSome (replay lab.new.load lab.new.kept)) }
+    ensures halted { IfErr result (IsHalted (running lab.old schedule.old)) }
+    ensures same { OnErr result (lab.new ≡ lab.old) }
+{
+    match first_from(ready, schedule.turn) {
+        Some(node) => match make(lab, ready, schedule, node) {
+            Ok(made) => Ok(made),
+            Err(why) => Err(End::Refused(why)),
+        },
+        None => Err(End::Quiet),
+    }
+}
+
+/// Makes events in the order of a schedule: at most so many, up to the first after which the condition holds. Takes time by the
+/// events that are made, and not by how many nodes wait; a condition that counts words reads the steps of one end once before.
+pub fn run(lab: &mut Lab, mut schedule: Schedule, most: u64, until: &Condition) -> Ran
+    ensures state { lab.new ≡ (after (running lab.old schedule) result.events).state }
+    ensures made { AreMade (running lab.old schedule) result.events }
+    ensures most { result.events ≤ most }
+    ensures end { HasEnded (running lab.old schedule) most until.now result.events result.end }
+{
+    let mut ready = ready_nodes(lab.chip());
+    let mut words = until.count(lab);
+    let mut events = 0;
+    while events < most {
+        match advance(lab, &mut ready, &mut schedule) {
+            Ok(made) => {
+                events += 1;
+                words = until.count_on(words, &made, lab);
+                if until.holds(&made, lab, words) {
+                    let end = End::Reached(made);
+                    return Ran { events, end };
+                }
+            }
+            Err(end) => return Ran { events, end },
+        }
+    }
+    let end = End::Made;
+    Ran { events, end }
+}
