@@ -2,6 +2,8 @@
 
 ghost use Rattle.std.specs.Prelude.{◌<◌};
 
+use std::fmt;
+
 /// How many nodes the chip has.
 pub const NODES: usize = 144;
 
@@ -59,5 +61,13 @@ impl NodeId {
         ensures in_range { result < 144 }
     {
         self.number as usize
+    }
+}
+
+/// The node's name: its row and its column in three decimal digits.
+impl fmt::Display for NodeId {
+    fn fmt<W: fmt::Write>(&self, f: &mut fmt::Formatter<W>) -> fmt::Result {
+        let name = self.yxx();
+        write!(f, "{name:03}")
     }
 }

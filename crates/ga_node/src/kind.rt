@@ -1,5 +1,6 @@
 //! What an event of a node was, and why there is none.
 
+use std::fmt;
 use thiserror::Error;
 
 /// What an event of a node's own was.
@@ -13,6 +14,18 @@ pub enum Kind {
     Wait,
     /// The node is stopped: 1 for a write to several ports, 2 for an address that names nothing.
     Stop(u8),
+}
+
+/// As a session tells it: `fetch`, `run` with the opcode's code in two hexadecimal digits, `wait`, `stop` with its number.
+impl fmt::Display for Kind {
+    fn fmt<W: fmt::Write>(&self, f: &mut fmt::Formatter<W>) -> fmt::Result {
+        match self {
+            Kind::Fetch => write!(f, "fetch"),
+            Kind::Run(code) => write!(f, "run {code:02x}"),
+            Kind::Wait => write!(f, "wait"),
+            Kind::Stop(number) => write!(f, "stop {number}"),
+        }
+    }
 }
 
 /// Why an event can't be made.

@@ -4,6 +4,7 @@
 ghost use Rattle.std.specs.Prelude.{◌≡◌, ◌+◌, ◌*◌, ◌%◌, ◌^◌, ◌<◌, ◌↔◌, nat_le, IsSome, IfSome};
 ghost use Rattle.ga_word.specs.Word.{words, carry_value, signed_of, doubled, halved, step_sum, step_high, step_low, hex6_of, read6_of};
 
+use std::fmt;
 use std::marker::Model;
 
 /// How many words there are.
@@ -141,5 +142,13 @@ impl Word18 {
         };
         let [high, middle, low] = bytes;
         Some(u32::from(high) * 65536 + u32::from(middle) * 256 + u32::from(low))
+    }
+}
+
+/// Six hexadecimal digits in lower case.
+impl fmt::Display for Word18 {
+    fn fmt<W: fmt::Write>(&self, f: &mut fmt::Formatter<W>) -> fmt::Result {
+        let bits = self.bits;
+        write!(f, "{bits:06x}")
     }
 }
