@@ -267,5 +267,18 @@ class Explorer(Machine):
             if self.chip[node].wait:
                 beside = "".join(f" {side} {name(other)} {self.does(other)}" for side, other in self.awaited(node))
                 yield f"{name(node)} {self.does(node)}{beside}"
-        if self.stuck():
-            yield "stuck " + " ".join(map(name, self.stuck()))
+        stuck = self.stuck()
+        if stuck:
+            yield "stuck " + " ".join(map(name, stuck))
+        yield from (" ".join(["ring", *map(name, ring)]) for ring in self.rings(stuck))
+
+    def rings(self, stuck):
+        """The rings among some nodes, each of which awaits the next alone: each from its node of the lowest number on."""
+        awaited = {node: [other for _, other in self.awaited(node)] for node in stuck}
+        after = {node: others[0] for node, others in awaited.items() if len(others) == 1}
+        for first in stuck:
+            ring = [first]
+            while after.get(ring[-1]) not in (None, *ring):
+                ring.append(after[ring[-1]])
+            if after.get(ring[-1]) == first and min(ring) == first:
+                yield ring

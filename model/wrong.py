@@ -263,6 +263,8 @@ WRONG = (
     (EXPLORE, "return len(self.sent(*map(number_of, words[:2]))) == int(words[2])", "return len(self.sent(*map(number_of, words[:2]))) > int(words[2])"),
     (EXPLORE, "return self.chip[node].p == self.address(*words)", "return self.chip[node].p % 8 == self.address(*words)"),
     (EXPLORE, "{left[at] + 1} {self.steps[at] - left[at]}", "{left[at]} {self.steps[at] - left[at]}"),
+    (EXPLORE, "for node, others in awaited.items() if len(others) == 1", "for node, others in awaited.items() if others"),
+    (EXPLORE, "if after.get(ring[-1]) == first and min(ring) == first", "if after.get(ring[-1]) == first"),
     (EXPLORE, "if event == (writer, reader)]", "if set(event) == {writer, reader}]"),
     (EXPLORE, "getattr(before, store[1])) == (\"ram\", address % 64)", "getattr(behind, store[1])) == (\"ram\", address % 64)"),
     # and what source says of cells

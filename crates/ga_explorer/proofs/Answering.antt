@@ -1,5 +1,5 @@
 -- What a call means for the answer to a command.
-use Rattle.std.proofs.Common.{◌≡◌, ℕ, Bool, List, ◌++◌, subst, ◌⊎◌, Ok, Err, inl, inr, sym, ap, ◌∙◌}
+use Rattle.std.proofs.Common.{◌≡◌, ℕ, Bool, List, ◌++◌, subst, ◌⊎◌, Ok, Err, inl, inr, refl, sym, ap, ◌∙◌}
 use Rattle.std.specs.Prelude.{Result, IsOk}
 use Rattle.ga_node.specs.Record.{NodeRecord}
 use Rattle.ga_grid.specs.declared.node_id.NodeId.{NodeId}
@@ -12,7 +12,7 @@ use Rattle.ga_search.specs.Stuck.{AreStuck}
 use Rattle.ga_search.specs.Freed.{IsWithin}
 use Rattle.ga_search.specs.declared.effects.Effect.{Effect}
 use Rattle.ga_explorer.specs.Texts.{effects_text, effects_answer}
-use Rattle.ga_explorer.specs.Waiting.{all_waiting, stuck_text}
+use Rattle.ga_explorer.specs.Waiting.{all_waiting, stuck_text, all_rings}
 use Rattle.ga_explorer.specs.Answers.{TellsEffects, TellsWho}
 
 pub effects_found : (s : State) (node : NodeId) (step events : ℕ) (nodes : List Effect) (text : List ℕ) → rewind_answer s node.number step ≡ Ok events
@@ -27,11 +27,12 @@ effects_refused s node step why text (inl answer) t =
     inl (t ∙ ap (λ (r : Result ℕ LabFault). effects_answer (effects_of s node.number step) r) (sym answer))
 effects_refused s node step why text (inr wanting) t = inr (wanting.1, t ∙ ap refusal_text wanting.0)
 
-pub who_told : (s : State) (chip : List NodeRecord) (marks : ℕ → Bool) (first last : List ℕ) → chip ≡ chip_of s → AreStuck chip marks
-    → ((others : ℕ → Bool) → AreStuck chip others → IsWithin others marks) → first ≡ all_waiting chip 0 144 → last ≡ stuck_text marks → TellsWho s (first ++ last)
-who_told s chip marks first last e stuck greatest f l = record {
+pub who_told : (s : State) (chip : List NodeRecord) (marks : ℕ → Bool) (first second last : List ℕ) → chip ≡ chip_of s → AreStuck chip marks
+    → ((others : ℕ → Bool) → AreStuck chip others → IsWithin others marks) → first ≡ all_waiting chip → second ≡ stuck_text marks
+    → last ≡ all_rings chip marks → TellsWho s (first ++ second ++ last)
+who_told s chip marks first second last e stuck greatest f g h = record {
   marks = marks;
   stuck = subst (λ z. AreStuck z marks) e stuck;
   greatest = λ others h. greatest others (subst (λ z. AreStuck z others) (sym e) h);
-  text = ap (λ z. z ++ last) (f ∙ ap (λ z. all_waiting z 0 144) e) ∙ ap (λ z. all_waiting (chip_of s) 0 144 ++ z) l;
+  text = rw (f, g, h, e) refl;
 }

@@ -11,3 +11,4 @@ pub mod Fronts
 pub mod Writing
 pub mod Around
 pub mod Trees
+pub mod Rings

@@ -1,6 +1,6 @@
--- The texts of `who`: what each node that waits waits for, and which nodes can never go on (docs/REFERENCE.md, "Exploring"; this
+-- The texts of `who`: what each node that waits waits for, which nodes can never go on, and the rings among them (docs/REFERENCE.md, "Exploring"; this
 -- project's own).
-use Rattle.std.specs.Prelude.{ℕ, zero, suc, ◌+◌, ◌==◌, Bool, if◌then◌else◌, List, [], ◌∷◌, ◌++◌, codes, Option, Some, None}
+use Rattle.std.specs.Prelude.{ℕ, zero, suc, ◌+◌, ◌==◌, nat_le, Bool, if◌then◌else◌, List, [], ◌∷◌, ◌++◌, codes, Option, Some, None, option_map}
 use Rattle.ga_image.specs.Lines.{Text}
 use Rattle.ga_ports.specs.declared.side.Side.{Side}
 use Rattle.ga_ports.specs.declared.side.Side.TheVariants.{Right, Down, Left, Up}
@@ -50,19 +50,17 @@ line_by (wait.Write side) line = line
 abbrev pub waiting_text : List NodeRecord → ℕ → Text
 waiting_text chip n = line_by (record_at chip n).wait (awaiting_text chip n)
 
--- the lines of so many nodes from this one on
-unfoldable pub all_waiting : List NodeRecord → ℕ → ℕ → Text
-all_waiting chip n zero = []
-all_waiting chip n (suc more) = waiting_text chip n ++ all_waiting chip (n + 1) more
+-- a text of each of so many nodes from this one on
+unfoldable pub each_node : (ℕ → Text) → ℕ → ℕ → Text
+each_node text n zero = []
+each_node text n (suc more) = text n ++ each_node text (n + 1) more
+
+abbrev pub all_waiting : List NodeRecord → Text
+all_waiting chip = each_node (waiting_text chip) 0 144
 
 -- a marked node's name behind a space
-abbrev pub marked_name : ℕ → Bool → Text
-marked_name n marked = if marked then codes " " ++ name_text n else []
-
--- those of so many nodes from this one on
-unfoldable pub marked_names : (ℕ → Bool) → ℕ → ℕ → Text
-marked_names marks n zero = []
-marked_names marks n (suc more) = marked_name n (marks n) ++ marked_names marks (n + 1) more
+abbrev pub marked_name : (ℕ → Bool) → ℕ → Text
+marked_name marks n = if marks n then codes " " ++ name_text n else []
 
 -- the line of nodes that can never go on, where there are any
 abbrev pub stuck_line : Text → Text
@@ -70,7 +68,44 @@ stuck_line [] = []
 stuck_line (c ∷ names) = codes "stuck" ++ (c ∷ names) ++ codes "\n"
 
 abbrev pub stuck_text : (ℕ → Bool) → Text
-stuck_text marks = stuck_line (marked_names marks 0 144)
+stuck_text marks = stuck_line (each_node (marked_name marks) 0 144)
+
+-- ---- rings
+
+-- the neighbour on a side, where the node awaits it
+abbrev pub awaited_at : List NodeRecord → ℕ → Side → Option ℕ
+awaited_at chip n side = if awaits (record_at chip n).wait side then neighbour_of n side else None
+
+-- the one that is there of four, where no other is
+abbrev pub sole : Option ℕ → Option ℕ → Option ℕ → Option ℕ → Option ℕ
+sole (Some m) None None None = Some m
+sole None (Some m) None None = Some m
+sole None None (Some m) None = Some m
+sole None None None (Some m) = Some m
+sole right down left up = None
+
+-- the neighbour that a node awaits, where it awaits no other
+abbrev pub sole_awaited : List NodeRecord → ℕ → Option ℕ
+sole_awaited chip n = sole (awaited_at chip n Right) (awaited_at chip n Down) (awaited_at chip n Left) (awaited_at chip n Up)
+
+-- The names of the nodes by which a ring goes on to its first node, each awaited by the one before alone, where at most so many are
+-- left: none where it doesn't come back there, or comes by a node of a lower number, which is the first of that ring.
+unfoldable pub ring_names : List NodeRecord → ℕ → ℕ → Option ℕ → Option Text
+ring_names chip first left None = None
+ring_names chip first zero (Some m) = None
+ring_names chip first (suc left) (Some m) =
+    if m == first then Some [] else if nat_le m first then None else option_map (λ names. codes " " ++ name_text m ++ names) (ring_names chip first left (sole_awaited chip m))
+
+abbrev pub ring_line : ℕ → Option Text → Text
+ring_line first None = []
+ring_line first (Some names) = codes "ring " ++ name_text first ++ names ++ codes "\n"
+
+-- the line of a ring of nodes that can never go on, at its node of the lowest number
+abbrev pub ring_text : List NodeRecord → (ℕ → Bool) → ℕ → Text
+ring_text chip marks n = if marks n then ring_line n (ring_names chip n 144 (sole_awaited chip n)) else []
+
+abbrev pub all_rings : List NodeRecord → (ℕ → Bool) → Text
+all_rings chip marks = each_node (ring_text chip marks) 0 144
 
 abbrev pub who_text : List NodeRecord → (ℕ → Bool) → Text
-who_text chip marks = all_waiting chip 0 144 ++ stuck_text marks
+who_text chip marks = all_waiting chip ++ stuck_text marks ++ all_rings chip marks

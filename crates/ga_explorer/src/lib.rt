@@ -13,6 +13,7 @@ pub mod laws;
 mod opening;
 mod part_text;
 mod request;
+mod ring_text;
 mod run_request;
 mod run_text;
 mod saved_text;

@@ -8,9 +8,10 @@ ghost use Rattle.ga_grid.specs.Chip.{records_of};
 ghost use Rattle.ga_causal.specs.Dependence.{is_marked};
 ghost use Rattle.ga_console.specs.Output.{IsSaid, IsSaidOrCut};
 ghost use Rattle.ga_console.specs.kept.Output.{Says};
-ghost use Rattle.ga_explorer.specs.Waiting.{doing_word, does_text, beside_text, awaited_text, awaiting_text, waiting_text, all_waiting, marked_name, marked_names, stuck_line, stuck_text};
+ghost use Rattle.ga_explorer.specs.Waiting.{doing_word, does_text, beside_text, awaited_text, awaiting_text, waiting_text, all_waiting, each_node, marked_name, stuck_line, stuck_text};
 ghost use Rattle.ga_explorer.specs.Answers.{TellsWho};
 
+use super::ring_text::say_rings;
 use arrayvec::ArrayVec;
 use ga_console::{Output, Text, WriteFailed, push_node, push_text};
 use ga_grid::{Chip, NodeId, neighbour};
@@ -41,7 +42,8 @@ const STUCK_ROOM: usize = b"stuck".len() + NAMES_ROOM + 1;
 /// The text of the last line.
 type StuckLine = ArrayVec<u8, STUCK_ROOM>;
 
-/// `who`: tells of each node that waits what for, of whom and what that node does, and which nodes can never go on. Takes no memory.
+/// `who`: tells of each node that waits what for, of whom and what that node does, which nodes can never go on, and the rings among
+/// them. Takes no memory.
 ///
 /// # Errors
 /// A write failed.
@@ -56,7 +58,8 @@ pub(crate) fn say_who<W: Write>(
     let chip = lab.chip();
     let stuck = find_stuck(chip);
     say_waiting(chip, output, writer)?;
-    output.say_blocks(writer, stuck_line(&stuck).as_slice())
+    output.say_blocks(writer, stuck_line(&stuck).as_slice())?;
+    say_rings(chip, &stuck, output, writer)
 }
 
 /// Says the lines of the nodes that wait.
@@ -65,7 +68,7 @@ fn say_waiting<W: Write>(
     output: &mut Output,
     writer: &mut W,
 ) -> Result<(), WriteFailed>
-    ensures { Says result (λ text. text ≡ all_waiting (records_of chip.now) 0 144)
+    ensures { Says result (λ text. text ≡ all_waiting (records_of chip.now))
         (W.contents writer.old) output.old (W.contents writer.new) output.new }
 {
     'nodes: for number in 0..144u8 {
@@ -192,22 +195,22 @@ fn line_of_names(names: &[u8]) -> StuckLine
 
 /// The names of the marked nodes, each behind a space.
 fn names_of(marks: &[bool; 144]) -> Names
-    ensures { result.items ≡ marked_names (is_marked marks.now) 0 144 }
+    ensures { result.items ≡ each_node (marked_name (is_marked marks.now)) 0 144 }
 {
     let mut out = ArrayVec::new();
     'nodes: for number in 0..144u8 {
-        push_marked(&mut out, NodeId::new(number), marks[number as usize]);
+        push_marked(&mut out, NodeId::new(number), marks);
     }
     out
 }
 
 /// Adds a node's name behind a space, where it is marked.
-fn push_marked(out: &mut Names, node: NodeId, marked: bool)
+fn push_marked(out: &mut Names, node: NodeId, marks: &[bool; 144])
     requires { array_vec_len out.old + NAME_ROOM ≤ NAMES_ROOM }
-    ensures text { out.new.items ≡ out.old.items ++ marked_name node.number marked }
+    ensures text { out.new.items ≡ out.old.items ++ marked_name (is_marked marks.now) node.number }
     ensures len { array_vec_len out.new ≤ array_vec_len out.old + NAME_ROOM }
 {
-    if marked {
+    if marks[node.index()] {
         push_text(out, b" ");
         push_node(out, node);
     }

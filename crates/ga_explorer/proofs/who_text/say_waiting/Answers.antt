@@ -3,7 +3,7 @@ use Rattle.ga_grid.specs.Chip.{records_of}
 use Rattle.ga_console.proofs.SaidLemmas.{cut_here, said_pending}
 use Rattle.ga_explorer.specs.Waiting.{waiting_text, all_waiting}
 use Rattle.ga_explorer.proofs.Saying.{line_said, line_cut, all_said}
-use Rattle.ga_explorer.proofs.WaitingLines.{next_waiting, all_told}
+use Rattle.ga_explorer.proofs.WaitingLines.{next_node, all_told}
 use Rattle.ga_explorer.proofs.who_text.say_waiting.Goals as goal
 
 pub nodes-init : goal.nodes-init
@@ -12,13 +12,13 @@ nodes-init g c = λ before said h. record { front = []; splits = refl; is_said =
 pub returns-in_err-say_node : goal.returns-in_err-say_node
 returns-in_err-say_node g c = λ before said h.
     let chip = records_of c.args.chip.now in
-    let whole : List ℕ = all_waiting chip 0 144 in
+    let whole : List ℕ = all_waiting chip in
     let done = c.nodes.invariant before said h in (
       whole,
       refl,
       cut_here c.from_residual.result _ before (said ++ whole) _ c.from_residual.ensures.0
           (line_cut _ before said whole _ (waiting_text chip c.new.result.number) _ done.front
-          (next_waiting chip c.nodes.number c.new.result.number (omega arith) c.new.ensures) done.splits
+          (next_node (waiting_text chip) c.nodes.number c.new.result.number (omega arith) c.new.ensures) done.splits
           (c.in_err-say_node.ensures before (said ++ done.front) done.is_said)),
     )
 
@@ -26,15 +26,15 @@ pub nodes-preserved : goal.nodes-preserved
 nodes-preserved g c = λ before said h.
     let chip = records_of c.args.chip.now in
     let done = c.nodes.invariant before said h in
-    line_said _ before said (all_waiting chip 0 144) _ (waiting_text chip c.new.result.number) _ done.front _
-    (next_waiting chip c.nodes.number c.new.result.number (omega arith) c.new.ensures) done.splits
+    line_said _ before said (all_waiting chip) _ (waiting_text chip c.new.result.number) _ done.front _
+    (next_node (waiting_text chip) c.nodes.number c.new.result.number (omega arith) c.new.ensures) done.splits
     (c.in_ok-say_node.ensures before (said ++ done.front) done.is_said)
 
 pub returns : goal.returns
 returns g c = λ before said h.
     let chip = records_of c.args.chip.now in
-    let whole : List ℕ = all_waiting chip 0 144 in (
+    let whole : List ℕ = all_waiting chip in (
       whole,
       refl,
-      all_said _ before said whole _ _ (all_told chip c.nodes.number _ (omega arith)) (c.nodes.invariant before said h),
+      all_said _ before said whole _ _ (all_told (waiting_text chip) c.nodes.number _ (omega arith)) (c.nodes.invariant before said h),
     )
