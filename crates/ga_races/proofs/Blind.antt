@@ -48,12 +48,12 @@ look_free (e ∷ es) c last ts is none =
     (p.0, subst (λ d. LookFree d es) (sym (ap (λ (z : List NodeRecord × Told). z.0) (after_is c m.mid e m.told m.first))) (look_free es m.mid last m.others m.then p.1))
 
 -- whether an event looks is said by a node that it touches
-look_still : (c : List NodeRecord) (e f : Event) → CanBe c f → ((n : ℕ) → touches e n ≡ true → touches f n ≡ false) → is_look (after c f).0 e ≡ is_look c e
+pub look_still : (c : List NodeRecord) (e f : Event) → CanBe c f → ((n : ℕ) → touches e n ≡ true → touches f n ≡ false) → is_look (after c f).0 e ≡ is_look c e
 look_still c (Own a) f can apart = ap (λ (z : NodeRecord). looks z) (sym ((stays c f can).same a.number (apart a.number (touches_own a))))
 look_still c (Pass w r side) f can apart = refl
 
 -- and so is the word that comes to one that doesn't
-word_still : (c : List NodeRecord) (e f : Event) → CanBe c f → ((n : ℕ) → touches e n ≡ true → touches f n ≡ false) → is_look c e ≡ false → word_of (after c f).0 e ≡ word_of c e
+pub word_still : (c : List NodeRecord) (e f : Event) → CanBe c f → ((n : ℕ) → touches e n ≡ true → touches f n ≡ false) → is_look c e ≡ false → word_of (after c f).0 e ≡ word_of c e
 word_still c (Own a) f can apart blind =
     ap (λ (b : Bool). cond {A = Option ℕ} b (Some (io_word (seen_from (after c f).0 a.number))) None) (look_still c (Own a) f can apart ∙ blind)
     ∙ sym (ap (λ (b : Bool). cond {A = Option ℕ} b (Some (io_word (seen_from c a.number))) None) blind)

@@ -6,3 +6,6 @@ pub mod Blind
 pub mod Swaps
 pub mod Exploring
 pub mod Kahn
+pub mod Bound
+pub mod Moves
+pub mod Before

@@ -1,3 +1,4 @@
 pub mod Orders
 pub mod Exploring
+pub mod HappensBefore
 pub mod Kahn

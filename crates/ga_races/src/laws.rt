@@ -1,6 +1,6 @@
 //! The laws of orders and races, each the contract of a function that does nothing. They stand over the definitions alone.
 
-ghost use Rattle.std.specs.Prelude.{◌≡◌, ◌≢◌, ◌≤◌, ◌↔◌, ℕ, Bool, true, length, List, [], ◌∷◌, ◌++◌, Some, IsSome, map};
+ghost use Rattle.std.specs.Prelude.{◌≡◌, ◌≢◌, ◌<◌, ◌≤◌, ◌↔◌, ℕ, Bool, true, false, length, List, [], ◌∷◌, ◌++◌, Some, IsSome, map};
 ghost use Rattle.ga_node.specs.Record.{NodeRecord};
 ghost use Rattle.ga_ports.specs.declared.side.Side.{Side};
 ghost use Rattle.ga_grid.specs.declared.node_id.NodeId.{NodeId};
@@ -8,12 +8,13 @@ ghost use Rattle.ga_event.specs.declared.event.Event.{Event};
 ghost use Rattle.ga_event.specs.declared.event.Event.TheVariants.{Pass};
 ghost use Rattle.ga_event.specs.Touches.{touches};
 ghost use Rattle.ga_event.specs.declared.event.Cause.{Cause};
-ghost use Rattle.ga_event.specs.Apply.{Told, replay, run};
+ghost use Rattle.ga_event.specs.Apply.{Told, after, replay, run};
 ghost use Rattle.ga_event.specs.Told.{steps_of};
 ghost use Rattle.ga_causal.specs.Dependence.{events_in, rewound_list, NoneLooks};
 ghost use Rattle.ga_causal.specs.Equivalence.{AreEquivalent};
 ghost use Rattle.ga_causal.specs.Words.{account_read};
 ghost use Rattle.ga_races.specs.Exploring.{IsExplored};
+ghost use Rattle.ga_races.specs.HappensBefore.{action_of, actions, causes_in, are_bound, HappensBefore, IsStepOf, StandsBefore};
 ghost use Rattle.ga_races.specs.Kahn.{HasOneWriter};
 ghost use Rattle.ga_races.specs.Orders.{CanBe, IsAtEnd, AreOrders, AreFree, IsRace, HasNoRace, AreRivals};
 
@@ -107,4 +108,26 @@ pub fn explored()
         ((events : List Event) → IsSome (replay chip events) → length events ≤ most) →
         (others : List Event) → replay chip others ≡ Some last → IsAtEnd last →
         (met : List Event) × (has met ≡ true) × AreOrders chip met others }
+{}
+
+/// What happens before an event in a list (Lamport) is what comes before it in every order of the list, and the one says the same as
+/// the other: so the past of an event can be read from the one list that was made. Of two neighbours in a list neither happens
+/// before the other exactly where they are free of one another. The events are named by their steps, each of which stands in every
+/// order. The list must be one that can be made: else there is no order but itself.
+pub fn happens_before()
+    ensures free { (chip : List NodeRecord) (e f : Event) → CanBe chip e → CanBe (after chip e).0 f →
+        ((are_bound (action_of chip e) (action_of (after chip e).0 f) ≡ false) ↔ (CanBe chip f × AreFree chip e f)) }
+    ensures causes { (chip last : List NodeRecord) (events : List Event) (steps : List (Cause × Told)) → run chip events ≡ Some (last, steps) →
+        causes_in (actions chip events) ≡ map (λ (s : Cause × Told). s.0) steps }
+    ensures stands { (chip : List NodeRecord) (events others : List Event) (n k place : ℕ) → AreOrders chip events others →
+        IsStepOf chip events n k place → (there : ℕ) × IsStepOf chip others n k there }
+    ensures every { (chip : List NodeRecord) (events others : List Event) (first later : ℕ) → HappensBefore (actions chip events) first later →
+        AreOrders chip events others → StandsBefore chip events others first later }
+    ensures some { (chip : List NodeRecord) (events : List Event) (first later : ℕ) → IsSome (replay chip events) →
+        first < later → later < length events → ¬ HappensBefore (actions chip events) first later →
+        (others : List Event) × AreOrders chip events others × StandsBefore chip events others later first }
+    ensures exact { (chip : List NodeRecord) (events : List Event) (first later : ℕ) → IsSome (replay chip events) →
+        first < later → later < length events →
+        (HappensBefore (actions chip events) first later
+        ↔ ((others : List Event) → AreOrders chip events others → StandsBefore chip events others first later)) }
 {}

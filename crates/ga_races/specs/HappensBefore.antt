@@ -1,0 +1,73 @@
+-- Which event of a list comes before which in each order of it: happens-before (Lamport, "Time, clocks, and the ordering of events in
+-- a distributed system", 1978), as the order of a trace (Mazurkiewicz, "Trace theory", 1987): two events of a list that are not free
+-- of one another keep their order, and so do those that a chain of such joins. Netzer and Miller ("Optimal tracing and replay for
+-- debugging message-passing parallel programs", 1992) decide by it what races. That a look keeps its place among the changes of what
+-- is shown to it is this project's own, as looks are.
+use Rattle.std.specs.Prelude.{◌≡◌, ℕ, ◌<◌, ◌==◌, Bool, true, false, not, ◌&&◌, ◌||◌, List, [], ◌∷◌, length, map, slice_index_or}
+use Rattle.std.specs.List.{list_any}
+use Rattle.ga_node.specs.Io.{io_word}
+use Rattle.ga_node.specs.Record.{NodeRecord}
+use Rattle.ga_event.specs.declared.event.Event.{Event}
+use Rattle.ga_event.specs.declared.event.Cause.{Cause}
+use Rattle.ga_event.specs.Apply.{seen_from, after, cause_of}
+use Rattle.ga_causal.specs.Dependence.{cause_nodes, cause_touches, no_cause}
+use Rattle.ga_causal.specs.Steps.{IsStep}
+use Rattle.ga_races.specs.Orders.{AreOrders}
+
+-- an event as it was made (a letter of a trace): with whether it looked, and the nodes to which it changed what their neighbours show
+pub record Action : Type 0 where
+  pub cause : Cause
+  pub changes : ℕ → Bool
+
+-- the event, with whether it looks, and the nodes that would read another word in `io` behind it than before it
+abbrev pub action_of : List NodeRecord → Event → Action
+action_of chip event = record {
+  cause = cause_of chip event;
+  changes = λ n. not (io_word (seen_from (after chip event).0 n) == io_word (seen_from chip n));
+}
+
+-- the events of a list that can be made, each as it is made
+abbrev pub actions : List NodeRecord → List Event → List Action
+actions chip [] = []
+actions chip (event ∷ events) = action_of chip event ∷ actions (after chip event).0 events
+
+abbrev pub causes_in : List Action → List Cause
+causes_in actions = map (λ (action : Action). action.cause) actions
+
+-- what is read past the end of a list
+abbrev pub no_action : Action
+no_action = record { cause = no_cause; changes = λ n. false }
+
+abbrev pub action_at : List Action → ℕ → Action
+action_at actions place = slice_index_or actions place no_action
+
+-- the first is a look, and the second changes what is shown to it
+abbrev pub is_shown : Action → Action → Bool
+is_shown look change = look.cause.look && list_any change.changes (cause_nodes look.cause)
+
+-- Two actions touch a common node, or one is a look and the other changes what is shown to it, in whichever order they stand: the
+-- dependence of letters. Neighbours in a list are so where they are not free of one another (law `happens_before`).
+abbrev pub are_bound : Action → Action → Bool
+are_bound first second =
+    list_any (cause_touches first.cause) (cause_nodes second.cause) || (is_shown first second || is_shown second first)
+
+-- the action at the place `later` is bound to the one at the place `earlier`
+pub record IsBound (actions : List Action) (earlier later : ℕ) : Type 0 where
+  pub before : earlier < later
+  pub within : later < length actions
+  pub bound : are_bound (action_at actions earlier) (action_at actions later) ≡ true
+
+-- the least transitive relation that contains this
+pub data HappensBefore (actions : List Action) (first : ℕ) : ℕ → Type 0 where
+  directly : {later : ℕ} → IsBound actions first later → HappensBefore actions first later
+  through : {middle later : ℕ} → HappensBefore actions first middle → IsBound actions middle later → HappensBefore actions first later
+
+-- the action at the place is the k-th that touches the node: the node's step k
+abbrev pub IsStepOf : List NodeRecord → List Event → ℕ → ℕ → ℕ → Type 0
+IsStepOf chip events n k place = IsStep (causes_in (actions chip events)) n k place
+
+-- in another order of a list, the event at the place `first` stands before the one at the place `later`: each is a step there
+-- of the same number of each of its nodes
+abbrev pub StandsBefore : List NodeRecord → List Event → List Event → ℕ → ℕ → Type 0
+StandsBefore chip events others first later = (n k m l p q : ℕ) → IsStepOf chip events n k first → IsStepOf chip events m l later
+    → IsStepOf chip others n k p → IsStepOf chip others m l q → p < q
