@@ -118,21 +118,21 @@ reached_before (a ∷ xs) all place (suc i) (suc j) f t =
 
 -- ---- an event that is bound to none of the first ones comes first
 
-actions_into : (fs ys : List Event) (c d : List NodeRecord) → replay c fs ≡ Some d → actions c (fs ++ ys) ≡ actions c fs ++ actions d ys
+pub actions_into : (fs ys : List Event) (c d : List NodeRecord) → replay c fs ≡ Some d → actions c (fs ++ ys) ≡ actions c fs ++ actions d ys
 actions_into [] ys c d h = ap (λ z. actions z ys) (same_Some c d h)
 actions_into (f ∷ fs) ys c d h = let p = first_of c f fs d h in ap (λ (z : List Action). action_of c f ∷ z) (actions_into fs ys (after c f).0 d p.then)
 
-record IsOver (c d : List NodeRecord) (fs : List Event) (y : Event) (zs : List Event) : Type 0 where
-  can : CanBe c y
-  still : action_of c y ≡ action_of d y
-  kept : actions (after c y).0 fs ≡ actions c fs
-  led : replay (after c y).0 fs ≡ Some (after d y).0
-  order : AreOrders c (fs ++ y ∷ zs) (y ∷ fs ++ zs)
-  to : ℕ → ℕ
-  moves : Moves to (actions c (fs ++ y ∷ zs)) (actions c (y ∷ fs ++ zs))
-  first : to (length fs) ≡ 0
-  behind : (p : ℕ) → p < length fs → to p ≡ suc p
-  beyond : (p : ℕ) → length fs < p → to p ≡ p
+pub record IsOver (c d : List NodeRecord) (fs : List Event) (y : Event) (zs : List Event) : Type 0 where
+  pub can : CanBe c y
+  pub still : action_of c y ≡ action_of d y
+  pub kept : actions (after c y).0 fs ≡ actions c fs
+  pub led : replay (after c y).0 fs ≡ Some (after d y).0
+  pub order : AreOrders c (fs ++ y ∷ zs) (y ∷ fs ++ zs)
+  pub to : ℕ → ℕ
+  pub moves : Moves to (actions c (fs ++ y ∷ zs)) (actions c (y ∷ fs ++ zs))
+  pub first : to (length fs) ≡ 0
+  pub behind : (p : ℕ) → p < length fs → to p ≡ suc p
+  pub beyond : (p : ℕ) → length fs < p → to p ≡ p
 
 over_none : (c d : List NodeRecord) (y : Event) (zs : List Event) → c ≡ d → CanBe d y → IsOver c d [] y zs
 over_none c d y zs q can = subst (λ z. IsOver z d [] y zs) (sym q) (record {
@@ -184,7 +184,7 @@ over_more c d f fs y zs canf o none = record {
     beyond (suc zero) l = absurd (omega (arith, l))
     beyond (suc (suc p)) l = ap (λ (i : ℕ). flip (suc i)) (o.beyond (suc p) (omega (arith, l)))
 
-over : (fs : List Event) (c d : List NodeRecord) (y : Event) (zs : List Event) → replay c fs ≡ Some d → CanBe d y → meets_some (actions c fs) (action_of d y) ≡ false → IsOver c d fs y zs
+pub over : (fs : List Event) (c d : List NodeRecord) (y : Event) (zs : List Event) → replay c fs ≡ Some d → CanBe d y → meets_some (actions c fs) (action_of d y) ≡ false → IsOver c d fs y zs
 over [] c d y zs h can none = over_none c d y zs (same_Some c d h) can
 over (f ∷ fs) c d y zs h can none =
     let p = first_of c f fs d h in
@@ -222,7 +222,7 @@ turned_over c d fs y zs p j o l t = record {
     there : o.to (length fs + suc j) ≡ suc (length fs + j)
     there = o.beyond (length fs + suc j) (let g : length fs < length fs + suc j = omega arith in g) ∙ (let e : length fs + suc j ≡ suc (length fs + j) = omega arith in e)
 
-longer_by : (fs : List Event) (y : Event) → length (fs ++ y ∷ []) ≡ suc (length fs)
+pub longer_by : (fs : List Event) (y : Event) → length (fs ++ y ∷ []) ≡ suc (length fs)
 longer_by fs y = length-append fs (y ∷ []) ∙ (let e : length fs + 1 ≡ suc (length fs) = omega arith in e)
 
 pulled_next : (c d : List NodeRecord) (fs : List Event) (y : Event) (es : List Event) (p j : ℕ) → replay c fs ≡ Some d → CanBe d y → p < length fs
@@ -286,7 +286,7 @@ some_order c es i j t = (t.others, t.order, λ n k m l p q a b x y.
 from_all : (xs : List Action) → IsFrom xs 0 xs
 from_all xs = record { at = λ q. ap (action_at xs) (let e : 0 + q ≡ q = omega arith in e); size = omega arith }
 
-before_of : (xs : List Action) (i j : ℕ) → reached_from xs i j ≡ true → HappensBefore xs i j
+pub before_of : (xs : List Action) (i j : ℕ) → reached_from xs i j ≡ true → HappensBefore xs i j
 before_of xs i j t = subst₂ (HappensBefore xs) (let e : 0 + i ≡ i = omega arith in e) (let e : 0 + j ≡ j = omega arith in e) (reached_before xs xs 0 i j (from_all xs) t)
 
 -- an event that doesn't happen before a later one comes behind it in some order
@@ -299,16 +299,16 @@ other_order c es i j h l m never =
 -- ---- and so it is exact
 
 -- a step that stands at the place
-record IsNamed (c : List NodeRecord) (es : List Event) (i : ℕ) : Type 0 where
-  node : ℕ
-  number : ℕ
-  tallied : IsTallied (actions c es) node number i
+pub record IsNamed (c : List NodeRecord) (es : List Event) (i : ℕ) : Type 0 where
+  pub node : ℕ
+  pub number : ℕ
+  pub tallied : IsTallied (actions c es) node number i
 
-actions_length : (c : List NodeRecord) (es : List Event) → length (actions c es) ≡ length es
+pub actions_length : (c : List NodeRecord) (es : List Event) → length (actions c es) ≡ length es
 actions_length c [] = refl
 actions_length c (e ∷ es) = ap suc (actions_length (after c e).0 es)
 
-named_of : (c : List NodeRecord) (es : List Event) (i : ℕ) → i < length es → IsNamed c es i
+pub named_of : (c : List NodeRecord) (es : List Event) (i : ℕ) → i < length es → IsNamed c es i
 named_of c es i l =
     let t = touched_of (action_at (actions c es) i).cause.event in
     let size : length (actions c es) ≡ length es = actions_length c es in

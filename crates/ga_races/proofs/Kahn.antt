@@ -37,7 +37,7 @@ record CutAt (c : List NodeRecord) (n : ℕ) (es : List Event) (xs : List Entry)
   is : es ≡ first ++ e ∷ others
   read : account_read n c first ≡ xs
 
-head_is : (x y : Entry) (xs ys : List Entry) → x ∷ xs ≡ y ∷ ys → (x ≡ y) × (xs ≡ ys)
+pub head_is : (x y : Entry) (xs ys : List Entry) → x ∷ xs ≡ y ∷ ys → (x ≡ y) × (xs ≡ ys)
 head_is x y xs ys h = (same_Some x y (ap first h), ap others h)
   where
     first : List Entry → Option Entry
@@ -106,7 +106,7 @@ cut_at (f ∷ es) c n xs ys e word h = go (touches f n) refl h (λ zs k. cut_at 
         }
 
 -- the beginning of a list that can be made can be made
-begins : (fs ys : List Event) (c last : List NodeRecord) → replay c (fs ++ ys) ≡ Some last → (now : List NodeRecord) × (replay c fs ≡ Some now)
+pub begins : (fs ys : List Event) (c last : List NodeRecord) → replay c (fs ++ ys) ≡ Some last → (now : List NodeRecord) × (replay c fs ≡ Some now)
 begins [] ys c last h = (c, refl)
 begins (e ∷ fs) ys c last h =
     let p = first_of c e (fs ++ ys) last h in

@@ -9,3 +9,5 @@ pub mod Kahn
 pub mod Bound
 pub mod Moves
 pub mod Before
+pub mod Sweeps
+pub mod Nearest

@@ -198,7 +198,7 @@ tallied_moved xs ys to n k i m s = record {
 }
 
 -- a later place has more
-tally_grows : (n : ℕ) (xs : List Action) (i j : ℕ) → i < j → j < length xs → touches (action_at xs i).cause.event n ≡ true → tally n xs i < tally n xs j
+pub tally_grows : (n : ℕ) (xs : List Action) (i j : ℕ) → i < j → i < length xs → touches (action_at xs i).cause.event n ≡ true → tally n xs i < tally n xs j
 tally_grows n [] i j l k t = absurd (omega (arith, k))
 tally_grows n (a ∷ xs) i zero l k t = absurd (omega (arith, l))
 tally_grows n (a ∷ xs) zero (suc j) l k t = subst (λ (b : Bool). 0 < cond b 1 0 + tally n xs j) (sym t) (omega arith)
@@ -213,8 +213,8 @@ tally_grows n (a ∷ xs) (suc i) (suc j) l k t =
 pub tallied_one : (xs : List Action) (n k i j : ℕ) → IsTallied xs n k i → IsTallied xs n k j → i ≡ j
 tallied_one xs n k i j s u = elim (cases_order i j) [
   | inl q ↦ q
-  | inr (inl l) ↦ absurd (no_more (tally n xs i) (tally n xs j) s.before u.before (tally_grows n xs i j l u.within s.touched))
-  | inr (inr l) ↦ absurd (no_more (tally n xs j) (tally n xs i) u.before s.before (tally_grows n xs j i l s.within u.touched))
+  | inr (inl l) ↦ absurd (no_more (tally n xs i) (tally n xs j) s.before u.before (tally_grows n xs i j l s.within s.touched))
+  | inr (inr l) ↦ absurd (no_more (tally n xs j) (tally n xs i) u.before s.before (tally_grows n xs j i l u.within u.touched))
 ]
   where
     no_more : (x y : ℕ) → suc x ≡ k → suc y ≡ k → x < y → ⊥

@@ -79,20 +79,20 @@ one_side (Read sides) s t h k = absurd (true≢false (sym h))
 one_side (Write posted) s t h k = sym (is_the posted s h) ∙ is_the posted t k
 
 -- a node that runs has no part in a pass
-no_writer : (wait : Wait) (s : Side) → wait ≡ Nothing → writes_to wait s ≡ true → ⊥
+pub no_writer : (wait : Wait) (s : Side) → wait ≡ Nothing → writes_to wait s ≡ true → ⊥
 no_writer wait s e h = true≢false (sym (sym (ap (λ z. writes_to z s) e) ∙ h))
 
-no_reader : (wait : Wait) (s : Side) → wait ≡ Nothing → reads_from wait s ≡ true → ⊥
+pub no_reader : (wait : Wait) (s : Side) → wait ≡ Nothing → reads_from wait s ≡ true → ⊥
 no_reader wait s e h = true≢false (sym (sym (ap (λ z. reads_from z s) e) ∙ h))
 
 -- and one that writes reads from none
-one_way : (wait : Wait) (s t : Side) → writes_to wait s ≡ true → reads_from wait t ≡ true → ⊥
+pub one_way : (wait : Wait) (s t : Side) → writes_to wait s ≡ true → reads_from wait t ≡ true → ⊥
 one_way Nothing s t h k = true≢false (sym h)
 one_way (Fetch sides) s t h k = true≢false (sym h)
 one_way (Read sides) s t h k = true≢false (sym h)
 one_way (Write posted) s t h k = true≢false (sym k)
 
-wait_at : (c : List NodeRecord) (a : NodeId) → CanBe c (Own a) → (n : ℕ) → a.number ≡ n → (record_at c n).wait ≡ Nothing
+pub wait_at : (c : List NodeRecord) (a : NodeId) → CanBe c (Own a) → (n : ℕ) → a.number ≡ n → (record_at c n).wait ≡ Nothing
 wait_at c a can n e = subst (λ (z : ℕ). (record_at c z).wait ≡ Nothing) e (runs_of (record_at c a.number).wait (record_at c a.number).stop can)
 
 -- two passes of one writer are one
@@ -111,10 +111,10 @@ one_event c (Own a) (Pass w r s) can canf q = absurd (no_writer (record_at c w.n
 one_event c (Pass w r s) (Own a) can canf q = absurd (no_writer (record_at c w.number).wait s (wait_at c a canf w.number (sym q)) (open_of c w r s can).writes)
 one_event c (Pass w r s) (Pass x y t) can canf q = one_pass c w r x y s t (open_of c w r s can) (open_of c x y t canf) q
 
-at_node : (a n : ℕ) → ((a == n) || false) ≡ true → a ≡ n
+pub at_node : (a n : ℕ) → ((a == n) || false) ≡ true → a ≡ n
 at_node a n h = elim (or_cases (a == n) false h) [ inl q ↦ eqb-true a n q | inr q ↦ absurd (both_ways false refl q) ]
 
-at_two : (a b n : ℕ) → ((a == n) || ((b == n) || false)) ≡ true → (a ≡ n) ⊎ (b ≡ n)
+pub at_two : (a b n : ℕ) → ((a == n) || ((b == n) || false)) ≡ true → (a ≡ n) ⊎ (b ≡ n)
 at_two a b n h = elim (or_cases (a == n) ((b == n) || false) h) [ inl q ↦ inl (eqb-true a n q) | inr q ↦ inr (at_node b n q) ]
 
 -- a node that runs is in no pass

@@ -3,16 +3,19 @@
 -- of one another keep their order, and so do those that a chain of such joins. Netzer and Miller ("Optimal tracing and replay for
 -- debugging message-passing parallel programs", 1992) decide by it what races. That a look keeps its place among the changes of what
 -- is shown to it is this project's own, as looks are.
-use Rattle.std.specs.Prelude.{◌≡◌, ℕ, ◌<◌, ◌==◌, Bool, true, false, not, ◌&&◌, ◌||◌, List, [], ◌∷◌, length, map, slice_index_or}
+use Rattle.std.specs.Prelude.{◌≡◌, ℕ, zero, suc, ◌<◌, ◌≤◌, ◌==◌, Bool, true, false, not, ◌&&◌, ◌||◌, List, [], ◌∷◌, length, map, slice_index_or, Some}
 use Rattle.std.specs.List.{list_any}
 use Rattle.ga_node.specs.Io.{io_word}
 use Rattle.ga_node.specs.Record.{NodeRecord}
+use Rattle.ga_grid.specs.Grid.{neighbour_of}
+use Rattle.ga_grid.specs.Chip.{record_at}
 use Rattle.ga_event.specs.declared.event.Event.{Event}
 use Rattle.ga_event.specs.declared.event.Cause.{Cause}
-use Rattle.ga_event.specs.Apply.{seen_from, after, cause_of}
+use Rattle.ga_event.specs.Touches.{touches}
+use Rattle.ga_event.specs.Apply.{writes_to, reads_from, seen_from, after, cause_of}
 use Rattle.ga_causal.specs.Dependence.{cause_nodes, cause_touches, no_cause}
 use Rattle.ga_causal.specs.Steps.{IsStep}
-use Rattle.ga_races.specs.Orders.{AreOrders}
+use Rattle.ga_races.specs.Orders.{AreOrders, AreRivals}
 
 -- an event as it was made (a letter of a trace): with whether it looked, and the nodes to which it changed what their neighbours show
 pub record Action : Type 0 where
@@ -71,3 +74,33 @@ IsStepOf chip events n k place = IsStep (causes_in (actions chip events)) n k pl
 abbrev pub StandsBefore : List NodeRecord → List Event → List Event → ℕ → ℕ → Type 0
 StandsBefore chip events others first later = (n k m l p q : ℕ) → IsStepOf chip events n k first → IsStepOf chip events m l later
     → IsStepOf chip others n k p → IsStepOf chip others m l q → p < q
+
+-- the chip behind so many of the events
+abbrev pub chip_at : List NodeRecord → List Event → ℕ → List NodeRecord
+chip_at chip [] place = chip
+chip_at chip (event ∷ events) zero = chip
+chip_at chip (event ∷ events) (suc place) = chip_at (after chip event).0 events place
+
+abbrev pub made_at : List NodeRecord → List Event → ℕ → Event
+made_at chip events place = (action_at (actions chip events) place).cause.event
+
+-- A look and a change of what is shown to it that keep their order only by this, in whichever order they stand: nothing happens
+-- between them.
+pub record IsNear (chip : List NodeRecord) (events : List Event) (first later : ℕ) : Type 0 where
+  pub bound : IsBound (actions chip events) first later
+  pub apart : (n : ℕ) → touches (made_at chip events first) n ≡ true → touches (made_at chip events later) n ≡ false
+  pub none : (middle : ℕ) → HappensBefore (actions chip events) first middle → HappensBefore (actions chip events) middle later → ⊥
+
+-- The event at the place is a pass, and another writer could have been there first: the reader waits for it too, and behind so many
+-- events, none of which is a step of this writer that happens after the pass, it waits to write to the reader.
+pub record IsContended (chip : List NodeRecord) (events : List Event) (place : ℕ) (other : Event) : Type 0 where
+  pub rivals : AreRivals (made_at chip events place) other
+  pub stands : place < length events
+  pub posted : ℕ
+  pub before : place ≤ posted
+  pub within : posted ≤ length events
+  pub near : neighbour_of rivals.second.number rivals.other ≡ Some rivals.reader.number
+  pub reads : reads_from (record_at (chip_at chip events place) rivals.reader.number).wait rivals.other ≡ true
+  pub writes : writes_to (record_at (chip_at chip events posted) rivals.second.number).wait rivals.other ≡ true
+  pub none : (step : ℕ) → step < posted → touches (made_at chip events step) rivals.second.number ≡ true
+      → HappensBefore (actions chip events) place step → ⊥

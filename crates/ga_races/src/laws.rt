@@ -14,7 +14,7 @@ ghost use Rattle.ga_causal.specs.Dependence.{events_in, rewound_list, NoneLooks}
 ghost use Rattle.ga_causal.specs.Equivalence.{AreEquivalent};
 ghost use Rattle.ga_causal.specs.Words.{account_read};
 ghost use Rattle.ga_races.specs.Exploring.{IsExplored};
-ghost use Rattle.ga_races.specs.HappensBefore.{action_of, actions, causes_in, are_bound, HappensBefore, IsStepOf, StandsBefore};
+ghost use Rattle.ga_races.specs.HappensBefore.{action_of, actions, causes_in, are_bound, HappensBefore, IsStepOf, StandsBefore, made_at, IsNear, IsContended};
 ghost use Rattle.ga_races.specs.Kahn.{HasOneWriter};
 ghost use Rattle.ga_races.specs.Orders.{CanBe, IsAtEnd, AreOrders, AreFree, IsRace, HasNoRace, AreRivals};
 
@@ -130,4 +130,18 @@ pub fn happens_before()
         first < later → later < length events →
         (HappensBefore (actions chip events) first later
         ↔ ((others : List Event) → AreOrders chip events others → StandsBefore chip events others first later)) }
+{}
+
+/// Which events of a list race is read from the list alone, by what happens before what (after Netzer and Miller). A look and a change
+/// of what is shown to it race where nothing happens between them; a pass races with the pass of another writer that waits to write
+/// to the reader by steps of which none happens after the pass. Where a list ends without a next event these are all: it has no race
+/// exactly where there is neither, and so every order of steps ends on its chip (`one_end`).
+pub fn nearest()
+    ensures looks { (chip last : List NodeRecord) (events : List Event) (first later : ℕ) → replay chip events ≡ Some last →
+        IsNear chip events first later → IsRace chip events (made_at chip events first) (made_at chip events later) }
+    ensures passes { (chip last : List NodeRecord) (events : List Event) (place : ℕ) (other : Event) → replay chip events ≡ Some last →
+        IsContended chip events place other → IsRace chip events (made_at chip events place) other }
+    ensures decided { (chip last : List NodeRecord) (events : List Event) → replay chip events ≡ Some last → IsAtEnd last →
+        (HasNoRace chip events
+        ↔ (((first later : ℕ) → ¬ IsNear chip events first later) × ((place : ℕ) (other : Event) → ¬ IsContended chip events place other))) }
 {}
