@@ -1,5 +1,5 @@
 -- What happens before an event comes before it in each order of the list, and what doesn't comes behind it in some order.
-use Rattle.std.proofs.Common.{◌≡◌, ℕ, zero, suc, ◌+◌, ◌<◌, ◌⊎◌, Bool, true, false, cond, inl, inr, List, [], ◌∷◌, ◌++◌, length, Option, Some, IsSome, ◌↔◌, refl, sym, ◌∙◌, ap, ap₂, subst, subst₂, arith, append_assoc, length-append}
+use Rattle.std.proofs.Common.{◌≡◌, ℕ, zero, suc, ◌+◌, ◌<◌, ◌⊎◌, Bool, true, false, cond, inl, inr, List, [], ◌∷◌, ◌++◌, length, Some, IsSome, ◌↔◌, refl, sym, ◌∙◌, ap, ap₂, subst, subst₂, arith, append_assoc, length-append}
 use Rattle.std.specs.List.{list_any}
 use Rattle.std.proofs.lemmas.Bool.{cases_Bool, both_ways, or_cases, or_parts, false_from_ne_true}
 use Rattle.std.proofs.lemmas.Option.{same_Some}
@@ -16,7 +16,7 @@ use Rattle.ga_races.proofs.Frees.{replay_more, first_of, can_still, free_chip, a
 use Rattle.ga_races.proofs.Orders.{some_of}
 use Rattle.ga_races.proofs.Exact.{replay_into}
 use Rattle.ga_races.proofs.Bound.{Apart, action_still, free_of}
-use Rattle.ga_races.proofs.Moves.{Moves, flip, lifted, moves_same, moves_behind, moves_chained, moves_swapped, moves_of, before_within, before_moved, tally, IsTallied, tallied_of, step_of, tallied_moved, tallied_one}
+use Rattle.ga_races.proofs.Moves.{Moves, flip, lifted, moves_same, moves_behind, moves_chained, moves_swapped, moves_of, before_moved, tally, IsTallied, tallied_of, step_of, tallied_moved, tallied_one}
 
 -- ---- one pass over the list: whether an action is bound to one of those that are reached
 
@@ -278,10 +278,14 @@ every_order c es fs i j h order n k m l p q a b x y =
     subst₂ (λ (u v : ℕ). u < v) r s (before_moved (actions c es) (actions c fs) t.0 i j t.1 h)
 
 some_order : (c : List NodeRecord) (es : List Event) (i j : ℕ) → IsTurned c es i j → (others : List Event) × AreOrders c es others × StandsBefore c es others j i
-some_order c es i j t = (t.others, t.order, λ n k m l p q a b x y.
-    let r : t.to j ≡ p = tallied_one (actions c t.others) n k (t.to j) p (tallied_moved (actions c es) (actions c t.others) t.to n k j t.moves (tallied_of (actions c es) n k j a)) (tallied_of (actions c t.others) n k p x) in
-    let s : t.to i ≡ q = tallied_one (actions c t.others) m l (t.to i) q (tallied_moved (actions c es) (actions c t.others) t.to m l i t.moves (tallied_of (actions c es) m l i b)) (tallied_of (actions c t.others) m l q y) in
-    subst₂ (λ (u v : ℕ). u < v) r s t.turned)
+some_order c es i j t = (
+  t.others,
+  t.order,
+  λ n k m l p q a b x y.
+      let r : t.to j ≡ p = tallied_one (actions c t.others) n k (t.to j) p (tallied_moved (actions c es) (actions c t.others) t.to n k j t.moves (tallied_of (actions c es) n k j a)) (tallied_of (actions c t.others) n k p x) in
+      let s : t.to i ≡ q = tallied_one (actions c t.others) m l (t.to i) q (tallied_moved (actions c es) (actions c t.others) t.to m l i t.moves (tallied_of (actions c es) m l i b)) (tallied_of (actions c t.others) m l q y) in
+      subst₂ (λ (u v : ℕ). u < v) r s t.turned,
+)
 
 from_all : (xs : List Action) → IsFrom xs 0 xs
 from_all xs = record { at = λ q. ap (action_at xs) (let e : 0 + q ≡ q = omega arith in e); size = omega arith }
@@ -319,18 +323,21 @@ not_both c es i j l m t every =
     let a = named_of c es i l in
     let b = named_of c es j m in
     let p : t.to i < t.to j = every t.others t.order a.node a.number b.node b.number (t.to i) (t.to j)
-            (step_of (actions c es) a.node a.number i a.tallied) (step_of (actions c es) b.node b.number j b.tallied)
-            (step_of (actions c t.others) a.node a.number (t.to i) (tallied_moved (actions c es) (actions c t.others) t.to a.node a.number i t.moves a.tallied))
-            (step_of (actions c t.others) b.node b.number (t.to j) (tallied_moved (actions c es) (actions c t.others) t.to b.node b.number j t.moves b.tallied)) in
+    (step_of (actions c es) a.node a.number i a.tallied) (step_of (actions c es) b.node b.number j b.tallied)
+    (step_of (actions c t.others) a.node a.number (t.to i) (tallied_moved (actions c es) (actions c t.others) t.to a.node a.number i t.moves a.tallied))
+    (step_of (actions c t.others) b.node b.number (t.to j) (tallied_moved (actions c es) (actions c t.others) t.to b.node b.number j t.moves b.tallied)) in
     let q : t.to j < t.to i = t.turned in
     omega (arith, p, q)
 
 pub exact : (c : List NodeRecord) (es : List Event) (i j : ℕ) → IsSome (replay c es) → i < j → j < length es
     → HappensBefore (actions c es) i j ↔ ((others : List Event) → AreOrders c es others → StandsBefore c es others i j)
-exact c es i j h l m = (λ b others order. every_order c es others i j b order, λ every. elim (cases_Bool (reached_from (actions c es) i j)) [
-  | inl t ↦ before_of (actions c es) i j t
-  | inr none ↦ (let a = some_of (replay c es) h in absurd (not_both c es i j (omega (arith, l, m)) m (turned_at es c a.0 i j a.1 l m none) every))
-])
+exact c es i j h l m = (
+  λ b others order. every_order c es others i j b order,
+  λ every. elim (cases_Bool (reached_from (actions c es) i j)) [
+    | inl t ↦ before_of (actions c es) i j t
+    | inr none ↦ (let a = some_of (replay c es) h in absurd (not_both c es i j (omega (arith, l, m)) m (turned_at es c a.0 i j a.1 l m none) every))
+  ],
+)
 
 -- each step stands in each order
 pub stands : (c : List NodeRecord) (es fs : List Event) (n k i : ℕ) → AreOrders c es fs → IsStepOf c es n k i → (p : ℕ) × IsStepOf c fs n k p

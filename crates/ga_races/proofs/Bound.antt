@@ -11,7 +11,6 @@ use Rattle.ga_node.specs.Record.{NodeRecord}
 use Rattle.ga_node.specs.Table.{looks}
 use Rattle.ga_grid.specs.Grid.{neighbour_of}
 use Rattle.ga_grid.specs.Chip.{record_at}
-use Rattle.ga_grid.specs.declared.node_id.NodeId.{NodeId}
 use Rattle.ga_event.specs.Agree.{Agree}
 use Rattle.ga_event.specs.declared.event.Event.{Event}
 use Rattle.ga_event.specs.declared.event.Event.TheVariants.{Own, Pass}
@@ -21,7 +20,7 @@ use Rattle.ga_causal.specs.Words.{word_of}
 use Rattle.ga_causal.proofs.Words.{same_node}
 use Rattle.ga_races.specs.Orders.{CanBe, AreFree}
 use Rattle.ga_races.specs.HappensBefore.{Action, action_of, is_shown, are_bound}
-use Rattle.ga_races.proofs.Frees.{replay_more, stays, can_still, can_back, any_of, apart_of, apart-sym, free-sym}
+use Rattle.ga_races.proofs.Frees.{replay_more, stays, can_still, can_back, any_of, apart_of, apart-sym}
 use Rattle.ga_races.proofs.Blind.{look_still, word_still}
 
 abbrev pub Apart : Event → Event → Type 0
@@ -141,7 +140,7 @@ free_of c e f cane then none =
     let canf : CanBe c f = can_back c f e back cane then in
     let second : word_of d f ≡ word_of c f = word_same c f e (action_of d f) cane back refl (look_still c f e cane back) q.1 in
     let first : word_of (after c f).0 e ≡ word_of c e =
-        word_same c e f (action_of c e) canf apart refl refl (subst (λ (a : Action). is_shown (action_of c e) a ≡ false) (action_still c e f cane canf apart second) q.0) in
+    word_same c e f (action_of c e) canf apart refl refl (subst (λ (a : Action). is_shown (action_of c e) a ≡ false) (action_still c e f cane canf apart second) q.0) in
     (canf, record { apart = apart; first = first; second = second })
 
 -- actions that are not bound touch no common node
@@ -150,6 +149,7 @@ unbound_apart a b none = apart_of a.cause.event b.cause.event ((or_parts (list_a
 
 -- which is all that neighbours in a list can be
 pub free_exact : (c : List NodeRecord) (e f : Event) → CanBe c e → CanBe (after c e).0 f → (are_bound (action_of c e) (action_of (after c e).0 f) ≡ false) ↔ (CanBe c f × AreFree c e f)
-free_exact c e f cane then =
-    (λ none. free_of c e f cane then none,
-    λ free. ap (are_bound (action_of c e)) (action_still c e f cane free.0 free.1.apart free.1.second) ∙ unbound_of c e f cane free.0 free.1)
+free_exact c e f cane then = (
+  λ none. free_of c e f cane then none,
+  λ free. ap (are_bound (action_of c e)) (action_still c e f cane free.0 free.1.apart free.1.second) ∙ unbound_of c e f cane free.0 free.1,
+)

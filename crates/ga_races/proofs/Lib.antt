@@ -11,3 +11,5 @@ pub mod Moves
 pub mod Before
 pub mod Sweeps
 pub mod Nearest
+pub mod Tallies
+pub mod Contended

@@ -1,17 +1,17 @@
 -- Where the actions of a list stand in another order of it: those that are bound keep their order, and each is the step of the same
 -- number of each of its nodes.
-use Rattle.std.proofs.Common.{◌≡◌, ℕ, zero, suc, ◌+◌, ◌<◌, ◌≤◌, Bool, true, false, cond, inl, inr, List, [], ◌∷◌, length, map, take, true≢false, refl, sym, ◌∙◌, ap, ap₂, subst, subst₂, arith}
+use Rattle.std.proofs.Common.{◌≡◌, ℕ, zero, suc, ◌+◌, ◌<◌, Bool, true, false, cond, inl, inr, List, [], ◌∷◌, length, take, refl, sym, ◌∙◌, ap, ap₂, subst, subst₂, arith}
 use Rattle.std.proofs.lemmas.Bool.{both_ways, cases_order}
 use Rattle.ga_node.specs.Record.{NodeRecord}
 use Rattle.ga_event.specs.declared.event.Event.{Event}
 use Rattle.ga_event.specs.declared.event.Cause.{Cause}
 use Rattle.ga_event.specs.Touches.{touches}
 use Rattle.ga_event.specs.Apply.{after}
-use Rattle.ga_causal.specs.Dependence.{event_at, cause_touches}
+use Rattle.ga_causal.specs.Dependence.{event_at}
 use Rattle.ga_causal.specs.Steps.{touching, IsStep}
 use Rattle.ga_causal.proofs.Places.{touching-cons}
 use Rattle.ga_races.specs.Orders.{CanBe, AreFree, AreOrders, same, swapped, later, joined}
-use Rattle.ga_races.specs.HappensBefore.{Action, action_of, actions, causes_in, action_at, are_bound, IsBound, HappensBefore, directly, through}
+use Rattle.ga_races.specs.HappensBefore.{Action, action_of, actions, causes_in, action_at, are_bound, HappensBefore, directly, through}
 use Rattle.ga_races.proofs.Frees.{free_chip, free-sym, apart-sym}
 use Rattle.ga_races.proofs.Bound.{action_still, unbound_of, unbound_apart}
 

@@ -1,42 +1,29 @@
--- A list that ends without a next event has no race where nothing is near and nothing is contended.
-use Rattle.std.proofs.Common.{◌≡◌, ◌≢◌, ℕ, zero, suc, ◌+◌, ◌<◌, ◌≤◌, ◌==◌, ◌⊎◌, Bool, true, false, ◌||◌, cond, inl, inr, List, [], ◌∷◌, ◌++◌, length, Option, Some, ◌↔◌, refl, sym, ◌∙◌, ap, ap₂, subst, subst₂, arith, length-append, eq-eqb, eqb-true}
+-- What is told of a list: a look and a change that are near, and a pass whose reader another writer waits to write to.
+use Rattle.std.proofs.Common.{◌≡◌, ◌≢◌, ℕ, zero, suc, ◌+◌, ◌<◌, ◌≤◌, ◌⊎◌, true, false, inl, inr, List, [], ◌∷◌, ◌++◌, length, Some, refl, sym, ◌∙◌, ap, ap₂, subst, arith, length-append}
 use Rattle.std.specs.List.{list_any}
-use Rattle.std.proofs.lemmas.Bool.{cases_Bool, cases_eq, cases_lt, cases_order, both_ways, or_cases, or_left, or_right}
-use Rattle.std.proofs.lemmas.List.Sums.{sum_by-cons}
+use Rattle.std.proofs.lemmas.Bool.{cases_Bool, cases_eq, both_ways}
 use Rattle.std.proofs.lemmas.Option.{same_Some}
-use Rattle.ga_ports.specs.declared.side.Side.{Side}
 use Rattle.ga_node.specs.Record.{NodeRecord}
-use Rattle.ga_grid.specs.Chip.{record_at}
-use Rattle.ga_grid.specs.Grid.{neighbour_of}
-use Rattle.ga_grid.specs.declared.node_id.NodeId.{NodeId}
 use Rattle.ga_event.specs.declared.event.Event.{Event}
-use Rattle.ga_event.specs.declared.event.Event.TheVariants.{Own, Pass}
 use Rattle.ga_event.specs.Touches.{nodes_of, touches}
-use Rattle.ga_event.specs.Apply.{writes_to, reads_from, after, replay}
-use Rattle.ga_event.specs.Told.{steps_of}
-use Rattle.ga_causal.specs.Words.{account_read}
-use Rattle.ga_causal.proofs.Words.{same_node}
-use Rattle.ga_races.specs.Orders.{CanBe, IsAtEnd, AreFree, AreOrders, same, IsRace, HasNoRace, AreRivals}
-use Rattle.ga_races.specs.HappensBefore.{Action, action_of, actions, action_at, is_shown, are_bound, IsBound, HappensBefore, directly, through, chip_at, made_at, IsNear, IsContended}
-use Rattle.ga_races.proofs.Frees.{replay_more, first_of, touches_reader, can_still, any_at, any_of, apart_of, apart-sym}
-use Rattle.ga_races.proofs.Orders.{order_replay, order_read, is_some_of, can_behind, steps_read}
-use Rattle.ga_races.proofs.Rivals.{actor, one_event, one_side, one_way, no_writer, wait_at, at_node, at_two, Open, open_of, number_of, common_node}
-use Rattle.ga_races.proofs.Exact.{replay_into, read_into, Entry}
-use Rattle.ga_races.proofs.Exploring.{order-sym}
+use Rattle.ga_event.specs.Apply.{after, replay}
+use Rattle.ga_races.specs.Orders.{CanBe, IsAtEnd, AreFree, AreRivals}
+use Rattle.ga_races.specs.HappensBefore.{Action, action_of, actions, action_at, are_bound, IsBound, HappensBefore, directly, through, chip_at, made_at, IsNear}
+use Rattle.ga_races.proofs.Frees.{replay_more, first_of, can_still, any_of, apart_of, apart-sym}
+use Rattle.ga_races.proofs.Rivals.{actor, one_event, common_node}
 use Rattle.ga_races.proofs.Bound.{Apart, action_still, free_of}
-use Rattle.ga_races.proofs.Moves.{tally, Moves, moves_of, before_within, before_moved, IsTallied, tallied_moved, tallied_one, tally_grows}
-use Rattle.ga_races.proofs.Before.{actions_length, named_of}
-use Rattle.ga_races.proofs.Sweeps.{Split, split_at, action_there, action_before, chip_there, near_races, writer_apart, contended_races}
-use Rattle.ga_races.proofs.Kahn.{head_is, begins}
+use Rattle.ga_races.proofs.Moves.{tally, Moves, before_within, IsTallied, tallied_moved, tallied_one}
+use Rattle.ga_races.proofs.Before.{actions_length}
+use Rattle.ga_races.proofs.Sweeps.{action_there, action_before, chip_there}
 use Rattle.ga_causal.proofs.Shuffles.{touched_of}
 
 -- another writer waits to write to the reader of a pass when it is made
-record IsRivalled (c : List NodeRecord) (es : List Event) (i : ℕ) (other : Event) : Type 0 where
-  stands : i < length es
-  rivals : AreRivals (made_at c es i) other
-  can : CanBe (chip_at c es i) other
+pub record IsRivalled (c : List NodeRecord) (es : List Event) (i : ℕ) (other : Event) : Type 0 where
+  pub stands : i < length es
+  pub rivals : AreRivals (made_at c es i) other
+  pub can : CanBe (chip_at c es i) other
 
-data IsTold (c : List NodeRecord) (es : List Event) : Type 0 where
+pub data IsTold (c : List NodeRecord) (es : List Event) : Type 0 where
   near : {i j : ℕ} → IsNear c es i j → IsTold c es
   rivalled : {i : ℕ} {other : Event} → IsRivalled c es i other → IsTold c es
 
@@ -185,7 +172,7 @@ met (g ∷ es) c last e h can end =
 
 -- ---- where another event can be made in place of the first, something is told
 
-told_head : (c last : List NodeRecord) (f : Event) (es : List Event) (e : Event) → replay c (f ∷ es) ≡ Some last → IsAtEnd last → CanBe c e → f ≢ e → (AreFree c f e → ⊥) → IsTold c (f ∷ es)
+pub told_head : (c last : List NodeRecord) (f : Event) (es : List Event) (e : Event) → replay c (f ∷ es) ≡ Some last → IsAtEnd last → CanBe c e → f ≢ e → (AreFree c f e → ⊥) → IsTold c (f ∷ es)
 told_head c last f es e h end can differ bound =
     let p = first_of c f es last h in
     elim (cases_Bool (list_any (touches f) (nodes_of e))) [
@@ -245,13 +232,13 @@ told_more : (c : List NodeRecord) (e : Event) (es : List Event) → IsTold (afte
 told_more c e es (near {i} {j} n) = near {i = suc i} {j = suc j} (near_more c e es i j n)
 told_more c e es (rivalled {i} {other} r) = rivalled {i = suc i} {other = other} (record { stands = let l : i < length es = r.stands in omega (arith, l); rivals = r.rivals; can = r.can })
 
-told_behind : (fs ys : List Event) (c now : List NodeRecord) → replay c fs ≡ Some now → IsTold now ys → IsTold c (fs ++ ys)
+pub told_behind : (fs ys : List Event) (c now : List NodeRecord) → replay c fs ≡ Some now → IsTold now ys → IsTold c (fs ++ ys)
 told_behind [] ys c now h t = subst (λ (z : List NodeRecord). IsTold z ys) (sym (same_Some c now h)) t
 told_behind (f ∷ fs) ys c now h t = told_more c f (fs ++ ys) (told_behind fs ys (after c f).0 now ((first_of c f fs now h).then) t)
 
 -- ---- and what is told of an order is told of the list
 
-round_trip : (xs ys : List Action) (f b : ℕ → ℕ) → Moves f xs ys → Moves b ys xs → (i : ℕ) → i < length ys → f (b i) ≡ i
+pub round_trip : (xs ys : List Action) (f b : ℕ → ℕ) → Moves f xs ys → Moves b ys xs → (i : ℕ) → i < length ys → f (b i) ≡ i
 round_trip xs ys f b m w i l =
     let t = touched_of (action_at ys i).cause.event in
     let s : IsTallied ys t.node (suc (tally t.node ys i)) i = record { within = l; touched = t.is; before = refl } in
@@ -268,11 +255,11 @@ bound_moved xs ys f i j m d =
       bound = ap₂ are_bound (sym (m.alike i (let g : i < length xs = omega (arith, l, k) in g))) (sym (m.alike j k)) ∙ d.bound;
     }
 
-happens_moved : (xs ys : List Action) (f : ℕ → ℕ) (i j : ℕ) → Moves f xs ys → HappensBefore xs i j → HappensBefore ys (f i) (f j)
+pub happens_moved : (xs ys : List Action) (f : ℕ → ℕ) (i j : ℕ) → Moves f xs ys → HappensBefore xs i j → HappensBefore ys (f i) (f j)
 happens_moved xs ys f i j m (directly d) = directly (bound_moved xs ys f i j m d)
 happens_moved xs ys f i j m (through {middle} h d) = through (happens_moved xs ys f i middle m h) (bound_moved xs ys f middle j m d)
 
-near_moved : (c : List NodeRecord) (xs ys : List Event) (f b : ℕ → ℕ) → Moves f (actions c xs) (actions c ys) → Moves b (actions c ys) (actions c xs) → (i j : ℕ) → IsNear c ys i j → IsNear c xs (b i) (b j)
+pub near_moved : (c : List NodeRecord) (xs ys : List Event) (f b : ℕ → ℕ) → Moves f (actions c xs) (actions c ys) → Moves b (actions c ys) (actions c xs) → (i j : ℕ) → IsNear c ys i j → IsNear c xs (b i) (b j)
 near_moved c xs ys f b m w i j n =
     let k : j < length (actions c ys) = n.bound.within in
     let l : i < j = n.bound.before in
@@ -284,282 +271,3 @@ near_moved c xs ys f b m w i j n =
           (subst (λ (z : ℕ). HappensBefore (actions c ys) z (f middle)) (round_trip (actions c xs) (actions c ys) f b m w i k') (happens_moved (actions c xs) (actions c ys) f (b i) middle m p))
           (subst (HappensBefore (actions c ys) (f middle)) (round_trip (actions c xs) (actions c ys) f b m w j k) (happens_moved (actions c xs) (actions c ys) f middle (b j) m q));
     }
-
--- ---- a node behind as many of its steps holds the same in each order
-
-prefix_same : (us vs ws zs : List Entry) → us ++ vs ≡ ws ++ zs → length us ≡ length ws → us ≡ ws
-prefix_same [] vs [] zs h k = refl
-prefix_same [] vs (x ∷ ws) zs h k = absurd (omega (arith, k))
-prefix_same (x ∷ us) vs [] zs h k = absurd (omega (arith, k))
-prefix_same (x ∷ us) vs (y ∷ ws) zs h k =
-    let p = head_is x y (us ++ vs) (ws ++ zs) h in
-    ap₂ (λ (u : Entry) (z : List Entry). u ∷ z) p.0 (prefix_same us vs ws zs p.1 (omega (arith, k)))
-
-tally_total : (n : ℕ) (fs : List Event) (c : List NodeRecord) → tally n (actions c fs) (length fs) ≡ steps_of n fs
-tally_total n [] c = refl
-tally_total n (f ∷ fs) c = ap (λ (z : ℕ). cond (touches f n) 1 0 + z) (tally_total n fs (after c f).0) ∙ sym (sum_by-cons (λ (x : Event). cond (touches x n) 1 0) f fs)
-
-tally_zero : (n : ℕ) (xs : List Action) → tally n xs 0 ≡ 0
-tally_zero n [] = refl
-tally_zero n (a ∷ xs) = refl
-
-tally_front : (n : ℕ) (fs ys : List Event) (c : List NodeRecord) → tally n (actions c (fs ++ ys)) (length fs) ≡ steps_of n fs
-tally_front n [] ys c = tally_zero n (actions c ys)
-tally_front n (f ∷ fs) ys c = ap (λ (z : ℕ). cond (touches f n) 1 0 + z) (tally_front n fs ys (after c f).0) ∙ sym (sum_by-cons (λ (x : Event). cond (touches x n) 1 0) f fs)
-
-record_split : (c last : List NodeRecord) (xs xs' ys ys' : List Event) (n : ℕ) → replay c (xs ++ xs') ≡ Some last → AreOrders c (xs ++ xs') (ys ++ ys')
-    → tally n (actions c (xs ++ xs')) (length xs) ≡ tally n (actions c (ys ++ ys')) (length ys) → record_at (chip_at c (xs ++ xs') (length xs)) n ≡ record_at (chip_at c (ys ++ ys') (length ys)) n
-record_split c last xs xs' ys ys' n h order same_count =
-    let a = begins xs xs' c last h in
-    let b = begins ys ys' c last (sym (order_replay c (xs ++ xs') (ys ++ ys') order) ∙ h) in
-    let size : length (account_read n c xs) ≡ length (account_read n c ys) =
-            steps_read n c xs ∙ sym (tally_front n xs xs' c) ∙ same_count ∙ tally_front n ys ys' c ∙ sym (steps_read n c ys) in
-    let read : account_read n c xs ≡ account_read n c ys =
-            prefix_same (account_read n c xs) (account_read n a.0 xs') (account_read n c ys) (account_read n b.0 ys')
-            (sym (read_into n xs xs' c a.0 a.1) ∙ order_read n c (xs ++ xs') (ys ++ ys') order ∙ read_into n ys ys' c b.0 b.1) size in
-    ap (λ (z : List NodeRecord). record_at z n) (chip_there xs c a.0 xs' a.1)
-    ∙ same_node c c a.0 b.0 xs ys n a.1 b.1 refl refl read
-    ∙ ap (λ (z : List NodeRecord). record_at z n) (sym (chip_there ys c b.0 ys' b.1))
-
-record_same : (c last : List NodeRecord) (xs ys : List Event) (n i p : ℕ) → replay c xs ≡ Some last → AreOrders c xs ys → i ≤ length xs → p ≤ length ys
-    → tally n (actions c xs) i ≡ tally n (actions c ys) p → record_at (chip_at c xs i) n ≡ record_at (chip_at c ys p) n
-record_same c last xs ys n i p h order l m same_count =
-    let s : Split xs i = split_at xs i l in
-    let t : Split ys p = split_at ys p m in
-    subst₂ (λ (u v : ℕ). tally n (actions c xs) u ≡ tally n (actions c ys) v → record_at (chip_at c xs u) n ≡ record_at (chip_at c ys v) n) s.size t.size
-    (subst₂ (λ (u v : List Event). AreOrders c u v → replay c u ≡ Some last → tally n (actions c u) (length s.mid) ≡ tally n (actions c v) (length t.mid) → record_at (chip_at c u (length s.mid)) n ≡ record_at (chip_at c v (length t.mid)) n)
-    (sym s.is) (sym t.is) (λ o k q. record_split c last s.mid s.post t.mid t.post n k o q) order h) same_count
-
--- ---- the places of a node's steps
-
-tally_up : (n : ℕ) (xs : List Action) (i j : ℕ) → i ≤ j → tally n xs i ≤ tally n xs j
-tally_up n [] i j l = omega arith
-tally_up n (a ∷ xs) zero j l = let z : tally n (a ∷ xs) 0 ≡ 0 = refl in omega arith
-tally_up n (a ∷ xs) (suc i) zero l = absurd (omega (arith, l))
-tally_up n (a ∷ xs) (suc i) (suc j) l = more (cond (touches a.cause.event n) 1 0) (tally n xs i) (tally n xs j) (tally_up n xs i j (omega (arith, l)))
-  where
-    more : (x y z : ℕ) → y ≤ z → x + y ≤ x + z
-    more x y z h = omega (arith, h)
-
--- a place behind just so many steps of the node
-between : (n : ℕ) (xs : List Action) (i a : ℕ) → i ≤ length xs → tally n xs i ≤ a → a ≤ tally n xs (length xs) → (k : ℕ) × (i ≤ k) × (k ≤ length xs) × (tally n xs k ≡ a)
-between n [] i a l low high = (i, omega arith, l, omega (arith, low, high))
-between n (x ∷ xs) zero a l low high = go a (touches x.cause.event n) refl low high (between n xs 0)
-  where
-    go : (a : ℕ) (b : Bool) → touches x.cause.event n ≡ b → 0 ≤ a → a ≤ cond b 1 0 + tally n xs (length xs)
-        → ((a : ℕ) → 0 ≤ length xs → tally n xs 0 ≤ a → a ≤ tally n xs (length xs) → (k : ℕ) × (0 ≤ k) × (k ≤ length xs) × (tally n xs k ≡ a))
-        → (k : ℕ) × (0 ≤ k) × (k ≤ length (x ∷ xs)) × (tally n (x ∷ xs) k ≡ a)
-    go zero b is p q again = (0, omega arith, omega arith, refl)
-    go (suc a) true is p q again =
-        let r = again a (omega arith) (let z : tally n xs 0 ≡ 0 = tally_zero n xs in omega (arith, z)) (omega (arith, q)) in
-        let m : r.0 ≤ length xs = r.2 in
-        (suc r.0, omega arith, omega (arith, m), ap (λ (b : Bool). cond b 1 0 + tally n xs r.0) is ∙ (let e : tally n xs r.0 ≡ a = r.3 in let g : 1 + tally n xs r.0 ≡ suc a = omega (arith, e) in g))
-    go (suc a) false is p q again =
-        let r = again (suc a) (omega arith) (let z : tally n xs 0 ≡ 0 = tally_zero n xs in omega (arith, z)) (omega (arith, q)) in
-        let m : r.0 ≤ length xs = r.2 in
-        (suc r.0, omega arith, omega (arith, m), ap (λ (b : Bool). cond b 1 0 + tally n xs r.0) is ∙ (let e : tally n xs r.0 ≡ suc a = r.3 in let g : 0 + tally n xs r.0 ≡ suc a = omega (arith, e) in g))
-between n (x ∷ xs) (suc i) a l low high = go a (touches x.cause.event n) refl low high (between n xs i)
-  where
-    go : (a : ℕ) (b : Bool) → touches x.cause.event n ≡ b → cond b 1 0 + tally n xs i ≤ a → a ≤ cond b 1 0 + tally n xs (length xs)
-        → ((a : ℕ) → i ≤ length xs → tally n xs i ≤ a → a ≤ tally n xs (length xs) → (k : ℕ) × (i ≤ k) × (k ≤ length xs) × (tally n xs k ≡ a))
-        → (k : ℕ) × (suc i ≤ k) × (k ≤ length (x ∷ xs)) × (tally n (x ∷ xs) k ≡ a)
-    go zero true is p q again = absurd (omega (arith, p))
-    go (suc a) true is p q again =
-        let r = again a (omega (arith, l)) (omega (arith, p)) (omega (arith, q)) in
-        let m : r.0 ≤ length xs = r.2 in
-        let j : i ≤ r.0 = r.1 in
-        (suc r.0, omega (arith, j), omega (arith, m), ap (λ (b : Bool). cond b 1 0 + tally n xs r.0) is ∙ (let e : tally n xs r.0 ≡ a = r.3 in let g : 1 + tally n xs r.0 ≡ suc a = omega (arith, e) in g))
-    go a false is p q again =
-        let r = again a (omega (arith, l)) (omega (arith, p)) (omega (arith, q)) in
-        let m : r.0 ≤ length xs = r.2 in
-        let j : i ≤ r.0 = r.1 in
-        (suc r.0, omega (arith, j), omega (arith, m), ap (λ (b : Bool). cond b 1 0 + tally n xs r.0) is ∙ (let e : tally n xs r.0 ≡ a = r.3 in let g : 0 + tally n xs r.0 ≡ a = omega (arith, e) in g))
-
--- the step of the node behind just so many
-record IsBelow (n : ℕ) (xs : List Action) (i a : ℕ) : Type 0 where
-  at : ℕ
-  before : at < i
-  within : at < length xs
-  touched : touches (action_at xs at).cause.event n ≡ true
-  is : tally n xs at ≡ a
-
-below : (n : ℕ) (xs : List Action) (i a : ℕ) → a < tally n xs i → IsBelow n xs i a
-below n [] i a l = absurd (omega (arith, l))
-below n (x ∷ xs) zero a l = absurd (omega (arith, l))
-below n (x ∷ xs) (suc i) a l = go a (touches x.cause.event n) refl l (below n xs i)
-  where
-    later_by : (a b : ℕ) → cond (touches x.cause.event n) 1 0 + b ≡ a → IsBelow n xs i b → IsBelow n (x ∷ xs) (suc i) a
-    later_by a b e r =
-        let k : r.at < i = r.before in
-        let m : r.at < length xs = r.within in
-        record { at = suc r.at; before = omega (arith, k); within = omega (arith, m); touched = r.touched; is = ap (λ (z : ℕ). cond (touches x.cause.event n) 1 0 + z) r.is ∙ e }
-
-    go : (a : ℕ) (b : Bool) → touches x.cause.event n ≡ b → a < cond b 1 0 + tally n xs i → ((a : ℕ) → a < tally n xs i → IsBelow n xs i a) → IsBelow n (x ∷ xs) (suc i) a
-    go zero true is k again = record { at = 0; before = omega arith; within = omega arith; touched = is; is = refl }
-    go (suc a) true is k again = later_by (suc a) a (ap (λ (b : Bool). cond b 1 0 + a) is ∙ (let g : 1 + a ≡ suc a = omega arith in g)) (again a (omega (arith, k)))
-    go a false is k again = later_by a a (ap (λ (b : Bool). cond b 1 0 + a) is ∙ (let g : 0 + a ≡ a = omega arith in g)) (again a (omega (arith, k)))
-
--- ---- a pass that another writer could have taken the place of
-
-can_at : (es : List Event) (c last : List NodeRecord) (q : ℕ) → replay c es ≡ Some last → q < length es → CanBe (chip_at c es q) (made_at c es q)
-can_at [] c last q h l = absurd (omega (arith, l))
-can_at (e ∷ es) c last zero h l = (first_of c e es last h).can
-can_at (e ∷ es) c last (suc q) h l = can_at es (after c e).0 last q ((first_of c e es last h).then) (omega (arith, l))
-
--- the next event of a node that waits to write is a pass to the reader
-only_pass : (d : List NodeRecord) (g : Event) (x r : NodeId) (side : Side) → CanBe d g → touches g x.number ≡ true → writes_to (record_at d x.number).wait side ≡ true → neighbour_of x.number side ≡ Some r.number → touches g r.number ≡ true
-only_pass d (Own a) x r side can t writes beside = absurd (no_writer (record_at d x.number).wait side (wait_at d a can x.number (at_node a.number x.number t)) writes)
-only_pass d (Pass w y s) x r side can t writes beside = go (at_two w.number y.number x.number t) (open_of d w y s can)
-  where
-    go : (w.number ≡ x.number) ⊎ (y.number ≡ x.number) → Open d w y s → touches (Pass w y s) r.number ≡ true
-    go (inl e) o =
-        let same_side : s ≡ side = one_side (record_at d x.number).wait s side (subst (λ (z : ℕ). writes_to (record_at d z).wait s ≡ true) e o.writes) writes in
-        let there : neighbour_of x.number side ≡ Some y.number = ap (λ (z : Side). neighbour_of x.number z) (sym same_side) ∙ ap (λ (z : ℕ). neighbour_of z s) (sym e) ∙ number_of (neighbour_of w.number s) y.number o.near in
-        subst (λ (z : ℕ). touches (Pass w y s) z ≡ true) (same_Some y.number r.number (sym there ∙ beside)) (touches_reader w y s)
-    go (inr e) o = absurd (one_way (record_at d x.number).wait side s writes (subst (λ (z : ℕ). reads_from (record_at d z).wait s ≡ true) e o.reads))
-
-module _ (c last : List NodeRecord) (xs ys : List Event) (h : replay c xs ≡ Some last) (order : AreOrders c xs ys) (f b : ℕ → ℕ) (m : Moves f (actions c xs) (actions c ys)) (w : Moves b (actions c ys) (actions c xs)) (p : ℕ) (other : Event) (r : IsRivalled c ys p other) where
-  abbrev x : ℕ
-  x = r.rivals.second.number
-
-  abbrev rd : ℕ
-  rd = r.rivals.reader.number
-
-  abbrev a : ℕ
-  a = tally x (actions c ys) p
-
-  led : replay c ys ≡ Some last
-  led = sym (order_replay c xs ys order) ∙ h
-
-  size : length (actions c ys) ≡ length ys
-  size = actions_length c ys
-
-  size_of : length (actions c xs) ≡ length xs
-  size_of = actions_length c xs
-
-  stands : p < length (actions c ys)
-  stands = let l : p < length ys = r.stands in omega (arith, l, size)
-
-  ends : Open (chip_at c ys p) r.rivals.second r.rivals.reader r.rivals.other
-  ends = open_of (chip_at c ys p) r.rivals.second r.rivals.reader r.rivals.other (subst (CanBe (chip_at c ys p)) r.rivals.two r.can)
-
-  beside : neighbour_of x r.rivals.other ≡ Some rd
-  beside = number_of (neighbour_of x r.rivals.other) rd ends.near
-
-  read : touches (made_at c ys p) rd ≡ true
-  read = ap (λ (z : Event). touches z rd) r.rivals.one ∙ touches_reader r.rivals.first r.rivals.reader r.rivals.side
-
-  unwritten : touches (made_at c ys p) x ≡ false
-  unwritten = ap (λ (z : Event). touches z x) r.rivals.one ∙ writer_apart r.rivals.first r.rivals.reader r.rivals.second r.rivals.side r.rivals.other r.rivals.writers beside
-
-  -- a later step of the writer takes place behind the pass
-  next_later : (q : ℕ) → q < length (actions c xs) → touches (action_at (actions c xs) q).cause.event x ≡ true → tally x (actions c xs) q ≡ a → b p < q
-  next_later q l t is = elim (cases_order (f q) p) [
-    | inl e ↦ absurd (both_ways (touches (made_at c ys p) x) unwritten (subst (λ (z : ℕ). touches (made_at c ys z) x ≡ true) e at_there))
-    | inr (inl k) ↦ (let g : tally x (actions c ys) (f q) < a = tally_grows x (actions c ys) (f q) p k (m.within q l) at_there in absurd (omega (arith, g, count)))
-    | inr (inr k) ↦ subst (λ (z : ℕ). b p < z) (round_trip (actions c ys) (actions c xs) b f w m q l) (w.order p (f q) k (m.within q l) (bound_at k))
-  ]
-    where
-      at_there : touches (action_at (actions c ys) (f q)).cause.event x ≡ true
-      at_there = ap (λ (z : Action). touches z.cause.event x) (sym (m.alike q l)) ∙ t
-
-      count : tally x (actions c ys) (f q) ≡ a
-      count = sym (m.steps x q l t) ∙ is
-
-      bound_at : p < f q → are_bound (action_at (actions c ys) p) (action_at (actions c ys) (f q)) ≡ true
-      bound_at k =
-          let in_list : f q < length (actions c ys) = m.within q l in
-          let there : f q < length ys = omega (arith, in_list, size) in
-          let held : record_at (chip_at c ys (f q)) x ≡ record_at (chip_at c ys p) x =
-                  record_same c last ys ys x (f q) p led same (omega (arith, there)) (let s : p < length ys = r.stands in omega (arith, s)) count in
-          let takes : touches (made_at c ys (f q)) rd ≡ true =
-                  only_pass (chip_at c ys (f q)) (made_at c ys (f q)) r.rivals.second r.rivals.reader r.rivals.other (can_at ys c last (f q) led there) at_there
-                  (ap (λ (z : NodeRecord). writes_to z.wait r.rivals.other) held ∙ ends.writes) beside in
-          or_left (list_any (touches (made_at c ys p)) (nodes_of (made_at c ys (f q)))) (is_shown (action_at (actions c ys) p) (action_at (actions c ys) (f q)) || is_shown (action_at (actions c ys) (f q)) (action_at (actions c ys) p))
-          (any_at (touches (made_at c ys p)) (nodes_of (made_at c ys (f q))) rd takes read)
-
-  low : tally x (actions c xs) (b p) ≤ a
-  low = elim (cases_lt a (tally x (actions c xs) (b p))) [
-    | inl l ↦ (let k = below x (actions c xs) (b p) a l in
-        let u : k.at < b p = k.before in
-        let v : b p < k.at = next_later k.at k.within k.touched k.is in
-        absurd (omega (arith, u, v)))
-    | inr l ↦ l
-  ]
-
-  total : tally x (actions c ys) (length (actions c ys)) ≡ tally x (actions c xs) (length (actions c xs))
-  total =
-      ap (tally x (actions c ys)) size ∙ tally_total x ys c ∙ sym (steps_read x c ys) ∙ ap (λ (z : List Entry). length z) (sym (order_read x c xs ys order)) ∙ steps_read x c xs
-      ∙ sym (tally_total x xs c) ∙ sym (ap (tally x (actions c xs)) size_of)
-
-  place : (k : ℕ) × (b p ≤ k) × (k ≤ length (actions c xs)) × (tally x (actions c xs) k ≡ a)
-  place =
-      let up : a ≤ tally x (actions c ys) (length (actions c ys)) = tally_up x (actions c ys) p (length (actions c ys)) (omega (arith, stands)) in
-      let inside : b p < length (actions c xs) = w.within p stands in
-      between x (actions c xs) (b p) a (omega (arith, inside)) low (omega (arith, up, total))
-
-  contended_of : IsContended c xs (b p) other
-  contended_of =
-      let made : made_at c xs (b p) ≡ made_at c ys p = ap (λ (z : Action). z.cause.event) (sym (w.alike p stands)) in
-      let inside : b p < length (actions c xs) = w.within p stands in
-      let most : place.0 ≤ length (actions c xs) = place.2 in
-      let here : p < length ys = r.stands in
-      record {
-        rivals = record {
-          first = r.rivals.first;
-          second = r.rivals.second;
-          reader = r.rivals.reader;
-          side = r.rivals.side;
-          other = r.rivals.other;
-          one = made ∙ r.rivals.one;
-          two = r.rivals.two;
-          writers = r.rivals.writers;
-          sides = r.rivals.sides;
-        };
-        stands = omega (arith, inside, size_of);
-        posted = place.0;
-        before = place.1;
-        within = omega (arith, most, size_of);
-        near = beside;
-        reads = ap (λ (z : NodeRecord). reads_from z.wait r.rivals.other)
-            (record_same c last xs ys rd (b p) p h order (omega (arith, inside, size_of)) (omega (arith, here)) (sym (w.steps rd p stands read))) ∙ ends.reads;
-        writes = ap (λ (z : NodeRecord). writes_to z.wait r.rivals.other)
-            (record_same c last xs ys x place.0 p h order (omega (arith, most, size_of)) (omega (arith, here)) place.3) ∙ ends.writes;
-        none = λ step l t happens.
-            let in_list : step < length (actions c xs) = omega (arith, l, most) in
-            let fewer : tally x (actions c xs) step < tally x (actions c xs) place.0 = tally_grows x (actions c xs) step place.0 l in_list t in
-            let moved : HappensBefore (actions c ys) p (f step) =
-                    subst (λ (z : ℕ). HappensBefore (actions c ys) z (f step)) (round_trip (actions c xs) (actions c ys) f b m w p stands) (happens_moved (actions c xs) (actions c ys) f (b p) step m happens) in
-            let k : p < f step = (before_within (actions c ys) p (f step) moved).0 in
-            let more : a ≤ tally x (actions c ys) (f step) = tally_up x (actions c ys) p (f step) (omega (arith, k)) in
-            let count : tally x (actions c xs) step ≡ tally x (actions c ys) (f step) = m.steps x step in_list t in
-            let is : tally x (actions c xs) place.0 ≡ a = place.3 in
-            omega (arith, fewer, more, count, is);
-      }
-
--- ---- as the law says it
-
-pub none_told : (c last : List NodeRecord) (es : List Event) → replay c es ≡ Some last → IsAtEnd last → ((i j : ℕ) → IsNear c es i j → ⊥) → ((i : ℕ) (other : Event) → IsContended c es i other → ⊥) → HasNoRace c es
-none_told c last es h end out calm step other r = go (told_behind r.before (step ∷ r.later) c r.now r.led (told_head r.now last step r.later other there end r.can r.differ r.bound))
-  where
-    ys : List Event
-    ys = r.before ++ step ∷ r.later
-
-    there : replay r.now (step ∷ r.later) ≡ Some last
-    there = sym (replay_into r.before (step ∷ r.later) c r.now r.led) ∙ sym (order_replay c es (r.before ++ step ∷ r.later) r.order) ∙ h
-
-    go : IsTold c (r.before ++ step ∷ r.later) → ⊥
-    go (near {i} {j} n) =
-        let f = moves_of c es (r.before ++ step ∷ r.later) r.order in
-        let b = moves_of c (r.before ++ step ∷ r.later) es (order-sym c es (r.before ++ step ∷ r.later) r.order) in
-        out (b.0 i) (b.0 j) (near_moved c es (r.before ++ step ∷ r.later) f.0 b.0 f.1 b.1 i j n)
-    go (rivalled {i} {other = rival} n) =
-        let f = moves_of c es (r.before ++ step ∷ r.later) r.order in
-        let b = moves_of c (r.before ++ step ∷ r.later) es (order-sym c es (r.before ++ step ∷ r.later) r.order) in
-        calm (b.0 i) rival (contended_of c last es (r.before ++ step ∷ r.later) h r.order f.0 b.0 f.1 b.1 i rival n)
-
-pub decided_by : (c last : List NodeRecord) (es : List Event) → replay c es ≡ Some last → IsAtEnd last
-    → HasNoRace c es ↔ (((i j : ℕ) → IsNear c es i j → ⊥) × ((i : ℕ) (other : Event) → IsContended c es i other → ⊥))
-decided_by c last es h end =
-    (λ calm. (λ i j n. calm (made_at c es i) (made_at c es j) (near_races es c last i j h n), λ i other n. calm (made_at c es i) other (contended_races c last es i other h n)),
-    λ told. none_told c last es h end told.0 told.1)

@@ -1,5 +1,5 @@
 -- A list whose first event comes as late as it can: what follows of the first events happens after it.
-use Rattle.std.proofs.Common.{◌≡◌, ◌≢◌, ℕ, zero, suc, ◌+◌, ◌<◌, ◌≤◌, ◌==◌, Bool, true, false, ◌&&◌, ◌||◌, cond, inl, inr, List, [], ◌∷◌, ◌++◌, length, Option, Some, IsSome, refl, sym, ◌∙◌, ap, ap₂, subst, subst₂, arith, append_assoc, length-append, eq-eqb, ne_eqb}
+use Rattle.std.proofs.Common.{◌≡◌, ◌≢◌, ℕ, zero, suc, ◌+◌, ◌<◌, ◌≤◌, ◌==◌, Bool, true, false, ◌&&◌, ◌||◌, cond, List, [], ◌∷◌, ◌++◌, length, Some, refl, sym, ◌∙◌, ap, ap₂, subst, subst₂, arith, append_assoc, length-append, eq-eqb, ne_eqb}
 use Rattle.std.specs.List.{list_any}
 use Rattle.std.proofs.lemmas.Bool.{both_ways, and_from, or_parts, or_from, false_from_ne_true}
 use Rattle.std.proofs.lemmas.Option.{same_Some}
@@ -14,15 +14,15 @@ use Rattle.ga_event.specs.declared.event.Event.TheVariants.{Pass}
 use Rattle.ga_event.specs.Touches.{touches}
 use Rattle.ga_event.specs.Apply.{writes_to, reads_from, is_number, unmatched, after, replay}
 use Rattle.ga_causal.proofs.Shuffles.{touched_of}
-use Rattle.ga_races.specs.Orders.{CanBe, AreFree, AreOrders, same, swapped, later, joined, IsRace, AreRivals}
+use Rattle.ga_races.specs.Orders.{CanBe, AreOrders, same, later, joined, IsRace, AreRivals}
 use Rattle.ga_races.specs.HappensBefore.{Action, action_of, actions, action_at, are_bound, IsBound, HappensBefore, directly, through, chip_at, made_at, IsNear, IsContended}
-use Rattle.ga_races.proofs.Frees.{replay_more, first_of, can_back, stays, apart-sym, touches_writer, touches_reader}
+use Rattle.ga_races.proofs.Frees.{replay_more, first_of, can_back, stays, apart-sym, touches_reader}
 use Rattle.ga_races.proofs.Orders.{is_some_of, can_behind}
 use Rattle.ga_races.proofs.Exact.{replay_into}
 use Rattle.ga_races.proofs.Kahn.{begins}
 use Rattle.ga_races.proofs.Rivals.{actor}
 use Rattle.ga_races.proofs.Bound.{Apart, unbound_apart, free_exact}
-use Rattle.ga_races.proofs.Before.{meets_some, reached, reached_from, before_of, actions_into, actions_length, IsOver, over}
+use Rattle.ga_races.proofs.Before.{meets_some, reached, before_of, actions_into, actions_length, IsOver, over}
 
 -- ---- lists of actions
 
@@ -196,7 +196,7 @@ near_split : (mid : List Event) (c d last : List NodeRecord) (e y : Event) (post
     → IsRace c (e ∷ (mid ++ y ∷ post)) e y
 near_split mid c d last e y post can h cany apart bound kind =
     let s : IsSwept c d e (e ∷ ([] ++ (mid ++ y ∷ post))) (y ∷ post) (λ a. are_bound a (action_of d y)) =
-            swept mid c (after c e).0 d e [] (y ∷ post) (λ a. are_bound a (action_of d y)) can refl h refl kind in
+    swept mid c (after c e).0 d e [] (y ∷ post) (λ a. are_bound a (action_of d y)) can refl h refl kind in
     let o : IsOver (after s.now e).0 d s.behind y post = over s.behind (after s.now e).0 d y post s.then cany s.none in
     let now_can : CanBe s.now y = can_back s.now y e (apart-sym e y apart) s.can o.can in
     record {
@@ -239,8 +239,8 @@ near_at_first c last e es j h n =
         absurd (omega (arith, l, size, k, m))
     go mid (y ∷ post) is size l =
         let found : IsRace c (e ∷ (mid ++ y ∷ post)) e y =
-                near_first c last e mid y post (subst (λ (z : List Event). replay c (e ∷ z) ≡ Some last) is h)
-                (subst₂ (λ (z : List Event) (k : ℕ). IsNear c (e ∷ z) 0 (suc k)) is (sym size) n) in
+        near_first c last e mid y post (subst (λ (z : List Event). replay c (e ∷ z) ≡ Some last) is h)
+        (subst₂ (λ (z : List Event) (k : ℕ). IsNear c (e ∷ z) 0 (suc k)) is (sym size) n) in
         let b = begins mid (y ∷ post) (after c e).0 last ((first_of c e (mid ++ y ∷ post) last (subst (λ (z : List Event). replay c (e ∷ z) ≡ Some last) is h)).then) in
         let there : made_at c (e ∷ (mid ++ y ∷ post)) (suc (length mid)) ≡ y = ap (λ (a : Action). a.cause.event) (action_there mid (after c e).0 b.0 y post b.1) in
         subst₂ (λ (z : List Event) (k : ℕ). IsRace c (e ∷ z) e (made_at c (e ∷ z) (suc k))) (sym is) size
@@ -293,13 +293,13 @@ contended_split mid c d last e other post rivals can h near reads writes kind =
     let x : ℕ = rivals.second.number in
     let r : ℕ = rivals.reader.number in
     let s : IsSwept c d e (e ∷ ([] ++ (mid ++ post))) post (λ a. touches a.cause.event x) =
-            swept mid c (after c e).0 d e [] post (λ a. touches a.cause.event x) can refl h refl kind in
+    swept mid c (after c e).0 d e [] post (λ a. touches a.cause.event x) can refl h refl kind in
     let out : touches e x ≡ false = ap (λ (z : Event). touches z x) rivals.one ∙ writer_apart rivals.first rivals.reader rivals.second rivals.side rivals.other rivals.writers near in
     let read : touches e r ≡ true = ap (λ (z : Event). touches z r) rivals.one ∙ touches_reader rivals.first rivals.reader rivals.side in
     let at_writer : record_at s.now x ≡ record_at d x = (stays s.now e s.can).same x out ∙ untouched_run s.behind (after s.now e).0 d x s.then s.none in
     let can_other : CanBe s.now other =
-            subst (CanBe s.now) (sym rivals.two) (can_pass s.now rivals.second rivals.reader rivals.other near
-            (ap (λ (z : NodeRecord). writes_to z.wait rivals.other) at_writer ∙ writes) (ap (λ (z : NodeRecord). reads_from z.wait rivals.other) (s.kept r read) ∙ reads)) in
+    subst (CanBe s.now) (sym rivals.two) (can_pass s.now rivals.second rivals.reader rivals.other near
+    (ap (λ (z : NodeRecord). writes_to z.wait rivals.other) at_writer ∙ writes) (ap (λ (z : NodeRecord). reads_from z.wait rivals.other) (s.kept r read) ∙ reads)) in
     record {
       before = s.before;
       later = s.behind ++ post;

@@ -15,7 +15,7 @@ use Rattle.ga_event.specs.Touches.{touches}
 use Rattle.ga_event.specs.Apply.{writes_to, reads_from, seen_from, after, cause_of}
 use Rattle.ga_causal.specs.Dependence.{cause_nodes, cause_touches, no_cause}
 use Rattle.ga_causal.specs.Steps.{IsStep}
-use Rattle.ga_races.specs.Orders.{AreOrders, AreRivals}
+use Rattle.ga_races.specs.Orders.{AreRivals}
 
 -- an event as it was made (a letter of a trace): with whether it looked, and the nodes to which it changed what their neighbours show
 pub record Action : Type 0 where

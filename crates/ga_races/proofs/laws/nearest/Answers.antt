@@ -1,5 +1,5 @@
 use Rattle.ga_races.proofs.Sweeps.{near_races, contended_races}
-use Rattle.ga_races.proofs.Nearest.{decided_by}
+use Rattle.ga_races.proofs.Contended.{decided_by}
 use Rattle.ga_races.proofs.laws.nearest.Goals as goal
 
 pub returns-clause-looks : goal.returns-clause-looks

@@ -1,0 +1,192 @@
+-- A list that ends without a next event has no race where nothing is near and nothing is contended.
+use Rattle.std.proofs.Common.{◌≡◌, ℕ, zero, suc, ◌<◌, ◌≤◌, ◌⊎◌, true, false, ◌||◌, inl, inr, List, [], ◌∷◌, ◌++◌, length, Some, ◌↔◌, sym, ◌∙◌, ap, subst, arith}
+use Rattle.std.specs.List.{list_any}
+use Rattle.std.proofs.lemmas.Bool.{cases_lt, cases_order, both_ways, or_left}
+use Rattle.std.proofs.lemmas.Option.{same_Some}
+use Rattle.ga_ports.specs.declared.side.Side.{Side}
+use Rattle.ga_node.specs.Record.{NodeRecord}
+use Rattle.ga_grid.specs.Chip.{record_at}
+use Rattle.ga_grid.specs.Grid.{neighbour_of}
+use Rattle.ga_grid.specs.declared.node_id.NodeId.{NodeId}
+use Rattle.ga_event.specs.declared.event.Event.{Event}
+use Rattle.ga_event.specs.declared.event.Event.TheVariants.{Own, Pass}
+use Rattle.ga_event.specs.Touches.{nodes_of, touches}
+use Rattle.ga_event.specs.Apply.{writes_to, reads_from, after, replay}
+use Rattle.ga_races.specs.Orders.{CanBe, IsAtEnd, AreOrders, same, HasNoRace}
+use Rattle.ga_races.specs.HappensBefore.{Action, actions, action_at, is_shown, are_bound, HappensBefore, chip_at, made_at, IsNear, IsContended}
+use Rattle.ga_races.proofs.Frees.{first_of, touches_reader, any_at}
+use Rattle.ga_races.proofs.Orders.{order_replay, order_read, steps_read}
+use Rattle.ga_races.proofs.Rivals.{one_side, one_way, no_writer, wait_at, at_node, at_two, Open, open_of, number_of}
+use Rattle.ga_races.proofs.Exact.{replay_into, Entry}
+use Rattle.ga_races.proofs.Exploring.{order-sym}
+use Rattle.ga_races.proofs.Moves.{tally, Moves, moves_of, before_within, tally_grows}
+use Rattle.ga_races.proofs.Before.{actions_length}
+use Rattle.ga_races.proofs.Sweeps.{near_races, writer_apart, contended_races}
+use Rattle.ga_races.proofs.Nearest.{IsRivalled, IsTold, near, rivalled, told_head, told_behind, round_trip, happens_moved, near_moved}
+use Rattle.ga_races.proofs.Tallies.{tally_total, record_same, tally_up, between, below}
+
+-- ---- a pass that another writer could have taken the place of
+
+can_at : (es : List Event) (c last : List NodeRecord) (q : ℕ) → replay c es ≡ Some last → q < length es → CanBe (chip_at c es q) (made_at c es q)
+can_at [] c last q h l = absurd (omega (arith, l))
+can_at (e ∷ es) c last zero h l = (first_of c e es last h).can
+can_at (e ∷ es) c last (suc q) h l = can_at es (after c e).0 last q ((first_of c e es last h).then) (omega (arith, l))
+
+-- the next event of a node that waits to write is a pass to the reader
+only_pass : (d : List NodeRecord) (g : Event) (x r : NodeId) (side : Side) → CanBe d g → touches g x.number ≡ true → writes_to (record_at d x.number).wait side ≡ true → neighbour_of x.number side ≡ Some r.number → touches g r.number ≡ true
+only_pass d (Own a) x r side can t writes beside = absurd (no_writer (record_at d x.number).wait side (wait_at d a can x.number (at_node a.number x.number t)) writes)
+only_pass d (Pass w y s) x r side can t writes beside = go (at_two w.number y.number x.number t) (open_of d w y s can)
+  where
+    go : (w.number ≡ x.number) ⊎ (y.number ≡ x.number) → Open d w y s → touches (Pass w y s) r.number ≡ true
+    go (inl e) o =
+        let same_side : s ≡ side = one_side (record_at d x.number).wait s side (subst (λ (z : ℕ). writes_to (record_at d z).wait s ≡ true) e o.writes) writes in
+        let there : neighbour_of x.number side ≡ Some y.number = ap (λ (z : Side). neighbour_of x.number z) (sym same_side) ∙ ap (λ (z : ℕ). neighbour_of z s) (sym e) ∙ number_of (neighbour_of w.number s) y.number o.near in
+        subst (λ (z : ℕ). touches (Pass w y s) z ≡ true) (same_Some y.number r.number (sym there ∙ beside)) (touches_reader w y s)
+    go (inr e) o = absurd (one_way (record_at d x.number).wait side s writes (subst (λ (z : ℕ). reads_from (record_at d z).wait s ≡ true) e o.reads))
+
+module _ (c last : List NodeRecord) (xs ys : List Event) (h : replay c xs ≡ Some last) (order : AreOrders c xs ys) (f b : ℕ → ℕ) (m : Moves f (actions c xs) (actions c ys)) (w : Moves b (actions c ys) (actions c xs)) (p : ℕ) (other : Event) (r : IsRivalled c ys p other) where
+  abbrev x : ℕ
+  x = r.rivals.second.number
+
+  abbrev rd : ℕ
+  rd = r.rivals.reader.number
+
+  abbrev a : ℕ
+  a = tally x (actions c ys) p
+
+  led : replay c ys ≡ Some last
+  led = sym (order_replay c xs ys order) ∙ h
+
+  size : length (actions c ys) ≡ length ys
+  size = actions_length c ys
+
+  size_of : length (actions c xs) ≡ length xs
+  size_of = actions_length c xs
+
+  stands : p < length (actions c ys)
+  stands = let l : p < length ys = r.stands in omega (arith, l, size)
+
+  ends : Open (chip_at c ys p) r.rivals.second r.rivals.reader r.rivals.other
+  ends = open_of (chip_at c ys p) r.rivals.second r.rivals.reader r.rivals.other (subst (CanBe (chip_at c ys p)) r.rivals.two r.can)
+
+  beside : neighbour_of x r.rivals.other ≡ Some rd
+  beside = number_of (neighbour_of x r.rivals.other) rd ends.near
+
+  read : touches (made_at c ys p) rd ≡ true
+  read = ap (λ (z : Event). touches z rd) r.rivals.one ∙ touches_reader r.rivals.first r.rivals.reader r.rivals.side
+
+  unwritten : touches (made_at c ys p) x ≡ false
+  unwritten = ap (λ (z : Event). touches z x) r.rivals.one ∙ writer_apart r.rivals.first r.rivals.reader r.rivals.second r.rivals.side r.rivals.other r.rivals.writers beside
+
+  -- a later step of the writer takes place behind the pass
+  next_later : (q : ℕ) → q < length (actions c xs) → touches (action_at (actions c xs) q).cause.event x ≡ true → tally x (actions c xs) q ≡ a → b p < q
+  next_later q l t is = elim (cases_order (f q) p) [
+    | inl e ↦ absurd (both_ways (touches (made_at c ys p) x) unwritten (subst (λ (z : ℕ). touches (made_at c ys z) x ≡ true) e at_there))
+    | inr (inl k) ↦ (let g : tally x (actions c ys) (f q) < a = tally_grows x (actions c ys) (f q) p k (m.within q l) at_there in absurd (omega (arith, g, count)))
+    | inr (inr k) ↦ subst (λ (z : ℕ). b p < z) (round_trip (actions c ys) (actions c xs) b f w m q l) (w.order p (f q) k (m.within q l) (bound_at k))
+  ]
+    where
+      at_there : touches (action_at (actions c ys) (f q)).cause.event x ≡ true
+      at_there = ap (λ (z : Action). touches z.cause.event x) (sym (m.alike q l)) ∙ t
+
+      count : tally x (actions c ys) (f q) ≡ a
+      count = sym (m.steps x q l t) ∙ is
+
+      bound_at : p < f q → are_bound (action_at (actions c ys) p) (action_at (actions c ys) (f q)) ≡ true
+      bound_at k =
+          let in_list : f q < length (actions c ys) = m.within q l in
+          let there : f q < length ys = omega (arith, in_list, size) in
+          let held : record_at (chip_at c ys (f q)) x ≡ record_at (chip_at c ys p) x =
+          record_same c last ys ys x (f q) p led same (omega (arith, there)) (let s : p < length ys = r.stands in omega (arith, s)) count in
+          let takes : touches (made_at c ys (f q)) rd ≡ true =
+          only_pass (chip_at c ys (f q)) (made_at c ys (f q)) r.rivals.second r.rivals.reader r.rivals.other (can_at ys c last (f q) led there) at_there
+          (ap (λ (z : NodeRecord). writes_to z.wait r.rivals.other) held ∙ ends.writes) beside in
+          or_left (list_any (touches (made_at c ys p)) (nodes_of (made_at c ys (f q)))) (is_shown (action_at (actions c ys) p) (action_at (actions c ys) (f q)) || is_shown (action_at (actions c ys) (f q)) (action_at (actions c ys) p))
+          (any_at (touches (made_at c ys p)) (nodes_of (made_at c ys (f q))) rd takes read)
+
+  low : tally x (actions c xs) (b p) ≤ a
+  low = elim (cases_lt a (tally x (actions c xs) (b p))) [
+    | inl l ↦ (let k = below x (actions c xs) (b p) a l in
+        let u : k.at < b p = k.before in
+        let v : b p < k.at = next_later k.at k.within k.touched k.is in
+        absurd (omega (arith, u, v)))
+    | inr l ↦ l
+  ]
+
+  total : tally x (actions c ys) (length (actions c ys)) ≡ tally x (actions c xs) (length (actions c xs))
+  total =
+      ap (tally x (actions c ys)) size ∙ tally_total x ys c ∙ sym (steps_read x c ys) ∙ ap (λ (z : List Entry). length z) (sym (order_read x c xs ys order)) ∙ steps_read x c xs
+      ∙ sym (tally_total x xs c) ∙ sym (ap (tally x (actions c xs)) size_of)
+
+  place : (k : ℕ) × (b p ≤ k) × (k ≤ length (actions c xs)) × (tally x (actions c xs) k ≡ a)
+  place =
+      let up : a ≤ tally x (actions c ys) (length (actions c ys)) = tally_up x (actions c ys) p (length (actions c ys)) (omega (arith, stands)) in
+      let inside : b p < length (actions c xs) = w.within p stands in
+      between x (actions c xs) (b p) a (omega (arith, inside)) low (omega (arith, up, total))
+
+  contended_of : IsContended c xs (b p) other
+  contended_of =
+      let made : made_at c xs (b p) ≡ made_at c ys p = ap (λ (z : Action). z.cause.event) (sym (w.alike p stands)) in
+      let inside : b p < length (actions c xs) = w.within p stands in
+      let most : place.0 ≤ length (actions c xs) = place.2 in
+      let here : p < length ys = r.stands in
+      record {
+        rivals = record {
+          first = r.rivals.first;
+          second = r.rivals.second;
+          reader = r.rivals.reader;
+          side = r.rivals.side;
+          other = r.rivals.other;
+          one = made ∙ r.rivals.one;
+          two = r.rivals.two;
+          writers = r.rivals.writers;
+          sides = r.rivals.sides;
+        };
+        stands = omega (arith, inside, size_of);
+        posted = place.0;
+        before = place.1;
+        within = omega (arith, most, size_of);
+        near = beside;
+        reads = ap (λ (z : NodeRecord). reads_from z.wait r.rivals.other)
+            (record_same c last xs ys rd (b p) p h order (omega (arith, inside, size_of)) (omega (arith, here)) (sym (w.steps rd p stands read))) ∙ ends.reads;
+        writes = ap (λ (z : NodeRecord). writes_to z.wait r.rivals.other)
+            (record_same c last xs ys x place.0 p h order (omega (arith, most, size_of)) (omega (arith, here)) place.3) ∙ ends.writes;
+        none = λ step l t happens.
+            let in_list : step < length (actions c xs) = omega (arith, l, most) in
+            let fewer : tally x (actions c xs) step < tally x (actions c xs) place.0 = tally_grows x (actions c xs) step place.0 l in_list t in
+            let moved : HappensBefore (actions c ys) p (f step) =
+            subst (λ (z : ℕ). HappensBefore (actions c ys) z (f step)) (round_trip (actions c xs) (actions c ys) f b m w p stands) (happens_moved (actions c xs) (actions c ys) f (b p) step m happens) in
+            let k : p < f step = (before_within (actions c ys) p (f step) moved).0 in
+            let more : a ≤ tally x (actions c ys) (f step) = tally_up x (actions c ys) p (f step) (omega (arith, k)) in
+            let count : tally x (actions c xs) step ≡ tally x (actions c ys) (f step) = m.steps x step in_list t in
+            let is : tally x (actions c xs) place.0 ≡ a = place.3 in
+            omega (arith, fewer, more, count, is);
+      }
+
+-- ---- as the law says it
+
+pub none_told : (c last : List NodeRecord) (es : List Event) → replay c es ≡ Some last → IsAtEnd last → ((i j : ℕ) → IsNear c es i j → ⊥) → ((i : ℕ) (other : Event) → IsContended c es i other → ⊥) → HasNoRace c es
+none_told c last es h end out calm step other r = go (told_behind r.before (step ∷ r.later) c r.now r.led (told_head r.now last step r.later other there end r.can r.differ r.bound))
+  where
+    ys : List Event
+    ys = r.before ++ step ∷ r.later
+
+    there : replay r.now (step ∷ r.later) ≡ Some last
+    there = sym (replay_into r.before (step ∷ r.later) c r.now r.led) ∙ sym (order_replay c es (r.before ++ step ∷ r.later) r.order) ∙ h
+
+    go : IsTold c (r.before ++ step ∷ r.later) → ⊥
+    go (near {i} {j} n) =
+        let f = moves_of c es (r.before ++ step ∷ r.later) r.order in
+        let b = moves_of c (r.before ++ step ∷ r.later) es (order-sym c es (r.before ++ step ∷ r.later) r.order) in
+        out (b.0 i) (b.0 j) (near_moved c es (r.before ++ step ∷ r.later) f.0 b.0 f.1 b.1 i j n)
+    go (rivalled {i} {other = rival} n) =
+        let f = moves_of c es (r.before ++ step ∷ r.later) r.order in
+        let b = moves_of c (r.before ++ step ∷ r.later) es (order-sym c es (r.before ++ step ∷ r.later) r.order) in
+        calm (b.0 i) rival (contended_of c last es (r.before ++ step ∷ r.later) h r.order f.0 b.0 f.1 b.1 i rival n)
+
+pub decided_by : (c last : List NodeRecord) (es : List Event) → replay c es ≡ Some last → IsAtEnd last
+    → HasNoRace c es ↔ (((i j : ℕ) → IsNear c es i j → ⊥) × ((i : ℕ) (other : Event) → IsContended c es i other → ⊥))
+decided_by c last es h end = (
+  λ calm. (λ i j n. calm (made_at c es i) (made_at c es j) (near_races es c last i j h n), λ i other n. calm (made_at c es i) other (contended_races c last es i other h n)),
+  λ told. none_told c last es h end told.0 told.1,
+)
