@@ -13,3 +13,4 @@ pub mod Sweeps
 pub mod Nearest
 pub mod Tallies
 pub mod Contended
+pub mod Clocks

@@ -162,7 +162,7 @@ cause_at [] i = refl
 cause_at (a ∷ xs) zero = refl
 cause_at (a ∷ xs) (suc i) = cause_at xs i
 
-tally_is : (n : ℕ) (xs : List Action) (i : ℕ) → touching n (take i (causes_in xs)) ≡ tally n xs i
+pub tally_is : (n : ℕ) (xs : List Action) (i : ℕ) → touching n (take i (causes_in xs)) ≡ tally n xs i
 tally_is n [] zero = refl
 tally_is n [] (suc i) = refl
 tally_is n (a ∷ xs) zero = refl

@@ -3,7 +3,7 @@
 -- of one another keep their order, and so do those that a chain of such joins. Netzer and Miller ("Optimal tracing and replay for
 -- debugging message-passing parallel programs", 1992) decide by it what races. That a look keeps its place among the changes of what
 -- is shown to it is this project's own, as looks are.
-use Rattle.std.specs.Prelude.{◌≡◌, ℕ, zero, suc, ◌<◌, ◌≤◌, ◌==◌, Bool, true, false, not, ◌&&◌, ◌||◌, List, [], ◌∷◌, length, map, slice_index_or, Some}
+use Rattle.std.specs.Prelude.{◌≡◌, ℕ, zero, suc, ◌+◌, ◌<◌, ◌≤◌, ◌==◌, max, ◌⊎◌, ◌↔◌, Bool, true, false, not, ◌&&◌, ◌||◌, if◌then◌else◌, List, [], ◌∷◌, length, map, take, slice_index_or, Some}
 use Rattle.std.specs.List.{list_any}
 use Rattle.ga_node.specs.Io.{io_word}
 use Rattle.ga_node.specs.Record.{NodeRecord}
@@ -14,7 +14,7 @@ use Rattle.ga_event.specs.declared.event.Cause.{Cause}
 use Rattle.ga_event.specs.Touches.{touches}
 use Rattle.ga_event.specs.Apply.{writes_to, reads_from, seen_from, after, cause_of}
 use Rattle.ga_causal.specs.Dependence.{cause_nodes, cause_touches, no_cause}
-use Rattle.ga_causal.specs.Steps.{IsStep}
+use Rattle.ga_causal.specs.Steps.{touching, IsStep}
 use Rattle.ga_races.specs.Orders.{AreRivals}
 
 -- an event as it was made (a letter of a trace): with whether it looked, and the nodes to which it changed what their neighbours show
@@ -104,3 +104,20 @@ pub record IsContended (chip : List NodeRecord) (events : List Event) (place : �
   pub writes : writes_to (record_at (chip_at chip events posted) rivals.second.number).wait rivals.other ≡ true
   pub none : (step : ℕ) → step < posted → touches (made_at chip events step) rivals.second.number ≡ true
       → HappensBefore (actions chip events) place step → ⊥
+
+-- The clock of the place has of each node how many of its steps happen before the action there or are it (the vector clocks of Fidge,
+-- "Timestamps in message-passing systems that preserve the partial ordering", 1988, and Mattern, "Virtual time and global states of
+-- distributed systems", 1989).
+abbrev pub IsClock : List Action → ℕ → (ℕ → ℕ) → Type 0
+IsClock actions place clock = (n k step : ℕ) → IsStep (causes_in actions) n k step
+    → (k ≤ clock n ↔ ((step ≡ place) ⊎ HappensBefore actions step place))
+
+-- of each node the most that one of these clocks has, each with its place
+abbrev pub joined : List (ℕ × (ℕ → ℕ)) → ℕ → ℕ
+joined [] n = 0
+joined (known ∷ others) n = max (known.1 n) (joined others n)
+
+-- the clock of a place made of clocks of earlier ones: of a node that the action touches its own step there
+abbrev pub clock_after : List Action → ℕ → List (ℕ × (ℕ → ℕ)) → ℕ → ℕ
+clock_after actions place known n =
+    if cause_touches (action_at actions place).cause n then touching n (take (place + 1) (causes_in actions)) else joined known n

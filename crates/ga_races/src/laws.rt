@@ -1,6 +1,6 @@
 //! The laws of orders and races, each the contract of a function that does nothing. They stand over the definitions alone.
 
-ghost use Rattle.std.specs.Prelude.{◌≡◌, ◌≢◌, ◌<◌, ◌≤◌, ◌↔◌, ℕ, Bool, true, false, length, List, [], ◌∷◌, ◌++◌, Some, IsSome, map};
+ghost use Rattle.std.specs.Prelude.{◌≡◌, ◌≢◌, ◌<◌, ◌≤◌, ◌↔◌, ◌⊎◌, All, Contains, ℕ, Bool, true, false, length, List, [], ◌∷◌, ◌++◌, Some, IsSome, map};
 ghost use Rattle.ga_node.specs.Record.{NodeRecord};
 ghost use Rattle.ga_ports.specs.declared.side.Side.{Side};
 ghost use Rattle.ga_grid.specs.declared.node_id.NodeId.{NodeId};
@@ -14,7 +14,7 @@ ghost use Rattle.ga_causal.specs.Dependence.{events_in, rewound_list, NoneLooks}
 ghost use Rattle.ga_causal.specs.Equivalence.{AreEquivalent};
 ghost use Rattle.ga_causal.specs.Words.{account_read};
 ghost use Rattle.ga_races.specs.Exploring.{IsExplored};
-ghost use Rattle.ga_races.specs.HappensBefore.{action_of, actions, causes_in, are_bound, HappensBefore, IsStepOf, StandsBefore, made_at, IsNear, IsContended};
+ghost use Rattle.ga_races.specs.HappensBefore.{Action, action_at, IsBound, IsClock, clock_after, action_of, actions, causes_in, are_bound, HappensBefore, IsStepOf, StandsBefore, made_at, IsNear, IsContended};
 ghost use Rattle.ga_races.specs.Kahn.{HasOneWriter};
 ghost use Rattle.ga_races.specs.Orders.{CanBe, IsAtEnd, AreOrders, AreFree, IsRace, HasNoRace, AreRivals};
 
@@ -144,4 +144,19 @@ pub fn nearest()
     ensures decided { (chip last : List NodeRecord) (events : List Event) → replay chip events ≡ Some last → IsAtEnd last →
         (HasNoRace chip events
         ↔ (((first later : ℕ) → ¬ IsNear chip events first later) × ((place : ℕ) (other : Event) → ¬ IsContended chip events place other))) }
+{}
+
+/// Of two actions that touch a common node the earlier happens before the later. A clock can be made of those of earlier places, in one
+/// pass over a list: of some to which the place is bound, so that each to which it is bound is among them or happens before one of
+/// them. So it is enough to take the last action of each node that is touched; for a look also the last change by each neighbour;
+/// and for a change also the last look of each node to which it shows.
+pub fn clocks()
+    ensures node { (actions : List Action) (first later n : ℕ) → first < later → later < length actions →
+        touches (action_at actions first).cause.event n ≡ true → touches (action_at actions later).cause.event n ≡ true →
+        HappensBefore actions first later }
+    ensures made { (actions : List Action) (place : ℕ) (known : List (ℕ × (ℕ → ℕ))) → place < length actions →
+        All (λ (clock : ℕ × (ℕ → ℕ)). IsBound actions clock.0 place × IsClock actions clock.0 clock.1) known →
+        ((earlier : ℕ) → IsBound actions earlier place →
+        (clock : ℕ × (ℕ → ℕ)) × Contains known clock × ((earlier ≡ clock.0) ⊎ HappensBefore actions earlier clock.0)) →
+        IsClock actions place (clock_after actions place known) }
 {}
