@@ -353,3 +353,7 @@ causes_of_run (e ∷ es) c last ts h =
     ap (λ (z : List Cause). cause_of c e ∷ z)
     (ap (λ (d : List NodeRecord). causes_in (actions d es)) (ap (λ (z : List NodeRecord × Told). z.0) (after_is c m.mid e m.told m.first)) ∙ causes_of_run es m.mid last m.others m.then)
     ∙ ap (λ (z : List (Cause × Told)). causes z) (sym m.all)
+
+-- each event is a step
+pub step_named : (c : List NodeRecord) (es : List Event) (i : ℕ) → i < length es → (n : ℕ) × (k : ℕ) × IsStepOf c es n k i
+step_named c es i l = let a = named_of c es i l in (a.node, a.number, step_of (actions c es) a.node a.number i a.tallied)

@@ -1,5 +1,5 @@
 -- A list that ends without a next event has no race where nothing is near and nothing is contended.
-use Rattle.std.proofs.Common.{◌≡◌, ℕ, zero, suc, ◌<◌, ◌≤◌, ◌⊎◌, true, false, ◌||◌, inl, inr, List, [], ◌∷◌, ◌++◌, length, Some, ◌↔◌, sym, ◌∙◌, ap, subst, arith}
+use Rattle.std.proofs.Common.{◌≡◌, ℕ, zero, suc, ◌<◌, ◌≤◌, ◌⊎◌, true, false, ◌||◌, inl, inr, List, [], ◌∷◌, ◌++◌, length, Some, ◌↔◌, sym, ◌∙◌, ap, subst, arith, length-append, ◌+◌}
 use Rattle.std.specs.List.{list_any}
 use Rattle.std.proofs.lemmas.Bool.{cases_lt, cases_order, both_ways, or_left}
 use Rattle.std.proofs.lemmas.Option.{same_Some}
@@ -12,7 +12,7 @@ use Rattle.ga_event.specs.declared.event.Event.{Event}
 use Rattle.ga_event.specs.declared.event.Event.TheVariants.{Own, Pass}
 use Rattle.ga_event.specs.Touches.{nodes_of, touches}
 use Rattle.ga_event.specs.Apply.{writes_to, reads_from, after, replay}
-use Rattle.ga_races.specs.Orders.{CanBe, IsAtEnd, AreOrders, same, HasNoRace}
+use Rattle.ga_races.specs.Orders.{CanBe, IsAtEnd, AreOrders, same, HasNoRace, IsRace, AreRivals}
 use Rattle.ga_races.specs.HappensBefore.{Action, actions, action_at, is_shown, are_bound, HappensBefore, chip_at, made_at, IsNear, IsContended}
 use Rattle.ga_races.proofs.Frees.{first_of, touches_reader, any_at}
 use Rattle.ga_races.proofs.Orders.{order_replay, order_read, steps_read}
@@ -21,7 +21,7 @@ use Rattle.ga_races.proofs.Exact.{replay_into, Entry}
 use Rattle.ga_races.proofs.Exploring.{order-sym}
 use Rattle.ga_races.proofs.Moves.{tally, Moves, moves_of, before_within, tally_grows}
 use Rattle.ga_races.proofs.Before.{actions_length}
-use Rattle.ga_races.proofs.Sweeps.{near_races, writer_apart, contended_races}
+use Rattle.ga_races.proofs.Sweeps.{near_races, writer_apart, contended_races, action_there, chip_there}
 use Rattle.ga_races.proofs.Nearest.{IsRivalled, IsTold, near, rivalled, told_head, told_behind, round_trip, happens_moved, near_moved}
 use Rattle.ga_races.proofs.Tallies.{tally_total, record_same, tally_up, between, below}
 
@@ -164,6 +164,26 @@ module _ (c last : List NodeRecord) (xs ys : List Event) (h : replay c xs ≡ So
       }
 
 -- ---- as the law says it
+
+-- each race of two passes is contended
+pub rivals_contended : (c last : List NodeRecord) (es : List Event) (step other : Event) → replay c es ≡ Some last → IsRace c es step other → AreRivals step other
+    → (i : ℕ) × (made_at c es i ≡ step) × IsContended c es i other
+rivals_contended c last es step other h r rivals =
+    let ys : List Event = r.before ++ step ∷ r.later in
+    let at : made_at c ys (length r.before) ≡ step = ap (λ (a : Action). a.cause.event) (action_there r.before c r.now step r.later r.led) in
+    let size : length ys ≡ length r.before + suc (length r.later) = length-append r.before (step ∷ r.later) in
+    let all : length (actions c ys) ≡ length ys = actions_length c ys in
+    let f = moves_of c es ys r.order in
+    let b = moves_of c ys es (order-sym c es ys r.order) in
+    let told : IsRivalled c ys (length r.before) other = record {
+      stands = omega (arith, size);
+      rivals = subst (λ (z : Event). AreRivals z other) (sym at) rivals;
+      can = subst (λ (z : List NodeRecord). CanBe z other) (sym (chip_there r.before c r.now (step ∷ r.later) r.led)) r.can;
+    } in (
+      b.0 (length r.before),
+      ap (λ (a : Action). a.cause.event) (sym (b.1.alike (length r.before) (omega (arith, size, all)))) ∙ at,
+      contended_of c last es ys h r.order f.0 b.0 f.1 b.1 (length r.before) other told,
+    )
 
 pub none_told : (c last : List NodeRecord) (es : List Event) → replay c es ≡ Some last → IsAtEnd last → ((i j : ℕ) → IsNear c es i j → ⊥) → ((i : ℕ) (other : Event) → IsContended c es i other → ⊥) → HasNoRace c es
 none_told c last es h end out calm step other r = go (told_behind r.before (step ∷ r.later) c r.now r.led (told_head r.now last step r.later other there end r.can r.differ r.bound))

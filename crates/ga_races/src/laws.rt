@@ -110,15 +110,17 @@ pub fn explored()
         (met : List Event) × (has met ≡ true) × AreOrders chip met others }
 {}
 
-/// What happens before an event in a list (Lamport) is what comes before it in every order of the list, and the one says the same as
-/// the other: so the past of an event can be read from the one list that was made. Of two neighbours in a list neither happens
-/// before the other exactly where they are free of one another. The events are named by their steps, each of which stands in every
-/// order. The list must be one that can be made: else there is no order but itself.
+/// What happens before an event in a list (Lamport) is what comes before it in every order of the list: so the past of an event can be
+/// read from the one list that was made. Neighbours in a list are not bound exactly where they are free of one another. The events are
+/// named by their steps: each is one, and stands in every order as the step of the same number. The list must be one that can be made,
+/// as nothing is swapped past an event that can't be.
 pub fn happens_before()
     ensures free { (chip : List NodeRecord) (e f : Event) → CanBe chip e → CanBe (after chip e).0 f →
         ((are_bound (action_of chip e) (action_of (after chip e).0 f) ≡ false) ↔ (CanBe chip f × AreFree chip e f)) }
     ensures causes { (chip last : List NodeRecord) (events : List Event) (steps : List (Cause × Told)) → run chip events ≡ Some (last, steps) →
         causes_in (actions chip events) ≡ map (λ (s : Cause × Told). s.0) steps }
+    ensures named { (chip : List NodeRecord) (events : List Event) (place : ℕ) → place < length events →
+        (n : ℕ) × (k : ℕ) × IsStepOf chip events n k place }
     ensures stands { (chip : List NodeRecord) (events others : List Event) (n k place : ℕ) → AreOrders chip events others →
         IsStepOf chip events n k place → (there : ℕ) × IsStepOf chip others n k there }
     ensures every { (chip : List NodeRecord) (events others : List Event) (first later : ℕ) → HappensBefore (actions chip events) first later →
@@ -133,14 +135,17 @@ pub fn happens_before()
 {}
 
 /// Which events of a list race is read from the list alone, by what happens before what (after Netzer and Miller). A look and a change
-/// of what is shown to it race where nothing happens between them; a pass races with the pass of another writer that waits to write
-/// to the reader by steps of which none happens after the pass. Where a list ends without a next event these are all: it has no race
-/// exactly where there is neither, and so every order of steps ends on its chip (`one_end`).
+/// of what is shown to it race where nothing happens between them. A pass races with the pass of another writer exactly where this
+/// comes to wait to write to the reader by steps of which none happens after the pass. Where a list ends without a next event these
+/// are enough: it has no race exactly where there is neither, and so every order of steps ends on its chip (`one_end`).
 pub fn nearest()
     ensures looks { (chip last : List NodeRecord) (events : List Event) (first later : ℕ) → replay chip events ≡ Some last →
         IsNear chip events first later → IsRace chip events (made_at chip events first) (made_at chip events later) }
     ensures passes { (chip last : List NodeRecord) (events : List Event) (place : ℕ) (other : Event) → replay chip events ≡ Some last →
         IsContended chip events place other → IsRace chip events (made_at chip events place) other }
+    ensures rivals { (chip last : List NodeRecord) (events : List Event) (step other : Event) → replay chip events ≡ Some last →
+        IsRace chip events step other → AreRivals step other →
+        (place : ℕ) × (made_at chip events place ≡ step) × IsContended chip events place other }
     ensures decided { (chip last : List NodeRecord) (events : List Event) → replay chip events ≡ Some last → IsAtEnd last →
         (HasNoRace chip events
         ↔ (((first later : ℕ) → ¬ IsNear chip events first later) × ((place : ℕ) (other : Event) → ¬ IsContended chip events place other))) }

@@ -1,5 +1,5 @@
 use Rattle.ga_races.proofs.Bound.{free_exact}
-use Rattle.ga_races.proofs.Before.{every_order, other_order, exact, stands, causes_of_run}
+use Rattle.ga_races.proofs.Before.{every_order, other_order, exact, step_named, stands, causes_of_run}
 use Rattle.ga_races.proofs.laws.happens_before.Goals as goal
 
 pub returns-clause-free : goal.returns-clause-free
@@ -7,6 +7,9 @@ returns-clause-free c = free_exact
 
 pub returns-clause-causes : goal.returns-clause-causes
 returns-clause-causes c chip last events steps is = causes_of_run events chip last steps is
+
+pub returns-clause-named : goal.returns-clause-named
+returns-clause-named c = step_named
 
 pub returns-clause-stands : goal.returns-clause-stands
 returns-clause-stands c = stands
