@@ -1,0 +1,165 @@
+"""What stands in the crates, as contracts see it: files of definitions and of code, which definitions a text names, the clauses of a
+function, and what is public.
+
+A definition is read by name: what its text names, by its file's own definitions and its `use` lines. A clause is that of a public
+function, or the value that contracts see of a public type. What a type of the code holds is not followed.
+"""
+import os
+import re
+from collections import defaultdict
+
+TOP = os.path.dirname(os.path.dirname(os.path.abspath(__file__)))
+CRATES = f"{TOP}/crates"
+NAME = r"[^\W\d]['\w-]*"
+WORD = re.compile(rf"{NAME}(?:\.{NAME})*")
+HEAD = re.compile(rf"(?:abbrev |unfoldable )?pub (?:(?:data|record) )?({NAME}|◌\S+◌)(?= *(?:[:({{]|$))", re.M)
+CLAUSE = re.compile(rf"({NAME})(?= |$)")
+USE = re.compile(r"^ *(?:pub )?(?:ghost )?use (Rattle\.[\w.]+?)(?:\.\{([^}]*)\}|(?: as (\w+))?);?$", re.M)
+
+
+def read(path):
+    with open(path, encoding="utf-8") as text:
+        return text.read()
+
+
+def files_in(folder, ending):
+    for at, _, files in os.walk(folder):
+        yield from (f"{at}/{file}" for file in sorted(files) if file.endswith(ending))
+
+
+class Module:
+    """A file of definitions, or of code: what its `use` lines bring, and its own definitions with their texts."""
+
+    def __init__(self, path, name=None):
+        self.name = name
+        self.text = re.sub(r"--.*|^ *//.*", "", read(path), flags=re.M)
+        self.brought, self.aliases, self.own = defaultdict(list), {}, {}
+        for use in USE.finditer(self.text):
+            module, items, alias = use.groups()
+            if items is None:
+                self.aliases[alias or module.split(".")[-1]] = module
+            for item in filter(None, re.split(r",\s*", (items or "").strip())):
+                first, _, last = item.partition(" as ")
+                self.brought[last or first].append((use.start(), module, first))
+        if name:
+            for part in re.split(r"\n(?=\S)", "\n" + USE.sub("", self.text)):
+                head = HEAD.match(part) or CLAUSE.match(part)
+                if head and (head.re is HEAD or head[1] in self.own):
+                    self.own[head[1]] = self.own.get(head[1], "") + "\n" + part
+        self.parts = {name: of for of, text in self.own.items() for name in re.findall(rf"^  ({NAME}) :", text, re.M)}
+
+    def imports(self):
+        return {module for brought in self.brought.values() for _, module, _ in brought} | set(self.aliases.values())
+
+    def lines(self, name):
+        return sum(1 for line in self.own[name].split("\n") if line.strip())
+
+
+class Reader:
+    def __init__(self):
+        self.modules, self.code = {}, {}
+        for crate in sorted(os.listdir(CRATES)):
+            specs = f"{CRATES}/{crate}/specs"
+            for path in files_in(specs, ".antt"):
+                inner = os.path.relpath(path, specs)[:-5].replace("/", ".")
+                name = f"Rattle.{crate}.specs.{inner}"
+                self.modules[name] = Module(path, name)
+            for path in files_in(f"{CRATES}/{crate}/src", ".rt"):
+                self.code[os.path.relpath(path, CRATES)] = Module(path)
+
+    def found(self, module, name):
+        """The definition that a name of a module is: itself, or that of which it is a constructor or a field."""
+        here = self.modules.get(module)
+        if here and name in here.own:
+            yield (module, name)
+        elif here and name in here.parts:
+            yield (module, here.parts[name])
+
+    def named(self, here, text, at=None):
+        """The definitions that a text names: of a file of definitions, or of a file of code at a place."""
+        for clause in re.split(r"\n(?=\S)", text):
+            bound = bound_in(clause)
+            for word in WORD.findall(clause) + ["◌>>=◌"] * (" = do\n" in clause) + ["◌▷◌"] * (" ▷ " in clause):
+                first, _, rest = word.partition(".")
+                if first == "Rattle":
+                    yield from self.found(*word.rsplit(".", 1))
+                elif rest and first in here.aliases:
+                    yield from self.found(here.aliases[first], rest.split(".")[0])
+                elif first not in bound:
+                    if here.name:
+                        yield from self.found(here.name, first)
+                    brought = here.brought.get(first, [])
+                    nearest = [it for it in brought if at is not None and it[0] <= at][-1:]
+                    for _, module, name in nearest or brought:
+                        yield from self.found(module, name)
+
+    def closed(self, roots):
+        """All definitions that these stand on."""
+        seen, todo = set(), list(roots)
+        while todo:
+            module, name = it = todo.pop()
+            if it not in seen:
+                seen.add(it)
+                todo += self.named(self.modules[module], self.modules[module].own[name])
+        return seen
+
+    def exported(self, path):
+        """The items of a file that other crates see: what the crate's root passes on, or all of a public module."""
+        root = self.code.get(path.split("/")[0] + "/src/lib.rt")
+        if root and re.search(rf"^pub mod {os.path.basename(path)[:-3]};", root.text, re.M):
+            return set(re.findall(r"(?:fn|struct|enum) (\w+)", self.code[path].text))
+        return set(re.findall(r"\w+", " ".join(re.findall(r"^pub use ([^;]*);", root.text, re.M)))) if root else set()
+
+    def clauses(self, path, only=None):
+        """The definitions that the clauses of a file of code name, of these items or of those that others see."""
+        here, seen = self.code[path], only or self.exported(path)
+        impl = (None, False)
+        item = r"^impl(?:<.*>)? (?:(?:[\w:<>]+ (for) )?(\w+))|^( *)(pub )?(?:const )?fn (\w+)|ghost Value = ([^;]*);"
+        for it in re.finditer(item, here.text, re.M):
+            if it[2]:
+                impl = (it[2], it[1])
+            elif it[6] and impl[0] in seen:
+                yield from self.named(here, it[6], it.start())
+            elif it[5] and ((it[4] or it[3] and impl[1]) and (impl[0] if it[3] else it[5]) in seen):
+                for clause in signature(here.text, it.end())[1]:
+                    yield from self.named(here, " " + clause.replace("\n", " "), it.start())
+
+
+def bound_in(clause):
+    """The variables of a clause, which are no definitions: on its left, under a λ, behind a `let`, in the brackets of a type."""
+    left = re.match(r"(?!data|record|pub|abbrev|unfoldable)([^\s:][^:\n]*?) =(?=\s)", clause)
+    bound = set(re.findall(r"(?<![.\w])[a-z_]['\w]*(?![.\w'-])", left[1])) if left else set()
+    for names in re.findall(r"λ ([^.]*)\.|[({]([^\W\d][^:(){}]*) :|\blet (\w+) =", clause):
+        bound |= set(re.findall(r"[^\W\d]['\w]*", " ".join(names)))
+    return bound
+
+
+def end_of(text, at):
+    """Where the brackets end that open there."""
+    depth = 0
+    while True:
+        depth += {"{": 1, "}": -1}.get(text[at], 0)
+        at += 1
+        if not depth:
+            return at
+
+
+def signature(text, at):
+    """Where the signature of a function, whose name ends there, and its clauses end; and the clauses."""
+    depth, clauses, clause = 0, [], re.compile(r"(?:requires|ensures)\b\*?(?: \w+)? (?={)")
+    while at < len(text):
+        head = clause.match(text, at)
+        if depth == 0 and head:
+            at = end_of(text, head.end())
+            clauses.append(text[head.end() + 1 : at - 1])
+        elif depth == 0 and text[at] in "{;":
+            break
+        else:
+            depth += {"(": 1, "[": 1, ")": -1, "]": -1}.get(text[at], 0)
+            at += 1
+    return at, clauses
+
+
+def short(module):
+    crate, inner = module[7:].split(".specs.")
+    return f"{crate}/specs/{inner.replace('.', '/')}.antt"
