@@ -93,8 +93,8 @@ def answer(machine, line):
     return getattr(machine, command)(*arguments)
 
 
-def answers_of(path):
-    """What is answered to a session, or Unread."""
+def opened(path):
+    """The machine of a session at its load, and the commands up to `quit`, or Unread."""
     folder = os.path.basename(os.path.dirname(path))
     limit = int(folder[6:]) if folder.startswith("limit-") else DEFAULT_LIMIT
     with open(path, encoding="latin-1", newline="") as file:
@@ -108,8 +108,12 @@ def answers_of(path):
     machine = kind(load_of(load), limit)
     machine.notes = notes
     commands = lines[past:]
-    if "quit" in commands:
-        commands = commands[: commands.index("quit")]
+    return machine, commands[: commands.index("quit")] if "quit" in commands else commands
+
+
+def answers_of(path):
+    """What is answered to a session, or Unread."""
+    machine, commands = opened(path)
     # where nothing is kept, `save` says nothing
     return "".join(line + "\n" for line in ["ready"] + [answer(machine, it) for it in commands] if line)
 

@@ -2,7 +2,8 @@
 """Plants wrong definitions into the second reading and sees that generated sessions, or sources, tell each of them.
 
 wrong.py PROGRAM COUNT: each wrong definition has to be told within so many sessions, by an answer that differs or by a
-replay that can't go on; one of source within so many sources and as many that are cut or changed. A definition is wrong in one place: its file, a text that stands there once, and what takes its place.
+replay that can't go on; one of source within so many sources and as many that are cut or changed, one of pictures within so many of
+these. A definition is wrong in one place: its file, a text that stands there once, and what takes its place.
 """
 
 import os
@@ -13,9 +14,9 @@ import tempfile
 from concurrent.futures import ThreadPoolExecutor
 
 NODE, MACHINE, WORDS, SOURCE, LISTING = "node.py", "machine.py", "words.py", "source.py", "listing.py"
-EXPLORE, NOTES = "explore.py", "notes.py"
+EXPLORE, NOTES, PICTURES = "explore.py", "notes.py", "pictures.py"
 # Which generator tells a wrong definition in a file; the others `sessions`.
-GENERATORS = {WORDS: "sources", SOURCE: "sources", LISTING: "sources", EXPLORE: "exploring", NOTES: "exploring"}
+GENERATORS = {WORDS: "sources", SOURCE: "sources", LISTING: "sources", EXPLORE: "exploring", NOTES: "exploring", PICTURES: "pictures"}
 WRONG = (
     # the grid
     (NODE, '(column % 2 == 0) == (side == "r")', '(column % 2 == 0) == (side == "l")'),
@@ -275,6 +276,30 @@ WRONG = (
     (NOTES, "[line for line, _ in cell.literals]", "[cell.slots[0][0] for _ in cell.literals]"),
     (NOTES, "                    address = advanced(address)\n", ""),
     (NOTES, "return dict(self.labels.get(node, [])).get(name)", "return {it: at % 0x200 + 1 for it, at in self.labels.get(node, [])}.get(name)"),
+    # what a picture shows
+    (PICTURES, '"fetch": "ring"', '"fetch": "dot"'),
+    (PICTURES, '"wait": "bar"', '"wait": "cross"'),
+    (PICTURES, '"stop": "cross"', '"stop": "bar"'),
+    (PICTURES, 'for row in rows for node in row.event})', "for row in rows for node in row.event[:1]})"),
+    (PICTURES, "{writer} {step} to {reader} {its}, '{word}'", "{writer} {its} to {reader} {step}, '{word}'"),
+    (PICTURES, "{writer} {step} to {reader} {its}, '{word}'", "{reader} {its} to {writer} {step}, '{word}'"),
+    (PICTURES, "what = NAMES[int(more[0], 16)]", "what = NAMES[int(more[0], 16) & 0x1E]"),
+    (PICTURES, 'title += f" {what}"', "pass"),
+    (PICTURES, "beside = [neighbour(node, side) for side in SIDES]", "beside = [neighbour(node, side) for side in SIDES[:3]]"),
+    (PICTURES, "for side in SIDES] if self.looked else []", "for side in SIDES] if self.looked and kind == \"run\" else []"),
+    (PICTURES, "sorted(it for it in beside if it in lined)", "sorted(it for it in beside if it is not None)"),
+    (PICTURES, 'yield "dotted", "top" if since is None else since, place', 'yield "dotted", "top", place'),
+    (PICTURES, 'yield "dotted", "top" if since is None else since, place', 'yield "dotted", 0 if since is None else since, place'),
+    (PICTURES, 'yield ("dotted", since, "foot") if waits', 'yield ("dotted", since, len(rows) - 1) if waits'),
+    (PICTURES, 'yield "solid", place if since is None else since, place', 'yield "solid", "top" if since is None else since, place'),
+    (PICTURES, '["red" if goes[at] else "black" if leads[at] else "grey"', '["grey" if not leads[at] else "red" if goes[at] else "black"'),
+    (PICTURES, "for side in SIDES if machine.looked[at])}", "for side in SIDES[1:] if machine.looked[at])}"),
+    (PICTURES, "if at == last or needed & {*machine.events[at]}:", "if needed & {*machine.events[at]} or at == last and not machine.looked[at]:"),
+    (PICTURES, "gone |= {*machine.events[at]}", "gone |= seen_by(machine, at)"),
+    (PICTURES, "[start - 1 : end]", "[start - 1 : end and end - 1]"),
+    (PICTURES, "[start - 1 : end]", "[start - (start > 1 and 2 or 1) : end]"),
+    (PICTURES, "for it in (cause, rewind) if it):", "for it in (cause,) if it):"),
+    (PICTURES, 'self.text += "quit\\nrun 5\\n"', 'self.obey("quit")\n            self.obey("run 5")'),
 )
 
 
@@ -294,7 +319,7 @@ def told(room, number, program, count):
     shutil.rmtree(folder)
     said = (ran.stdout + ran.stderr).strip().split("\n")[-1]
     if ran.returncode == 1:
-        return "answer" if said.startswith(("session ", "source ")) else "replay"
+        return "answer" if said.startswith(("session ", "source ", "picture ")) else "replay"
     return f"not told: {said}"
 
 

@@ -1,0 +1,371 @@
+#!/usr/bin/env python3
+"""Generates sessions, has the program draw each, reads the pictures back, and compares them with what docs/REFERENCE.md says of pictures
+("Pictures"), by the events that the second reading made.
+
+pictures.py PROGRAM FIRST COUNT: so many pictures, each generated from its number, from FIRST on.
+pictures.py --compare: the pictures of docs/pictures, by the sessions and words that .ci/pictures names.
+
+What a picture shows is told in lines, such as `black: dot 001, '5 dup', title '001 5 run 18 dup'`. Where lines and rows stand is taken
+from the picture: a node's line from its name, a row from the first two, since rows stand equally far apart.
+"""
+
+import re
+import subprocess
+import sys
+from itertools import zip_longest
+
+from exploring import Session
+from files import answer, opened
+from listing import NAMES
+from machine import NODES, name
+from node import SIDES, neighbour
+from sessions import DEFAULT_LIMIT, SECONDS
+
+COLOURS = {"k": "black", "g": "grey", "r": "red"}
+MARKS = {"fetch": "ring", "run": "dot", "wait": "bar", "stop": "cross"}
+NUMBER = r"(-?\d+(?:\.\d+)?)"
+SHAPES = {
+    "ring": rf"<circle class='o' cx='{NUMBER}' cy='{NUMBER}' r='[\d.]+'/>",
+    "dot": rf"<circle class='f' cx='{NUMBER}' cy='{NUMBER}' r='[\d.]+'/>",
+    "bar": rf"<path d='M{NUMBER} {NUMBER}m-6 0h12'/>",
+    "cross": rf"<path d='M{NUMBER} {NUMBER}m-5 -5l10 10m-10 0l10 -10'/>",
+    "dashed": rf"<path class='d' d='M{NUMBER} {NUMBER}H{NUMBER}'/>",
+    "shaft": rf"<path d='M{NUMBER} {NUMBER}H{NUMBER}'/>",
+    "head": rf"<path class='f' d='M{NUMBER} {NUMBER}l{NUMBER} -4v8z'/>",
+    "beside": rf"<text x='{NUMBER}' y='{NUMBER}'>([^<]*)</text>",
+    "middle": rf"<text class='m' x='{NUMBER}' y='{NUMBER}'>([^<]*)</text>",
+    "before": rf"<text class='e' x='{NUMBER}' y='{NUMBER}'>([^<]*)</text>",
+}
+GROUP = re.compile(r"<g class='([kgr])'><title>([^<]*)</title>(.*)</g>")
+NAMED = re.compile(rf"<text class='n' x='{NUMBER}' y='{NUMBER}'>(\d\d\d)</text><line class='l' x1='{NUMBER}' y1='{NUMBER}' x2='{NUMBER}' y2='{NUMBER}'/>")
+TRACK = re.compile(rf"<path class='([tw])' d='M{NUMBER} {NUMBER}V{NUMBER}'/>")
+# How near to its event, up or down, a text stands.
+NEAR = 8
+# The picture of a session whose events are known without a replay, and how many of its events are drawn.
+MILLION, DRAWN = 99, 101000
+JUMPING = "ga144 1\nnode 000\np 000000\nram 00 010000\nend\nrun greedy 1000001\n"
+# A node that runs for long before each word that it sends, and one that takes them; by these numbers.
+LONG, FAR = 12, "node 000 : main 300 for . . unext right b! 5 !b main ;\nnode 001 : main right b! @b drop main ;\nend\nrun greedy 3000\n"
+
+
+class Unread(Exception):
+    """Why a picture can't be read."""
+
+
+# What has to be seen.
+
+
+class Row:
+    """An event that is drawn: its nodes, the text that is told of it, whether it looked, and its colour."""
+
+    def __init__(self, event, told, looked, colour):
+        self.event, self.words, self.looked, self.colour = event, told.split(" "), looked, colour
+
+    def kind(self):
+        return self.words[2] if len(self.event) == 1 else "pass"
+
+    def text(self, lined):
+        """What is seen of it, where these nodes have lines."""
+        title = " ".join(self.words)
+        if len(self.event) == 2:
+            _, writer, step, reader, its, word = self.words
+            return f"{self.colour}: arrow {writer} {step} to {reader} {its}, '{word}', title '{title}'"
+        node, (_, step, kind, *more) = self.event[0], self.words
+        what, title = " ".join([kind, *more]), title
+        if kind == "run":
+            what = NAMES[int(more[0], 16)]
+            title += f" {what}"
+        beside = [neighbour(node, side) for side in SIDES] if self.looked else []
+        dashed = "".join(f", dashed {name(it)}" for it in sorted(it for it in beside if it in lined))
+        return f"{self.colour}: {MARKS[kind]} {name(node)}, '{step} {what}'{dashed}, title '{title}'"
+
+
+def tracks_of(rows, node):
+    """When a node runs and when it waits, in rows, `top` or `foot`."""
+    since, waits, last = None, False, None
+    for place, row in enumerate(rows):
+        if node not in row.event:
+            continue
+        if row.kind() == "pass":
+            yield "dotted", "top" if since is None else since, place
+            since, waits = place, False
+        elif row.kind() == "wait":
+            yield "solid", place if since is None else since, place
+            since, waits = place, True
+        elif since is None:
+            since = place
+        last = place
+    yield ("dotted", since, "foot") if waits else ("solid", since, last)
+
+
+def seen_of(rows):
+    """What is seen of these events, line by line."""
+    lined = sorted({node for row in rows for node in row.event})
+    lines = ["lines " + " ".join(map(name, lined))]
+    for node in lined:
+        lines += sorted(f"{how} {name(node)} {start} to {end}" for how, start, end in tracks_of(rows, node) if start != end)
+    return lines + [f"{place} {row.text(lined)}" for place, row in enumerate(rows)]
+
+
+# What is read back.
+
+
+def pieces_of(text):
+    """The shapes of a text, each with its numbers and words."""
+    while text:
+        found = next(((kind, it) for kind, form in SHAPES.items() if (it := re.match(form, text))), None)
+        if not found:
+            raise Unread(f"what is {text[:60]}")
+        yield found[0], [float(it) if re.fullmatch(NUMBER, it) and at < 2 else it for at, it in enumerate(found[1].groups())]
+        text = text[found[1].end() :]
+
+
+class Picture:
+    def __init__(self, text):
+        head, style, body = re.fullmatch(r"(<svg [^>]*>)\n<style>\n(.*)</style>\n<rect [^>]*/>\n(.*)</svg>\n", text, re.S).groups()
+        self.styled(style)
+        self.width, self.height = map(float, re.fullmatch(rf"<svg .* viewBox='0 0 {NUMBER} {NUMBER}' .*>", head).groups())
+        self.names, self.tracks, self.groups = {}, [], []
+        for line in body.splitlines():
+            named, track, group = NAMED.fullmatch(line), TRACK.fullmatch(line), GROUP.fullmatch(line)
+            if named:
+                self.line(*named.groups())
+            elif track:
+                self.tracks.append([track[1], *map(float, track.groups()[1:])])
+            elif group:
+                self.groups.append((group[1], group[2], list(pieces_of(group[3]))))
+            else:
+                raise Unread(f"what is {line[:60]}")
+        heights = [pieces[0][1][1] for _, _, pieces in self.groups[:2]]
+        self.first = heights[0] if heights else self.height
+        self.apart = heights[1] - heights[0] if len(heights) > 1 else self.height
+
+    def styled(self, style):
+        """Dotted and dashed, and the three colours, of which red is heavier."""
+        rules = dict(re.findall(r"^(.*)\{(.*)\}$", style, re.M))
+        grey, red = (re.search("stroke:#([0-9a-f]+)", rules[f".{it} line,.{it} path,.{it} circle"])[1] for it in "gr")
+        wide = [float(re.search("stroke-width:([0-9.]+)", rules[it])[1]) for it in ("line,path,circle", ".r line,.r path,.r circle")]
+        if not (grey[0] == grey[-1] > "5" and red[:2] > "c0" and red[4:] < "40" and wide[0] < wide[1] and "dasharray" in rules[".w"] and "dasharray" in rules[".d"]):
+            raise Unread("the classes of colours and lines")
+
+    def line(self, x, y, node, start, top, end, bottom):
+        if not x == start == end or not float(y) < float(top) < float(bottom) <= self.height or not 0 < float(x) < self.width:
+            raise Unread(f"the line of {node}")
+        if node in self.names.values() or self.names and float(x) <= max(self.names):
+            raise Unread(f"the place of the line of {node}")
+        self.names[float(x)] = node
+
+    def row(self, y):
+        """The row at a height, `top` above the first, `foot` below the last."""
+        place = (y - self.first) / self.apart
+        return "top" if place < 0 else "foot" if place > len(self.groups) - 1 else int(place) if place == int(place) else f"height {y}"
+
+    def seen(self):
+        lines = ["lines " + " ".join(self.names.values())]
+        for x, node in self.names.items():
+            mine = [(it, self.row(start), self.row(end)) for it, at, start, end in self.tracks if at == x]
+            lines += sorted(f"{'solid' if it == 't' else 'dotted'} {node} {start} to {end}" for it, start, end in mine)
+        lines += [f"a track at {it[1]}" for it in self.tracks if it[1] not in self.names]
+        return lines + [self.group(*it) for it in self.groups]
+
+    def group(self, colour, title, pieces):
+        x, y = pieces[-1][1][:2] if pieces[-1][0] in MARKS.values() else pieces[0][1][:2]
+        kinds = [kind for kind, _ in pieces]
+        own = next(((kind, of) for kind, of in pieces if kind in MARKS.values()), None)
+        seen = self.own(*own, kinds, pieces) if own else self.arrow(kinds, pieces)
+        row = self.row(own[1][1] if own else y)
+        return f"{row} {COLOURS[colour]}: {seen}, title '{title}'"
+
+    def own(self, mark, at, kinds, pieces):
+        dashed = [of for kind, of in pieces if kind == "dashed"]
+        labels = [of for kind, of in pieces if kind == "beside"]
+        if len(kinds) != len(dashed) + 2 or len(labels) != 1 or any(of[:2] != at for of in dashed):
+            raise Unread(f"the shapes {kinds}")
+        (x, y, label), = labels
+        if not 0 < x - at[0] < 20 or abs(y - at[1]) > NEAR:
+            raise Unread(f"the place of '{label}'")
+        to = "".join(f", dashed {it}" for it in sorted(self.names[float(of[2])] for of in dashed))
+        return f"{mark} {self.names[at[0]]}, '{label}'{to}"
+
+    def arrow(self, kinds, pieces):
+        if kinds != ["shaft", "head", "middle", "before", "beside"]:
+            raise Unread(f"the shapes {kinds}")
+        (start, y, end), (tip, height, back), word, before, beside = (of for _, of in pieces)
+        left, right = sorted((start, float(end)))
+        placed = word[1] < y and y - word[1] <= NEAR and left < word[0] < right and 0 < left - before[0] < 20 and 0 < beside[0] - right < 20
+        if not placed or tip != float(end) or height != y or (float(back) < 0) != (start < tip) or max(abs(it[1] - y) for it in (before, beside)) > NEAR:
+            raise Unread("the places of an arrow's parts")
+        steps = {left: before[2], right: beside[2]}
+        return f"arrow {self.names[start]} {steps[start]} to {self.names[tip]} {steps[tip]}, '{word[2]}'"
+
+
+# Sessions, and how they are drawn.
+
+
+def seen_by(machine, at):
+    """The nodes that a kept event touches, or sees by a look: it depends directly on an earlier event that touches one of these."""
+    event = machine.events[at]
+    return {*event, *(neighbour(event[0], side) for side in SIDES if machine.looked[at])}
+
+
+def colours_of(machine, cause, rewind):
+    """The colour of each kept event, where these steps stand."""
+    count = len(machine.events)
+    leads, goes = [not cause] * count, [False] * count
+    first, last = (machine.place(*it) if it else count for it in (rewind, cause))
+    needed, gone = set(), set()
+    for at in reversed(range(last + 1 if cause else 0)):
+        if at == last or needed & {*machine.events[at]}:
+            leads[at] = True
+            needed |= seen_by(machine, at)
+    for at in range(first, count):
+        if at == first or gone & seen_by(machine, at):
+            goes[at] = True
+            gone |= {*machine.events[at]}
+    return ["red" if goes[at] else "black" if leads[at] else "grey" for at in range(count)]
+
+
+def rows_of(machine, cause, rewind, start, end):
+    """What is drawn from one kept event on and up to another, which count from 1; none where a step doesn't stand."""
+    if any(machine.place(*it) is None for it in (cause, rewind) if it):
+        return None
+    told = zip(machine.events, machine.told, machine.looked, colours_of(machine, cause, rewind))
+    return [Row(*it) for it in told][start - 1 : end]
+
+
+class Drawn:
+    """A session, how it is to be drawn, and what has to come of it."""
+
+    def __init__(self, number):
+        self.made = Session(number)
+        self.draw, self.machine = self.made.random, self.made.machine
+        self.machine.limit = DEFAULT_LIMIT
+        self.text = self.made.front
+        self.words, self.cause, self.rewind, self.start, self.end = [], None, None, 1, None
+        if number % 25 == LONG:
+            self.begin_far()
+        else:
+            self.go()
+        self.choose(number % 25 == LONG)
+
+    def go(self):
+        """Commands, and lines that do nothing."""
+        pick = self.draw.choice
+        for _ in range(self.draw.randint(1, 8)):
+            node = self.made.node()
+            line = pick((f"run {pick((1, 9, 60, 160))}", f"run greedy {pick((5, 40))}", f"run random {self.draw.randrange(99)} {pick((20, 150))}",
+                "back", f"rewind {name(node)} {self.made.step(node)}", f"step {name(node)}", "foo", "trace 000", f"rewind {name(node)} 99999"))  # fmt: skip
+            self.obey(line)
+        if self.draw.random() < 0.2:
+            self.text += "quit\nrun 5\n"
+
+    def obey(self, line):
+        self.text += f"{line}\n"
+        verb, *words = line.split(" ")
+        if verb == "run":
+            self.machine.explored(line)
+        elif verb == "back":
+            self.machine.back()
+        elif verb == "rewind":
+            self.machine.rewind(number_of(words[0]), int(words[1]))
+        elif verb == "step":
+            self.machine.step(number_of(words[0]))
+
+    def begin_far(self):
+        self.made.begin_with_source(FAR.split("end\n")[0])
+        self.machine, self.text = self.made.machine, self.made.front
+        self.machine.limit = DEFAULT_LIMIT
+        self.obey(FAR.splitlines()[-1])
+
+    def choose(self, is_far):
+        count, pick = len(self.machine.events), self.draw.randint
+        if not is_far and self.draw.random() < 0.5:
+            self.cause = self.option("--cause")
+        if not is_far and self.draw.random() < 0.5:
+            self.rewind = self.option("--rewind")
+        if is_far or self.draw.random() < 0.5:
+            self.start = pick(max(count - 1200, 1), count) if is_far else pick(1, count + 2)
+            self.words += ["--from", str(self.start)]
+        if self.draw.random() < 0.5:
+            self.end = pick(max(1, self.start - 2), count + 2)
+            self.words += ["--to", str(self.end)]
+
+    def option(self, word):
+        node = self.made.node()
+        step = self.made.step(node)
+        self.words += [word, name(node), str(step)]
+        return node, step
+
+
+def number_of(node):
+    return 18 * int(node[0]) + int(node[1:])
+
+
+def picture(number):
+    """A session's text, the words with which it is drawn, and the rows that are wanted, or none."""
+    if number == MILLION:
+        steps = range(DEFAULT_LIMIT - DRAWN + 1, DEFAULT_LIMIT + 1)
+        return JUMPING, ["--from", str(steps[0])], [Row((0,), f"000 {it} {'fetch' if it % 2 else 'run 02'}", False, "black") for it in steps]
+    it = Drawn(number)
+    return it.text, it.words, rows_of(it.machine, it.cause, it.rewind, it.start, it.end)
+
+
+def parted(rows, text):
+    """In what a picture differs from what is wanted, or None."""
+    try:
+        for line, (ours, its) in enumerate(zip_longest(seen_of(rows), Picture(text).seen()), 1):
+            if ours != its:
+                return f"line {line}: wanted is '{ours}', and the picture has '{its}'"
+    except (Unread, AttributeError, KeyError) as error:
+        return f"the picture can't be read: {error}"
+    return None
+
+
+def difference(program, number):
+    """How many events a picture has, and in what it differs from what is wanted, or None."""
+    text, words, rows = picture(number)
+    ran = subprocess.run([program, "draw", *words], input=text, capture_output=True, text=True, timeout=SECONDS)
+    if rows is None:
+        return 0, None if (ran.returncode, ran.stdout) == (1, "no 6 nostep\n") else f"draw {' '.join(words)}: it is not refused"
+    if ran.returncode or ran.stderr:
+        return 0, f"the program ended with status {ran.returncode} and told '{ran.stderr.strip()}'"
+    told = parted(rows, ran.stdout)
+    return len(rows), told and f"draw {' '.join(words)}: {told}"
+
+
+def compared(row):
+    """In what a picture of docs/pictures differs from what its session asks for, or None: by a row of .ci/pictures."""
+    shown, session, *words = row.split()
+    machine, commands = opened(session)
+    for line in commands:
+        if line.startswith(("step ", "back", "run")):
+            answer(machine, line)
+    options = {it: words[at + 1 : at + 3] for at, it in enumerate(words) if it.startswith("--")}
+    cause, rewind = ((number_of(it[0]), int(it[1])) if it else None for it in (options.get("--cause"), options.get("--rewind")))
+    start, end = (int(options[it][0]) if it in options else usual for it, usual in (("--from", 1), ("--to", None)))
+    with open(f"docs/pictures/{shown}.svg", encoding="utf-8") as file:
+        return parted(rows_of(machine, cause, rewind, start, end), file.read())
+
+
+def main():
+    if sys.argv[1:] == ["--compare"]:
+        rows = [it for it in open(".ci/pictures", encoding="utf-8") if re.match(r"\w+ (?:examples|sessions)/", it)]
+        wrong = [f"docs/pictures: {it.split()[0]}: {what}" for it in rows if (what := compared(it))]
+        if wrong or not rows:
+            sys.exit("\n".join(wrong or ["no rows"]))
+        print(f"{len(rows)} pictures in files: all show what they should")
+        return
+    if len(sys.argv) != 4 or not all(it.isdecimal() for it in sys.argv[2:]) or int(sys.argv[3]) == 0:
+        sys.exit("usage: pictures.py PROGRAM FIRST COUNT, with COUNT at least 1")
+    program, first, count = sys.argv[1], int(sys.argv[2]), int(sys.argv[3])
+    events = 0
+    for number in range(first, first + count):
+        made, what = difference(program, number)
+        events += made
+        if what:
+            sys.exit(f"picture {number}: {what}")
+    print(f"{count} pictures with {events} events: all show what they should")
+
+
+if __name__ == "__main__":
+    main()
