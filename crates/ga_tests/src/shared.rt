@@ -134,20 +134,21 @@ fn workers_take_turns(rt: HostRuntime) -> Result<(), Fail> {
     Ok(())
 }
 
-/// Counts what each of two workers tells: 2k behind call k, and 2k - 1 before its answer. Notes any other order.
+/// Counts what each of three workers tells: 2k behind call k, and 2k - 1 before its answer. Notes any other order.
 #[derive(Drop)]
 struct Told {
     first: AtomicU32,
     second: AtomicU32,
+    third: AtomicU32,
     has_failed: AtomicBool,
 }
 
 impl Told {
     fn tell(&self, worker: u32, call: u32, is_after: bool) {
-        let told = if worker == 0 {
-            &self.first
-        } else {
-            &self.second
+        let told = match worker {
+            0 => &self.first,
+            1 => &self.second,
+            _ => &self.third,
         };
         let was = told.load(Ordering::SeqCst);
         let is_due = if is_after {
@@ -172,12 +173,25 @@ impl Gate for Told {
     }
 }
 
+/// Many steps of one node for each of three workers.
+fn three_lists(alloc: Global) -> Result<Vec<Vec<Call>>, Fail>
+    ensures { IfOk result (λ lists. (vec_len lists ≡ 3) × All (λ l. vec_len l < 2 ^ 32) lists.items) }
+{
+    let calls = [Call::Step(NodeId::new(0)); 101];
+    let mut lists = Vec::new(alloc);
+    lists.push(calls.as_slice().to_vec(alloc)?)?;
+    lists.push(calls.as_slice().to_vec(alloc)?)?;
+    lists.push(calls.as_slice().to_vec(alloc)?)?;
+    Ok(lists)
+}
+
 #[test]
 fn gates_are_told_of_each_call(rt: HostRuntime) -> Result<(), Fail> {
     let alloc = rt.alloc();
     let gate = Told {
         first: AtomicU32::new(0),
         second: AtomicU32::new(0),
+        third: AtomicU32::new(0),
         has_failed: AtomicBool::new(false),
     };
     let _closed = race(
@@ -185,12 +199,13 @@ fn gates_are_told_of_each_call(rt: HostRuntime) -> Result<(), Fail> {
         alloc,
         linked(alloc)?,
         1000000,
-        two_lists(alloc)?,
+        three_lists(alloc)?,
         &gate,
     )?;
     assert!(rt; !gate.has_failed.load(Ordering::SeqCst));
-    assert_eq!(rt; gate.first.load(Ordering::SeqCst), 8);
-    assert_eq!(rt; gate.second.load(Ordering::SeqCst), 8);
+    assert_eq!(rt; gate.first.load(Ordering::SeqCst), 202);
+    assert_eq!(rt; gate.second.load(Ordering::SeqCst), 202);
+    assert_eq!(rt; gate.third.load(Ordering::SeqCst), 202);
     Ok(())
 }
 
