@@ -23,7 +23,7 @@ from source import asm
 from sources import Generator, changed
 
 PAGE = f"file://{TOP}/page/out/ga144.html"
-PROGRAM = f"{TOP}/crates/ga144/out/ga144"
+PROGRAM = os.environ.get("PROGRAM", f"{TOP}/crates/ga144/out/ga144")
 SESSIONS, SOURCES, CLICKS, WHYS = 80, 150, 30, 12
 LOOP = "ga144 1\nnode 000\np 000000\nram 00 010000\nend\n"
 faults = []
@@ -103,13 +103,16 @@ page.choose(step);
 const stay = page.session.events.filter(e => marks[e.place] !== 2).map(e => e.text), goes = page.goes, others = %s;
 const asked = others.map(at => page.session.events[at].ends[0]), why = page.session.ask(asked.map(([n, k]) => `why ${n} ${k} ${step[0]} ${step[1]}`)).map(it => it[0].startsWith('chain '));
 const causes = others.every((at, i) => marks[at] === 2 ? at === it.place || !why[i] : (marks[at] === 1) === why[i]);
+const any = (n, mark) => page.session.events.some(e => marks[e.place] === mark && e.ends.some(([m]) => m === n)), has = (it, kind) => it.classList.contains(kind);
+const colours = NAMES.every(n => has(find("n" + n), "goes") === any(n, 2) && has(find("n" + n), "past") === (!any(n, 2) && any(n, 1)))
+    && [...find("trace").children].every(it => has(it, "goes") === (it.textContent[0] === "×") && has(it, "past") === (it.textContent[0] === "◆"));
 const said = page.said, nodes = JSON.stringify(page.then), button = document.getElementById('take').textContent, [head, ...rows] = page.takes;
 const firsts = Object.fromEntries(rows.map(row => row.split(' ').slice(0, 2))), effects = head === `effects ${goes} ${rows.length}` && page.session.events.every(e => e.ends.every(([n, k]) => (k >= firsts[n]) === (marks[e.place] === 2)));
-if (!%s) return { goes, said, button, causes, effects };
+if (!%s) return { goes, said, button, causes, effects, colours };
 document.getElementById('take').click();
 const left = page.session.events.map(e => e.text), told = new Set();
 for (const n of NAMES) for (const line of page.session.ask(['trace ' + n])[0].slice(1)) told.add(line);
-return { goes, said, button, causes, effects, same: JSON.stringify(stay) === JSON.stringify(left), told: told.size === new Set(left).size && left.every(e => told.has(e)),
+return { goes, said, button, causes, effects, colours, same: JSON.stringify(stay) === JSON.stringify(left), told: told.size === new Set(left).size && left.every(e => told.has(e)),
     chip: JSON.stringify(page.seen.nodes) === nodes, logged: document.getElementById('log').textContent };
 """
 
@@ -119,6 +122,7 @@ def choose(browser, name, dice, events, take):
     said = browser.run(CHOOSE % (dice.randrange(events), dice.randrange(2), json.dumps(others), json.dumps(take)))
     check(said["said"].startswith(f"removed {said['goes']} kept ") and said["button"].endswith(f": {said['goes']} events"), f"{name}: {said}")
     check(said["causes"], f"{name}: other causes than why tells: {said}")
+    check(said["colours"], f"{name}: other colours than what goes and what led to it: {said}")
     check(said["effects"], f"{name}: effects tells otherwise what goes: {said}")
     if take:
         check(said["same"] and said["told"] and said["chip"] and said["logged"].endswith(said["said"] + "\n"), f"{name}: taken back otherwise: {said}")
@@ -242,13 +246,16 @@ return {{ ran, first, made, step, count, back, again, node, kept, log: document.
 def every_heap(browser):
     said = browser.run("""
 const source = "node 000\\n: main 3 dup +\\nnode 001\\n: main 4 dup + ;\\n", bytes = Uint8Array.from(atob(find("module").textContent), it => it.charCodeAt(0));
-const ask = (core, image) => [core.assemble(source), core.list(source), core.shades(image, [0, 1, 0, 0, 1], 2), core.answer(image + "step 000\\nnode 000\\n", 9), core.kept(image + "run 40\\n", 90)];
+const ask = (core, image) => [core.assemble(source), core.list(source), core.shades(image, [0, 1, 0, 0, 1], 2), core.answer(image + "step 000\\nnode 000\\n", 9), core.kept(image + "run 40\\n", 90),
+  core.answer(image + "run greedy 900\\n" + "trace 000\\n".repeat(9), 999)];
 const image = page.core.assemble(source).image, enough = ask(page.core, image).map(it => JSON.stringify(it)), core = new Core(bytes), counts = enough.map(() => [0, 0]), other = [];
 for (let size = 1 << 20; size < 1 << 22; size += 1 << 14) {
   core.heap = size;
   ask(core, image).forEach((it, i) => {
     if (JSON.stringify(it) === enough[i]) counts[i][0]++;
-    else if (it === null || it === "" || (it.image === "" && it.told.endsWith("memory\\n")) || it === "no 19 memory line 0\\n" || (i === 3 && it.startsWith("ready\\nno 4 memory\\n"))) counts[i][1]++;
+    else if (it === null || it === "" || (it.image === "" && it.told.endsWith("memory\\n")) || it === "no 19 memory line 0\\n" || (i === 3 && it.startsWith("ready\\nno 4 memory\\n"))
+      // (An answer that is cut is no answer.)
+      || (i === 5 && /^(memory \\d+|no 4 memory)$/m.test(it))) counts[i][1]++;
     else other.push([size, i, it]);
   });
 }

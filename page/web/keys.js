@@ -6,9 +6,17 @@ function steps_of(text) {
   return load + commands.filter(it => it.startsWith("step ")).map(it => it + "\n").join("");
 }
 
-// A session in the address: a long one compressed, unless it is too long for an address even so.
-const LONGEST = 30000;
-async function piped(bytes, way) { return new Uint8Array(await new Response(new Blob([bytes]).stream().pipeThrough(way)).arrayBuffer()); }
+// A session in the address: a long one compressed, unless it is too long for an address even so. More bytes than MOST are not unpacked.
+const LONGEST = 30000, MOST = 1 << 25;
+async function piped(bytes, way) {
+  const reader = new Blob([bytes]).stream().pipeThrough(way).getReader(), parts = [];
+  for (let size = 0, it = await reader.read(); !it.done; it = await reader.read()) {
+    size += it.value.length;
+    if (size > MOST) { reader.cancel(); throw new RangeError("too many bytes"); }
+    parts.push(it.value);
+  }
+  return new Uint8Array(await new Blob(parts).arrayBuffer());
+}
 
 async function link_of(text) {
   const plain = "#" + encodeURIComponent(text);
@@ -140,8 +148,12 @@ async function begin() {
   for (const name in examples) { const option = document.createElement("option"); option.textContent = name; groups[is_source(examples[name]) ? "source" : "sessions"].append(option); }
   find("examples").value = "fault.f18";
   listen(page, examples);
-  const given = location.hash.length > 1 ? await text_in(location.hash).catch(() => "") : "";
-  if (!given || !page.open(given)) choose_example(page, examples);
+  choose_example(page, examples);
+  // The example stays where the address holds no session, or one that is refused.
+  if (location.hash.length > 1) {
+    const given = await text_in(location.hash).catch(() => "");
+    if (given) page.open(given); else page.refuse_with("the address", "it holds no session");
+  }
   document.title = "GA144: ready";
 }
 begin();

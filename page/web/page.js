@@ -1,5 +1,6 @@
 // What the page shows, and what it does for a person.
-const STEPS = 120, LONGEST_RUN = 100000;
+// A longer text than SHOWN is not put into the text area, which would take minutes.
+const STEPS = 120, LONGEST_RUN = 100000, SHOWN = 200000;
 
 // What `effects` told, as a sentence.
 function told_effects([head, ...rows]) {
@@ -38,17 +39,22 @@ class Page {
 
   // Says why a text is refused, and shows its line.
   refuse(text, why) {
-    this.say(is_source(text) ? "source" : "image", why.split("\n"));
-    find("status").textContent = why.split("\n")[0];
-    const box = find("text"), line = line_told(why), lines = text.split("\n");
-    box.value = text;
-    if (line) {
+    this.refuse_with(is_source(text) ? "source" : "image", why);
+    const box = find("text"), line = line_told(why);
+    box.value = text.length < SHOWN ? text : "";
+    if (line && text.length < SHOWN) {
+      const lines = text.split("\n");
       find("session").open = true;
       const from = lines.slice(0, line - 1).join("\n").length + (line > 1);
       box.focus(); box.setSelectionRange(from, from + (lines[line - 1] || "").length);
       box.scrollTop = Math.max(0, line - 4) * 18;
     }
     return false;
+  }
+
+  refuse_with(what, why) {
+    this.say(what, why.split("\n"));
+    find("status").textContent = `${what}: ${why.split("\n")[0]}`;
   }
 
   say(asked, answer) {
@@ -153,7 +159,7 @@ class Page {
     for (const id of ["effects", "whence"]) find(id).disabled = !this.chosen;
     find("chipnote").textContent = this.then ? `as it would be: ${told_effects(this.takes)}` : "";
     find("status").textContent = this.seen.count;
-    if (document.activeElement !== find("text")) find("text").value = this.session.text.length < 2e5 ? this.session.text : "";
+    if (document.activeElement !== find("text")) find("text").value = this.session.text.length < SHOWN ? this.session.text : "";
   }
 
   draw_picture() {

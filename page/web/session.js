@@ -47,7 +47,7 @@ class Session {
       ({ image, told } = this.core.assemble(load));
       if (!image) return told.trim() || "no source";
       listing = listing_of(this.core.list(load));
-      if (!/^end$/m.test(load)) load += "end\n";
+      if (!END.test(load)) load += "end\n";
     }
     const said = this.core.answer(image, this.limit);
     if (said !== "ready\n") return said === null ? NO_MEMORY : said.trim() || "no image";
