@@ -8,9 +8,10 @@
    left one.
 3. Runs in each order and up to a condition, who waits for whom, what a rollback would take and the words of a link, each as the
    core answers it to its line.
-4. Source lines as worked by hand, keys, the session in the address, a small heap: `no 4 memory`, and the session goes on.
+4. Source lines as worked by hand, keys, the session in the address, refused texts and addresses, ends of lines, a small heap:
+   `no 4 memory`, and the session goes on.
 """
-import json, os, random, subprocess, sys, tempfile, time
+import base64, json, os, random, subprocess, sys, tempfile, time, zlib
 
 sys.dont_write_bytecode = True
 TOP = os.path.dirname(os.path.dirname(os.path.dirname(os.path.abspath(__file__))))
@@ -214,6 +215,33 @@ def address(browser):
         check(browser.run("return [location.hash, page.session.text, page.session.events.map(it => it.text)]") == before, "the address holds another session")
 
 
+def packed(text):
+    packer = zlib.compressobj(9, wbits=-15)
+    return "#z," + base64.urlsafe_b64encode(packer.compress(text) + packer.flush()).decode().rstrip("=")
+
+
+# Long texts and addresses that are refused or hold no session are told soon; behind an address the example stays.
+def refusals(browser):
+    for head, lines, why in (("", 500000, "ga144: line 1: no node has begun"), ("ga144 1\n", 4000000, "no 12 line line 2")):
+        told, took = browser.run(f"const text = {json.dumps(head)} + 'foo\\n'.repeat({lines}), then = performance.now(), opened = page.open(text); return [[opened, find('status').textContent], performance.now() - then]")
+        check(told == [False, why] and took < 5000, f"a refused text of {lines} lines: {told} in {took} ms, and not {why}")
+    none, long = "the address holds no session", "ga144: the source has more than 16777216 bytes"
+    links = {"#node%20000%0Afoo": "ga144: line 2: what is foo", "#z,!!!!": none, "#%": none, packed(b"\n" * (17 << 20)): long, packed(b"\n" * (40 << 20)): none}
+    for link, why in links.items():
+        began = time.time()
+        ready(browser, PAGE + link)
+        told = browser.run("return [find('status').textContent, find('log').textContent.split('> ').pop(), page.session.events.length]")
+        check(told[0] == why and told[1].endswith(why + "\n") and told[2] == 175 and time.time() - began < 10, f"the address {link[:30]}: {told}, and not {why}")
+    ready(browser, PAGE)
+
+
+# Lines end with a line feed alone, as in the core: what JavaScript takes for an end of a line besides is text of a remark.
+def ends_of_lines(browser):
+    for end in ("\r", "\u2028", "\u2029"):
+        said = browser.run(f"page.open({json.dumps(f'node 000 : main {chr(92)} x{end}end{end}y' + chr(10) + 'dup' + chr(10))}); return [page.command('step 000'), page.session.load, find('trace').textContent]")
+        check(said[0] == ["000 1 fetch"] and said[1].endswith("y\ndup\nend\n"), f"an end of a line {end!r}: {said}")
+
+
 def widths(browser):
     for width, height in ((1280, 720), (390, 800)):
         browser.call("Emulation.setDeviceMetricsOverride", width=width, height=height, deviceScaleFactor=1, mobile=width < 800)
@@ -277,6 +305,8 @@ def main():
         source_lines(browser)
         keys(browser)
         address(browser)
+        refusals(browser)
+        ends_of_lines(browser)
         widths(browser)
         every_heap(browser)
         made = small_heap(browser)

@@ -152,7 +152,7 @@ async function begin() {
   // The example stays where the address holds no session, or one that is refused.
   if (location.hash.length > 1) {
     const given = await text_in(location.hash).catch(() => "");
-    if (given) page.open(given); else page.refuse_with("the address", "it holds no session");
+    if (given) page.open(given); else page.refuse_with("the address", "the address holds no session");
   }
   document.title = "GA144: ready";
 }

@@ -54,7 +54,7 @@ class Page {
 
   refuse_with(what, why) {
     this.say(what, why.split("\n"));
-    find("status").textContent = `${what}: ${why.split("\n")[0]}`;
+    find("status").textContent = why.split("\n")[0];
   }
 
   say(asked, answer) {
