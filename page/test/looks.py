@@ -1,12 +1,45 @@
-"""Times and pictures of the page, for page.py."""
+"""How the page looks, for page.py: what is shown of a chip, a run and a picture from afar; times and pictures."""
 import json, os
 
 LOOP = "ga144 1\nnode 000\np 000000\nram 00 010000\nend\n"
 
 
+EIGHTEEN = "".join(f"node 0{at:02d}\n/b right\n: main {'@b' if at % 2 else 'dup !b'} main ;\n" for at in range(18))
+
+
+def shown(browser, check):
+    """Whole counts in the cells, names at a phone's width, the node of an event that a run reached, the name of what is loaded, and what the
+    theme's button does."""
+    said = browser.run("""
+find("examples").value = "fault.f18"; find("examples").onchange();
+const example = find("examples").value, selected = page.selected, theme = document.documentElement.dataset.theme, told = find("theme").textContent; find("theme").click();
+const then = [document.documentElement.dataset.theme, find("theme").textContent]; find("theme").click();
+page.open("node 000\\n: main main ;\\n"); const own = find("examples").selectedOptions[0].textContent;
+page.command("run greedy 123456"); const cell = find("n000"), more = cell.querySelector(".more"), text = document.createRange(); text.selectNode(cell.querySelector(".name").firstChild);
+const inside = text.getBoundingClientRect().right <= more.getBoundingClientRect().left + .5 && more.getBoundingClientRect().right <= cell.getBoundingClientRect().right;
+return { example, selected, theme, told, then, own, count: more.textContent, inside };""")
+    other = {"dark": "light", "light": "dark (l)"}
+    check(said["selected"] == "001" and said["example"] == "fault.f18" and said["own"] == "own text", f"what is loaded, and where a run ended: {said}")
+    check(said["told"] == other[said["theme"]] and said["then"][0] != said["theme"] and said["then"][1] == other[said["then"][0]], f"the theme's button: {said}")
+    check(said["count"] == "123456" and said["inside"], f"a cell's count: {said}")
+    browser.call("Emulation.setDeviceMetricsOverride", width=390, height=800, deviceScaleFactor=1, mobile=True)
+    said = browser.run("""page.draw(); return NAMES.filter(n => { const it = find("n" + n).querySelector(".name").getBoundingClientRect(), cell = find("n" + n).getBoundingClientRect(); return !(it.width > 8 && it.right <= cell.right + 1); }).length""")
+    check(said == 0, f"{said} names that aren't whole on a phone's chip")
+    browser.call("Emulation.setDeviceMetricsOverride", width=1280, height=720, deviceScaleFactor=1, mobile=False)
+
+
+def from_afar(browser, check):
+    """From afar each event is told in one column, and neighbours that send one another words are told apart from what they do alone."""
+    said = browser.run(f"""
+page.open({json.dumps(EIGHTEEN)}); page.command("run 100000"); page.picture.fit(); page.draw_picture();
+const it = page.picture, line = Object.fromEntries(page.drawn.map(n => [n, 0])), unit = (it.canvas.clientWidth - 34) / it.wide, {{ nodes, links }} = it.summed(null, 0, it.order.length, line, unit);
+const sum = (list, what) => list.reduce((all, one) => all + one[what], 0), drawn = page.session.events.filter(e => e.ends[0][0] in line);
+return [it.far, sum(nodes, "own") + sum(nodes, "waits") + sum(nodes, "stop") + sum(links, "count"), drawn.length, sum(links, "count"), drawn.filter(e => e.pass).length, nodes.length + links.length];""")
+    check(said[0] and said[1] == said[2] and said[3] == said[4] > 9 and said[5] < 2000, f"from afar: {said}")
+
+
 def times(browser):
-    eighteen = "".join(f"node 0{at:02d}\n/b right\n: main {'@b' if at % 2 else 'dup !b'} main ;\n" for at in range(18))
-    for title, text in (("one node", LOOP), ("18 nodes", eighteen)):
+    for title, text in (("one node", LOOP), ("18 nodes", EIGHTEEN)):
         for count in (1000, 10000, 100000):
             told = browser.run(f"""
 const now = () => performance.now(), out = {{}};
@@ -48,5 +81,7 @@ def shots(browser, folder):
     browser.shot(f"{folder}/pipeline.png")
     browser.run("find('examples').value = 'look_again'; find('examples').onchange(); page.choose(page.session.events[3].ends[0]);")
     browser.shot(f"{folder}/look.png")
-    browser.run("page.open('node 000\\n: main 1 foo +\\n')")
+    browser.run(f"page.open({json.dumps(EIGHTEEN)}); page.command('run 100000'); page.picture.fit(); page.draw_picture(); window.scrollTo(0, 400)")
+    browser.shot(f"{folder}/afar.png")
+    browser.run("window.scrollTo(0, 0); page.open('node 000\\n: main 1 foo +\\n')")
     browser.shot(f"{folder}/refused.png")

@@ -19,7 +19,7 @@ sys.path.insert(0, f"{TOP}/model")
 from browser import Browser
 from runs import orders, until_stop, whence
 from listing import listed
-from looks import commands, shots, times
+from looks import commands, from_afar, shots, shown, times
 from source import asm
 from sources import Generator, changed
 
@@ -298,9 +298,9 @@ def main():
         began = time.time() - start
         compared, assembled = conformance(browser), sources(browser)
         dice, taken = random.Random(7), 0
-        for name in browser.run("return [...document.getElementById('examples').options].map(it => it.value)"):
+        for name in browser.run("return [...document.getElementById('examples').options].map(it => it.value).filter(it => it)"):
             taken += clicks(browser, name, dice)
-        for tried in (until_stop, orders, whence):
+        for tried in (until_stop, orders, whence, shown, from_afar):
             tried(browser, check)
         source_lines(browser)
         keys(browser)

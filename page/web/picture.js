@@ -19,6 +19,10 @@ function placed(events) {
   return { xs, order, deepest: Math.max(1, deepest) };
 }
 
+// A column from afar, in points; and a number in four letters at most.
+const COLUMN = 44;
+function brief(count) { return count < 10000 ? `${count}` : count < 1e6 ? `${Math.round(count / 1000)}k` : `${Math.round(count / 1e6)}M`; }
+
 class Picture {
   constructor(canvas) { this.canvas = canvas; this.from = 0; this.wide = 60; this.set([], []); }
   // The events, and the nodes that have a line.
@@ -47,7 +51,7 @@ class Picture {
     const g = canvas.getContext("2d"), style = getComputedStyle(document.documentElement), colour = name => style.getPropertyValue("--" + name).trim();
     g.scale(ratio, ratio); g.textBaseline = "middle"; g.font = "10px DejaVu Sans Mono, monospace";
     const left = 34, row = (height - 12) / Math.max(1, many), unit = (width - left) / this.wide;
-    const colours = [colour("dim"), colour("past"), colour("goes")], back = colour("card"), text = colour("text"), pick = colour("pick");
+    const colours = [colour("dim"), colour("past"), colour("goes")], back = this.back = colour("card"), text = colour("text"), pick = colour("pick");
     const line = Object.fromEntries(this.names.map((n, i) => [n, 10 + row * (i + .4)]));
     for (const n of this.names) {
       g.strokeStyle = colour("line"); g.lineWidth = 1; g.beginPath(); g.moveTo(left, line[n]); g.lineTo(width, line[n]); g.stroke();
@@ -88,22 +92,41 @@ class Picture {
     }
   }
 
-  // From afar: of each node and each kind one mark for a column of the screen, the kinds of most weight last.
+  // From afar the picture is cut into columns, and each tells what is in it: of a node how many steps of its own, whether it came to
+  // wait, and a stop; of two nodes how many words went from one to the other. What has most weight gives the colour.
   draw_far(g, marks, from, upto, line, left, unit, colours) {
-    const wide = Math.max(1, unit);
-    for (const kind of marks ? [0, PAST, GOES] : [0]) {
-      const drawn = {};
-      g.fillStyle = g.strokeStyle = colours[kind]; g.lineWidth = 1; g.beginPath();
-      for (let i = from; i < upto; i++) {
-        const at = this.order[i];
-        if (marks && marks[at] !== kind || !(this.events[at].ends[0][0] in line)) continue;
-        const px = Math.floor(left + (this.xs[at] - this.from) * unit), { ends, pass } = this.events[at];
-        for (const [n] of ends) if (drawn[n] !== px) { drawn[n] = px; g.fillRect(px, line[n] - 2 - kind, wide, 4 + 2 * kind); }
-        const key = pass && ends[0][0] + ends[1][0];
-        if (key && drawn[key] !== px) { drawn[key] = px; g.moveTo(px + .5, line[ends[0][0]]); g.lineTo(px + .5, line[ends[1][0]]); }
-      }
-      g.stroke();
+    const { nodes, links } = this.summed(marks, from, upto, line, unit), across = column => left + column * COLUMN, busy = this.names.length && Math.abs(line[this.names[0]] - line[this.names[1] || this.names[0]]) || 22;
+    g.textAlign = "center"; g.font = "9px DejaVu Sans Mono, monospace";
+    for (const { column, one, other, count, kind, shift } of links) {
+      const x = across(column) + COLUMN * (.25 + .18 * (shift % 4)), way = Math.sign(line[other] - line[one]);
+      g.strokeStyle = g.fillStyle = colours[kind]; g.lineWidth = kind ? 2 : 1; g.beginPath();
+      g.moveTo(x, line[one] + 5 * way); g.lineTo(x, line[other] - 5 * way); g.stroke();
+      g.beginPath(); g.moveTo(x, line[other] - 4 * way); g.lineTo(x - 3, line[other] - 9 * way); g.lineTo(x + 3, line[other] - 9 * way); g.fill();
+      if (busy > 18) { g.textAlign = "left"; g.fillText(brief(count), x + 3, (line[one] + line[other]) / 2); g.textAlign = "center"; }
     }
+    for (const { column, name, own, waits, stop, kind } of nodes) {
+      const x = across(column), y = line[name];
+      g.strokeStyle = g.fillStyle = colours[kind]; g.lineWidth = 1;
+      if (own) g.fillRect(x + 1, y - 1, COLUMN - 2, 2);
+      if (own && busy > 11) lettered(g, brief(own), x + COLUMN / 2 - 4, y, colours[kind], this.back);
+      if (waits) { g.fillStyle = this.back; g.fillRect(x + COLUMN - 10, y - 3, 8, 6); shape(g, 0, x + COLUMN - 6, y, 4, true); g.fillStyle = colours[kind]; }
+      if (stop) g.fillRect(x + COLUMN - 7, y - 4, 8, 8);
+    }
+    g.textAlign = "left";
+  }
+
+  // What draw_far tells, of the events of a part of the order.
+  summed(marks, from, upto, line, unit) {
+    const nodes = new Map(), links = new Map(), at = (map, key, make) => { let it = map.get(key); if (!it) map.set(key, it = make()); return it; };
+    for (let i = from; i < upto; i++) {
+      const place = this.order[i], { ends, pass, label } = this.events[place], kind = marks ? marks[place] : 0, column = Math.floor(Math.max(0, this.xs[place] - this.from) * unit / COLUMN);
+      if (!(ends[0][0] in line)) continue;
+      const [[one], [other] = []] = ends, it = pass ? at(links, `${column} ${one} ${other}`, () => ({ column, one, other, count: 0, kind: 0, shift: NUMBER[one] + 2 * (one > other) }))
+        : at(nodes, `${column} ${one}`, () => ({ column, name: one, own: 0, waits: 0, stop: 0, kind: 0 }));
+      it.kind = Math.max(it.kind, kind);
+      if (pass) it.count++; else if (label === "wait") it.waits++; else if (label.startsWith("stop")) it.stop++; else it.own++;
+    }
+    return { nodes: [...nodes.values()], links: [...links.values()] };
   }
 
   draw_pick(g, chosen, line, left, unit, pick) {
