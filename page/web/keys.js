@@ -32,9 +32,12 @@ async function text_in(link) {
   return text_of(await piped(packed, new DecompressionStream("deflate-raw")));
 }
 
+// The button says what a click makes of it.
+function set_theme(name) { document.documentElement.dataset.theme = name; find("theme").innerHTML = name === "light" ? "dark (<u>l</u>)" : "<u>l</u>ight"; }
+
 // What each key does.
 function acts_of(page) {
-  const theme = () => { const root = document.documentElement; root.dataset.theme = root.dataset.theme === "light" ? "dark" : "light"; page.draw(); };
+  const theme = () => { set_theme(document.documentElement.dataset.theme === "light" ? "dark" : "light"); page.draw(); };
   const look = act => () => { act(); page.draw_picture(); };
   // Where the browser gives no clipboard, the text is selected to be copied.
   const copy = async text => {
@@ -77,7 +80,7 @@ function listen_to_fields(page, acts, examples) {
   find("reach").onclick = until;
   find("order").onchange = () => { find("order").blur(); find("seed").hidden = find("order").value !== "random"; };
   find("idle").onchange = () => { page.arrange(); page.draw(); };
-  find("examples").onchange = () => { find("examples").blur(); choose_example(page, examples); };
+  find("examples").onchange = () => { find("examples").blur(); choose_example(page, examples, find("examples").value); };
   find("open").onclick = () => page.open(find("text").value);
   find("file").onchange = async () => page.open(await find("file").files[0].text());
 }
@@ -102,10 +105,11 @@ function listen(page, examples) {
 }
 
 // Source runs until a node stops, or for some events, so that there is something to see.
-function choose_example(page, examples) {
-  const text = examples[find("examples").value];
+function choose_example(page, examples, name) {
+  const text = examples[name];
   if (!is_source(text)) page.open(steps_of(text));
-  else if (page.open(text)) { page.session.obey(["run 300 until stop"]); page.after(); page.picture.begin(); page.draw_picture(); }
+  else if (page.open(text)) { page.command("run 300 until stop"); page.picture.begin(); page.draw_picture(); }
+  find("examples").value = name;
 }
 
 function listen_to_picture(page) {
@@ -136,7 +140,7 @@ function listen_to_picture(page) {
 }
 
 async function begin() {
-  document.documentElement.dataset.theme = matchMedia("(prefers-color-scheme: light)").matches ? "light" : "dark";
+  set_theme(matchMedia("(prefers-color-scheme: light)").matches ? "light" : "dark");
   const examples = JSON.parse(find("sessions").textContent);
   let core;
   try { core = new Core(Uint8Array.from(atob(find("module").textContent), it => it.charCodeAt(0))); } catch (fault) {
@@ -146,9 +150,8 @@ async function begin() {
   const page = window.page = new Page(core), groups = { source: document.createElement("optgroup"), sessions: document.createElement("optgroup") };
   for (const name in groups) { groups[name].label = name; find("examples").append(groups[name]); }
   for (const name in examples) { const option = document.createElement("option"); option.textContent = name; groups[is_source(examples[name]) ? "source" : "sessions"].append(option); }
-  find("examples").value = "fault.f18";
   listen(page, examples);
-  choose_example(page, examples);
+  choose_example(page, examples, "fault.f18");
   // The example stays where the address holds no session, or one that is refused.
   if (location.hash.length > 1) {
     const given = await text_in(location.hash).catch(() => "");

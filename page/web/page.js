@@ -15,7 +15,7 @@ class Page {
   open(text) {
     const { load, commands } = parted(text), session = new Session(this.core);
     const refused = session.open(load);
-    find("log").textContent = "";
+    find("log").textContent = ""; find("examples").value = "";
     if (refused) return this.refuse(text, refused);
     this.session = session;
     if (this.tells_whence === undefined) this.offer_whence();
@@ -74,6 +74,8 @@ class Page {
     }
     const { answers, more } = STEPS_ALONE.test(line) ? this.session.step([line], this.session.questions(this.selected)) : { answers: this.session.obey([line]), more: null };
     this.say(line, answers[0]);
+    const reached = event_of(answers[0][0].replace(/^reached \d+ /, ""));
+    if (line.startsWith("run") && reached) [[this.selected]] = reached.ends;
     this.after(more && this.session.seen(this.selected, more));
     return answers[0];
   }
@@ -184,7 +186,7 @@ class Page {
       // What is as it was needs no drawing.
       if (cell.className === kind && cell.title === title) return;
       cell.className = kind; cell.title = title;
-      cell.innerHTML = `<span class="name">${name} <span class="more">${steps || ""}</span><br></span><span class="what">${safe(active ? doing(node) : "·")}</span>`;
+      cell.innerHTML = `<span class="name">${name}<span class="more${steps > 99999 ? " long" : ""}">${steps || ""}</span><br></span><span class="what">${safe(active ? doing(node) : "·")}</span>`;
       if (node.wait && active) for (const side of "rdlu") if (node.set.includes(side)) { const bar = document.createElement("i"); bar.className = `side ${compass(name, side)}${node.wait === "write" ? " write" : ""}`; cell.append(bar); }
     });
   }
