@@ -109,7 +109,7 @@ class Picture {
       g.strokeStyle = g.fillStyle = colours[kind]; g.lineWidth = 1;
       if (own) g.fillRect(x + 1, y - 1, COLUMN - 2, 2);
       if (own && busy > 11) lettered(g, brief(own), x + COLUMN / 2 - 4, y, colours[kind], this.back);
-      if (waits) { g.fillStyle = this.back; g.fillRect(x + COLUMN - 10, y - 3, 8, 6); shape(g, 0, x + COLUMN - 6, y, 4, true); g.fillStyle = colours[kind]; }
+      if (waits) { g.fillStyle = this.back; g.fillRect(x + COLUMN - 10, y - 3, 8, 6); g.strokeStyle = colours[kind]; shape(g, 0, x + COLUMN - 6, y, 4, true); g.fillStyle = colours[kind]; }
       if (stop) g.fillRect(x + COLUMN - 7, y - 4, 8, 8);
     }
     g.textAlign = "left";
