@@ -3,7 +3,7 @@
 from machine import name
 from node import Node, advanced
 from source import FIELDS, programs_of
-from words import CODE, OPCODES, Fault
+from words import CODE, OPCODES, Fault, lines_of
 
 NAMES = ["invert" if it == "-" else it for it in OPCODES]
 
@@ -22,7 +22,7 @@ def cell_lines(cell, layout, lines):
         held = value_text(cell.data[0])
     else:
         held = " ".join(NAMES[code] if label is None else f"{NAMES[code]} {target_text(label, layout)}" for _, code, label in cell.slots)
-    line = lines[cell.slots[0][0] - 1].strip(" \t")
+    line = lines[cell.slots[0][0] - 1].strip(" \t\r\f")
     yield f"{cell.address:03x} {layout.word(cell):06x} {held} \\ {line}"
     address = cell.address
     for _, value in cell.literals:
@@ -32,7 +32,7 @@ def cell_lines(cell, layout, lines):
 
 def listed(source):
     """What `list` writes, and tells, and its status."""
-    lines, text = source.split("\n"), []
+    lines, text = lines_of(source), []
     try:
         programs = programs_of(source)
     except Fault as error:

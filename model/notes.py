@@ -2,6 +2,7 @@
 
 from node import advanced, target_of
 from source import NODE_NAMES, programs_of
+from words import lines_of
 
 
 class Notes:
@@ -9,7 +10,7 @@ class Notes:
 
     def __init__(self, source=None):
         self.cells, self.labels = {}, {}
-        lines = [it.strip(" \t") for it in (source or "").split("\n")]
+        lines = [it.strip(" \t\r\f") for it in lines_of(source or "")]
         for name, (_, _, layout) in (programs_of(source) if source is not None else {}).items():
             node = NODE_NAMES[name]
             for cell in layout.cells:

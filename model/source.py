@@ -107,17 +107,19 @@ class Layout:
     def load(self, node, given):
         """Writes the cells; `given` gets the line of each."""
         for cell in self.cells:
-            demand(cell.loop is None, cell.loop, "the loop of unext is longer than its cell")
+            demand(cell.loop is None, cell.loop, f"the loop of unext in {cell.address:03x} is longer than its cell")
             address = cell.address
             for line, word in [(cell.slots[0][0], self.word(cell))] + [(line, self.value(it)) for line, it in cell.literals]:
                 low = address % 0x200
-                demand(low < 0x40 or 0x80 <= low < 0xC0, line, "past the end of RAM or ROM")
-                demand(low not in given, line, f"cell given before on line {given.get(low)}")
+                demand(low < 0x40 or 0x80 <= low < 0xC0, line, f"{low:03x} is past the end of RAM or ROM")
+                demand(low not in given, line, f"cell {low:03x} given before on line {given.get(low)} (org {low} is {low:03x})")
                 given[low] = line
                 (node.rom if low >= 0x80 else node.ram)[low % 0x40] = word
                 address = advanced(address)
             line, _, label = cell.slots[-1]
-            demand(label is None or cell.reaches(len(cell.slots) - 1, self.labels[label]), line, "target out of reach")
+            if label is not None:
+                target = self.labels[label]
+                demand(cell.reaches(len(cell.slots) - 1, target), line, f"{target:03x} is out of reach of a jump in {cell.address:03x}")
 
 
 def warnings(words, layout):

@@ -12,6 +12,7 @@ import sys
 from files import load_of
 from listing import disassembled, listed
 from source import NODE_NAMES, asm
+from words import MARK
 
 SMALL = "node 000\n: x for dup unext ( c ) x ;\n/a left 'x 5 ,\nnode 001 +cy\nbegin @ while if else then\nrepeat !b ..\n"
 PLAIN = "dup drop over + - and or @ ! @b !b a b! a! push pop . 2* 2/ +* @+ !+ ; ex".split()
@@ -93,7 +94,8 @@ def run(program, mode, text):
 def compare(program, seed, source):
     """Compares all three commands on a source and its image. Answers what `asm` comes to."""
     made = asm(source)
-    wanted = {("asm", source): made, ("list", source): listed(source)}
+    windows = MARK + source.replace("\n", "\r\n")
+    wanted = {("asm", source): made, ("list", source): listed(source), ("asm", windows): asm(windows), ("list", windows): listed(windows)}
     if made[2] == 0:
         back = disassembled(load_of(made[0].splitlines()))
         wanted |= {("dis", made[0]): (back, "", 0), ("asm", back): (made[0], "", 0)}

@@ -11,6 +11,7 @@ BEGINNINGS = {"if": "if", "-if": "-if", "ahead": "jump"}
 ENDINGS = {"again": "jump", "until": "if", "-until": "-if", "next": "next"}
 CONTROLS = {*BEGINNINGS, *ENDINGS, "begin", "for", "else", "then", "while", "-while", "repeat", "unext", "*next"}
 DIRECTIVES = {":", "org", "/p", "/a", "/b", "..", "+cy", "-cy", "node", ",", "\\", "("}
+MARK = "\xef\xbb\xbf"
 BOUNDS = {"/p": 0x400, "/a": 0x40000, "/b": 0x200}
 
 
@@ -27,10 +28,20 @@ def demand(holds, line, text):
         raise fault(line, text)
 
 
+def lines_of(source):
+    """The lines, without a byte order mark before the first and without a carriage return at the end of each."""
+    lines = source.removeprefix(MARK).split("\n")
+    return [it.removesuffix("\r") for it in (lines[:-1] if source.endswith("\n") or not source else lines)]
+
+
+def shown(word):
+    """A word as standard error is told it."""
+    return "".join(it if "!" <= it <= "~" else f"\\x{ord(it):02x}" for it in word)
+
+
 def words_of(source):
     """The words with their lines; a line at fault is a word that is a Fault, and the last one."""
-    lines = source.split("\n")
-    for number, line in enumerate(lines[:-1] if lines[-1] == "" else lines, 1):
+    for number, line in enumerate(lines_of(source), 1):
         if line == "end":
             return
         if len(line) > 200:
@@ -85,7 +96,7 @@ class Words:
         if self.open:
             raise fault(self.open[0][2], "this is never closed")
         for label, first in self.lines.items():
-            demand(label in self.marked, first, f"what is {label}")
+            demand(label in self.marked, first, f"what is {shown(label)}")
 
     def take(self, line):
         """The word behind a directive."""
@@ -138,7 +149,7 @@ class Words:
         elif (value := self.value(line, word)) is not None:
             self.ask(line, "literal", value)
         else:
-            demand(is_name(word), line, f"what is {word}")
+            demand(is_name(word), line, f"what is {shown(word)}")
             self.jump(line, "jump" if self.comes(";") else "call", self.label(line, word))
         return line
 
@@ -169,7 +180,7 @@ class Words:
         elif word == "..":
             self.ask(line, "fill")
         else:
-            raise fault(line, f"what is {word}")
+            raise fault(line, f"what is {shown(word)}")
 
     def new(self):
         self.made += 1

@@ -210,6 +210,9 @@ WRONG = (
     (WORDS, 'label = self.close(line, "ahead")\n            self.ahead(line, "jump")\n            self.mark(line, label)', 'label = self.close(line, "ahead")\n            self.mark(line, label)\n            self.ahead(line, "jump")'),
     (WORDS, 'self.jump(line, "next", self.close(line, "loop"))\n            self.open.append(innermost)', 'self.jump(line, "next", innermost[1])\n            self.open.append(innermost)'),
     (WORDS, "raise fault(self.open[0][2]", "raise fault(self.open[-1][2]"),
+    (WORDS, "source.removeprefix(MARK)", "source"),
+    (WORDS, '[it.removesuffix("\\r") for it in', "[it for it in"),
+    (WORDS, 'it if "!" <= it <= "~" else', 'it if "!" <= it else'),
     # the packing rule
     (SOURCE, "FIELDS = {0: 10, 1: 8, 2: 3}", "FIELDS = {0: 10, 1: 8, 2: 4}"),
     (SOURCE, "FIELDS = {0: 10, 1: 8, 2: 3}", "FIELDS = {0: 10, 1: 8}"),
@@ -230,14 +233,14 @@ WRONG = (
     (SOURCE, "not cell.literals and cell.address", "cell.address"),
     (SOURCE, "word >> shift << shift |", "word |"),
     # the cells of source
-    (SOURCE, 'demand(cell.loop is None, cell.loop, "the loop of unext is longer than its cell")', "pass"),
-    (SOURCE, 'demand(low not in given, line, f"cell given before on line {given.get(low)}")', "pass"),
+    (SOURCE, 'demand(cell.loop is None, cell.loop, f"the loop of unext in {cell.address:03x} is longer than its cell")', "pass"),
+    (SOURCE, 'demand(low not in given, line, f"cell {low:03x} given before on line {given.get(low)} (org {low} is {low:03x})")', "pass"),
     (SOURCE, "low < 0x40 or 0x80 <= low < 0xC0, line", "low < 0x80 or 0x80 <= low < 0xC0, line"),
-    (SOURCE, "demand(label is None or", "demand(True or label is None or"),
+    (SOURCE, "if label is not None:\n                target", "if False:\n                target"),
     (SOURCE, '"main" if "main" in layout.labels else 0', "0"),
     (SOURCE, 'if "/p" not in given and layout.cells:', 'if "/p" not in given:'),
     # stores over code
-    (SOURCE, 'if kind == "op" and stored is not None and stored % 0x200 < 0x100:', 'if kind == "op" and stored is not None:'),
+    (SOURCE, 'if kind == "op" and stored is not None and stored % 0x200 < 0x80:', 'if kind == "op" and stored is not None:'),
     (SOURCE, "        if not cell.data:\n            lines", "        if cell.slots:\n            lines"),
     (SOURCE, 'elif op in ("!+", "@+") and a is not None:', 'elif op == "@+" and a is not None:'),
     (SOURCE, '    elif kind == "mark" or op in (";", "ex", "jump", "call"):', '    elif op in (";", "ex", "jump", "call"):'),

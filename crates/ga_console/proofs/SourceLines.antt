@@ -10,7 +10,7 @@ use Rattle.ga_slots.specs.declared.op.Op.TheVariants.{Return, Execute, Jump, Cal
 use Rattle.ga_slots.specs.Codes.{name_of}
 use Rattle.ga_image.specs.Lines.{Text}
 use Rattle.ga_source.specs.Saying.{words_of, Said, a_word, spoken}
-use Rattle.ga_console.specs.kept.Disassembling.{Word, Says, Adds, AddsRemark, IsOrdinary, is_inner, hex_of, number_word, register_words, address_words, cell_words}
+use Rattle.ga_console.specs.kept.Disassembling.{Word, Says, Adds, AddsRemark, IsOrdinary, IsUnmarked, is_inner, hex_of, number_word, register_words, address_words, cell_words}
 use Rattle.ga_console.proofs.HexLemmas.{all_shown}
 use Rattle.ga_console.proofs.Telling.{says_nothing, says_both, says_line, says_two, no_end, word_first, remark_last, all_inner, plain_word, grown}
 
@@ -32,15 +32,15 @@ both_added old between new words more a b = (a.0 ++ b.0, grown old between new a
 
 -- ---- a register
 
-register_line : (name : Word) (v : ℕ) → IsOrdinary name → length name ≤ 10 → Says (((name ++ codes " 0x") ++ hex_of 5 v) ++ 10 ∷ []) (name ∷ number_word 5 v ∷ [])
-register_line name v is short =
+register_line : (name : Word) (v : ℕ) → IsUnmarked name → IsOrdinary name → length name ≤ 10 → Says (((name ++ codes " 0x") ++ hex_of 5 v) ++ 10 ∷ []) (name ∷ number_word 5 v ∷ [])
+register_line name v start is short =
     subst (λ (t : Text). Says (t ++ 10 ∷ []) (name ∷ number_word 5 v ∷ [])) (sym (append_assoc name (codes " 0x") (hex_of 5 v)))
-    (says_two name (number_word 5 v) is (number_ordinary 5 v) (omega arith))
+    (says_two name (number_word 5 v) start is (number_ordinary 5 v) (omega arith))
 
-pub register_added : (old new : Text) (name : Word) (v usual : ℕ) → (v ≡ usual → ⊥) → new ≡ old ++ (((name ++ codes " 0x") ++ hex_of 5 v) ++ 10 ∷ []) → IsOrdinary name → length name ≤ 10 → Adds old new (register_words name v usual)
-register_added old new name v usual differs e is short =
+pub register_added : (old new : Text) (name : Word) (v usual : ℕ) → (v ≡ usual → ⊥) → new ≡ old ++ (((name ++ codes " 0x") ++ hex_of 5 v) ++ 10 ∷ []) → IsUnmarked name → IsOrdinary name → length name ≤ 10 → Adds old new (register_words name v usual)
+register_added old new name v usual differs e start is short =
     subst (λ (words : List Word). Adds old new words) (sym (cond-false (v == usual) [] (name ∷ number_word 5 v ∷ []) (ne_eqb v usual differs)))
-    (((name ++ codes " 0x") ++ hex_of 5 v) ++ 10 ∷ [], e, register_line name v is short)
+    (((name ++ codes " 0x") ++ hex_of 5 v) ++ 10 ∷ [], e, register_line name v start is short)
 
 pub register_usual : (old : Text) (name : Word) (v usual : ℕ) → v ≡ usual → Adds old old (register_words name v usual)
 register_usual old name v usual same = nothing_added old (register_words name v usual) (cond-true (v == usual) [] (name ∷ number_word 5 v ∷ []) (eq-eqb v usual same))
@@ -53,7 +53,7 @@ register_same old new name v n usual m e f added = subst (λ (k : ℕ). Adds old
 pub address_added : (old new : Text) (address next : ℕ) → (address ≡ next → ⊥) → new ≡ old ++ ((codes "org 0x" ++ hex_of 2 address) ++ 10 ∷ []) → Adds old new (address_words address next)
 address_added old new address next differs e =
     subst (λ (words : List Word). Adds old new words) (sym (cond-false (address == next) [] (codes "org" ∷ number_word 2 address ∷ []) (ne_eqb address next differs)))
-    ((codes "org 0x" ++ hex_of 2 address) ++ 10 ∷ [], e, says_two (codes "org") (number_word 2 address) (plain_word (codes "org") refl refl refl refl) (number_ordinary 2 address) (omega arith))
+    ((codes "org 0x" ++ hex_of 2 address) ++ 10 ∷ [], e, says_two (codes "org") (number_word 2 address) refl (plain_word (codes "org") refl refl refl refl) (number_ordinary 2 address) (omega arith))
 
 pub address_usual : (old : Text) (address next : ℕ) → address ≡ next → Adds old old (address_words address next)
 address_usual old address next same = nothing_added old (address_words address next) (cond-true (address == next) [] (codes "org" ∷ number_word 2 address ∷ []) (eq-eqb address next same))
@@ -71,7 +71,7 @@ cell_says w remark line =
 
 cell_line : (w : ℕ) (remark : Text) → list_all is_inner remark ≡ true → length remark ≤ 48 → Says ((number_word 6 w ++ 32 ∷ behind remark) ++ 10 ∷ []) (number_word 6 w ∷ codes "," ∷ [])
 cell_line w remark inner short =
-    says_line (number_word 6 w ++ 32 ∷ behind remark) (number_word 6 w ∷ codes "," ∷ [])
+    says_line (number_word 6 w ++ 32 ∷ behind remark) (number_word 6 w ∷ codes "," ∷ []) refl
     (list_all-append is_inner (number_word 6 w) (32 ∷ behind remark) ∙ and_from (list_all is_inner (number_word 6 w)) (list_all is_inner (32 ∷ behind remark)) (hex_inner 6 w) inner)
     (omega (arith, length-append (number_word 6 w) (32 ∷ behind remark)))
     (no_end (number_word 6 w) (behind remark))

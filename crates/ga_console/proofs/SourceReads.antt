@@ -1,23 +1,22 @@
 -- Source that is read up to its line `end` says what the whole text says.
-use Rattle.std.specs.Prelude.{not, codes, bytes_eq, slice_index_or, ◌≢◌, Some}
+use Rattle.std.specs.Prelude.{not, if◌then◌else◌, codes, bytes_eq, slice_index_or, ◌≢◌, Some}
 use Rattle.std.proofs.Common.{◌≡◌, ◌∙◌, ◌⊎◌, ℕ, Bool, true, false, List, [], ◌∷◌, ◌++◌, map, refl, ap, sym, subst, inl, inr, append_assoc}
 use Rattle.std.specs.List.{All, AllByRecursion, list_all}
 use Rattle.std.proofs.lemmas.List.{append-nil}
 use Rattle.std.proofs.lemmas.List.Elements.{All-head, All-tail}
-use Rattle.std.proofs.lemmas.Slice.Eq.{bytes_eq-Decides}
-use Rattle.std.proofs.lemmas.Bool.{cases_Bool, and_from, cond-true}
+use Rattle.std.proofs.lemmas.Bool.{and_from}
 use Rattle.ga_node.specs.Record.{NodeState}
 use Rattle.ga_grid.specs.Chip.{node_at}
 use Rattle.ga_grid.specs.Load.{default_chip}
 use Rattle.ga_image.specs.Lines.{Bytes, Text, Line}
-use Rattle.ga_source.specs.Saying.{Said, is_feed, lines_of, said_by, said_from, said_in, next_line, up_to_fault}
+use Rattle.ga_source.specs.Saying.{Said, is_feed, lines_of, bare, said_by, said_from, said_in, next_line, up_to_fault}
 use Rattle.ga_source.specs.Plain.{bodies_in, yxx_in}
 use Rattle.ga_source.specs.Made.{HasPlain, IsMade}
 use Rattle.ga_console.specs.Lines.{HasNoFeed, ended, text_of}
 use Rattle.ga_console.specs.Lines.{is_feed as ends_line}
 use Rattle.ga_console.specs.Image.{IsBodyLine, EndsAtEnd, end_line}
 use Rattle.ga_console.specs.Source.{IsReadWhole}
-use Rattle.ga_console.proofs.Telling.{part_behind, line_first}
+use Rattle.ga_console.proofs.Telling.{part_behind, own_line}
 
 -- no byte of a line ends it
 inner_of : (line : Line) → HasNoFeed line → list_all (λ b. not (is_feed b)) line ≡ true
@@ -29,31 +28,31 @@ inner_of (b ∷ line) none =
     (ap not (All-head (λ b. ends_line b ≡ false) b line none))
     (inner_of line (All-tail (λ b. ends_line b ≡ false) b line none))
 
--- a line that isn't `end`
-other_line : (line : Line) → IsBodyLine line → bytes_eq line (codes "end") ≡ false
-other_line line body = elim (cases_Bool (bytes_eq line (codes "end"))) [
-  | inl same ↦ absurd (body.not_end ((bytes_eq-Decides line (codes "end")).0 same))
-  | inr other ↦ other
-]
-
 -- nothing is said from a line `end` on
 end_last : (line : ℕ) (rest : Bytes) → said_from line (lines_of (ended end_line ++ rest)) ≡ []
 unfolding said_from
-end_last line rest = ap (said_from line) (part_behind is_feed end_line 10 rest refl refl)
+end_last line rest =
+    ap (said_from line) (part_behind is_feed end_line 10 rest refl refl)
+    ∙ ap (λ (own : List ℕ). if bytes_eq own (codes "end") then [] else said_by line own ++ said_from (next_line line) (lines_of rest)) (own_line line end_line refl refl)
+
+-- a line, and what those behind it say
+line_then : (line : ℕ) (first rest : Text) → HasNoFeed first → said_from line (lines_of (ended first ++ rest)) ≡ (if bytes_eq (bare line first) (codes "end") then [] else said_by line (bare line first) ++ said_from (next_line line) (lines_of rest))
+unfolding said_from
+line_then line first rest none =
+    ap (λ (t : Text). said_from line (lines_of t)) (append_assoc first (10 ∷ []) rest)
+    ∙ ap (said_from line) (part_behind is_feed first 10 rest (inner_of first none) refl)
 
 -- what stands behind a line `end` says nothing
 to_end : (lines : List Line) → AllByRecursion IsBodyLine lines → (line : ℕ) (rest : Bytes) → said_from line (lines_of ((text_of lines ++ ended end_line) ++ rest)) ≡ said_from line (lines_of (text_of lines ++ ended end_line))
 to_end [] body line rest = end_last line rest ∙ sym (end_last line [])
 to_end (first ∷ lines) body line rest =
     let behind : Text = text_of lines ++ ended end_line in
-    let inner = inner_of first body.0.no_feed in
-    let other = other_line first body.0 in
     let whole : (text_of (first ∷ lines) ++ ended end_line) ++ rest ≡ ended first ++ (behind ++ rest) =
     ap (λ (t : Text). t ++ rest) (append_assoc (ended first) (text_of lines) (ended end_line)) ∙ append_assoc (ended first) behind rest in
     ap (λ (t : Text). said_from line (lines_of t)) whole
-    ∙ (line_first line first (behind ++ rest) inner other
-    ∙ (ap (λ (l : List Said). said_by line first ++ l) (to_end lines body.1 (next_line line) rest)
-    ∙ (sym (line_first line first behind inner other)
+    ∙ (line_then line first (behind ++ rest) body.0.no_feed
+    ∙ (ap (λ (l : List Said). if bytes_eq (bare line first) (codes "end") then [] else said_by line (bare line first) ++ l) (to_end lines body.1 (next_line line) rest)
+    ∙ (sym (line_then line first behind body.0.no_feed)
     ∙ ap (λ (t : Text). said_from line (lines_of t)) (sym (append_assoc (ended first) (text_of lines) (ended end_line))))))
 
 -- so a source up to its line `end` says what the whole text says

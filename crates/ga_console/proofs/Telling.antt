@@ -1,5 +1,5 @@
 -- Texts that say words, line by line.
-use Rattle.std.specs.Prelude.{◌==◌, not, codes, bytes_eq, filter}
+use Rattle.std.specs.Prelude.{◌-◌, ◌==◌, not, codes, bytes_eq, filter, slice_index, take, drop, if◌then◌else◌, suc}
 use Rattle.std.proofs.Common.{◌≡◌, ◌∙◌, ℕ, ◌+◌, ◌/◌, ◌%◌, ◌<◌, ◌≤◌, Bool, true, false, ◌&&◌, ltb, List, [], ◌∷◌, ◌++◌, length, map, refl, arith, ap, sym, inl, inr, append_assoc, length-append}
 use Rattle.std.specs.List.{list_all}
 use Rattle.std.proofs.lemmas.List.{map-append}
@@ -8,8 +8,8 @@ use Rattle.std.proofs.lemmas.Slice.Eq.{bytes_eq-Decides}
 use Rattle.std.proofs.lemmas.Bool.{cases_Bool, and_parts, and_from, cond-false, le-ltb, ltb-true, lt-ltb, ne_eqb, false≢true}
 use Rattle.ga_image.specs.Lines.{Text}
 use Rattle.ga_image.specs.Spelling.{decimal3_of}
-use Rattle.ga_source.specs.Saying.{with_byte, parted, is_feed, is_blank, lines_of, has_bytes, words_of, longest, Said, a_word, is_word, spoken, said_by, next_line, said_from}
-use Rattle.ga_console.specs.kept.Disassembling.{Word, Says, IsOrdinary, is_inner, is_shown}
+use Rattle.ga_source.specs.Saying.{with_byte, parted, is_feed, is_blank, lines_of, has_bytes, words_of, longest, order_mark, without_return, bare, Said, a_word, is_word, spoken, said_by, next_line, said_from}
+use Rattle.ga_console.specs.kept.Disassembling.{Word, Says, IsOrdinary, IsUnmarked, is_inner, is_shown}
 
 -- ---- parts of texts
 
@@ -46,7 +46,8 @@ shown_inner : (b : ℕ) → is_shown b ≡ true → is_inner b ≡ true
 shown_inner b shown =
     let more : 32 < b = ltb-true 32 b shown in
     let one : (b == 10) ≡ false = ne_eqb b 10 (λ e. omega arith) in
-    rw one refl
+    let two : (b == 13) ≡ false = ne_eqb b 13 (λ e. omega arith) in
+    rw (one, two) refl
 
 -- a test that is weaker holds too
 weaker : (p q : ℕ → Bool) (list : List ℕ) → ((b : ℕ) → p b ≡ true → q b ≡ true) → list_all p list ≡ true → list_all q list ≡ true
@@ -104,12 +105,47 @@ none_second (word ∷ words) more none = cc
 none_both : (first second : Text) → first ≡ [] → second ≡ [] → first ++ second ≡ []
 none_both first second one two = rw (one, two) refl
 
-pub line_first : (line : ℕ) (text rest : Text) → list_all is_inner text ≡ true → bytes_eq text (codes "end") ≡ false → said_from line (lines_of ((text ++ 10 ∷ []) ++ rest)) ≡ said_by line text ++ said_from (next_line line) (lines_of rest)
+inner_no_feed : (b : ℕ) → is_inner b ≡ true → not (is_feed b) ≡ true
+inner_no_feed b inner = (and_parts (not (b == 10)) (not (b == 13)) inner).0
+
+inner_no_return : (b : ℕ) → is_inner b ≡ true → (b == 13) ≡ false
+inner_no_return b inner = not_true (b == 13) (and_parts (not (b == 10)) (not (b == 13)) inner).1
+
+none_and : (a b : Bool) → a ≡ false → (a && b) ≡ false
+none_and true b none = absurd (false≢true (sym none))
+none_and false b none = refl
+
+-- a text that doesn't begin as a mark does has none
+no_mark : (text : List ℕ) → IsUnmarked text → bytes_eq (take 3 text) order_mark ≡ false
+no_mark [] start = refl
+no_mark (b ∷ text) start = none_and (b == 0xef) (bytes_eq (take 2 text) (0xbb ∷ 0xbf ∷ [])) start
+
+-- the last byte is no carriage return
+last_byte : (b : ℕ) (text : List ℕ) → list_all is_inner (b ∷ text) ≡ true → (slice_index (b ∷ text) (length text) == 13) ≡ false
+last_byte b [] inner = inner_no_return b (and_parts (is_inner b) true inner).0
+last_byte b (c ∷ text) inner = last_byte c text (and_parts (is_inner b) (list_all is_inner (c ∷ text)) inner).1
+
+no_return : (text : List ℕ) → list_all is_inner text ≡ true → (slice_index text (length text - 1) == 13) ≡ false
+no_return [] inner = refl
+no_return (b ∷ text) inner = let e : suc (length text) - 1 ≡ length text = omega arith in rw e (last_byte b text inner)
+
+and_none : (a b : Bool) → b ≡ false → (a && b) ≡ false
+and_none true b none = none
+and_none false b none = refl
+
+-- so such a line has nothing that an editor added
+pub own_line : (line : ℕ) (text : List ℕ) → IsUnmarked text → list_all is_inner text ≡ true → bare line text ≡ text
+own_line line text start inner =
+    ap without_return (cond-false (line == 1 && bytes_eq (take 3 text) order_mark) (drop 3 text) text (and_none (line == 1) (bytes_eq (take 3 text) order_mark) (no_mark text start)))
+    ∙ cond-false (slice_index text (length text - 1) == 13) (take (length text - 1) text) text (no_return text inner)
+
+pub line_first : (line : ℕ) (text rest : Text) → IsUnmarked text → list_all is_inner text ≡ true → bytes_eq text (codes "end") ≡ false → said_from line (lines_of ((text ++ 10 ∷ []) ++ rest)) ≡ said_by line text ++ said_from (next_line line) (lines_of rest)
 unfolding said_from
-line_first line text rest inner other =
+line_first line text rest start inner other =
     ap (λ (t : Text). said_from line (lines_of t)) (append_assoc text (10 ∷ []) rest)
-    ∙ (ap (said_from line) (part_behind is_feed text 10 rest inner refl)
-    ∙ cond-false (bytes_eq text (codes "end")) [] (said_by line text ++ said_from (next_line line) (lines_of rest)) other)
+    ∙ (ap (said_from line) (part_behind is_feed text 10 rest (weaker is_inner (λ b. not (is_feed b)) text inner_no_feed inner) refl)
+    ∙ (ap (λ (own : List ℕ). if bytes_eq own (codes "end") then [] else said_by line own ++ said_from (next_line line) (lines_of rest)) (own_line line text start inner)
+    ∙ cond-false (bytes_eq text (codes "end")) [] (said_by line text ++ said_from (next_line line) (lines_of rest)) other))
 
 short_line : (line : ℕ) (text : List ℕ) → length text ≤ 200 → said_by line text ≡ spoken line false (words_of text)
 short_line line text short = cond-false (ltb longest (length text)) _ (spoken line false (words_of text)) (le-ltb longest (length text) short)
@@ -142,12 +178,12 @@ all_words line [] = (refl, refl)
 all_words line (word ∷ words) = let more = all_words line words in (ap (λ (l : List Word). word ∷ l) more.0, more.1)
 
 -- one line
-pub says_line : (text : Text) (words : List Word) → list_all is_inner text ≡ true → length text ≤ 200 → bytes_eq text (codes "end") ≡ false → (words ≡ [] → ⊥) → ((line : ℕ) → spoken line false (words_of text) ≡ map (a_word line) words) → Says (text ++ 10 ∷ []) words
-says_line text words inner short other some says = record {
+pub says_line : (text : Text) (words : List Word) → IsUnmarked text → list_all is_inner text ≡ true → length text ≤ 200 → bytes_eq text (codes "end") ≡ false → (words ≡ [] → ⊥) → ((line : ℕ) → spoken line false (words_of text) ≡ map (a_word line) words) → Says (text ++ 10 ∷ []) words
+says_line text words start inner short other some says = record {
   says = λ line rest. (
     map (a_word line) words,
     next_line line,
-    line_first line text rest inner other ∙ ap (λ (l : List Said). l ++ said_from (next_line line) (lines_of rest)) (short_line line text short ∙ says line),
+    line_first line text rest start inner other ∙ ap (λ (l : List Said). l ++ said_from (next_line line) (lines_of rest)) (short_line line text short ∙ says line),
     (all_words line words).0,
     (all_words line words).1,
   );
@@ -164,10 +200,15 @@ no_end first second = elim (cases_Bool (bytes_eq (first ++ 32 ∷ second) (codes
   | inr other ↦ other
 ]
 
+-- the first word decides how a line begins
+first_start : (first rest : Word) → has_bytes first ≡ true → IsUnmarked first → IsUnmarked (first ++ rest)
+first_start [] rest some start = absurd (no_bytes some)
+first_start (b ∷ first) rest some start = start
+
 -- two words on a line
-pub says_two : (first second : Word) → IsOrdinary first → IsOrdinary second → length first + length second ≤ 100 → Says ((first ++ 32 ∷ second) ++ 10 ∷ []) (first ∷ second ∷ [])
-says_two first second one two short =
-    says_line (first ++ 32 ∷ second) (first ∷ second ∷ [])
+pub says_two : (first second : Word) → IsUnmarked first → IsOrdinary first → IsOrdinary second → length first + length second ≤ 100 → Says ((first ++ 32 ∷ second) ++ 10 ∷ []) (first ∷ second ∷ [])
+says_two first second start one two short =
+    says_line (first ++ 32 ∷ second) (first ∷ second ∷ []) (first_start first (32 ∷ second) one.bytes start)
     (list_all-append is_inner first (32 ∷ second) ∙ and_from (list_all is_inner first) (list_all is_inner (32 ∷ second)) (all_inner first one.shown) (all_inner second two.shown))
     (omega (arith, length-append first (32 ∷ second)))
     (no_end first second)
@@ -195,7 +236,7 @@ plain_word word bytes shown no_remark no_opening = record { bytes = bytes; shown
 
 -- the line of a node
 pub says_node : (n : ℕ) → Says (codes "node " ++ decimal3_of n ++ 10 ∷ []) (codes "node" ∷ decimal3_of n ∷ [])
-says_node n = says_two (codes "node") (decimal3_of n) (plain_word (codes "node") refl refl refl refl) (name_ordinary n) (omega arith)
+says_node n = says_two (codes "node") (decimal3_of n) refl (plain_word (codes "node") refl refl refl refl) (name_ordinary n) (omega arith)
 
 -- pieces that were added
 pub grown : (old first second a b : Text) → first ≡ old ++ a → second ≡ first ++ b → second ≡ old ++ (a ++ b)

@@ -5,7 +5,7 @@ ghost use Rattle.ga_image.specs.Lines.{Bytes};
 ghost use Rattle.ga_console.specs.Run.{IsFault};
 ghost use Rattle.ga_console.specs.Source.{IsAccepted, Disassembles};
 ghost use Rattle.ga_console.specs.kept.Source.{Disassembly};
-ghost use Rattle.ga_console.specs.kept.Disassembling.{IsOrdinary, Says, Adds, AddsRemark, number_word, register_words, address_words, cell_words, next_of, cells_words, next_behind, holds_word, holds_words as holds_words_of, usual_p as usual_p_of, registers_words, memory_words, node_words, named_words, source_words, AreCells, HasRegisters, HasMemories, IsFit};
+ghost use Rattle.ga_console.specs.kept.Disassembling.{IsOrdinary, IsUnmarked, Says, Adds, AddsRemark, number_word, register_words, address_words, cell_words, next_of, cells_words, next_behind, holds_word, holds_words as holds_words_of, usual_p as usual_p_of, registers_words, memory_words, node_words, named_words, source_words, AreCells, HasRegisters, HasMemories, IsFit};
 
 use super::assembling::write_text;
 use super::listing::{push_hex, push_node};
@@ -153,6 +153,7 @@ fn usual_p(id: NodeId, has_cells: bool) -> u32
 
 /// Adds a register, unless it has this value.
 fn push_register(text: &mut Vec<u8>, name: &[u8], value: u32, usual: u32) -> Result<(), AllocError>
+    requires start { IsUnmarked name.now }
     requires ordinary { IsOrdinary name.now }
     requires short { length name.now ≤ 10 }
     ensures { OnOk result (Adds text.old.items text.new.items (register_words name.now value usual)) }

@@ -1,28 +1,87 @@
 //! What standard error is told of a source.
+ghost use Rattle.std.specs.Prelude.{◌≡◌, ◌+◌, ◌*◌, ◌≤◌, [], ◌++◌, take, length};
+ghost use Rattle.arrayvec.specs.ArrayVec.{array_vec_len};
+ghost use Rattle.ga_console.specs.Texts.{shown_byte, shown, unknown_text};
 
 use super::output::write_all;
-use super::text::Text;
+use super::text::{Text, push_byte, push_number, push_text};
+use arrayvec::ArrayVec;
 use ga_source::{Cause, Fault, Store};
 use std::io::Write;
 
+/// The most bytes of a word of source.
+const WORD_LIMIT: usize = 200;
+
+/// Room for a line with a word, whose bytes take four each at most.
+const FAULT_ROOM: usize = 1024;
+
+/// A line with a word of the source.
+type FaultText = ArrayVec<u8, FAULT_ROOM>;
+
 /// Tells the fault of a source.
 pub fn tell_fault<E: Write>(errors: &mut E, fault: Fault<'_>) {
-    let mut text = Text::new();
     match fault.cause {
-        Cause::Memory => {
-            tell_memory(errors);
-            return;
-        }
+        Cause::Memory => tell_memory(errors),
         Cause::Unknown(word) => {
-            let _ = write!(text, "ga144: line {}: what is ", fault.line);
-            let _fits = text.try_extend_from_slice(word);
+            let mut text = FaultText::new();
+            put_unknown(&mut text, fault.line, word);
+            tell(errors, text.as_slice());
         }
         cause => {
-            let _ = write!(text, "ga144: line {}: {}", fault.line, cause);
+            let mut text = Text::new();
+            let _ = write!(text, "ga144: line {}: {}\n", fault.line, cause);
+            tell(errors, text.as_slice());
         }
     }
-    let _fits = text.try_extend_from_slice(b"\n");
-    tell(errors, text.as_slice());
+}
+
+/// Puts the line that tells an unknown word.
+fn put_unknown(out: &mut FaultText, line: u32, word: &[u8])
+    ensures { out.new.items ≡ unknown_text line (take 200 word.now) }
+{
+    out.clear();
+    push_text(out, b"ga144: line ");
+    push_number(out, u64::from(line));
+    push_text(out, b": what is ");
+    push_shown(out, front(word));
+    push_text(out, b"\n");
+}
+
+/// A word as far as source has words.
+fn front(word: &[u8]) -> &[u8]
+    ensures value { result.now ≡ take 200 word.now }
+    ensures short { length result.now ≤ 200 }
+{
+    if word.len() > WORD_LIMIT {
+        &word[..WORD_LIMIT]
+    } else {
+        word
+    }
+}
+
+/// Adds a word as it is shown.
+fn push_shown(out: &mut FaultText, word: &[u8])
+    requires { array_vec_len out.old + 4 * length word.now ≤ FAULT_ROOM }
+    ensures text { out.new.items ≡ out.old.items ++ shown word.now }
+    ensures len { array_vec_len out.new ≤ array_vec_len out.old + 4 * length word.now }
+{
+    for byte in word {
+        push_shown_byte(out, *byte);
+    }
+}
+
+/// Adds a byte as it is shown.
+fn push_shown_byte(out: &mut FaultText, byte: u8)
+    requires { array_vec_len out.old + 4 ≤ FAULT_ROOM }
+    ensures text { out.new.items ≡ out.old.items ++ shown_byte byte }
+    ensures len { array_vec_len out.new ≤ array_vec_len out.old + 4 }
+{
+    if 32 < byte && byte < 127 {
+        push_text(out, &[byte]);
+    } else {
+        push_text(out, b"\\x");
+        push_byte(out, byte);
+    }
 }
 
 /// Tells that there was no memory.

@@ -2,7 +2,7 @@
 use Rattle.std.proofs.Common.{◌≡◌, ◌∙◌, ℕ, zero, suc, ◌+◌, ◌-◌, ◌<◌, ◌≤◌, false, List, [], ◌∷◌, length, get_or, drop, arith, ap, sym, refl, drop-drop, get_or-drop}
 use Rattle.std.specs.Str.{IsTrimAscii}
 use Rattle.std.proofs.lemmas.Str.Ascii.{trim_ascii_is}
-use Rattle.ga_source.specs.Saying.{parted, is_feed, lines_of}
+use Rattle.ga_source.specs.Saying.{parted, is_feed, lines_of, unmarked}
 use Rattle.ga_source.proofs.Scanning.{no_end}
 use Rattle.ga_notes.specs.Source.{without_front, trimmed, line_in}
 
@@ -48,10 +48,10 @@ none_left (b ∷ text) left none = absurd (omega arith)
 -- ---- a line by its number
 
 -- the first line behind some, without white space at its ends
-pub line_found : (source rest first found : List ℕ) (before line : ℕ) → before ≡ line - 1 → lines_of rest ≡ drop before (lines_of source) → first ≡ get_or (lines_of rest) 0 [] → IsTrimAscii first found → found ≡ line_in source line
-line_found source rest first found before line e behind is trims =
+pub line_found : (source rest first bare found : List ℕ) (before line : ℕ) → before ≡ line - 1 → lines_of rest ≡ drop before (lines_of source) → first ≡ get_or (lines_of rest) 0 [] → bare ≡ unmarked line first → IsTrimAscii bare found → found ≡ line_in source line
+line_found source rest first bare found before line e behind is own trims =
     let at : before + 0 ≡ line - 1 = omega arith in
     let same : first ≡ get_or (lines_of source) (line - 1) [] =
     is ∙ (ap (λ (lines : List (List ℕ)). get_or lines 0 []) behind
     ∙ (get_or-drop before (lines_of source) 0 [] ∙ ap (λ (n : ℕ). get_or (lines_of source) n []) at)) in
-    trim_ascii_is first found (without_front first) refl trims ∙ ap trimmed same
+    trim_ascii_is bare found (without_front bare) refl trims ∙ ap trimmed (own ∙ ap (unmarked line) same)

@@ -17,7 +17,7 @@ use Rattle.ga_source.specs.declared.item.Request.TheVariants.{Mark}
 use Rattle.ga_source.specs.declared.item.Asked.{Asked}
 use Rattle.ga_source.specs.declared.item.Group.{Group}
 use Rattle.ga_source.specs.declared.item.Program.{Program}
-use Rattle.ga_source.specs.Saying.{lines_of, has_bytes}
+use Rattle.ga_source.specs.Saying.{lines_of, unmarked, has_bytes}
 use Rattle.ga_source.specs.Reading.{is_same, p_behind}
 use Rattle.ga_notes.specs.declared.notes.Note.{Note}
 use Rattle.ga_notes.specs.declared.notes.Name.{Name}
@@ -106,9 +106,9 @@ without_back text = take (length text - suffix_len is_ascii_whitespace text) tex
 abbrev pub trimmed : List ℕ → List ℕ
 trimmed text = without_back (without_front text)
 
--- a line of the source by its number from 1 on, empty where there is none
+-- A line of the source by its number from 1 on, empty where there is none. (A carriage return at its end is white space.)
 abbrev pub line_in : List ℕ → ℕ → List ℕ
-line_in source line = trimmed (slice_index_or (lines_of source) (line - 1) [])
+line_in source line = trimmed (unmarked line (slice_index_or (lines_of source) (line - 1) []))
 
 -- ---- notes
 

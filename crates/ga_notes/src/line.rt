@@ -4,6 +4,7 @@ ghost use Rattle.std.specs.Prelude.{◌≡◌, [], drop, slice_index_or};
 ghost use Rattle.ga_source.specs.Saying.{lines_of};
 ghost use Rattle.ga_notes.specs.Source.{line_in};
 
+use ga_source::unmarked;
 use std::marker::Model;
 
 /// The lines of a source. One that doesn't stand before the line that was asked for last is looked for from there on.
@@ -38,7 +39,8 @@ impl<'s> Lines<'s> {
         }
     }
 
-    /// A line by its number from 1 on, without blanks around it; empty where there is none.
+    /// A line by its number from 1 on, without blanks around it, and the first without a byte order mark; empty where there is
+    /// none.
     pub fn line(&mut self, number: u32) -> &'s [u8]
         ensures line { result.now ≡ line_in self.old number }
         ensures same { self.new ≡ self.old }
@@ -46,7 +48,8 @@ impl<'s> Lines<'s> {
         let before = number.saturating_sub(1);
         self.rest = behind(self.source, self.before, self.rest, before);
         self.before = before;
-        first_line(self.rest).0.trim_ascii()
+        let (first, _) = first_line(self.rest);
+        unmarked(number, first).trim_ascii()
     }
 }
 

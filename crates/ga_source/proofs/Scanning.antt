@@ -1,10 +1,10 @@
 -- What a text says, as it is read line by line and word by word.
 use Rattle.std.proofs.Common.{◌≡◌, ◌∙◌, ℕ, zero, suc, ◌+◌, ◌<◌, ◌≤◌, inl, inr, Bool, true, false, not, cond, ltb, List, [], ◌∷◌, ◌++◌, length, take, drop, get_or, arith, ap, sym, refl, add-one, append_assoc, append-nil}
-use Rattle.std.specs.Prelude.{codes, bytes_eq, filter}
+use Rattle.std.specs.Prelude.{if◌then◌else◌, codes, bytes_eq, filter}
 use Rattle.std.specs.List.{list_all}
 use Rattle.std.proofs.lemmas.Bool.{cond-true, cond-false, both_ways, and_parts, cases_Bool, le-ltb, lt-ltb}
 use Rattle.ga_source.specs.declared.scan.Kind.TheVariants.{LongLine, OpenComment}
-use Rattle.ga_source.specs.Saying.{with_byte, parted, is_blank, lines_of, has_bytes, words_of, longest, Said, a_word, a_fault, is_word, closes, spoken, said_by, up_to_fault, next_line, said_from}
+use Rattle.ga_source.specs.Saying.{with_byte, parted, is_blank, lines_of, has_bytes, words_of, longest, bare, Said, a_word, a_fault, is_word, closes, spoken, said_by, up_to_fault, next_line, said_from}
 use Rattle.ga_source.specs.kept.Telling.{IsTold}
 
 -- ---- parts
@@ -113,16 +113,22 @@ line_fault_last line text rest faulty = elim (cases_Bool (ltb longest (length te
 
 -- ---- one line after another
 
-module _ (line : ℕ) (rest first behind : List ℕ) (e : lines_of rest ≡ first ∷ lines_of behind) where
+module _ (line : ℕ) (rest whole first behind : List ℕ) (e : lines_of rest ≡ whole ∷ lines_of behind) (without : first ≡ bare line whole) where
+  -- the line without what an editor added
+  line_said : said_from line (lines_of rest) ≡ (if bytes_eq first (codes "end") then [] else said_by line first ++ said_from (next_line line) (lines_of behind))
+  unfolding said_from
+  line_said =
+    ap (said_from line) e
+    ∙ ap (λ (text : List ℕ). if bytes_eq text (codes "end") then [] else said_by line text ++ said_from (next_line line) (lines_of behind)) (sym without)
+
   -- a line `end`
   pub at_end_line : bytes_eq first (codes "end") ≡ true → up_to_fault (said_from line (lines_of rest)) ≡ []
-  unfolding said_from up_to_fault
-  at_end_line is = ap up_to_fault (ap (said_from line) e ∙ cond-true (bytes_eq first (codes "end")) [] (said_by line first ++ said_from (next_line line) (lines_of behind)) is)
+  unfolding up_to_fault
+  at_end_line is = ap up_to_fault (line_said ∙ cond-true (bytes_eq first (codes "end")) [] (said_by line first ++ said_from (next_line line) (lines_of behind)) is)
 
   -- any other line
   other_line : bytes_eq first (codes "end") ≡ false → said_from line (lines_of rest) ≡ said_by line first ++ said_from (next_line line) (lines_of behind)
-  unfolding said_from
-  other_line other = ap (said_from line) e ∙ cond-false (bytes_eq first (codes "end")) [] (said_by line first ++ said_from (next_line line) (lines_of behind)) other
+  other_line other = line_said ∙ cond-false (bytes_eq first (codes "end")) [] (said_by line first ++ said_from (next_line line) (lines_of behind)) other
 
   -- a line with a fault
   pub at_faulty_line : bytes_eq first (codes "end") ≡ false → list_all is_word (said_by line first) ≡ false → up_to_fault (said_from line (lines_of rest)) ≡ said_by line first
@@ -130,7 +136,7 @@ module _ (line : ℕ) (rest first behind : List ℕ) (e : lines_of rest ≡ firs
 
   -- a line without
   pub at_whole_line : bytes_eq first (codes "end") ≡ false → list_all is_word (said_by line first) ≡ true → up_to_fault (said_from line (lines_of rest)) ≡ said_by line first ++ up_to_fault (said_from (next_line line) (lines_of behind))
-  at_whole_line other whole = ap up_to_fault (other_line other) ∙ whole_front (said_by line first) (said_from (next_line line) (lines_of behind)) whole
+  at_whole_line other whole_line = ap up_to_fault (other_line other) ∙ whole_front (said_by line first) (said_from (next_line line) (lines_of behind)) whole_line
 
 -- no line is left
 pub nothing_left : (line : ℕ) (rest : List ℕ) → length rest ≡ 0 → up_to_fault (said_from line (lines_of rest)) ≡ []

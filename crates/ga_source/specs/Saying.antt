@@ -1,5 +1,5 @@
 -- What a source says: its words with their lines, comments left out (docs/REFERENCE.md, "Source"; the notation is this project's own).
-use Rattle.std.specs.Prelude.{ℕ, ◌+◌, ◌-◌, ◌^◌, ◌==◌, nat_lt, Bool, true, false, ◌||◌, not, if◌then◌else◌, List, [], ◌∷◌, ◌++◌, length, min, filter, slice_index, codes, bytes_eq}
+use Rattle.std.specs.Prelude.{ℕ, ◌+◌, ◌-◌, ◌^◌, ◌==◌, nat_lt, Bool, true, false, ◌||◌, ◌&&◌, not, if◌then◌else◌, List, [], ◌∷◌, ◌++◌, length, min, filter, take, drop, slice_index, codes, bytes_eq}
 use Rattle.ga_source.specs.declared.scan.Kind.{Kind}
 use Rattle.ga_source.specs.declared.scan.Kind.TheVariants.{Word, LongLine, OpenComment}
 
@@ -33,11 +33,29 @@ has_bytes (byte ∷ text) = true
 abbrev pub words_of : List ℕ → List (List ℕ)
 words_of line = filter has_bytes (parted is_blank line)
 
--- the most bytes of a line, without its line feed
-abbrev pub longest : ℕ
-longest = 200
+-- ---- what some editors write into a text
+
+-- the byte order mark (Unicode, U+FEFF in UTF-8)
+abbrev pub order_mark : List ℕ
+order_mark = 0xef ∷ 0xbb ∷ 0xbf ∷ []
+
+-- a line without the mark, where it is the first and begins with one
+abbrev pub unmarked : ℕ → List ℕ → List ℕ
+unmarked line text = if line == 1 && bytes_eq (take 3 text) order_mark then drop 3 text else text
+
+-- a line without the carriage return at its end
+abbrev pub without_return : List ℕ → List ℕ
+without_return text = if slice_index text (length text - 1) == 13 then take (length text - 1) text else text
+
+-- a line without either
+abbrev pub bare : ℕ → List ℕ → List ℕ
+bare line text = without_return (unmarked line text)
 
 -- ---- what a line says
+
+-- the most bytes of a line, without these and its line feed
+abbrev pub longest : ℕ
+longest = 200
 
 -- a word, or what is wrong with a line and then no text, with the line's number
 pub record Said : Type 0 where
@@ -91,7 +109,8 @@ next_line line = min (line + 1) (2 ^ 32 - 1)
 -- the lines up to one that is `end`, numbered from here on
 unfoldable pub said_from : ℕ → List (List ℕ) → List Said
 said_from line [] = []
-said_from line (text ∷ texts) = if bytes_eq text (codes "end") then [] else said_by line text ++ said_from (next_line line) texts
+said_from line (text ∷ texts) =
+    if bytes_eq (bare line text) (codes "end") then [] else said_by line (bare line text) ++ said_from (next_line line) texts
 
 -- what a source says, up to its end, to a line `end` or to the first fault of a line
 unfoldable pub said_in : List ℕ → List Said

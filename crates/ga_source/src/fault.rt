@@ -37,15 +37,18 @@ pub enum Cause<'s> {
     Open,
     #[error("number out of range")]
     Number,
-    /// A cell that this line gave already.
-    #[error("cell given before on line {0}")]
-    CellTwice(u32),
-    #[error("past the end of RAM or ROM")]
-    Past,
-    #[error("target out of reach")]
-    Reach,
-    #[error("the loop of unext is longer than its cell")]
-    Loop,
+    /// A cell that a line gave already: 00 to 3f of RAM, 80 to bf of ROM.
+    #[error("cell {cell:03x} given before on line {line} (org {cell} is {cell:03x})")]
+    CellTwice { cell: u32, line: u32 },
+    /// The address at which no memory is.
+    #[error("{0:03x} is past the end of RAM or ROM")]
+    Past(u32),
+    /// The address of the jump's cell, and the one that it can't lead to.
+    #[error("{target:03x} is out of reach of a jump in {cell:03x}")]
+    Reach { cell: u32, target: u32 },
+    /// The address of the cell of `unext`.
+    #[error("the loop of unext in {0:03x} is longer than its cell")]
+    Loop(u32),
 }
 
 /// A fault of a text, and its line from 1 on; 0 where memory was refused.

@@ -24,4 +24,5 @@ pub use fault::{Cause, Fault};
 pub use item::{Asked, Given, Group, Item, Program, Registers, Request, Value};
 pub use labels::Label;
 pub use program::{Assembled, assemble};
+pub use scan::unmarked;
 pub use stores::{Store, stores_over_code};

@@ -176,15 +176,20 @@ fn write(
     ensures given { OnOk result (given.new ≡ slice_set given.old (address % 512) (Some line)) }
     ensures refused { OnErr result (IsMemoryAddress address → length given.old ≡ 192 → slice_index_or given.old (address % 512) None ≢ None) }
 {
+    let low = address % 512;
     let Some(place) = place_of(address) else {
-        return Err(at(line, Cause::Past));
+        return Err(at(line, Cause::Past(low)));
     };
-    let cell = (address % 512) as usize;
+    let cell = low as usize;
     if cell >= given.len() {
-        return Err(at(line, Cause::Past));
+        return Err(at(line, Cause::Past(low)));
     }
     if let Some(before) = given[cell] {
-        return Err(at(line, Cause::CellTwice(before)));
+        let cause = Cause::CellTwice {
+            cell: low,
+            line: before,
+        };
+        return Err(at(line, cause));
     }
     given[cell] = Some(line);
     set_cell(node, place, word);
@@ -204,7 +209,11 @@ fn see_jump(
     if spot.slot < 3 && reaches(spot.p, spot.slot, to) {
         Ok(())
     } else {
-        Err(at(line, Cause::Reach))
+        let cause = Cause::Reach {
+            cell: spot.at,
+            target: to.unwrap_or(0),
+        };
+        Err(at(line, cause))
     }
 }
 
@@ -254,7 +263,7 @@ fn write_group(
         slice_index_or given.old (cell.0 % 512) None ≢ None) }
 {
     if let Some(line) = group.broken {
-        return Err(at(line, Cause::Loop));
+        return Err(at(line, Cause::Loop(group.address)));
     }
     let items = group.items.as_slice();
     if items.is_empty() {

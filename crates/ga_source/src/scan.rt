@@ -2,7 +2,7 @@
 
 ghost use Rattle.std.specs.Prelude.{◌≡◌, ◌<◌, [], ◌∷◌, ◌++◌, length, IsOkAnd, IsErrAnd, IfOk, OnOk};
 ghost use Rattle.std.specs.List.{list_all};
-ghost use Rattle.ga_source.specs.Saying.{lines_of, is_blank as is_blank_byte, parted, closes as closes_comment, said_by, is_word, said_in};
+ghost use Rattle.ga_source.specs.Saying.{lines_of, is_blank as is_blank_byte, parted, closes as closes_comment, unmarked as without_mark, bare as bare_line, without_return as without_end, said_by, is_word, said_in};
 ghost use Rattle.ga_source.specs.kept.Telling.{all_said};
 ghost use Rattle.ga_source.specs.declared.scan.Kind.TheVariants.{Word, LongLine, OpenComment};
 ghost use Rattle.ga_source.specs.declared.fault.Cause.TheVariants.{LongLine as TooLong, OpenComment as LeftOpen};
@@ -131,6 +131,33 @@ fn first_line(text: &[u8]) -> (&[u8], &[u8])
     (text, &[])
 }
 
+/// A line without the byte order mark with which the first line of a text may begin. Lines count from 1.
+pub fn unmarked(line: u32, text: &[u8]) -> &[u8]
+    ensures { result.now ≡ without_mark line text.now }
+{
+    match text {
+        [0xef, 0xbb, 0xbf, rest @ ..] if line == 1 => rest,
+        _ => text,
+    }
+}
+
+/// A line without the carriage return at its end.
+fn without_return(text: &[u8]) -> &[u8]
+    ensures { result.now ≡ without_end text.now }
+{
+    match text {
+        [rest @ .., b'\r'] => rest,
+        _ => text,
+    }
+}
+
+/// A line without what some editors write before or behind it.
+fn bare(line: u32, text: &[u8]) -> &[u8]
+    ensures { result.now ≡ bare_line line text.now }
+{
+    without_return(unmarked(line, text))
+}
+
 /// The words of a text, up to its end, to a line `end` or to the first line with a fault.
 pub(crate) fn scan(alloc: Global, source: &[u8]) -> Result<Vec<Token<'_>>, AllocError>
     ensures { IfOk result (λ tokens. all_said tokens.items ≡ said_in source.now) }
@@ -139,7 +166,8 @@ pub(crate) fn scan(alloc: Global, source: &[u8]) -> Result<Vec<Token<'_>>, Alloc
     let mut rest = source;
     let mut line = 1u32;
     while !rest.is_empty() {
-        let (first, behind) = first_line(rest);
+        let (whole, behind) = first_line(rest);
+        let first = bare(line, whole);
         if first == b"end".as_slice() || !scan_line(&mut tokens, line, first)? {
             return Ok(tokens);
         }

@@ -1,5 +1,5 @@
 -- What the source of an image says, line by line (docs/REFERENCE.md, "Source"; this project's own).
-use Rattle.std.specs.Prelude.{◌≡◌, ◌≤◌, ◌<◌, ◌^◌, ℕ, zero, suc, ◌+◌, ◌==◌, nat_lt, Bool, true, false, not, ◌||◌, if◌then◌else◌, List, [], ◌∷◌, ◌++◌, map, length, codes, bytes_eq}
+use Rattle.std.specs.Prelude.{◌≡◌, ◌≤◌, ◌<◌, ◌^◌, ℕ, zero, suc, ◌+◌, ◌==◌, nat_lt, Bool, true, false, not, ◌&&◌, ◌||◌, if◌then◌else◌, List, [], ◌∷◌, ◌++◌, map, length, slice_index, codes, bytes_eq}
 use Rattle.std.specs.List.{All, list_all}
 use Rattle.ga_word.specs.Word.{hex_digit}
 use Rattle.ga_grid.specs.Grid.{yxx_of}
@@ -36,9 +36,13 @@ pub record IsOrdinary (word : Word) : Type 0 where
 abbrev pub Adds : Text → Text → List Word → Type 0
 Adds old new words = (added : Text) × (new ≡ old ++ added) × Says added words
 
--- a byte that a line may have behind a `\`
+-- a byte that a line may have behind a `\`: no line feed, and no carriage return
 abbrev pub is_inner : ℕ → Bool
-is_inner byte = not (byte == 10)
+is_inner byte = not (byte == 10) && not (byte == 13)
+
+-- a text doesn't begin as a byte order mark does
+abbrev pub IsUnmarked : Text → Type 0
+IsUnmarked text = (slice_index text 0 == 0xef) ≡ false
 
 -- a text grew by so many bytes at most, within its last line
 abbrev pub AddsRemark : ℕ → Text → Text → Type 0

@@ -31,22 +31,26 @@ struct Row {
     errors: &'static [u8],
 }
 
-static REFUSED: [Row; 8] = [
+static REFUSED: [Row; 9] = [
     Row {
         source: b"node 000\n\n\ndup foo\n",
         errors: b"ga144: line 4: what is foo\n",
     },
     Row {
         source: b"node 000\n\xff\n",
-        errors: b"ga144: line 2: what is \xff\n",
+        errors: b"ga144: line 2: what is \\xff\n",
     },
     Row {
-        source: b"node 000 dup\r\n",
-        errors: b"ga144: line 1: what is dup\r\n",
+        source: b"node 000 du\rp\r\n",
+        errors: b"ga144: line 1: what is du\\x0dp\n",
+    },
+    Row {
+        source: b"node 000 \x1b[2J\n",
+        errors: b"ga144: line 1: what is \\x1b[2J\n",
     },
     Row {
         source: b"node 000\n1 ,\norg 0 2 ,",
-        errors: b"ga144: line 3: cell given before on line 2\n",
+        errors: b"ga144: line 3: cell 000 given before on line 2 (org 0 is 000)\n",
     },
     Row {
         source: b"node 018",
@@ -62,7 +66,7 @@ static REFUSED: [Row; 8] = [
     },
     Row {
         source: b"node 000 begin unext",
-        errors: b"ga144: line 1: the loop of unext is longer than its cell\n",
+        errors: b"ga144: line 1: the loop of unext in 000 is longer than its cell\n",
     },
 ];
 
@@ -92,6 +96,34 @@ fn refusals(rt: HostRuntime) {
         is_refused(&rt, rt.alloc(), row.source, row.errors);
         is_not_listed(&rt, rt.alloc(), row.source, row.errors);
     }
+}
+
+/// What is written and told of a source that is accepted.
+fn assembled(
+    rt: &impl Abort,
+    alloc: Global,
+    mut source: &[u8],
+    output: &mut Vec<u8>,
+    errors: &mut Vec<u8>,
+) {
+    let status = assemble_source(alloc, &mut source, output, errors);
+    ends(rt, status, Status::Done);
+}
+
+#[test]
+fn as_some_editors_write(rt: HostRuntime) {
+    let mut plain = Vec::new(rt.alloc());
+    let mut other = Vec::new(rt.alloc());
+    let mut told = Vec::new(rt.alloc());
+    let source = b"node 000\n0 b! \\ why\n!b\n\nend\n";
+    let windows = b"\xef\xbb\xbfnode 000\r\n0 b! \\ why\r\n!b\r\n\r\nend\r\nfoo";
+    let warning = b"ga144: line 3: warning: this writes 000, which holds code of line 2\n";
+    assembled(&rt, rt.alloc(), source, &mut plain, &mut told);
+    same(&rt, told.as_slice(), warning);
+    told.clear();
+    assembled(&rt, rt.alloc(), windows, &mut other, &mut told);
+    same(&rt, told.as_slice(), warning);
+    same(&rt, other.as_slice(), plain.as_slice());
 }
 
 /// Sources, and what is told of stores over code.

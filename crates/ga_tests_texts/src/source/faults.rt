@@ -180,26 +180,38 @@ static SEVERAL_LINES: [(&[u8], (u32, Cause)); 22] = [
     (b"node 000\nif\nnode 001", (2, Cause::Open)),
     (b"node 000 dup\n:", (2, Cause::Missing)),
     (b"node 000 dup\n/p\nnode 001", (2, Cause::Missing)),
-    (b"node 000\n1 ,\n2 ,\norg 0\n3 ,", (5, Cause::CellTwice(2))),
+    (
+        b"node 000\n1 ,\n2 ,\norg 0\n3 ,",
+        (5, Cause::CellTwice { cell: 0, line: 2 }),
+    ),
     // The literal's cell is given, on the line of the literal.
     (
         b"node 000\norg 1 1 ,\norg 0 dup\n5",
-        (4, Cause::CellTwice(2)),
+        (4, Cause::CellTwice { cell: 1, line: 2 }),
     ),
-    (b"node 000 org 0x3f\n1 ,\n2 ,", (3, Cause::Past)),
-    (b"node 000 org 0xbf dup\n5", (2, Cause::Past)),
-    (b"node 000\nbegin\nunext", (3, Cause::Loop)),
-    (b"node 000\nbegin dup 5\nunext", (3, Cause::Loop)),
+    (b"node 000 org 0x3f\n1 ,\n2 ,", (3, Cause::Past(0x40))),
+    (b"node 000 org 0xbf dup\n5", (2, Cause::Past(0xc0))),
+    (b"node 000\nbegin\nunext", (3, Cause::Loop(0))),
+    (b"node 000\nbegin dup 5\nunext", (3, Cause::Loop(0))),
     (
         b"node 000 begin dup dup dup dup\ndup unext",
-        (2, Cause::Loop),
+        (2, Cause::Loop(1)),
     ),
     // Slot 1 holds eight bits, which bit 9 isn't of.
-    (b"node 000 dup\nfoo\n+cy : foo ;", (2, Cause::Reach)),
+    (
+        b"node 000 dup\nfoo\n+cy : foo ;",
+        (
+            2,
+            Cause::Reach {
+                cell: 0,
+                target: 0x201,
+            },
+        ),
+    ),
     (b"node 000 +cy : foo ;\n/b foo", (2, Cause::Number)),
     (
         b"node 000 org 0x3e 1 ,\n: foo dup .. : bar ;",
-        (2, Cause::Past),
+        (2, Cause::Past(0x40)),
     ),
 ];
 
@@ -216,12 +228,12 @@ static SEVERAL_FAULTS: [(&[u8], (u32, Cause)); 6] = [
     (b"node 000\nfoo bar", (2, Cause::Unknown(b"foo"))),
     (
         b"node 000\n1 ,\norg 0 1 ,\nbegin unext",
-        (3, Cause::CellTwice(2)),
+        (3, Cause::CellTwice { cell: 0, line: 2 }),
     ),
     // A node comes before those behind it.
     (
         b"node 000\n1 ,\norg 0 1 ,\nnode 001\nthen",
-        (3, Cause::CellTwice(2)),
+        (3, Cause::CellTwice { cell: 0, line: 2 }),
     ),
     (
         b"node 000\nfoo\nnode 001 ( dup",

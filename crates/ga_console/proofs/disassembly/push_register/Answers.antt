@@ -18,7 +18,7 @@ returns-in_ok-push c =
     (grown old one two name (codes " 0x") c.in_ok-extend_from_slice.ensures.items c.in_ok-extend_from_slice-2.ensures.items)
     c.in_ok-push_hex.ensures)
     c.in_ok-push.ensures.items)
-    c.requires.ordinary c.requires.short
+    c.requires.start c.requires.ordinary c.requires.short
 
 pub returns-else-value-usual : goal.returns-else-value-usual
 returns-else-value-usual c = register_usual c.args.text.now.items c.args.name.now c.args.value c.args.usual c.if-value-usual.false
