@@ -97,8 +97,8 @@ def compare(program, seed, source):
     windows = MARK + source.replace("\n", "\r\n")
     wanted = {("asm", source): made, ("list", source): listed(source), ("asm", windows): asm(windows), ("list", windows): listed(windows)}
     if made[2] == 0:
-        back = disassembled(load_of(made[0].splitlines()))
-        wanted |= {("dis", made[0]): (back, "", 0), ("asm", back): (made[0], "", 0)}
+        back, unsaid = disassembled(load_of(made[0].splitlines()))
+        wanted |= {("dis", made[0]): (back, unsaid, 0), ("asm", back): (made[0], "", 0)}
     for (mode, text), reading in wanted.items():
         got = run(program, mode, text)
         if got != reading:

@@ -122,8 +122,11 @@ fn listed(rt: &HostRuntime) -> ExitCode {
 
 /// Makes source of the image on standard input.
 fn disassembled(rt: &HostRuntime) -> ExitCode {
-    let (mut reader, mut writer) = (rt.stdin(), rt.stdout());
-    exit(rt, disassemble(rt.alloc(), &mut reader, &mut writer))
+    let (mut reader, mut writer, mut errors) = (rt.stdin(), rt.stdout(), rt.stderr());
+    exit(
+        rt,
+        disassemble(rt.alloc(), &mut reader, &mut writer, &mut errors),
+    )
 }
 
 /// Draws the session on standard input.

@@ -69,7 +69,7 @@ cell_says w remark line =
     ∙ ap (λ (l : List Said). a_word line (number_word 6 w) ∷ l) (word_first line (codes ",") (92 ∷ 32 ∷ remark) (plain_word (codes ",") refl refl refl refl)
     ∙ ap (λ (l : List Said). a_word line (codes ",") ∷ l) (remark_last line remark))
 
-cell_line : (w : ℕ) (remark : Text) → list_all is_inner remark ≡ true → length remark ≤ 48 → Says ((number_word 6 w ++ 32 ∷ behind remark) ++ 10 ∷ []) (number_word 6 w ∷ codes "," ∷ [])
+cell_line : (w : ℕ) (remark : Text) → list_all is_inner remark ≡ true → length remark ≤ 80 → Says ((number_word 6 w ++ 32 ∷ behind remark) ++ 10 ∷ []) (number_word 6 w ∷ codes "," ∷ [])
 cell_line w remark inner short =
     says_line (number_word 6 w ++ 32 ∷ behind remark) (number_word 6 w ∷ codes "," ∷ []) refl
     (list_all-append is_inner (number_word 6 w) (32 ∷ behind remark) ∙ and_from (list_all is_inner (number_word 6 w)) (list_all is_inner (32 ∷ behind remark)) (hex_inner 6 w) inner)
@@ -78,7 +78,7 @@ cell_line w remark inner short =
     (λ none. cc)
     (cell_says w remark)
 
-pub cell_added : (old with_number new : Text) (w : ℕ) (remark : Text) → with_number ≡ old ++ (number_word 6 w ++ codes " , \\ ") → new ≡ (with_number ++ remark) ++ 10 ∷ [] → list_all is_inner remark ≡ true → length remark ≤ 48 → Adds old new (number_word 6 w ∷ codes "," ∷ [])
+pub cell_added : (old with_number new : Text) (w : ℕ) (remark : Text) → with_number ≡ old ++ (number_word 6 w ++ codes " , \\ ") → new ≡ (with_number ++ remark) ++ 10 ∷ [] → list_all is_inner remark ≡ true → length remark ≤ 80 → Adds old new (number_word 6 w ∷ codes "," ∷ [])
 cell_added old with_number new w remark e f inner short = (
   (number_word 6 w ++ 32 ∷ behind remark) ++ 10 ∷ [],
   f ∙ (ap (λ (t : Text). t ++ 10 ∷ []) (ap (λ (t : Text). t ++ remark) e ∙ (append_assoc old (number_word 6 w ++ codes " , \\ ") remark ∙ ap (λ (t : Text). old ++ t) (append_assoc (number_word 6 w) (codes " , \\ ") remark)))
@@ -111,47 +111,9 @@ remark_both m n most old between new less a b = (
   omega (arith, a.3, b.3, length-append a.0 b.0),
 )
 
-pub remark_target : (old first new : Text) (n : ℕ) → first ≡ old ++ 32 ∷ [] → new ≡ first ++ hex_of 3 n → AddsRemark 4 old new
-remark_target old first new n e f = (32 ∷ hex_of 3 n, grown old first new (32 ∷ []) (hex_of 3 n) e f, hex_inner 3 n, omega arith)
-
-abbrev is_short : Op → Bool
-is_short op = list_all is_inner (name_of op) && nat_le (length (name_of op)) 7
-
-op_short : (op : Op) → is_short op ≡ true
-op_short Return = refl
-op_short Execute = refl
-op_short Jump = refl
-op_short Call = refl
-op_short Unext = refl
-op_short Next = refl
-op_short If = refl
-op_short MinusIf = refl
-op_short FetchP = refl
-op_short FetchPlus = refl
-op_short FetchB = refl
-op_short Fetch = refl
-op_short StoreP = refl
-op_short StorePlus = refl
-op_short StoreB = refl
-op_short Store = refl
-op_short MultiplyStep = refl
-op_short TwoStar = refl
-op_short TwoSlash = refl
-op_short Invert = refl
-op_short Plus = refl
-op_short And = refl
-op_short Or = refl
-op_short Drop = refl
-op_short Dup = refl
-op_short Pop = refl
-op_short Over = refl
-op_short A = refl
-op_short Nop = refl
-op_short Push = refl
-op_short BStore = refl
-op_short AStore = refl
-
-pub remark_name : (old new name : Text) (op : Op) → name ≡ name_of op → new ≡ old ++ name → AddsRemark 7 old new
-remark_name old new name op is e =
-    let parts = and_parts (list_all is_inner (name_of op)) (nat_le (length (name_of op)) 7) (op_short op) in
-    (name_of op, e ∙ ap (λ (t : Text). old ++ t) is, parts.0, leb-true (length (name_of op)) 7 parts.1)
+-- a byte that doesn't end its line, or none
+pub remark_byte : (old new : Text) (byte : ℕ) → (byte ≡ 10 → ⊥) → (byte ≡ 13 → ⊥) → new ≡ old ++ byte ∷ [] → AddsRemark 1 old new
+remark_byte old new byte no_feed no_return e =
+    let one : (byte == 10) ≡ false = ne_eqb byte 10 no_feed in
+    let two : (byte == 13) ≡ false = ne_eqb byte 13 no_return in
+    (byte ∷ [], e, rw (one, two) refl, omega arith)

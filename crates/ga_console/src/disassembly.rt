@@ -8,15 +8,14 @@ ghost use Rattle.ga_console.specs.kept.Source.{Disassembly};
 ghost use Rattle.ga_console.specs.kept.Disassembling.{IsOrdinary, IsUnmarked, Says, Adds, AddsRemark, number_word, register_words, address_words, cell_words, next_of, cells_words, next_behind, holds_word, holds_words as holds_words_of, usual_p as usual_p_of, registers_words, memory_words, node_words, named_words, source_words, AreCells, HasRegisters, HasMemories, IsFit};
 
 use super::assembling::write_text;
+use super::faults::tell_unsaid;
 use super::listing::{push_hex, push_node};
+use super::remark::Roles;
 use super::run::{Status, refuse};
 use super::whole::{WholeRead, read_whole};
 use ga_grid::{Chip, NODES, NodeId, load_p};
 use ga_image::{ImageCause, ImageFault, parse};
 use ga_node::{Node, Place};
-use ga_ports::advance_p;
-use ga_slots::{Op, opcode, target};
-use ga_word::Word18;
 use std::alloc::{AllocError, Global};
 use std::io::{Read, Write};
 
@@ -26,9 +25,14 @@ const NO_MEMORY: ImageFault = ImageFault {
     cause: ImageCause::Memory,
 };
 
-/// Reads an image of either format up to its first line `end`, and writes source that gives the same memories, A, B and P. A
-/// refused image gets its refusal.
-pub fn disassemble<R: Read, W: Write>(alloc: Global, reader: &mut R, writer: &mut W) -> Status
+/// Reads an image of either format up to its first line `end`, and writes source that gives the same memories, A, B and P. What
+/// else its nodes hold, and so the source doesn't say, is told on `errors`, a line for each node. A refused image gets its refusal.
+pub fn disassemble<R: Read, W: Write, E: Write>(
+    alloc: Global,
+    reader: &mut R,
+    writer: &mut W,
+    errors: &mut E,
+) -> Status
     // Where the streams tell their bytes: what was read, and what was written for it by the status.
     ensures { (left before : Bytes) →
         R.remaining reader.old ≡ Some left → W.contents writer.old ≡ Some before →
@@ -36,33 +40,45 @@ pub fn disassemble<R: Read, W: Write>(alloc: Global, reader: &mut R, writer: &mu
         × (W.contents writer.new ≡ Some (before ++ text)) × Disassembles read rest text result }
 {
     match read_whole(alloc, reader) {
-        WholeRead::Whole(image) => disassemble_text(alloc, writer, image),
+        WholeRead::Whole(image) => disassemble_text(alloc, writer, errors, image),
         // No image that is accepted is so long.
-        WholeRead::TooLong(image) => disassemble_text(alloc, writer, image),
+        WholeRead::TooLong(image) => disassemble_text(alloc, writer, errors, image),
         WholeRead::ReadFailed => Status::StreamFault,
         WholeRead::NoMemory => refuse(writer, NO_MEMORY),
     }
 }
 
 /// Writes the source of an image, or refuses the image.
-fn disassemble_text<W: Write>(alloc: Global, writer: &mut W, image: Vec<u8>) -> Status
+fn disassemble_text<W: Write, E: Write>(
+    alloc: Global,
+    writer: &mut W,
+    errors: &mut E,
+    image: Vec<u8>,
+) -> Status
     ensures { (before : Bytes) → W.contents writer.old ≡ Some before →
         (text : Bytes) × (W.contents writer.new ≡ Some (before ++ text)) × Disassembly image.items text result }
 {
-    match source_for(alloc, image) {
+    match source_for(alloc, errors, image) {
         Ok(text) => write_text(writer, text),
         Err(fault) => refuse(writer, fault),
     }
 }
 
-/// Source of an image, or the image's first fault.
-fn source_for(alloc: Global, image: Vec<u8>) -> Result<Vec<u8>, ImageFault>
+/// Source of an image, with what it leaves out on `errors`; or the image's first fault.
+fn source_for<E: Write>(
+    alloc: Global,
+    errors: &mut E,
+    image: Vec<u8>,
+) -> Result<Vec<u8>, ImageFault>
     ensures ok { IfOk result (λ text. IsAccepted image.items text.items) }
     ensures err { IfErr result (λ fault. IsFault image.items fault) }
 {
     let chip = parse(alloc, image.as_slice())?;
     match source_of(alloc, &chip) {
-        Ok(text) => Ok(text),
+        Ok(text) => {
+            tell_unsaid(errors, &chip);
+            Ok(text)
+        }
         Err(_) => Err(NO_MEMORY),
     }
 }
@@ -172,26 +188,33 @@ fn push_cells(text: &mut Vec<u8>, node: &Node) -> Result<(), AllocError>
     ensures says { OnOk result (Adds text.old.items text.new.items (memory_words node.now)) }
     ensures fit { OnOk result (HasMemories node.now) }
 {
-    let next = push_ram(text, node)?;
-    push_rom(text, node, next)?;
+    let roles = Roles::of(node);
+    let next = push_ram(text, node, &roles)?;
+    push_rom(text, node, &roles, next)?;
     Ok(())
 }
 
 /// Adds the cells of RAM. Tells the address behind the last one.
-fn push_ram(text: &mut Vec<u8>, node: &Node) -> Result<u32, AllocError>
+fn push_ram(text: &mut Vec<u8>, node: &Node, roles: &Roles) -> Result<u32, AllocError>
     ensures says { OnOk result (Adds text.old.items text.new.items (cells_words 0 0 node.now.ram)) }
     ensures next { IfOk result (λ next. next ≡ next_behind 0 0 node.now.ram) }
     ensures fit { OnOk result (AreCells node.now.ram) }
 {
     let mut next = 0;
     for cell in 0..64u8 {
-        next = push_word(text, node.get(Place::Ram(cell)), u32::from(cell), next)?;
+        next = push_word(
+            text,
+            roles,
+            node.get(Place::Ram(cell)),
+            u32::from(cell),
+            next,
+        )?;
     }
     Ok(next)
 }
 
 /// Adds the cells of ROM.
-fn push_rom(text: &mut Vec<u8>, node: &Node, behind: u32) -> Result<(), AllocError>
+fn push_rom(text: &mut Vec<u8>, node: &Node, roles: &Roles, behind: u32) -> Result<(), AllocError>
     ensures says { OnOk result (Adds text.old.items text.new.items (cells_words 0x80 behind node.now.rom)) }
     ensures fit { OnOk result (AreCells node.now.rom) }
 {
@@ -199,6 +222,7 @@ fn push_rom(text: &mut Vec<u8>, node: &Node, behind: u32) -> Result<(), AllocErr
     for cell in 0..64u8 {
         next = push_word(
             text,
+            roles,
             node.get(Place::Rom(cell)),
             0x80 + u32::from(cell),
             next,
@@ -208,7 +232,13 @@ fn push_rom(text: &mut Vec<u8>, node: &Node, behind: u32) -> Result<(), AllocErr
 }
 
 /// Adds a cell unless it is 0, and `org` before it where it isn't the next one. Tells the address behind the last cell.
-fn push_word(text: &mut Vec<u8>, word: u32, address: u32, next: u32) -> Result<u32, AllocError>
+fn push_word(
+    text: &mut Vec<u8>,
+    roles: &Roles,
+    word: u32,
+    address: u32,
+    next: u32,
+) -> Result<u32, AllocError>
     requires { address < 0x400 }
     ensures says { OnOk result (Adds text.old.items text.new.items (cell_words word address next)) }
     ensures next { IfOk result (λ behind. behind ≡ next_of word address next) }
@@ -217,7 +247,7 @@ fn push_word(text: &mut Vec<u8>, word: u32, address: u32, next: u32) -> Result<u
         return Ok(next);
     }
     push_address(text, address, next)?;
-    push_cell(text, word, address)?;
+    push_cell(text, word, roles.remark(word, address).as_slice())?;
     Ok(address + 1)
 }
 
@@ -233,74 +263,35 @@ fn push_address(text: &mut Vec<u8>, address: u32, next: u32) -> Result<(), Alloc
     Ok(())
 }
 
-/// Adds a cell, with its opcodes in a comment.
-fn push_cell(text: &mut Vec<u8>, word: u32, address: u32) -> Result<(), AllocError>
+/// Adds a cell, with a remark behind it.
+fn push_cell(text: &mut Vec<u8>, word: u32, remark: &[u8]) -> Result<(), AllocError>
+    requires { length remark.now ≤ 80 }
     ensures { OnOk result (Adds text.old.items text.new.items (number_word 6 word ∷ codes "," ∷ [])) }
 {
     text.extend_from_slice(b"0x")?;
     push_hex(text, word, 6)?;
     text.extend_from_slice(b" , \\ ")?;
-    push_opcodes(text, Word18::truncated(word), address)?;
+    push_remark(text, remark)?;
     text.push(b'\n')?;
     Ok(())
 }
 
-/// Adds the opcodes of a word, up to one behind which nothing is run.
-fn push_opcodes(text: &mut Vec<u8>, word: Word18, address: u32) -> Result<(), AllocError>
-    ensures { OnOk result (AddsRemark 48 text.old.items text.new.items) }
+/// Adds a remark, but for bytes that would end its line: what is said there is said in it alone.
+fn push_remark(text: &mut Vec<u8>, remark: &[u8]) -> Result<(), AllocError>
+    ensures { OnOk result (AddsRemark (length remark.now) text.old.items text.new.items) }
 {
-    for slot in 0..4u8 {
-        if !push_opcode(text, word, address, slot)? {
-            return Ok(());
-        }
+    for byte in remark {
+        push_inner(text, *byte)?;
     }
     Ok(())
 }
 
-/// Adds the opcode in a slot, with the address that a jump leads to. Tells whether the next slot is run.
-fn push_opcode(text: &mut Vec<u8>, word: Word18, address: u32, slot: u8) -> Result<bool, AllocError>
-    requires { slot < 4 }
-    ensures { OnOk result (AddsRemark 12 text.old.items text.new.items) }
-{
-    let op = opcode(word, slot);
-    push_blank(text, slot > 0)?;
-    push_name(text, op)?;
-    match op {
-        Op::Jump | Op::Call | Op::Next | Op::If | Op::MinusIf => {
-            if slot < 3 {
-                push_target(text, target(advance_p(address), word, slot))?;
-                return Ok(false);
-            }
-            Ok(false)
-        }
-        Op::Return | Op::Execute => Ok(false),
-        _ => Ok(true),
-    }
-}
-
-/// Adds an opcode's name.
-fn push_name(text: &mut Vec<u8>, op: Op) -> Result<(), AllocError>
-    ensures { OnOk result (AddsRemark 7 text.old.items text.new.items) }
-{
-    text.extend_from_slice(op.name().as_bytes())?;
-    Ok(())
-}
-
-/// Adds a blank where one is wanted.
-fn push_blank(text: &mut Vec<u8>, is_wanted: bool) -> Result<(), AllocError>
+/// Adds a byte, unless it would end its line.
+fn push_inner(text: &mut Vec<u8>, byte: u8) -> Result<(), AllocError>
     ensures { OnOk result (AddsRemark 1 text.old.items text.new.items) }
 {
-    if is_wanted {
-        text.push(b' ')?;
+    if byte != b'\n' && byte != b'\r' {
+        text.push(byte)?;
     }
-    Ok(())
-}
-
-/// Adds a blank and an address.
-fn push_target(text: &mut Vec<u8>, address: u32) -> Result<(), AllocError>
-    ensures { OnOk result (AddsRemark 4 text.old.items text.new.items) }
-{
-    text.push(b' ')?;
-    push_hex(text, address, 3)?;
     Ok(())
 }

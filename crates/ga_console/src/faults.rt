@@ -1,11 +1,14 @@
 //! What standard error is told of a source.
 ghost use Rattle.std.specs.Prelude.{◌≡◌, ◌+◌, ◌*◌, ◌≤◌, [], ◌++◌, take, length};
 ghost use Rattle.arrayvec.specs.ArrayVec.{array_vec_len};
+ghost use Rattle.ga_node.specs.State.{IsPlace};
 ghost use Rattle.ga_console.specs.Texts.{shown_byte, shown, unknown_text};
 
 use super::output::write_all;
 use super::text::{Text, push_byte, push_number, push_text};
 use arrayvec::ArrayVec;
+use ga_grid::{Chip, NODES, NodeId};
+use ga_node::{Node, Place};
 use ga_source::{Cause, Fault, Store};
 use std::io::Write;
 
@@ -108,6 +111,66 @@ pub fn tell_store<E: Write>(errors: &mut E, store: Store) {
         line, address, code_line
     );
     tell(errors, text.as_slice());
+}
+
+/// Tells of each node of an image the fields that source doesn't say, in their order in an image.
+pub(crate) fn tell_unsaid<E: Write>(errors: &mut E, chip: &Chip) {
+    let fresh = Node::new(0);
+    for number in 0..NODES as u8 {
+        let id = NodeId::new(number);
+        let mut text = Text::new();
+        let _ = write!(text, "ga144: node {:03}: not in source:", id.yxx());
+        let begun = text.len();
+        push_unsaid(&mut text, chip.node(id), &fresh);
+        if text.len() > begun {
+            let _fits = text.try_extend_from_slice(b"\n");
+            tell(errors, text.as_slice());
+        }
+    }
+}
+
+/// Adds the names of the fields that aren't as at load, beside the memories, P, A and B.
+fn push_unsaid(text: &mut Text, node: &Node, fresh: &Node) {
+    push_if(text, b" i", differs(node, fresh, Place::I));
+    push_if(text, b" io", differs(node, fresh, Place::Io));
+    push_if(text, b" carry", differs(node, fresh, Place::Carry));
+    push_if(text, b" slot", differs(node, fresh, Place::Slot));
+    push_if(text, b" d", has_data(node, fresh));
+    push_if(text, b" r", has_returns(node, fresh));
+    push_if(text, b" wait", differs(node, fresh, Place::Wait));
+    push_if(text, b" stop", differs(node, fresh, Place::Stop));
+}
+
+fn push_if(text: &mut Text, name: &[u8], is_so: bool) {
+    if is_so {
+        let _fits = text.try_extend_from_slice(name);
+    }
+}
+
+fn differs(node: &Node, fresh: &Node, place: Place) -> bool
+    requires { IsPlace place }
+{
+    node.get(place) != fresh.get(place)
+}
+
+/// Whether the data stack isn't as at load.
+fn has_data(node: &Node, fresh: &Node) -> bool {
+    for place in 0..10u8 {
+        if node.d(place) != fresh.d(place) {
+            return true;
+        }
+    }
+    false
+}
+
+/// Whether the return stack isn't as at load.
+fn has_returns(node: &Node, fresh: &Node) -> bool {
+    for place in 0..9u8 {
+        if node.r(place) != fresh.r(place) {
+            return true;
+        }
+    }
+    false
 }
 
 /// Tells a line. Nothing is to be done where that fails.

@@ -21,6 +21,7 @@ mod node_text;
 mod output;
 mod race;
 mod readings;
+mod remark;
 mod reply;
 mod responder;
 mod run;

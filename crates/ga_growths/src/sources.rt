@@ -31,7 +31,7 @@ const LISTING: &[u8] =
     b"node 000\nmain:\n000 004b12 @p b! @p \\ : main 0 b! 5 !b main ;\n001 000000 0x00000\n002 000005 0x00005\n003 009700 !b jump main \\ : main 0 b! 5 !b main ;\n";
 
 const DISASSEMBLY: &[u8] =
-    b"node 000\n0x004b12 , \\ @p b! @p .\norg 0x02\n0x000005 , \\ @b and @b ;\n0x009700 , \\ !b jump 000\n";
+    b"node 000\n0x004b12 , \\ 000: @p b! @p .\norg 0x02\n0x000005 , \\ 002  5\n0x009700 , \\ 003  !b jump 000\n";
 
 /// The image of a source.
 pub fn assembled(alloc: Global) -> Outcome {
@@ -93,8 +93,11 @@ pub fn disassembled(alloc: Global) -> Outcome {
 fn disassembled_once(alloc: Global) -> Outcome {
     let mut reader = IMAGE;
     let mut source = Page::new();
-    let status = disassemble(alloc, &mut reader, &mut source);
-    if status == Status::Done && source.holds(DISASSEMBLY) {
+    let mut errors = Page::new();
+    let status = disassemble(alloc, &mut reader, &mut source, &mut errors);
+    if !errors.holds(b"") {
+        Outcome::Wrong("a warning")
+    } else if status == Status::Done && source.holds(DISASSEMBLY) {
         Outcome::Answered
     } else if status == Status::ImageRefused && source.holds(UNREAD) {
         Outcome::Refused("image")

@@ -123,13 +123,13 @@ const IMAGE: &[u8] =
 const SOURCE_OF_IMAGE: &[u8] = b"node 001
 /p 0x00003
 /a 0x00005
-0x004b02 , \\ @p b! @b .
-0x0001d5 , \\ @b + +* ;
+0x004b02 , \\ 000? @p b! @b .
+0x0001d5 , \\ 001? @b + +* ;
 org 0x03
-0x005703 , \\ @p jump 003
-0x000003 , \\ @b and @b dup
+0x005703 , \\ 003: @p jump 003
+0x000003 , \\ 004  3
 org 0xbf
-0x012003 , \\ call 003
+0x012003 , \\ 0bf? call 003
 node 002
 /b 0x001d5
 ";
@@ -138,16 +138,50 @@ node 002
 fn source_of_an_image(rt: HostRuntime) {
     let mut image = IMAGE;
     let mut output = Vec::new(rt.alloc());
-    let status = disassemble(rt.alloc(), &mut image, &mut output);
+    let mut errors = Vec::new(rt.alloc());
+    let status = disassemble(rt.alloc(), &mut image, &mut output, &mut errors);
     ends(&rt, status, Status::Done);
     same(&rt, output.as_slice(), SOURCE_OF_IMAGE);
+    same(&rt, errors.as_slice(), b"");
+}
+
+const FULL_IMAGE: &[u8] = b"ga144 2
+node 000
+i 000001
+io 000002
+carry 1
+slot 2
+d 000003 015555 015555 015555 015555 015555 015555 015555 015555 015555
+r 015555 015555 015555 015555 015555 015555 015555 015555 000004
+node 016
+a 000001
+wait read --l-
+slot 3
+node 717
+stop 2
+end
+";
+
+const UNSAID: &[u8] =
+    b"ga144: node 000: not in source: i io carry slot d r\nga144: node 016: not in source: slot wait\nga144: node 717: not in source: stop\n";
+
+#[test]
+fn what_source_does_not_say(rt: HostRuntime) {
+    let mut image = FULL_IMAGE;
+    let mut output = Vec::new(rt.alloc());
+    let mut errors = Vec::new(rt.alloc());
+    let status = disassemble(rt.alloc(), &mut image, &mut output, &mut errors);
+    ends(&rt, status, Status::Done);
+    same(&rt, output.as_slice(), b"node 016\n/a 0x00001\n");
+    same(&rt, errors.as_slice(), UNSAID);
 }
 
 /// The source of an image, assembled again.
 fn again(alloc: Global, image: &[u8]) -> Result<Vec<u8>, Fail> {
     let mut reader = image;
     let mut source = Vec::new(alloc);
-    match disassemble(alloc, &mut reader, &mut source) {
+    let mut errors = Vec::new(alloc);
+    match disassemble(alloc, &mut reader, &mut source, &mut errors) {
         Status::Done => image_of(alloc, source.as_slice()),
         _ => Err(Fail::new("an image is refused")),
     }

@@ -198,7 +198,7 @@ fn nothing_is_read(rt: HostRuntime) {
     ends(&rt, status, Status::StreamFault);
     let status = list_source(rt.alloc(), &mut Closed, &mut kept, &mut Closed);
     ends(&rt, status, Status::StreamFault);
-    let status = disassemble(rt.alloc(), &mut Closed, &mut kept);
+    let status = disassemble(rt.alloc(), &mut Closed, &mut kept, &mut Closed);
     ends(&rt, status, Status::StreamFault);
     same(&rt, kept.as_slice(), b"");
 }
@@ -213,7 +213,7 @@ fn streams_that_fail(rt: HostRuntime) {
     let status = list_source(rt.alloc(), &mut reader, &mut Closed, &mut kept);
     ends(&rt, status, Status::StreamFault);
     let mut reader: &[u8] = b"ga144 1\nnode 000\np 000000\nend\n";
-    let status = disassemble(rt.alloc(), &mut reader, &mut Closed);
+    let status = disassemble(rt.alloc(), &mut reader, &mut Closed, &mut kept);
     ends(&rt, status, Status::StreamFault);
     same(&rt, kept.as_slice(), b"");
 }
@@ -232,9 +232,11 @@ fn a_refusal_is_not_told(rt: HostRuntime) {
 fn an_image_that_is_refused(rt: HostRuntime) {
     let mut image: &[u8] = b"ga144 1\nnode 018\nend\n";
     let mut output = Vec::new(rt.alloc());
-    let status = disassemble(rt.alloc(), &mut image, &mut output);
+    let mut errors = Vec::new(rt.alloc());
+    let status = disassemble(rt.alloc(), &mut image, &mut output, &mut errors);
     ends(&rt, status, Status::ImageRefused);
     same(&rt, output.as_slice(), b"no 13 node line 2\n");
+    same(&rt, errors.as_slice(), b"");
 }
 
 #[test]
