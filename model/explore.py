@@ -16,6 +16,7 @@ CONDITION = (
     rf"pass {NODE} {NODE} (?:= {W}|{NUMBER})|step {NODE} {NUMBER}|stop|stop {NODE}|wait {NODE}|mem {NODE} {HH} = {W}|p {NODE} [^ ]+"
 )
 RUN = re.compile(rf"run(?: (greedy|random ({NUMBER})))?(?: ({NUMBER}))?(?: until ({CONDITION}))?")
+RACES = re.compile(rf"races(?: ({NODE}))?")
 ASKED = re.compile(rf"(effects|whence) ({NODE}) ({NUMBER})|(words) ({NODE}) ({NODE})|(writes) ({NODE}) ({HH})|(at) ({NODE}) ({NUMBER})(?: ([1-9]?[0-9]))?")
 HELP = """\
 run [N] [until COND]  make up to N events, in rounds
@@ -30,6 +31,7 @@ words NNN MMM         the words that went from NNN to MMM
 writes NNN HH         the steps that wrote the cell HH of NNN, the newest first
 at NNN K [N]          N steps before and behind step K of NNN, with registers
 whence NNN K          the steps whose values went into what step K of NNN made
+races [NNN]           steps that could have come out otherwise, and how
 save                  the kept events as lines of debug
 help                  these lines
 and the commands of debug: step back rewind node mem trace why count dump quit"""
@@ -80,6 +82,9 @@ class Explorer(Machine):
             if words[0] == "words":
                 return self.words(node, number_of(words[2]))
             return (self.effects if words[0] == "effects" else self.whence)(node, int(words[2]))
+        races = RACES.fullmatch(line)
+        if races:
+            return self.races(races[1] and number_of(races[1]))
         found = RUN.fullmatch(line)
         if not found:
             return None
@@ -215,6 +220,38 @@ class Explorer(Machine):
                 registers = "".join(f" {register} {word:06x}" for register, word in seen.items())
                 lines.append(f"{name(node)} {number} {self.deed(node, told)}{registers}{tails[node, number]}")
         return "\n".join(lines)
+
+    def offers(self, node, step):
+        """The neighbours that a step of each would make give a node a word, were a step of it taken back, with that word."""
+        again = Explorer(self.load, self.limit)
+        again.events = [event for event, gone in zip(self.events, self.dependents(self.place(node, step))) if not gone]
+        again.replay()
+        beside = [other for other in (neighbour(node, side) for side in SIDES) if other is not None]
+        return [(other, again.chip[other].d[0]) for other in beside if again.next(other) == (other, node)]
+
+    def looks_next(self, node):
+        """Whether the next event of a node is one of its own that looks."""
+        looks = []
+        if self.next(node) == (node,):
+            self.chip[node].copy().own(lambda: self.io_word(node, looks))
+        return bool(looks)
+
+    def races(self, only):
+        """The passes that could have come out otherwise, of a node or of all, and what holds of other orders."""
+        lines = []
+        for node in range(NODES) if only is None else [only]:
+            for told in [told for event, told in zip(self.events, self.told) if event[1:] == (node,)]:
+                _, writer, _, reader, step, word = told.split(" ")
+                others = [(name(other), it) for other, it in self.offers(node, int(step)) if name(other) != writer]
+                taken = f"{reader} {step} takes {word} from {writer}"
+                lines += [f"{taken}, or {it:06x} from {other}: rewind {reader} {step}, step {other}" for other, it in others]
+        last = []
+        if any(self.looked) or any(map(self.looks_next, range(NODES))):
+            last = ["looks are kept or come next: there may be other races"]
+        elif only is None and not lines:
+            ended = all(self.next(node) is None for node in range(NODES))
+            last = ["every order ends on this chip" if ended else "no other order, as long as no node makes more steps"]
+        return "\n".join([f"races {len(lines)}"] + lines + last)
 
     def whence(self, node, step):
         if not 1 <= step <= self.steps[node]:

@@ -19,7 +19,7 @@ from sessions import DEFAULT_LIMIT, SECONDS, Generator
 from source import asm
 
 # How often each command comes, of 1000. The others are those of the debugger.
-COMMANDS = {"run": 250, "whence": 250, "at": 130, "writes": 70, "words": 60, "effects": 50, "who": 30, "chip": 20, "save": 10, "help": 2, "debug": 128}
+COMMANDS = {"run": 250, "whence": 230, "at": 130, "races": 40, "writes": 70, "words": 60, "effects": 50, "who": 30, "chip": 20, "save": 10, "help": 2, "debug": 108}
 WORDS = "dup drop over + and or @ ! @b !b a! pop push 2* 2/ - +* @+ !+ a . 1 5 0x20 0x15555 0x3ffff right left down up".split()
 CALLS = ["x", "'y a!", "'y b!", "0x22 a! !", "0x84 a! @", "io b!", "for x next", "for +* unext", "if dup then", "-if a else over then", "begin dup -until", "+cy + -cy"]
 PARTS = ["\\ a remark", "( and ) ", "  ", "\t", ".."]
@@ -39,7 +39,7 @@ def source_of(draw):
 
 
 def some(draw, count, words=None):
-    return [draw.choice(words or (WORDS + CALLS if draw.random() < 0.7 else ["right b! @b", "left b! !b", "@b", "!b", "dup !b"])) for _ in range(count)]
+    return [draw.choice(words or (WORDS + CALLS if draw.random() < 0.7 else ["right b! @b", "left b! !b", "@b", "!b", "dup !b", "0x1a5 b! @b", "0x1b5 b! @b drop @b"])) for _ in range(count)]
 
 
 class Session:
@@ -131,6 +131,7 @@ class Session:
             "effects": f"effects {name(node)} {self.step(node)}",
             "writes": f"writes {name(node)} {self.address():02x}",
             "words": "words " + " ".join(map(name, self.link())),
+            "races": "races" + self.random.choice(("", f" {name(node)}", f" {name(self.link()[1])}")),
         }.get(chosen, chosen)
 
     def turn(self):

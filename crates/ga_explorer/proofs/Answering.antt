@@ -1,9 +1,9 @@
 -- What a call means for the answer to a command.
 use Rattle.std.proofs.Common.{◌≡◌, ℕ, Bool, List, ◌++◌, subst, ◌⊎◌, Ok, Err, inl, inr, refl, sym, ap, ◌∙◌}
-use Rattle.std.specs.Prelude.{Result, IsOk}
+use Rattle.std.specs.Prelude.{Result, IsOk, Option, is_none}
 use Rattle.ga_node.specs.Record.{NodeRecord}
 use Rattle.ga_grid.specs.declared.node_id.NodeId.{NodeId}
-use Rattle.ga_lab.specs.Machine.{State, chip_of, rewind_answer}
+use Rattle.ga_lab.specs.Machine.{State, chip_of, causes_of, rewind_answer}
 use Rattle.ga_lab.specs.declared.fault.LabFault.{LabFault}
 use Rattle.ga_lab.specs.declared.fault.LabFault.TheVariants.{Memory}
 use Rattle.ga_console.specs.Texts.{refusal_text}
@@ -11,6 +11,9 @@ use Rattle.ga_search.specs.Effects.{effects_of}
 use Rattle.ga_search.specs.Stuck.{AreStuck}
 use Rattle.ga_search.specs.Freed.{IsWithin}
 use Rattle.ga_search.specs.declared.effects.Effect.{Effect}
+use Rattle.ga_search.specs.declared.races.Race.{Race}
+use Rattle.ga_search.specs.Races.{races_asked, has_looks, first_ready}
+use Rattle.ga_explorer.specs.Races.{listed_text, TellsRaces}
 use Rattle.ga_explorer.specs.Texts.{effects_text, effects_answer}
 use Rattle.ga_explorer.specs.Waiting.{all_waiting, stuck_text, all_rings}
 use Rattle.ga_explorer.specs.Answers.{TellsEffects, TellsWho}
@@ -36,3 +39,12 @@ who_told s chip marks first second last e stuck greatest f g h = record {
   greatest = λ others h. greatest others (subst (λ z. AreStuck z others) (sym e) h);
   text = rw (f, g, h, e) refl;
 }
+
+pub races_found : (s : State) (only : Option NodeId) (races : List Race) (looks quiet : Bool) (text : List ℕ) → races ≡ races_asked s only
+    → looks ≡ has_looks (causes_of s) (chip_of s) → quiet ≡ is_none (first_ready (chip_of s)) → text ≡ listed_text only races looks quiet → TellsRaces s only text
+races_found s only races looks quiet text r l q t =
+    inl (t ∙ ap (λ (z : List Race). listed_text only z looks quiet) r ∙ ap (λ (z : Bool). listed_text only (races_asked s only) z quiet) l
+    ∙ ap (listed_text only (races_asked s only) (has_looks (causes_of s) (chip_of s))) q)
+
+pub races_refused : (s : State) (only : Option NodeId) (why : LabFault) (text : List ℕ) → why ≡ Memory → text ≡ refusal_text why → TellsRaces s only text
+races_refused s only why text e t = inr (t ∙ ap refusal_text e)

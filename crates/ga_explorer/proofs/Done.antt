@@ -12,11 +12,12 @@ use Rattle.ga_explorer.specs.Saved.{saved_text}
 use Rattle.ga_explorer.specs.Writing.{writes_text}
 use Rattle.ga_explorer.specs.Around.{around_text}
 use Rattle.ga_explorer.specs.Trees.{TellsWhence}
+use Rattle.ga_explorer.specs.Races.{TellsRaces}
 use Rattle.ga_notes.specs.declared.notes.Notes.{Notes}
 use Rattle.ga_explorer.specs.kept.Exploring.{exploring}
 use Rattle.ga_explorer.specs.Answers.{TellsEffects, TellsWho, Explored}
 use Rattle.ga_explorer.specs.declared.request.Request.{Request}
-use Rattle.ga_explorer.specs.declared.request.Request.TheVariants.{Run, Effects, Words, Writes, At, Whence, Who, Chip, Save, Help}
+use Rattle.ga_explorer.specs.declared.request.Request.TheVariants.{Run, Effects, Words, Writes, At, Whence, Races, Who, Chip, Save, Help}
 
 pub run_done : (s : State) (notes : Option Notes) (asked : Request) (schedule : Schedule) (most bound : ℕ) (until : Condition) (events : ℕ) (end : End) (new : State)
     → asked ≡ Run schedule most until → bound ≡ most → AreMade (running s schedule) events → events ≤ bound
@@ -38,6 +39,10 @@ run_done s notes asked schedule most bound until events end new e f made within 
 
 pub effects_done : (s : State) (notes : Option Notes) (asked : Request) (node : NodeId) (step : ℕ) (text : List ℕ) (now : State) → asked ≡ Effects node step → now ≡ s → TellsEffects s node step text → Explored (exploring s notes) asked text (exploring now notes)
 effects_done s notes asked node step text now e same h =
+    subst (λ z. Explored (exploring s notes) z text (exploring now notes)) (sym e) (h, ap (λ z. exploring z notes) same)
+
+pub races_done : (s : State) (notes : Option Notes) (asked : Request) (only : Option NodeId) (text : List ℕ) (now : State) → asked ≡ Races only → now ≡ s → TellsRaces s only text → Explored (exploring s notes) asked text (exploring now notes)
+races_done s notes asked only text now e same h =
     subst (λ z. Explored (exploring s notes) z text (exploring now notes)) (sym e) (h, ap (λ z. exploring z notes) same)
 
 pub words_done : (s : State) (notes : Option Notes) (asked : Request) (from to : NodeId) (text : List ℕ) → asked ≡ Words from to → text ≡ words_text s from to → Explored (exploring s notes) asked text (exploring s notes)

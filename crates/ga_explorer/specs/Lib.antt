@@ -7,6 +7,7 @@ pub mod Around
 pub mod Trees
 pub mod Waiting
 pub mod Saved
+pub mod Races
 pub mod Answers
 pub mod Opening
 pub mod Session

@@ -14,7 +14,7 @@ use Rattle.ga_search.specs.declared.condition.Condition.TheVariants.{Never, Pass
 use Rattle.ga_notes.specs.declared.notes.Notes.{Notes}
 use Rattle.ga_notes.specs.Notes.{address_of}
 use Rattle.ga_explorer.specs.declared.request.Request.{Request}
-use Rattle.ga_explorer.specs.declared.request.Request.TheVariants.{Run, Effects, Words, Writes, At, Whence, Who, Chip, Save, Help}
+use Rattle.ga_explorer.specs.declared.request.Request.TheVariants.{Run, Effects, Words, Writes, At, Whence, Races, Who, Chip, Save, Help}
 
 -- how many events are made at most where no number is given
 abbrev pub most_events : ℕ
@@ -237,6 +237,12 @@ whence_in text = do
   step ← number_in parts.1
   Some (Whence node step)
 
+-- `NNN`
+unfoldable pub races_in : Line → Option Request
+races_in text = do
+  node ← node_in text
+  Some (Races (Some node))
+
 -- ---- a line
 
 -- a command of one word
@@ -244,6 +250,7 @@ unfoldable pub lone_request : Line → Option Request
 lone_request name =
     if pointwise nat_eq name (codes "run") then Some (Run in_rounds most_events Never)
     else if pointwise nat_eq name (codes "who") then Some Who
+    else if pointwise nat_eq name (codes "races") then Some (Races None)
     else if pointwise nat_eq name (codes "chip") then Some Chip
     else if pointwise nat_eq name (codes "save") then Some Save
     else if pointwise nat_eq name (codes "help") then Some Help
@@ -258,6 +265,7 @@ named_request notes name text =
     else if pointwise nat_eq name (codes "writes") then writes_in text
     else if pointwise nat_eq name (codes "at") then at_in text
     else if pointwise nat_eq name (codes "whence") then whence_in text
+    else if pointwise nat_eq name (codes "races") then races_in text
     else None
 
 abbrev pub request_by : Option Notes → Option (Line × Line) → Line → Option Request

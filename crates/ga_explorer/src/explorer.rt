@@ -10,6 +10,7 @@ use crate::at_text::say_around;
 use crate::chip_text::glance;
 use crate::effects_text::say_effects;
 use crate::help::help;
+use crate::races_text::say_races;
 use crate::request::{Request, request_of};
 use crate::run_text::ran_text;
 use crate::saved_text::say_saved;
@@ -142,6 +143,7 @@ fn explored<W: Write>(
             lab, notes, node, step, around, output, writer,
         ),
         Request::Whence { node, step } => say_whence(alloc, lab, notes, node, step, output, writer),
+        Request::Races { only } => say_races(alloc, lab, only, output, writer),
         Request::Who => say_who(lab, output, writer),
         Request::Chip => output.say_blocks(writer, glance(lab).as_slice()),
         Request::Save => say_saved(lab, output, writer),

@@ -12,6 +12,7 @@ mod help;
 pub mod laws;
 mod opening;
 mod part_text;
+mod races_text;
 mod request;
 mod ring_text;
 mod run_request;

@@ -1,7 +1,7 @@
 //! The commands of exploring, as lines spell them.
 
 ghost use Rattle.std.specs.Prelude.{◌≡◌};
-ghost use Rattle.ga_explorer.specs.Reading.{request_in, lone_request, named_request, effects_in, words_in, writes_in, at_in, around_in, whence_in};
+ghost use Rattle.ga_explorer.specs.Reading.{request_in, lone_request, named_request, effects_in, words_in, writes_in, at_in, around_in, whence_in, races_in};
 
 use crate::run_request::run_of;
 use ga_console::{cut, node_of, number_of};
@@ -53,6 +53,10 @@ pub enum Request {
         node: NodeId,
         step: u32,
     },
+    /// `races`: tells the steps that could have come out otherwise, of one node or of all.
+    Races {
+        only: Option<NodeId>,
+    },
     /// `who`: tells who waits for whom, and which nodes can never go on.
     Who,
     /// `chip`: shows what each node does.
@@ -85,6 +89,7 @@ fn lone_request(name: &[u8]) -> Option<Request>
             until: Condition::Never,
         }),
         b"who" => Some(Request::Who),
+        b"races" => Some(Request::Races { only: None }),
         b"chip" => Some(Request::Chip),
         b"save" => Some(Request::Save),
         b"help" => Some(Request::Help),
@@ -109,6 +114,8 @@ fn named_request(notes: &Option<Notes>, name: &[u8], arguments: &[u8]) -> Option
         at_of(arguments)
     } else if name == b"whence".as_slice() {
         whence_of(arguments)
+    } else if name == b"races".as_slice() {
+        races_of(arguments)
     } else {
         None
     }
@@ -190,5 +197,15 @@ fn whence_of(text: &[u8]) -> Option<Request>
     Some(Request::Whence {
         node: node_of(node)?,
         step: number_of(step)?,
+    })
+}
+
+/// `NNN`
+#[tactic(auto, unfolding(crate::specs::Reading::races_in))]
+fn races_of(text: &[u8]) -> Option<Request>
+    ensures { result ≡ races_in text.now }
+{
+    Some(Request::Races {
+        only: Some(node_of(text)?),
     })
 }

@@ -1,8 +1,9 @@
 -- Lists without looks: their races are passes, and a rollback shows each.
-use Rattle.std.proofs.Common.{◌≡◌, ◌≢◌, ℕ, suc, ◌==◌, Bool, true, false, cond, ◌⊎◌, inl, inr, List, [], ◌∷◌, ◌++◌, length, Option, Some, None, ◌↔◌, option_map, refl, sym, ◌∙◌, ap, subst}
+use Rattle.std.proofs.Common.{◌≡◌, ◌≢◌, ℕ, suc, ◌==◌, Bool, true, false, cond, ◌⊎◌, inl, inr, List, [], ◌∷◌, ◌++◌, ◌+◌, ◌<◌, ◌≤◌, length, Option, Some, None, ◌↔◌, option_map, refl, sym, ◌∙◌, ap, subst, arith}
 use Rattle.std.specs.List.{list_any}
 use Rattle.std.proofs.lemmas.Bool.{cases_Bool, cases_eq, both_ways, false_from_ne_true}
 use Rattle.std.proofs.lemmas.Option.{same_Some}
+use Rattle.std.proofs.lemmas.List.Sums.{sum_by-append, sum_by-cons}
 use Rattle.ga_node.specs.Io.{io_word}
 use Rattle.ga_node.specs.Record.{NodeRecord}
 use Rattle.ga_node.specs.Table.{looks, t}
@@ -14,6 +15,7 @@ use Rattle.ga_event.specs.declared.event.Event.TheVariants.{Own, Pass}
 use Rattle.ga_event.specs.declared.event.Cause.{Cause}
 use Rattle.ga_event.specs.Touches.{nodes_of, touches, meets}
 use Rattle.ga_event.specs.Apply.{Told, writes_to, seen_from, after, is_look, cause_of, run, replay}
+use Rattle.ga_event.specs.Told.{steps_of}
 use Rattle.ga_event.proofs.Locality.{touched_free, Agree-sym}
 use Rattle.ga_causal.specs.Dependence.{events_in, cause_touches, marked, rest, rest_from, rewound_list, NoneLooks}
 use Rattle.ga_causal.specs.Equivalence.{sees, AreApart, AreEquivalent}
@@ -23,14 +25,14 @@ use Rattle.ga_causal.specs.Words.{word_of}
 use Rattle.ga_causal.proofs.Accounts.{marked-stays}
 use Rattle.ga_causal.proofs.Blind.{seen_blind}
 use Rattle.ga_causal.proofs.Consistent.{made_of}
-use Rattle.ga_causal.proofs.Places.{place_split}
+use Rattle.ga_causal.proofs.Places.{place_split, touching_in}
 use Rattle.ga_causal.proofs.Rolled.{rolled_back}
 use Rattle.ga_causal.proofs.Runs.{causes, kept, keeps_of, run_more, run_kept, first_of_run}
 use Rattle.ga_causal.proofs.Swaps.{replay_equivalent}
 use Rattle.ga_causal.proofs.Words.{after_is, ran}
 use Rattle.ga_races.specs.Orders.{CanBe, IsAtEnd, AreFree, AreOrders, same, swapped, later, joined, IsRace, HasNoRace, AreRivals}
 use Rattle.ga_races.proofs.Frees.{apply_is, first_of, stays, touches_own, touches_writer, touches_reader, can_still, any_at, any_of, apart_of, apart-sym, free_chip}
-use Rattle.ga_races.proofs.Orders.{order_replay, is_some_of, can_behind, no_race-order, no_race-tail, completed_quiet, brought, IsFirst, IsSpared}
+use Rattle.ga_races.proofs.Orders.{order_replay, order_read, steps_read, is_some_of, can_behind, no_race-order, no_race-tail, completed_quiet, brought, IsFirst, IsSpared}
 use Rattle.ga_races.proofs.Rivals.{actor, one_event, one_side, open_of, common_node}
 use Rattle.ga_races.proofs.Exact.{replay_into}
 
@@ -178,6 +180,12 @@ stays_open (e ∷ es) marks c last p q a m canp canq h =
 abbrev pub Shows : List NodeRecord → List Cause → Event → Event → Type 0
 Shows c es p q = (k : ℕ) × (now : List NodeRecord) × (replay c (events_in (rewound_list es (reader_of p) k)) ≡ Some now) × CanBe now p × CanBe now q
 
+-- by a step that stands
+abbrev pub ShowsWithin : List NodeRecord → List Cause → List Event → Event → Event → Type 0
+ShowsWithin c es events p q =
+    (k : ℕ) × (0 < k) × (k ≤ steps_of (reader_of p) events) × (now : List NodeRecord)
+    × (replay c (events_in (rewound_list es (reader_of p) k)) ≡ Some now) × CanBe now p × CanBe now q
+
 module _ (c last : List NodeRecord) (es : List Event) (ts : List (Cause × Told)) (is : run c es ≡ Some (last, ts)) (none : NoneLooks (causes ts)) (step other : Event) (r : IsRace c es step other) (a : AreRivals step other) where
   whole : List Event
   whole = r.before ++ step ∷ r.later
@@ -191,7 +199,17 @@ module _ (c last : List NodeRecord) (es : List Event) (ts : List (Cause × Told)
   alike : AreEquivalent c es (r.before ++ step ∷ r.later)
   alike = (equivalent_of c es (r.before ++ step ∷ r.later) r.order (look_free es c last ts is none)).0
 
-  shows : Shows c (causes ts) step other
+  many : steps_of (reader_of step) r.before + 1 ≤ steps_of (reader_of step) es
+  many =
+      let n : ℕ = reader_of step in
+      let all : steps_of n es ≡ steps_of n (r.before ++ step ∷ r.later) =
+      sym (steps_read n c es) ∙ ap length (order_read n c es (r.before ++ step ∷ r.later) r.order) ∙ steps_read n c (r.before ++ step ∷ r.later) in
+      let split : steps_of n (r.before ++ step ∷ r.later) ≡ steps_of n r.before + steps_of n (step ∷ r.later) = sum_by-append (λ (z : Event). cond (touches z n) 1 0) r.before (step ∷ r.later) in
+      let first : steps_of n (step ∷ r.later) ≡ cond {A = ℕ} (touches step n) 1 0 + steps_of n r.later = sum_by-cons (λ (z : Event). cond (touches z n) 1 0) step r.later in
+      let one : cond {A = ℕ} (touches step n) 1 0 ≡ 1 = ap (λ (b : Bool). cond {A = ℕ} b 1 0) (touches_reader_of step other a) in
+      omega (arith, all, split, first, one)
+
+  shows : ShowsWithin c (causes ts) es step other
   shows =
       let us = other_run.0 in
       let p = parts_of r.before (step ∷ r.later) c r.now last us r.led other_run.1 in
@@ -213,16 +231,24 @@ module _ (c last : List NodeRecord) (es : List Event) (ts : List (Cause × Told)
       ∙ ap (λ (z : List Event). replay c z) events ∙ replay_into r.before (events_in (kept (cause_touches x) (causes m.others))) c r.now r.led ∙ there in
       let can : CanBe r.now step = can_behind r.before c r.now step r.later r.led (is_some_of (replay c (r.before ++ step ∷ r.later)) last (sym (order_replay c es (r.before ++ step ∷ r.later) r.order) ∙ led)) in
       let open_ = stays_open (causes m.others) (cause_touches x) r.now runs.0 step other a (λ i t. t) can r.can there in
-      (k, runs.0, here, open_.0, open_.1)
+      let number : touching n (causes p.one) ≡ steps_of n r.before = touching_in n (causes p.one) ∙ ap (steps_of n) before in
+      (k, omega arith, omega (arith, number, many), runs.0, here, open_.0, open_.1)
 
 pub race_shows : (c last : List NodeRecord) (es : List Event) (ts : List (Cause × Told)) → run c es ≡ Some (last, ts) → NoneLooks (causes ts) → (step other : Event) → IsRace c es step other → AreRivals step other → Shows c (causes ts) step other
-race_shows c last es ts is none step other r a = shows c last es ts is none step other r a
+race_shows c last es ts is none step other r a = let w = shows c last es ts is none step other r a in (w.0, w.3, w.4, w.5, w.6)
 
--- ---- where all ends
+-- ---- where all ends, or nothing that comes next looks
 
 -- what can be made and is never made in another way looks at nothing, where the list has no look
-blind_later : (es : List Event) (c last : List NodeRecord) (e : Event) → LookFree c es → replay c es ≡ Some last → IsAtEnd last → CanBe c e → is_look c e ≡ false
-blind_later [] c last e free h end can = absurd (end e (subst (λ z. CanBe z e) (same_Some c last h) can))
+-- none of the events that can be made looks
+abbrev pub IsBlind : List NodeRecord → Type 0
+IsBlind c = (e : Event) → CanBe c e → is_look c e ≡ false
+
+pub end_blind : (c : List NodeRecord) → IsAtEnd c → IsBlind c
+end_blind c end e can = absurd (end e can)
+
+blind_later : (es : List Event) (c last : List NodeRecord) (e : Event) → LookFree c es → replay c es ≡ Some last → IsBlind last → CanBe c e → is_look c e ≡ false
+blind_later [] c last e free h end can = subst (λ z. is_look z e ≡ false) (sym (same_Some c last h)) (end e (subst (λ z. CanBe z e) (same_Some c last h) can))
 blind_later (f ∷ es) c last e free h end can =
     let p = first_of c f es last h in
     elim (cases_eq (actor f) (actor e)) [
@@ -241,7 +267,7 @@ look_free_into [] ys c now h free = subst (λ d. LookFree d ys) (same_Some c now
 look_free_into (e ∷ fs) ys c now h free = let p = first_of c e fs now h in look_free_into fs ys (after c e).0 now p.then free.1
 
 -- so its races are of passes
-pub race_rivals : (c last : List NodeRecord) (es : List Event) (ts : List (Cause × Told)) → run c es ≡ Some (last, ts) → NoneLooks (causes ts) → IsAtEnd last → (step other : Event) → IsRace c es step other → AreRivals step other
+pub race_rivals : (c last : List NodeRecord) (es : List Event) (ts : List (Cause × Told)) → run c es ≡ Some (last, ts) → NoneLooks (causes ts) → IsBlind last → (step other : Event) → IsRace c es step other → AreRivals step other
 race_rivals c last es ts is none end step other r = elim (cases_Bool (list_any (touches step) (nodes_of other))) [
   | inl t ↦ (let k = any_of (touches step) (nodes_of other) t in common_node r.now step other k.node can r.can r.differ k.marked k.listed)
   | inr no_node ↦ (let apart = apart_of step other no_node in
@@ -269,13 +295,22 @@ race_rivals c last es ts is none end step other r = elim (cases_Bool (list_any (
 abbrev pub NoneShows : List NodeRecord → List Cause → Type 0
 NoneShows c es = (k : ℕ) (now : List NodeRecord) (w x r : NodeId) (side other : Side) → replay c (events_in (rewound_list es r.number k)) ≡ Some now → CanBe now (Pass w r side) → CanBe now (Pass x r other) → side ≢ other → ⊥
 
-pub none_races : (c last : List NodeRecord) (es : List Event) (ts : List (Cause × Told)) → run c es ≡ Some (last, ts) → NoneLooks (causes ts) → IsAtEnd last → NoneShows c (causes ts) → HasNoRace c es
-none_races c last es ts is none end shows step other r =
+abbrev pub NoneShowsWithin : List NodeRecord → List Cause → List Event → Type 0
+NoneShowsWithin c es events =
+    (k : ℕ) (now : List NodeRecord) (w x r : NodeId) (side other : Side) → 0 < k → k ≤ steps_of r.number events
+    → replay c (events_in (rewound_list es r.number k)) ≡ Some now → CanBe now (Pass w r side) → CanBe now (Pass x r other) → side ≢ other → ⊥
+
+pub none_races_within : (c last : List NodeRecord) (es : List Event) (ts : List (Cause × Told)) → run c es ≡ Some (last, ts) → NoneLooks (causes ts) → IsBlind last → NoneShowsWithin c (causes ts) es → HasNoRace c es
+none_races_within c last es ts is none end free step other r =
     let a = race_rivals c last es ts is none end step other r in
-    let k = race_shows c last es ts is none step other r a in
-    shows k.0 k.1 a.first a.second a.reader a.side a.other
-    (ap (λ (z : Event). replay c (events_in (rewound_list (causes ts) (reader_of z) k.0))) (sym a.one) ∙ k.2)
-    (subst (λ (z : Event). CanBe k.1 z) a.one k.3) (subst (λ (z : Event). CanBe k.1 z) a.two k.4) a.sides
+    let k = shows c last es ts is none step other r a in
+    free k.0 k.3 a.first a.second a.reader a.side a.other k.1
+    (subst (λ (z : Event). k.0 ≤ steps_of (reader_of z) es) a.one k.2)
+    (ap (λ (z : Event). replay c (events_in (rewound_list (causes ts) (reader_of z) k.0))) (sym a.one) ∙ k.4)
+    (subst (λ (z : Event). CanBe k.3 z) a.one k.5) (subst (λ (z : Event). CanBe k.3 z) a.two k.6) a.sides
+
+pub none_races : (c last : List NodeRecord) (es : List Event) (ts : List (Cause × Told)) → run c es ≡ Some (last, ts) → NoneLooks (causes ts) → IsBlind last → NoneShows c (causes ts) → HasNoRace c es
+none_races c last es ts is none end free = none_races_within c last es ts is none end (λ k now w x r side other first within. free k now w x r side other)
 
 -- ---- and where it has no race none shows
 
@@ -308,4 +343,4 @@ none_shows c last es ts is none end calm k now w x r side other led canp canq ne
         (record { before = []; later = b.others; now = now; order = b.order; led = refl; can = canq; differ = λ e. other_writer (ap actor e); bound = not_free })
 
 pub decided : (c last : List NodeRecord) (es : List Event) (ts : List (Cause × Told)) → run c es ≡ Some (last, ts) → NoneLooks (causes ts) → IsAtEnd last → HasNoRace c es ↔ NoneShows c (causes ts)
-decided c last es ts is none end = (λ calm. none_shows c last es ts is none end calm, λ h. none_races c last es ts is none end h)
+decided c last es ts is none end = (λ calm. none_shows c last es ts is none end calm, λ h. none_races c last es ts is none (end_blind last end) h)

@@ -21,7 +21,7 @@ use Rattle.ga_races.proofs.Frees.{replay_more, first_of, touches_reader}
 use Rattle.ga_races.proofs.Orders.{order_read}
 use Rattle.ga_races.proofs.Rivals.{Open, open_of, number_of}
 use Rattle.ga_races.proofs.Exact.{Entry, read_into, read_touched}
-use Rattle.ga_races.proofs.Blind.{race_rivals}
+use Rattle.ga_races.proofs.Blind.{race_rivals, end_blind}
 
 -- ---- a list cut where a node's account is cut
 
@@ -141,5 +141,5 @@ module _ (c last : List NodeRecord) (es : List Event) (led : replay c es ≡ Som
 
 pub one_writer : (c last : List NodeRecord) (es : List Event) (ts : List (Cause × Told)) → run c es ≡ Some (last, ts) → NoneLooks (causes ts) → IsAtEnd last → HasOneWriter c es → HasNoRace c es
 one_writer c last es ts is none end one step other r =
-    let a = race_rivals c last es ts is none end step other r in
+    let a = race_rivals c last es ts is none (end_blind last end) step other r in
     a.sides (sym (sides_same c last es (ap (λ (o : Option (List NodeRecord × List (Cause × Told))). option_map (λ z. z.0) o) is) one step other r a.first a.second a.reader a.side a.other a.one a.two))

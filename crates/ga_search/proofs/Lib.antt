@@ -14,3 +14,5 @@ pub mod WordCounts
 pub mod Sessions
 pub mod Standing
 pub mod Offering
+pub mod Behind
+pub mod Untold

@@ -30,18 +30,18 @@ no_step true x y f e = absurd (cc)
 no_step false x y f e = omega (arith, e)
 
 -- what is kept of a list that meets no mark leaves a marked node as it was
-record Ran (b : List NodeRecord) (es : List Event) (m : ℕ) : Type 0 where
-  now : List NodeRecord
-  led : replay b es ≡ Some now
-  same : record_at b m ≡ record_at now m
-  none : steps_of m es ≡ 0
+pub record Ran (b : List NodeRecord) (es : List Event) (m : ℕ) : Type 0 where
+  pub now : List NodeRecord
+  pub led : replay b es ≡ Some now
+  pub same : record_at b m ≡ record_at now m
+  pub none : steps_of m es ≡ 0
 
 abbrev part : Bool → (ℕ → Bool) → Cause → List Cause → List Cause
 part b marks x xs =
     let then : ℕ → Bool = cond b (λ n. marks n || cause_touches x n) marks in
     cond b (kept then xs) (x ∷ kept then xs)
 
-marked_ran : (es : List Event) (marks : ℕ → Bool) (c b last : List NodeRecord) (ts : List (Cause × Told)) (m : ℕ) → Agree marks c b → marks m ≡ true → run c es ≡ Some (last, ts) → Ran b (events_in (kept marks (causes ts))) m
+pub marked_ran : (es : List Event) (marks : ℕ → Bool) (c b last : List NodeRecord) (ts : List (Cause × Told)) (m : ℕ) → Agree marks c b → marks m ≡ true → run c es ≡ Some (last, ts) → Ran b (events_in (kept marks (causes ts))) m
 marked_ran [] marks c b last ts m a mark is =
     subst (λ (z : List (Cause × Told)). Ran b (events_in (kept marks (causes z))) m) (ap (λ (z : List NodeRecord × List (Cause × Told)). z.1) (same_Some (c, []) (last, ts) is))
     (record { now = b; led = refl; same = refl; none = refl })

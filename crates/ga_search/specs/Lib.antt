@@ -9,3 +9,4 @@ pub mod Freed
 pub mod Words
 pub mod kept
 pub mod Offered
+pub mod Races

@@ -1,12 +1,14 @@
 //! Laws of the definitions, each the contract of a function that does nothing.
 
-ghost use Rattle.std.specs.Prelude.{◌≡◌, ◌≢◌, ◌↔◌, ◌⊎◌, ℕ, Bool, true, List, ◌++◌, Ok, IfSome, IsSome};
+ghost use Rattle.std.specs.Prelude.{◌≡◌, ◌≢◌, ◌≤◌, ◌↔◌, ◌⊎◌, ℕ, Bool, true, false, List, [], ◌++◌, Option, None, Ok, IfSome, IsSome};
+ghost use Rattle.std.specs.List.{All};
 ghost use Rattle.ga_ports.specs.declared.side.Side.{Side};
 ghost use Rattle.ga_node.specs.Record.{NodeRecord};
 ghost use Rattle.ga_grid.specs.declared.node_id.NodeId.{NodeId};
 ghost use Rattle.ga_grid.specs.Chip.{record_at};
 ghost use Rattle.ga_event.specs.declared.event.Event.{Event};
 ghost use Rattle.ga_event.specs.Apply.{apply, replay};
+ghost use Rattle.ga_event.specs.Told.{steps_of};
 ghost use Rattle.ga_event.specs.Next.{next};
 ghost use Rattle.ga_event.specs.Touches.{touches};
 ghost use Rattle.ga_causal.specs.Dependence.{NoneLooks};
@@ -16,6 +18,7 @@ ghost use Rattle.ga_lab.specs.Calls.{Call, called_all, IsReached};
 ghost use Rattle.ga_search.specs.Near.{IsNear};
 ghost use Rattle.ga_search.specs.Stuck.{AreStuck};
 ghost use Rattle.ga_search.specs.Offered.{offered};
+ghost use Rattle.ga_search.specs.Races.{races_asked, has_looks, first_ready, IsOther};
 
 /// An event changes what the next event of a node is at the nodes that it touches and at their neighbours alone.
 pub fn next_changes_near_alone()
@@ -58,4 +61,36 @@ pub fn none_offered()
         IsSome (offered (chip_of (rewound s r.number k)) r.number side) →
         IsSome (offered (chip_of (rewound s r.number k)) r.number other) → ⊥) →
         HasNoRace s.load s.kept }
+{}
+
+/// Where of a session no step is told (`races_asked`), nothing that is kept or comes next looks, and no node has an event, every other
+/// session from that load stands on the way there, whatever was stepped, undone or rewound in it; and once no node has an event there
+/// either, its chip is the same. This is what `find_races` leaves to say of a run that has ended.
+pub fn every_order()
+    ensures way { (load : List NodeRecord) (limit bound : ℕ) (calls others : List Call) →
+        let s = called_all (first load limit) calls in
+        let z = called_all (first load bound) others in
+        races_asked s None ≡ [] → has_looks (causes_of s) (chip_of s) ≡ false → first_ready (chip_of s) ≡ None →
+        (later : List Event) × AreOrders load s.kept (z.kept ++ later) }
+    ensures chip { (load : List NodeRecord) (limit bound : ℕ) (calls others : List Call) →
+        let s = called_all (first load limit) calls in
+        let z = called_all (first load bound) others in
+        races_asked s None ≡ [] → has_looks (causes_of s) (chip_of s) ≡ false → first_ready (chip_of s) ≡ None →
+        first_ready (chip_of z) ≡ None → chip_of z ≡ chip_of s }
+{}
+
+/// The same where a node may have an event: every other session from that load in which no node made more steps stands on the way.
+pub fn no_other_order()
+    ensures { (load : List NodeRecord) (limit bound : ℕ) (calls others : List Call) →
+        let s = called_all (first load limit) calls in
+        let z = called_all (first load bound) others in
+        races_asked s None ≡ [] → has_looks (causes_of s) (chip_of s) ≡ false →
+        ((n : ℕ) → steps_of n z.kept ≤ steps_of n s.kept) →
+        (later : List Event) × AreOrders load s.kept (z.kept ++ later) }
+{}
+
+/// Each step that is told could have come out as it is told, with looks kept or not: where it is taken back, a step of the other
+/// neighbour is the pass to the node, of the other word.
+pub fn other_word()
+    ensures { (s : State) (only : Option NodeId) → All (IsOther s) (races_asked s only) }
 {}

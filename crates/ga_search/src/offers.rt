@@ -1,6 +1,6 @@
 //! What a node could have taken in place of the word that it took.
 
-ghost use Rattle.std.specs.Prelude.{◌≡◌, ◌↔◌, ◌+◌, ◌≤◌, ℕ, false, take, slice_index, Some, Err, IfOk, IfErr};
+ghost use Rattle.std.specs.Prelude.{◌≡◌, ◌↔◌, ◌+◌, ◌<◌, ◌≤◌, ◌^◌, ℕ, false, take, slice_index, Some, Err, IfSome, IfOk, IfErr};
 ghost use Rattle.ga_node.specs.Record.{record_of};
 ghost use Rattle.ga_grid.specs.Chip.{record_at};
 ghost use Rattle.ga_event.specs.Told.{steps_of};
@@ -31,7 +31,8 @@ fn behind(lab: &Lab, steps: &Visited, node: NodeId) -> Node
 
 // The word that the writer waits to give the reader over the side, if that waits for it.
 fn given(reader: &Node, writer: &Node, side: Side) -> Option<u32>
-    ensures { result ≡ given (record_of reader.now) (record_of writer.now) side }
+    ensures value { result ≡ given (record_of reader.now) (record_of writer.now) side }
+    ensures in_range { IfSome result (λ word. word < 2 ^ 18) }
 {
     if is_writing(&writer.wait(), side) && is_reading(&reader.wait(), side) {
         Some(writer.d(0))
@@ -48,6 +49,7 @@ fn given(reader: &Node, writer: &Node, side: Side) -> Option<u32>
 /// `NoStep`, where the node has no such step.
 pub fn offered(lab: &mut Lab, node: NodeId, step: u32, side: Side) -> Result<Option<u32>, LabFault>
     ensures word { IfOk result (λ word. word ≡ offered (chip_of (rewound lab.old node.number step)) node.number side) }
+    ensures in_range { IfOk result (λ word. IfSome word (λ it. it < 2 ^ 18)) }
     ensures err { IfErr result (λ why. rewind_answer lab.old node.number step ≡ Err why) }
     ensures refused { (result ≡ Err LabFault.NoStep) ↔ (stands lab.old node.number step ≡ false) }
     ensures same { lab.new ≡ lab.old }

@@ -1,6 +1,6 @@
 use Rattle.std.proofs.Common.{◌∙◌}
 use Rattle.ga_explorer.specs.Texts.{run_text, chip_text, help_text}
-use Rattle.ga_explorer.proofs.Done.{run_done, effects_done, words_done, writes_done, at_done, whence_done, who_done, save_done, chip_done, help_done}
+use Rattle.ga_explorer.proofs.Done.{run_done, effects_done, words_done, writes_done, at_done, whence_done, races_done, who_done, save_done, chip_done, help_done}
 use Rattle.ga_explorer.proofs.Told.{told_as}
 use Rattle.ga_explorer.proofs.explorer.explored.Goals as goal
 
@@ -41,6 +41,14 @@ pub returns-in-Whence : goal.returns-in-Whence
 returns-in-Whence g c = λ before said h.
     let done = c.say_whence.ensures before said h in
     (done.0, whence_done c.args.lab.now c.args.notes.now c.args.asked c.in-Whence.node c.in-Whence.step done.0 c.in-Whence.is done.1, done.2)
+
+pub returns-in-Races : goal.returns-in-Races
+returns-in-Races g c = λ before said h.
+    let done = c.say_races.ensures.said before said h in (
+      done.0,
+      races_done c.args.lab.now c.args.notes.now c.args.asked c.in-Races.only done.0 c.say_races.new.lab c.in-Races.is c.say_races.ensures.same done.1,
+      done.2,
+    )
 
 pub returns-in-Who : goal.returns-in-Who
 returns-in-Who g c = λ before said h.

@@ -22,7 +22,7 @@ returns-in-Some-clause-word c =
     (subst (λ (z : State). IsBehind z (slice_index c.in-Ok.going.steps n) n (record_of c.behind-reader.result)) same c.behind-reader.ensures.value) in
     let writer = is_rewound s n k m (slice_index c.in-Ok.going.steps m) (record_of c.behind-writer.result) all (c.in-Ok.ensures.steps m)
     (subst (λ (z : State). IsBehind z (slice_index c.in-Ok.going.steps m) m (record_of c.behind-writer.result)) same c.behind-writer.ensures.value) in
-    c.given.ensures
+    c.given.ensures.value
     ∙ ap (λ (z : NodeRecord). given z (record_of c.behind-writer.result) side) reader
     ∙ ap (λ (z : NodeRecord). given (record_at (chip_of (rewound s n k)) n) z side) writer
     ∙ ap (λ (o : Option ℕ). offered_by (chip_of (rewound s n k)) n side o) c.in-Some.ensures.value

@@ -1,0 +1,51 @@
+-- The texts of `races`: the steps that could have come out otherwise, and what holds of other orders (docs/REFERENCE.md, "Exploring";
+-- this project's own). What the last line means is law `every_order` and law `no_other_order` of ga_search.
+use Rattle.std.specs.Prelude.{◌≡◌, ◌⊎◌, Bool, true, false, is_none, List, [], ◌∷◌, ◌++◌, length, flat_map, codes, decimal, ℕ, Option, Some, None}
+use Rattle.ga_image.specs.Lines.{Text}
+use Rattle.ga_word.specs.Word.{hex6_of}
+use Rattle.ga_grid.specs.declared.node_id.NodeId.{NodeId}
+use Rattle.ga_lab.specs.Machine.{State, chip_of, causes_of}
+use Rattle.ga_lab.specs.declared.fault.LabFault.TheVariants.{Memory}
+use Rattle.ga_search.specs.declared.races.Race.{Race}
+use Rattle.ga_search.specs.Races.{races_asked, has_looks, first_ready}
+use Rattle.ga_console.specs.Texts.{name_of, step_text, refusal_text}
+
+-- the step and the word that it took, another that it could have taken, and the commands that make it take that
+abbrev pub race_text : Race → Text
+race_text race =
+    step_text race.reader race.step ++ codes " takes " ++ hex6_of race.word ++ codes " from " ++ name_of race.writer
+    ++ codes ", or " ++ hex6_of race.offered ++ codes " from " ++ name_of race.other
+    ++ codes ": rewind " ++ step_text race.reader race.step ++ codes ", step " ++ name_of race.other ++ codes "\n"
+
+-- how many lines of steps follow
+abbrev pub races_head : ℕ → Text
+races_head count = codes "races " ++ decimal count ++ codes "\n"
+
+-- where no step is told and nothing looks: whether some node has an event
+abbrev pub calm_line : Bool → Text
+calm_line true = codes "every order ends on this chip\n"
+calm_line false = codes "no other order, as long as no node makes more steps\n"
+
+-- of one node nothing is said of the whole; told steps say enough
+abbrev pub order_line : Option NodeId → List Race → Bool → Text
+order_line None [] quiet = calm_line quiet
+order_line None (race ∷ races) quiet = []
+order_line (Some node) races quiet = []
+
+-- a look may read otherwise in another order, and hide another race
+abbrev pub last_line : Option NodeId → List Race → Bool → Bool → Text
+last_line only races true quiet = codes "looks are kept or come next: there may be other races\n"
+last_line only races false quiet = order_line only races quiet
+
+abbrev pub lines_text : List Race → Text
+lines_text races = races_head (length races) ++ flat_map race_text races
+
+abbrev pub listed_text : Option NodeId → List Race → Bool → Bool → Text
+listed_text only races looks quiet = lines_text races ++ last_line only races looks quiet
+
+abbrev pub races_text : State → Option NodeId → Text
+races_text s only = listed_text only (races_asked s only) (has_looks (causes_of s) (chip_of s)) (is_none (first_ready (chip_of s)))
+
+-- all is told, or memory is wanting
+abbrev pub TellsRaces : State → Option NodeId → Text → Type 0
+TellsRaces s only answer = (answer ≡ races_text s only) ⊎ (answer ≡ refusal_text Memory)

@@ -1,0 +1,253 @@
+//! Steps that could have come out otherwise.
+
+ghost use Rattle.std.specs.Prelude.{◌≡◌, ◌<◌, ◌^◌, ◌∷◌, ◌++◌, [], true, is_none, Some, IfSome, IfOk, OnOk, IfErr};
+ghost use Rattle.ga_grid.specs.Chip.{records_of};
+ghost use Rattle.ga_event.specs.Told.{steps_of};
+ghost use Rattle.ga_lab.specs.Machine.{chip_of, causes_of, stands};
+ghost use Rattle.ga_search.specs.Races.{race_from, races_over, races_around, races_told, races_of, races_below, races_asked, has_look, looks_next, has_next_look, has_looks, first_ready};
+
+use crate::offers::offered;
+use crate::ready::{first_from, ready_nodes};
+use ga_event::Cause;
+use ga_grid::{Chip, NodeId, neighbour};
+use ga_lab::{Lab, LabFault, Made};
+use ga_ports::Side;
+use ga_word::Word18;
+use std::alloc::Global;
+
+/// A step by which a node took a word, and another word that it could have taken: taken back, it leaves the other neighbour waiting
+/// to write to the node, and a step of that one makes the other pass.
+#[derive(Clone, Copy, PartialEq, Eq, Debug)]
+pub struct Race {
+    /// The node.
+    pub reader: NodeId,
+    /// Its step.
+    pub step: u32,
+    /// Who wrote the word that it took.
+    pub writer: NodeId,
+    /// That word.
+    pub word: Word18,
+    /// Who would write it another.
+    pub other: NodeId,
+    /// The other word.
+    pub offered: Word18,
+}
+
+/// The steps of a session that could have come out otherwise, and what bears on whether these are all.
+#[derive(Debug, Drop)]
+pub struct Races {
+    /// In the order of the nodes' numbers, of a node in that of its steps, of a step in the order right, down, left, up.
+    pub list: Vec<Race>,
+    /// Whether a kept event looks, or one that comes next: then there may be others.
+    pub looks: bool,
+    /// Whether no node of the chip has an event.
+    pub quiet: bool,
+}
+
+// A step by which a node took a word.
+#[derive(Clone, Copy, PartialEq, Eq, Debug)]
+struct Taken {
+    reader: NodeId,
+    step: u32,
+    writer: NodeId,
+    word: Word18,
+}
+
+// Puts a race at the end of a list.
+fn add(list: &mut Vec<Race>, race: Race) -> Result<(), LabFault>
+    ensures ok { OnOk result (list.new.items ≡ list.old.items ++ race ∷ []) }
+    ensures err { IfErr result (λ why. why ≡ LabFault.Memory) }
+{
+    match list.push(race) {
+        Ok(()) => Ok(()),
+        Err(_) => Err(LabFault::Memory),
+    }
+}
+
+// The same of the word that this neighbour would give, where that isn't the writer.
+fn add_from(
+    list: &mut Vec<Race>,
+    taken: Taken,
+    other: NodeId,
+    offer: Option<u32>,
+) -> Result<(), LabFault>
+    requires { IfSome offer (λ word. word < 2 ^ 18) }
+    ensures ok { OnOk result (list.new.items ≡ list.old.items
+        ++ race_from taken.reader taken.step taken.writer taken.word (Some other.number) offer) }
+    ensures err { IfErr result (λ why. why ≡ LabFault.Memory) }
+{
+    match offer {
+        Some(offer) if other.number != taken.writer.number => add(
+            list,
+            Race {
+                reader: taken.reader,
+                step: taken.step,
+                writer: taken.writer,
+                word: taken.word,
+                other,
+                offered: Word18::truncated(offer),
+            },
+        ),
+        _ => Ok(()),
+    }
+}
+
+// The same over a side.
+fn add_over(list: &mut Vec<Race>, lab: &mut Lab, taken: Taken, side: Side) -> Result<(), LabFault>
+    requires { stands lab.old taken.reader.number taken.step ≡ true }
+    ensures ok { OnOk result (list.new.items ≡ list.old.items
+        ++ races_over lab.old taken.reader taken.step taken.writer taken.word side) }
+    ensures err { IfErr result (λ why. why ≡ LabFault.Memory) }
+    ensures same { lab.new ≡ lab.old }
+{
+    match neighbour(taken.reader, side) {
+        Some(other) => match offered(lab, taken.reader, taken.step, side) {
+            Ok(offer) => add_from(list, taken, other, offer),
+            Err(_) => Ok(()),
+        },
+        None => Ok(()),
+    }
+}
+
+// The same over all sides.
+fn add_around(list: &mut Vec<Race>, lab: &mut Lab, taken: Taken) -> Result<(), LabFault>
+    requires { stands lab.old taken.reader.number taken.step ≡ true }
+    ensures ok { OnOk result (list.new.items ≡ list.old.items
+        ++ races_around lab.old taken.reader taken.step taken.writer taken.word) }
+    ensures err { IfErr result (λ why. why ≡ LabFault.Memory) }
+    ensures same { lab.new ≡ lab.old }
+{
+    add_over(list, lab, taken, Side::Right)?;
+    add_over(list, lab, taken, Side::Down)?;
+    add_over(list, lab, taken, Side::Left)?;
+    add_over(list, lab, taken, Side::Up)?;
+    Ok(())
+}
+
+// Adds the races of a step of the node of which this is told.
+fn add_told(
+    list: &mut Vec<Race>,
+    lab: &mut Lab,
+    node: NodeId,
+    step: u32,
+    made: &Made,
+) -> Result<(), LabFault>
+    requires { stands lab.old node.number step ≡ true }
+    ensures ok { OnOk result (list.new.items ≡ list.old.items ++ races_told lab.old node step (Some made.now)) }
+    ensures err { IfErr result (λ why. why ≡ LabFault.Memory) }
+    ensures same { lab.new ≡ lab.old }
+{
+    match made {
+        Made::Pass {
+            writer,
+            reader,
+            word,
+            ..
+        } if reader.number == node.number => {
+            let taken = Taken {
+                reader: node,
+                step,
+                writer: *writer,
+                word: *word,
+            };
+            add_around(list, lab, taken)
+        }
+        _ => Ok(()),
+    }
+}
+
+// Adds the races of a node.
+fn add_node(list: &mut Vec<Race>, lab: &mut Lab, node: NodeId) -> Result<(), LabFault>
+    ensures ok { OnOk result (list.new.items ≡ list.old.items ++ races_of lab.old node) }
+    ensures err { IfErr result (λ why. why ≡ LabFault.Memory) }
+    ensures same { lab.new ≡ lab.old }
+{
+    let steps = lab.steps(node);
+    'steps: for place in 0..steps {
+        match lab.told(node, place) {
+            Some(made) => add_told(list, lab, node, place + 1, &made)?,
+            None => return Ok(()),
+        }
+    }
+    Ok(())
+}
+
+// The races of all nodes.
+fn add_nodes(list: &mut Vec<Race>, lab: &mut Lab) -> Result<(), LabFault>
+    ensures ok { OnOk result (list.new.items ≡ list.old.items ++ races_below lab.old 144) }
+    ensures err { IfErr result (λ why. why ≡ LabFault.Memory) }
+    ensures same { lab.new ≡ lab.old }
+{
+    'nodes: for number in 0..144u8 {
+        add_node(list, lab, NodeId::new(number))?;
+    }
+    Ok(())
+}
+
+// Whether one of these events looks.
+fn has_look(causes: &[Cause]) -> bool
+    ensures { result ≡ has_look causes.now }
+{
+    'causes: for cause in causes {
+        if cause.look {
+            return true;
+        }
+    }
+    false
+}
+
+// Whether the next event of the node is one of its own that looks.
+fn looks_next(chip: &Chip, node: NodeId) -> bool
+    ensures { result ≡ looks_next (records_of chip.now) node.number }
+{
+    let at = chip.node(node);
+    at.not_ready().is_none() && at.looks()
+}
+
+// Whether that of a node does.
+fn has_next_look(chip: &Chip) -> bool
+    ensures { result ≡ has_next_look (records_of chip.now) 144 }
+{
+    let mut looks = false;
+    'nodes: for number in 0..144u8 {
+        looks = looks_next(chip, NodeId::new(number)) || looks;
+    }
+    looks
+}
+
+// Whether no node has an event.
+fn is_quiet(chip: &Chip) -> bool
+    ensures { result ≡ is_none (first_ready (records_of chip.now)) }
+{
+    first_from(&ready_nodes(chip), NodeId::new(0)).is_none()
+}
+
+/// The steps of a node, or of all, by which it took a word where another neighbour could have given it one. Nothing is taken back.
+/// Takes memory for the list, and for a while for a list of all kept events; and time by these, and by what the rollbacks of steps
+/// would take for which another neighbour ever waited to write.
+///
+/// # Errors
+/// `Memory` alone.
+pub fn find_races(
+    alloc: Global,
+    lab: &mut Lab,
+    only: Option<NodeId>,
+) -> Result<Races, LabFault>
+    ensures list { IfOk result (λ races. races.list.items ≡ races_asked lab.old only) }
+    ensures looks { IfOk result (λ races. races.looks ≡ has_looks (causes_of lab.old) (chip_of lab.old)) }
+    ensures quiet { IfOk result (λ races. races.quiet ≡ is_none (first_ready (chip_of lab.old))) }
+    ensures err { IfErr result (λ why. why ≡ LabFault.Memory) }
+    ensures same { lab.new ≡ lab.old }
+{
+    let mut list = Vec::new(alloc);
+    match only {
+        Some(node) => add_node(&mut list, lab, node)?,
+        None => add_nodes(&mut list, lab)?,
+    }
+    let causes = lab.causes()?;
+    Ok(Races {
+        list,
+        looks: has_look(causes.as_slice()) || has_next_look(lab.chip()),
+        quiet: is_quiet(lab.chip()),
+    })
+}
