@@ -44,6 +44,7 @@ Further commands (N is a number of events; NNN and MMM are nodes, K a step, HH t
   writes NNN HH          show the steps that wrote the cell HH of NNN, the newest first
   at NNN K [N]           show the steps from K - N to K + N of NNN, each with registers behind it [N: 3]
   whence NNN K           show the steps whose values went into what step K of NNN made, down to literals and loaded cells
+  races [NNN]            show the steps that could have come out otherwise in another order, and by which commands
   save                   show the kept events as lines step NNN
   help                   show the commands
 

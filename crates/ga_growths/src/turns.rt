@@ -134,7 +134,7 @@ pub(crate) struct Explored {
 
 /// What the sender and the taker make, and what is asked of it. Node 000 takes memory at its first and at its fifth event, node 001
 /// at its first and at its fifth, which is the pass.
-pub(crate) static EXPLORED: [Explored; 8] = [
+pub(crate) static EXPLORED: [Explored; 9] = [
     Explored {
         asks: "run greedy until wait 000",
         answer: "reached 7 000 7 wait\n",
@@ -187,6 +187,14 @@ pub(crate) static EXPLORED: [Explored; 8] = [
         refusals: &[(
             0,
             "no 4 memory\nkept 12 made 12 limit 1000000\n001 5 takes 00002a from 000 8\n  000 4 @p\n    000 load 02\n",
+        )],
+    },
+    Explored {
+        asks: "races",
+        answer: "races 0\nno other order, as long as no node makes more steps\n",
+        refusals: &[(
+            0,
+            "no 4 memory\nkept 12 made 12 limit 1000000\nraces 0\nno other order, as long as no node makes more steps\n",
         )],
     },
     Explored {

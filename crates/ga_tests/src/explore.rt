@@ -4,8 +4,8 @@ use ga_grid::{Chip, NodeId};
 use ga_lab::{Lab, LabFault, Made};
 use ga_node::{Kind, Place};
 use ga_search::{
-    Condition, Effect, End, Ran, Schedule, Sent, Words, are_linked, count_words, find_effects,
-    find_stuck, run,
+    Condition, Effect, End, Race, Ran, Schedule, Sent, Words, are_linked, count_words, find_effects,
+    find_races, find_stuck, run,
 };
 use ga_word::Word18;
 use std::alloc::Global;
@@ -219,6 +219,69 @@ fn tells_effects(rt: HostRuntime) -> Result<(), Fail> {
     let mut lab = pair(rt.alloc())?;
     run(&mut lab, Schedule::in_rounds(), 12, &Condition::Never);
     effects(&rt, rt.alloc(), &mut lab)
+}
+
+// Node 001 takes a word of whichever of 000 and 002 comes first; the others are stopped.
+fn rivals(alloc: Global) -> Result<Lab, Fail> {
+    let mut chip = Chip::new(alloc)?;
+    for number in 3..144u8 {
+        let node = chip.node_mut(NodeId::new(number));
+        node.set(Place::Wait, 0);
+        node.set(Place::Stop, 1);
+    }
+    load(&mut chip, NodeId::new(0), sender(0x1d5, 0x2a));
+    load(&mut chip, NodeId::new(1), taker(0x1f5));
+    load(&mut chip, NodeId::new(2), sender(0x175, 0x2b));
+    Ok(Lab::new(alloc, chip, 1_000)?)
+}
+
+// The steps of a node, or of all, that could have come out otherwise.
+fn has_races(
+    rt: &impl Abort,
+    alloc: Global,
+    lab: &mut Lab,
+    only: Option<NodeId>,
+    wanted: &[Race],
+) -> Result<(), Fail> {
+    let told = find_races(alloc, lab, only)?;
+    each_same(rt, &told.list, wanted);
+    same(rt, &told.looks, &false);
+    same(rt, &told.quiet, &false);
+    Ok(())
+}
+
+// In rounds, both senders wait in their step 7; the turn is with 000 then, and 001 takes its word in step 5. Taken back, that step
+// leaves 002 waiting, and a step of 002 makes the other pass.
+#[test]
+fn tells_races(rt: HostRuntime) -> Result<(), Fail> {
+    let mut lab = rivals(rt.alloc())?;
+    let (left, reader, right) = (NodeId::new(0), NodeId::new(1), NodeId::new(2));
+    run(&mut lab, Schedule::in_rounds(), 18, &Condition::Never);
+    has_races(&rt, rt.alloc(), &mut lab, None, &[])?;
+    run(&mut lab, Schedule::in_rounds(), 1, &Condition::Never);
+    let (word, offered) = (Word18::truncated(0x2a), Word18::truncated(0x2b));
+    let race = Race {
+        reader,
+        step: 5,
+        writer: left,
+        word,
+        other: right,
+        offered,
+    };
+    has_races(&rt, rt.alloc(), &mut lab, None, &[race])?;
+    has_races(&rt, rt.alloc(), &mut lab, Some(reader), &[race])?;
+    has_races(&rt, rt.alloc(), &mut lab, Some(left), &[])?;
+    lab.rewind(reader, 5)?;
+    let made = lab.step(right)?;
+    let wanted = Made::Pass {
+        writer: right,
+        writer_step: 8,
+        reader,
+        reader_step: 5,
+        word: offered,
+    };
+    same(&rt, &made, &wanted);
+    Ok(())
 }
 
 // The sender loops: 13 steps from one word to the next. The taker reads again behind its fetch of an empty cell.

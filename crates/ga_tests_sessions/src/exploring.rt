@@ -32,7 +32,7 @@ fn says(rt: &impl Abort, alloc: Global, commands: &[u8], said: &[u8]) -> Result<
     Ok(())
 }
 
-static COMMANDS: [&str; 17] = [
+static COMMANDS: [&str; 19] = [
     "run",
     "run 5",
     "run greedy 5",
@@ -46,6 +46,8 @@ static COMMANDS: [&str; 17] = [
     "effects 000 1",
     "words 000 001",
     "whence 000 1",
+    "races",
+    "races 000",
     "who",
     "chip",
     "save",
