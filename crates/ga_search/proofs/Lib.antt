@@ -16,3 +16,5 @@ pub mod Standing
 pub mod Offering
 pub mod Behind
 pub mod Untold
+pub mod Silent
+pub mod Racing

@@ -16,7 +16,7 @@ use Rattle.ga_lab.proofs.Called.{Runs, chip_is}
 use Rattle.ga_lab.proofs.Reached.{runs_reached}
 use Rattle.ga_races.specs.Orders.{CanBe, IsAtEnd, HasNoRace}
 use Rattle.ga_races.proofs.Rivals.{Open, open_of, back}
-use Rattle.ga_races.proofs.Blind.{NoneShows, none_races}
+use Rattle.ga_races.proofs.Blind.{NoneShows, none_races, end_blind}
 use Rattle.ga_search.specs.Offered.{offered_by, offered}
 
 -- a pass that can be made is offered
@@ -38,7 +38,7 @@ NoneOffered s = (r : NodeId) (k : ℕ) (side other : Side) → side ≢ other
 
 pub no_race_kept : (s : State) → IsReached s → NoneLooks (causes_of s) → IsAtEnd (chip_of s) → NoneOffered s → HasNoRace s.load s.kept
 no_race_kept s reached none end free =
-    none_races s.load r.last s.kept r.told r.run_is (subst (λ z. NoneLooks z) told none) (subst (λ z. IsAtEnd z) (chip_is s r) end) shows
+    none_races s.load r.last s.kept r.told r.run_is (subst (λ z. NoneLooks z) told none) (end_blind r.last (subst (λ z. IsAtEnd z) (chip_is s r) end)) shows
   where
     r : Runs s
     r = runs_reached s reached

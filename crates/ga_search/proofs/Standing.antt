@@ -21,11 +21,11 @@ use Rattle.ga_lab.specs.Machine.{State, chip_of, causes_of, told_by, earlier, re
 use Rattle.ga_lab.proofs.Called.{Runs, runs_of}
 use Rattle.ga_lab.proofs.Reasoned.{replayed}
 
-steps-cons : (n : ℕ) (e : Event) (es : List Event) → steps_of n (e ∷ es) ≡ cond (touches e n) 1 0 + steps_of n es
+pub steps-cons : (n : ℕ) (e : Event) (es : List Event) → steps_of n (e ∷ es) ≡ cond (touches e n) 1 0 + steps_of n es
 steps-cons n e es = sum_by-cons (λ (x : Event). cond (touches x n) 1 0) e es
 
 -- an event that doesn't touch the node is no step of it
-no_step : (b : Bool) (x y : ℕ) → b ≡ false → x ≡ y → cond {A = ℕ} b 1 0 + x ≡ y
+pub no_step : (b : Bool) (x y : ℕ) → b ≡ false → x ≡ y → cond {A = ℕ} b 1 0 + x ≡ y
 no_step true x y f e = absurd (cc)
 no_step false x y f e = omega (arith, e)
 

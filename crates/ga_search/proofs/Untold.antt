@@ -1,5 +1,5 @@
 -- A session of which no step is told as one that could have come out otherwise has no race.
-use Rattle.std.proofs.Common.{◌≡◌, ◌≢◌, ℕ, zero, suc, ◌+◌, ◌-◌, ◌<◌, ◌≤◌, ◌==◌, cond, Bool, true, false, ◌||◌, ◌&&◌, ◌⊎◌, inl, inr, List, [], ◌∷◌, ◌++◌, Option, Some, None, IsSome, is_none, true≢false, Ok, eq-eqb, lt-ltb, leb-le, refl, sym, ◌∙◌, ap, subst, arith}
+use Rattle.std.proofs.Common.{◌≡◌, ◌≢◌, ℕ, zero, suc, ◌+◌, ◌-◌, ◌<◌, ◌≤◌, ◌%◌, ◌==◌, cond, Bool, true, false, ◌||◌, ◌&&◌, ◌⊎◌, inl, inr, List, [], ◌∷◌, ◌++◌, Option, Some, None, IsSome, is_none, true≢false, Ok, eq-eqb, lt-ltb, refl, sym, ◌∙◌, ap, subst, arith}
 use Rattle.std.specs.Prelude.{unwrap_or, is_some}
 use Rattle.std.specs.List.{slice_get}
 use Rattle.std.proofs.lemmas.Bool.{cases_Bool, cases_eq, cases_lt, or_cases, or_parts, and_parts, both_ways, eqb-true}
@@ -47,7 +47,7 @@ use Rattle.std.proofs.lemmas.List.Elements.{All-nil, All-append}
 use Rattle.std.proofs.Math.Nat.{mod-eq_of_lt}
 use Rattle.ga_search.specs.declared.races.Race.{Race}
 use Rattle.ga_search.proofs.Offering.{is_offered}
-use Rattle.ga_search.proofs.Behind.{Behind, IsOf, behind}
+use Rattle.ga_search.proofs.Behind.{IsOf, TakenBack, taken_back}
 
 -- ---- parts of nothing are nothing
 
@@ -60,6 +60,7 @@ right_none [] ys h = h
 right_none (x ∷ xs) ys h = absurd (cc)
 
 none_of_node : (s : State) (m n : ℕ) → races_below s m ≡ [] → n < m → races_of s (node_id n) ≡ []
+unfolding races_below
 none_of_node s zero n h l = absurd (omega arith)
 none_of_node s (suc m) n h l = elim (cases_eq n m) [
   | inl q ↦ ap (λ (z : ℕ). races_of s (node_id z)) q ∙ right_none (races_below s m) (races_of s (node_id m)) h
@@ -67,6 +68,7 @@ none_of_node s (suc m) n h l = elim (cases_eq n m) [
 ]
 
 none_at : (s : State) (node : NodeId) (k p : ℕ) → races_before s node k ≡ [] → p < k → races_at s node p ≡ []
+unfolding races_before
 none_at s node zero p h l = absurd (omega arith)
 none_at s node (suc k) p h l = elim (cases_eq p k) [
   | inl q ↦ ap (races_at s node) q ∙ right_none (races_before s node k) (races_at s node k) h
@@ -190,13 +192,6 @@ one_offer s r k (made.Pass w i x j word) e mid side other of can touch same none
         let writes : writes_to (record_at mid r.number).wait of.0 ≡ true = subst (λ (z : ℕ). writes_to (record_at mid z).wait of.0 ≡ true) (writer_here is) open_.writes in
         absurd (one_way (record_at mid r.number).wait of.0 side writes (subst (λ (z : NodeRecord). reads_from z.wait side ≡ true) (sym same) p.reads))
 
-found : (o : Option ℕ) → is_some o ≡ true → (i : ℕ) × (o ≡ Some i)
-found None h = absurd (cc)
-found (Some i) h = (i, refl)
-
-stands_within : (s : State) (n k : ℕ) → 0 < k → k ≤ steps_of n s.kept → stands s n k ≡ true
-stands_within s n k first within = grind (arith, leb-le)
-
 chip_at : (o : Option (List NodeRecord)) (c : List NodeRecord) → o ≡ Some c → unwrap_or o [] ≡ c
 chip_at o c h = ap (λ (z : Option (List NodeRecord)). unwrap_or z []) h
 
@@ -204,42 +199,29 @@ chip_at o c h = ap (λ (z : Option (List NodeRecord)). unwrap_or z []) h
 none_two : (s : State) → Runs s → races_asked s None ≡ [] → (r : NodeId) (p : ℕ) (side other : Side) → p < steps_of r.number s.kept
     → IsSome (offered (chip_of (rewound s r.number (suc p))) r.number side) → IsSome (offered (chip_of (rewound s r.number (suc p))) r.number other) → side ≡ other
 none_two s runs none r p side other within so si =
-    one_offer s r (suc p) b.made b.event b.mid side other b.of b.can b.touch same told (offer_of chip r.number side so) (offer_of chip r.number other si)
+    one_offer s r (suc p) b.made b.event b.mid side other b.of b.can b.touch b.same told (offer_of chip r.number side so) (offer_of chip r.number other si)
   where
     chip : List NodeRecord
     chip = chip_of (rewound s r.number (suc p))
 
-    told_all : causes_of s ≡ causes runs.told
-    told_all = ap (λ o. causes (told_by o)) runs.run_is
-
-    there : (i : ℕ) × (place_of (causes_of s) r.number (suc p) ≡ Some i)
-    there = found (place_of (causes_of s) r.number (suc p)) (stands_place s r.number (suc p) (replayed s (runs_some s runs)) ∙ stands_within s r.number (suc p) (omega arith) (omega (arith, within)))
-
-    b : Behind s.load runs.told [] r.number p there.0
-    b = behind s.kept s.load runs.last runs.told [] r.number p there.0 runs.run_is (ap (λ z. place_of z r.number (suc p)) (sym told_all) ∙ there.1)
-
-    led : replay s.load (rewound s r.number (suc p)).kept ≡ Some b.now
-    led = ap (λ (o : Option ℕ). replay s.load (events_in (rest_from (causes_of s) o))) there.1 ∙ ap (λ z. replay s.load (events_in (rest z there.0))) told_all ∙ b.led
-
-    same : record_at b.mid r.number ≡ record_at chip r.number
-    same = b.same ∙ sym (ap (λ z. record_at z r.number) (chip_at (replay s.load (rewound s r.number (suc p)).kept) b.now led))
-
-    history : slice_get (history_of s r.number) p ≡ Some b.made
-    history = ap (λ (z : List (Cause × Told)). slice_get (mades_of z r.number) p) (told_is s runs) ∙ b.told
+    b : TakenBack s r.number p
+    b = taken_back s runs r.number p within
 
     of_node : races_of s r ≡ []
     of_node = subst (λ (z : NodeId). races_of s z ≡ []) (node_id-number r) (none_of_node s 144 r.number none r.in_range)
 
     told : races_told s r (suc p) (Some b.made) ≡ []
-    told = ap (λ (z : ℕ). races_told s r z (Some b.made)) (let q : suc p ≡ p + 1 = omega arith in q) ∙ ap (races_told s r (p + 1)) (sym history) ∙ none_at s r (steps_of r.number s.kept) p of_node within
+    told = ap (λ (z : ℕ). races_told s r z (Some b.made)) (let q : suc p ≡ p + 1 = omega arith in q) ∙ ap (races_told s r (p + 1)) (sym b.told) ∙ none_at s r (steps_of r.number s.kept) p of_node within
 
 -- ---- nothing looks
 
 none_look : (causes : List Cause) → has_look causes ≡ false → NoneLooks causes
+unfolding has_look
 none_look [] h = tt
 none_look (c ∷ cs) h = let p : (c.look ≡ false) × (has_look cs ≡ false) = or_parts c.look (has_look cs) h in (p.0, none_look cs p.1)
 
 none_next : (chip : List NodeRecord) (m n : ℕ) → has_next_look chip m ≡ false → n < m → looks_next chip n ≡ false
+unfolding has_next_look
 none_next chip zero n h l = absurd (omega arith)
 none_next chip (suc m) n h l =
     let p : (looks_next chip m ≡ false) × (has_next_look chip m ≡ false) = or_parts (looks_next chip m) (has_next_look chip m) h in
@@ -257,7 +239,7 @@ at_end chip h = (no_next chip).1 none
     go n e is = let l : n.number < 144 = n.in_range in let q : node_id n.number ≡ n = node_id-number n in grind (arith, lt-ltb)
 
     idle : (n : NodeId) → can_go chip n.number ≡ false
-    idle n = sym (ap (can_go chip) (mod-eq_of_lt n.in_range)) ∙ none_of (can_go chip) 0 144 n.number h n.in_range
+    idle n = (let q : n.number ≡ (0 + n.number) % 144 = (let l : n.number < 144 = n.in_range in omega (arith, l)) in ap (can_go chip) q) ∙ none_of (can_go chip) 0 144 n.number h n.in_range
 
     none : (n : NodeId) (e : Event) → next chip n ≡ Ok e → ⊥
     none n e is = true≢false (sym (go n e is) ∙ idle n)
@@ -383,10 +365,12 @@ told_made s r k (Some (made.Pass w i x j word)) = go (x.number == r.number)
     go false = All-nil (IsOther s)
 
 before_made : (s : State) (r : NodeId) (p : ℕ) → All (IsOther s) (races_before s r p)
+unfolding races_before
 before_made s r zero = All-nil (IsOther s)
 before_made s r (suc p) = All-append (IsOther s) (races_before s r p) (races_at s r p) (before_made s r p) (told_made s r (p + 1) (slice_get (history_of s r.number) p))
 
 below_made : (s : State) (n : ℕ) → All (IsOther s) (races_below s n)
+unfolding races_below
 below_made s zero = All-nil (IsOther s)
 below_made s (suc n) = All-append (IsOther s) (races_below s n) (races_of s (node_id n)) (below_made s n) (before_made s (node_id n) (steps_of (node_id n).number s.kept))
 

@@ -2,3 +2,4 @@ pub mod Counted
 pub mod Freed
 pub mod Numbers
 pub mod Ready
+pub mod Writers

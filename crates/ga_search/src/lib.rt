@@ -13,6 +13,7 @@ mod ready;
 mod running;
 mod schedule;
 mod words;
+mod writers;
 
 pub use condition::Condition;
 pub use counting::{are_linked, count_words};

@@ -4,10 +4,12 @@ ghost use Rattle.std.specs.Prelude.{◌≡◌, ◌<◌, ◌^◌, ◌∷◌, ◌+
 ghost use Rattle.ga_grid.specs.Chip.{records_of};
 ghost use Rattle.ga_event.specs.Told.{steps_of};
 ghost use Rattle.ga_lab.specs.Machine.{chip_of, causes_of, stands};
+ghost use Rattle.ga_search.specs.kept.Writers.{AreSilent};
 ghost use Rattle.ga_search.specs.Races.{race_from, races_over, races_around, races_told, races_of, races_below, races_asked, has_look, looks_next, has_next_look, has_looks, first_ready};
 
 use crate::offers::offered;
 use crate::ready::{first_from, ready_nodes};
+use crate::writers::{Writers, may_come, writers_of};
 use ga_event::Cause;
 use ga_grid::{Chip, NodeId, neighbour};
 use ga_lab::{Lab, LabFault, Made};
@@ -67,13 +69,13 @@ fn add(list: &mut Vec<Race>, race: Race) -> Result<(), LabFault>
 // The same of the word that this neighbour would give, where that isn't the writer.
 fn add_from(
     list: &mut Vec<Race>,
-    taken: Taken,
+    taken: &Taken,
     other: NodeId,
     offer: Option<u32>,
 ) -> Result<(), LabFault>
     requires { IfSome offer (λ word. word < 2 ^ 18) }
     ensures ok { OnOk result (list.new.items ≡ list.old.items
-        ++ race_from taken.reader taken.step taken.writer taken.word (Some other.number) offer) }
+        ++ race_from taken.now.reader taken.now.step taken.now.writer taken.now.word (Some other.number) offer) }
     ensures err { IfErr result (λ why. why ≡ LabFault.Memory) }
 {
     match offer {
@@ -93,13 +95,23 @@ fn add_from(
 }
 
 // The same over a side.
-fn add_over(list: &mut Vec<Race>, lab: &mut Lab, taken: Taken, side: Side) -> Result<(), LabFault>
-    requires { stands lab.old taken.reader.number taken.step ≡ true }
+fn add_over(
+    list: &mut Vec<Race>,
+    lab: &mut Lab,
+    writers: &Writers,
+    taken: &Taken,
+    side: Side,
+) -> Result<(), LabFault>
+    requires silent { AreSilent lab.old taken.now.reader.number writers.now }
+    requires stands { stands lab.old taken.now.reader.number taken.now.step ≡ true }
     ensures ok { OnOk result (list.new.items ≡ list.old.items
-        ++ races_over lab.old taken.reader taken.step taken.writer taken.word side) }
+        ++ races_over lab.old taken.now.reader taken.now.step taken.now.writer taken.now.word side) }
     ensures err { IfErr result (λ why. why ≡ LabFault.Memory) }
     ensures same { lab.new ≡ lab.old }
 {
+    if !may_come(lab, writers, taken.reader, taken.step, side) {
+        return Ok(());
+    }
     match neighbour(taken.reader, side) {
         Some(other) => match offered(lab, taken.reader, taken.step, side) {
             Ok(offer) => add_from(list, taken, other, offer),
@@ -110,17 +122,23 @@ fn add_over(list: &mut Vec<Race>, lab: &mut Lab, taken: Taken, side: Side) -> Re
 }
 
 // The same over all sides.
-fn add_around(list: &mut Vec<Race>, lab: &mut Lab, taken: Taken) -> Result<(), LabFault>
-    requires { stands lab.old taken.reader.number taken.step ≡ true }
+fn add_around(
+    list: &mut Vec<Race>,
+    lab: &mut Lab,
+    writers: &Writers,
+    taken: &Taken,
+) -> Result<(), LabFault>
+    requires silent { AreSilent lab.old taken.now.reader.number writers.now }
+    requires stands { stands lab.old taken.now.reader.number taken.now.step ≡ true }
     ensures ok { OnOk result (list.new.items ≡ list.old.items
-        ++ races_around lab.old taken.reader taken.step taken.writer taken.word) }
+        ++ races_around lab.old taken.now.reader taken.now.step taken.now.writer taken.now.word) }
     ensures err { IfErr result (λ why. why ≡ LabFault.Memory) }
     ensures same { lab.new ≡ lab.old }
 {
-    add_over(list, lab, taken, Side::Right)?;
-    add_over(list, lab, taken, Side::Down)?;
-    add_over(list, lab, taken, Side::Left)?;
-    add_over(list, lab, taken, Side::Up)?;
+    add_over(list, lab, writers, taken, Side::Right)?;
+    add_over(list, lab, writers, taken, Side::Down)?;
+    add_over(list, lab, writers, taken, Side::Left)?;
+    add_over(list, lab, writers, taken, Side::Up)?;
     Ok(())
 }
 
@@ -128,11 +146,13 @@ fn add_around(list: &mut Vec<Race>, lab: &mut Lab, taken: Taken) -> Result<(), L
 fn add_told(
     list: &mut Vec<Race>,
     lab: &mut Lab,
+    writers: &Writers,
     node: NodeId,
     step: u32,
     made: &Made,
 ) -> Result<(), LabFault>
-    requires { stands lab.old node.number step ≡ true }
+    requires silent { AreSilent lab.old node.number writers.now }
+    requires stands { stands lab.old node.number step ≡ true }
     ensures ok { OnOk result (list.new.items ≡ list.old.items ++ races_told lab.old node step (Some made.now)) }
     ensures err { IfErr result (λ why. why ≡ LabFault.Memory) }
     ensures same { lab.new ≡ lab.old }
@@ -150,7 +170,7 @@ fn add_told(
                 writer: *writer,
                 word: *word,
             };
-            add_around(list, lab, taken)
+            add_around(list, lab, writers, &taken)
         }
         _ => Ok(()),
     }
@@ -163,9 +183,10 @@ fn add_node(list: &mut Vec<Race>, lab: &mut Lab, node: NodeId) -> Result<(), Lab
     ensures same { lab.new ≡ lab.old }
 {
     let steps = lab.steps(node);
+    let writers = writers_of(lab, node);
     'steps: for place in 0..steps {
         match lab.told(node, place) {
-            Some(made) => add_told(list, lab, node, place + 1, &made)?,
+            Some(made) => add_told(list, lab, &writers, node, place + 1, &made)?,
             None => return Ok(()),
         }
     }
@@ -219,7 +240,10 @@ fn has_next_look(chip: &Chip) -> bool
 fn is_quiet(chip: &Chip) -> bool
     ensures { result ≡ is_none (first_ready (records_of chip.now)) }
 {
-    first_from(&ready_nodes(chip), NodeId::new(0)).is_none()
+    match first_from(&ready_nodes(chip), NodeId::new(0)) {
+        Some(_) => false,
+        None => true,
+    }
 }
 
 /// The steps of a node, or of all, by which it took a word where another neighbour could have given it one. Nothing is taken back.

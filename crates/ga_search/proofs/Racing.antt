@@ -1,0 +1,81 @@
+-- Races put one behind another.
+use Rattle.std.proofs.Common.{◌≡◌, ◌≢◌, ℕ, zero, suc, ◌+◌, ◌<◌, ◌≤◌, ◌%◌, ◌^◌, ◌==◌, cond, Bool, true, false, ◌||◌, List, [], ◌∷◌, ◌++◌, length, drop, get_or, Option, Some, None, refl, sym, ◌∙◌, ap, append_assoc, arith}
+use Rattle.std.specs.Prelude.{IfSome, is_none}
+use Rattle.std.specs.List.{slice_get}
+use Rattle.std.proofs.lemmas.Bool.{cases_Bool, eqb-true}
+use Rattle.std.proofs.lemmas.Option.{same_Some}
+use Rattle.std.proofs.lemmas.List.{append-nil, drop_more, drop_all}
+use Rattle.std.proofs.Math.Nat.{mod-eq_of_lt}
+use Rattle.ga_node.specs.Record.{NodeRecord}
+use Rattle.ga_grid.specs.declared.node_id.NodeId.{NodeId}
+use Rattle.ga_grid.specs.Grid.{node_id}
+use Rattle.ga_grid.proofs.NodeIds.{node_id-number}
+use Rattle.ga_event.specs.declared.event.Cause.{Cause}
+use Rattle.ga_event.specs.declared.made.Made.{Made}
+use Rattle.ga_event.specs.Told.{steps_of}
+use Rattle.ga_lab.specs.Machine.{State, history_of}
+use Rattle.ga_search.specs.declared.races.Race.{Race}
+use Rattle.ga_search.specs.Races.{race_from, races_told, races_at, races_before, races_of, races_below, has_look, looks_next, has_next_look}
+
+pub added : (r : NodeId) (k : ℕ) (w : NodeId) (word : ℕ) (other : NodeId) (offer : Option ℕ) (o cut : ℕ) → offer ≡ Some o → other.number ≢ w.number → cut ≡ o % (2 ^ 18)
+    → IfSome offer (λ z. z < 2 ^ 18) → race_from r k w word (Some other.number) offer ≡ record { reader = r; step = k; writer = w; word = word; other = other; offered = cut } ∷ []
+added r k w word other (Some x) o cut is ne c small =
+    go (other.number == w.number) refl
+  where
+    go : (b : Bool) → (other.number == w.number) ≡ b
+        → cond {A = List Race} b [] (record { reader = r; step = k; writer = w; word = word; other = node_id other.number; offered = x } ∷ [])
+        ≡ record { reader = r; step = k; writer = w; word = word; other = other; offered = cut } ∷ []
+    go true q = absurd (ne (eqb-true other.number w.number q))
+    go false q =
+        ap (λ (z : NodeId). record { reader = r; step = k; writer = w; word = word; other = z; offered = x } ∷ []) (node_id-number other)
+        ∙ ap (λ (z : ℕ). record { reader = r; step = k; writer = w; word = word; other = other; offered = z } ∷ []) (same_Some x o is ∙ sym (c ∙ mod-eq_of_lt (subst_small small)))
+      where
+        subst_small : x < 2 ^ 18 → o < 2 ^ 18
+        subst_small l = (let e : x ≡ o = same_Some x o is in omega (arith, e, l))
+added r k w word other None o cut is ne c small = absurd (cc)
+
+pub one_more : (s : State) (node : NodeId) (p : ℕ) (m : Made) (old xs ys : List Race) → xs ≡ old ++ races_before s node p → Some m ≡ slice_get (history_of s node.number) p
+    → ys ≡ xs ++ races_told s node (p + 1) (Some m) → ys ≡ old ++ races_before s node (p + 1)
+unfolding races_before
+one_more s node p m old xs ys h is g =
+    g ∙ ap (λ (z : List Race). z ++ races_told s node (p + 1) (Some m)) h ∙ append_assoc old (races_before s node p) (races_told s node (p + 1) (Some m))
+    ∙ ap (λ (o : Option Made). old ++ (races_before s node p ++ races_told s node (p + 1) o)) is
+    ∙ ap (λ (z : ℕ). old ++ races_before s node z) (let q : suc p ≡ p + 1 = omega arith in q)
+
+pub none_before : (s : State) (node : NodeId) (old : List Race) → old ≡ old ++ races_before s node 0
+unfolding races_before
+none_before s node old = sym (append-nil old)
+
+pub node_more : (s : State) (n : ℕ) (node : NodeId) (old xs ys : List Race) → n < 144 → node.number ≡ n → xs ≡ old ++ races_below s n → ys ≡ xs ++ races_of s node → ys ≡ old ++ races_below s (n + 1)
+unfolding races_below
+node_more s n node old xs ys l e h g =
+    g ∙ ap (λ (z : List Race). z ++ races_of s node) h ∙ append_assoc old (races_below s n) (races_of s node)
+    ∙ ap (λ (z : NodeId). old ++ (races_below s n ++ races_of s z)) (sym (node_id-number node) ∙ ap node_id e)
+    ∙ ap (λ (z : ℕ). old ++ races_below s z) (let q : suc n ≡ n + 1 = omega arith in q)
+
+pub none_below : (s : State) (old : List Race) → old ≡ old ++ races_below s 0
+unfolding races_below
+none_below s old = sym (append-nil old)
+
+-- looks
+pub look_at : (cs : List Cause) (i : ℕ) (x : Cause) → i < length cs → x ≡ get_or cs i x → has_look (drop i cs) ≡ (x.look || has_look (drop (i + 1) cs))
+unfolding has_look
+look_at cs i x l is = ap has_look (drop_more cs i x l) ∙ ap (λ (z : Cause). z.look || has_look (drop (i + 1) cs)) (sym is)
+
+pub look_none : (cs : List Cause) (i : ℕ) → length cs ≤ i → has_look (drop i cs) ≡ false
+unfolding has_look
+look_none cs i l = ap has_look (drop_all i cs l)
+
+pub next_more : (chip : List NodeRecord) (n : ℕ) (looks here : Bool) → looks ≡ has_next_look chip n → here ≡ looks_next chip n → (here || looks) ≡ has_next_look chip (n + 1)
+unfolding has_next_look
+next_more chip n looks here h g =
+    ap (λ (b : Bool). here || b) h ∙ ap (λ (b : Bool). b || has_next_look chip n) g ∙ ap (has_next_look chip) (let q : suc n ≡ n + 1 = omega arith in q)
+
+pub next_none : (chip : List NodeRecord) → false ≡ has_next_look chip 0
+unfolding has_next_look
+next_none chip = refl
+
+pub told_there : (xs : List Made) (i : ℕ) → i < length xs → slice_get xs i ≡ None → ⊥
+told_there [] i l h = omega (arith, l)
+told_there (x ∷ xs) zero l h = cc
+told_there (x ∷ xs) (suc i) l h = told_there xs i (omega (arith, l)) h
