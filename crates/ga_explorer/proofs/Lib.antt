@@ -12,3 +12,4 @@ pub mod Writing
 pub mod Around
 pub mod Trees
 pub mod Rings
+pub mod Finding

@@ -1,6 +1,6 @@
 -- What exploring answers to a line (docs/REFERENCE.md, "Exploring"; this project's own).
-use Rattle.std.specs.Prelude.{◌≡◌, ℕ, ◌≤◌, ◌⊎◌, Bool, IsOk, length, Some, None}
-use Rattle.ga_image.specs.Lines.{longest, Text}
+use Rattle.std.specs.Prelude.{◌≡◌, ℕ, ◌<◌, ◌≤◌, ◌⊎◌, Bool, IsOk, length, Some, None}
+use Rattle.ga_image.specs.Lines.{longest, Text, Line}
 use Rattle.ga_grid.specs.declared.node_id.NodeId.{NodeId}
 use Rattle.ga_lab.specs.Machine.{State, chip_of, rewind_answer}
 use Rattle.ga_lab.specs.declared.fault.LabFault.TheVariants.{Memory}
@@ -13,9 +13,12 @@ use Rattle.ga_search.specs.declared.condition.Condition.{Condition}
 use Rattle.ga_search.specs.declared.running.End.{End}
 use Rattle.ga_console.specs.Texts.{refusal_text}
 use Rattle.ga_console.specs.Replies.{Answer}
+use Rattle.ga_console.specs.Commands.{SpellsCommand}
+use Rattle.ga_console.specs.declared.command.Command.{Command}
 use Rattle.ga_explorer.specs.Reading.{request_in}
 use Rattle.ga_explorer.specs.Tails.{Exploring}
-use Rattle.ga_explorer.specs.Texts.{run_text, effects_answer, words_text, chip_text, help_text}
+use Rattle.ga_explorer.specs.Texts.{run_text, effects_answer, words_text, chip_text}
+use Rattle.ga_explorer.specs.Forms.{rows, rows_text, no_command}
 use Rattle.ga_explorer.specs.Waiting.{who_text}
 use Rattle.ga_explorer.specs.Saved.{saved_text}
 use Rattle.ga_explorer.specs.Writing.{writes_text}
@@ -61,9 +64,15 @@ Explored e (Races only) answer new = TellsRaces e.lab only answer × (new ≡ e)
 Explored e Who answer new = TellsWho e.lab answer × (new ≡ e)
 Explored e Chip answer new = (answer ≡ chip_text e.lab) × (new ≡ e)
 Explored e Save answer new = (answer ≡ saved_text e.lab) × (new ≡ e)
-Explored e Help answer new = (answer ≡ help_text) × (new ≡ e)
+Explored e Help answer new = (answer ≡ rows_text rows) × (new ≡ e)
 
--- The answer to a line: it spells a command of exploring, or is answered as the debugger answers it.
+-- The line is too long, or spells a command of the debugger.
+abbrev pub IsOfDebugger : Line → Type 0
+IsOfDebugger line = (longest < length line) ⊎ ((length line ≤ longest) × (c : Command) × SpellsCommand c line)
+
+-- The answer to a line: it spells a command of exploring; or it is too long or spells a command of the debugger, and is answered as
+-- the debugger answers it; or it spells none, and is told what to write in its place.
 pub data Explores (e : Exploring) (line answer : Text) (new : Exploring) : Type 0 where
   explored : (asked : Request) → length line ≤ longest → request_in e.notes line ≡ Some asked → Explored e asked answer new → Explores e line answer new
-  debugged : (length line ≤ longest → request_in e.notes line ≡ None) → Answer e.lab line answer new.lab → new.notes ≡ e.notes → Explores e line answer new
+  debugged : (length line ≤ longest → request_in e.notes line ≡ None) → IsOfDebugger line → Answer e.lab line answer new.lab → new.notes ≡ e.notes → Explores e line answer new
+  unread : length line ≤ longest → request_in e.notes line ≡ None → ((c : Command) → ¬ SpellsCommand c line) → answer ≡ no_command line → new ≡ e → Explores e line answer new

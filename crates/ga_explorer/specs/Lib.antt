@@ -8,6 +8,7 @@ pub mod Trees
 pub mod Waiting
 pub mod Saved
 pub mod Races
+pub mod Forms
 pub mod Answers
 pub mod Opening
 pub mod Session

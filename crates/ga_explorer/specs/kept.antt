@@ -1,4 +1,5 @@
 pub mod Exploring
+pub mod Forms
 pub mod Opening
 pub mod Saved
 pub mod Trees

@@ -1,15 +1,17 @@
 //! What answers the lines of a session of exploring.
 
-ghost use Rattle.std.specs.Prelude.{◌≡◌, ◌≤◌, length, Some, None, IfSome, IfNone};
+ghost use Rattle.std.specs.Prelude.{◌≡◌, ◌≤◌, length, Some, None, IfSome, IfNone, if◌then◌else◌};
 ghost use Rattle.ga_console.specs.kept.Output.{Says};
 ghost use Rattle.ga_explorer.specs.Reading.{request_in};
 ghost use Rattle.ga_explorer.specs.kept.Exploring.{exploring};
-ghost use Rattle.ga_explorer.specs.Answers.{Explored};
+ghost use Rattle.ga_explorer.specs.Answers.{Explored, IsOfDebugger};
+ghost use Rattle.ga_console.specs.Commands.{SpellsCommand};
+ghost use Rattle.ga_console.specs.declared.command.Command.{Command};
 
 use crate::at_text::say_around;
 use crate::chip_text::glance;
 use crate::effects_text::say_effects;
-use crate::help::help;
+use crate::forms::{say_help, say_no_command};
 use crate::races_text::say_races;
 use crate::request::{Request, request_of};
 use crate::run_text::ran_text;
@@ -18,7 +20,7 @@ use crate::whence_text::say_whence;
 use crate::who_text::say_who;
 use crate::words_text::say_words;
 use crate::writes_text::say_writes;
-use ga_console::{Command, Line, Output, Responder, Turn, WriteFailed};
+use ga_console::{Command, Line, Output, Responder, Turn, WriteFailed, command_of};
 use ga_image::LINE_LIMIT;
 use ga_lab::Lab;
 use ga_notes::Notes;
@@ -84,7 +86,14 @@ impl Responder for Explorer {
                 explored(alloc, &mut self.lab, &self.notes, asked, output, writer)?;
                 Ok(Turn::Answered)
             }
-            None => self.lab.answer(alloc, line, output, writer),
+            None => {
+                if is_no_command(line) {
+                    say_no_command(line.as_slice(), output, writer)?;
+                    Ok(Turn::Answered)
+                } else {
+                    self.lab.answer(alloc, line, output, writer)
+                }
+            }
         }
     }
 
@@ -110,6 +119,13 @@ fn asked_by(notes: &Option<Notes>, line: &Line) -> Option<Request>
     } else {
         None
     }
+}
+
+/// Whether a line is not too long and spells no command of the debugger.
+fn is_no_command(line: &Line) -> bool
+    ensures { if result then (length line.now.items ≤ LINE_LIMIT) × ((command : Command) → ¬ SpellsCommand command line.now.items) else IsOfDebugger line.now.items }
+{
+    line.len() <= LINE_LIMIT && command_of(line.as_slice()).is_none()
 }
 
 /// Carries a command of exploring out.
@@ -147,6 +163,6 @@ fn explored<W: Write>(
         Request::Who => say_who(lab, output, writer),
         Request::Chip => output.say_blocks(writer, glance(lab).as_slice()),
         Request::Save => say_saved(lab, output, writer),
-        Request::Help => output.say_blocks(writer, help()),
+        Request::Help => say_help(output, writer),
     }
 }

@@ -8,7 +8,7 @@ mod condition_request;
 mod deed_text;
 mod effects_text;
 mod explorer;
-mod help;
+mod forms;
 pub mod laws;
 mod opening;
 mod part_text;

@@ -1,0 +1,46 @@
+-- A command that is looked for row by row, and a letter byte by byte.
+use Rattle.std.proofs.Common.{◌≡◌, ℕ, ◌+◌, ◌<◌, ◌||◌, ◌&&◌, List, length, drop, get_or, Bool, true, false, nat_eq, nat_le, if◌then◌else◌, Option, Some, None, sym, ap, ◌∙◌}
+use Rattle.std.specs.Prelude.{map}
+use Rattle.std.specs.Cmp.Lexicographic.{pointwise}
+use Rattle.std.proofs.lemmas.List.{drop_more}
+use Rattle.ga_explorer.specs.Forms.{form_in, near_form_in, is_near, is_upper}
+use Rattle.ga_explorer.specs.kept.Forms.{entry_of}
+use Rattle.ga_explorer.specs.declared.forms.Row.{Row}
+
+named : (word : List ℕ) (rows : List Row) (i : ℕ) (d : Row) → i < length rows → (b : Bool) → b ≡ pointwise nat_eq (get_or rows i d).name.now word
+    → form_in word (map entry_of (drop i rows)) ≡ (if b then Some (get_or rows i d).form.now else form_in word (map entry_of (drop (i + 1) rows)))
+unfolding form_in
+named word rows i d within b e =
+    ap (λ z. form_in word (map entry_of z)) (drop_more rows i d within)
+    ∙ ap (λ (z : Bool). if z then Some (get_or rows i d).form.now else form_in word (map entry_of (drop (i + 1) rows))) (sym e)
+
+pub named_here : (word : List ℕ) (rows : List Row) (i : ℕ) (d : Row) → i < length rows → (b : Bool) → b ≡ true → b ≡ pointwise nat_eq (get_or rows i d).name.now word
+    → Some (get_or rows i d).form.now ≡ form_in word (map entry_of (drop i rows))
+named_here word rows i d within b is e =
+    sym (named word rows i d within b e ∙ ap (λ (z : Bool). if z then Some (get_or rows i d).form.now else form_in word (map entry_of (drop (i + 1) rows))) is)
+
+pub named_behind : (word : List ℕ) (rows : List Row) (i : ℕ) (d : Row) → i < length rows → (b : Bool) → b ≡ false → b ≡ pointwise nat_eq (get_or rows i d).name.now word
+    → form_in word (map entry_of (drop (i + 1) rows)) ≡ form_in word (map entry_of (drop i rows))
+named_behind word rows i d within b is e =
+    sym (named word rows i d within b e ∙ ap (λ (z : Bool). if z then Some (get_or rows i d).form.now else form_in word (map entry_of (drop (i + 1) rows))) is)
+
+near : (word : List ℕ) (rows : List Row) (i : ℕ) (d : Row) → i < length rows → (b : Bool) → b ≡ is_near word (get_or rows i d).name.now
+    → near_form_in word (map entry_of (drop i rows)) ≡ (if b then Some (get_or rows i d).form.now else near_form_in word (map entry_of (drop (i + 1) rows)))
+unfolding near_form_in
+near word rows i d within b e =
+    ap (λ z. near_form_in word (map entry_of z)) (drop_more rows i d within)
+    ∙ ap (λ (z : Bool). if z then Some (get_or rows i d).form.now else near_form_in word (map entry_of (drop (i + 1) rows))) (sym e)
+
+pub near_here : (word : List ℕ) (rows : List Row) (i : ℕ) (d : Row) → i < length rows → (b : Bool) → b ≡ true → b ≡ is_near word (get_or rows i d).name.now
+    → Some (get_or rows i d).form.now ≡ near_form_in word (map entry_of (drop i rows))
+near_here word rows i d within b is e =
+    sym (near word rows i d within b e ∙ ap (λ (z : Bool). if z then Some (get_or rows i d).form.now else near_form_in word (map entry_of (drop (i + 1) rows))) is)
+
+pub near_behind : (word : List ℕ) (rows : List Row) (i : ℕ) (d : Row) → i < length rows → (b : Bool) → b ≡ false → b ≡ is_near word (get_or rows i d).name.now
+    → near_form_in word (map entry_of (drop (i + 1) rows)) ≡ near_form_in word (map entry_of (drop i rows))
+near_behind word rows i d within b is e =
+    sym (near word rows i d within b e ∙ ap (λ (z : Bool). if z then Some (get_or rows i d).form.now else near_form_in word (map entry_of (drop (i + 1) rows))) is)
+
+pub upper_at : (word : List ℕ) (i d : ℕ) → i < length word → is_upper (drop i word) ≡ ((nat_le 65 (get_or word i d) && nat_le (get_or word i d) 90) || is_upper (drop (i + 1) word))
+unfolding is_upper
+upper_at word i d within = ap is_upper (drop_more word i d within)

@@ -1,0 +1,8 @@
+use Rattle.std.proofs.Common.{◌≡◌, drop}
+use Rattle.std.specs.Prelude.{map}
+use Rattle.ga_explorer.specs.Forms.{near_form_in}
+use Rattle.ga_explorer.specs.kept.Forms.{entry_of}
+use Rattle.ga_explorer.proofs.forms.near_form_in.Given as goal
+
+abbrev pub invariant-rows : goal.invariant-rows
+invariant-rows l = near_form_in l.word (map entry_of (drop l.row-index l.rows)) ≡ near_form_in l.word (map entry_of l.rows)

@@ -1,0 +1,7 @@
+use Rattle.std.proofs.Common.{refl}
+use Rattle.ga_explorer.specs.Forms.{rows}
+use Rattle.ga_explorer.proofs.forms.rows.Goals as goal
+
+pub returns : goal.returns
+unfolding rows
+returns c = refl
