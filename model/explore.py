@@ -19,9 +19,8 @@ RUN = re.compile(rf"run(?: (greedy|random ({NUMBER})))?(?: ({NUMBER}))?(?: until
 RACES = re.compile(rf"races(?: ({NODE}))?")
 ASKED = re.compile(rf"(effects|whence) ({NODE}) ({NUMBER})|(words) ({NODE}) ({NODE})|(writes) ({NODE}) ({HH})|(at) ({NODE}) ({NUMBER})(?: ([1-9]?[0-9]))?")
 HELP = """\
-run [N] [until COND]  make up to N events, in rounds
-run greedy ..         each node as far as it goes
-run random SEED ..    nodes drawn by a generator
+run [greedy|random SEED] [N] [until COND]
+                      make up to N events, in rounds or in this order
 COND: pass NNN MMM = W, pass NNN MMM J, step NNN K, stop, stop NNN, wait NNN,
       mem NNN HH = W, p NNN X
 chip                  what each node does
@@ -34,7 +33,45 @@ whence NNN K          the steps whose values went into what step K of NNN made
 races [NNN]           steps that could have come out otherwise, and how
 save                  the kept events as lines of debug
 help                  these lines
-and the commands of debug: step back rewind node mem trace why count dump quit"""
+step NNN              make the next event of NNN
+back                  take the newest event back
+rewind NNN K          take step K of NNN back, with all that depends on it
+node NNN              what NNN holds
+mem NNN HH            the word at HH of the memory of NNN
+trace NNN             the steps of NNN
+why NNN K MMM J       by which events step K of NNN led to step J of MMM
+count                 how many events are kept and were made
+dump                  the chip as an image
+quit                  end"""
+# the form of each command, by its name
+FORMS = {form.split(" ")[0]: form for form in (re.split("  +", line)[0] for line in HELP.split("\n")) if form[:1].islower()}
+
+
+def distance(one, other):
+    """How many letters are to be inserted, dropped or changed, or exchanged with the next one, to make one word of the other."""
+    rows = [list(range(len(other) + 1))]
+    for at, letter in enumerate(one, 1):
+        row = [at]
+        for to, its in enumerate(other, 1):
+            row.append(min(rows[-1][to] + 1, row[-1] + 1, rows[-1][to - 1] + (letter != its)))
+            if at > 1 and to > 1 and letter == other[to - 2] and one[at - 2] == its:
+                row[-1] = min(row[-1], rows[-2][to - 2] + 1)
+        rows.append(row)
+    return rows[-1][-1]
+
+
+def cure(line):
+    """What to write in place of a line that is no command. Bytes are the characters of Latin-1."""
+    word = line.split(" ")[0]
+    if line.startswith("\xef\xbb\xbf"):
+        return "a byte order mark stands before the command; leave it out"
+    if line.endswith("\r"):
+        return "a carriage return ends the line; end it with a line feed alone"
+    if re.search("^[ \t]|[ \t]\\Z", line):
+        return "a blank stands at an end of the line; leave it out"
+    if re.search("[A-Z]", word):
+        return "the command is in upper case; write it in lower case"
+    return FORMS.get(word) or next((form for name, form in FORMS.items() if distance(word, name) <= 1), "help")
 
 
 def number_of(text):

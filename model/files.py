@@ -2,8 +2,8 @@
 """Answers sessions that stand in files by the replay machine.
 
 files.py FILE..: prints what the machine answers to each.
-files.py --compare FILE..: compares that with FILE.stdout. A file is skipped where FILE.stdout says that its image is refused or
-that one of its lines is no command; just such a file may not be read here.
+files.py --compare FILE..: compares that with FILE.stdout. A file is skipped where FILE.stdout says that its image is refused or, of
+a session of `ga144 debug`, that one of its lines is no command; just such a file may not be read here.
 The limit is N for a file in a folder limit-N. A session in a folder explore is one of `ga144 explore`, which may begin with source.
 """
 
@@ -12,7 +12,7 @@ import re
 import sys
 from itertools import zip_longest
 
-from explore import Explorer
+from explore import Explorer, cure
 from machine import Machine, NODES, name
 from node import Node, SIDES, WORD
 from notes import Notes
@@ -27,6 +27,7 @@ FIELDS["ga144 2"] = FIELDS["ga144 1"] + (
 )
 GREATEST = {"b": 0x1FF, "p": 0x3FF}
 COMMAND = rf"back|count|dump|quit|(?:step|node|trace) {NODE}|mem {NODE} {HH}|rewind {NODE} {STEP}|why {NODE} {STEP} {NODE} {STEP}"
+LONGEST = 200
 NO_COMMANDS = ("no 31 syntax", "no 32 long")
 NUMBERS = {name(node): node for node in range(NODES)}
 
@@ -79,10 +80,17 @@ def load_of(lines):
     return load
 
 
+def is_command(line):
+    """Whether a line is a command of the debugger."""
+    return re.fullmatch(COMMAND, line) and all(int(it) < 1 << 32 for it in line.split(" ")[2::2] if not line.startswith("mem "))
+
+
 def answer(machine, line):
     explored = machine.explored(line) if isinstance(machine, Explorer) else None
     if explored is not None:
         return explored
+    if isinstance(machine, Explorer) and not is_command(line):
+        return "no 32 long" if len(line) > LONGEST else f"no 31 syntax: {cure(line)}"
     demand(re.fullmatch(COMMAND, line), line)
     command, *words = line.split(" ")
     if command == "mem":

@@ -1,6 +1,7 @@
 //! `ga144 debug`: a session with a GA144 over standard input and output. `ga144 explore`: one that runs up to a condition.
 //! `ga144 race`: workers that race for its nodes. `ga144 draw`: a session's picture.
-//! `ga144 asm`, `ga144 list`, `ga144 dis`: source made into an image, listed, and made of an image.
+//! `ga144 asm`, `ga144 list`, `ga144 dis`: source made into an image, listed, and made of an image. Where a file is named, it is read
+//! before standard input.
 #![tactic(auto)]
 
 ghost use Rattle.std.specs.Prelude.{IfOk};
@@ -10,18 +11,23 @@ use ga_console::{
     LineFault, Settings, Status, arguments, assemble_source, disassemble, list_source, race_report,
     session,
 };
-use ga_explorer::explore;
+use ga_explorer::{close, explore, is_cut_off};
 use ga_picture::{View, draw_session};
+use std::fs::File;
+use std::io::{Chain, ErrorKind, Read, Stdin, Take};
 use std::process::ExitCode;
 use std::{env, io};
 
 /// How many events are kept at most where a session is drawn.
 const DRAWN_LIMIT: u32 = 1_000_000;
 
+/// The most bytes of a file: the bound of an input.
+const LONGEST_FILE: u64 = 16_777_216;
+
 fn main(rt: HostRuntime) -> ExitCode {
     match settings(&rt) {
         Ok(Settings::Debug { limit }) => debug(&rt, limit),
-        Ok(Settings::Explore { limit }) => exploring(&rt, limit),
+        Ok(Settings::Explore { limit, file }) => exploring(&rt, limit, &file),
         Ok(
             Settings::Race {
                 workers,
@@ -42,26 +48,28 @@ fn main(rt: HostRuntime) -> ExitCode {
             );
             exit(&rt, status)
         }
-        Ok(Settings::Assemble) => assembled(&rt),
-        Ok(Settings::List) => listed(&rt),
-        Ok(Settings::Disassemble) => disassembled(&rt),
+        Ok(Settings::Assemble { file }) => assembled(&rt, &file),
+        Ok(Settings::List { file }) => listed(&rt, &file),
+        Ok(Settings::Disassemble { file }) => disassembled(&rt, &file),
         Ok(
             Settings::Draw {
                 cause,
                 rewind,
                 from,
                 to,
+                file,
             },
-        ) => drawn(
-            &rt,
-            View {
+        ) => {
+            let view = View {
                 cause,
                 rewind,
                 from: from - 1,
                 to,
-            },
-        ),
-        Err(LineFault::Refused) => refused(&rt),
+            };
+            drawn(&rt, view, &file)
+        }
+        Err(LineFault::Refused(why)) => refused(&rt, why.as_str()),
+        Err(LineFault::Memory) => refused(&rt, ""),
         Err(LineFault::Help(text)) => help(&rt, text.as_str()),
     }
 }
@@ -71,17 +79,17 @@ fn settings(rt: &HostRuntime) -> Result<Settings, LineFault>
     ensures { IfOk result AreInRange }
 {
     let Ok(words) = env::args(rt) else {
-        return Err(LineFault::Refused);
+        return Err(LineFault::Memory);
     };
     let Ok(words) = words.collect::<Vec<String>>(rt.alloc()) else {
-        return Err(LineFault::Refused);
+        return Err(LineFault::Memory);
     };
     let Ok(texts) = words
         .iter()
         .map(|word| word.as_str())
         .collect::<Vec<&str>>(rt.alloc())
     else {
-        return Err(LineFault::Refused);
+        return Err(LineFault::Memory);
     };
     arguments(rt.alloc(), texts.as_slice())
 }
@@ -93,56 +101,152 @@ fn debug(rt: &HostRuntime, limit: u32) -> ExitCode {
     exit(rt, session(rt.alloc(), &mut reader, &mut writer, limit))
 }
 
-/// Serves a session of exploring over the standard streams.
-fn exploring(rt: &HostRuntime, limit: u32) -> ExitCode {
-    let (mut reader, mut writer, mut errors) = (rt.stdin(), rt.stdout(), rt.stderr());
-    exit(
-        rt,
-        explore(rt.alloc(), &mut reader, &mut writer, &mut errors, limit),
-    )
+/// What stands before standard input, and how many bytes of that may be read behind it.
+#[derive(Drop)]
+struct Front {
+    text: Vec<u8>,
+    behind: u64,
 }
 
-/// Makes an image of the source on standard input.
-fn assembled(rt: &HostRuntime) -> ExitCode {
-    let (mut reader, mut writer, mut errors) = (rt.stdin(), rt.stdout(), rt.stderr());
-    exit(
-        rt,
-        assemble_source(rt.alloc(), &mut reader, &mut writer, &mut errors),
-    )
+impl Front {
+    /// What is read: the text, and then standard input.
+    fn reader(&self, rt: &HostRuntime) -> Chain<&[u8], Take<Stdin>> {
+        self.text.as_slice().chain(rt.stdin().take(self.behind))
+    }
 }
 
-/// Lists the source on standard input.
-fn listed(rt: &HostRuntime) -> ExitCode {
-    let (mut reader, mut writer, mut errors) = (rt.stdin(), rt.stdout(), rt.stderr());
-    exit(
-        rt,
-        list_source(rt.alloc(), &mut reader, &mut writer, &mut errors),
-    )
+/// The text of a file, ended so that commands can stand behind it, or nothing where no file is named. Behind an image without its
+/// line `end` nothing is read.
+///
+/// # Errors
+/// The file can't be had, which was told.
+fn front(rt: &HostRuntime, file: &Option<String>) -> Result<Front, ExitCode> {
+    let Some(name) = file else {
+        return Ok(Front {
+            text: Vec::new(rt.alloc()),
+            behind: u64::MAX,
+        });
+    };
+    let name = name.as_str();
+    match held(rt, name) {
+        Ok(mut text) => {
+            if is_cut_off(text.as_slice()) {
+                return Ok(Front { text, behind: 0 });
+            }
+            if text.len() as u64 > LONGEST_FILE {
+                return Err(unread(rt, name, "more than 16777216 bytes", 1));
+            }
+            match close(&mut text) {
+                Ok(()) => Ok(Front {
+                    text,
+                    behind: u64::MAX,
+                }),
+                Err(_) => Err(unread(rt, name, "out of memory", 1)),
+            }
+        }
+        Err(why) => Err(unread_for(rt, name, &why)),
+    }
 }
 
-/// Makes source of the image on standard input.
-fn disassembled(rt: &HostRuntime) -> ExitCode {
-    let (mut reader, mut writer, mut errors) = (rt.stdin(), rt.stdout(), rt.stderr());
-    exit(
-        rt,
-        disassemble(rt.alloc(), &mut reader, &mut writer, &mut errors),
-    )
+/// The bytes of a file, as far as one more than the bound of an input.
+fn held(rt: &HostRuntime, name: &str) -> io::Result<Vec<u8>> {
+    let mut text = Vec::new(rt.alloc());
+    File::open(rt, name)?.take(LONGEST_FILE + 1).read_to_end(&mut text)?;
+    Ok(text)
 }
 
-/// Draws the session on standard input.
-fn drawn(rt: &HostRuntime, view: View) -> ExitCode {
-    let (mut reader, mut writer, mut errors) = (rt.stdin(), rt.stdout(), rt.stderr());
-    exit(
-        rt,
-        draw_session(
-            rt.alloc(),
-            &mut reader,
-            &mut writer,
-            &mut errors,
-            view,
-            DRAWN_LIMIT,
-        ),
-    )
+/// Tells why a file can't be read: 1 for want of memory, else 2.
+fn unread_for(rt: &HostRuntime, name: &str, why: &io::Error) -> ExitCode {
+    let status = if why.kind() == ErrorKind::OutOfMemory { 1 } else { 2 };
+    let _ = eprintln!(rt; "ga144: {name}: {why}");
+    ExitCode::from(status)
+}
+
+fn unread(rt: &HostRuntime, name: &str, why: &str, status: u8) -> ExitCode {
+    let _ = eprintln!(rt; "ga144: {name}: {why}");
+    ExitCode::from(status)
+}
+
+/// Serves a session of exploring over a file, where one is named, and the standard streams.
+fn exploring(rt: &HostRuntime, limit: u32, file: &Option<String>) -> ExitCode {
+    match front(rt, file) {
+        Ok(front) => {
+            let mut reader = front.reader(rt);
+            let (mut writer, mut errors) = (rt.stdout(), rt.stderr());
+            exit(
+                rt,
+                explore(rt.alloc(), &mut reader, &mut writer, &mut errors, limit),
+            )
+        }
+        Err(code) => code,
+    }
+}
+
+/// Makes an image of source.
+fn assembled(rt: &HostRuntime, file: &Option<String>) -> ExitCode {
+    match front(rt, file) {
+        Ok(front) => {
+            let mut reader = front.reader(rt);
+            let (mut writer, mut errors) = (rt.stdout(), rt.stderr());
+            exit(
+                rt,
+                assemble_source(rt.alloc(), &mut reader, &mut writer, &mut errors),
+            )
+        }
+        Err(code) => code,
+    }
+}
+
+/// Lists source.
+fn listed(rt: &HostRuntime, file: &Option<String>) -> ExitCode {
+    match front(rt, file) {
+        Ok(front) => {
+            let mut reader = front.reader(rt);
+            let (mut writer, mut errors) = (rt.stdout(), rt.stderr());
+            exit(
+                rt,
+                list_source(rt.alloc(), &mut reader, &mut writer, &mut errors),
+            )
+        }
+        Err(code) => code,
+    }
+}
+
+/// Makes source of an image.
+fn disassembled(rt: &HostRuntime, file: &Option<String>) -> ExitCode {
+    match front(rt, file) {
+        Ok(front) => {
+            let mut reader = front.reader(rt);
+            let (mut writer, mut errors) = (rt.stdout(), rt.stderr());
+            exit(
+                rt,
+                disassemble(rt.alloc(), &mut reader, &mut writer, &mut errors),
+            )
+        }
+        Err(code) => code,
+    }
+}
+
+/// Draws a session.
+fn drawn(rt: &HostRuntime, view: View, file: &Option<String>) -> ExitCode {
+    match front(rt, file) {
+        Ok(front) => {
+            let mut reader = front.reader(rt);
+            let (mut writer, mut errors) = (rt.stdout(), rt.stderr());
+            exit(
+                rt,
+                draw_session(
+                    rt.alloc(),
+                    &mut reader,
+                    &mut writer,
+                    &mut errors,
+                    view,
+                    DRAWN_LIMIT,
+                ),
+            )
+        }
+        Err(code) => code,
+    }
 }
 
 /// Writes the help that was asked for.
@@ -169,7 +273,8 @@ fn exit(rt: &HostRuntime, status: Status) -> ExitCode {
     }
 }
 
-fn refused(rt: &HostRuntime) -> ExitCode {
-    let _ = eprintln!(rt; "ga144: command line refused");
+/// Tells that the command line is refused, and why.
+fn refused(rt: &HostRuntime, why: &str) -> ExitCode {
+    let _ = eprint!(rt; "ga144: command line refused\n{why}");
     ExitCode::from(3)
 }

@@ -9,9 +9,9 @@ Within least greatest n = (least ≤ n) × (n ≤ greatest)
 -- each number is in its range
 abbrev pub AreInRange : Settings → Type 0
 AreInRange (Debug limit) = Within 1 4000000 limit
-AreInRange (Explore limit) = Within 1 4000000 limit
+AreInRange (Explore limit file) = Within 1 4000000 limit
 AreInRange (Race workers calls limit) = Within 1 16 workers × Within 1 100000 calls × Within 1 4000000 limit
-AreInRange Assemble = Unit {0}
-AreInRange List = Unit {0}
-AreInRange Disassemble = Unit {0}
-AreInRange (Draw cause rewind from to) = Within 1 4294967295 from × Within 1 4294967295 to
+AreInRange (Assemble file) = Unit {0}
+AreInRange (List file) = Unit {0}
+AreInRange (Disassemble file) = Unit {0}
+AreInRange (Draw cause rewind from to file) = Within 1 4294967295 from × Within 1 4294967295 to

@@ -3,11 +3,13 @@ ghost use Rattle.std.specs.Prelude.{IfOk};
 ghost use Rattle.ga_console.specs.Settings.{AreInRange, Within};
 
 use super::command::{node_of, number_of};
-use clap::error::ErrorKind;
-use clap::{Arg, ArgMatches, Command};
+use clap::{Arg, ArgMatches, Command, value_parser};
 use ga_grid::NodeId;
 use std::alloc::{AllocError, Global};
 use thiserror::Error;
+
+/// What `ga144 --version` says behind the name: the version, and the kit that proves it.
+const VERSION: &str = "1.0 (rattle-kit-13f logic dac8208d650f15bf)";
 
 /// What `ga144 debug --help` says behind the options.
 const COMMANDS: &str = "\
@@ -30,8 +32,10 @@ Exit status: 0 done, 1 image refused, 2 a stream failed, 3 command line refused.
 
 /// What `ga144 explore --help` says behind the options.
 const EXPLORING: &str = "\
-Reads an image or source (up to its line `end`) from standard input, and then commands, and knows each command of debug. So a
-person at a terminal types: cat IMAGE - | ga144 explore
+Reads an image or source (up to its line `end`) from FILE, or from standard input where none is given, and then commands from
+standard input, and knows each command of debug. So a person at a terminal types: ga144 explore fault.f18
+
+A FILE of source needs no line `end`. What stands in FILE behind its line `end` is read as the first commands.
 
 Further commands (N is a number of events; NNN and MMM are nodes, K a step, HH two and W and X six hexadecimal digits):
   run [N] [until COND]   make events in rounds: each node that has an event makes one, in the order of their names
@@ -67,7 +71,7 @@ Exit status: 0 done, 1 image refused, 2 a stream failed, 3 command line refused,
 
 /// What `ga144 draw --help` says behind the options.
 const PICTURES: &str = "\
-Reads what explore reads: an image or source up to its line `end`, then commands, one a line. Carries them out without an answer,
+Reads what explore reads: an image or source, from FILE where one is given, then commands, one a line. Carries them out without an answer,
 and at their end writes one SVG: a line down for each node, its own events as marks, passes as arrows with their word,
 waits dotted, looks dashed. An event's title says what debug says of it, and the name of its opcode.
 
@@ -98,7 +102,9 @@ const NOTATION: &str = "Source, words apart by blanks, tabs and line ends:
   and the opcodes by their names";
 
 /// What the program is to do.
-#[derive(Clone, Copy, Debug, PartialEq, Eq)]
+///
+/// A `file` is the name of one that is read before standard input, or none.
+#[derive(Debug, Drop, PartialEq, Eq)]
 pub enum Settings {
     /// Serve a session that keeps up to this many events, 1 to 4000000.
     Debug {
@@ -107,6 +113,7 @@ pub enum Settings {
     /// Serve a session of exploring that keeps up to this many events, 1 to 4000000.
     Explore {
         limit: u32,
+        file: Option<String>,
     },
     /// Run 1 to 16 workers, of which each makes 1 to 100000 calls, over a chip that keeps up to this many events, 1 to 4000000.
     Race {
@@ -115,11 +122,17 @@ pub enum Settings {
         limit: u32,
     },
     /// Assemble source into an image.
-    Assemble,
+    Assemble {
+        file: Option<String>,
+    },
     /// List the cells of source.
-    List,
+    List {
+        file: Option<String>,
+    },
     /// Write source of an image.
-    Disassemble,
+    Disassemble {
+        file: Option<String>,
+    },
     /// Draw the kept events of a session from one place of their list on and up to another, both counted from 1. Shown are the
     /// causes of a step, and what a rollback of a step would take; each step is a node and a number, counted from 1.
     Draw {
@@ -127,54 +140,62 @@ pub enum Settings {
         rewind: Option<(NodeId, u32)>,
         from: u32,
         to: u32,
+        file: Option<String>,
     },
 }
 
 /// Why there are no settings.
 #[derive(Debug, Drop, Error)]
 pub enum LineFault {
-    /// Help was asked for. This is its text.
+    /// Help or the version was asked for. This is its text.
     #[error("{0}")]
     Help(String),
-    /// The words are no command line of the program, or there was no memory to read them.
-    #[error("command line refused")]
-    Refused,
+    /// The words are no command line of the program. The text tells which word, and what is expected.
+    #[error("{0}")]
+    Refused(String),
+    /// There was no memory to read them, or to tell what is wrong with them.
+    #[error("out of memory")]
+    Memory,
 }
 
 /// Reads the command line, the program's name first. The numbers that it answers are in their ranges.
 ///
 /// # Errors
-/// `Help`, where help was asked for; else `Refused`.
+/// `Help`, where help or the version was asked for; `Refused`; `Memory`.
 pub fn arguments(alloc: Global, words: &[&str]) -> Result<Settings, LineFault>
     ensures in_range { IfOk result AreInRange }
 {
     let Ok(command) = program(alloc) else {
-        return Err(LineFault::Refused);
+        return Err(LineFault::Memory);
     };
     match command.try_get_matches_from(words) {
-        Ok(matches) => chosen(&matches),
-        Err(error) => {
-            if error.kind() != ErrorKind::DisplayHelp {
-                return Err(LineFault::Refused);
+        Ok(matches) => chosen(alloc, &matches),
+        Err(error) => match error.to_string(alloc) {
+            Ok(text) => {
+                if error.use_stderr() {
+                    Err(LineFault::Refused(text))
+                } else {
+                    Err(LineFault::Help(text))
+                }
             }
-            match error.to_string(alloc) {
-                Ok(text) => Err(LineFault::Help(text)),
-                Err(_) => Err(LineFault::Refused),
-            }
-        }
+            Err(_) => Err(LineFault::Memory),
+        },
     }
 }
 
 /// The command lines of the program, as clap has them.
 fn program<'a>(alloc: Global) -> Result<Command<'a>, AllocError> {
     Command::new(alloc, "ga144")
+        .bin_name("ga144")?
+        .version(VERSION)
+        .subcommand_required(true)
         .about("Simulates the GreenArrays GA144, with a debugger that takes steps back")
         .subcommand(debug_line(alloc)?)?
         .subcommand(explore_line(alloc)?)?
         .subcommand(race_line(alloc)?)?
-        .subcommand(source_line(alloc))?
-        .subcommand(list_line(alloc))?
-        .subcommand(image_line(alloc))?
+        .subcommand(source_line(alloc)?)?
+        .subcommand(list_line(alloc)?)?
+        .subcommand(image_line(alloc)?)?
         .subcommand(draw_line(alloc)?)
 }
 
@@ -189,6 +210,7 @@ fn explore_line<'a>(alloc: Global) -> Result<Command<'a>, AllocError> {
     Command::new(alloc, "explore")
         .about("Debug, and make events up to a condition")
         .after_help(EXPLORING)
+        .arg(file_argument(alloc, "An image or source"))?
         .arg(limit_option(alloc))
 }
 
@@ -196,32 +218,36 @@ fn race_line<'a>(alloc: Global) -> Result<Command<'a>, AllocError> {
     Command::new(alloc, "race")
         .about("Let workers step the nodes at the same time")
         .after_help(RACES)
-        .arg(number_option(alloc, "workers", "How many workers there are, 1 to 16").required(true))?
+        .arg(number_option(alloc, "workers", "How many workers there are, 1 to 16", MOST_WORKERS)
+            .required(true))?
         .arg(number_option(
             alloc,
             "calls",
             "How many calls each worker makes, 1 to 100000",
+            MOST_CALLS,
         )
         .required(true))?
         .arg(limit_option(alloc))
 }
 
-fn source_line<'a>(alloc: Global) -> Command<'a> {
+fn source_line<'a>(alloc: Global) -> Result<Command<'a>, AllocError> {
     Command::new(alloc, "asm")
         .about("Read source up to its end or to a line 'end', and write the image of its chip")
         .after_help(NOTATION)
+        .arg(file_argument(alloc, "The source"))
 }
 
-fn list_line<'a>(alloc: Global) -> Command<'a> {
+fn list_line<'a>(alloc: Global) -> Result<Command<'a>, AllocError> {
     Command::new(alloc, "list")
         .about("Read source, and write each cell's address, word, opcodes and source line")
         .after_help(NOTATION)
+        .arg(file_argument(alloc, "The source"))
 }
 
-fn image_line<'a>(alloc: Global) -> Command<'a> {
-    Command::new(alloc, "dis").about(
-        "Read an image, and write source of the same memories, A, B and P",
-    )
+fn image_line<'a>(alloc: Global) -> Result<Command<'a>, AllocError> {
+    Command::new(alloc, "dis")
+        .about("Read an image, and write source of the same memories, A, B and P")
+        .arg(file_argument(alloc, "The image"))
 }
 
 fn draw_line<'a>(alloc: Global) -> Result<Command<'a>, AllocError> {
@@ -242,11 +268,12 @@ fn draw_line<'a>(alloc: Global) -> Result<Command<'a>, AllocError> {
             alloc,
             "from",
             "Draw from the Pth kept event on, counted from 1",
+            u32::MAX,
         )
         .value_name("P"))?
-        .arg(number_option(alloc, "to", "Draw up to the Pth kept event, counted from 1").value_name(
-            "P",
-        ))
+        .arg(number_option(alloc, "to", "Draw up to the Pth kept event, counted from 1", u32::MAX)
+            .value_name("P"))?
+        .arg(file_argument(alloc, "An image or source"))
 }
 
 fn limit_option<'a>(alloc: Global) -> Arg<'a> {
@@ -254,6 +281,7 @@ fn limit_option<'a>(alloc: Global) -> Arg<'a> {
         alloc,
         "limit",
         "How many events are kept at most, 1 to 4000000 [default: 1000000]",
+        GREATEST_LIMIT,
     )
 }
 
@@ -268,20 +296,33 @@ fn step_option<'a>(alloc: Global, name: &'a str, help: &'a str) -> Arg<'a> {
         .value_names(&STEP)
 }
 
-fn number_option<'a>(alloc: Global, name: &'a str, help: &'a str) -> Arg<'a> {
-    Arg::new(alloc, name).long(name).help(help)
+/// A number from 1 to the greatest.
+fn number_option<'a>(alloc: Global, name: &'a str, help: &'a str, greatest: u32) -> Arg<'a> {
+    Arg::new(alloc, name)
+        .long(name)
+        .help(help)
+        .value_parser(value_parser!(u32).range(1..=i64::from(greatest)))
 }
 
-fn chosen(matches: &ArgMatches<'_>) -> Result<Settings, LineFault>
+/// A file that is read before standard input.
+fn file_argument<'a>(alloc: Global, help: &'a str) -> Arg<'a> {
+    Arg::new(alloc, "FILE").help(help)
+}
+
+fn chosen(alloc: Global, matches: &ArgMatches<'_>) -> Result<Settings, LineFault>
     ensures in_range { IfOk result AreInRange }
 {
     match matches.subcommand() {
         Some(("debug", debug)) => Ok(Settings::Debug {
             limit: limit(debug)?,
         }),
-        Some(("explore", explorer)) => Ok(Settings::Explore {
-            limit: limit(explorer)?,
-        }),
+        Some(("explore", explorer)) => {
+            let limit = limit(explorer)?;
+            Ok(Settings::Explore {
+                limit,
+                file: file(alloc, explorer)?,
+            })
+        }
         Some(("race", race)) => {
             let workers = number(race.get_str("workers"), MOST_WORKERS)?;
             let calls = number(race.get_str("calls"), MOST_CALLS)?;
@@ -291,20 +332,44 @@ fn chosen(matches: &ArgMatches<'_>) -> Result<Settings, LineFault>
                 limit: limit(race)?,
             })
         }
-        Some(("asm", _)) => Ok(Settings::Assemble),
-        Some(("list", _)) => Ok(Settings::List),
-        Some(("dis", _)) => Ok(Settings::Disassemble),
-        Some(("draw", draw)) => {
-            let from = place(draw.get_str("from"), 1)?;
-            let to = place(draw.get_str("to"), u32::MAX)?;
-            Ok(Settings::Draw {
-                cause: step(draw, "cause")?,
-                rewind: step(draw, "rewind")?,
-                from,
-                to,
-            })
-        }
-        _ => Err(LineFault::Refused),
+        Some(("asm", source)) => Ok(Settings::Assemble {
+            file: file(alloc, source)?,
+        }),
+        Some(("list", source)) => Ok(Settings::List {
+            file: file(alloc, source)?,
+        }),
+        Some(("dis", image)) => Ok(Settings::Disassemble {
+            file: file(alloc, image)?,
+        }),
+        Some(("draw", draw)) => drawn(alloc, draw),
+        _ => Err(LineFault::Memory),
+    }
+}
+
+/// What is to be drawn.
+fn drawn(alloc: Global, draw: &ArgMatches<'_>) -> Result<Settings, LineFault>
+    ensures in_range { IfOk result AreInRange }
+{
+    let from = place(draw.get_str("from"), 1)?;
+    let to = place(draw.get_str("to"), u32::MAX)?;
+    Ok(Settings::Draw {
+        cause: step(alloc, draw, "cause")?,
+        rewind: step(alloc, draw, "rewind")?,
+        from,
+        to,
+        file: file(alloc, draw)?,
+    })
+}
+
+/// The name of the file, where one is given that is not `-`.
+fn file(alloc: Global, matches: &ArgMatches<'_>) -> Result<Option<String>, LineFault> {
+    match matches.get_str("FILE") {
+        None => Ok(None),
+        Some("-") => Ok(None),
+        Some(name) => match String::from_str(alloc, name) {
+            Ok(name) => Ok(Some(name)),
+            Err(_) => Err(LineFault::Memory),
+        },
     }
 }
 
@@ -329,28 +394,43 @@ fn place(text: Option<&str>, usual: u32) -> Result<u32, LineFault>
 }
 
 /// A step, where one is given: a node and a number, spelled as in a command.
-fn step(matches: &ArgMatches<'_>, name: &str) -> Result<Option<(NodeId, u32)>, LineFault> {
+fn step(
+    alloc: Global,
+    matches: &ArgMatches<'_>,
+    name: &str,
+) -> Result<Option<(NodeId, u32)>, LineFault> {
     let Some(words) = matches.get_strs(name) else {
         return Ok(None);
     };
     let [node, number] = words else {
-        return Err(LineFault::Refused);
+        return Err(LineFault::Memory);
     };
     match (node_of(node.as_bytes()), number_of(number.as_bytes())) {
         (Some(node), Some(number)) => Ok(Some((node, number))),
-        _ => Err(LineFault::Refused),
+        _ => Err(no_step(alloc, name, node, number)),
     }
 }
 
-/// A number from 1 to the greatest.
+/// Tells that these words are no step, in the form of clap's errors.
+fn no_step(alloc: Global, name: &str, node: &str, number: &str) -> LineFault {
+    match format!(in alloc;
+        "error: invalid value '{node} {number}' for '--{name} <NNN> <K>': NNN is a node, 000 to 717 \
+        with columns 00 to 17, and K a step, a decimal number\n\nFor more information, try '--help'.\n"
+    ) {
+        Ok(text) => LineFault::Refused(text),
+        Err(_) => LineFault::Memory,
+    }
+}
+
+/// A number from 1 to the greatest. That it is one was seen by its parser.
 fn number(text: Option<&str>, greatest: u32) -> Result<u32, LineFault>
     ensures in_range { IfOk result (λ n. Within 1 greatest n) }
 {
     let Some(text) = text else {
-        return Err(LineFault::Refused);
+        return Err(LineFault::Memory);
     };
     match text.parse::<u32>() {
         Ok(n) if n >= 1 && n <= greatest => Ok(n),
-        _ => Err(LineFault::Refused),
+        _ => Err(LineFault::Memory),
     }
 }

@@ -7,7 +7,8 @@ use Rattle.ga_search.specs.Running.{running, after, AreMade, HasEnded}
 use Rattle.ga_search.specs.declared.schedule.Schedule.{Schedule}
 use Rattle.ga_search.specs.declared.condition.Condition.{Condition}
 use Rattle.ga_search.specs.declared.running.End.{End}
-use Rattle.ga_explorer.specs.Texts.{run_text, words_text, chip_text, help_text}
+use Rattle.ga_explorer.specs.Texts.{run_text, words_text, chip_text}
+use Rattle.ga_explorer.specs.Forms.{rows, rows_text}
 use Rattle.ga_explorer.specs.Saved.{saved_text}
 use Rattle.ga_explorer.specs.Writing.{writes_text}
 use Rattle.ga_explorer.specs.Around.{around_text}
@@ -66,5 +67,6 @@ save_done s notes asked text e h = subst (λ z. Explored (exploring s notes) z t
 pub chip_done : (s : State) (notes : Option Notes) (asked : Request) → asked ≡ Chip → Explored (exploring s notes) asked (chip_text s) (exploring s notes)
 chip_done s notes asked e = subst (λ z. Explored (exploring s notes) z (chip_text s) (exploring s notes)) (sym e) (refl, refl)
 
-pub help_done : (s : State) (notes : Option Notes) (asked : Request) → asked ≡ Help → Explored (exploring s notes) asked help_text (exploring s notes)
-help_done s notes asked e = subst (λ z. Explored (exploring s notes) z help_text (exploring s notes)) (sym e) (refl, refl)
+pub help_done : (s : State) (notes : Option Notes) (asked : Request) → asked ≡ Help → (answer : List ℕ) → answer ≡ rows_text rows
+    → Explored (exploring s notes) asked answer (exploring s notes)
+help_done s notes asked e answer told = subst (λ z. Explored (exploring s notes) z answer (exploring s notes)) (sym e) (told, refl)

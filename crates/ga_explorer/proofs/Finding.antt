@@ -1,9 +1,9 @@
 -- A command that is looked for row by row, and a letter byte by byte.
-use Rattle.std.proofs.Common.{◌≡◌, ℕ, ◌+◌, ◌<◌, ◌||◌, ◌&&◌, List, length, drop, get_or, Bool, true, false, nat_eq, nat_le, if◌then◌else◌, Option, Some, None, sym, ap, ◌∙◌}
+use Rattle.std.proofs.Common.{◌≡◌, ℕ, ◌+◌, ◌<◌, ◌≤◌, ◌++◌, [], ◌||◌, ◌&&◌, List, length, drop, get_or, Bool, true, false, nat_eq, nat_le, if◌then◌else◌, Option, Some, None, sym, ap, ◌∙◌}
 use Rattle.std.specs.Prelude.{map}
 use Rattle.std.specs.Cmp.Lexicographic.{pointwise}
-use Rattle.std.proofs.lemmas.List.{drop_more}
-use Rattle.ga_explorer.specs.Forms.{form_in, near_form_in, is_near, is_upper}
+use Rattle.std.proofs.lemmas.List.{drop_more, drop_all}
+use Rattle.ga_explorer.specs.Forms.{Entry, form_in, near_form_in, is_near, is_upper, row_text, rows_text}
 use Rattle.ga_explorer.specs.kept.Forms.{entry_of}
 use Rattle.ga_explorer.specs.declared.forms.Row.{Row}
 
@@ -44,3 +44,12 @@ near_behind word rows i d within b is e =
 pub upper_at : (word : List ℕ) (i d : ℕ) → i < length word → is_upper (drop i word) ≡ ((nat_le 65 (get_or word i d) && nat_le (get_or word i d) 90) || is_upper (drop (i + 1) word))
 unfolding is_upper
 upper_at word i d within = ap is_upper (drop_more word i d within)
+
+pub next_row : (rows : List Row) (i : ℕ) (d : Row) → i < length rows → d ≡ get_or rows i d
+    → rows_text (map entry_of (drop i rows)) ≡ row_text (entry_of d) ++ rows_text (map entry_of (drop (i + 1) rows))
+next_row rows i d within e =
+    ap (λ z. rows_text (map entry_of z)) (drop_more rows i d within)
+    ∙ ap (λ (z : Row). row_text (entry_of z) ++ rows_text (map entry_of (drop (i + 1) rows))) (sym e)
+
+pub no_row : (rows : List Row) (i : ℕ) → length rows ≤ i → rows_text (map entry_of (drop i rows)) ≡ []
+no_row rows i past = ap (λ z. rows_text (map entry_of z)) (drop_all i rows past)

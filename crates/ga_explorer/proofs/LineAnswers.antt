@@ -1,12 +1,15 @@
 -- How exploring answers a line, of which the first bytes are here.
 use Rattle.std.specs.Prelude.{Option}
-use Rattle.std.proofs.Common.{◌≡◌, ◌≢◌, ◌≤◌, ℕ, List, take, length, Some, None, sym, ap, ◌∙◌, arith, rules, length-take, Result, Ok, Err}
+use Rattle.std.proofs.Common.{◌≡◌, ◌≢◌, ◌<◌, ◌≤◌, ◌⊎◌, inl, inr, refl, ℕ, List, take, length, Some, None, sym, ap, ◌∙◌, subst, arith, rules, length-take, Result, Ok, Err}
 use Rattle.std.specs.Result.{IsErr}
 use Rattle.std.proofs.lemmas.List.{take_all}
 use Rattle.ga_console.specs.Replies.{Answer}
 use Rattle.ga_console.specs.kept.Turns.{Turns, AnswersLine}
 use Rattle.ga_console.specs.Turns.{quit_line}
+use Rattle.ga_console.specs.Commands.{SpellsCommand}
+use Rattle.ga_console.specs.declared.command.Command.{Command}
 use Rattle.ga_console.specs.declared.command.Command.TheVariants.{Quit}
+use Rattle.ga_lab.specs.Machine.{State}
 use Rattle.ga_console.specs.declared.output.WriteFailed.{WriteFailed}
 use Rattle.ga_console.specs.declared.responder.Turn.{Turn}
 use Rattle.ga_console.specs.declared.responder.Turn.TheVariants as turn
@@ -14,7 +17,8 @@ use Rattle.ga_notes.specs.declared.notes.Notes.{Notes}
 use Rattle.ga_explorer.specs.Reading.{request_in}
 use Rattle.ga_explorer.specs.Tails.{Exploring}
 use Rattle.ga_explorer.specs.kept.Exploring.{exploring}
-use Rattle.ga_explorer.specs.Answers.{Explores, Explored}
+use Rattle.ga_explorer.specs.Answers.{Explores, Explored, AnswersOther, IsOfDebugger}
+use Rattle.ga_explorer.specs.Forms.{no_command}
 use Rattle.ga_explorer.specs.Answers.Explores.{explored, debugged}
 use Rattle.ga_explorer.specs.declared.request.Request.{Request}
 use Rattle.ga_explorer.proofs.Apart.{debugger_alone}
@@ -31,6 +35,33 @@ none_some asked e = absurd cc
 not_quit : (notes : Option Notes) (line : List ℕ) (asked : Request) → request_in notes line ≡ Some asked → line ≢ quit_line
 not_quit notes line asked found = λ q. none_some asked (sym (debugger_alone notes Quit line q) ∙ found)
 
+-- a line of which the first bytes are of the debugger is itself
+of_debugger : (line part : List ℕ) → line ≡ take 201 part → IsOfDebugger line → IsOfDebugger part
+of_debugger line part e (inl long) = inl (omega (arith, long, ap length e, length-take 201 part))
+of_debugger line part e (inr here) = let P : List ℕ → Type 0 = IsOfDebugger in subst P (sym (whole line part e here.0)) (inr here)
+
+other_line : (s : State) (line answer : List ℕ) (new : State) → IsOfDebugger line → AnswersLine Answer s line answer new → AnswersLine AnswersOther s line answer new
+other_line s line answer new of done = λ part kept.
+    let answered = done part kept in (inl (of_debugger line part kept of, answered.0), answered.1)
+
+pub other_turn : (s : State) (line : List ℕ) (new : State) (result : Result Turn WriteFailed) (answer : List ℕ) → IsOfDebugger line
+    → Turns Answer s line new result answer → Turns AnswersOther s line new result answer
+other_turn s line new (Ok turn.Answered) answer of done = other_line s line answer new of done
+other_turn s line new (Ok turn.Quit) answer of done = done
+other_turn s line new (Err failed) answer of done = other_line s line answer new of done
+
+-- it spells no command at all
+pub unread_line : (s : State) (line : List ℕ) → length line ≤ 200 → ((c : Command) → ¬ SpellsCommand c line) → AnswersLine AnswersOther s line (no_command line) s
+unread_line s line fits none = λ part kept.
+    let same : part ≡ line = whole line part kept fits in
+    let P : List ℕ → Type 0 = λ z. AnswersOther s z (no_command line) s × (z ≢ quit_line) in
+    subst P (sym same) (inr ((fits, none), refl, refl), λ q. none Quit q)
+
+pub unread_err : (s : State) (line : List ℕ) (result : Result Turn WriteFailed) (answer : List ℕ) → IsErr result → AnswersLine AnswersOther s line answer s
+    → Turns AnswersOther s line s result answer
+unread_err s line (Ok turn) answer is h = absurd (search rules)
+unread_err s line (Err why) answer is h = h
+
 -- it spells a command of exploring
 pub explored_line : (s : Exploring) (line : List ℕ) (asked : Request) (answer : List ℕ) (new : Exploring) → length line ≤ 200 → request_in s.notes line ≡ Some asked
     → Explored s asked answer new → AnswersLine Explores s line answer new
@@ -41,7 +72,7 @@ explored_line s line asked answer new fits found done = λ part kept.
 
 -- it spells none
 debugged_line : (s : Exploring) (line answer : List ℕ) (new : Exploring) → (length line ≤ 200 → request_in s.notes line ≡ None) → new.notes ≡ s.notes
-    → AnswersLine Answer s.lab line answer new.lab → AnswersLine Explores s line answer new
+    → AnswersLine AnswersOther s.lab line answer new.lab → AnswersLine Explores s line answer new
 debugged_line s line answer new none same done = λ part kept.
     let answered = done part kept in
     (debugged (λ fits. let within : length line ≤ 200 = short line part kept fits in ap (request_in s.notes) (whole line part kept within) ∙ none within) answered.0 same, answered.1)
@@ -50,7 +81,7 @@ same_explored : (s new : Exploring) → new.lab ≡ s.lab → new.notes ≡ s.no
 same_explored s new e f = ap (λ lab. exploring lab new.notes) e ∙ ap (exploring s.lab) f
 
 pub debugged_turn : (s : Exploring) (line : List ℕ) (new : Exploring) (result : Result Turn WriteFailed) (answer : List ℕ) → (length line ≤ 200 → request_in s.notes line ≡ None)
-    → new.notes ≡ s.notes → Turns Answer s.lab line new.lab result answer → Turns Explores s line new result answer
+    → new.notes ≡ s.notes → Turns AnswersOther s.lab line new.lab result answer → Turns Explores s line new result answer
 debugged_turn s line new (Ok turn.Answered) answer none same done = debugged_line s line answer new none same done
 debugged_turn s line new (Ok turn.Quit) answer none same done = (done.0, same_explored s new done.1 same, done.2)
 debugged_turn s line new (Err failed) answer none same done = debugged_line s line answer new none same done

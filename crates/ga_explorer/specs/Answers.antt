@@ -66,13 +66,20 @@ Explored e Chip answer new = (answer ≡ chip_text e.lab) × (new ≡ e)
 Explored e Save answer new = (answer ≡ saved_text e.lab) × (new ≡ e)
 Explored e Help answer new = (answer ≡ rows_text rows) × (new ≡ e)
 
--- The line is too long, or spells a command of the debugger.
+-- the line is too long, or spells a command of the debugger
 abbrev pub IsOfDebugger : Line → Type 0
 IsOfDebugger line = (longest < length line) ⊎ ((length line ≤ longest) × (c : Command) × SpellsCommand c line)
 
--- The answer to a line: it spells a command of exploring; or it is too long or spells a command of the debugger, and is answered as
--- the debugger answers it; or it spells none, and is told what to write in its place.
+-- it spells none
+abbrev pub IsNoCommand : Line → Type 0
+IsNoCommand line = (length line ≤ longest) × ((c : Command) → ¬ SpellsCommand c line)
+
+-- The answer to a line that spells no command of exploring: that of the debugger; or what to write in its place, where it spells none
+-- of the debugger either.
+abbrev pub AnswersOther : State → Line → Text → State → Type 0
+AnswersOther s line answer new = (IsOfDebugger line × Answer s line answer new) ⊎ (IsNoCommand line × (answer ≡ no_command line) × (new ≡ s))
+
+-- The answer to a line: it spells a command of exploring, or is answered as one that spells none.
 pub data Explores (e : Exploring) (line answer : Text) (new : Exploring) : Type 0 where
   explored : (asked : Request) → length line ≤ longest → request_in e.notes line ≡ Some asked → Explored e asked answer new → Explores e line answer new
-  debugged : (length line ≤ longest → request_in e.notes line ≡ None) → IsOfDebugger line → Answer e.lab line answer new.lab → new.notes ≡ e.notes → Explores e line answer new
-  unread : length line ≤ longest → request_in e.notes line ≡ None → ((c : Command) → ¬ SpellsCommand c line) → answer ≡ no_command line → new ≡ e → Explores e line answer new
+  debugged : (length line ≤ longest → request_in e.notes line ≡ None) → AnswersOther e.lab line answer new.lab → new.notes ≡ e.notes → Explores e line answer new

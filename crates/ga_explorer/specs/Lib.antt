@@ -11,5 +11,6 @@ pub mod Races
 pub mod Forms
 pub mod Answers
 pub mod Opening
+pub mod Front
 pub mod Session
 pub mod kept

@@ -1,12 +1,11 @@
 //! What answers the lines of a session of exploring.
 
-ghost use Rattle.std.specs.Prelude.{◌≡◌, ◌≤◌, length, Some, None, IfSome, IfNone, if◌then◌else◌};
+ghost use Rattle.std.specs.Prelude.{◌≡◌, ◌≤◌, length, Some, None, IfSome, IfNone, IsTrue, false};
 ghost use Rattle.ga_console.specs.kept.Output.{Says};
 ghost use Rattle.ga_explorer.specs.Reading.{request_in};
 ghost use Rattle.ga_explorer.specs.kept.Exploring.{exploring};
-ghost use Rattle.ga_explorer.specs.Answers.{Explored, IsOfDebugger};
-ghost use Rattle.ga_console.specs.Commands.{SpellsCommand};
-ghost use Rattle.ga_console.specs.declared.command.Command.{Command};
+ghost use Rattle.ga_explorer.specs.Answers.{Explored, AnswersOther, IsOfDebugger, IsNoCommand};
+ghost use Rattle.ga_console.specs.kept.Turns.{Turns};
 
 use crate::at_text::say_around;
 use crate::chip_text::glance;
@@ -86,14 +85,7 @@ impl Responder for Explorer {
                 explored(alloc, &mut self.lab, &self.notes, asked, output, writer)?;
                 Ok(Turn::Answered)
             }
-            None => {
-                if is_no_command(line) {
-                    say_no_command(line.as_slice(), output, writer)?;
-                    Ok(Turn::Answered)
-                } else {
-                    self.lab.answer(alloc, line, output, writer)
-                }
-            }
+            None => answer_other(alloc, &mut self.lab, line, output, writer),
         }
     }
 
@@ -121,9 +113,31 @@ fn asked_by(notes: &Option<Notes>, line: &Line) -> Option<Request>
     }
 }
 
+/// Answers a line that spells no command of exploring.
+///
+/// # Errors
+/// A write failed.
+fn answer_other<W: Write>(
+    alloc: Global,
+    lab: &mut Lab,
+    line: &Line,
+    output: &mut Output,
+    writer: &mut W,
+) -> Result<Turn, WriteFailed>
+    ensures { Says result (Turns AnswersOther lab.old line.now.items lab.new result)
+        (W.contents writer.old) output.old (W.contents writer.new) output.new }
+{
+    if is_no_command(line) {
+        say_no_command(line.as_slice(), output, writer)?;
+        return Ok(Turn::Answered);
+    }
+    lab.answer(alloc, line, output, writer)
+}
+
 /// Whether a line is not too long and spells no command of the debugger.
 fn is_no_command(line: &Line) -> bool
-    ensures { if result then (length line.now.items ≤ LINE_LIMIT) × ((command : Command) → ¬ SpellsCommand command line.now.items) else IsOfDebugger line.now.items }
+    ensures none { IsTrue result → IsNoCommand line.now.items }
+    ensures some { result ≡ false → IsOfDebugger line.now.items }
 {
     line.len() <= LINE_LIMIT && command_of(line.as_slice()).is_none()
 }

@@ -1,6 +1,6 @@
 //! The commands of a session of exploring with their forms, what `help` tells of them, and what is said of a line that spells none.
 
-ghost use Rattle.std.specs.Prelude.{◌≡◌, ◌++◌, map, option_map};
+ghost use Rattle.std.specs.Prelude.{◌≡◌, ◌++◌, codes, map, option_map};
 ghost use Rattle.ga_image.specs.Lines.{Bytes};
 ghost use Rattle.ga_console.specs.Output.{IsSaid, IsSaidOrCut};
 ghost use Rattle.ga_console.specs.kept.Output.{Says};
@@ -189,6 +189,18 @@ pub(crate) fn say_no_command<W: Write>(
         (W.contents writer.old) output.old (W.contents writer.new) output.new }
 {
     output.say(writer, b"no 31 syntax: ")?;
+    say_cure(line, output, writer)
+}
+
+/// Says what to write in place of a line that is no command.
+fn say_cure<W: Write>(
+    line: &[u8],
+    output: &mut Output,
+    writer: &mut W,
+) -> Result<(), WriteFailed>
+    ensures { (before said : Bytes) → IsSaid (W.contents writer.old) before said output.old →
+        IsSaidOrCut result (W.contents writer.new) before (said ++ (cure line.now ++ codes "\n")) output.new }
+{
     output.say_blocks(writer, cure(line))?;
     output.say(writer, b"\n")
 }

@@ -9,6 +9,7 @@ mod deed_text;
 mod effects_text;
 mod explorer;
 mod forms;
+mod front;
 pub mod laws;
 mod opening;
 mod part_text;
@@ -27,5 +28,6 @@ mod writes_text;
 
 pub use beginning::begin;
 pub use explorer::Explorer;
+pub use front::{close, is_cut_off};
 pub use request::Request;
 pub use session::explore;

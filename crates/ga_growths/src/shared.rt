@@ -201,7 +201,8 @@ pub fn command_line(alloc: Global) -> Outcome {
     match arguments(alloc, line.as_slice()) {
         Ok(Settings::Debug { limit: 3 }) => Outcome::Answered,
         Ok(_) => Outcome::Wrong("other settings"),
-        Err(LineFault::Refused) => Outcome::Refused("command line"),
+        Err(LineFault::Refused(_)) => Outcome::Refused("command line"),
+        Err(LineFault::Memory) => Outcome::Refused("command line"),
         Err(LineFault::Help(_)) => Outcome::Wrong("help"),
     }
 }

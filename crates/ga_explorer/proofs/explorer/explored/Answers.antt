@@ -1,5 +1,5 @@
 use Rattle.std.proofs.Common.{◌∙◌}
-use Rattle.ga_explorer.specs.Texts.{run_text, chip_text, help_text}
+use Rattle.ga_explorer.specs.Texts.{run_text, chip_text}
 use Rattle.ga_explorer.proofs.Done.{run_done, effects_done, words_done, writes_done, at_done, whence_done, races_done, who_done, save_done, chip_done, help_done}
 use Rattle.ga_explorer.proofs.Told.{told_as}
 use Rattle.ga_explorer.proofs.explorer.explored.Goals as goal
@@ -69,9 +69,9 @@ returns-in-Chip g c = λ before said h. (
 )
 
 pub returns-in-Help : goal.returns-in-Help
-returns-in-Help g c = λ before said h. (
-  help_text,
-  help_done c.args.lab.now c.args.notes.now c.args.asked c.in-Help.is,
-  told_as c.say_blocks-in-Help.result _ before said c.help.result.now help_text c.say_blocks-in-Help.new.self
-      c.help.ensures (c.say_blocks-in-Help.ensures before said h),
-)
+returns-in-Help g c = λ before said h.
+    let done = c.say_help.ensures before said h in (
+      done.0,
+      help_done c.args.lab.now c.args.notes.now c.args.asked c.in-Help.is done.0 done.1,
+      done.2,
+    )

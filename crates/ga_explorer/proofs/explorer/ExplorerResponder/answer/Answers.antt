@@ -1,9 +1,8 @@
 use Rattle.std.proofs.Common.{◌≡◌, ◌≤◌, ◌++◌, length, Some, None, ap, subst}
-use Rattle.ga_console.specs.Replies.{Answer}
 use Rattle.ga_console.specs.kept.Turns.{Turns}
 use Rattle.ga_console.proofs.SaidLemmas.{cut_here}
 use Rattle.ga_explorer.specs.Reading.{request_in}
-use Rattle.ga_explorer.specs.Answers.{Explored}
+use Rattle.ga_explorer.specs.Answers.{Explored, AnswersOther}
 use Rattle.ga_explorer.specs.Tails.{Exploring}
 use Rattle.ga_explorer.specs.kept.Exploring.{exploring}
 use Rattle.ga_explorer.proofs.LineAnswers.{explored_line, explored_err, debugged_turn}
@@ -34,12 +33,12 @@ returns-in_ok-explored-in-Some g c = λ before said h.
 
 pub returns-in-None : goal.returns-in-None
 returns-in-None g c = λ before said h.
-    let new = exploring c.answer.new.self c.self.inside.notes in
+    let new = exploring c.answer_other.new.lab c.self.inside.notes in
     let none = subst (λ (e : Exploring). length c.args.line.now.items ≤ 200 → request_in e.notes c.args.line.now.items ≡ None) c.self.view_is c.in-None.ensures.none in
-    let done = c.answer.ensures before said h in (
+    let done = c.answer_other.ensures before said h in (
       done.0,
-      debugged_turn c.args.self.now c.args.line.now.items new c.answer.result done.0 none
+      debugged_turn c.args.self.now c.args.line.now.items new c.answer_other.result done.0 none
           (ap (λ (s : Exploring). s.notes) c.self.view_is)
-          (subst (λ (s : Exploring). Turns Answer s.lab c.args.line.now.items c.answer.new.self c.answer.result done.0) c.self.view_is done.1),
+          (subst (λ (s : Exploring). Turns AnswersOther s.lab c.args.line.now.items c.answer_other.new.lab c.answer_other.result done.0) c.self.view_is done.1),
       done.2,
     )

@@ -1,4 +1,4 @@
-use Rattle.std.proofs.Common.{ap, subst}
+use Rattle.std.proofs.Common.{ap, subst, inl, inr, length, ◌≤◌}
 use Rattle.ga_console.specs.Replies.{Answer}
 use Rattle.ga_explorer.specs.Tails.{Exploring}
 use Rattle.ga_explorer.specs.Answers.Explores.{debugged}
@@ -10,7 +10,7 @@ returns g c = λ before said h.
     let done = c.obey.ensures before said h in (
       done.0,
       λ line short spelled. debugged (λ fits. debugger_alone c.args.self.now.notes c.args.command line spelled)
-          (subst (λ (s : Exploring). Answer s.lab line done.0 c.obey.new.self) c.self.view_is (done.1 line short spelled))
+          (inl (inr (short, c.args.command, spelled), subst (λ (s : Exploring). Answer s.lab line done.0 c.obey.new.self) c.self.view_is (done.1 line short spelled)))
           (ap (λ (s : Exploring). s.notes) c.self.view_is),
       done.2,
     )

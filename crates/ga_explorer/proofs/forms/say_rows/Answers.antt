@@ -1,0 +1,41 @@
+use Rattle.std.proofs.Common.{ℕ, List, ◌++◌, [], refl, ap, ◌∙◌, arith}
+use Rattle.std.specs.Prelude.{map}
+use Rattle.ga_console.proofs.SaidLemmas.{cut_here, said_pending}
+use Rattle.ga_explorer.specs.Forms.{row_text, rows_text}
+use Rattle.ga_explorer.specs.kept.Forms.{entry_of}
+use Rattle.ga_explorer.proofs.Finding.{next_row, no_row}
+use Rattle.ga_explorer.proofs.Saying.{line_said, line_cut, all_said}
+use Rattle.ga_explorer.proofs.forms.say_rows.Goals as goal
+
+pub rows-init : goal.rows-init
+rows-init g c = λ before said h. record { front = []; splits = refl; is_said = said_pending _ before said _ h }
+
+pub returns-in_err-say_row : goal.returns-in_err-say_row
+returns-in_err-say_row g c = λ before said h.
+    let rows = c.args.rows.now in
+    let whole : List ℕ = rows_text (map entry_of rows) in
+    let done = c.rows.invariant before said h in (
+      whole,
+      refl,
+      cut_here c.from_residual.result _ before (said ++ whole) _ c.from_residual.ensures.0
+          (line_cut _ before said whole _ (row_text (entry_of c.row-item.result.now)) _ done.front
+          (next_row rows c.rows.row-index c.row-item.result.now (omega arith) c.row-item.is) done.splits
+          (c.in_err-say_row.ensures before (said ++ done.front) done.is_said)),
+    )
+
+pub rows-preserved : goal.rows-preserved
+rows-preserved g c = λ before said h.
+    let rows = c.args.rows.now in
+    let done = c.rows.invariant before said h in
+    line_said _ before said (rows_text (map entry_of rows)) _ (row_text (entry_of c.row-item.result.now)) _ done.front _
+    (next_row rows c.rows.row-index c.row-item.result.now (omega arith) c.row-item.is) done.splits
+    (c.in_ok-say_row.ensures before (said ++ done.front) done.is_said)
+
+pub returns : goal.returns
+returns g c = λ before said h.
+    let rows = c.args.rows.now in
+    let whole : List ℕ = rows_text (map entry_of rows) in (
+      whole,
+      refl,
+      all_said _ before said whole _ _ (no_row rows c.rows.row-index (omega arith)) (c.rows.invariant before said h),
+    )

@@ -1,0 +1,35 @@
+-- An image or source that stands in a file and is read before standard input (docs/REFERENCE.md, "Files"; this project's own).
+use Rattle.std.specs.Prelude.{ℕ, nat_eq, Bool, true, false, not, ◌==◌, ◌&&◌, ◌||◌, if◌then◌else◌, [], ◌∷◌, ◌++◌, length, codes}
+use Rattle.std.specs.Cmp.Lexicographic.{pointwise}
+use Rattle.core.specs.List.{starts_with, ends_with}
+use Rattle.ga_image.specs.Lines.{Text}
+use Rattle.ga_explorer.specs.Opening.{begins_as_image}
+
+-- a line `end` with its line feed stands behind another line
+unfoldable pub has_end_line : Text → Bool
+has_end_line [] = false
+has_end_line (b ∷ text) = if starts_with nat_eq (b ∷ text) (codes "\nend\n") then true else has_end_line text
+
+-- the text has a line `end` with its line feed
+abbrev pub has_end : Text → Bool
+has_end text = starts_with nat_eq text (codes "end\n") || has_end_line text
+
+-- it ends in a line `end` without one
+abbrev pub ends_in_end : Text → Bool
+ends_in_end text = pointwise nat_eq text (codes "end") || ends_with nat_eq text (codes "\nend")
+
+-- the text is an image that has no line `end`
+abbrev pub is_cut_off : Text → Bool
+is_cut_off text = begins_as_image text && (not (has_end text) && not (ends_in_end text))
+
+-- what it wants for commands to stand behind it: nothing, the line feed of its last line, or the line `end`
+abbrev pub closing : Text → Text
+closing text =
+    if has_end text then []
+    else if ends_in_end text then codes "\n"
+    else if (length text == 0) || ends_with nat_eq text (codes "\n") then codes "end\n"
+    else codes "\nend\n"
+
+-- with that
+abbrev pub closed : Text → Text
+closed text = text ++ closing text

@@ -1,0 +1,68 @@
+//! An image or source that stands in a file and is read before standard input.
+
+ghost use Rattle.std.specs.Prelude.{◌≡◌, OnOk, nat_eq};
+ghost use Rattle.ga_explorer.specs.Front.{has_end, has_end_line, ends_in_end, is_cut_off, closing, closed};
+
+use crate::opening::is_image;
+use std::alloc::AllocError;
+
+/// Whether a text is an image that goes up to no line `end`, so that no command can stand behind it.
+pub fn is_cut_off(text: &[u8]) -> bool
+    ensures { result ≡ is_cut_off text.now }
+{
+    is_image(text) && !has_end(text) && !ends_in_end(text)
+}
+
+/// Ends an image or source so that commands can stand behind it: adds the line feed of its line `end`, or that line to source that
+/// has none. A text that has its line `end` stays as it is.
+///
+/// # Errors
+/// Memory was refused. The text is as it was.
+pub fn close(text: &mut Vec<u8>) -> Result<(), AllocError>
+    ensures ok { OnOk result (text.new.items ≡ closed text.old.items) }
+{
+    text.extend_from_slice(closing(text.as_slice()))
+}
+
+/// What a text wants for commands to stand behind it.
+fn closing(text: &[u8]) -> &'static [u8]
+    ensures { result.now ≡ closing text.now }
+{
+    if has_end(text) {
+        b""
+    } else if ends_in_end(text) {
+        b"\n"
+    } else if text.is_empty() || text.ends_with(b"\n".as_slice()) {
+        b"end\n"
+    } else {
+        b"\nend\n"
+    }
+}
+
+/// Whether a text ends in a line `end` that has no line feed.
+fn ends_in_end(text: &[u8]) -> bool
+    ensures { result ≡ ends_in_end text.now }
+{
+    text == b"end".as_slice() || text.ends_with(b"\nend".as_slice())
+}
+
+/// Whether a text has a line `end` with its line feed.
+fn has_end(text: &[u8]) -> bool
+    ensures { result ≡ has_end text.now }
+{
+    text.starts_with(b"end\n".as_slice()) || has_end_line(text)
+}
+
+/// Whether a line `end` with its line feed stands behind another line of a text.
+fn has_end_line(text: &[u8]) -> bool
+    ensures { result ≡ has_end_line text.now }
+{
+    let mut rest = text;
+    'bytes: while let Some((_, more)) = rest.split_first() {
+        if rest.starts_with(b"\nend\n".as_slice()) {
+            return true;
+        }
+        rest = more;
+    }
+    false
+}
