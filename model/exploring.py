@@ -12,14 +12,14 @@ import sys
 from itertools import zip_longest
 
 from explore import Explorer, number_of
-from files import load_of
+from files import answer, load_of
 from machine import name
 from notes import Notes
 from sessions import DEFAULT_LIMIT, SECONDS, Generator
 from source import asm
 
 # How often each command comes, of 1000. The others are those of the debugger.
-COMMANDS = {"run": 250, "whence": 230, "at": 130, "races": 40, "writes": 70, "words": 60, "effects": 50, "who": 30, "chip": 20, "save": 10, "help": 2, "debug": 108}
+COMMANDS = {"run": 250, "whence": 230, "at": 130, "races": 40, "writes": 70, "words": 60, "effects": 50, "who": 30, "chip": 20, "save": 10, "help": 2, "wrong": 28, "debug": 80}
 WORDS = "dup drop over + and or @ ! @b !b a! pop push 2* 2/ - +* @+ !+ a . 1 5 0x20 0x15555 0x3ffff right left down up".split()
 CALLS = ["x", "'y a!", "'y b!", "0x22 a! !", "0x84 a! @", "io b!", "for x next", "for +* unext", "if dup then", "-if a else over then", "begin dup -until", "+cy + -cy"]
 PARTS = ["\\ a remark", "( and ) ", "  ", "\t", ".."]
@@ -134,9 +134,23 @@ class Session:
             "races": "races" + self.random.choice(("", f" {name(node)}", f" {name(self.link()[1])}")),
         }.get(chosen, chosen)
 
+    def wrong(self):
+        """A line that is a command but for one thing, mostly in its first word."""
+        draw, node = self.random, name(self.node())
+        line = draw.choice((self.run(), f"whence {node} 1", f"at {node} 1", f"words {node} 001", f"writes {node} 0a", "who", "chip", "count", f"trace {node}", f"why {node} 1 {node} 2"))
+        at = draw.randrange(len(line.split(" ")[0] if draw.random() < 0.7 else line))
+        letter = draw.choice("abcdehimnoprstuw 0")
+        return draw.choice((
+            line[:at] + line[at + 1 :], line[:at] + letter + line[at:], line[:at] + letter + line[at + 1 :], line[:at] + line[at : at + 2][::-1] + line[at + 2 :],
+            line[:at] + line[at:].capitalize(), line[:at], f"{line} ", f" {line}", f"{line}\t", f"{line}\r", f"\xef\xbb\xbf{line}",
+        ))  # fmt: skip
+
     def turn(self):
         """A command and its answer."""
         command = self.command() if self.machine.events else self.run()
+        if command == "wrong":
+            line = self.wrong()
+            return line, answer(self.machine, line)
         if command == "debug":
             return self.base.command(self.machine)
         return command, self.machine.explored(command)
@@ -158,7 +172,7 @@ def difference(program, number):
     text, limit, wanted = session(number)
     count = text.count("\n", text.index("\nend\n") + 5)
     try:
-        ran = subprocess.run([program, "explore", "--limit", str(limit)], input=text, capture_output=True, text=True, timeout=SECONDS)
+        ran = subprocess.run([program, "explore", "--limit", str(limit)], input=text, capture_output=True, encoding="latin-1", timeout=SECONDS)
     except subprocess.TimeoutExpired:
         return count, f"the program had not ended after {SECONDS} seconds"
     if ran.returncode or ran.stderr:
@@ -172,9 +186,9 @@ def difference(program, number):
 def write(folder, number):
     text, limit, wanted = session(number)
     if limit == DEFAULT_LIMIT:
-        with open(f"{folder}/exploring-{number}", "w", encoding="utf-8") as file:
+        with open(f"{folder}/exploring-{number}", "w", encoding="latin-1") as file:
             file.write(text)
-        with open(f"{folder}/exploring-{number}.stdout", "w", encoding="utf-8") as file:
+        with open(f"{folder}/exploring-{number}.stdout", "w", encoding="latin-1") as file:
             file.write("".join(line + "\n" for line in wanted))
 
 

@@ -57,7 +57,7 @@ page.open("ga144 1\\nend\\n"); page.command("run"); const quiet = told();
 return { first, second, third, seed, back, none, refused, quiet, commands, count };
 """ % FAULT)
     wanted = {
-        "first": ["made 60"], "second": ["made 60"], "third": ["made 60"], "seed": True, "back": "rounds", "none": True, "refused": ["no 31 syntax"], "quiet": ["quiet 144"],
+        "first": ["made 60"], "second": ["made 60"], "third": ["made 60"], "seed": True, "back": "rounds", "none": True, "refused": ["no 31 syntax: run [greedy|random SEED] [N] [until COND]"], "quiet": ["quiet 144"],
         "commands": "run 60\nrun greedy 60\nrun random 7 60\n", "count": True,
     }
     check({it: said[it] for it in wanted} == wanted, f"orders: {said}")

@@ -20,7 +20,7 @@ static NO_SETTINGS: [&[&str]; 15] = [
     &["ga144", "race", "--workers", "1", "--calls", "100001"],
     &["ga144", "race", "--workers", "1"],
     &["ga144", "explore", "--limit", "4000001"],
-    &["ga144", "asm", "first.f18"],
+    &["ga144", "asm", "first.f18", "second.f18"],
     &["ga144", "dis", "--limit", "3"],
 ];
 
@@ -28,7 +28,8 @@ static NO_SETTINGS: [&[&str]; 15] = [
 fn is_asked(alloc: Global, words: &[&str], wanted: Option<Settings>) -> bool {
     match arguments(alloc, words) {
         Ok(settings) => wanted == Some(settings),
-        Err(LineFault::Refused) => wanted.is_none(),
+        Err(LineFault::Refused(_)) => wanted.is_none(),
+        Err(LineFault::Memory) => false,
         Err(LineFault::Help(_)) => false,
     }
 }
@@ -105,26 +106,61 @@ fn explore_lines(rt: HostRuntime) {
         &rt,
         rt.alloc(),
         &["ga144", "explore"],
-        Some(Settings::Explore { limit: 1_000_000 }),
+        Some(Settings::Explore {
+            limit: 1_000_000,
+            file: None,
+        }),
     );
     asks(
         &rt,
         rt.alloc(),
         &["ga144", "explore", "--limit", "7"],
-        Some(Settings::Explore { limit: 7 }),
+        Some(Settings::Explore {
+            limit: 7,
+            file: None,
+        }),
     );
 }
 
 #[test]
 fn source_lines(rt: HostRuntime) {
-    asks(&rt, rt.alloc(), &["ga144", "asm"], Some(Settings::Assemble));
-    asks(&rt, rt.alloc(), &["ga144", "list"], Some(Settings::List));
+    asks(
+        &rt,
+        rt.alloc(),
+        &["ga144", "asm"],
+        Some(Settings::Assemble { file: None }),
+    );
+    asks(
+        &rt,
+        rt.alloc(),
+        &["ga144", "list", "-"],
+        Some(Settings::List { file: None }),
+    );
     asks(
         &rt,
         rt.alloc(),
         &["ga144", "dis"],
-        Some(Settings::Disassemble),
+        Some(Settings::Disassemble { file: None }),
     );
+}
+
+/// A file is named behind a word, and nothing else is.
+fn names_file(alloc: Global, words: &[&str], name: &str) -> bool {
+    match arguments(alloc, words) {
+        Ok(Settings::Assemble { file: Some(file) }) => file.as_str() == name,
+        Ok(Settings::List { file: Some(file) }) => file.as_str() == name,
+        Ok(Settings::Disassemble { file: Some(file) }) => file.as_str() == name,
+        Ok(Settings::Explore { file: Some(file), .. }) => file.as_str() == name,
+        Ok(Settings::Draw { file: Some(file), .. }) => file.as_str() == name,
+        _ => false,
+    }
+}
+
+#[test]
+fn files(rt: HostRuntime) {
+    for word in &["asm", "list", "dis", "explore", "draw"] {
+        assert!(rt; names_file(rt.alloc(), &["ga144", *word, "first.f18"], "first.f18"), "{word}");
+    }
 }
 
 /// Command lines of pictures that are refused.
@@ -158,6 +194,7 @@ fn pictures(rt: HostRuntime) {
         rewind: None,
         from: 1,
         to: 4_294_967_295,
+        file: None,
     };
     asks(&rt, rt.alloc(), &["ga144", "draw"], Some(whole));
     let part = Settings::Draw {
@@ -165,11 +202,14 @@ fn pictures(rt: HostRuntime) {
         rewind: Some((NodeId::new(143), 0)),
         from: 2,
         to: 9,
+        file: None,
     };
     asks(&rt, rt.alloc(), &PART, Some(part));
 }
 
-static HELP: [&[&str]; 4] = [
+static HELP: [&[&str]; 6] = [
+    &["ga144", "--version"],
+    &["ga144", "help", "draw"],
     &["ga144", "--help"],
     &["ga144", "-h"],
     &["ga144", "help"],
@@ -198,6 +238,29 @@ fn help_is_text(rt: HostRuntime) {
     for words in &HELP {
         helps(&rt, rt.alloc(), words, &[]);
     }
+}
+
+/// Whether a command line is refused by a text that has each of these parts.
+fn is_told(alloc: Global, words: &[&str], parts: &[&str]) -> bool {
+    let Err(LineFault::Refused(text)) = arguments(alloc, words) else {
+        return false;
+    };
+    for part in parts {
+        if !text.as_str().contains(*part) {
+            return false;
+        }
+    }
+    true
+}
+
+#[test]
+fn refusals_tell_the_word(rt: HostRuntime) {
+    let limit = ["ga144", "debug", "--limit", "0"];
+    assert!(rt; is_told(rt.alloc(), &limit, &["'0'", "--limit", "1..=4000000"]));
+    let step = ["ga144", "draw", "--cause", "1", "2"];
+    assert!(rt; is_told(rt.alloc(), &step, &["'1 2'", "--cause", "000 to 717"]));
+    let word = ["ga144", "exlpore"];
+    assert!(rt; is_told(rt.alloc(), &word, &["'exlpore'", "explore"]));
 }
 
 /// What stands in the help of source.
