@@ -151,13 +151,19 @@ fn front(rt: &HostRuntime, file: &Option<String>) -> Result<Front, ExitCode> {
 /// The bytes of a file, as far as one more than the bound of an input.
 fn held(rt: &HostRuntime, name: &str) -> io::Result<Vec<u8>> {
     let mut text = Vec::new(rt.alloc());
-    File::open(rt, name)?.take(LONGEST_FILE + 1).read_to_end(&mut text)?;
+    File::open(rt, name)?
+        .take(LONGEST_FILE + 1)
+        .read_to_end(&mut text)?;
     Ok(text)
 }
 
 /// Tells why a file can't be read: 1 for want of memory, else 2.
 fn unread_for(rt: &HostRuntime, name: &str, why: &io::Error) -> ExitCode {
-    let status = if why.kind() == ErrorKind::OutOfMemory { 1 } else { 2 };
+    let status = if why.kind() == ErrorKind::OutOfMemory {
+        1
+    } else {
+        2
+    };
     let _ = eprintln!(rt; "ga144: {name}: {why}");
     ExitCode::from(status)
 }

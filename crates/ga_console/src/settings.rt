@@ -218,8 +218,13 @@ fn race_line<'a>(alloc: Global) -> Result<Command<'a>, AllocError> {
     Command::new(alloc, "race")
         .about("Let workers step the nodes at the same time")
         .after_help(RACES)
-        .arg(number_option(alloc, "workers", "How many workers there are, 1 to 16", MOST_WORKERS)
-            .required(true))?
+        .arg(number_option(
+            alloc,
+            "workers",
+            "How many workers there are, 1 to 16",
+            MOST_WORKERS,
+        )
+        .required(true))?
         .arg(number_option(
             alloc,
             "calls",
@@ -271,8 +276,13 @@ fn draw_line<'a>(alloc: Global) -> Result<Command<'a>, AllocError> {
             u32::MAX,
         )
         .value_name("P"))?
-        .arg(number_option(alloc, "to", "Draw up to the Pth kept event, counted from 1", u32::MAX)
-            .value_name("P"))?
+        .arg(number_option(
+            alloc,
+            "to",
+            "Draw up to the Pth kept event, counted from 1",
+            u32::MAX,
+        )
+        .value_name("P"))?
         .arg(file_argument(alloc, "An image or source"))
 }
 

@@ -45,11 +45,9 @@ pub upper_at : (word : List ℕ) (i d : ℕ) → i < length word → is_upper (d
 unfolding is_upper
 upper_at word i d within = ap is_upper (drop_more word i d within)
 
-pub next_row : (rows : List Row) (i : ℕ) (d : Row) → i < length rows → d ≡ get_or rows i d
-    → rows_text (map entry_of (drop i rows)) ≡ row_text (entry_of d) ++ rows_text (map entry_of (drop (i + 1) rows))
-next_row rows i d within e =
-    ap (λ z. rows_text (map entry_of z)) (drop_more rows i d within)
-    ∙ ap (λ (z : Row). row_text (entry_of z) ++ rows_text (map entry_of (drop (i + 1) rows))) (sym e)
+pub next_row : (rows : List Row) (i : ℕ) (d : Row) → i < length rows
+    → rows_text (map entry_of (drop i rows)) ≡ row_text (entry_of (get_or rows i d)) ++ rows_text (map entry_of (drop (i + 1) rows))
+next_row rows i d within = ap (λ z. rows_text (map entry_of z)) (drop_more rows i d within)
 
 pub no_row : (rows : List Row) (i : ℕ) → length rows ≤ i → rows_text (map entry_of (drop i rows)) ≡ []
 no_row rows i past = ap (λ z. rows_text (map entry_of z)) (drop_all i rows past)

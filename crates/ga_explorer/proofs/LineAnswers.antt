@@ -51,11 +51,12 @@ other_turn s line new (Ok turn.Quit) answer of done = done
 other_turn s line new (Err failed) answer of done = other_line s line answer new of done
 
 -- it spells no command at all
-pub unread_line : (s : State) (line : List ℕ) → length line ≤ 200 → ((c : Command) → ¬ SpellsCommand c line) → AnswersLine AnswersOther s line (no_command line) s
-unread_line s line fits none = λ part kept.
+pub unread_line : (s : State) (line answer : List ℕ) → length line ≤ 200 → ((c : Command) → ¬ SpellsCommand c line) → answer ≡ no_command line
+    → AnswersLine AnswersOther s line answer s
+unread_line s line answer fits none e = λ part kept.
     let same : part ≡ line = whole line part kept fits in
-    let P : List ℕ → Type 0 = λ z. AnswersOther s z (no_command line) s × (z ≢ quit_line) in
-    subst P (sym same) (inr ((fits, none), refl, refl), λ q. none Quit q)
+    let P : List ℕ → Type 0 = λ z. AnswersOther s z answer s × (z ≢ quit_line) in
+    subst P (sym same) (inr ((fits, none), e, refl), λ q. none Quit q)
 
 pub unread_err : (s : State) (line : List ℕ) (result : Result Turn WriteFailed) (answer : List ℕ) → IsErr result → AnswersLine AnswersOther s line answer s
     → Turns AnswersOther s line s result answer

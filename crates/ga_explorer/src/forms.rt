@@ -140,21 +140,14 @@ fn rows() -> &'static [Row]
 ///
 /// # Errors
 /// A write failed.
-pub(crate) fn say_help<W: Write>(
-    output: &mut Output,
-    writer: &mut W,
-) -> Result<(), WriteFailed>
+pub(crate) fn say_help<W: Write>(output: &mut Output, writer: &mut W) -> Result<(), WriteFailed>
     ensures { Says result (λ text. text ≡ rows_text rows)
         (W.contents writer.old) output.old (W.contents writer.new) output.new }
 {
     say_rows(rows(), output, writer)
 }
 
-fn say_rows<W: Write>(
-    rows: &[Row],
-    output: &mut Output,
-    writer: &mut W,
-) -> Result<(), WriteFailed>
+fn say_rows<W: Write>(rows: &[Row], output: &mut Output, writer: &mut W) -> Result<(), WriteFailed>
     ensures { Says result (λ text. text ≡ rows_text (map entry_of rows.now))
         (W.contents writer.old) output.old (W.contents writer.new) output.new }
 {
@@ -164,11 +157,7 @@ fn say_rows<W: Write>(
     Ok(())
 }
 
-fn say_row<W: Write>(
-    row: &Row,
-    output: &mut Output,
-    writer: &mut W,
-) -> Result<(), WriteFailed>
+fn say_row<W: Write>(row: &Row, output: &mut Output, writer: &mut W) -> Result<(), WriteFailed>
     ensures { (before said : Bytes) → IsSaid (W.contents writer.old) before said output.old →
         IsSaidOrCut result (W.contents writer.new) before (said ++ row_text (entry_of row.now)) output.new }
 {
@@ -193,11 +182,7 @@ pub(crate) fn say_no_command<W: Write>(
 }
 
 /// Says what to write in place of a line that is no command.
-fn say_cure<W: Write>(
-    line: &[u8],
-    output: &mut Output,
-    writer: &mut W,
-) -> Result<(), WriteFailed>
+fn say_cure<W: Write>(line: &[u8], output: &mut Output, writer: &mut W) -> Result<(), WriteFailed>
     ensures { (before said : Bytes) → IsSaid (W.contents writer.old) before said output.old →
         IsSaidOrCut result (W.contents writer.new) before (said ++ (cure line.now ++ codes "\n")) output.new }
 {

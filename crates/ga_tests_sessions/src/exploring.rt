@@ -41,7 +41,10 @@ static CURES: [(&[u8], &[u8]); 18] = [
     (b"at 003", b"at NNN K [N]"),
     (b"words 2 3", b"words NNN MMM"),
     (b"node 2", b"node NNN"),
-    (b"run untl stop", b"run [greedy|random SEED] [N] [until COND]"),
+    (
+        b"run untl stop",
+        b"run [greedy|random SEED] [N] [until COND]",
+    ),
     (b"why 000 1", b"why NNN K MMM J"),
     (b"wrds 000 001", b"words NNN MMM"),
     (b"wordds 000 001", b"words NNN MMM"),
@@ -51,11 +54,26 @@ static CURES: [(&[u8], &[u8]); 18] = [
     (b"whx", b"who"),
     (b"untl", b"help"),
     (b"", b"help"),
-    (b"Words 000 001", b"the command is in upper case; write it in lower case"),
-    (b"count ", b"a blank stands at an end of the line; leave it out"),
-    (b"\tcount", b"a blank stands at an end of the line; leave it out"),
-    (b"count\r", b"a carriage return ends the line; end it with a line feed alone"),
-    (b"\xef\xbb\xbfcount", b"a byte order mark stands before the command; leave it out"),
+    (
+        b"Words 000 001",
+        b"the command is in upper case; write it in lower case",
+    ),
+    (
+        b"count ",
+        b"a blank stands at an end of the line; leave it out",
+    ),
+    (
+        b"\tcount",
+        b"a blank stands at an end of the line; leave it out",
+    ),
+    (
+        b"count\r",
+        b"a carriage return ends the line; end it with a line feed alone",
+    ),
+    (
+        b"\xef\xbb\xbfcount",
+        b"a byte order mark stands before the command; leave it out",
+    ),
 ];
 
 /// Whether a line is answered by its cure.

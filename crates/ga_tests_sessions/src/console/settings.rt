@@ -150,8 +150,18 @@ fn names_file(alloc: Global, words: &[&str], name: &str) -> bool {
         Ok(Settings::Assemble { file: Some(file) }) => file.as_str() == name,
         Ok(Settings::List { file: Some(file) }) => file.as_str() == name,
         Ok(Settings::Disassemble { file: Some(file) }) => file.as_str() == name,
-        Ok(Settings::Explore { file: Some(file), .. }) => file.as_str() == name,
-        Ok(Settings::Draw { file: Some(file), .. }) => file.as_str() == name,
+        Ok(
+            Settings::Explore {
+                file: Some(file),
+                ..
+            },
+        ) => file.as_str() == name,
+        Ok(
+            Settings::Draw {
+                file: Some(file),
+                ..
+            },
+        ) => file.as_str() == name,
         _ => false,
     }
 }
@@ -159,7 +169,10 @@ fn names_file(alloc: Global, words: &[&str], name: &str) -> bool {
 #[test]
 fn files(rt: HostRuntime) {
     for word in &["asm", "list", "dis", "explore", "draw"] {
-        assert!(rt; names_file(rt.alloc(), &["ga144", *word, "first.f18"], "first.f18"), "{word}");
+        assert!(rt;
+            names_file(rt.alloc(), &["ga144", *word, "first.f18"], "first.f18"),
+            "{word}"
+        );
     }
 }
 

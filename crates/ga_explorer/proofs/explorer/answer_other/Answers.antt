@@ -1,6 +1,5 @@
-use Rattle.std.proofs.Common.{◌++◌, refl}
+use Rattle.std.proofs.Common.{◌++◌}
 use Rattle.ga_console.proofs.SaidLemmas.{cut_here}
-use Rattle.ga_explorer.specs.Forms.{no_command}
 use Rattle.ga_explorer.proofs.LineAnswers.{other_turn, unread_line, unread_err}
 use Rattle.ga_explorer.proofs.explorer.answer_other.Goals as goal
 
@@ -9,18 +8,18 @@ returns-in_err-say_no_command g c = λ before said h.
     let line = c.args.line.now.items in
     let done = c.in_err-say_no_command.ensures before said h in
     let is = c.is_no_command.ensures.none c.if-is_no_command.true in (
-      no_command line,
-      unread_err c.args.lab.now line c.from_residual.result (no_command line) c.from_residual.ensures.0 (unread_line c.args.lab.now line is.0 is.1),
-      cut_here c.from_residual.result _ before (said ++ no_command line) _ c.from_residual.ensures.0 done.2,
+      done.0,
+      unread_err c.args.lab.now line c.from_residual.result done.0 c.from_residual.ensures.0 (unread_line c.args.lab.now line done.0 is.0 is.1 done.1),
+      cut_here c.from_residual.result _ before (said ++ done.0) _ c.from_residual.ensures.0 done.2,
     )
 
-pub returns-in_ok-say_no_command : goal.returns-in_ok-say_no_command
-returns-in_ok-say_no_command g c = λ before said h.
+pub returns-then-is_no_command : goal.returns-then-is_no_command
+returns-then-is_no_command g c = λ before said h.
     let line = c.args.line.now.items in
     let done = c.in_ok-say_no_command.ensures before said h in
     let is = c.is_no_command.ensures.none c.if-is_no_command.true in (
-      no_command line,
-      unread_line c.args.lab.now line is.0 is.1,
+      done.0,
+      unread_line c.args.lab.now line done.0 is.0 is.1 done.1,
       done.2,
     )
 

@@ -15,5 +15,5 @@ returns-in_err-say_blocks g c = λ before said h.
 pub returns : goal.returns
 returns g c = λ before said h.
     let row = c.args.row.now in
-    joined_said c.say_blocks-in_ok-say_blocks.result _ before said row.form.now row.does.now _
-    (c.say_blocks-in_ok-say_blocks.ensures before (said ++ row.form.now) (c.in_ok-say_blocks.ensures before said h))
+    joined_said c.say_blocks-2.result _ before said row.form.now row.does.now _
+    (c.say_blocks-2.ensures before (said ++ row.form.now) (c.in_ok-say_blocks.ensures before said h))

@@ -18,8 +18,8 @@ returns-in_err-say_row g c = λ before said h.
       whole,
       refl,
       cut_here c.from_residual.result _ before (said ++ whole) _ c.from_residual.ensures.0
-          (line_cut _ before said whole _ (row_text (entry_of c.row-item.result.now)) _ done.front
-          (next_row rows c.rows.row-index c.row-item.result.now (omega arith) c.row-item.is) done.splits
+          (line_cut _ before said whole _ _ _ done.front
+          (next_row rows c.rows.row-index _ (omega arith)) done.splits
           (c.in_err-say_row.ensures before (said ++ done.front) done.is_said)),
     )
 
@@ -27,8 +27,8 @@ pub rows-preserved : goal.rows-preserved
 rows-preserved g c = λ before said h.
     let rows = c.args.rows.now in
     let done = c.rows.invariant before said h in
-    line_said _ before said (rows_text (map entry_of rows)) _ (row_text (entry_of c.row-item.result.now)) _ done.front _
-    (next_row rows c.rows.row-index c.row-item.result.now (omega arith) c.row-item.is) done.splits
+    line_said _ before said (rows_text (map entry_of rows)) _ _ _ done.front _
+    (next_row rows c.rows.row-index _ (omega arith)) done.splits
     (c.in_ok-say_row.ensures before (said ++ done.front) done.is_said)
 
 pub returns : goal.returns
