@@ -1,7 +1,7 @@
 -- An image or source that stands in a file and is read before standard input (docs/REFERENCE.md, "Files"; this project's own).
 use Rattle.std.specs.Prelude.{ℕ, nat_eq, Bool, true, false, not, ◌==◌, ◌&&◌, ◌||◌, if◌then◌else◌, [], ◌∷◌, ◌++◌, length, codes}
 use Rattle.std.specs.Cmp.Lexicographic.{pointwise}
-use Rattle.core.specs.List.{starts_with, ends_with}
+use Rattle.std.specs.List.{starts_with, ends_with}
 use Rattle.ga_image.specs.Lines.{Text}
 use Rattle.ga_explorer.specs.Opening.{begins_as_image}
 
