@@ -54,6 +54,7 @@ fn has_end(text: &[u8]) -> bool
 }
 
 /// Whether a line `end` with its line feed stands behind another line of a text.
+#[tactic(auto, unfolding(crate::specs::Front::has_end_line))]
 fn has_end_line(text: &[u8]) -> bool
     ensures { result ≡ has_end_line text.now }
 {

@@ -1,5 +1,6 @@
-use Rattle.std.proofs.Common.{◌++◌}
+use Rattle.std.proofs.Common.{◌++◌, ap, ◌∙◌}
 use Rattle.ga_console.proofs.SaidLemmas.{cut_here}
+use Rattle.ga_explorer.specs.Forms.{no_command}
 use Rattle.ga_explorer.proofs.LineAnswers.{other_turn, unread_line, unread_err}
 use Rattle.ga_explorer.proofs.explorer.answer_other.Goals as goal
 
@@ -9,7 +10,7 @@ returns-in_err-say_no_command g c = λ before said h.
     let done = c.in_err-say_no_command.ensures before said h in
     let is = c.is_no_command.ensures.none c.if-is_no_command.true in (
       done.0,
-      unread_err c.args.lab.now line c.from_residual.result done.0 c.from_residual.ensures.0 (unread_line c.args.lab.now line done.0 is.0 is.1 done.1),
+      unread_err c.args.lab.now line c.from_residual.result done.0 c.from_residual.ensures.0 (unread_line c.args.lab.now line done.0 is.0 is.1 (done.1 ∙ ap no_command c.as_slice.ensures.value)),
       cut_here c.from_residual.result _ before (said ++ done.0) _ c.from_residual.ensures.0 done.2,
     )
 
@@ -19,7 +20,7 @@ returns-then-is_no_command g c = λ before said h.
     let done = c.in_ok-say_no_command.ensures before said h in
     let is = c.is_no_command.ensures.none c.if-is_no_command.true in (
       done.0,
-      unread_line c.args.lab.now line done.0 is.0 is.1 done.1,
+      unread_line c.args.lab.now line done.0 is.0 is.1 (done.1 ∙ ap no_command c.as_slice.ensures.value),
       done.2,
     )
 

@@ -3,7 +3,7 @@ use Rattle.ga_explorer.specs.Front.{has_end_line}
 use Rattle.ga_explorer.proofs.front.has_end_line.Given as goal
 
 abbrev pub invariant-bytes : goal.invariant-bytes
-invariant-bytes l = has_end_line l.rest.now ≡ has_end_line l.text.now
+invariant-bytes l = has_end_line l.rest ≡ has_end_line l.text
 
 abbrev pub decreases-bytes : goal.decreases-bytes
-decreases-bytes l = length l.rest.now
+decreases-bytes l = length l.rest
