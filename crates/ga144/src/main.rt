@@ -130,11 +130,11 @@ fn front(rt: &HostRuntime, file: &Option<String>) -> Result<Front, ExitCode> {
     let name = name.as_str();
     match held(rt, name) {
         Ok(mut text) => {
-            if is_cut_off(text.as_slice()) {
-                return Ok(Front { text, behind: 0 });
-            }
             if text.len() as u64 > LONGEST_FILE {
                 return Err(unread(rt, name, "more than 16777216 bytes", 1));
+            }
+            if is_cut_off(text.as_slice()) {
+                return Ok(Front { text, behind: 0 });
             }
             match close(&mut text) {
                 Ok(()) => Ok(Front {
