@@ -70,11 +70,7 @@ fn say_list<W: Write>(
 }
 
 /// Says one of them.
-fn say_race<W: Write>(
-    race: Race,
-    output: &mut Output,
-    writer: &mut W,
-) -> Result<(), WriteFailed>
+fn say_race<W: Write>(race: Race, output: &mut Output, writer: &mut W) -> Result<(), WriteFailed>
     ensures { (before said : Bytes) → IsSaid (W.contents writer.old) before said output.old →
         IsSaidOrCut result (W.contents writer.new) before (said ++ race_text race) output.new }
 {

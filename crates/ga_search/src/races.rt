@@ -252,11 +252,7 @@ fn is_quiet(chip: &Chip) -> bool
 ///
 /// # Errors
 /// `Memory` alone.
-pub fn find_races(
-    alloc: Global,
-    lab: &mut Lab,
-    only: Option<NodeId>,
-) -> Result<Races, LabFault>
+pub fn find_races(alloc: Global, lab: &mut Lab, only: Option<NodeId>) -> Result<Races, LabFault>
     ensures list { IfOk result (λ races. races.list.items ≡ races_asked lab.old only) }
     ensures looks { IfOk result (λ races. races.looks ≡ has_looks (causes_of lab.old) (chip_of lab.old)) }
     ensures quiet { IfOk result (λ races. races.quiet ≡ is_none (first_ready (chip_of lab.old))) }

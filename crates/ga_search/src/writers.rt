@@ -101,13 +101,7 @@ fn may_read(lab: &Lab, node: NodeId, at: u32, side: Side) -> bool
 
 /// Whether a word may be offered to the node over the side, were its step taken back, which none is where this is false: the neighbour
 /// ever waited to write there, and the node waited for a word there right before the step.
-pub(crate) fn may_come(
-    lab: &Lab,
-    writers: &Writers,
-    node: NodeId,
-    step: u32,
-    side: Side,
-) -> bool
+pub(crate) fn may_come(lab: &Lab, writers: &Writers, node: NodeId, step: u32, side: Side) -> bool
     requires silent { AreSilent lab.now node.number writers.now }
     requires stands { stands lab.now node.number step ≡ true }
     ensures { result ≡ false → offered (chip_of (rewound lab.now node.number step)) node.number side ≡ None }

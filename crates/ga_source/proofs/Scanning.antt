@@ -118,8 +118,8 @@ module _ (line : ℕ) (rest whole first behind : List ℕ) (e : lines_of rest �
   line_said : said_from line (lines_of rest) ≡ (if bytes_eq first (codes "end") then [] else said_by line first ++ said_from (next_line line) (lines_of behind))
   unfolding said_from
   line_said =
-    ap (said_from line) e
-    ∙ ap (λ (text : List ℕ). if bytes_eq text (codes "end") then [] else said_by line text ++ said_from (next_line line) (lines_of behind)) (sym without)
+      ap (said_from line) e
+      ∙ ap (λ (text : List ℕ). if bytes_eq text (codes "end") then [] else said_by line text ++ said_from (next_line line) (lines_of behind)) (sym without)
 
   -- a line `end`
   pub at_end_line : bytes_eq first (codes "end") ≡ true → up_to_fault (said_from line (lines_of rest)) ≡ []

@@ -4,8 +4,8 @@ use ga_grid::{Chip, NodeId};
 use ga_lab::{Lab, LabFault, Made};
 use ga_node::{Kind, Place};
 use ga_search::{
-    Condition, Effect, End, Race, Ran, Schedule, Sent, Words, are_linked, count_words, find_effects,
-    find_races, find_stuck, run,
+    Condition, Effect, End, Race, Ran, Schedule, Sent, Words, are_linked, count_words,
+    find_effects, find_races, find_stuck, run,
 };
 use ga_word::Word18;
 use std::alloc::Global;
