@@ -107,6 +107,7 @@ function listen(page, examples) {
 // Source runs until a node stops, or for some events, so that there is something to see.
 function choose_example(page, examples, name) {
   const text = examples[name];
+  if (text === undefined) return;
   if (!is_source(text)) page.open(steps_of(text));
   else if (page.open(text)) { page.command("run 300 until stop"); page.picture.begin(); page.draw_picture(); }
   find("examples").value = name;
