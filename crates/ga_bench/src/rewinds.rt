@@ -39,7 +39,7 @@ const SENDER: [u32; 4] = [0x4b12, 0x1d5, 0x2a, 0x89b2];
 const LOOKER: [u32; 4] = [0x1f04, 0x10000, 0, 0];
 
 /// A lab in which the last node has made so many own events, and then each pair has passed its word: the first node of a pair
-/// sends a literal to the right, and the second takes it.
+/// sends a literal to the right, and the second takes it. None where fewer events were made.
 fn passed(alloc: Global, own: u32) -> Option<Lab> {
     let mut chip = Chip::new(alloc).ok()?;
     for pair in 0..PAIRS {
@@ -48,7 +48,9 @@ fn passed(alloc: Global, own: u32) -> Option<Lab> {
     }
     load(&mut chip, NodeId::new(143), [0x10000, 0, 0, 0]);
     let mut lab = Lab::new(alloc, chip, u32::MAX).ok()?;
-    let _made = steps(&mut lab, NodeId::new(143), own);
+    if steps(&mut lab, NodeId::new(143), own) < own {
+        return None;
+    }
     for pair in 0..PAIRS {
         let _sent = steps(&mut lab, NodeId::new(2 * pair), 7);
         let _took = steps(&mut lab, NodeId::new(2 * pair + 1), 5);
@@ -179,7 +181,7 @@ fn load_late(chip: &mut Chip, node: NodeId, words: [u32; 8], count: u32) {
 }
 
 /// A lab in which node 100 looked at its neighbours again and again, and then node 000 and node 001 made own events, each of the three
-/// so many times four events, before node 000 sent a word to node 001.
+/// so many times four events, before node 000 sent a word to node 001. None where fewer were made.
 fn passed_late(alloc: Global, count: u32) -> Option<Lab> {
     let mut chip = Chip::new(alloc).ok()?;
     load_late(&mut chip, NodeId::new(0), LATE_SENDER, count);
@@ -187,9 +189,12 @@ fn passed_late(alloc: Global, count: u32) -> Option<Lab> {
     load(&mut chip, NodeId::new(18), LOOKER);
     let mut lab = Lab::new(alloc, chip, u32::MAX).ok()?;
     let own = count.saturating_mul(4);
-    let _looked = steps(&mut lab, NodeId::new(18), own);
-    let _sent = steps(&mut lab, NodeId::new(0), own.saturating_add(17));
-    let _took = steps(&mut lab, NodeId::new(1), own.saturating_add(15));
+    let looked = steps(&mut lab, NodeId::new(18), own);
+    let sent = steps(&mut lab, NodeId::new(0), own.saturating_add(17));
+    let took = steps(&mut lab, NodeId::new(1), own.saturating_add(15));
+    if looked.min(sent).min(took) < own {
+        return None;
+    }
     Some(lab)
 }
 
