@@ -1,9 +1,9 @@
 -- A command that is looked for row by row, and a letter byte by byte.
-use Rattle.std.proofs.Common.{◌≡◌, ℕ, ◌+◌, ◌<◌, ◌≤◌, ◌++◌, [], ◌||◌, ◌&&◌, List, length, drop, get_or, Bool, true, false, nat_eq, nat_le, if◌then◌else◌, Option, Some, None, sym, ap, ◌∙◌}
+use Rattle.std.proofs.Common.{◌≡◌, ℕ, ◌+◌, ◌<◌, ◌≤◌, ◌++◌, [], ◌||◌, ◌&&◌, List, length, drop, get_or, Bool, true, false, nat_eq, nat_le, if◌then◌else◌, Some, sym, ap, ◌∙◌}
 use Rattle.std.specs.Prelude.{map}
 use Rattle.std.specs.Cmp.Lexicographic.{pointwise}
 use Rattle.std.proofs.lemmas.List.{drop_more, drop_all}
-use Rattle.ga_explorer.specs.Forms.{Entry, form_in, near_form_in, is_near, is_upper, row_text, rows_text}
+use Rattle.ga_explorer.specs.Forms.{form_in, near_form_in, is_near, is_upper, row_text, rows_text}
 use Rattle.ga_explorer.specs.kept.Forms.{entry_of}
 use Rattle.ga_explorer.specs.declared.forms.Row.{Row}
 

@@ -1,6 +1,6 @@
 -- How exploring answers a line, of which the first bytes are here.
 use Rattle.std.specs.Prelude.{Option}
-use Rattle.std.proofs.Common.{◌≡◌, ◌≢◌, ◌<◌, ◌≤◌, ◌⊎◌, inl, inr, refl, ℕ, List, take, length, Some, None, sym, ap, ◌∙◌, subst, arith, rules, length-take, Result, Ok, Err}
+use Rattle.std.proofs.Common.{◌≡◌, ◌≢◌, ◌≤◌, inl, inr, refl, ℕ, List, take, length, Some, None, sym, ap, ◌∙◌, subst, arith, rules, length-take, Result, Ok, Err}
 use Rattle.std.specs.Result.{IsErr}
 use Rattle.std.proofs.lemmas.List.{take_all}
 use Rattle.ga_console.specs.Replies.{Answer}

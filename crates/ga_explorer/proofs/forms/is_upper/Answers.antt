@@ -1,4 +1,4 @@
-use Rattle.std.proofs.Common.{◌∙◌, ◌||◌, Bool, ap, sym, arith, drop, ◌+◌, slice_index_or}
+use Rattle.std.proofs.Common.{◌∙◌, ◌||◌, Bool, ap, sym, arith, drop, ◌+◌}
 use Rattle.std.proofs.lemmas.List.{drop_all}
 use Rattle.ga_explorer.specs.Forms.{is_upper}
 use Rattle.ga_explorer.proofs.Finding.{upper_at}

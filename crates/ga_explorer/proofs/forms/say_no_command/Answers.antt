@@ -1,4 +1,4 @@
-use Rattle.std.proofs.Common.{ℕ, List, ◌++◌, refl, ap, ◌∙◌}
+use Rattle.std.proofs.Common.{◌++◌, refl}
 use Rattle.std.specs.Prelude.{codes}
 use Rattle.ga_console.proofs.SaidLemmas.{cut_here, cut_within}
 use Rattle.ga_explorer.specs.Forms.{cure, no_command}

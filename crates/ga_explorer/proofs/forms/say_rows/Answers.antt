@@ -1,7 +1,7 @@
-use Rattle.std.proofs.Common.{ℕ, List, ◌++◌, [], refl, ap, ◌∙◌, arith}
+use Rattle.std.proofs.Common.{ℕ, List, ◌++◌, [], refl, arith}
 use Rattle.std.specs.Prelude.{map}
 use Rattle.ga_console.proofs.SaidLemmas.{cut_here, said_pending}
-use Rattle.ga_explorer.specs.Forms.{row_text, rows_text}
+use Rattle.ga_explorer.specs.Forms.{rows_text}
 use Rattle.ga_explorer.specs.kept.Forms.{entry_of}
 use Rattle.ga_explorer.proofs.Finding.{next_row, no_row}
 use Rattle.ga_explorer.proofs.Saying.{line_said, line_cut, all_said}

@@ -1,4 +1,4 @@
-use Rattle.std.proofs.Common.{ap, subst, inl, inr, length, ◌≤◌}
+use Rattle.std.proofs.Common.{ap, subst, inl, inr}
 use Rattle.ga_console.specs.Replies.{Answer}
 use Rattle.ga_explorer.specs.Tails.{Exploring}
 use Rattle.ga_explorer.specs.Answers.Explores.{debugged}
