@@ -1,4 +1,4 @@
-use Rattle.std.proofs.Common.{◌++◌, ap}
+use Rattle.std.proofs.Common.{ap}
 use Rattle.ga_explorer.specs.Tails.{step_tail}
 use Rattle.ga_explorer.proofs.Told.{told_as}
 use Rattle.ga_explorer.proofs.tail_text.say_walk_tail.Goals as goal
