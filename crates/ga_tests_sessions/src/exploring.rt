@@ -321,7 +321,7 @@ const ON_SOURCE: &[u8] =
 
 /// What is answered: that nobody has the first label, and what the source says of the first step's cell.
 const TOLD_OF_SOURCE: &[u8] =
-    b"ready\nno 31 syntax\nmade 2\n000 1 fetch t 015555 s 015555 r 015555 a 000000 b 00015d p 000001 \\ 000 main 2: : main 5 b! dup main ;\n";
+    b"ready\nno 31 syntax: run [greedy|random SEED] [N] [until COND]\nmade 2\n000 1 fetch t 015555 s 015555 r 015555 a 000000 b 00015d p 000001 \\ 000 main 2: : main 5 b! dup main ;\n";
 
 #[test]
 fn lines_of_a_source(rt: HostRuntime) {
