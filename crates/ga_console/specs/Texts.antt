@@ -1,5 +1,5 @@
 -- The texts of answers, each ended by a line feed (docs/REFERENCE.md, "Sessions"; this project's own).
-use Rattle.std.specs.Prelude.{ℕ, ◌==◌, nat_lt, ◌&&◌, if◌then◌else◌, [], ◌∷◌, ◌++◌, flat_map, codes, decimal}
+use Rattle.std.specs.Prelude.{ℕ, ◌==◌, if◌then◌else◌, ◌++◌, codes, decimal}
 use Rattle.std.specs.Int.{from_bool}
 use Rattle.ga_image.specs.Lines.{Text}
 use Rattle.ga_word.specs.Word.{hex6_of}
@@ -136,16 +136,3 @@ no_input = codes "no 33 input\n"
 -- how an image is refused
 abbrev pub image_fault_text : ImageFault → Text
 image_fault_text fault = codes "no " ++ decimal (cause_number fault.cause) ++ codes " " ++ cause_word fault.cause ++ codes " line " ++ decimal fault.line ++ codes "\n"
-
--- ---- what standard error is told of a word of source
-
--- a byte that a terminal shows stands as it is, and any other as `\x` and its two hexadecimal digits
-abbrev pub shown_byte : ℕ → Text
-shown_byte byte = if nat_lt 32 byte && nat_lt byte 127 then byte ∷ [] else codes "\\x" ++ hex2_of byte
-
-abbrev pub shown : Text → Text
-shown word = flat_map shown_byte word
-
--- a word that says nothing
-abbrev pub unknown_text : ℕ → Text → Text
-unknown_text line word = codes "ga144: line " ++ decimal line ++ codes ": what is " ++ shown word ++ codes "\n"

@@ -2,7 +2,7 @@
 ghost use Rattle.std.specs.Prelude.{◌≡◌, ◌+◌, ◌*◌, ◌≤◌, [], ◌++◌, take, length};
 ghost use Rattle.arrayvec.specs.ArrayVec.{array_vec_len};
 ghost use Rattle.ga_node.specs.State.{IsPlace};
-ghost use Rattle.ga_console.specs.Texts.{shown_byte, shown, unknown_text};
+ghost use Rattle.ga_console.specs.kept.Texts.{shown_byte, shown, unknown_text};
 
 use super::output::write_all;
 use super::text::{Text, push_byte, push_number, push_text};

@@ -1,6 +1,6 @@
 use Rattle.std.proofs.Common.{ℕ, List, ◌∙◌, ◌++◌, ap, arith, refl}
 use Rattle.std.specs.Prelude.{slice_index}
-use Rattle.ga_console.specs.Texts.{shown_byte}
+use Rattle.ga_console.specs.kept.Texts.{shown_byte}
 use Rattle.ga_console.proofs.ListedLemmas.{listed_none, listed_more, listed_all}
 use Rattle.ga_console.proofs.faults.push_shown.Goals as goal
 
