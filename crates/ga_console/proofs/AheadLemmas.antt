@@ -1,17 +1,16 @@
 -- A command in front of a text.
-use Rattle.std.proofs.Common.{◌≡◌, ◌≢◌, ◌<◌, ℕ, ◌+◌, ◌≤◌, false, List, [], ◌∷◌, ◌++◌, length, take, drop, suc, drop-cons, length-take, take-append-drop, get_or, Some, refl, sym, ap, ◌∙◌, arith, append_assoc}
+use Rattle.std.proofs.Common.{◌≡◌, ◌≢◌, ◌<◌, ℕ, ◌+◌, ◌*◌, ◌/◌, ◌%◌, ◌≤◌, false, List, [], ◌∷◌, ◌++◌, length, take, drop, suc, drop-cons, length-take, take-append-drop, get_or, refl, sym, ap, ◌∙◌, arith, append_assoc}
 use Rattle.std.proofs.lemmas.List.Elements.{All-from_recursion}
+use Rattle.ga_grid.specs.Grid.{yxx_of}
 use Rattle.ga_grid.specs.declared.node_id.NodeId.{NodeId}
 use Rattle.ga_console.specs.Texts.{name_of}
 use Rattle.ga_console.specs.Lines.{HasNoFeed, is_feed}
 use Rattle.ga_console.specs.Commands.{SpellsCommand}
-use Rattle.ga_console.specs.Parsing.{node_in}
 use Rattle.ga_console.specs.kept.Ahead.{IsAhead}
 use Rattle.ga_console.specs.declared.command.Command.{Command}
 use Rattle.ga_console.specs.declared.command.Command.TheVariants.{Step, Quit}
 use Rattle.std.proofs.Math.Seq.{drop-append-add}
 use Rattle.ga_console.proofs.PartLemmas.{not_feed}
-use Rattle.ga_console.proofs.Taking.{node_name}
 
 -- the first nine of some bytes
 nine : (text : List ℕ) → 9 ≤ length text
@@ -37,21 +36,38 @@ step_feeds node = All-from_recursion (λ b. is_feed b ≡ false) (step_line node
     (refl, (refl, (refl, (refl, (refl, (not_feed _ (omega arith), (not_feed _ (omega arith), (not_feed _ (omega arith), tt))))))))
 
 pub step_front : (text : List ℕ) (node : NodeId) → 9 ≤ length text
-    → (get_or text 0 0 ≡ 115) → (get_or text 1 0 ≡ 116) → (get_or text 2 0 ≡ 101) → (get_or text 3 0 ≡ 112) → (get_or text 4 0 ≡ 32) → (get_or text 8 0 ≡ 10)
-    → Some node ≡ node_in (get_or text 5 0 ∷ get_or text 6 0 ∷ get_or text 7 0 ∷ []) → IsAhead text (Step node) 8
+    → (get_or text 0 0 ≡ 115) → (get_or text 1 0 ≡ 116) → (get_or text 2 0 ≡ 101) → (get_or text 3 0 ≡ 112) → (get_or text 4 0 ≡ 32)
+    → (name_of node ++ 10 ∷ []) ≡ (get_or text 5 0 ∷ get_or text 6 0 ∷ get_or text 7 0 ∷ get_or text 8 0 ∷ []) → IsAhead text (Step node) 8
 unfolding step_line
-step_front text node long b0 b1 b2 b3 b4 b8 found =
-    let name = node_name (get_or text 5 0 ∷ get_or text 6 0 ∷ get_or text 7 0 ∷ []) node (sym found) in
-    record {
-      line = step_line node;
-      more = drop 9 text;
-      splits = nine text long ∙ rw (b0, b1, b2, b3, b4, b8) (ap (λ (t : List ℕ). 115 ∷ 116 ∷ 101 ∷ 112 ∷ 32 ∷ (t ++ 10 ∷ drop 9 text)) name);
-      no_feed = step_feeds node;
-      counts = refl;
-      short = omega arith;
-      spelled = refl;
-      not_quit = λ q. absurd (let bad = q in cc);
-    }
+step_front text node long b0 b1 b2 b3 b4 name = record {
+  line = step_line node;
+  more = drop 9 text;
+  splits = nine text long ∙ rw (b0, b1, b2, b3, b4) (ap (λ (t : List ℕ). 115 ∷ 116 ∷ 101 ∷ 112 ∷ 32 ∷ (t ++ drop 9 text)) (sym name));
+  no_feed = step_feeds node;
+  counts = refl;
+  short = omega arith;
+  spelled = refl;
+  not_quit = λ q. absurd (let bad = q in cc);
+}
+
+-- bytes that are the same number are the same
+pub same_bytes : (a b c d e f g h : ℕ) → a < 256 → b < 256 → c < 256 → d < 256 → e < 256 → f < 256 → g < 256 → h < 256
+    → a + 256 * b + 65536 * c + 16777216 * d ≡ e + 256 * f + 65536 * g + 16777216 * h → (a ≡ e) × (b ≡ f) × (c ≡ g) × (d ≡ h)
+same_bytes a b c d e f g h ka kb kc kd ke kf kg kh sums =
+    let one : a ≡ e = omega arith in
+    let two : b ≡ f = omega arith in
+    let three : c ≡ g = omega arith in (one, two, three, omega arith)
+
+-- a name and a space are the same number as these bytes and what a space has more than a line feed
+pub name_same : (node : NodeId) (four : List ℕ) (row tens ones feed : ℕ) → four ≡ name_of node ++ 32 ∷ [] → row < 256 → tens < 256 → ones < 256 → feed < 256
+    → get_or four 0 0 + 256 * get_or four 1 0 + 65536 * get_or four 2 0 + 16777216 * get_or four 3 0 ≡ row + 256 * tens + 65536 * ones + 16777216 * feed + 369098752
+    → (name_of node ++ 10 ∷ []) ≡ (row ∷ tens ∷ ones ∷ feed ∷ [])
+name_same node four row tens ones feed e kr kt ko kf sums =
+    let small : node.number < 144 = node.in_range in
+    let n = yxx_of node.number in
+    let whole : 48 + n / 100 + 256 * (48 + n / 10 % 10) + 65536 * (48 + n % 10) + 16777216 * 32 ≡ row + 256 * tens + 65536 * ones + 16777216 * feed + 369098752 = rw e at sums in
+    let same = same_bytes (48 + n / 100) (48 + n / 10 % 10) (48 + n % 10) 10 row tens ones feed (omega arith) (omega arith) (omega arith) (omega arith) kr kt ko kf (omega arith) in
+    rw (← same.0, ← same.1, ← same.2, ← same.3) refl
 
 -- a whole line in front of a text, with the line feed behind it
 pub line_front : (text : List ℕ) (asked : Command) (count : ℕ) → count < length text → HasNoFeed (take count text) → get_or text count 0 ≡ 10 → count ≤ 200

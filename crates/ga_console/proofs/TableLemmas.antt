@@ -47,25 +47,32 @@ three_bytes n below =
     let f : n % 256 / 16 ^ 0 % 16 ≡ n / 16 ^ 0 % 16 = omega arith in
     rw (a, b, c, d, e, f) refl
 
--- so many names of the table of names are these
+-- so many names of the table of names are these, each with a space behind it
+abbrev row_is : ℕ → Bool
+row_is n = get_or NAMES (4 * n) 0 == 48 + n / 18 && get_or NAMES (4 * n + 1) 0 == 48 + n % 18 / 10
+
+abbrev ones_are : ℕ → Bool
+ones_are n = get_or NAMES (4 * n + 2) 0 == 48 + n % 18 % 10 && get_or NAMES (4 * n + 3) 0 == 32
+
 abbrev names : ℕ → Bool
 names zero = true
-names (suc n) = (get_or NAMES (3 * n) 0 == 48 + n / 18 && (get_or NAMES (3 * n + 1) 0 == 48 + n % 18 / 10 && get_or NAMES (3 * n + 2) 0 == 48 + n % 18 % 10)) && names n
+names (suc n) = (row_is n && ones_are n) && names n
 
 name_at : (count n : ℕ) → names count ≡ true → n < count
-    → (get_or NAMES (3 * n) 0 ≡ 48 + n / 18) × (get_or NAMES (3 * n + 1) 0 ≡ 48 + n % 18 / 10) × (get_or NAMES (3 * n + 2) 0 ≡ 48 + n % 18 % 10)
+    → (get_or NAMES (4 * n) 0 ≡ 48 + n / 18) × (get_or NAMES (4 * n + 1) 0 ≡ 48 + n % 18 / 10) × (get_or NAMES (4 * n + 2) 0 ≡ 48 + n % 18 % 10) × (get_or NAMES (4 * n + 3) 0 ≡ 32)
 name_at zero n all below = absurd (omega arith)
 name_at (suc count) n all below =
-    let (here, rest) = both (get_or NAMES (3 * count) 0 == 48 + count / 18 && (get_or NAMES (3 * count + 1) 0 == 48 + count % 18 / 10 && get_or NAMES (3 * count + 2) 0 == 48 + count % 18 % 10)) (names count) all in
+    let (here, rest) = both (row_is count && ones_are count) (names count) all in
     elim (eq-zero-or-pos (count - n)) [
       | inl z ↦ let e : n ≡ count = omega arith in
-          let (one, more) = both (get_or NAMES (3 * count) 0 == 48 + count / 18) (get_or NAMES (3 * count + 1) 0 == 48 + count % 18 / 10 && get_or NAMES (3 * count + 2) 0 == 48 + count % 18 % 10) here in
-          let (two, three) = both (get_or NAMES (3 * count + 1) 0 == 48 + count % 18 / 10) (get_or NAMES (3 * count + 2) 0 == 48 + count % 18 % 10) more in
-          rw e (same _ _ one, same _ _ two, same _ _ three)
+          let (front, back) = both (row_is count) (ones_are count) here in
+          let (one, two) = both (get_or NAMES (4 * count) 0 == 48 + count / 18) (get_or NAMES (4 * count + 1) 0 == 48 + count % 18 / 10) front in
+          let (three, four) = both (get_or NAMES (4 * count + 2) 0 == 48 + count % 18 % 10) (get_or NAMES (4 * count + 3) 0 == 32) back in
+          rw e (same _ _ one, same _ _ two, same _ _ three, same _ _ four)
       | inr g ↦ name_at count n rest (omega arith)
     ]
 
--- the digits of a node's name: its row, and two of its column
-pub name_triple : (n : ℕ) → n < 144
-    → (get_or NAMES (3 * n) 0 ≡ 48 + n / 18) × (get_or NAMES (3 * n + 1) 0 ≡ 48 + n % 18 / 10) × (get_or NAMES (3 * n + 2) 0 ≡ 48 + n % 18 % 10)
-name_triple n below = name_at 144 n refl below
+-- a node's name and a space: its row, and two digits of its column
+pub name_four : (n : ℕ) → n < 144
+    → (get_or NAMES (4 * n) 0 ≡ 48 + n / 18) × (get_or NAMES (4 * n + 1) 0 ≡ 48 + n % 18 / 10) × (get_or NAMES (4 * n + 2) 0 ≡ 48 + n % 18 % 10) × (get_or NAMES (4 * n + 3) 0 ≡ 32)
+name_four n below = name_at 144 n refl below

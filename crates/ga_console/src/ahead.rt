@@ -1,10 +1,12 @@
 //! A command whose line was read whole, found where it stands.
-ghost use Rattle.std.specs.Prelude.{◌≡◌, IfSome};
-ghost use Rattle.std.specs.Bool.{OnTrue};
+ghost use Rattle.std.specs.Prelude.{◌≡◌, ◌+◌, ◌*◌, [], ◌∷◌, ◌++◌, IfSome, codes};
+ghost use Rattle.ga_console.specs.Texts.{name_of};
 ghost use Rattle.ga_console.specs.kept.Ahead.{IsAhead};
 
-use super::command::{Command, command_of, node_named};
+use super::command::{Command, command_of};
 use super::input::feed_at;
+use super::text::name_spaced;
+use ga_grid::NodeId;
 use ga_image::LINE_LIMIT;
 
 /// The bytes of a line `step NNN`.
@@ -13,16 +15,46 @@ const STEP_LINE: usize = b"step NNN".len();
 /// The bytes of a line `back`.
 const BACK_LINE: usize = b"back".len();
 
-/// Whether four bytes are those of `step`, by one comparison.
+/// `step`, as `word_of` reads it.
+const STEP: u64 = 0x7065_7473;
+
+/// What a space has more than a line feed, as the fourth byte.
+const SPACE_FOR_FEED: u64 = 0x1600_0000;
+
+/// What leaves the values of three digits, and nothing of a line feed behind them, in the lower 32 bits.
+const NO_DIGITS: u64 = 0x1_0000_0000 - 0x0a30_3030;
+
+/// What gathers 18 rows, ten tens and the ones in the fourth byte.
+const WEIGHTS: u64 = 0x120a_0101;
+
+/// Four bytes in one number, which is compared at once.
 #[inline(always)]
-fn is_step(first: u8, second: u8, third: u8, fourth: u8) -> bool
-    ensures { OnTrue result ((first ≡ 115) × (second ≡ 116) × (third ≡ 101) × (fourth ≡ 112)) }
+fn word_of(first: u8, second: u8, third: u8, fourth: u8) -> u64
+    ensures { result ≡ first + 256 * second + 65536 * third + 16777216 * fourth }
 {
-    u32::from(first)
-        + 0x100 * u32::from(second)
-        + 0x1_0000 * u32::from(third)
-        + 0x100_0000 * u32::from(fourth)
-        == 0x7065_7473
+    u64::from(first)
+        + 0x100 * u64::from(second)
+        + 0x1_0000 * u64::from(third)
+        + 0x100_0000 * u64::from(fourth)
+}
+
+/// The node whose name and a line feed these bytes are. The weighted digits guess it, and its name decides.
+#[inline(always)]
+fn node_ahead(row: u8, tens: u8, ones: u8, feed: u8) -> Option<NodeId>
+    ensures { IfSome result (λ node. (name_of node ++ codes "\n") ≡ (row ∷ tens ∷ ones ∷ feed ∷ [])) }
+{
+    let word = word_of(row, tens, ones, feed);
+    let guess = (word + NO_DIGITS) * WEIGHTS / 0x100_0000 % 0x100;
+    if guess >= 144 {
+        return None;
+    }
+    let node = NodeId::new(guess as u8);
+    let [first, second, third, space] = name_spaced(node);
+    if word_of(first, second, third, space) == word + SPACE_FOR_FEED {
+        Some(node)
+    } else {
+        None
+    }
 }
 
 /// The command that the first line of a text spells, and how many bytes the line has before its line feed. None where the text
@@ -31,20 +63,28 @@ fn is_step(first: u8, second: u8, third: u8, fourth: u8) -> bool
 pub fn command_ahead(text: &[u8]) -> Option<(Command, usize)>
     ensures { IfSome result (λ ahead. IsAhead text.now ahead.0 ahead.1) }
 {
-    match text {
-        [s, t, e, p, b' ', row, tens, ones, b'\n', ..] => {
-            if is_step(*s, *t, *e, *p) {
-                let node = node_named(*row, *tens, *ones)?;
-                return Some((Command::Step(node), STEP_LINE));
-            }
-            line_ahead(text)
+    if let [s, t, e, p, b' ', row, tens, ones, feed, ..] = text {
+        if word_of(*s, *t, *e, *p) == STEP {
+            let node = node_ahead(*row, *tens, *ones, *feed)?;
+            return Some((Command::Step(node), STEP_LINE));
         }
+    }
+    other_ahead(text)
+}
+
+/// The same of any command but `step`.
+#[inline(always)]
+fn other_ahead(text: &[u8]) -> Option<(Command, usize)>
+    ensures { IfSome result (λ ahead. IsAhead text.now ahead.0 ahead.1) }
+{
+    match text {
         [b'b', b'a', b'c', b'k', b'\n', ..] => Some((Command::Back, BACK_LINE)),
         _ => line_ahead(text),
     }
 }
 
 /// The same, by looking for the line feed.
+#[inline(always)]
 fn line_ahead(text: &[u8]) -> Option<(Command, usize)>
     ensures { IfSome result (λ ahead. IsAhead text.now ahead.0 ahead.1) }
 {

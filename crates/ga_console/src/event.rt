@@ -13,6 +13,9 @@ use ga_lab::{Counts, LabFault, Made};
 use ga_node::Kind;
 use ga_word::Word18;
 
+/// What a fetch is told as, and the end of its line.
+static FETCH: [u8; 7] = *b" fetch\n";
+
 /// The most bytes of what an event of a node's own was, with its line feed.
 const KIND_ROOM: usize = b" stop \n".len() + NUMBER_ROOM;
 
@@ -66,9 +69,19 @@ fn push_kind<const ROOM: usize>(out: &mut ArrayVec<u8, ROOM>, kind: Kind)
             let [high, low] = hex2(code);
             push_text(out, &[b' ', b'r', b'u', b'n', b' ', high, low, b'\n']);
         }
-        Kind::Fetch => push_text(out, b" fetch\n"),
+        Kind::Fetch => push_text(out, &fetch()),
         other => push_end(out, other),
     }
+}
+
+/// The same by value, which is copied without a look whether it overlaps.
+#[inline(always)]
+fn fetch() -> [u8; 7]
+    ensures { result ≡ codes " fetch\n" }
+{
+    [
+        FETCH[0], FETCH[1], FETCH[2], FETCH[3], FETCH[4], FETCH[5], FETCH[6],
+    ]
 }
 
 /// The same of a wait or a stop.

@@ -25,6 +25,9 @@ pub struct WriteFailed;
 /// The bytes of a long text that are said at once.
 const BLOCK: usize = 4096;
 
+/// How many bytes are dropped at once.
+const CLEARED: usize = 1024;
+
 /// How many bytes can be said and not be written yet.
 const PENDING_ROOM: usize = 65536;
 
@@ -236,8 +239,18 @@ impl Output {
             return Ok(());
         }
         write_all(writer, self.pending.as_slice())?;
-        self.pending.clear();
+        forget(&mut self.pending);
         Ok(())
+    }
+}
+
+/// Drops what is pending, in blocks that the C library fills by wide stores.
+fn forget(pending: &mut ArrayVec<u8, PENDING_ROOM>)
+    ensures { pending.new.items ≡ [] }
+{
+    'blocks: while !pending.is_empty() {
+        let left = pending.len().saturating_sub(CLEARED);
+        pending.truncate(left);
     }
 }
 

@@ -155,8 +155,17 @@ pub fn push_node<const ROOM: usize>(out: &mut ArrayVec<u8, ROOM>, node: NodeId)
 fn name_digits(node: NodeId) -> [u8; NODE_ROOM]
     ensures { result ≡ name_of node }
 {
-    let at = 3 * node.index();
-    [NAMES[at], NAMES[at + 1], NAMES[at + 2]]
+    let [row, tens, ones, _] = name_spaced(node);
+    [row, tens, ones]
+}
+
+/// A node's name and a space.
+#[inline(always)]
+pub(crate) fn name_spaced(node: NodeId) -> [u8; 4]
+    ensures { result ≡ name_of node ++ codes " " }
+{
+    let at = 4 * node.index();
+    [NAMES[at], NAMES[at + 1], NAMES[at + 2], NAMES[at + 3]]
 }
 
 /// Adds a step: the name of its node and its number.
@@ -166,8 +175,7 @@ pub fn push_step<const ROOM: usize>(out: &mut ArrayVec<u8, ROOM>, node: NodeId, 
     ensures text { out.new.items ≡ out.old.items ++ step_text node step }
     ensures len { array_vec_len out.new ≤ array_vec_len out.old + STEP_ROOM }
 {
-    let [row, tens, ones] = name_digits(node);
-    push_text(out, &[row, tens, ones, b' ']);
+    push_text(out, &name_spaced(node));
     push_number(out, u64::from(step));
 }
 
@@ -229,6 +237,6 @@ static DECIMAL: [u8; 200] =
 static HEXADECIMAL: [u8; 512] =
     *b"000102030405060708090a0b0c0d0e0f101112131415161718191a1b1c1d1e1f202122232425262728292a2b2c2d2e2f303132333435363738393a3b3c3d3e3f404142434445464748494a4b4c4d4e4f505152535455565758595a5b5c5d5e5f606162636465666768696a6b6c6d6e6f707172737475767778797a7b7c7d7e7f808182838485868788898a8b8c8d8e8f909192939495969798999a9b9c9d9e9fa0a1a2a3a4a5a6a7a8a9aaabacadaeafb0b1b2b3b4b5b6b7b8b9babbbcbdbebfc0c1c2c3c4c5c6c7c8c9cacbcccdcecfd0d1d2d3d4d5d6d7d8d9dadbdcdddedfe0e1e2e3e4e5e6e7e8e9eaebecedeeeff0f1f2f3f4f5f6f7f8f9fafbfcfdfeff";
 
-/// The names of the nodes, in three decimal digits each.
-static NAMES: [u8; 432] =
-    *b"000001002003004005006007008009010011012013014015016017100101102103104105106107108109110111112113114115116117200201202203204205206207208209210211212213214215216217300301302303304305306307308309310311312313314315316317400401402403404405406407408409410411412413414415416417500501502503504505506507508509510511512513514515516517600601602603604605606607608609610611612613614615616617700701702703704705706707708709710711712713714715716717";
+/// The names of the nodes, each with a space behind it.
+static NAMES: [u8; 576] =
+    *b"000 001 002 003 004 005 006 007 008 009 010 011 012 013 014 015 016 017 100 101 102 103 104 105 106 107 108 109 110 111 112 113 114 115 116 117 200 201 202 203 204 205 206 207 208 209 210 211 212 213 214 215 216 217 300 301 302 303 304 305 306 307 308 309 310 311 312 313 314 315 316 317 400 401 402 403 404 405 406 407 408 409 410 411 412 413 414 415 416 417 500 501 502 503 504 505 506 507 508 509 510 511 512 513 514 515 516 517 600 601 602 603 604 605 606 607 608 609 610 611 612 613 614 615 616 617 700 701 702 703 704 705 706 707 708 709 710 711 712 713 714 715 716 717 ";

@@ -1,11 +1,10 @@
 use Rattle.std.proofs.Common.{◌≡◌, arith, get_or}
-use Rattle.ga_console.proofs.AheadLemmas.{step_front}
+use Rattle.ga_console.proofs.AheadLemmas.{same_bytes, step_front}
 use Rattle.ga_console.proofs.ahead.command_ahead.Goals as goal
 
-pub returns-then-is_step : goal.returns-then-is_step
-returns-then-is_step c =
+pub returns-then-word_of-eq-STEP : goal.returns-then-word_of-eq-STEP
+returns-then-word_of-eq-STEP c =
     let t = c.args.text.now in
-    let (b0, b1, b2, b3) = c.if-is_step.ensures in
+    let name = same_bytes (get_or t 0 0) (get_or t 1 0) (get_or t 2 0) (get_or t 3 0) 115 116 101 112 (omega arith) (omega arith) (omega arith) (omega arith) (omega arith) (omega arith) (omega arith) (omega arith) (omega arith) in
     let b4 : get_or t 4 0 ≡ 32 = omega arith in
-    let b8 : get_or t 8 0 ≡ 10 = omega arith in
-    step_front t c.in_ok-node-in-32.node (omega (arith, c.in-32.len_at_least)) b0 b1 b2 b3 b4 b8 c.in_ok-node-in-32.ensures
+    step_front t c.in_ok-node.node (omega (arith, c.in-32.len_at_least)) name.0 name.1 name.2 name.3 b4 c.in_ok-node.ensures
