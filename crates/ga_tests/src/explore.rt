@@ -250,15 +250,15 @@ fn has_races(
     Ok(())
 }
 
-// In rounds, both senders wait in their step 7; the turn is with 000 then, and 001 takes its word in step 5. Taken back, that step
-// leaves 002 waiting, and a step of 002 makes the other pass.
+// In rounds, 000 waits to write in its step 7, and 001 takes its word in step 5 before 002 has made its step 7, by which it waits too.
+// Then 002 could have been first: taken back, step 5 of 001 leaves it waiting, and a step of 002 makes the other pass.
 #[test]
 fn tells_races(rt: HostRuntime) -> Result<(), Fail> {
     let mut lab = rivals(rt.alloc())?;
     let (left, reader, right) = (NodeId::new(0), NodeId::new(1), NodeId::new(2));
     run(&mut lab, Schedule::in_rounds(), 18, &Condition::Never);
     has_races(&rt, rt.alloc(), &mut lab, None, &[])?;
-    run(&mut lab, Schedule::in_rounds(), 1, &Condition::Never);
+    let _waits = lab.step(right)?;
     let (word, offered) = (Word18::truncated(0x2a), Word18::truncated(0x2b));
     let race = Race {
         reader,
