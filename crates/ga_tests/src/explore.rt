@@ -260,16 +260,16 @@ fn tells_races(rt: HostRuntime) -> Result<(), Fail> {
     has_races(&rt, rt.alloc(), &mut lab, None, &[])?;
     let _waits = lab.step(right)?;
     let (word, offered) = (Word18::truncated(0x2a), Word18::truncated(0x2b));
-    let race = Race {
+    let races = [Race {
         reader,
         step: 5,
         writer: left,
         word,
         other: right,
         offered,
-    };
-    has_races(&rt, rt.alloc(), &mut lab, None, &[race])?;
-    has_races(&rt, rt.alloc(), &mut lab, Some(reader), &[race])?;
+    }];
+    has_races(&rt, rt.alloc(), &mut lab, None, &races)?;
+    has_races(&rt, rt.alloc(), &mut lab, Some(reader), &races)?;
     has_races(&rt, rt.alloc(), &mut lab, Some(left), &[])?;
     lab.rewind(reader, 5)?;
     let made = lab.step(right)?;
