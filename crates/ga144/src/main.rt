@@ -120,7 +120,7 @@ impl Front {
 ///
 /// # Errors
 /// The file can't be had, which was told.
-fn front(rt: &HostRuntime, file: &Option<String>) -> Result<Front, ExitCode> {
+fn front_of(rt: &HostRuntime, file: &Option<String>) -> Result<Front, ExitCode> {
     let Some(name) = file else {
         return Ok(Front {
             text: Vec::new(rt.alloc()),
@@ -175,7 +175,7 @@ fn unread(rt: &HostRuntime, name: &str, why: &str, status: u8) -> ExitCode {
 
 /// Serves a session of exploring over a file, where one is named, and the standard streams.
 fn exploring(rt: &HostRuntime, limit: u32, file: &Option<String>) -> ExitCode {
-    match front(rt, file) {
+    match front_of(rt, file) {
         Ok(front) => {
             let mut reader = front.reader(rt);
             let (mut writer, mut errors) = (rt.stdout(), rt.stderr());
@@ -190,7 +190,7 @@ fn exploring(rt: &HostRuntime, limit: u32, file: &Option<String>) -> ExitCode {
 
 /// Makes an image of source.
 fn assembled(rt: &HostRuntime, file: &Option<String>) -> ExitCode {
-    match front(rt, file) {
+    match front_of(rt, file) {
         Ok(front) => {
             let mut reader = front.reader(rt);
             let (mut writer, mut errors) = (rt.stdout(), rt.stderr());
@@ -205,7 +205,7 @@ fn assembled(rt: &HostRuntime, file: &Option<String>) -> ExitCode {
 
 /// Lists source.
 fn listed(rt: &HostRuntime, file: &Option<String>) -> ExitCode {
-    match front(rt, file) {
+    match front_of(rt, file) {
         Ok(front) => {
             let mut reader = front.reader(rt);
             let (mut writer, mut errors) = (rt.stdout(), rt.stderr());
@@ -220,7 +220,7 @@ fn listed(rt: &HostRuntime, file: &Option<String>) -> ExitCode {
 
 /// Makes source of an image.
 fn disassembled(rt: &HostRuntime, file: &Option<String>) -> ExitCode {
-    match front(rt, file) {
+    match front_of(rt, file) {
         Ok(front) => {
             let mut reader = front.reader(rt);
             let (mut writer, mut errors) = (rt.stdout(), rt.stderr());
@@ -235,7 +235,7 @@ fn disassembled(rt: &HostRuntime, file: &Option<String>) -> ExitCode {
 
 /// Draws a session.
 fn drawn(rt: &HostRuntime, view: View, file: &Option<String>) -> ExitCode {
-    match front(rt, file) {
+    match front_of(rt, file) {
         Ok(front) => {
             let mut reader = front.reader(rt);
             let (mut writer, mut errors) = (rt.stdout(), rt.stderr());
