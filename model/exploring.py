@@ -38,6 +38,15 @@ def source_of(draw):
     return "".join(f"{line}\n" for line in lines)
 
 
+def rivals_of(draw):
+    """A source of a node that takes words from either of two sides, and of the neighbours there, which write some to it."""
+    lines = ["node 001 0x1f5 b! " + "@b " * draw.randint(2, 4)]
+    for node, side in (("000", "right"), ("002", "left")):
+        words = [f"0x{draw.randrange(1 << 18):x} !b" for _ in range(draw.randint(1, 3))]
+        lines.append(" ".join([f"node {node} {side} b!", *["dup drop"] * draw.randrange(6), *words]))
+    return "".join(f"{line}\n" for line in lines)
+
+
 def some(draw, count, words=None):
     return [draw.choice(words or (WORDS + CALLS if draw.random() < 0.7 else ["right b! @b", "left b! !b", "@b", "!b", "dup !b", "0x1a5 b! @b", "0x1b5 b! @b drop @b"])) for _ in range(count)]
 
@@ -51,7 +60,7 @@ class Session:
         self.machine = Explorer(self.base.load, self.limit)
         self.source = None
         if number % 2:
-            self.begin_with_source(source_of(draw))
+            self.begin_with_source(rivals_of(draw) if number % 10 == 9 else source_of(draw))
 
     def begin_with_source(self, source):
         image, told, status = asm(source)
