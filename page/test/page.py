@@ -11,7 +11,7 @@
 4. Source lines as worked by hand, keys, the session in the address, refused texts and addresses, ends of lines, a small heap:
    `no 4 memory`, and the session goes on.
 """
-import base64, json, os, random, subprocess, sys, tempfile, time, zlib
+import base64, json, os, random, re, subprocess, sys, tempfile, time, zlib
 
 sys.dont_write_bytecode = True
 TOP = os.path.dirname(os.path.dirname(os.path.dirname(os.path.abspath(__file__))))
@@ -75,7 +75,9 @@ def conformance(browser):
     count = 0
     with tempfile.TemporaryDirectory() as room:
         for name, asked, wanted in cases(room):
-            check(browser.run(f"return page.core.answer({bytes_of(asked)}, 1000000)") == wanted, f"{name} is answered otherwise")
+            # (To a line that is no command the page says besides what to write, which `debug` doesn't.)
+            said = browser.run(f"return page.core.answer({bytes_of(asked)}, 1000000)")
+            check(wanted in (said, re.sub("^(no 31 syntax): .*$", r"\1", said, flags=re.M)), f"{name} is answered otherwise")
             if wanted.startswith("ready\n") and "no 4 memory" not in wanted:
                 opened = browser.run(OPENED % json.dumps(asked))
                 check(opened == [True, True], f"{name} is opened otherwise: {opened}")
