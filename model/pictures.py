@@ -3,7 +3,7 @@
 ("Pictures"), by the events that the second reading made.
 
 pictures.py PROGRAM FIRST COUNT: so many pictures, each generated from its number, from FIRST on.
-pictures.py --compare: the pictures of docs/pictures, by the sessions and words that .ci/pictures names.
+pictures.py --compare: the pictures of docs/pictures, by the sessions and words that .ci/files names.
 
 What a picture shows is told in lines, such as `black: dot 001, '5 dup', title '001 5 run 18 dup'`. Where lines and rows stand is taken
 from the picture: a node's line from its name, a row from the first two, since rows stand equally far apart.
@@ -334,7 +334,7 @@ def difference(program, number):
 
 
 def compared(row):
-    """In what a picture of docs/pictures differs from what its session asks for, or None: by a row of .ci/pictures."""
+    """In what a picture of docs/pictures differs from what its session asks for, or None: by a row of .ci/files."""
     shown, session, *words = row.split()
     machine, commands = opened(session)
     for line in commands:
@@ -349,7 +349,7 @@ def compared(row):
 
 def main():
     if sys.argv[1:] == ["--compare"]:
-        rows = [it for it in open(".ci/pictures", encoding="utf-8") if re.match(r"\w+ (?:examples|sessions)/", it)]
+        rows = [it for it in open(".ci/files", encoding="utf-8") if re.match(r"\w+ (?:examples|sessions)/", it)]
         wrong = [f"docs/pictures: {it.split()[0]}: {what}" for it in rows if (what := compared(it))]
         if wrong or not rows:
             sys.exit("\n".join(wrong or ["no rows"]))
