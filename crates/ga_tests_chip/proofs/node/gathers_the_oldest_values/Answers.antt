@@ -1,7 +1,7 @@
 use Rattle.std.proofs.Common.{◌≡◌, ◌∙◌, [], ap, sym, subst}
 use Rattle.ga_node.specs.Record.{NodeState}
 use Rattle.ga_node.specs.State.{restored, AreFit, IsApart}
-use Rattle.ga_tests.proofs.node.gathers_the_oldest_values.Goals as goal
+use Rattle.ga_tests_chip.proofs.node.gathers_the_oldest_values.Goals as goal
 
 pub write_back-requires-clause-fit : goal.write_back-requires-clause-fit
 unfolding AreFit

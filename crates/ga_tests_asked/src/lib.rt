@@ -1,0 +1,13 @@
+//! The tests of what is asked of a lab: runs and who waits, where values come from, a chip that threads share.
+#![tactic(auto)]
+
+#[cfg(test)]
+mod asserts;
+#[cfg(test)]
+mod explore;
+#[cfg(test)]
+mod far;
+#[cfg(test)]
+mod shared;
+#[cfg(test)]
+mod whence;
