@@ -4,13 +4,15 @@ use ga_grid::{Chip, NodeId};
 use ga_lab::{Lab, LabFault, Made};
 use ga_node::{Kind, Place};
 use ga_search::{
-    Condition, Effect, End, Race, Ran, Schedule, Sent, Words, are_linked, count_words,
-    find_effects, find_races, find_stuck, run,
+    Condition, Effect, End, Ran, Schedule, Sent, Words, are_linked, count_words, find_effects,
+    find_stuck, run,
 };
 use ga_word::Word18;
 use std::alloc::Global;
 use std::process::Abort;
 use std::test::Fail;
+
+mod races;
 
 // A chip on which every node is stopped but 000 and 001, which have these programs.
 fn lab_of(alloc: Global, left: [u32; 5], right: [u32; 5]) -> Result<Lab, Fail> {
@@ -86,6 +88,12 @@ fn greedy(rt: HostRuntime) -> Result<(), Fail> {
     Ok(())
 }
 
+// The chip at load, in a lab that keeps so many events.
+fn at_load(alloc: Global, limit: u32) -> Result<Lab, Fail> {
+    let chip = Chip::new(alloc)?;
+    Ok(Lab::new(alloc, chip, limit)?)
+}
+
 // SplitMix64 with the seed 1234567 gives 6457827717110365317, 3203168211198807973, 9817491932198370423, 4593380528125082431 and
 // 16408922859458223821, which are 117, 133, 135, 127 and 125 modulo 144. On the chip at load each node comes to wait for code from its
 // neighbours.
@@ -93,7 +101,7 @@ fn greedy(rt: HostRuntime) -> Result<(), Fail> {
 fn drawn(rt: HostRuntime) -> Result<(), Fail> {
     let wanted = [117u8, 133, 135, 127, 125];
     for _ in 0..2 {
-        let mut lab = Lab::new(rt.alloc(), Chip::new(rt.alloc())?, 1_000)?;
+        let mut lab = at_load(rt.alloc(), 1_000)?;
         let ran = run(
             &mut lab,
             Schedule::at_random(1_234_567),
@@ -180,7 +188,7 @@ fn goes_up_to(rt: &impl Abort, lab: &mut Lab, events: u64, end: End) {
 fn quiet_and_full(rt: HostRuntime) -> Result<(), Fail> {
     let mut quiet = lab_of(rt.alloc(), taker(0x1d5), taker(0x1d5))?;
     goes_up_to(&rt, &mut quiet, 8, End::Quiet);
-    let mut full = Lab::new(rt.alloc(), Chip::new(rt.alloc())?, 3)?;
+    let mut full = at_load(rt.alloc(), 3)?;
     goes_up_to(&rt, &mut full, 3, End::Refused(LabFault::Full));
     Ok(())
 }
@@ -221,94 +229,36 @@ fn tells_effects(rt: HostRuntime) -> Result<(), Fail> {
     effects(&rt, rt.alloc(), &mut lab)
 }
 
-// Node 001 takes a word of whichever of 000 and 002 comes first; the others are stopped.
-fn rivals(alloc: Global) -> Result<Lab, Fail> {
-    let mut chip = Chip::new(alloc)?;
-    for number in 3..144u8 {
-        let node = chip.node_mut(NodeId::new(number));
-        node.set(Place::Wait, 0);
-        node.set(Place::Stop, 1);
+fn sent(number: u32, writer_step: u32, reader_step: u32) -> Sent {
+    Sent {
+        number,
+        writer_step,
+        reader_step,
+        word: Word18::truncated(0x2a),
     }
-    load(&mut chip, NodeId::new(0), sender(0x1d5, 0x2a));
-    load(&mut chip, NodeId::new(1), taker(0x1f5));
-    load(&mut chip, NodeId::new(2), sender(0x175, 0x2b));
-    Ok(Lab::new(alloc, chip, 1_000)?)
 }
 
-// The steps of a node, or of all, that could have come out otherwise.
-fn has_races(
-    rt: &impl Abort,
-    alloc: Global,
-    lab: &mut Lab,
-    only: Option<NodeId>,
-    wanted: &[Race],
-) -> Result<(), Fail> {
-    let told = find_races(alloc, lab, only)?;
-    each_same(rt, &told.list, wanted);
-    same(rt, &told.looks, &false);
-    same(rt, &told.quiet, &false);
-    Ok(())
-}
-
-// In rounds, 000 waits to write in its step 7, and 001 takes its word in step 5 before 002 has made its step 7, by which it waits too.
-// Then 002 could have been first: taken back, step 5 of 001 leaves it waiting, and a step of 002 makes the other pass.
-#[test]
-fn tells_races(rt: HostRuntime) -> Result<(), Fail> {
-    let mut lab = rivals(rt.alloc())?;
-    let (left, reader, right) = (NodeId::new(0), NodeId::new(1), NodeId::new(2));
-    run(&mut lab, Schedule::in_rounds(), 18, &Condition::Never);
-    has_races(&rt, rt.alloc(), &mut lab, None, &[])?;
-    let _waits = lab.step(right)?;
-    let (word, offered) = (Word18::truncated(0x2a), Word18::truncated(0x2b));
-    let races = [Race {
-        reader,
-        step: 5,
-        writer: left,
-        word,
-        other: right,
-        offered,
-    }];
-    has_races(&rt, rt.alloc(), &mut lab, None, &races)?;
-    has_races(&rt, rt.alloc(), &mut lab, Some(reader), &races)?;
-    has_races(&rt, rt.alloc(), &mut lab, Some(left), &[])?;
-    lab.rewind(reader, 5)?;
-    let made = lab.step(right)?;
-    let wanted = Made::Pass {
-        writer: right,
-        writer_step: 8,
-        reader,
-        reader_step: 5,
-        word: offered,
+// The pair behind step 21 of its sender, in rounds.
+fn sent_twice(alloc: Global) -> Result<Lab, Fail> {
+    let mut lab = pair(alloc)?;
+    let until = Condition::Steps {
+        node: NodeId::new(0),
+        step: 21,
     };
-    same(&rt, &made, &wanted);
-    Ok(())
+    run(&mut lab, Schedule::in_rounds(), 100, &until);
+    Ok(lab)
 }
 
 // The sender loops: 13 steps from one word to the next. The taker reads again behind its fetch of an empty cell.
 #[test]
 fn tells_words(rt: HostRuntime) -> Result<(), Fail> {
-    let mut lab = pair(rt.alloc())?;
+    let lab = sent_twice(rt.alloc())?;
     let (writer, reader) = (NodeId::new(0), NodeId::new(1));
-    let step = 21;
-    run(
-        &mut lab,
-        Schedule::in_rounds(),
-        100,
-        &Condition::Steps { node: writer, step },
-    );
     let mut words = Words::new(writer, reader);
-    let word = Word18::truncated(0x2a);
-    for (number, writer_step, reader_step) in [(1u32, 8u32, 5u32), (2, 21, 9)] {
-        let sent = Sent {
-            number,
-            writer_step,
-            reader_step,
-            word,
-        };
-        same(&rt, &words.next(&lab), &Some(sent));
-    }
-    let rest = [words.next(&lab), Words::new(reader, writer).next(&lab)];
-    each_same(&rt, &rest, &[None, None]);
+    same(&rt, &words.next(&lab), &Some(sent(1, 8, 5)));
+    same(&rt, &words.next(&lab), &Some(sent(2, 21, 9)));
+    same(&rt, &words.next(&lab), &None);
+    same(&rt, &Words::new(reader, writer).next(&lab), &None);
     Ok(())
 }
 

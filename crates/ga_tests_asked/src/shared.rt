@@ -11,11 +11,13 @@ use ga_shared::{
 use std::alloc::Global;
 use std::marker::Brand;
 use std::sync::Wait;
-use std::sync::atomic::{AtomicBool, AtomicU32, Ordering};
+use std::sync::atomic::{AtomicBool, Ordering};
 use std::sync::ledger::{Blank, Ledger};
 use std::test::Fail;
 use std::thread;
 use std::thread::Threads;
+
+mod gates;
 
 /// The sender in node 000 and the taker in node 001.
 fn linked(alloc: Global) -> Result<Chip, Fail> {
@@ -134,145 +136,6 @@ fn workers_take_turns(rt: HostRuntime) -> Result<(), Fail> {
     Ok(())
 }
 
-/// Counts what each of three workers tells: 2k behind call k, and 2k - 1 before its answer. Notes any other order.
-#[derive(Drop)]
-struct Told {
-    first: AtomicU32,
-    second: AtomicU32,
-    third: AtomicU32,
-    has_failed: AtomicBool,
-}
-
-impl Told {
-    fn tell(&self, worker: u32, call: u32, is_after: bool) {
-        let told = match worker {
-            0 => &self.first,
-            1 => &self.second,
-            _ => &self.third,
-        };
-        let was = told.load(Ordering::SeqCst);
-        let is_due = if is_after {
-            call >= 1 && was == call.saturating_mul(2).saturating_sub(1)
-        } else {
-            call >= 1 && was == (call.saturating_sub(1)).saturating_mul(2)
-        };
-        if !is_due {
-            self.has_failed.store(true, Ordering::SeqCst);
-        }
-        told.store(was.saturating_add(1), Ordering::SeqCst);
-    }
-}
-
-impl Gate for Told {
-    fn before(&self, worker: u32, call: u32) {
-        self.tell(worker, call, false);
-    }
-
-    fn after(&self, worker: u32, call: u32) {
-        self.tell(worker, call, true);
-    }
-}
-
-/// Many steps of one node for each of three workers.
-fn three_lists(alloc: Global) -> Result<Vec<Vec<Call>>, Fail>
-    ensures { IfOk result (λ lists. (vec_len lists ≡ 3) × All (λ l. vec_len l < 2 ^ 32) lists.items) }
-{
-    let calls = [Call::Step(NodeId::new(0)); 101];
-    let mut lists = Vec::new(alloc);
-    lists.push(calls.as_slice().to_vec(alloc)?)?;
-    lists.push(calls.as_slice().to_vec(alloc)?)?;
-    lists.push(calls.as_slice().to_vec(alloc)?)?;
-    Ok(lists)
-}
-
-#[test]
-fn gates_are_told_of_each_call(rt: HostRuntime) -> Result<(), Fail> {
-    let alloc = rt.alloc();
-    let gate = Told {
-        first: AtomicU32::new(0),
-        second: AtomicU32::new(0),
-        third: AtomicU32::new(0),
-        has_failed: AtomicBool::new(false),
-    };
-    let _closed = race(
-        &rt,
-        alloc,
-        linked(alloc)?,
-        1000000,
-        three_lists(alloc)?,
-        &gate,
-    )?;
-    assert!(rt; !gate.has_failed.load(Ordering::SeqCst));
-    assert_eq!(rt; gate.first.load(Ordering::SeqCst), 202);
-    assert_eq!(rt; gate.second.load(Ordering::SeqCst), 202);
-    assert_eq!(rt; gate.third.load(Ordering::SeqCst), 202);
-    Ok(())
-}
-
-/// Holds worker 1 until call 1 of worker 0 is told as made, and worker 0 there until worker 1 made its four calls.
-#[derive(Drop)]
-struct OneFirst {
-    is_told: AtomicBool,
-    is_done: AtomicBool,
-    has_failed: AtomicBool,
-}
-
-impl OneFirst {
-    fn hold(&self, flag: &AtomicBool) {
-        for _turn in 0..10000000u32 {
-            if flag.load(Ordering::SeqCst) {
-                return;
-            }
-            thread::yield_now();
-        }
-        self.has_failed.store(true, Ordering::SeqCst);
-    }
-}
-
-impl Gate for OneFirst {
-    fn before(&self, worker: u32, call: u32) {
-        if worker == 1 && call == 1 {
-            self.hold(&self.is_told);
-        }
-    }
-
-    fn after(&self, worker: u32, call: u32) {
-        if worker == 0 && call == 1 {
-            self.is_told.store(true, Ordering::SeqCst);
-            self.hold(&self.is_done);
-        }
-        if worker == 1 && call == 4 {
-            self.is_done.store(true, Ordering::SeqCst);
-        }
-    }
-}
-
-#[test]
-fn gates_are_told_after_the_call(rt: HostRuntime) -> Result<(), Fail> {
-    let alloc = rt.alloc();
-    let gate = OneFirst {
-        is_told: AtomicBool::new(false),
-        is_done: AtomicBool::new(false),
-        has_failed: AtomicBool::new(false),
-    };
-    let closed = race(
-        &rt,
-        alloc,
-        linked(alloc)?,
-        1000000,
-        two_lists(alloc)?,
-        &gate,
-    )?;
-    assert!(rt; !gate.has_failed.load(Ordering::SeqCst));
-    let workers = closed
-        .log
-        .iter()
-        .map(|entry| entry.worker)
-        .collect::<Vec<u32>>(alloc)?;
-    assert_eq!(rt; workers.as_slice(), [0, 1, 1, 1, 1, 0, 0, 0].as_slice());
-    Ok(())
-}
-
 /// A shared chip with two workers, of whom each made two steps of its node: 0, 1, 0, 1.
 fn after_four<L: Ledger, R: Wait>(
     rt: &R,
@@ -303,7 +166,8 @@ fn log_of_four<L: Ledger, R: Wait>(rt: &R, alloc: Global, blank: Blank) -> Resul
     let (shared, seats) = after_four::<L, R>(rt, alloc, blank)?;
     match shared.close(seats) {
         Ok(closed) => Ok(closed),
-        Err(_) => Err(Fail::from("not closed")),
+        Err(CloseFault::Disagree { .. }) => Err(Fail::from("disagree")),
+        Err(CloseFault::Missing { .. }) => Err(Fail::from("missing")),
     }
 }
 
@@ -358,6 +222,27 @@ fn changed_receipts(rt: HostRuntime) -> Result<(), Fail> {
     Ok(())
 }
 
+/// What is handed back where a seat is missing.
+fn handed_back<L: Ledger>(
+    shared: Shared<L>,
+    seats: Vec<Seat<L>>,
+) -> Option<(Shared<L>, Vec<Seat<L>>)> {
+    match shared.close(seats) {
+        Err(CloseFault::Missing { shared, seats }) => Some((shared, seats)),
+        Err(CloseFault::Disagree { .. }) => None,
+        Ok(_) => None,
+    }
+}
+
+/// Whether closing with these seats ends well.
+fn closes<L: Ledger>(shared: Shared<L>, seats: Vec<Seat<L>>) -> bool {
+    match shared.close(seats) {
+        Ok(_) => true,
+        Err(CloseFault::Disagree { .. }) => false,
+        Err(CloseFault::Missing { .. }) => false,
+    }
+}
+
 /// Whether closing without a seat hands both back, and closing with it ends well.
 fn closes_with_both<L: Ledger, R: Wait>(rt: &R, alloc: Global, blank: Blank) -> Result<bool, Fail>
     requires ledger { (blank.name ≡ L.name) × (blank.parts ≡ L.parts) }
@@ -365,17 +250,13 @@ fn closes_with_both<L: Ledger, R: Wait>(rt: &R, alloc: Global, blank: Blank) -> 
 {
     let (shared, mut seats) = after_four::<L, R>(rt, alloc, blank)?;
     let last = seats.pop().ok_or("no seat")?;
-    let (shared, mut seats) = match shared.close(seats) {
-        Err(CloseFault::Missing { shared, seats }) => (shared, seats),
-        Ok(_) => return Ok(false),
-        Err(CloseFault::Disagree { .. }) => return Ok(false),
-    };
+    let (shared, mut seats) = handed_back(shared, seats).ok_or("nothing is handed back")?;
     // The seat of worker 0 is the one that comes back.
     if seats.len() != 1 || seats[0].number() != 0 || last.number() != 1 {
         return Ok(false);
     }
     seats.push(last)?;
-    Ok(shared.close(seats).is_ok())
+    Ok(closes(shared, seats))
 }
 
 #[test]

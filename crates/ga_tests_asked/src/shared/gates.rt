@@ -1,0 +1,155 @@
+//! What a gate is told of the calls of a race.
+
+ghost use Rattle.std.specs.Prelude.{◌≡◌, ◌<◌, ◌^◌, All, IfOk, vec_len};
+
+use super::{linked, two_lists};
+use crate::asserts::same;
+use ga_grid::NodeId;
+use ga_shared::{Call, Closed, Gate, race};
+use std::alloc::Global;
+use std::process::Abort;
+use std::sync::atomic::{AtomicBool, AtomicU32, Ordering};
+use std::test::Fail;
+use std::thread;
+
+/// Counts what each of three workers tells: 2k behind call k, and 2k - 1 before its answer. Notes any other order.
+#[derive(Drop)]
+struct Told {
+    first: AtomicU32,
+    second: AtomicU32,
+    third: AtomicU32,
+    has_failed: AtomicBool,
+}
+
+impl Told {
+    fn tell(&self, worker: u32, call: u32, is_after: bool) {
+        let told = match worker {
+            0 => &self.first,
+            1 => &self.second,
+            _ => &self.third,
+        };
+        let was = told.load(Ordering::SeqCst);
+        let is_due = if is_after {
+            call >= 1 && was == call.saturating_mul(2).saturating_sub(1)
+        } else {
+            call >= 1 && was == (call.saturating_sub(1)).saturating_mul(2)
+        };
+        if !is_due {
+            self.has_failed.store(true, Ordering::SeqCst);
+        }
+        told.store(was.saturating_add(1), Ordering::SeqCst);
+    }
+}
+
+impl Gate for Told {
+    fn before(&self, worker: u32, call: u32) {
+        self.tell(worker, call, false);
+    }
+
+    fn after(&self, worker: u32, call: u32) {
+        self.tell(worker, call, true);
+    }
+}
+
+/// Many steps of one node for each of three workers.
+fn three_lists(alloc: Global) -> Result<Vec<Vec<Call>>, Fail>
+    ensures { IfOk result (λ lists. (vec_len lists ≡ 3) × All (λ l. vec_len l < 2 ^ 32) lists.items) }
+{
+    let calls = [Call::Step(NodeId::new(0)); 101];
+    let mut lists = Vec::new(alloc);
+    lists.push(calls.as_slice().to_vec(alloc)?)?;
+    lists.push(calls.as_slice().to_vec(alloc)?)?;
+    lists.push(calls.as_slice().to_vec(alloc)?)?;
+    Ok(lists)
+}
+
+#[test]
+fn gates_are_told_of_each_call(rt: HostRuntime) -> Result<(), Fail> {
+    let alloc = rt.alloc();
+    let gate = Told {
+        first: AtomicU32::new(0),
+        second: AtomicU32::new(0),
+        third: AtomicU32::new(0),
+        has_failed: AtomicBool::new(false),
+    };
+    let _closed = race(
+        &rt,
+        alloc,
+        linked(alloc)?,
+        1000000,
+        three_lists(alloc)?,
+        &gate,
+    )?;
+    assert!(rt; !gate.has_failed.load(Ordering::SeqCst));
+    assert_eq!(rt; gate.first.load(Ordering::SeqCst), 202);
+    assert_eq!(rt; gate.second.load(Ordering::SeqCst), 202);
+    assert_eq!(rt; gate.third.load(Ordering::SeqCst), 202);
+    Ok(())
+}
+
+/// Holds worker 1 until call 1 of worker 0 is told as made, and worker 0 there until worker 1 made its four calls.
+#[derive(Drop)]
+struct OneFirst {
+    is_told: AtomicBool,
+    is_done: AtomicBool,
+    has_failed: AtomicBool,
+}
+
+impl OneFirst {
+    fn hold(&self, flag: &AtomicBool) {
+        for _turn in 0..10000000u32 {
+            if flag.load(Ordering::SeqCst) {
+                return;
+            }
+            thread::yield_now();
+        }
+        self.has_failed.store(true, Ordering::SeqCst);
+    }
+}
+
+impl Gate for OneFirst {
+    fn before(&self, worker: u32, call: u32) {
+        if worker == 1 && call == 1 {
+            self.hold(&self.is_told);
+        }
+    }
+
+    fn after(&self, worker: u32, call: u32) {
+        if worker == 0 && call == 1 {
+            self.is_told.store(true, Ordering::SeqCst);
+            self.hold(&self.is_done);
+        }
+        if worker == 1 && call == 4 {
+            self.is_done.store(true, Ordering::SeqCst);
+        }
+    }
+}
+
+/// The workers of a log, call by call.
+fn is_log_of(rt: &impl Abort, closed: &Closed, workers: &[u32]) {
+    same(rt, &closed.log.len(), &workers.len());
+    for (entry, worker) in closed.log.iter().zip(workers) {
+        same(rt, &entry.worker, worker);
+    }
+}
+
+#[test]
+fn gates_are_told_after_the_call(rt: HostRuntime) -> Result<(), Fail> {
+    let alloc = rt.alloc();
+    let gate = OneFirst {
+        is_told: AtomicBool::new(false),
+        is_done: AtomicBool::new(false),
+        has_failed: AtomicBool::new(false),
+    };
+    let closed = race(
+        &rt,
+        alloc,
+        linked(alloc)?,
+        1000000,
+        two_lists(alloc)?,
+        &gate,
+    )?;
+    assert!(rt; !gate.has_failed.load(Ordering::SeqCst));
+    is_log_of(&rt, &closed, &[0, 1, 1, 1, 1, 0, 0, 0]);
+    Ok(())
+}
