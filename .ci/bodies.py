@@ -152,18 +152,54 @@ def names_itself(function, body):
     return re.search(rf"\b{function.name}\(", body.partition("{\n")[2])
 
 
-def copies_of(folder, edits):
+def is_called(function, text):
+    """Whether a text of a function has another function's name in its body."""
+    return re.search(rf"\b{function.name}\(", text.partition("{\n")[2])
+
+
+def original(edit):
+    """The text of the function that an edit changes."""
+    before, _ = edit.texts[edit.function.path]
+    return before[edit.function.start : edit.function.end]
+
+
+def standing(folder):
+    """The texts of the functions whose bodies are never left out: methods of traits, and what a constant may need."""
+    for at, _, files in os.walk(f"{folder}/src"):
+        for path in (os.path.relpath(f"{at}/{it}", folder) for it in files if it.endswith(".rt")):
+            text = read(f"{folder}/{path}")
+            for function in functions_of(folder, path, text):
+                whole = text[function.start : function.end]
+                if function.is_of_trait or "const fn " in whole:
+                    yield whole
+
+
+def in_place(folder, edits):
+    """The edits to try in their places: those that ask for it, and each whose function has a written proof, no other edit, and a name that
+    nothing else which is tried has in its body. There the proof stands as it was written, so that no copy has to show that it holds."""
+    chosen = [it for it in edits if it.is_alone]
+    tried = [(edit, text) for edit in edits for text in (edit.body, original(edit))]
+    others = [(None, it) for it in standing(folder)]
+    for edit in (it for it in edits if not it.is_alone):
+        function = edit.function
+        is_twice = any(it.function.place() == function.place() for it in edits if it is not edit)
+        is_named = any(is_called(function, text) for it, text in [*tried, *others] if it is not edit)
+        has_proof = os.path.isdir(f"{folder}/proofs/{'/'.join(function.place())}")
+        if has_proof and not is_twice and not is_named and not names_itself(function, original(edit)):
+            chosen.append(edit)
+    return chosen
+
+
+def copies_of(folder, edits, those):
     """A copy with each edit that isn't tried in its place, and one of each edited function as it is, where something is written of its
-    proof or an edit is tried in its place; but for what can't be copied."""
+    proof or an edit asks to be tried in its place; but for what can't be copied."""
     wrong, plain = [], {}
     for number, edit in enumerate(edits):
-        function, place = edit.function, edit.function.place()
-        before, _ = edit.texts[function.path]
-        whole = before[function.start : function.end]
+        function, place, whole = edit.function, edit.function.place(), original(edit)
         can_be = not function.is_of_trait and not names_itself(function, whole)
-        if (edit.is_alone and can_be) or (not edit.is_alone and os.path.isdir(f"{folder}/proofs/{'/'.join(place)}")):
+        if edit not in those and os.path.isdir(f"{folder}/proofs/{'/'.join(place)}") or edit.is_alone and can_be:
             plain[tuple(place)] = Copy(function, whole, "as_it_is", None)
-        if not edit.is_alone:
+        if edit not in those:
             wrong.append(Copy(function, edit.body, f"wrong_{number}", edit))
     return wrong, [*plain.values()]
 

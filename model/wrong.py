@@ -4,9 +4,14 @@
 wrong.py PROGRAM COUNT: each wrong definition has to be told within so many sessions, by an answer that differs or by a
 replay that can't go on; one of source within so many sources and as many that are cut or changed, one of pictures within so many of
 these. A definition is wrong in one place: its file, a text that stands there once, and what takes its place.
+
+The file `told` beside this says which session told a definition when `wrong.py --write PROGRAM COUNT` wrote it, by a sum of the
+definition. That one is tried first; where it tells nothing, or a definition has no line there, all are.
 """
 
+import hashlib
 import os
+import re
 import shutil
 import subprocess
 import sys
@@ -325,31 +330,72 @@ WRONG = (
 )
 
 
-def told(room, number, program, count):
-    """How the sessions tell a wrong definition ('answer' or 'replay'), or why they don't."""
-    file, old, new = WRONG[number]
-    here = os.path.dirname(os.path.abspath(__file__))
+HERE = os.path.dirname(os.path.abspath(__file__))
+
+
+def sum_of(wrong):
+    return hashlib.sha256("\0".join(wrong).encode()).hexdigest()[:12]
+
+
+def told_before():
+    """Which session told a definition, by its sum, when that was written."""
+    if not os.path.isfile(f"{HERE}/told"):
+        return {}
+    with open(f"{HERE}/told", encoding="utf-8") as text:
+        return {sum: number for sum, number in map(str.split, text)}
+
+
+def run(folder, wrong, program, first, count):
+    """How so many sessions tell a wrong definition that is planted in a folder ('answer' or 'replay'), or what they say, and which does."""
+    words = [sys.executable, "-B", f"{folder}/{GENERATORS.get(wrong[0], 'sessions')}.py", program, str(first), str(count)]
+    ran = subprocess.run(words, capture_output=True, text=True)
+    said = (ran.stdout + ran.stderr).strip().split("\n")[-1]
+    if ran.returncode != 1:
+        return f"not told: {said}", None
+    number = re.match(r"(?:session|source|picture) (\d+): ", said)
+    return "answer" if number else "replay", number and number[1]
+
+
+def told(room, number, program, count, before, is_written):
+    """How the sessions tell a wrong definition, or why they don't, and which session does, where that is to be written."""
+    wrong = WRONG[number]
+    file, old, new = wrong
     folder = f"{room}/{number}"
-    shutil.copytree(here, folder, ignore=shutil.ignore_patterns("__pycache__"))
+    shutil.copytree(HERE, folder, ignore=shutil.ignore_patterns("__pycache__"))
     with open(f"{folder}/{file}", encoding="utf-8") as text:
         right = text.read()
     if right.count(old) != 1:
-        return f"its text stands {right.count(old)} times, and not once"
+        return f"its text stands {right.count(old)} times, and not once", None
     with open(f"{folder}/{file}", "w", encoding="utf-8") as text:
         text.write(right.replace(old, new))
-    ran = subprocess.run([sys.executable, "-B", f"{folder}/{GENERATORS.get(file, 'sessions')}.py", program, "0", str(count)], capture_output=True, text=True)
+    first = before.get(sum_of(wrong))
+    if first is not None and int(first) < count:
+        how, _ = run(folder, wrong, program, first, 1)
+        if how in ("answer", "replay"):
+            shutil.rmtree(folder)
+            return how, first
+    how, which = run(folder, wrong, program, 0, count)
+    if how == "replay" and is_written:
+        # (it doesn't say in which session)
+        which = next((str(it) for it in range(count) if run(folder, wrong, program, it, 1)[0] == "replay"), None)
     shutil.rmtree(folder)
-    said = (ran.stdout + ran.stderr).strip().split("\n")[-1]
-    if ran.returncode == 1:
-        return "answer" if said.startswith(("session ", "source ", "picture ")) else "replay"
-    return f"not told: {said}"
+    return how, which
 
 
 def main():
-    if len(sys.argv) != 3 or not sys.argv[2].isdecimal() or int(sys.argv[2]) == 0:
-        sys.exit("usage: wrong.py PROGRAM COUNT, with COUNT at least 1")
+    words = sys.argv[1:]
+    is_written = words[:1] == ["--write"]
+    words = words[is_written:]
+    if len(words) != 2 or not words[1].isdecimal() or int(words[1]) == 0:
+        sys.exit("usage: wrong.py [--write] PROGRAM COUNT, with COUNT at least 1")
+    program, count = words[0], int(words[1])
+    before = told_before()
     with tempfile.TemporaryDirectory() as room, ThreadPoolExecutor(len(os.sched_getaffinity(0))) as lanes:
-        answers = [*lanes.map(lambda number: told(room, number, sys.argv[1], int(sys.argv[2])), range(len(WRONG)))]
+        came = [*lanes.map(lambda number: told(room, number, program, count, before, is_written), range(len(WRONG)))]
+    answers = [how for how, _ in came]
+    if is_written:
+        with open(f"{HERE}/told", "w", encoding="utf-8") as file:
+            file.writelines(f"{sum_of(wrong)} {which}\n" for wrong, (_, which) in zip(WRONG, came) if which is not None)
     left = [f"{wrong}: {what}" for wrong, what in zip(WRONG, answers) if what not in ("answer", "replay")]
     if left:
         sys.exit("\n".join(left))
