@@ -8,12 +8,13 @@ ghost use Rattle.ga_image.specs.Digits.{byte_in};
 ghost use Rattle.ga_console.specs.Parsing.{cut, node_in, number_in, with_digit};
 ghost use Rattle.ga_console.specs.kept.Parsing.{step_in, rewind_in, memory_in, why_in, alone, with_arguments};
 ghost use Rattle.ga_console.specs.declared.command.Command.{Command};
+ghost use Rattle.ga_console.specs.declared.command.Command.TheVariants.{Step, Node, Trace};
 
 use ga_grid::{NodeId, decimal_digit};
 use ga_image::byte_of;
 
 /// A command of a session. Steps are numbered from 1, but any number may be asked for.
-#[derive(Clone, Copy, PartialEq, Eq, Debug)]
+#[derive(Clone, Copy, PartialEq, Eq)]
 pub enum Command {
     /// `step NNN`: makes the node's next event.
     Step(NodeId),
@@ -59,12 +60,16 @@ pub fn command_of(line: &[u8]) -> Option<Command>
 fn alone(name: &[u8]) -> Option<Command>
     ensures { result ≡ alone name.now }
 {
-    match name {
-        b"back" => Some(Command::Back),
-        b"count" => Some(Command::Count),
-        b"dump" => Some(Command::Dump),
-        b"quit" => Some(Command::Quit),
-        _ => None,
+    if name == b"back".as_slice() {
+        Some(Command::Back)
+    } else if name == b"count".as_slice() {
+        Some(Command::Count)
+    } else if name == b"dump".as_slice() {
+        Some(Command::Dump)
+    } else if name == b"quit".as_slice() {
+        Some(Command::Quit)
+    } else {
+        None
     }
 }
 
@@ -73,15 +78,39 @@ fn alone(name: &[u8]) -> Option<Command>
 fn with_arguments(name: &[u8], arguments: &[u8]) -> Option<Command>
     ensures { result ≡ with_arguments name.now arguments.now }
 {
-    match name {
-        b"step" => Some(Command::Step(node_of(arguments)?)),
-        b"rewind" => rewind_of(arguments),
-        b"node" => Some(Command::Node(node_of(arguments)?)),
-        b"mem" => memory_of(arguments),
-        b"trace" => Some(Command::Trace(node_of(arguments)?)),
-        b"why" => why_of(arguments),
-        _ => None,
+    if name == b"step".as_slice() {
+        step_command(arguments)
+    } else if name == b"rewind".as_slice() {
+        rewind_of(arguments)
+    } else if name == b"node".as_slice() {
+        node_command(arguments)
+    } else if name == b"mem".as_slice() {
+        memory_of(arguments)
+    } else if name == b"trace".as_slice() {
+        trace_command(arguments)
+    } else if name == b"why".as_slice() {
+        why_of(arguments)
+    } else {
+        None
     }
+}
+
+fn step_command(arguments: &[u8]) -> Option<Command>
+    ensures { result ≡ option_map Step (node_in arguments.now) }
+{
+    Some(Command::Step(node_of(arguments)?))
+}
+
+fn node_command(arguments: &[u8]) -> Option<Command>
+    ensures { result ≡ option_map Node (node_in arguments.now) }
+{
+    Some(Command::Node(node_of(arguments)?))
+}
+
+fn trace_command(arguments: &[u8]) -> Option<Command>
+    ensures { result ≡ option_map Trace (node_in arguments.now) }
+{
+    Some(Command::Trace(node_of(arguments)?))
 }
 
 #[tactic(auto, unfolding(crate::specs::kept::Parsing::rewind_in))]

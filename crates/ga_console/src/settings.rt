@@ -104,7 +104,7 @@ const NOTATION: &str = "Source, words apart by blanks, tabs and line ends:
 /// What the program is to do.
 ///
 /// A `file` is the name of one that is read before standard input, or none.
-#[derive(Debug, Drop, PartialEq, Eq)]
+#[derive(Drop, PartialEq, Eq)]
 pub enum Settings {
     /// Serve a session that keeps up to this many events, 1 to 4000000.
     Debug {
