@@ -2,10 +2,9 @@
 use Rattle.std.proofs.Common.{◌≡◌, ◌∙◌, ℕ, zero, suc, ◌<◌, ◌≤◌, ◌+◌, true, false, List, [], ◌∷◌, ◌++◌, length, take, drop, get_or, Some, arith, ap, sym, refl, subst}
 use Rattle.ga_source.specs.declared.item.Program.{Program}
 use Rattle.ga_source.specs.declared.scan.Token.{Token}
-use Rattle.ga_source.specs.Saying.{Said, said_in}
+use Rattle.ga_source.specs.Saying.{Said, all_said}
 use Rattle.ga_source.specs.Plain.{is_node, yxx_in}
-use Rattle.ga_source.specs.Asks.{said_body, said_bodies, AsksFor, IsAsked, AreAskedBy, AreAsked}
-use Rattle.ga_source.specs.kept.Telling.{all_said}
+use Rattle.ga_source.specs.Asks.{said_body, said_bodies, AsksFor, IsAsked, AreAskedBy}
 use Rattle.ga_source.specs.kept.Hearing.{texts_of}
 use Rattle.ga_source.specs.kept.Programs.{AreAskedFirst}
 use Rattle.ga_source.proofs.Bodies.{name_is_other, drop_twice}
@@ -96,14 +95,13 @@ one_more_asked words behind body d first name count program programs after all t
 
 -- ---- a source
 
-pub none_asked : (source : List ℕ) (tokens words : List Token) (programs : List Program) → all_said tokens ≡ said_in source → words ≡ tokens → programs ≡ [] → AreAskedFirst (said_bodies (said_in source)) programs (said_bodies (all_said words))
+pub none_asked : (words : List Token) (programs : List Program) → programs ≡ [] → AreAskedFirst (said_bodies (all_said words)) programs (said_bodies (all_said words))
 unfolding AreAskedFirst
-none_asked source tokens words programs e same none =
-    subst (λ (p : List Program). AreAskedFirst (said_bodies (said_in source)) p (said_bodies (all_said words))) (sym none)
-    (ap said_bodies (sym e ∙ ap all_said (sym same)))
+none_asked words programs none =
+    subst (λ (p : List Program). AreAskedFirst (said_bodies (all_said words)) p (said_bodies (all_said words))) (sym none) refl
 
-pub all_asked : (source : List ℕ) (tokens : List Token) (programs : List Program) → tokens ≡ [] → AreAskedFirst (said_bodies (said_in source)) programs (said_bodies (all_said tokens)) → AreAsked source programs
+pub all_asked : (words left : List Token) (programs : List Program) → left ≡ [] → AreAskedFirst (said_bodies (all_said words)) programs (said_bodies (all_said left)) → AreAskedBy (said_bodies (all_said words)) programs
 unfolding said_bodies
-all_asked source tokens programs none read =
-    asked_all (said_bodies (said_in source)) programs
-    (subst (λ (left : List Token). AreAskedFirst (said_bodies (said_in source)) programs (said_bodies (all_said left))) none read)
+all_asked words left programs none read =
+    asked_all (said_bodies (all_said words)) programs
+    (subst (λ (rest : List Token). AreAskedFirst (said_bodies (all_said words)) programs (said_bodies (all_said rest))) none read)

@@ -7,7 +7,7 @@ use Rattle.ga_source.specs.declared.controls.Open.{Open}
 use Rattle.ga_source.specs.declared.scan.Token.{Token}
 use Rattle.ga_source.specs.Asking.{Asking, Refusal, refuse, line_of, all_closed, hear, next_text, asked_from, finished, is_waiting, all_placed, ◌▷◌}
 use Rattle.ga_source.specs.Asking.Wrong.{Unclosed}
-use Rattle.ga_source.specs.kept.Telling.{said_of, all_said}
+use Rattle.ga_source.specs.Saying.{said_of, all_said}
 use Rattle.ga_source.specs.kept.Hearing.{texts_of}
 
 -- ---- what is still open

@@ -7,9 +7,8 @@ use Rattle.ga_source.specs.kept.Hearing.{texts_of}
 use Rattle.std.specs.Prelude.{codes, map}
 use Rattle.std.proofs.lemmas.Bool.{cases_Bool}
 use Rattle.ga_grid.specs.Names.{node_number}
-use Rattle.ga_source.specs.Plain.{Plain, is_node, body_in, bodies_in, yxx_in, plain_of, asked_by, words_in, IsOf, AreOf, AreRead}
-use Rattle.ga_source.specs.Saying.{said_in}
-use Rattle.ga_source.specs.kept.Telling.{all_said}
+use Rattle.ga_source.specs.Plain.{Plain, is_node, body_in, bodies_in, yxx_in, plain_of, asked_by, texts_in, words_in, IsOf, AreOf}
+use Rattle.ga_source.specs.Saying.{said_in, all_said}
 use Rattle.ga_source.proofs.Hearing.{same_text}
 use Rattle.ga_source.specs.kept.Programs.{AreOfFirst}
 
@@ -156,15 +155,14 @@ pub words_told : (source : List ℕ) (tokens : List Token) → all_said tokens �
 words_told source tokens e = sym (map_map tokens) ∙ ap (map (λ said. said.text)) e
 
 -- none is read
-pub none_read : (source : List ℕ) (tokens words : List Token) (programs : List Program) → all_said tokens ≡ said_in source → words ≡ tokens → programs ≡ [] → AreOfFirst (bodies_in (words_in source)) programs (bodies_in (texts_of words))
+pub none_read : (words : List Token) (programs : List Program) → programs ≡ [] → AreOfFirst (bodies_in (texts_in (all_said words))) programs (bodies_in (texts_of words))
 unfolding AreOfFirst
-none_read source tokens words programs e same none =
-    subst (λ (p : List Program). AreOfFirst (bodies_in (words_in source)) p (bodies_in (texts_of words))) (sym none)
-    (ap bodies_in (sym (words_told source tokens e) ∙ ap texts_of (sym same)))
+none_read words programs none =
+    subst (λ (p : List Program). AreOfFirst (bodies_in (texts_in (all_said words))) p (bodies_in (texts_of words))) (sym none) (ap bodies_in (map_map words))
 
 -- all are read
-pub all_read : (source : List ℕ) (tokens : List Token) (programs : List Program) → tokens ≡ [] → AreOfFirst (bodies_in (words_in source)) programs (bodies_in (texts_of tokens)) → AreRead source programs
+pub all_read : (words left : List Token) (programs : List Program) → left ≡ [] → AreOfFirst (bodies_in (texts_in (all_said words))) programs (bodies_in (texts_of left)) → AreOf (bodies_in (texts_in (all_said words))) programs
 unfolding bodies_in
-all_read source tokens programs none read =
-    first_all (bodies_in (words_in source)) programs
-    (subst (λ (left : List Token). AreOfFirst (bodies_in (words_in source)) programs (bodies_in (texts_of left))) none read)
+all_read words left programs none read =
+    first_all (bodies_in (texts_in (all_said words))) programs
+    (subst (λ (rest : List Token). AreOfFirst (bodies_in (texts_in (all_said words))) programs (bodies_in (texts_of rest))) none read)

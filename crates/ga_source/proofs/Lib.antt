@@ -23,3 +23,5 @@ pub mod CellGroups
 pub mod Refusing
 pub mod Making
 pub mod PlainNodes
+pub mod Assembling
+pub mod Numbering

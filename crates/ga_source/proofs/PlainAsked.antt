@@ -27,7 +27,7 @@ use Rattle.ga_source.specs.declared.controls.Open.{Open}
 use Rattle.ga_source.specs.Asking.{Mention, is_waiting}
 use Rattle.ga_source.specs.Asking.Wrong.{LongLine, OpenComment}
 use Rattle.ga_source.specs.Reading.{carried}
-use Rattle.ga_source.specs.Saying.{Said}
+use Rattle.ga_source.specs.Saying.{Said, said_of, all_said}
 use Rattle.ga_ports.specs.Steps.{◌>>=◌}
 use Rattle.ga_source.specs.Numbers.{by_name, begins, number_in}
 use Rattle.ga_source.specs.Plain.{Plain, with_request, by_number, only_if, is_cell, asked_by, value_in, plain_of, no_request}
@@ -39,7 +39,6 @@ use Rattle.ga_source.specs.declared.labels.Label.{Label}
 use Rattle.ga_source.specs.declared.scan.Token.{Token}
 use Rattle.ga_source.specs.Asking.{mention_of}
 use Rattle.ga_source.specs.kept.Drafting.{asking_of}
-use Rattle.ga_source.specs.kept.Telling.{said_of, all_said}
 use Rattle.ga_source.specs.kept.Hearing.{texts_of}
 use Rattle.ga_source.proofs.Bodies.{map_map}
 use Rattle.ga_source.proofs.Hearing.{no_some, some_same, no_label, numbered, allowed, not_carried, same_text, hear_plain, end_heard}

@@ -7,11 +7,10 @@ use Rattle.std.proofs.lemmas.List.Elements.{All-nil, All-cons, All-head, All-tai
 use Rattle.ga_source.specs.declared.scan.Kind.{Kind}
 use Rattle.ga_source.specs.declared.scan.Kind.TheVariants.{Word, LongLine, OpenComment}
 use Rattle.ga_source.specs.declared.scan.Token.{Token}
-use Rattle.ga_source.specs.Saying.{is_word, is_word_kind, said_in}
+use Rattle.ga_source.specs.Saying.{is_word, is_word_kind, said_in, all_said}
 use Rattle.ga_grid.specs.Names.{node_number}
 use Rattle.ga_source.specs.Plain.{Plain, is_node, body_in, bodies_in, yxx_in, words_in, plain_of}
 use Rattle.ga_source.specs.Sound.{cells_from, AreFree, IsSoundBody, IsSound}
-use Rattle.ga_source.specs.kept.Telling.{all_said}
 use Rattle.ga_source.specs.kept.Hearing.{texts_of}
 use Rattle.ga_source.specs.kept.Refusing.{AreSound, IsSoundFrom}
 use Rattle.ga_source.proofs.Bodies.{no_number, drop_twice, words_told}
@@ -119,11 +118,11 @@ begun_none k = elim (cases_lt k 144) [
 pub none_there : (begun : List Bool) → begun ≡ replicate 144 false → (n : ℕ) → slice_index_or begun n false ≡ false
 none_there begun is n = ap (λ (list : List Bool). slice_index_or list n false) is ∙ begun_none n
 
-pub source_sound : (source : List ℕ) (tokens words : List Token) (begun : List Bool) → all_said tokens ≡ said_in source → words ≡ tokens → ((n : ℕ) → slice_index_or begun n false ≡ false) → IsSound source → IsSoundFrom begun words
-source_sound source tokens words begun told same none sound =
-    let texts : texts_of words ≡ words_in source = ap texts_of same ∙ words_told source tokens told in
+pub source_sound : (words : List Token) (begun : List Bool) → ((n : ℕ) → slice_index_or begun n false ≡ false) → (source : List ℕ) → said_in source ≡ all_said words → IsSound source → IsSoundFrom begun words
+source_sound words begun none source told sound =
+    let texts : texts_of words ≡ words_in source = words_told source words (sym told) in
     record {
-      kinds = subst (All (λ token. token.kind ≡ Word)) (sym same) (kinds_are tokens (ap (list_all is_word) told ∙ sound.whole));
+      kinds = kinds_are words (ap (list_all is_word) (sym told) ∙ sound.whole);
       begins = ap body_in texts ∙ sound.begins;
       bodies = subst (λ (list : List (List ℕ)). AreSound begun (bodies_in list)) (sym texts) (record { each = sound.bodies; apart = sound.apart; fresh = λ k n within is. none n });
     }

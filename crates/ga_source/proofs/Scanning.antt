@@ -126,8 +126,11 @@ module _ (line : ℕ) (rest whole first behind : List ℕ) (e : lines_of rest �
   unfolding up_to_fault
   at_end_line is = ap up_to_fault (line_said ∙ cond-true (bytes_eq first (codes "end")) [] (said_by line first ++ said_from (next_line line) (lines_of behind)) is)
 
+  pub ends_here : bytes_eq first (codes "end") ≡ true → said_from line (lines_of rest) ≡ []
+  ends_here is = line_said ∙ cond-true (bytes_eq first (codes "end")) [] (said_by line first ++ said_from (next_line line) (lines_of behind)) is
+
   -- any other line
-  other_line : bytes_eq first (codes "end") ≡ false → said_from line (lines_of rest) ≡ said_by line first ++ said_from (next_line line) (lines_of behind)
+  pub other_line : bytes_eq first (codes "end") ≡ false → said_from line (lines_of rest) ≡ said_by line first ++ said_from (next_line line) (lines_of behind)
   other_line other = line_said ∙ cond-false (bytes_eq first (codes "end")) [] (said_by line first ++ said_from (next_line line) (lines_of behind)) other
 
   -- a line with a fault
@@ -139,6 +142,12 @@ module _ (line : ℕ) (rest whole first behind : List ℕ) (e : lines_of rest �
   at_whole_line other whole_line = ap up_to_fault (other_line other) ∙ whole_front (said_by line first) (said_from (next_line line) (lines_of behind)) whole_line
 
 -- no line is left
+pub no_line_left : (line : ℕ) (rest : List ℕ) → length rest ≡ 0 → said_from line (lines_of rest) ≡ []
+unfolding parted said_from
+no_line_left line [] none = refl
+no_line_left line (b ∷ rest) none = absurd (omega arith)
+
+-- so none is left up to a fault
 pub nothing_left : (line : ℕ) (rest : List ℕ) → length rest ≡ 0 → up_to_fault (said_from line (lines_of rest)) ≡ []
 unfolding parted said_from up_to_fault
 nothing_left line [] none = refl

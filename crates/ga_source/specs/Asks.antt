@@ -19,9 +19,10 @@ said_bodies (said ∷ words) = if is_node said.text then said_body words ∷ sai
 
 -- ---- what they ask for
 
--- The program asks for just what the words behind its node's name ask for, which stands on this line: each request with its line, the
+-- The program begins on this line, and asks for just what the words behind its node's name ask for: each request with its line, the
 -- labels with their names and lines in the order in which the words name them, and the registers with theirs.
 pub record AsksFor (line : ℕ) (words : List Said) (program : Program) : Type 0 where
+  pub begins : program.line ≡ line
   pub last : Asking
   pub asks : asked_of line words ≡ Ok last
   pub asked : program.asked.items ≡ last.asked

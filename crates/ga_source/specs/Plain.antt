@@ -13,16 +13,20 @@ use Rattle.ga_source.specs.declared.item.Asked.{Asked}
 use Rattle.ga_source.specs.declared.item.Given.{Given}
 use Rattle.ga_source.specs.declared.item.Registers.{Registers}
 use Rattle.ga_source.specs.declared.item.Program.{Program}
-use Rattle.ga_source.specs.Saying.{said_in}
+use Rattle.ga_source.specs.Saying.{Said, said_in}
 use Rattle.ga_grid.specs.Names.{node_number}
 use Rattle.ga_ports.specs.Steps.{◌>>=◌}
 use Rattle.ga_source.specs.Numbers.{number_in}
 
 -- ---- the words of each node
 
--- the words of a source; a line's fault has no text
+-- the words of what is said; a line's fault has no text
+abbrev pub texts_in : List Said → List (List ℕ)
+texts_in all = map (λ said. said.text) all
+
+-- the words of a source
 abbrev pub words_in : List ℕ → List (List ℕ)
-words_in source = map (λ said. said.text) (said_in source)
+words_in source = texts_in (said_in source)
 
 -- a program begins with this word
 abbrev pub is_node : List ℕ → Bool

@@ -1,7 +1,8 @@
 -- What a source says: its words with their lines, comments left out (docs/REFERENCE.md, "Source"; the notation is this project's own).
-use Rattle.std.specs.Prelude.{ℕ, ◌+◌, ◌-◌, ◌^◌, ◌==◌, nat_lt, Bool, true, false, ◌||◌, ◌&&◌, not, if◌then◌else◌, List, [], ◌∷◌, ◌++◌, length, min, filter, take, drop, slice_index, codes, bytes_eq}
+use Rattle.std.specs.Prelude.{ℕ, ◌+◌, ◌-◌, ◌^◌, ◌==◌, nat_lt, Bool, true, false, ◌||◌, ◌&&◌, not, if◌then◌else◌, List, [], ◌∷◌, ◌++◌, length, map, min, filter, take, drop, slice_index, codes, bytes_eq}
 use Rattle.ga_source.specs.declared.scan.Kind.{Kind}
 use Rattle.ga_source.specs.declared.scan.Kind.TheVariants.{Word, LongLine, OpenComment}
+use Rattle.ga_source.specs.declared.scan.Token.{Token}
 
 -- ---- lines, and the words of a line
 
@@ -112,6 +113,19 @@ said_from line [] = []
 said_from line (text ∷ texts) =
     if bytes_eq (bare line text) (codes "end") then [] else said_by line (bare line text) ++ said_from (next_line line) texts
 
+-- what a source says, up to its end or to a line `end`
+abbrev pub all_in : List ℕ → List Said
+all_in source = said_from 1 (lines_of source)
+
 -- what a source says, up to its end, to a line `end` or to the first fault of a line
 unfoldable pub said_in : List ℕ → List Said
-said_in source = up_to_fault (said_from 1 (lines_of source))
+said_in source = up_to_fault (all_in source)
+
+-- ---- what was read
+
+-- what a word that was read says, and what some say
+abbrev pub said_of : Token → Said
+said_of token = record { line = token.line; text = token.text.now; kind = token.kind }
+
+abbrev pub all_said : List Token → List Said
+all_said tokens = map said_of tokens

@@ -6,7 +6,7 @@ ghost use Rattle.ga_source.specs.Asking.{asked_of, is_waiting as is_waiting_for}
 ghost use Rattle.ga_source.specs.kept.Answering.{Answers};
 ghost use Rattle.ga_source.specs.kept.Drafting.{asking_of};
 ghost use Rattle.ga_source.specs.kept.Hearing.{texts_of};
-ghost use Rattle.ga_source.specs.kept.Telling.{all_said};
+ghost use Rattle.ga_source.specs.Saying.{all_said};
 
 use super::controls::Open;
 use super::fault::{Cause, Fault, at};
@@ -51,7 +51,7 @@ impl<'s> Draft<'s> {
     ghost use Rattle.ga_source.specs.declared.item.Value.TheVariants.{Label as LabelOf};
     ghost use Rattle.ga_source.specs.kept.Answering.{Answers};
     ghost use Rattle.ga_source.specs.kept.Drafting.{asking_of};
-    ghost use Rattle.ga_source.specs.kept.Telling.{said_of};
+    ghost use Rattle.ga_source.specs.Saying.{said_of};
 
     fn new(alloc: Global) -> Self
         ensures { asking_of result ≡ nothing_asked }

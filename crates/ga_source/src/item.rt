@@ -117,6 +117,8 @@ impl Group {
 #[derive(Drop)]
 pub struct Program<'s> {
     pub node: NodeId,
+    /// The line of the node's name.
+    pub line: u32,
     pub asked: Vec<Asked>,
     /// The addresses of the labels by their numbers.
     pub labels: Vec<Option<u32>>,

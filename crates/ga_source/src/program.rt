@@ -7,11 +7,10 @@ ghost use Rattle.ga_grid.specs.Steady.{AreSteady};
 ghost use Rattle.ga_source.specs.Programs.{given_of, with_registers, has_cells as has_cells_of, is_item as is_item_of, start_of as start, is_named, at_load, HasProgram, IsAssembled};
 ghost use Rattle.ga_source.specs.Cells.{IsEmptyElsewhere};
 ghost use Rattle.ga_grid.specs.Grid.{number_in};
-ghost use Rattle.ga_source.specs.Plain.{Plain, is_node as is_node_word, body_in, bodies_in, yxx_in, plain_of, value_in, asked_by, AreRead};
-ghost use Rattle.ga_source.specs.Asks.{said_body, said_bodies, AsksFor, AreAsked};
+ghost use Rattle.ga_source.specs.Plain.{Plain, is_node as is_node_word, body_in, bodies_in, yxx_in, texts_in, plain_of, value_in, asked_by, AreOf, AreRead};
+ghost use Rattle.ga_source.specs.Asks.{said_body, said_bodies, AsksFor, AreAskedBy, AreAsked};
 ghost use Rattle.ga_source.specs.Groups.{HasGroups};
-ghost use Rattle.ga_source.specs.kept.Telling.{all_said};
-ghost use Rattle.ga_source.specs.Saying.{Said};
+ghost use Rattle.ga_source.specs.Saying.{all_said, said_in, Said};
 ghost use Rattle.ga_source.specs.Made.{IsMade};
 ghost use Rattle.ga_source.specs.declared.fault.Cause.TheVariants.{Memory};
 ghost use Rattle.ga_source.specs.declared.scan.Kind.TheVariants.{Word};
@@ -41,7 +40,7 @@ fn node_named(text: &[u8]) -> Option<NodeId>
 }
 
 /// Whether the program of a node begins here.
-fn is_node(text: &[u8]) -> bool
+pub(crate) fn is_node(text: &[u8]) -> bool
     ensures { result ≡ is_node_word text.now }
 {
     text == b"node".as_slice()
@@ -196,6 +195,7 @@ fn assemble_node<'s>(
     load(node, &packed, asked.as_slice())?;
     Ok(Program {
         node: id,
+        line,
         asked,
         labels: packed.labels,
         names,
@@ -256,6 +256,39 @@ fn assemble_first<'s>(
     Ok(count + 2)
 }
 
+/// The chip of words. What is told of a line is told of the number that stands in its place.
+///
+/// # Errors
+/// A fault of the first node that has one: the first of its words, or else of its names, or else of its cells.
+pub fn assemble_words<'s>(alloc: Global, words: &[Token<'s>]) -> Result<Assembled<'s>, Fault<'s>>
+    // Each node that is named has its program and its registers, and all else of the chip is as at load.
+    ensures programs { IfOk result (λ all. IsAssembled all.chip all.programs.items) }
+
+    // Each program is that of the words behind a `node`, in order, and asks for just what these ask for.
+    ensures asked { IfOk result (λ all. AreAskedBy (said_bodies (all_said words.now)) all.programs.items) }
+
+    // Its groups are the cells that these requests make, in order.
+    ensures groups { IfOk result (λ all. All HasGroups all.programs.items) }
+
+    // So it asks for what they ask for as plain words, where they are.
+    ensures read { IfOk result (λ all. AreOf (bodies_in (texts_in (all_said words.now))) all.programs.items) }
+
+    // The words of a source of plain words that give each cell once are refused for want of memory alone.
+    ensures refused { IfErr result (λ fault. (source : List ℕ) → said_in source ≡ all_said words.now → IsSound source → fault.cause ≡ Memory) }
+{
+    let mut chip = match Chip::new(alloc) {
+        Ok(chip) => chip,
+        Err(_) => return Err(at(0, Cause::Memory)),
+    };
+    let mut begun = none_begun();
+    let mut programs = Vec::new(alloc);
+    let mut start = 0;
+    while start < words.len() {
+        start += assemble_first(alloc, &mut chip, &mut begun, &mut programs, &words[start..])?;
+    }
+    Ok(Assembled { chip, programs })
+}
+
 /// The chip of a source, up to its end or to a line `end`.
 ///
 /// # Errors
@@ -287,16 +320,5 @@ pub fn assemble(alloc: Global, source: &[u8]) -> Result<Assembled<'_>, Fault<'_>
     ensures steady { IfOk result (λ all. AreSteady (records_of all.chip)) }
 {
     let tokens = scan(alloc, source)?;
-    let mut chip = match Chip::new(alloc) {
-        Ok(chip) => chip,
-        Err(_) => return Err(at(0, Cause::Memory)),
-    };
-    let mut begun = none_begun();
-    let mut programs = Vec::new(alloc);
-    let words = tokens.as_slice();
-    let mut start = 0;
-    while start < words.len() {
-        start += assemble_first(alloc, &mut chip, &mut begun, &mut programs, &words[start..])?;
-    }
-    Ok(Assembled { chip, programs })
+    assemble_words(alloc, tokens.as_slice())
 }

@@ -2,8 +2,7 @@
 
 ghost use Rattle.std.specs.Prelude.{◌≡◌, ◌<◌, [], ◌∷◌, ◌++◌, length, IsOkAnd, IsErrAnd, IfOk, OnOk};
 ghost use Rattle.std.specs.List.{list_all};
-ghost use Rattle.ga_source.specs.Saying.{lines_of, is_blank as is_blank_byte, parted, closes as closes_comment, unmarked as without_mark, bare as bare_line, without_return as without_end, said_by, is_word, said_in};
-ghost use Rattle.ga_source.specs.kept.Telling.{all_said};
+ghost use Rattle.ga_source.specs.Saying.{lines_of, is_blank as is_blank_byte, parted, closes as closes_comment, unmarked as without_mark, bare as bare_line, without_return as without_end, said_by, is_word, all_in, said_in, all_said};
 ghost use Rattle.ga_source.specs.declared.scan.Kind.TheVariants.{Word, LongLine, OpenComment};
 ghost use Rattle.ga_source.specs.declared.fault.Cause.TheVariants.{LongLine as TooLong, OpenComment as LeftOpen};
 
@@ -12,15 +11,16 @@ use std::alloc::{AllocError, Global};
 
 /// A word of the source, or what is wrong with a line, and the line's number from 1 on.
 #[derive(Clone, Copy)]
-pub(crate) struct Token<'s> {
+pub struct Token<'s> {
     pub line: u32,
     /// Empty where the line is at fault.
     pub text: &'s [u8],
     pub kind: Kind,
 }
 
+/// What a line says here.
 #[derive(Clone, Copy, PartialEq, Eq)]
-pub(crate) enum Kind {
+pub enum Kind {
     Word,
     /// The line is too long.
     LongLine,
@@ -156,6 +156,29 @@ fn bare(line: u32, text: &[u8]) -> &[u8]
     ensures { result.now ≡ bare_line line text.now }
 {
     without_return(unmarked(line, text))
+}
+
+/// The words of a text, up to its end or to a line `end`. What stands behind a line with a fault is read too.
+///
+/// # Errors
+/// Memory was refused.
+pub fn words_of(alloc: Global, source: &[u8]) -> Result<Vec<Token<'_>>, AllocError>
+    ensures { IfOk result (λ words. all_said words.items ≡ all_in source.now) }
+{
+    let mut words = Vec::new(alloc);
+    let mut rest = source;
+    let mut line = 1u32;
+    while !rest.is_empty() {
+        let (whole, behind) = first_line(rest);
+        let first = bare(line, whole);
+        if first == b"end".as_slice() {
+            return Ok(words);
+        }
+        let _is_whole = scan_line(&mut words, line, first)?;
+        rest = behind;
+        line = line.saturating_add(1);
+    }
+    Ok(words)
 }
 
 /// The words of a text, up to its end, to a line `end` or to the first line with a fault.

@@ -1,16 +1,7 @@
 -- What the words say that were read so far (docs/REFERENCE.md, "Source"; the notation is this project's own).
-use Rattle.std.specs.Prelude.{◌≡◌, ℕ, Bool, false, List, ◌++◌, map}
+use Rattle.std.specs.Prelude.{◌≡◌, ℕ, Bool, false, List, ◌++◌}
 use Rattle.std.specs.List.{list_all}
-use Rattle.ga_source.specs.declared.scan.Token.{Token}
 use Rattle.ga_source.specs.Saying.{words_of, Said, is_word, spoken}
-
--- what a token says
-abbrev pub said_of : Token → Said
-said_of token = record { line = token.line; text = token.text.now; kind = token.kind }
-
--- what tokens say
-abbrev pub all_said : List Token → List Said
-all_said tokens = map said_of tokens
 
 -- Of a line, what stands before a rest was told: the rest says what is left, within a comment or not.
 pub record IsTold (line : ℕ) (text : List ℕ) (before now : List Said) (is_open : Bool) (rest : List ℕ) : Type 0 where

@@ -1,7 +1,7 @@
 use Rattle.std.proofs.Common.{◌≡◌, drop}
 use Rattle.ga_source.specs.Asking.{asked_from, asked_of}
 use Rattle.ga_source.specs.kept.Drafting.{asking_of}
-use Rattle.ga_source.specs.kept.Telling.{all_said}
+use Rattle.ga_source.specs.Saying.{all_said}
 use Rattle.ga_source.proofs.draft.read_node.Given as goal
 
 abbrev pub invariant-loop-i : goal.invariant-loop-i

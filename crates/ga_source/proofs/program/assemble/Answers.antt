@@ -1,39 +1,22 @@
-use Rattle.std.proofs.Common.{rules}
-use Rattle.std.proofs.lemmas.List.{drop_all}
-use Rattle.ga_source.proofs.Bodies.{none_read, all_read}
-use Rattle.ga_source.proofs.AskedBodies.{none_asked, all_asked}
-use Rattle.ga_source.proofs.Empty.{assembled_empty}
-use Rattle.ga_source.proofs.Refusing.{none_there, source_sound}
-use Rattle.ga_source.proofs.PlainNodes.{source_made}
-use Rattle.ga_source.proofs.Steady.{assembled_steady}
+use Rattle.std.proofs.Common.{◌∙◌, ap, sym}
+use Rattle.ga_source.specs.Saying.{all_said}
+use Rattle.ga_source.proofs.Assembling.{asked_of_words, read_of_words, made_of_source, refused_of_words, empty_of_source, steady_of_source}
 use Rattle.ga_source.proofs.program.assemble.Goals as goal
 
-pub loop-start-init : goal.loop-start-init
-loop-start-init c = record {
-  size = c.none_begun-begun.ensures.size;
-  loaded = search rules;
-  groups = search rules;
-  read = none_read c.args.source.now c.in_ok-tokens.tokens.items c.as_slice-words.result.now c.new-programs.result.items
-      c.in_ok-tokens.ensures c.as_slice-words.ensures.value c.new-programs.ensures.items;
-  asked = none_asked c.args.source.now c.in_ok-tokens.tokens.items c.as_slice-words.result.now c.new-programs.result.items
-      c.in_ok-tokens.ensures c.as_slice-words.ensures.value c.new-programs.ensures.items;
-  sound = source_sound c.args.source.now c.in_ok-tokens.tokens.items c.as_slice-words.result.now _ c.in_ok-tokens.ensures c.as_slice-words.ensures.value (none_there c.none_begun-begun.result c.none_begun-begun.ensures.empty);
-}
+pub returns-clause-asked : goal.returns-clause-asked
+returns-clause-asked c = asked_of_words c.args.source.now _ c.assemble_words.result (sym c.in_ok-tokens.ensures ∙ ap all_said (sym c.as_slice.ensures.value)) c.assemble_words.ensures.asked
 
 pub returns-clause-read : goal.returns-clause-read
-returns-clause-read c =
-    all_read c.args.source.now _ c.loop-start.programs.items (drop_all c.loop-start.start c.as_slice-words.result.now c.loop-start-test.false) c.loop-start.invariant.read
-
-pub returns-clause-asked : goal.returns-clause-asked
-returns-clause-asked c =
-    all_asked c.args.source.now _ c.loop-start.programs.items (drop_all c.loop-start.start c.as_slice-words.result.now c.loop-start-test.false) c.loop-start.invariant.asked
+returns-clause-read c = read_of_words c.args.source.now _ c.assemble_words.result (sym c.in_ok-tokens.ensures ∙ ap all_said (sym c.as_slice.ensures.value)) c.assemble_words.ensures.read
 
 pub returns-clause-made : goal.returns-clause-made
-returns-clause-made c =
-    source_made c.args.source.now c.loop-start.chip c.loop-start.programs.items (returns-clause-read c) c.loop-start.invariant.loaded.assembled
+returns-clause-made c = made_of_source c.args.source.now c.assemble_words.result (returns-clause-read c) c.assemble_words.ensures.programs
+
+pub returns-clause-refused : goal.returns-clause-refused
+returns-clause-refused c = refused_of_words c.args.source.now _ c.assemble_words.result (sym c.in_ok-tokens.ensures ∙ ap all_said (sym c.as_slice.ensures.value)) c.assemble_words.ensures.refused
 
 pub returns-clause-empty : goal.returns-clause-empty
-returns-clause-empty c = assembled_empty c.loop-start.chip c.loop-start.programs.items c.loop-start.invariant.loaded.assembled
+returns-clause-empty c = empty_of_source c.assemble_words.result c.assemble_words.ensures.programs
 
 pub returns-clause-steady : goal.returns-clause-steady
-returns-clause-steady c = assembled_steady c.loop-start.chip c.loop-start.programs.items c.loop-start.invariant.loaded.assembled
+returns-clause-steady c = steady_of_source c.assemble_words.result c.assemble_words.ensures.programs

@@ -16,6 +16,7 @@ use Rattle.ga_source.proofs.program.assemble_node.Goals as goal
 
 pub returns-clause-asked : goal.returns-clause-asked
 returns-clause-asked c = record {
+  begins = refl;
   last = asking_of c.in_ok-asked.field-0;
   asks = c.in_ok-asked.ensures;
   asked = refl;

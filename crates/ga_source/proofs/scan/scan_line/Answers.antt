@@ -1,7 +1,6 @@
 use Rattle.std.proofs.Common.{◌∙◌, sym, ap, arith, Bool, not, [], append-nil}
 use Rattle.std.proofs.lemmas.Bool.{eqb-true, eqb-false}
-use Rattle.ga_source.specs.Saying.{words_of, spoken}
-use Rattle.ga_source.specs.kept.Telling.{all_said}
+use Rattle.ga_source.specs.Saying.{words_of, spoken, all_said}
 use Rattle.ga_source.proofs.Scanning.{hear_open, hear_remark, hear_opening, hear_word, told_same, told_word, none_left, open_left, line_told, line_whole}
 use Rattle.ga_source.proofs.scan.scan_line.Goals as goal
 
