@@ -4,6 +4,8 @@
 #[cfg(test)]
 mod asserts;
 #[cfg(test)]
+mod because;
+#[cfg(test)]
 mod explore;
 #[cfg(test)]
 mod far;
