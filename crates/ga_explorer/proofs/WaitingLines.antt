@@ -1,7 +1,8 @@
 -- Texts of nodes, one node more at a time.
-use Rattle.std.proofs.Common.{◌≡◌, ℕ, zero, suc, ◌+◌, ◌-◌, ◌<◌, List, [], ◌++◌, refl, sym, ap, ◌∙◌, append_assoc, arith}
+use Rattle.std.proofs.Common.{◌≡◌, ℕ, zero, suc, ◌+◌, ◌-◌, ◌<◌, Bool, true, false, List, [], ◌++◌, refl, sym, ap, ◌∙◌, append_assoc, add-one, arith}
+use Rattle.std.specs.Prelude.{if◌then◌else◌}
 use Rattle.std.proofs.lemmas.List.{append-nil}
-use Rattle.ga_explorer.specs.Waiting.{each_node}
+use Rattle.ga_explorer.specs.Waiting.{each_node, node_count}
 
 no_node : (text : ℕ → List ℕ) (n : ℕ) → each_node text n zero ≡ []
 unfolding each_node
@@ -31,3 +32,21 @@ next_added text n m out new rest l e g h =
 
 pub all_added : (text : ℕ → List ℕ) (n left : ℕ) (out rest : List ℕ) → left ≡ zero → out ++ each_node text n left ≡ rest → out ≡ rest
 all_added text n left out rest e h = sym (append-nil out) ∙ ap (λ (z : List ℕ). out ++ z) (sym (all_told text n left e)) ∙ h
+
+-- how many nodes a test holds of, with one node more
+pub none_counted : (test : ℕ → Bool) → node_count test zero ≡ 0
+unfolding node_count
+none_counted test = refl
+
+one_counted : (test : ℕ → Bool) (n : ℕ) → node_count test (suc n) ≡ node_count test n + (if test n then 1 else 0)
+unfolding node_count
+one_counted test n = refl
+
+next_counted : (test : ℕ → Bool) (n : ℕ) → node_count test (n + 1) ≡ node_count test n + (if test n then 1 else 0)
+next_counted test n = ap (node_count test) (add-one n) ∙ one_counted test n
+
+pub counted : (test : ℕ → Bool) (n count : ℕ) → count ≡ node_count test n → test n ≡ true → count + 1 ≡ node_count test (n + 1)
+counted test n count e h = ap (λ (z : ℕ). z + 1) e ∙ sym (next_counted test n ∙ ap (λ (b : Bool). node_count test n + (if b then 1 else 0)) h)
+
+pub uncounted : (test : ℕ → Bool) (n count : ℕ) → count ≡ node_count test n → test n ≡ false → count ≡ node_count test (n + 1)
+uncounted test n count e h = e ∙ sym (next_counted test n ∙ ap (λ (b : Bool). node_count test n + (if b then 1 else 0)) h ∙ omega arith)

@@ -10,6 +10,8 @@ mod explore;
 #[cfg(test)]
 mod far;
 #[cfg(test)]
+mod idle;
+#[cfg(test)]
 mod shared;
 #[cfg(test)]
 mod whence;
