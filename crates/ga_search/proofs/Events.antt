@@ -1,6 +1,6 @@
 -- Events made one after another.
-use Rattle.std.proofs.Common.{◌≡◌, ℕ, ◌+◌, ◌<◌, Bool, true, false, Some, Ok, inl, inr, refl, sym, ◌∙◌, ap, subst, arith, add-one}
-use Rattle.std.specs.Prelude.{is_some, IsSome}
+use Rattle.std.proofs.Common.{◌≡◌, ℕ, zero, suc, ◌+◌, ◌-◌, ◌<◌, List, Some, None, Ok, inl, inr, refl, sym, ◌∙◌, ap, subst, arith, add-one}
+use Rattle.std.specs.Prelude.{Option, is_some, IsSome}
 use Rattle.std.specs.Result.{result_ok}
 use Rattle.std.proofs.lemmas.Bool.{cases_lt}
 use Rattle.ga_event.specs.declared.made.Made.{Made}
@@ -11,8 +11,8 @@ use Rattle.ga_search.specs.declared.running.End.TheVariants as the_end
 use Rattle.ga_grid.specs.declared.node_id.NodeId.{NodeId}
 use Rattle.ga_search.specs.declared.schedule.Schedule.{Schedule}
 use Rattle.ga_search.specs.Schedules.{passed_on}
-use Rattle.ga_search.specs.Conditions.{holds}
-use Rattle.ga_search.specs.Running.{Running, running, chosen, told_by, told, moved_by, moved, after, AreMade, holds_told, holds_next, NeverHolds, IsHalted, HasEnded}
+use Rattle.ga_search.specs.Conditions.{first_held}
+use Rattle.ga_search.specs.Running.{Running, running, chosen, told_by, told, moved_by, moved, after, AreMade, held_told, held_next, NeverHolds, IsHalted, HasEnded}
 
 after_more : (r : Running) (n : ℕ) → after r (n + 1) ≡ moved (after r n)
 after_more r n = ap (after r) (add-one n)
@@ -27,28 +27,56 @@ made_more start here n made at is before k l = elim (cases_lt k n) [
   | inr more ↦ (let e : k ≡ n = omega arith in subst (λ z. IsSome (told (after start z))) (sym e) (subst (λ z. IsSome (told z)) at (ap is_some is)))
 ]
 
--- whether the condition holds after it
-pub holds_is : (until : Condition) (here next : Running) (made : Made) (b : Bool) → told here ≡ Some made → next ≡ moved here → b ≡ holds until made next.state → holds_next until here ≡ b
-holds_is until here next made b is on h =
-    ap (λ o. holds_told until o (moved here).state) is ∙ ap (λ (z : Running). holds until made z.state) (sym on) ∙ sym h
+-- which of the conditions holds after it
+pub held_is : (until : List Condition) (here next : Running) (made : Made) (held : Option ℕ) → told here ≡ Some made → next ≡ moved here → held ≡ first_held until made next.state → held_next until here ≡ held
+held_is until here next made held is on h =
+    ap (λ o. held_told until o (moved here).state) is ∙ ap (λ (z : Running). first_held until made z.state) (sym on) ∙ sym h
 
-pub never_more : (until : Condition) (start here : Running) (n : ℕ) → here ≡ after start n → holds_next until here ≡ false → NeverHolds until start n → NeverHolds until start (n + 1)
+pub never_more : (until : List Condition) (start here : Running) (n : ℕ) → here ≡ after start n → held_next until here ≡ None → NeverHolds until start n → NeverHolds until start (n + 1)
 never_more until start here n at unmet before k l = elim (cases_lt k n) [
   | inl less ↦ before k less
-  | inr more ↦ (let e : k ≡ n = omega arith in subst (λ z. holds_next until (after start z) ≡ false) (sym e) (subst (λ z. holds_next until z ≡ false) at unmet))
+  | inr more ↦ (let e : k ≡ n = omega arith in subst (λ z. held_next until (after start z) ≡ None) (sym e) (subst (λ z. held_next until z ≡ None) at unmet))
 ]
 
 -- how it ends
-pub ended_reached : (until : Condition) (start here : Running) (most n : ℕ) (made : Made) → here ≡ after start n → NeverHolds until start n
-    → told here ≡ Some made → holds_next until here ≡ true → HasEnded start most until (n + 1) (the_end.Reached made)
-ended_reached until start here most n made at never is met =
-    (n, refl, never, subst (λ z. told z ≡ Some made) at is, subst (λ z. holds_next until z ≡ true) at met)
+pub ended_reached : (until : List Condition) (start here : Running) (most n : ℕ) (made : Made) (which : ℕ) → here ≡ after start n → NeverHolds until start n
+    → told here ≡ Some made → held_next until here ≡ Some which → HasEnded start most until (n + 1) (the_end.Reached made which)
+ended_reached until start here most n made which at never is met =
+    (n, refl, never, subst (λ z. told z ≡ Some made) at is, subst (λ z. held_next until z ≡ Some which) at met)
 
-pub ended_halted : (until : Condition) (start here : Running) (most n : ℕ) (end : End) → here ≡ after start n → n < most → NeverHolds until start n → IsHalted here end → HasEnded start most until n end
+pub ended_halted : (until : List Condition) (start here : Running) (most n : ℕ) (end : End) → here ≡ after start n → n < most → NeverHolds until start n → IsHalted here end → HasEnded start most until n end
 ended_halted until start here most n the_end.Quiet at less never h = (less, never, subst (λ z. IsHalted z the_end.Quiet) at h)
 ended_halted until start here most n (the_end.Refused why) at less never h = (less, never, subst (λ z. IsHalted z (the_end.Refused why)) at h)
-ended_halted until start here most n (the_end.Reached made) at less never h = absurd h
+ended_halted until start here most n (the_end.Reached made which) at less never h = absurd h
 ended_halted until start here most n the_end.Made at less never h = absurd h
+
+-- Two runs, one behind the other, are one.
+
+pub after_after : (r : Running) (m n : ℕ) → after (after r m) n ≡ after r (m + n)
+after_after r m zero = ap (after r) (let e : m ≡ m + 0 = omega arith in e)
+after_after r m (suc n) = ap moved (after_after r m n) ∙ ap (after r) (let e : suc (m + n) ≡ m + suc n = omega arith in e)
+
+never_both : (until : List Condition) (r : Running) (m n : ℕ) → NeverHolds until r m → NeverHolds until (after r m) n → NeverHolds until r (m + n)
+never_both until r m n first second k l = elim (cases_lt k m) [
+  | inl less ↦ first k less
+  | inr more ↦ (
+      let e : m + (k - m) ≡ k = omega arith in
+      subst (λ z. held_next until (after r z) ≡ None) e (subst (λ z. held_next until z ≡ None) (after_after r m (k - m)) (second (k - m) (omega arith))))
+]
+
+pub ended_later : (until : List Condition) (r : Running) (most m n : ℕ) (end : End) → NeverHolds until r m → HasEnded (after r m) most until n end → HasEnded r (m + most) until (m + n) end
+ended_later until r most m n (the_end.Reached made which) never h = (
+  m + h.0,
+  (let e : n ≡ h.0 + 1 = h.1 in omega arith),
+  never_both until r m h.0 never h.2,
+  subst (λ z. told z ≡ Some made) (after_after r m h.0) h.3,
+  subst (λ z. held_next until z ≡ Some which) (after_after r m h.0) h.4,
+)
+ended_later until r most m n the_end.Made never h = (ap (λ (z : ℕ). m + z) h.0, never_both until r m n never h.1)
+ended_later until r most m n the_end.Quiet never h =
+    ((let l : n < most = h.0 in omega arith), never_both until r m n never h.1, subst (λ z. IsHalted z the_end.Quiet) (after_after r m n) h.2)
+ended_later until r most m n (the_end.Refused why) never h =
+    ((let l : n < most = h.0 in omega arith), never_both until r m n never h.1, subst (λ z. IsHalted z (the_end.Refused why)) (after_after r m n) h.2)
 
 -- one event: what is told of it, and where it leads
 pub told_is : (s : State) (schedule : Schedule) (node : NodeId) (made : Made) → chosen (running s schedule) ≡ Some node → step_answer s node ≡ Ok made → told (running s schedule) ≡ Some made

@@ -11,6 +11,8 @@ pub mod Freeing
 pub mod Telling
 pub mod Ends
 pub mod WordCounts
+pub mod Newest
+pub mod Held
 pub mod Sessions
 pub mod Standing
 pub mod Offering

@@ -18,7 +18,7 @@ use Rattle.ga_lab.specs.Machine.{State, chip_of, told_next, step_answer, with_ev
 use Rattle.ga_lab.proofs.Called.{Runs, runs_of, chip_is, told_is}
 use Rattle.ga_search.specs.declared.words.Sent.{Sent}
 use Rattle.ga_search.specs.Words.{is_over, carried_as, one_over, words_after, word_count}
-use Rattle.ga_search.specs.kept.Counted.{counted_link, count_over, counted, more_over, counted_by}
+use Rattle.ga_search.specs.kept.Counted.{counted_link, count_over, counted, more_over, counted_by, AreCounted, WereCounted}
 use Rattle.ga_search.specs.declared.condition.Condition.{Condition}
 use Rattle.ga_search.proofs.Telling.{read_on}
 use Rattle.ga_search.proofs.Stepping.{StepIs, step_is, stepped_is}
@@ -150,6 +150,10 @@ over_on (Some link) s t m h = h link.0.number link.1.number
 pub counted_on : (until : Condition) (s t : State) (m : Made) → ((w r : ℕ) → word_count t w r ≡ word_count s w r + one_over w r m)
     → counted until t ≡ counted until s + counted_by until m
 counted_on until s t m h = over_on (counted_link until) s t m h
+
+pub all_counted_on : (until : List Condition) (s t : State) (m : Made) (words : List ℕ) → ((w r : ℕ) → word_count t w r ≡ word_count s w r + one_over w r m)
+    → AreCounted until s words → WereCounted until t m words
+all_counted_on until s t m words h before k one is = counted_on one s t m h ∙ ap (λ (z : ℕ). z + counted_by one m) (before k one is)
 
 -- how many they are is no more than the writer's steps
 pub few_more : (until : Condition) (link : NodeId × NodeId) (s : State) (m : Made) (words : ℕ) → Some link ≡ counted_link until → counted until s ≡ words + counted_by until m

@@ -1,14 +1,20 @@
--- Conditions on what an event was and on the machine right after it.
-use Rattle.std.specs.Prelude.{ℕ, ◌==◌, Bool, true, false, ◌&&◌, ◌||◌}
+-- Conditions on what an event was and on the machine right after it (F18A Technology Reference DB001, opcodes and memory map). Two are
+-- edges: they hold where an event makes something so, and not as long as it is.
+use Rattle.std.specs.Prelude.{ℕ, suc, ◌%◌, ◌==◌, nat_lt, Bool, true, false, ◌&&◌, ◌||◌, if◌then◌else◌, is_none, List, [], ◌∷◌, Option, Some, None, option_map}
+use Rattle.ga_ports.specs.Address.{classified}
+use Rattle.ga_ports.specs.declared.address.Target.{Target}
+use Rattle.ga_ports.specs.declared.address.Target.TheVariants as target
 use Rattle.ga_grid.specs.Chip.{record_at}
+use Rattle.ga_node.specs.Record.{NodeRecord}
+use Rattle.ga_node.specs.Table.{refusal}
 use Rattle.ga_node.specs.declared.kind.Kind.{Kind}
 use Rattle.ga_node.specs.declared.kind.Kind.TheVariants as kind
 use Rattle.ga_event.specs.declared.made.Made.{Made}
 use Rattle.ga_event.specs.declared.made.Made.TheVariants as made
-use Rattle.ga_lab.specs.Machine.{State, chip_of, word_at}
+use Rattle.ga_lab.specs.Machine.{State, chip_of, undone, word_at}
 use Rattle.ga_search.specs.Words.{is_over, word_count}
 use Rattle.ga_search.specs.declared.condition.Condition.{Condition}
-use Rattle.ga_search.specs.declared.condition.Condition.TheVariants.{Never, Passes, PassesNumber, Steps, Stops, StopsAt, WaitsAt, Holds, ComesTo}
+use Rattle.ga_search.specs.declared.condition.Condition.TheVariants.{Never, Passes, PassesNumber, Steps, Stops, StopsAt, WaitsAt, Holds, ComesTo, Reaches, Writes}
 
 -- a word went over this link
 abbrev pub is_pass : ℕ → ℕ → ℕ → Made → Bool
@@ -41,7 +47,53 @@ abbrev pub is_own_at : ℕ → (Kind → Bool) → Made → Bool
 is_own_at node test (made.Own n k what) = (n.number == node) && test what
 is_own_at node test (made.Pass w k r j carried) = false
 
--- the condition holds right after this was made, where the machine is this
+-- it was a step of the node
+abbrev pub is_of : ℕ → Made → Bool
+is_of node (made.Own n k what) = n.number == node
+is_of node (made.Pass w k r j carried) = (w.number == node) || (r.number == node)
+
+-- the node runs, and what it does next is to fetch the word at this address
+abbrev pub fetches_at : ℕ → NodeRecord → Bool
+fetches_at address n = is_none (refusal n) && (n.slot == 4) && (n.p == address)
+
+-- the address at which an opcode with this code stores: `!p` at P, `!+` and `!` at A, `!b` at B
+abbrev pub stored_at : ℕ → NodeRecord → Option ℕ
+stored_at code n =
+    if code == 0x0c then Some n.p
+    else if (code == 0x0d) || (code == 0x0f) then Some n.a
+    else if code == 0x0e then Some n.b
+    else None
+
+-- the target is this cell of RAM
+abbrev pub is_cell : ℕ → Target → Bool
+is_cell cell (target.Ram k) = k == cell
+is_cell cell (target.Rom k) = false
+is_cell cell target.Io = false
+is_cell cell (target.Ports sides) = false
+is_cell cell target.Bad = false
+
+abbrev pub names_cell : ℕ → Option ℕ → Bool
+names_cell cell None = false
+names_cell cell (Some address) = is_cell cell (classified address)
+
+-- an event of this kind of a node that was so before it stored in the cell
+abbrev pub stores_in : ℕ → NodeRecord → Kind → Bool
+stores_in cell before kind.Fetch = false
+stores_in cell before (kind.Run code) = names_cell cell (stored_at code before)
+stores_in cell before kind.Wait = false
+stores_in cell before (kind.Stop code) = false
+
+-- a node as it was before the newest event
+abbrev pub node_before : State → ℕ → NodeRecord
+node_before s node = record_at (chip_of (undone s)) node
+
+-- the word is the one that is asked for, where one is
+abbrev pub is_asked : Option ℕ → ℕ → Bool
+is_asked None word = true
+is_asked (Some asked) word = word == asked
+
+-- The condition holds right after this was made, where the machine is this. Memory from address 80 hexadecimal on is ROM, where no
+-- event stores.
 abbrev pub holds : Condition → Made → State → Bool
 holds Never told s = false
 holds (Passes writer reader word) told s = is_pass writer.number reader.number word told
@@ -52,3 +104,31 @@ holds (StopsAt node) told s = is_own_at node.number is_stop told
 holds (WaitsAt node) told s = is_own_at node.number is_wait told
 holds (Holds node address word) told s = word_at (record_at (chip_of s) node.number) address == word
 holds (ComesTo node address) told s = (record_at (chip_of s) node.number).p == address
+holds (Reaches node address) told s = is_of node.number told && fetches_at address (record_at (chip_of s) node.number)
+holds (Writes node address word) told s =
+    nat_lt address 128 && is_own_at node.number (stores_in (address % 64) (node_before s node.number)) told
+    && is_asked word (word_at (record_at (chip_of s) node.number) address)
+
+-- the place of the first of some conditions that holds then
+unfoldable pub first_held : List Condition → Made → State → Option ℕ
+first_held [] told s = None
+first_held (until ∷ others) told s = if holds until told s then Some 0 else option_map suc (first_held others told s)
+
+-- it holds never
+abbrev pub is_never : Condition → Bool
+is_never Never = true
+is_never (Passes writer reader word) = false
+is_never (PassesNumber writer reader number) = false
+is_never (Steps node step) = false
+is_never Stops = false
+is_never (StopsAt node) = false
+is_never (WaitsAt node) = false
+is_never (Holds node address word) = false
+is_never (ComesTo node address) = false
+is_never (Reaches node address) = false
+is_never (Writes node address word) = false
+
+-- those before the first one that holds never
+unfoldable pub asked_of : List Condition → List Condition
+asked_of [] = []
+asked_of (until ∷ others) = if is_never until then [] else until ∷ asked_of others

@@ -1,6 +1,7 @@
 -- Events made in the order of a schedule: a list of steps of the machine and nothing else. Each is a step of the first node, from
--- the one whose turn it is on and round the chip, that has an event.
-use Rattle.std.specs.Prelude.{◌≡◌, ℕ, zero, suc, ◌+◌, ◌<◌, Bool, true, false, List, Option, Some, None, Result, Err, IsSome, IsOk, ◌⊎◌}
+-- the one whose turn it is on and round the chip, that has an event. A run ends right behind the first event at which one of some
+-- conditions holds.
+use Rattle.std.specs.Prelude.{◌≡◌, ℕ, zero, suc, ◌+◌, ◌<◌, false, List, Option, Some, None, Result, Err, IsSome, IsOk, ◌⊎◌}
 use Rattle.std.specs.Result.{result_ok}
 use Rattle.ga_node.specs.Record.{NodeRecord}
 use Rattle.ga_grid.specs.declared.node_id.NodeId.{NodeId}
@@ -13,7 +14,7 @@ use Rattle.ga_search.specs.declared.condition.Condition.{Condition}
 use Rattle.ga_search.specs.declared.running.End.{End}
 use Rattle.ga_search.specs.declared.running.End.TheVariants as the_end
 use Rattle.ga_search.specs.Schedules.{passed_on}
-use Rattle.ga_search.specs.Conditions.{holds}
+use Rattle.ga_search.specs.Conditions.{first_held}
 use Rattle.ga_search.specs.Ready.{can_go, first_in}
 
 -- a machine with the schedule by which its events are made
@@ -53,17 +54,17 @@ after r (suc events) = moved (after r events)
 abbrev pub AreMade : Running → ℕ → Type 0
 AreMade r events = (k : ℕ) → k < events → IsSome (told (after r k))
 
--- the condition holds right after the next event
-abbrev pub holds_told : Condition → Option Made → State → Bool
-holds_told until None s = false
-holds_told until (Some made) s = holds until made s
+-- the place of the first of the conditions that holds right after the next event
+abbrev pub held_told : List Condition → Option Made → State → Option ℕ
+held_told until None s = None
+held_told until (Some made) s = first_held until made s
 
-abbrev pub holds_next : Condition → Running → Bool
-holds_next until r = holds_told until (told r) (moved r).state
+abbrev pub held_next : List Condition → Running → Option ℕ
+held_next until r = held_told until (told r) (moved r).state
 
--- and after none of so many
-abbrev pub NeverHolds : Condition → Running → ℕ → Type 0
-NeverHolds until r events = (k : ℕ) → k < events → holds_next until (after r k) ≡ false
+-- and none holds after one of so many
+abbrev pub NeverHolds : List Condition → Running → ℕ → Type 0
+NeverHolds until r events = (k : ℕ) → k < events → held_next until (after r k) ≡ None
 
 -- no node has an event
 abbrev pub IsQuiet : List NodeRecord → Type 0
@@ -77,13 +78,13 @@ IsRefusedFor why answer = (answer ≡ Err why) ⊎ ((why ≡ Memory) × IsOk ans
 abbrev pub IsHalted : Running → End → Type 0
 IsHalted r the_end.Quiet = IsQuiet (chip_of r.state)
 IsHalted r (the_end.Refused why) = (node : NodeId) × (chosen r ≡ Some node) × IsRefusedFor why (step_answer r.state node)
-IsHalted r (the_end.Reached made) = ⊥
+IsHalted r (the_end.Reached made which) = ⊥
 IsHalted r the_end.Made = ⊥
 
 -- how it ended after so many events, of which no more were asked for
-abbrev pub HasEnded : Running → ℕ → Condition → ℕ → End → Type 0
-HasEnded r most until events (the_end.Reached made) =
-    (k : ℕ) × (events ≡ k + 1) × NeverHolds until r k × (told (after r k) ≡ Some made) × (holds_next until (after r k) ≡ true)
+abbrev pub HasEnded : Running → ℕ → List Condition → ℕ → End → Type 0
+HasEnded r most until events (the_end.Reached made which) =
+    (k : ℕ) × (events ≡ k + 1) × NeverHolds until r k × (told (after r k) ≡ Some made) × (held_next until (after r k) ≡ Some which)
 HasEnded r most until events the_end.Made = (events ≡ most) × NeverHolds until r events
 HasEnded r most until events the_end.Quiet = (events < most) × NeverHolds until r events × IsHalted (after r events) the_end.Quiet
 HasEnded r most until events (the_end.Refused why) = (events < most) × NeverHolds until r events × IsHalted (after r events) (the_end.Refused why)

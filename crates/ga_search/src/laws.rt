@@ -1,6 +1,6 @@
 //! Laws of the definitions, each the contract of a function that does nothing.
 
-ghost use Rattle.std.specs.Prelude.{◌≡◌, ◌≢◌, ◌≤◌, ◌↔◌, ◌⊎◌, ℕ, Bool, true, false, List, [], ◌++◌, Option, None, Ok, IfSome, IsSome};
+ghost use Rattle.std.specs.Prelude.{◌≡◌, ◌≢◌, ◌≤◌, ◌+◌, ◌↔◌, ◌⊎◌, ℕ, Bool, true, false, List, [], ◌++◌, Option, None, Ok, IfSome, IsSome};
 ghost use Rattle.std.specs.List.{All};
 ghost use Rattle.ga_ports.specs.declared.side.Side.{Side};
 ghost use Rattle.ga_node.specs.Record.{NodeRecord};
@@ -19,6 +19,9 @@ ghost use Rattle.ga_search.specs.Near.{IsNear};
 ghost use Rattle.ga_search.specs.Stuck.{AreStuck};
 ghost use Rattle.ga_search.specs.Offered.{offered};
 ghost use Rattle.ga_search.specs.Races.{races_asked, has_looks, first_ready, IsOther};
+ghost use Rattle.ga_search.specs.Running.{Running, after, NeverHolds, HasEnded};
+ghost use Rattle.ga_search.specs.declared.condition.Condition.{Condition};
+ghost use Rattle.ga_search.specs.declared.running.End.{End};
 
 /// An event changes what the next event of a node is at the nodes that it touches and at their neighbours alone.
 pub fn next_changes_near_alone()
@@ -93,4 +96,12 @@ pub fn no_other_order()
 /// neighbour is the pass to the node, of the other word.
 pub fn other_word()
     ensures { (s : State) (only : Option NodeId) → All (IsOther s) (races_asked s only) }
+{}
+
+/// Two runs, the second by the schedule that the first hands back, are one run by the schedule of the first: where no condition held in
+/// the first, the second ends as the one does.
+pub fn slices_are_one_run()
+    ensures events { (r : Running) (first second : ℕ) → after (after r first) second ≡ after r (first + second) }
+    ensures end { (r : Running) (until : List Condition) (first most second : ℕ) (end : End) → NeverHolds until r first →
+        HasEnded (after r first) most until second end → HasEnded r (first + most) until (first + second) end }
 {}

@@ -3,6 +3,7 @@
 
 mod condition;
 mod counting;
+mod edges;
 mod effects;
 mod freed;
 mod idle;
@@ -13,6 +14,7 @@ mod races;
 mod ready;
 mod running;
 mod schedule;
+mod watching;
 mod words;
 mod writers;
 
@@ -25,4 +27,5 @@ pub use offers::offered;
 pub use races::{Race, Races, find_races};
 pub use running::{End, Ran, run};
 pub use schedule::{Order, Schedule};
+pub use watching::{MOST_CONDITIONS, asked_of};
 pub use words::{Sent, Words};

@@ -1,10 +1,11 @@
 //! Events in the order of a schedule.
 
-ghost use Rattle.std.specs.Prelude.{◌≡◌, ◌≤◌, ◌+◌, ℕ, Ok, IfOk, IfErr, IsSome, OnOk, OnErr, Some};
+ghost use Rattle.std.specs.Prelude.{◌≡◌, ◌≤◌, ◌+◌, ℕ, length, Ok, IfOk, IfErr, IsSome, OnOk, OnErr, Some};
 ghost use Rattle.ga_event.specs.Apply.{replay};
 ghost use Rattle.ga_lab.specs.Machine.{chip_of, step_answer, stepped};
 ghost use Rattle.ga_search.specs.Words.{one_over, word_count};
 ghost use Rattle.ga_search.specs.kept.Ready.{HoldsReady};
+ghost use Rattle.ga_search.specs.kept.Counted.{newest_told};
 ghost use Rattle.ga_search.specs.Schedules.{passed_on};
 ghost use Rattle.ga_search.specs.Running.{running, told, moved, after, AreMade, IsRefusedFor, IsHalted, HasEnded};
 
@@ -12,14 +13,16 @@ use crate::condition::Condition;
 use crate::numbers::Numbers;
 use crate::ready::{first_from, ready_nodes, refresh};
 use crate::schedule::Schedule;
+use crate::watching::{count_all, count_on, first_held};
 use ga_grid::NodeId;
 use ga_lab::{Lab, LabFault, Made};
 
 /// Why no more events were made.
 #[derive(Clone, Copy, PartialEq, Eq, Debug)]
 pub enum End {
-    /// The condition holds right after this event, and held after none before.
-    Reached(Made),
+    /// A condition holds right after this event, and none held after one before. Of those that hold it is the first, at this place
+    /// of their list.
+    Reached { made: Made, which: usize },
     /// As many as were asked for.
     Made,
     /// No node of the chip has an event.
@@ -28,13 +31,15 @@ pub enum End {
     Refused(LabFault),
 }
 
-/// How many events were made, and why no more.
+/// How many events were made, why no more, and how the order goes on.
 #[derive(Clone, Copy, PartialEq, Eq, Debug)]
 pub struct Ran {
     /// How many.
     pub events: u64,
     /// Why no more.
     pub end: End,
+    /// Where the schedule stands: a further run by it goes on with this one.
+    pub schedule: Schedule,
 }
 
 // Makes this node's next event, and looks at what that may have changed.
@@ -52,9 +57,11 @@ fn make(
     ensures ready { OnOk result (HoldsReady (chip_of lab.new) ready.new) }
     ensures words { IfOk result (λ made. (writer reader : ℕ) →
         word_count lab.new writer reader ≡ word_count lab.old writer reader + one_over writer reader made) }
+    ensures newest { IfOk result (λ made. newest_told lab.new ≡ Some made) }
     ensures replays { OnOk result (IsSome (replay lab.new.load lab.new.kept)) }
     ensures refused { IfErr result (λ why. IsRefusedFor why (step_answer lab.old node)) }
     ensures same { OnErr result (lab.new ≡ lab.old) }
+    ensures stays { OnErr result (schedule.new ≡ schedule.old) }
 {
     match lab.step_inlined(node) {
         Ok(made) => {
@@ -75,9 +82,11 @@ fn advance(lab: &mut Lab, ready: &mut Numbers, schedule: &mut Schedule) -> Resul
     ensures ready { OnOk result (HoldsReady (chip_of lab.new) ready.new) }
     ensures words { IfOk result (λ made. (writer reader : ℕ) →
         word_count lab.new writer reader ≡ word_count lab.old writer reader + one_over writer reader made) }
+    ensures newest { IfOk result (λ made. newest_told lab.new ≡ Some made) }
     ensures replays { OnOk result (IsSome (replay lab.new.load lab.new.kept)) }
     ensures halted { IfErr result (IsHalted (running lab.old schedule.old)) }
     ensures same { OnErr result (lab.new ≡ lab.old) }
+    ensures stays { OnErr result (schedule.new ≡ schedule.old) }
 {
     match first_from(ready, schedule.turn) {
         Some(node) => match make(lab, ready, schedule, node) {
@@ -88,30 +97,46 @@ fn advance(lab: &mut Lab, ready: &mut Numbers, schedule: &mut Schedule) -> Resul
     }
 }
 
-/// Makes events in the order of a schedule: at most so many, up to the first after which the condition holds. Takes time by the
-/// events that are made, and not by how many nodes wait; a condition that counts words reads the steps of one end once before.
-pub fn run(lab: &mut Lab, mut schedule: Schedule, most: u64, until: &Condition) -> Ran
-    ensures state { lab.new ≡ (after (running lab.old schedule) result.events).state }
+/// Makes events in the order of a schedule: at most so many, up to the first after which one of the conditions holds, and hands the
+/// schedule back. Takes time by the events that are made, and not by how many nodes wait; a condition that counts words reads the
+/// steps of one end once before.
+pub fn run(lab: &mut Lab, mut schedule: Schedule, most: u64, until: &[Condition]) -> Ran
+    requires { length until.now ≤ 8 }
+    ensures state { running lab.new result.schedule ≡ after (running lab.old schedule) result.events }
     ensures made { AreMade (running lab.old schedule) result.events }
     ensures most { result.events ≤ most }
     ensures end { HasEnded (running lab.old schedule) most until.now result.events result.end }
 {
     let mut ready = ready_nodes(lab.chip());
-    let mut words = until.count(lab);
+    let mut words = count_all(until, lab);
     let mut events = 0;
     while events < most {
         match advance(lab, &mut ready, &mut schedule) {
             Ok(made) => {
                 events += 1;
-                words = until.count_on(words, &made, lab);
-                if until.holds(&made, lab, words) {
-                    let end = End::Reached(made);
-                    return Ran { events, end };
+                count_on(until, &mut words, &made, lab);
+                if let Some(which) = first_held(until, &words, &made, lab) {
+                    let end = End::Reached { made, which };
+                    return Ran {
+                        events,
+                        end,
+                        schedule,
+                    };
                 }
             }
-            Err(end) => return Ran { events, end },
+            Err(end) => {
+                return Ran {
+                    events,
+                    end,
+                    schedule,
+                };
+            }
         }
     }
     let end = End::Made;
-    Ran { events, end }
+    Ran {
+        events,
+        end,
+        schedule,
+    }
 }

@@ -59,14 +59,15 @@ fn is_made_at(rt: &impl Abort, lab: &Lab, place: u32, wanted: Made) {
 
 // How many events a run made, and why it ended.
 fn ends(rt: &impl Abort, ran: Ran, events: u64, end: End) {
-    same(rt, &ran, &Ran { events, end });
+    same(rt, &ran.events, &events);
+    same(rt, &ran.end, &end);
 }
 
 // In rounds both nodes make four events in turn, then 000 alone goes on up to its wait.
 #[test]
 fn rounds(rt: HostRuntime) -> Result<(), Fail> {
     let mut lab = pair(rt.alloc())?;
-    let ran = run(&mut lab, Schedule::in_rounds(), 12, &Condition::Never);
+    let ran = run(&mut lab, Schedule::in_rounds(), 12, &[]);
     ends(&rt, ran, 12, End::Made);
     is_made_at(&rt, &lab, 0, own(0, 1, Kind::Fetch));
     is_made_at(&rt, &lab, 1, own(1, 1, Kind::Fetch));
@@ -80,7 +81,7 @@ fn rounds(rt: HostRuntime) -> Result<(), Fail> {
 #[test]
 fn greedy(rt: HostRuntime) -> Result<(), Fail> {
     let mut lab = pair(rt.alloc())?;
-    let ran = run(&mut lab, Schedule::greedily(), 12, &Condition::Never);
+    let ran = run(&mut lab, Schedule::greedily(), 12, &[]);
     ends(&rt, ran, 12, End::Made);
     is_made_at(&rt, &lab, 6, own(0, 7, Kind::Wait));
     is_made_at(&rt, &lab, 7, own(1, 1, Kind::Fetch));
@@ -106,7 +107,7 @@ fn drawn(rt: HostRuntime) -> Result<(), Fail> {
             &mut lab,
             Schedule::at_random(1_234_567),
             5,
-            &Condition::Never,
+            &[],
         );
         ends(&rt, ran, 5, End::Made);
         for (place, node) in wanted.iter().enumerate() {
@@ -124,8 +125,8 @@ fn reaches(
     events: u64,
     made: Made,
 ) -> Result<(), Fail> {
-    let ran = run(&mut lab, Schedule::in_rounds(), 100, &until);
-    ends(rt, ran, events, End::Reached(made));
+    let ran = run(&mut lab, Schedule::in_rounds(), 100, &[until]);
+    ends(rt, ran, events, End::Reached { made, which: 0 });
     Ok(())
 }
 
@@ -177,9 +178,70 @@ fn reaches_a_word_in_a_cell(rt: HostRuntime) -> Result<(), Fail> {
     reaches(&rt, lab, holds, 11, own(0, 7, Kind::Run(0xe)))
 }
 
+// Node 000 fetches at 3 next behind its step 5: two literals of its first word stand before. P is 3 before, behind step 4, where the
+// last slot of the word is still to be run. Step 7 writes cell 5.
+#[test]
+fn reaches_edges(rt: HostRuntime) -> Result<(), Fail> {
+    let node = NodeId::new(0);
+    let reach = Condition::Reaches { node, address: 3 };
+    let lab = lab_of(rt.alloc(), sender(5, 0x2a), taker(0x1d5))?;
+    reaches(&rt, lab, reach, 9, own(0, 5, Kind::Run(0x1c)))?;
+    let word = Some(Word18::truncated(0x2a));
+    let writes = Condition::Writes {
+        node,
+        address: 0x45,
+        word,
+    };
+    let lab = lab_of(rt.alloc(), sender(5, 0x2a), taker(0x1d5))?;
+    reaches(&rt, lab, writes, 11, own(0, 7, Kind::Run(0xe)))
+}
+
+// Another cell, and another word: up to the end.
+#[test]
+fn passes_other_edges_by(rt: HostRuntime) -> Result<(), Fail> {
+    let node = NodeId::new(0);
+    let cell = Condition::Writes {
+        node,
+        address: 6,
+        word: None,
+    };
+    let word = Condition::Writes {
+        node,
+        address: 5,
+        word: Some(Word18::truncated(0x2b)),
+    };
+    let rom = Condition::Writes {
+        node,
+        address: 0x85,
+        word: None,
+    };
+    let mut lab = lab_of(rt.alloc(), sender(5, 0x2a), taker(0x1d5))?;
+    let ran = run(&mut lab, Schedule::in_rounds(), 11, &[cell, word, rom]);
+    ends(&rt, ran, 11, End::Made);
+    Ok(())
+}
+
+// Of two conditions the second holds first; and a run in two slices, the second by the schedule that the first hands back.
+#[test]
+fn slices_and_alternatives(rt: HostRuntime) -> Result<(), Fail> {
+    let node = NodeId::new(0);
+    let until = [
+        Condition::Stops,
+        Condition::Steps { node, step: 3 },
+        Condition::WaitsAt(node),
+    ];
+    let mut lab = pair(rt.alloc())?;
+    let first = run(&mut lab, Schedule::in_rounds(), 2, &until);
+    ends(&rt, first, 2, End::Made);
+    let second = run(&mut lab, first.schedule, 100, &until);
+    let made = own(0, 3, Kind::Run(0x1e));
+    ends(&rt, second, 3, End::Reached { made, which: 1 });
+    Ok(())
+}
+
 // In rounds up to a stop, how many events are made, and why no more.
 fn goes_up_to(rt: &impl Abort, lab: &mut Lab, events: u64, end: End) {
-    let ran = run(lab, Schedule::in_rounds(), 100, &Condition::Stops);
+    let ran = run(lab, Schedule::in_rounds(), 100, &[Condition::Stops]);
     ends(rt, ran, events, end);
 }
 
@@ -225,7 +287,7 @@ fn effects(rt: &impl Abort, alloc: Global, lab: &mut Lab) -> Result<(), Fail> {
 #[test]
 fn tells_effects(rt: HostRuntime) -> Result<(), Fail> {
     let mut lab = pair(rt.alloc())?;
-    run(&mut lab, Schedule::in_rounds(), 12, &Condition::Never);
+    run(&mut lab, Schedule::in_rounds(), 12, &[]);
     effects(&rt, rt.alloc(), &mut lab)
 }
 
@@ -245,7 +307,7 @@ fn sent_twice(alloc: Global) -> Result<Lab, Fail> {
         node: NodeId::new(0),
         step: 21,
     };
-    run(&mut lab, Schedule::in_rounds(), 100, &until);
+    run(&mut lab, Schedule::in_rounds(), 100, &[until]);
     Ok(lab)
 }
 
@@ -273,7 +335,7 @@ fn counts_words(rt: HostRuntime) -> Result<(), Fail> {
         reader,
         number: 2,
     };
-    run(&mut lab, Schedule::in_rounds(), 12, &until);
+    run(&mut lab, Schedule::in_rounds(), 12, &[until]);
     same(&rt, &count_words(&lab, writer, reader), &1);
     let made = Made::Pass {
         writer,
@@ -282,8 +344,8 @@ fn counts_words(rt: HostRuntime) -> Result<(), Fail> {
         reader_step: 9,
         word: Word18::truncated(0x2a),
     };
-    let ran = run(&mut lab, Schedule::in_rounds(), 100, &until);
-    ends(&rt, ran, 16, End::Reached(made));
+    let ran = run(&mut lab, Schedule::in_rounds(), 100, &[until]);
+    ends(&rt, ran, 16, End::Reached { made, which: 0 });
     let counts = [
         count_words(&lab, writer, reader),
         count_words(&lab, reader, writer),
@@ -317,7 +379,7 @@ fn tells_neighbours(rt: HostRuntime) -> Result<(), Fail> {
 
 // Which nodes can never go on, after so many more events.
 fn stuck_after(lab: &mut Lab, events: u64) -> [bool; 144] {
-    run(lab, Schedule::in_rounds(), events, &Condition::Never);
+    run(lab, Schedule::in_rounds(), events, &[]);
     find_stuck(lab.chip())
 }
 

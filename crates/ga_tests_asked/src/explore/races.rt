@@ -77,7 +77,7 @@ fn the_other_pass() -> Made {
 #[test]
 fn tells_races(rt: HostRuntime) -> Result<(), Fail> {
     let mut lab = rivals(rt.alloc())?;
-    run(&mut lab, Schedule::in_rounds(), 18, &Condition::Never);
+    run(&mut lab, Schedule::in_rounds(), 18, &[]);
     has_races(&rt, rt.alloc(), &mut lab, None, &[])?;
     same(&rt, &lab.step(NodeId::new(2)).is_ok(), &true);
     has_the_race(&rt, rt.alloc(), &mut lab)?;

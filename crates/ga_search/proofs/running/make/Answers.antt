@@ -4,7 +4,9 @@ use Rattle.ga_grid.specs.Chip.{records_of}
 use Rattle.ga_lab.specs.Machine.{chip_of, stepped, step_answer}
 use Rattle.ga_search.specs.kept.Ready.{HoldsReady, StaysRight, IsRefreshed}
 use Rattle.ga_search.specs.Words.{one_over, word_count}
+use Rattle.ga_search.specs.kept.Counted.{newest_told}
 use Rattle.ga_search.proofs.WordCounts.{counted_step}
+use Rattle.ga_search.proofs.Newest.{newest_step}
 use Rattle.ga_search.proofs.Stepping.{stepped_ready, answered_ok, answered_err}
 use Rattle.ga_search.proofs.running.make.Goals as goal
 
@@ -31,3 +33,9 @@ returns-in-Ok-clause-words c =
     subst (λ z. (writer reader : ℕ) → word_count z writer reader ≡ word_count c.args.lab.now writer reader + one_over writer reader c.in-Ok.made) (sym c.in-Ok.ensures.ok)
     (counted_step c.args.lab.now c.args.node c.in-Ok.made c.requires.replays
     (answered_ok (step_answer c.args.lab.now c.args.node) c.in-Ok.made c.in-Ok.ensures.answer))
+
+pub returns-in-Ok-clause-newest : goal.returns-in-Ok-clause-newest
+returns-in-Ok-clause-newest c =
+    ap newest_told c.in-Ok.ensures.ok
+    ∙ newest_step c.args.lab.now c.args.node c.in-Ok.made c.requires.replays
+    (answered_ok (step_answer c.args.lab.now c.args.node) c.in-Ok.made c.in-Ok.ensures.answer)

@@ -1,10 +1,9 @@
-use Rattle.std.proofs.Common.{◌≡◌, ◌∙◌, ℕ, ◌+◌, true, false, refl, ap, arith, sym, subst}
+use Rattle.std.proofs.Common.{◌≡◌, ◌∙◌, None, Some, refl, ap, arith, subst}
 use Rattle.std.specs.Prelude.{is_some}
 use Rattle.ga_search.specs.kept.Ready.{HoldsReady}
-use Rattle.ga_search.specs.kept.Counted.{counted_by}
-use Rattle.ga_search.proofs.WordCounts.{counted_on}
-use Rattle.ga_search.specs.Running.{Running, running, holds_next}
-use Rattle.ga_search.proofs.Events.{gone_on, made_more, never_more, holds_is, ended_reached, ended_halted}
+use Rattle.ga_search.proofs.WordCounts.{all_counted_on}
+use Rattle.ga_search.specs.Running.{Running, running, held_next}
+use Rattle.ga_search.proofs.Events.{gone_on, made_more, never_more, held_is, ended_reached, ended_halted}
 use Rattle.ga_search.proofs.running.run.Goals as goal
 
 pub loop-events-preserved : goal.loop-events-preserved
@@ -13,14 +12,15 @@ loop-events-preserved c =
     let start : Running = running c.args.lab.now c.args.schedule in
     let here : Running = running c.loop-events.lab c.loop-events.schedule in
     let next : Running = running c.advance.new.lab c.advance.new.schedule in
-    let unmet : holds_next c.args.until.now here ≡ false =
-    holds_is c.args.until.now here next c.in-Ok.made false c.in-Ok.ensures.told c.in-Ok.ensures.moved (sym c.if-holds.false ∙ c.holds.ensures) in
+    let unmet : held_next c.args.until.now here ≡ None =
+    held_is c.args.until.now here next c.in-Ok.made None c.in-Ok.ensures.told c.in-Ok.ensures.moved c.in_default.ensures in
     record {
       at = gone_on start here next c.loop-events.events i.at c.in-Ok.ensures.moved;
       made = made_more start here c.loop-events.events c.in-Ok.made i.at c.in-Ok.ensures.told i.made;
       never = never_more c.args.until.now start here c.loop-events.events i.at unmet i.never;
       ready = c.in-Ok.ensures.ready;
-      words = sym c.count_on-words.ensures;
+      size = c.count_on.ensures.size;
+      words = c.count_on.ensures.counted;
       replays = c.in-Ok.ensures.replays;
       most = omega arith;
     }
@@ -31,30 +31,31 @@ loop-events-init c = record {
   made = λ k l. absurd (omega arith);
   never = λ k l. absurd (omega arith);
   ready = subst (λ z. HoldsReady z c.ready_nodes-ready.result) c.chip.ensures.value c.ready_nodes-ready.ensures;
-  words = sym c.count-words.ensures;
+  size = c.count_all-words.ensures.size;
+  words = c.count_all-words.ensures.counted;
   replays = ap is_some c.chip.ensures.replays;
   most = omega arith;
 }
 
-pub returns-then-holds-clause-state : goal.returns-then-holds-clause-state
-returns-then-holds-clause-state c =
-    ap (λ (z : Running). z.state)
-    (gone_on (running c.args.lab.now c.args.schedule) (running c.loop-events.lab c.loop-events.schedule) (running c.advance.new.lab c.advance.new.schedule) c.loop-events.events c.loop-events.invariant.at c.in-Ok.ensures.moved)
+pub returns-in-Some-clause-state : goal.returns-in-Some-clause-state
+returns-in-Some-clause-state c =
+    gone_on (running c.args.lab.now c.args.schedule) (running c.loop-events.lab c.loop-events.schedule) (running c.advance.new.lab c.advance.new.schedule) c.loop-events.events c.loop-events.invariant.at c.in-Ok.ensures.moved
 
-pub returns-then-holds-clause-made : goal.returns-then-holds-clause-made
-returns-then-holds-clause-made c =
+pub returns-in-Some-clause-made : goal.returns-in-Some-clause-made
+returns-in-Some-clause-made c =
     made_more (running c.args.lab.now c.args.schedule) (running c.loop-events.lab c.loop-events.schedule) c.loop-events.events c.in-Ok.made c.loop-events.invariant.at c.in-Ok.ensures.told c.loop-events.invariant.made
 
-pub returns-then-holds-clause-end : goal.returns-then-holds-clause-end
-returns-then-holds-clause-end c =
+pub returns-in-Some-clause-end : goal.returns-in-Some-clause-end
+returns-in-Some-clause-end c =
     let start : Running = running c.args.lab.now c.args.schedule in
     let here : Running = running c.loop-events.lab c.loop-events.schedule in
     let next : Running = running c.advance.new.lab c.advance.new.schedule in
-    let met : holds_next c.args.until.now here ≡ true = holds_is c.args.until.now here next c.in-Ok.made true c.in-Ok.ensures.told c.in-Ok.ensures.moved (sym c.if-holds.true ∙ c.holds.ensures) in
-    ended_reached c.args.until.now start here c.args.most c.loop-events.events c.in-Ok.made c.loop-events.invariant.at c.loop-events.invariant.never c.in-Ok.ensures.told met
+    let met : held_next c.args.until.now here ≡ Some c.in-Some.which = held_is c.args.until.now here next c.in-Ok.made (Some c.in-Some.which) c.in-Ok.ensures.told c.in-Ok.ensures.moved c.in-Some.ensures in
+    ended_reached c.args.until.now start here c.args.most c.loop-events.events c.in-Ok.made c.in-Some.which c.loop-events.invariant.at c.loop-events.invariant.never c.in-Ok.ensures.told met
 
 pub returns-in-Err-clause-state : goal.returns-in-Err-clause-state
-returns-in-Err-clause-state c = c.in-Err.ensures.same ∙ ap (λ (z : Running). z.state) c.loop-events.invariant.at
+returns-in-Err-clause-state c =
+    ap (λ z. running z c.advance.new.schedule) c.in-Err.ensures.same ∙ ap (running c.loop-events.lab) c.in-Err.ensures.stays ∙ c.loop-events.invariant.at
 
 pub returns-in-Err-clause-end : goal.returns-in-Err-clause-end
 returns-in-Err-clause-end c =
@@ -62,12 +63,11 @@ returns-in-Err-clause-end c =
     c.loop-events.invariant.at c.loop-events-test.true c.loop-events.invariant.never c.in-Err.ensures.halted
 
 pub returns-clause-state : goal.returns-clause-state
-returns-clause-state c = ap (λ (z : Running). z.state) c.loop-events.invariant.at
+returns-clause-state c = c.loop-events.invariant.at
 
 pub returns-clause-end : goal.returns-clause-end
 returns-clause-end c = (omega (arith, c.loop-events.invariant.most, c.loop-events-test.false), c.loop-events.invariant.never)
 
-pub count_on-words-requires : goal.count_on-words-requires
-count_on-words-requires c =
-    counted_on c.args.until.now c.loop-events.lab c.advance.new.lab c.in-Ok.made c.in-Ok.ensures.words
-    ∙ ap (λ (z : ℕ). z + counted_by c.args.until.now c.in-Ok.made) c.loop-events.invariant.words
+pub count_on-requires-clause-counted : goal.count_on-requires-clause-counted
+count_on-requires-clause-counted c =
+    all_counted_on c.args.until.now c.loop-events.lab c.advance.new.lab c.in-Ok.made c.loop-events.words c.in-Ok.ensures.words c.loop-events.invariant.words

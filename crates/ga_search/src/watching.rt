@@ -1,0 +1,76 @@
+//! Some conditions at once.
+
+ghost use Rattle.std.specs.Prelude.{◌≡◌, ◌≤◌, length, Some};
+ghost use Rattle.ga_search.specs.Conditions.{first_held, asked_of};
+ghost use Rattle.ga_search.specs.kept.Counted.{AreCounted, WereCounted, newest_told};
+
+use crate::condition::Condition;
+use ga_lab::{Lab, Made};
+
+/// So many conditions at most are watched at once.
+pub const MOST_CONDITIONS: usize = 8;
+
+/// How many words are kept of the link that each of some conditions counts.
+pub(crate) type LinkCounts = [u32; MOST_CONDITIONS];
+
+/// The conditions before the first one that holds never.
+pub fn asked_of(until: &[Condition]) -> &[Condition]
+    ensures asked { result.now ≡ asked_of until.now }
+    ensures most { length result.now ≤ length until.now }
+{
+    for (place, condition) in until.iter().enumerate() {
+        if condition.is_never() {
+            return until.split_at(place).0;
+        }
+    }
+    until
+}
+
+// How many words each of them counts.
+pub(crate) fn count_all(until: &[Condition], lab: &Lab) -> LinkCounts
+    requires { length until.now ≤ 8 }
+    ensures size { length result ≡ 8 }
+    ensures counted { AreCounted until.now lab.now result }
+{
+    let mut words = [0; MOST_CONDITIONS];
+    for (place, condition) in until.iter().enumerate() {
+        words[place] = condition.count(lab);
+    }
+    words
+}
+
+// The same right after an event, where so many were kept before.
+#[inline(always)]
+pub(crate) fn count_on(until: &[Condition], words: &mut LinkCounts, made: &Made, lab: &Lab)
+    requires most { length until.now ≤ 8 }
+    requires size { length words.old ≡ 8 }
+    requires counted { WereCounted until.now lab.now made.now words.old }
+    ensures size { length words.new ≡ 8 }
+    ensures counted { AreCounted until.now lab.now words.new }
+{
+    for (place, condition) in until.iter().enumerate() {
+        words[place] = condition.count_on(words[place], made, lab);
+    }
+}
+
+// The place of the first that holds right after what was made, which is the newest event, where so many words are kept.
+#[inline(always)]
+pub(crate) fn first_held(
+    until: &[Condition],
+    words: &LinkCounts,
+    made: &Made,
+    lab: &Lab,
+) -> Option<usize>
+    requires most { length until.now ≤ 8 }
+    requires size { length words.now ≡ 8 }
+    requires counted { AreCounted until.now lab.now words.now }
+    requires newest { newest_told lab.now ≡ Some made.now }
+    ensures { result ≡ first_held until.now made.now lab.now }
+{
+    for (place, condition) in until.iter().enumerate() {
+        if condition.holds(made, lab, words[place]) {
+            return Some(place);
+        }
+    }
+    None
+}
