@@ -20,4 +20,5 @@ pub mod Behind
 pub mod Untold
 pub mod Silent
 pub mod Racing
+pub mod Placed
 mod Alike

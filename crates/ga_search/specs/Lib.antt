@@ -11,3 +11,4 @@ pub mod kept
 pub mod Offered
 pub mod Idle
 pub mod Races
+pub mod Readings

@@ -4,3 +4,4 @@ pub mod Idle
 pub mod Numbers
 pub mod Ready
 pub mod Writers
+pub mod Readings

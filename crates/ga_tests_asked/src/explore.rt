@@ -1,5 +1,5 @@
 use crate::asserts::{each_same, same};
-use ga_fixtures::{load, sender, taker};
+use ga_fixtures::{load, reader_of_io, sender, taker};
 use ga_grid::{Chip, NodeId};
 use ga_lab::{Lab, LabFault, Made};
 use ga_node::{Kind, Place};
