@@ -103,12 +103,7 @@ fn drawn(rt: HostRuntime) -> Result<(), Fail> {
     let wanted = [117u8, 133, 135, 127, 125];
     for _ in 0..2 {
         let mut lab = at_load(rt.alloc(), 1_000)?;
-        let ran = run(
-            &mut lab,
-            Schedule::at_random(1_234_567),
-            5,
-            &[],
-        );
+        let ran = run(&mut lab, Schedule::at_random(1_234_567), 5, &[]);
         ends(&rt, ran, 5, End::Made);
         for (place, node) in wanted.iter().enumerate() {
             is_made_at(&rt, &lab, place as u32, own(*node, 1, Kind::Wait));
