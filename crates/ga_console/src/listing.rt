@@ -162,13 +162,14 @@ fn push_program(
 
 /// Adds the name of a label that has one.
 fn push_label(text: &mut Vec<u8>, program: &Program<'_>, label: usize) -> Result<(), AllocError> {
-    if let Some(found) = program.names.get(label) {
-        if !found.name.is_empty() {
-            text.extend_from_slice(found.name)?;
-            text.extend_from_slice(b":\n")?;
-        }
+    let Some(found) = program.names.get(label) else {
+        return Ok(());
+    };
+    if found.name.is_empty() {
+        return Ok(());
     }
-    Ok(())
+    text.extend_from_slice(found.name)?;
+    text.extend_from_slice(b":\n")
 }
 
 /// Adds the instruction word and the literals of a group, or its cell of data.

@@ -3,6 +3,7 @@ ghost use Rattle.std.specs.Prelude.{IfOk};
 ghost use Rattle.ga_console.specs.Settings.{AreInRange, Within};
 
 use super::command::{node_of, number_of};
+use clap::builder::ValueParser;
 use clap::{Arg, ArgMatches, Command, value_parser};
 use ga_grid::NodeId;
 use std::alloc::{AllocError, Global};
@@ -299,19 +300,23 @@ fn limit_option<'a>(alloc: Global) -> Arg<'a> {
 const STEP: [&str; 2] = ["NNN", "K"];
 
 fn step_option<'a>(alloc: Global, name: &'a str, help: &'a str) -> Arg<'a> {
-    Arg::new(alloc, name)
-        .long(name)
-        .help(help)
+    named_option(alloc, name, help)
         .num_args(2)
         .value_names(&STEP)
 }
 
+/// An option of this name.
+fn named_option<'a>(alloc: Global, name: &'a str, help: &'a str) -> Arg<'a> {
+    Arg::new(alloc, name).long(name).help(help)
+}
+
 /// A number from 1 to the greatest.
 fn number_option<'a>(alloc: Global, name: &'a str, help: &'a str, greatest: u32) -> Arg<'a> {
-    Arg::new(alloc, name)
-        .long(name)
-        .help(help)
-        .value_parser(value_parser!(u32).range(1..=i64::from(greatest)))
+    named_option(alloc, name, help).value_parser(numbers_to(greatest))
+}
+
+fn numbers_to<'a>(greatest: u32) -> ValueParser<'a> {
+    value_parser!(u32).range(1..=i64::from(greatest))
 }
 
 /// A file that is read before standard input.
@@ -439,8 +444,11 @@ fn number(text: Option<&str>, greatest: u32) -> Result<u32, LineFault>
     let Some(text) = text else {
         return Err(LineFault::Memory);
     };
-    match text.parse::<u32>() {
-        Ok(n) if n >= 1 && n <= greatest => Ok(n),
-        _ => Err(LineFault::Memory),
+    let Ok(number) = text.parse::<u32>() else {
+        return Err(LineFault::Memory);
+    };
+    if number < 1 || number > greatest {
+        return Err(LineFault::Memory);
     }
+    Ok(number)
 }
