@@ -9,14 +9,14 @@ use ga_grid::NodeId;
 use ga_slots::Op;
 
 /// A number, or the address of a label by the label's number.
-#[derive(Clone, Copy, PartialEq, Eq, Debug)]
+#[derive(Clone, Copy, PartialEq, Eq)]
 pub enum Value {
     Number(u32),
     Label(usize),
 }
 
 /// Something that stands in a slot or in a cell.
-#[derive(Clone, Copy, Debug)]
+#[derive(Clone, Copy)]
 pub enum Item {
     /// An opcode without an address.
     Opcode(Op),
@@ -37,7 +37,7 @@ impl Default for Item {
 }
 
 /// A request of the source.
-#[derive(Clone, Copy, Debug)]
+#[derive(Clone, Copy)]
 pub enum Request {
     /// An item in the next place where it fits.
     Put(Item),
@@ -54,21 +54,21 @@ pub enum Request {
 }
 
 /// A request and its line.
-#[derive(Clone, Copy, Debug)]
+#[derive(Clone, Copy)]
 pub struct Asked {
     pub line: u32,
     pub request: Request,
 }
 
 /// A register's value at load, and the line that gives it; line 0 where none does.
-#[derive(Clone, Copy, PartialEq, Eq, Debug)]
+#[derive(Clone, Copy, PartialEq, Eq)]
 pub struct Given {
     pub line: u32,
     pub value: Value,
 }
 
 /// What the source gives a node's registers at load.
-#[derive(Clone, Copy, PartialEq, Eq, Debug)]
+#[derive(Clone, Copy, PartialEq, Eq)]
 pub struct Registers {
     pub p: Option<Given>,
     pub a: Option<Given>,

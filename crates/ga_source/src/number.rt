@@ -9,7 +9,7 @@ ghost use Rattle.ga_source.specs.Numbers.{digits_in, plain_in, word_of_size, wor
 use ga_ports::set_number;
 
 /// What a word says of a number.
-#[derive(Clone, Copy, PartialEq, Eq, Debug)]
+#[derive(Clone, Copy, PartialEq, Eq)]
 pub(crate) enum Number {
     Of(u32),
     OutOfRange,

@@ -8,7 +8,7 @@ use super::number::{Number, number_of};
 use ga_slots::Op;
 
 /// A word that begins or ends a control structure.
-#[derive(Clone, Copy, PartialEq, Eq, Debug)]
+#[derive(Clone, Copy, PartialEq, Eq)]
 pub(crate) enum Control {
     Begin,
     For,
@@ -121,7 +121,7 @@ fn is_opcode(text: &[u8]) -> bool
 }
 
 /// A word that asks for no opcode itself.
-#[derive(Clone, Copy, PartialEq, Eq, Debug)]
+#[derive(Clone, Copy, PartialEq, Eq)]
 pub(crate) enum Directive {
     /// `:`
     Label,
@@ -136,7 +136,7 @@ pub(crate) enum Directive {
 }
 
 /// A register that a program may give.
-#[derive(Clone, Copy, PartialEq, Eq, Debug)]
+#[derive(Clone, Copy, PartialEq, Eq)]
 pub(crate) enum Register {
     P,
     A,
