@@ -13,7 +13,7 @@ use std::alloc::Global;
 use std::io::Write;
 
 /// Why a session doesn't begin.
-#[derive(Clone, Copy, PartialEq, Eq, Debug)]
+#[derive(Clone, Copy, PartialEq, Eq)]
 pub(crate) enum Unopened {
     /// The image has this fault, or memory was wanting for it.
     Image(ImageFault),

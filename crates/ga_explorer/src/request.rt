@@ -19,7 +19,7 @@ const FEW_STEPS: u32 = 3;
 const MOST_STEPS: u32 = 99;
 
 /// A command of exploring.
-#[derive(Clone, Copy, PartialEq, Eq, Debug)]
+#[derive(Clone, Copy, PartialEq, Eq)]
 pub enum Request {
     /// `run`: makes events in the order of a schedule, at most so many, up to one after which the condition holds.
     Run {

@@ -14,7 +14,7 @@ use ga_grid::NodeId;
 use std::alloc::Global;
 
 /// What is drawn of an event, on lines that are named by their index from the left, 0 for the first.
-#[derive(Clone, Copy, PartialEq, Eq, Debug)]
+#[derive(Clone, Copy, PartialEq, Eq)]
 pub enum Shape {
     /// An own event: a mark on the line of its node. A look also has dashed lines to the lines of the node's neighbours.
     Mark { line: u8, look: bool, shade: Shade },

@@ -8,7 +8,7 @@ use ga_causal::{Cause, Memory, closure};
 use std::alloc::Global;
 
 /// How an event stands out. In print each colour has its weight too.
-#[derive(Clone, Copy, PartialEq, Eq, Debug)]
+#[derive(Clone, Copy, PartialEq, Eq)]
 pub enum Shade {
     /// As any event; where the causes of a step are asked for, it is one of them.
     Black,

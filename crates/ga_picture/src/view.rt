@@ -16,7 +16,7 @@ use std::alloc::Global;
 pub type Step = (NodeId, u32);
 
 /// What a picture is to show of the kept events.
-#[derive(Clone, Copy, PartialEq, Eq, Debug)]
+#[derive(Clone, Copy, PartialEq, Eq)]
 pub struct View {
     /// The step whose causes stand out.
     pub cause: Option<Step>,
