@@ -27,7 +27,6 @@ const LONGEST_FILE: u64 = 16_777_216;
 fn main(rt: HostRuntime) -> ExitCode {
     match settings(&rt) {
         Ok(Settings::Debug { limit }) => debug(&rt, limit),
-        Ok(Settings::Explore { limit, file }) => exploring(&rt, limit, &file),
         Ok(
             Settings::Race {
                 workers,
@@ -48,9 +47,10 @@ fn main(rt: HostRuntime) -> ExitCode {
             );
             exit(&rt, status)
         }
-        Ok(Settings::Assemble { file }) => assembled(&rt, &file),
-        Ok(Settings::List { file }) => listed(&rt, &file),
-        Ok(Settings::Disassemble { file }) => disassembled(&rt, &file),
+        Ok(Settings::Explore { limit, file }) => served(&rt, Work::Explore { limit }, &file),
+        Ok(Settings::Assemble { file }) => served(&rt, Work::Assemble, &file),
+        Ok(Settings::List { file }) => served(&rt, Work::List, &file),
+        Ok(Settings::Disassemble { file }) => served(&rt, Work::Disassemble, &file),
         Ok(
             Settings::Draw {
                 cause,
@@ -66,7 +66,7 @@ fn main(rt: HostRuntime) -> ExitCode {
                 from: from - 1,
                 to,
             };
-            drawn(&rt, view, &file)
+            served(&rt, Work::Draw(view), &file)
         }
         Err(LineFault::Refused(why)) => refused(&rt, why.as_str()),
         Err(LineFault::Memory) => refused(&rt, ""),
@@ -173,86 +173,34 @@ fn unread(rt: &HostRuntime, name: &str, why: &str, status: u8) -> ExitCode {
     ExitCode::from(status)
 }
 
-/// Serves a session of exploring over a file, where one is named, and the standard streams.
-fn exploring(rt: &HostRuntime, limit: u32, file: &Option<String>) -> ExitCode {
-    match front_of(rt, file) {
-        Ok(front) => {
-            let mut reader = front.reader(rt);
-            let (mut writer, mut errors) = (rt.stdout(), rt.stderr());
-            exit(
-                rt,
-                explore(rt.alloc(), &mut reader, &mut writer, &mut errors, limit),
-            )
-        }
-        Err(code) => code,
-    }
+/// What is made of a file, where one is named, and of standard input behind it.
+#[derive(Clone, Copy)]
+enum Work {
+    Explore { limit: u32 },
+    Assemble,
+    List,
+    Disassemble,
+    Draw(View),
 }
 
-/// Makes an image of source.
-fn assembled(rt: &HostRuntime, file: &Option<String>) -> ExitCode {
-    match front_of(rt, file) {
-        Ok(front) => {
-            let mut reader = front.reader(rt);
-            let (mut writer, mut errors) = (rt.stdout(), rt.stderr());
-            exit(
-                rt,
-                assemble_source(rt.alloc(), &mut reader, &mut writer, &mut errors),
-            )
-        }
-        Err(code) => code,
-    }
-}
-
-/// Lists source.
-fn listed(rt: &HostRuntime, file: &Option<String>) -> ExitCode {
-    match front_of(rt, file) {
-        Ok(front) => {
-            let mut reader = front.reader(rt);
-            let (mut writer, mut errors) = (rt.stdout(), rt.stderr());
-            exit(
-                rt,
-                list_source(rt.alloc(), &mut reader, &mut writer, &mut errors),
-            )
-        }
-        Err(code) => code,
-    }
-}
-
-/// Makes source of an image.
-fn disassembled(rt: &HostRuntime, file: &Option<String>) -> ExitCode {
-    match front_of(rt, file) {
-        Ok(front) => {
-            let mut reader = front.reader(rt);
-            let (mut writer, mut errors) = (rt.stdout(), rt.stderr());
-            exit(
-                rt,
-                disassemble(rt.alloc(), &mut reader, &mut writer, &mut errors),
-            )
-        }
-        Err(code) => code,
-    }
-}
-
-/// Draws a session.
-fn drawn(rt: &HostRuntime, view: View, file: &Option<String>) -> ExitCode {
-    match front_of(rt, file) {
-        Ok(front) => {
-            let mut reader = front.reader(rt);
-            let (mut writer, mut errors) = (rt.stdout(), rt.stderr());
-            exit(
-                rt,
-                draw_session(
-                    rt.alloc(),
-                    &mut reader,
-                    &mut writer,
-                    &mut errors,
-                    view,
-                    DRAWN_LIMIT,
-                ),
-            )
-        }
-        Err(code) => code,
-    }
+/// Reads a file, where one is named, and standard input behind it, and does the work.
+fn served(rt: &HostRuntime, work: Work, file: &Option<String>) -> ExitCode {
+    let front = match front_of(rt, file) {
+        Ok(front) => front,
+        Err(code) => return code,
+    };
+    let mut reader = front.reader(rt);
+    let (mut writer, mut errors) = (rt.stdout(), rt.stderr());
+    let alloc = rt.alloc();
+    let (input, output, told) = (&mut reader, &mut writer, &mut errors);
+    let status = match work {
+        Work::Explore { limit } => explore(alloc, input, output, told, limit),
+        Work::Assemble => assemble_source(alloc, input, output, told),
+        Work::List => list_source(alloc, input, output, told),
+        Work::Disassemble => disassemble(alloc, input, output, told),
+        Work::Draw(view) => draw_session(alloc, input, output, told, view, DRAWN_LIMIT),
+    };
+    exit(rt, status)
 }
 
 /// Writes the help that was asked for.
