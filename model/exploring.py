@@ -5,7 +5,7 @@ exploring.py PROGRAM FIRST COUNT: so many sessions, each generated from its numb
 exploring.py --write FOLDER FIRST COUNT: writes those of them as files that have no limit of their own, with their answers.
 """
 
-import copy
+import pickle
 import random
 import subprocess
 import sys
@@ -113,7 +113,7 @@ class Session:
 
     def ahead(self, order):
         """Conditions that hold behind some event that such a run would make."""
-        machine, pick = copy.deepcopy(self.machine), self.random.choice
+        machine, pick = pickle.loads(pickle.dumps(self.machine)), self.random.choice
         machine.run(order and order.split(" ")[1], int(order.split(" ")[-1]) if "random" in order else None, pick((1, 20, 200)), None)
         made = machine.told[len(self.machine.told) :] or ["000 1 fetch"]
         passes = [told for told in made if told.startswith("pass")]

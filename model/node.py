@@ -3,12 +3,15 @@
 A stack is a list with its top first. A wait is a pair of a kind and a set of sides, which is a string of letters of 'rdlu'.
 """
 
+import functools
+
 WORD = 0x3FFFF
 EMPTY = 0x15555
 SIDES = "rdlu"
 FETCH_DUE = 4
 
 
+@functools.cache
 def neighbour(node, side):
     """The node over a link, or None at the edge of the grid."""
     row, column = divmod(node, 18)
@@ -71,7 +74,7 @@ class Node:
         self.slot, self.wait, self.stop = FETCH_DUE, None, 0
 
     def copy(self):
-        other = Node(self.number)
+        other = Node.__new__(Node)
         other.__dict__.update(self.__dict__)
         other.d, other.r, other.ram, other.rom = self.d[:], self.r[:], self.ram[:], self.rom[:]
         return other
