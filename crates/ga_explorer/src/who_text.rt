@@ -1,6 +1,6 @@
 //! Who waits for whom, told line by line.
 
-ghost use Rattle.std.specs.Prelude.{◌≡◌, ◌++◌, ◌+◌, ◌≤◌, ◌&&◌, not, length};
+ghost use Rattle.std.specs.Prelude.{◌≡◌, ◌++◌, ◌+◌, ◌≤◌, ◌&&◌, not, if◌then◌else◌, length};
 ghost use Rattle.ga_image.specs.Lines.{Bytes};
 ghost use Rattle.arrayvec.specs.ArrayVec.{array_vec_len};
 ghost use Rattle.ga_grid.specs.Grid.{number_in};
@@ -233,13 +233,16 @@ fn busy_names(marks: &[bool; 144], idle: &[bool; 144]) -> Names
     let mut out = ArrayVec::new();
     'nodes: for number in 0..144u8 {
         let node = NodeId::new(number);
-        push_name_if(
-            &mut out,
-            node,
-            marks[number as usize] && !idle[number as usize],
-        );
+        push_name_if(&mut out, node, is_busy(marks, idle, node));
     }
     out
+}
+
+/// Whether a node is marked and not idle.
+fn is_busy(marks: &[bool; 144], idle: &[bool; 144], node: NodeId) -> bool
+    ensures { result ≡ (is_marked marks.now node.number && not (is_marked idle.now node.number)) }
+{
+    marks[node.index()] && !idle[node.index()]
 }
 
 /// Adds a node's name behind a space, where it is to be named.
@@ -260,11 +263,16 @@ fn idle_among(marks: &[bool; 144], idle: &[bool; 144]) -> u8
 {
     let mut count = 0;
     'nodes: for number in 0..144u8 {
-        if marks[number as usize] && idle[number as usize] {
-            count += 1;
-        }
+        count += one_if(is_both(marks, idle, NodeId::new(number)));
     }
     count
+}
+
+/// Whether a node is marked and idle.
+fn is_both(marks: &[bool; 144], idle: &[bool; 144], node: NodeId) -> bool
+    ensures { result ≡ (is_marked marks.now node.number && is_marked idle.now node.number) }
+{
+    marks[node.index()] && idle[node.index()]
 }
 
 /// How many nodes are idle.
@@ -273,11 +281,24 @@ fn idle_count(idle: &[bool; 144]) -> u8
 {
     let mut count = 0;
     'nodes: for number in 0..144u8 {
-        if idle[number as usize] {
-            count += 1;
-        }
+        count += one_if(is_idle(idle, NodeId::new(number)));
     }
     count
+}
+
+/// Whether a node is idle.
+fn is_idle(idle: &[bool; 144], node: NodeId) -> bool
+    ensures { result ≡ is_marked idle.now node.number }
+{
+    idle[node.index()]
+}
+
+/// One where this holds.
+fn one_if(holds: bool) -> u8
+    ensures one { result ≡ (if holds then 1 else 0) }
+    ensures few { result ≤ 1 }
+{
+    if holds { 1 } else { 0 }
 }
 
 /// The last line: how many nodes are idle, where some are.

@@ -1,4 +1,4 @@
-use Rattle.std.proofs.Common.{ℕ, Bool, ◌-◌, ◌&&◌, arith}
+use Rattle.std.proofs.Common.{ℕ, Bool, ◌-◌, ◌&&◌, ◌++◌, ◌∙◌, ap, arith}
 use Rattle.std.specs.Prelude.{not}
 use Rattle.ga_causal.specs.Dependence.{is_marked}
 use Rattle.ga_explorer.specs.Waiting.{name_if}
@@ -12,7 +12,8 @@ nodes-preserved c =
     record {
       len = omega (arith, c.push_name_if.ensures.len, c.nodes.invariant.len);
       text = next_added (λ n. name_if (marks n && not (idle n)) n) c.nodes.number c.new.result.number c.nodes.out.items c.push_name_if.new.out.items _
-          (omega arith) c.new.ensures c.push_name_if.ensures.text c.nodes.invariant.text;
+          (omega arith) c.new.ensures
+          (c.push_name_if.ensures.text ∙ ap (λ (b : Bool). c.nodes.out.items ++ name_if b c.new.result.number) c.is_busy.ensures) c.nodes.invariant.text;
     }
 
 pub returns : goal.returns

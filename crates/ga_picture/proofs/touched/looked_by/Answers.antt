@@ -1,7 +1,8 @@
-use Rattle.std.proofs.Common.{◌≡◌, ◌<◌, ◌||◌, ◌&&◌, ap, sym, ◌∙◌, length, arith}
+use Rattle.std.proofs.Common.{◌≡◌, ◌<◌, ◌≤◌, ◌||◌, ◌&&◌, ap, sym, ◌∙◌, length, arith}
 use Rattle.std.proofs.lemmas.List.{get_or_default}
 use Rattle.ga_causal.specs.Dependence.{is_marked, event_at, no_cause}
 use Rattle.ga_causal.specs.Equivalence.{sees}
+use Rattle.ga_picture.specs.Items.{looked_in, span_of}
 use Rattle.ga_picture.proofs.Looked.{none_looked, looked_more, not_looked, has_looked}
 use Rattle.ga_picture.proofs.touched.looked_by.Goals.{then-event, else-event}
 use Rattle.ga_picture.proofs.touched.looked_by.Goals as goal
@@ -23,4 +24,6 @@ events-preserved c = λ n.
     ]
 
 pub returns : goal.returns
-returns c = ?
+returns c = λ n.
+    let all : c.events.place ≡ c.args.to = let within : c.events.place ≤ c.args.to = c.events.auto.place-end c.requires.order in omega arith in
+    c.events.invariant n ∙ ap (λ z. looked_in (span_of c.args.events.now c.args.from z) n) all

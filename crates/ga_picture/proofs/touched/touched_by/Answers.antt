@@ -27,4 +27,6 @@ items-preserved c =
     ]
 
 pub returns : goal.returns
-returns c = ?
+returns c =
+    let whole : c.items.item-index ≡ length c.args.items.now = omega arith in
+    record { needed = c.items.invariant.needed; all = λ n place l o t. c.items.invariant.all n place (omega (arith, l)) o t }
