@@ -1,13 +1,11 @@
 -- Actions as they are kept to be read: of each event whether it looks, and on which sides of the nodes that it touches what it shows
 -- there changes.
-use Rattle.std.specs.Prelude.{ℕ, Bool, ◌&&◌, ◌||◌, List, map}
+use Rattle.std.specs.Prelude.{ℕ, Bool, ◌&&◌, ◌||◌}
 use Rattle.ga_ports.specs.declared.side.Side.TheVariants.{Right, Down, Left, Up}
-use Rattle.ga_node.specs.Record.{NodeRecord}
 use Rattle.ga_grid.specs.Grid.{neighbour_of}
 use Rattle.ga_event.specs.declared.event.Event.{Event}
 use Rattle.ga_event.specs.declared.event.Event.TheVariants.{Own, Pass}
 use Rattle.ga_event.specs.Apply.{is_number}
-use Rattle.ga_causal.specs.kept.Firsts.{any_of}
 use Rattle.ga_races.specs.declared.act.Act.{Act}
 use Rattle.ga_races.specs.declared.act.Sides.{Sides}
 use Rattle.ga_races.specs.HappensBefore.{Action}
@@ -25,12 +23,3 @@ shown_by (Pass w r side) first second n = leads_to first w.number n || leads_to 
 
 abbrev pub action_in : Act → Action
 action_in act = record { cause = act.cause; changes = λ n. shown_by act.cause.event act.first act.second n }
-
-abbrev pub actions_in : List Act → List Action
-actions_in acts = map action_in acts
-
--- the neighbour on one of the sides of a node is marked
-abbrev pub shows_marked : (ℕ → Bool) → Sides → ℕ → Bool
-shows_marked marks sides m =
-    (sides.right && any_of marks (neighbour_of m Right)) || ((sides.down && any_of marks (neighbour_of m Down))
-    || ((sides.left && any_of marks (neighbour_of m Left)) || (sides.up && any_of marks (neighbour_of m Up))))

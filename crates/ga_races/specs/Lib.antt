@@ -3,3 +3,4 @@ pub mod Exploring
 pub mod HappensBefore
 pub mod Acts
 pub mod Kahn
+pub mod kept

@@ -4,7 +4,7 @@ ghost use Rattle.std.specs.Prelude.{◌≡◌, ◌≢◌, ◌<◌, ◌^◌, ◌&
 ghost use Rattle.ga_grid.specs.Grid.{neighbour_of};
 ghost use Rattle.ga_causal.specs.Dependence.{is_marked};
 ghost use Rattle.ga_causal.specs.kept.Firsts.{any_of};
-ghost use Rattle.ga_races.specs.Acts.{shows_marked};
+ghost use Rattle.ga_races.specs.kept.Marked.{shows_marked};
 
 use crate::act::{Act, Sides};
 use ga_causal::Nodes;
