@@ -1,10 +1,14 @@
 """A second reading of "Source" in docs/REFERENCE.md: what `ga144 list` and `ga144 dis` write."""
 
+import re
+
 from machine import name as name_of
 from node import Node, advanced, target_of
 from source import FIELDS, programs_of
-from words import OPCODES, PORTS, Fault, lines_of
+from words import OPCODES, PORTS, Fault, lines_of, words_of
 
+MOST_FAULTS = 200
+LEADING = ("node", ":", "org", "/p", "/a", "/b")
 NAMES = ["invert" if it == "-" else it for it in OPCODES]
 
 
@@ -16,13 +20,12 @@ def value_text(value):
     return f"'{value}" if isinstance(value, str) else f"0x{value:05x}"
 
 
-def cell_lines(cell, layout, lines):
+def cell_lines(cell, layout, line):
     """A cell with its literals."""
     if cell.data:
         held = value_text(cell.data[0])
     else:
         held = " ".join(NAMES[code] if label is None else f"{NAMES[code]} {target_text(label, layout)}" for _, code, label in cell.slots)
-    line = lines[cell.slots[0][0] - 1].strip(" \t\r\f")
     yield f"{cell.address:03x} {layout.word(cell):06x} {held} \\ {line}"
     address = cell.address
     for _, value in cell.literals:
@@ -30,21 +33,53 @@ def cell_lines(cell, layout, lines):
         yield f"{address:03x} {layout.value(value):06x} {value_text(value)}"
 
 
+def left_by(words, number):
+    """The words without the one of a number and those that go with it."""
+    at = next(place for place, (it, _) in enumerate(words) if it == number)
+    texts = [word if isinstance(word, str) else "" for _, word in words]
+    first = at - 1 if at and texts[at - 1] in LEADING else at
+    if first and texts[first] != "node":
+        return words[:first] + words[at + 2 if texts[at + 1 : at + 2] == [","] else at + 1 :]
+    nodes = [place for place in range(max(at, first + 1), len(words)) if texts[place] == "node"]
+    return words[:first] + (words[nodes[0] :] if nodes else [])
+
+
+def mended(words):
+    """The programs of words that are numbered, without those at fault, and the faults; no programs where there are too many."""
+    faults = []
+    while len(faults) < MOST_FAULTS:
+        try:
+            return programs_of(words), faults
+        except Fault as error:
+            faults.append(error)
+            words = left_by(words, error.line)
+    return None, faults
+
+
 def listed(source):
     """What `list` writes, and tells, and its status."""
-    lines, text = lines_of(source), []
-    try:
-        programs = programs_of(source)
-    except Fault as error:
-        return "", f"ga144: {error}\n", 1
-    for node, (_, _, layout) in programs.items():
-        text.append(f"node {node}")
-        for it in layout.order:
+    said = list(words_of(source, goes_on=True))
+    lines = [it.strip(" \t\r\f") for it in lines_of(source)]
+    line_of = [0] + [line for line, _ in said]
+    programs, faults = mended([(at, Fault(at, it.text) if isinstance(it, Fault) else it) for at, (_, it) in enumerate(said, 1)])
+    told = [(it.line, Fault(line_of[it.line], re.sub("(?<=before on line )[0-9]+", lambda found: str(line_of[int(found[0])]), it.text))) for it in faults]
+    parts = []
+    for node, (_, words, layout) in (programs or {}).items():
+        parts.append((words.begun, [f"node {node}"]))
+        for at, it in layout.order:
             if isinstance(it, str):
-                text.append(f"{it}:")
+                parts.append((at, [f"{it}:"]))
             elif not isinstance(it, int):
-                text += cell_lines(it, layout, lines)
-    return "".join(f"{it}\n" for it in text), "", 0
+                parts.append((at, cell_lines(it, layout, lines[line_of[at] - 1])))
+    before = None
+    for at, it in sorted(told, key=lambda it: it[0]):
+        if str(it) != before:
+            parts.append((at, [f"{it} \\ {lines[it.line - 1]}"]))
+        before = str(it)
+    text = [line for _, part in sorted(parts, key=lambda it: it[0]) for line in part]
+    if programs is None:
+        text.append("\\ too many faults to list what is left")
+    return "".join(f"{it}\n" for it in text), "".join(f"ga144: {it}\n" for _, it in told[:1]), 1 if told else 0
 
 
 def slots_of(word, address):
@@ -84,6 +119,12 @@ def reached(node):
     return code, labels, literals
 
 
+def cell_at(node, address):
+    """The word of a cell; None where the address is that of no memory."""
+    memory, cell = target_of(address)
+    return getattr(node, memory)[cell] if memory in ("ram", "rom") else None
+
+
 def port_text(address):
     """The name of a port, of `io` or of a set of ports, None where it is no such address."""
     kind, sides = target_of(address)
@@ -101,7 +142,9 @@ def remark(node, roles, word, address):
         return f"{address:03x}  {port_text(word) or (word if word < 0x20000 else word - 0x40000)}"
     mark = ":" if here in labels else " " if here in code else "?"
     held = [text if to is None else f"{text} {port_text(to % 0x200) or f'{to:03x}'}" for text, _, to in slots_of(word, address)]
-    return f"{address:03x}{mark} {' '.join(held)}"
+    read = [at for text, at, _ in slots_of(word, address) if text == "@p" and here in code]
+    zeros = [f", {at:03x} is 0" for at in read if target_of(at) not in code and cell_at(node, at) == 0]
+    return f"{address:03x}{mark} {' '.join(held)}{''.join(zeros)}"
 
 
 def unsaid(node):

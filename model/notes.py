@@ -2,7 +2,7 @@
 
 from node import advanced, target_of
 from source import NODE_NAMES, programs_of
-from words import lines_of
+from words import lines_of, words_of
 
 
 class Notes:
@@ -11,14 +11,14 @@ class Notes:
     def __init__(self, source=None):
         self.cells, self.labels = {}, {}
         lines = [it.strip(" \t\r\f") for it in lines_of(source or "")]
-        for name, (_, _, layout) in (programs_of(source) if source is not None else {}).items():
+        for name, (_, _, layout) in (programs_of(words_of(source)) if source is not None else {}).items():
             node = NODE_NAMES[name]
             for cell in layout.cells:
                 address = cell.address
                 for line in [cell.slots[0][0]] + [line for line, _ in cell.literals]:
                     self.cells[node, target_of(address)] = f"{address:03x}", f"{line}: {lines[line - 1]}"
                     address = advanced(address)
-            self.labels[node] = [(it, layout.labels[it]) for it in layout.order if isinstance(it, str)]
+            self.labels[node] = [(it, layout.labels[it]) for _, it in layout.order if isinstance(it, str)]
 
     def label(self, node, cell):
         """The label with the greatest address up to a cell of the same memory, of several there the last."""

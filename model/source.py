@@ -49,7 +49,7 @@ class Layout:
                 here = self.cell.address
                 if kind == "mark":
                     self.labels[what[0]] = here
-                    self.order.append(what[0])
+                    self.order.append((line, what[0]))
                 elif kind == "org":
                     self.cell = Cell(what[0])
                 elif kind == "bit":
@@ -61,7 +61,7 @@ class Layout:
     def end(self):
         if self.cell.slots:
             self.cells.append(self.cell)
-            self.order.append(self.cell)
+            self.order.append((self.cell.slots[0][0], self.cell))
             self.cell = Cell(self.cell.p())
 
     def put(self, line, kind, what):
@@ -157,10 +157,9 @@ def warnings(words, layout):
             a = None
 
 
-def programs_of(source):
-    """The nodes that a source names, with their words and layouts, in its order; or a Fault."""
-    nodes = {}
-    words = list(words_of(source))
+def programs_of(words):
+    """The nodes that words name, with their words and layouts, in order; or a Fault."""
+    nodes, words = {}, list(words)
     while words:
         line, first = words.pop(0)
         if isinstance(first, Fault):
@@ -181,7 +180,7 @@ def programs_of(source):
 def asm(source):
     """Standard output, standard error and the status."""
     try:
-        nodes = programs_of(source)
+        nodes = programs_of(words_of(source))
     except Fault as error:
         return "", f"ga144: {error}\n", 1
     told = [it for _, words, layout in nodes.values() for it in warnings(words, layout)]

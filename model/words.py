@@ -18,9 +18,13 @@ BOUNDS = {"/p": 0x400, "/a": 0x40000, "/b": 0x200}
 class Fault(Exception):
     """What is told of a source, with its line."""
 
+    def __init__(self, line, text):
+        super().__init__(f"line {line}: {text}")
+        self.line, self.text = line, text
+
 
 def fault(line, text):
-    return Fault(f"line {line}: {text}")
+    return Fault(line, text)
 
 
 def demand(holds, line, text):
@@ -39,13 +43,15 @@ def shown(word):
     return "".join(it if "!" <= it <= "~" else f"\\x{ord(it):02x}" for it in word)
 
 
-def words_of(source):
-    """The words with their lines; a line at fault is a word that is a Fault, and the last one."""
+def words_of(source, goes_on=False):
+    """The words with their lines; a line at fault is a word that is a Fault, and the last one unless it goes on."""
     for number, line in enumerate(lines_of(source), 1):
         if line == "end":
             return
         if len(line) > 200:
             yield number, fault(number, "the line has more than 200 bytes")
+            if goes_on:
+                continue
             return
         within = False
         for word in re.findall("[^ \t]+", line):
@@ -59,7 +65,8 @@ def words_of(source):
                 yield number, word
         if within:
             yield number, fault(number, "a comment without its )")
-            return
+            if not goes_on:
+                return
 
 
 def number_of(word, line):
@@ -90,7 +97,7 @@ class Words:
 
     def __init__(self, line, words):
         self.asked, self.lines, self.marked, self.registers, self.open = [], {}, set(), {}, []
-        self.words, self.bit, self.made = list(words), 0, 0
+        self.words, self.bit, self.made, self.begun = list(words), 0, 0, line
         while self.words:
             line = self.word()
         if self.open:

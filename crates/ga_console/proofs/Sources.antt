@@ -1,11 +1,17 @@
 -- From the image of a source to what is written.
-use Rattle.std.proofs.Common.{◌≡◌, ℕ, List, [], ◌++◌, inl, inr, refl, sym, subst}
+use Rattle.std.proofs.Common.{◌≡◌, ◌∙◌, ◌<◌, ℕ, List, [], ◌∷◌, ◌++◌, length, Option, Some, None, arith, ap, inl, inr, refl, sym, subst}
+use Rattle.std.specs.Prelude.{IfSome}
+use Rattle.ga_source.specs.declared.fault.Fault.{Fault}
+use Rattle.ga_source.specs.declared.program.Assembled.{Assembled}
+use Rattle.ga_source.specs.declared.scan.Token.{Token}
+use Rattle.ga_source.specs.Saying.{all_in, all_said}
+use Rattle.ga_source.specs.Mending.{numbered, mended, IsAssembledOf}
 use Rattle.ga_image.specs.Fault.{no_memory}
 use Rattle.ga_image.specs.declared.fault.ImageFault.{ImageFault}
 use Rattle.ga_console.specs.Run.{IsReadAlone, IsFault, Refused, Refuses}
 use Rattle.ga_console.specs.kept.Race.{Writes}
-use Rattle.ga_console.specs.Source.{IsAssembly, IsReadWhole, Assembles, Lists, IsAccepted, Disassembles}
-use Rattle.ga_console.specs.kept.Source.{Assembly, Listing, Disassembly}
+use Rattle.ga_console.specs.Source.{IsAssembly, IsReadWhole, Assembles, IsMendedBy, IsFaulty, Lists, IsAccepted, Disassembles}
+use Rattle.ga_console.specs.kept.Source.{Assembly, IsListed, with_fault, behind_listing, Listing, Disassembly}
 use Rattle.ga_console.specs.kept.Whole.{IsUnread}
 use Rattle.ga_console.specs.declared.run.Status.{Status}
 use Rattle.ga_console.specs.declared.run.Status.TheVariants.{Done, ImageRefused, StreamFault, NotFinished}
@@ -32,23 +38,57 @@ assembles_nothing read rest ImageRefused unread = refl
 assembles_nothing read rest StreamFault unread = inl (refl, unread)
 assembles_nothing read rest NotFinished unread = unread
 
+-- what was assembled of a source, and the first fault
+listed_of : (source : List ℕ) (words : List Token) (assembled : Option Assembled) (faults : List Fault) (first : Option Fault) → all_said words ≡ all_in source
+    → IfSome assembled (IsAssembledOf (mended (numbered 1 words) faults)) → (assembled ≡ None → length faults ≡ 200) → (first ≡ None → faults ≡ []) → IfSome first (λ _. 0 < length faults) → IsListed source first
+listed_of source words (Some all) faults None said is many none some =
+    record { words = words; all = all; said = said; assembled = subst (λ (list : List Fault). IsAssembledOf (mended (numbered 1 words) list) all) (none refl) is }
+listed_of source words None faults None said is many none some =
+    let found = many refl in
+    let empty : length faults ≡ 0 = ap length (none refl) in
+    absurd (omega arith)
+listed_of source words assembled [] (Some first) said is many none some = absurd (omega arith)
+listed_of source words (Some all) (fault ∷ faults) (Some first) said is many none some =
+    (fault, faults, inl (record { words = words; all = all; said = said; assembled = is }))
+listed_of source words None (fault ∷ faults) (Some first) said is many none some = (fault, faults, inr (many refl))
+
+-- the same by faults that were looked at
+pub listed_seen : (source : List ℕ) (words : List Token) (assembled : Option Assembled) (faults seen : List Fault) (first : Option Fault) → all_said words ≡ all_in source → seen ≡ faults
+    → IfSome assembled (IsAssembledOf (mended (numbered 1 words) faults)) → (assembled ≡ None → length faults ≡ 200) → (first ≡ None → seen ≡ []) → IfSome first (λ _. 0 < length seen) → IsListed source first
+listed_seen source words assembled faults seen first said same is many none some =
+    listed_of source words assembled faults first said is many (λ e. sym same ∙ none e) (subst (λ (list : List Fault). IfSome first (λ _. 0 < length list)) same some)
+
 -- the listing was written, or a front of it
-pub listing_written : (whole text : List ℕ) (status : Status) → Writes whole text status → Listing text status
-listing_written whole text Done written = tt
-listing_written whole text StreamFault written = tt
-listing_written whole text ImageRefused written = absurd written
-listing_written whole text NotFinished written = absurd written
+whole_written : (source whole text : List ℕ) (status : Status) → IsMendedBy source [] → Writes whole text status → Listing source text status
+whole_written source whole text Done is written = is
+whole_written source whole text StreamFault is written = tt
+whole_written source whole text ImageRefused is written = absurd written
+whole_written source whole text NotFinished is written = absurd written
+
+faulty_written : (source whole text : List ℕ) (status : Status) → IsFaulty source → Writes whole text status → Listing source text (with_fault status)
+faulty_written source whole text Done faulty written = inr faulty
+faulty_written source whole text StreamFault faulty written = tt
+faulty_written source whole text ImageRefused faulty written = absurd written
+faulty_written source whole text NotFinished faulty written = absurd written
+
+status_written : (source whole text : List ℕ) (first : Option Fault) (status : Status) → IsListed source first → Writes whole text status → Listing source text (behind_listing status first)
+status_written source whole text None status is written = whole_written source whole text status is written
+status_written source whole text (Some fault) status is written = faulty_written source whole text status is written
+
+pub listing_written : (source whole text : List ℕ) (first : Option Fault) (status result : Status) → result ≡ behind_listing status first → IsListed source first → Writes whole text status → Listing source text result
+listing_written source whole text first status result e is written = subst (Listing source text) (sym e) (status_written source whole text first status is written)
 
 -- what was listed of the source that was read
-pub lists : (source ahead read rest text : List ℕ) (status : Status) → read ≡ source ++ ahead → IsReadWhole source ahead rest → Listing text status → Lists read rest text status
-lists source ahead read rest text Done e part written = (source, ahead, e, part, tt)
-lists source ahead read rest text ImageRefused e part written = written
+pub lists : (source ahead read rest text : List ℕ) (status : Status) → read ≡ source ++ ahead → IsReadWhole source ahead rest → Listing source text status → Lists read rest text status
+lists source ahead read rest text Done e part written = (source, ahead, e, part, written)
+lists source ahead read rest text ImageRefused e part (inl none) = inl none
+lists source ahead read rest text ImageRefused e part (inr faulty) = inr (source, ahead, e, part, faulty)
 lists source ahead read rest text StreamFault e part written = inr (source, ahead, e, part, tt)
 lists source ahead read rest text NotFinished e part written = written
 
 pub lists_nothing : (read rest : List ℕ) (status : Status) → IsUnread read status → Lists read rest [] status
 lists_nothing read rest Done unread = absurd unread
-lists_nothing read rest ImageRefused unread = refl
+lists_nothing read rest ImageRefused unread = inl refl
 lists_nothing read rest StreamFault unread = inl (refl, unread)
 lists_nothing read rest NotFinished unread = unread
 

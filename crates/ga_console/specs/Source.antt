@@ -1,5 +1,5 @@
 -- What may be written for source (docs/REFERENCE.md, "Source"; this project's own).
-use Rattle.std.specs.Prelude.{◌≡◌, ℕ, ◌<◌, ◌⊎◌, List, [], ◌++◌, length, slice_index}
+use Rattle.std.specs.Prelude.{◌≡◌, ℕ, ◌<◌, ◌⊎◌, List, [], ◌∷◌, ◌++◌, length, slice_index}
 use Rattle.ga_node.specs.Record.{NodeState}
 use Rattle.ga_grid.specs.Chip.{node_at, records_of}
 use Rattle.ga_image.specs.Lines.{Bytes, Text, lines_of}
@@ -7,7 +7,12 @@ use Rattle.ga_image.specs.Grammar.{IsImage}
 use Rattle.ga_image.specs.Printing.{printed}
 use Rattle.ga_image.specs.ReadBack.{Describes}
 use Rattle.ga_image.specs.declared.fault.ImageFault.{ImageFault}
+use Rattle.ga_source.specs.declared.fault.Fault.{Fault}
 use Rattle.ga_source.specs.declared.item.Program.{Program}
+use Rattle.ga_source.specs.declared.program.Assembled.{Assembled}
+use Rattle.ga_source.specs.declared.scan.Token.{Token}
+use Rattle.ga_source.specs.Saying.{all_in, all_said}
+use Rattle.ga_source.specs.Mending.{numbered, mended, IsAssembledOf}
 use Rattle.ga_source.specs.Programs.{IsAssembled}
 use Rattle.ga_source.specs.Plain.{AreRead}
 use Rattle.ga_source.specs.Asks.{AreAsked}
@@ -50,10 +55,21 @@ Assembles read rest text ImageRefused = text ≡ []
 Assembles read rest text StreamFault = ((text ≡ []) × HasNoEnd read) ⊎ OfSource read rest (λ source. IsCutShort (IsAssembly source) text)
 Assembles read rest text NotFinished = ⊥
 
--- What `list` may have written.
+-- The chip has the programs of all words of the source that these faults leave, one fault after another.
+pub record IsMendedBy (source : Text) (faults : List Fault) : Type 0 where
+  pub words : List Token
+  pub all : Assembled
+  pub said : all_said words ≡ all_in source
+  pub assembled : IsAssembledOf (mended (numbered 1 words) faults) all
+
+-- the source has a fault; there is a chip without the words at fault, unless too many are
+abbrev pub IsFaulty : Text → Type 0
+IsFaulty source = (first : Fault) × (faults : List Fault) × (IsMendedBy source (first ∷ faults) ⊎ (length (first ∷ faults) ≡ 200))
+
+-- What `list` may have written. Where nothing is wrong, all words of the source have a chip.
 abbrev pub Lists : Bytes → Bytes → Bytes → Status → Type 0
-Lists read rest text Done = OfSource read rest (λ source. Unit {0})
-Lists read rest text ImageRefused = text ≡ []
+Lists read rest text Done = OfSource read rest (λ source. IsMendedBy source [])
+Lists read rest text ImageRefused = (text ≡ []) ⊎ OfSource read rest IsFaulty
 Lists read rest text StreamFault = ((text ≡ []) × HasNoEnd read) ⊎ OfSource read rest (λ source. Unit {0})
 Lists read rest text NotFinished = ⊥
 

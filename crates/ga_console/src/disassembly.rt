@@ -1,13 +1,17 @@
 //! An image in, source of the same memories and registers out.
-ghost use Rattle.std.specs.Prelude.{◌≡◌, ◌<◌, ◌≤◌, ◌++◌, [], ◌∷◌, length, codes, Some, IfOk, IfErr, OnOk};
+ghost use Rattle.std.specs.Prelude.{◌≡◌, ◌⊎◌, ◌<◌, ◌≤◌, ◌++◌, [], ◌∷◌, length, codes, Some, IfOk, IfErr, OnOk};
 ghost use Rattle.std.specs.List.{All};
-ghost use Rattle.ga_image.specs.Lines.{Bytes};
+ghost use Rattle.ga_image.specs.Fault.{no_memory};
+ghost use Rattle.ga_image.specs.FirstFault.{IsFirstFault};
+ghost use Rattle.ga_image.specs.Grammar.{IsImage};
+ghost use Rattle.ga_image.specs.Lines.{Bytes, lines_of};
 ghost use Rattle.ga_console.specs.Run.{IsFault};
 ghost use Rattle.ga_console.specs.Source.{IsAccepted, Disassembles};
 ghost use Rattle.ga_console.specs.kept.Source.{Disassembly};
 ghost use Rattle.ga_console.specs.kept.Disassembling.{IsOrdinary, IsUnmarked, Says, Adds, AddsRemark, number_word, register_words, address_words, cell_words, next_of, cells_words, next_behind, holds_word, holds_words as holds_words_of, usual_p as usual_p_of, registers_words, memory_words, node_words, named_words, source_words, AreCells, HasRegisters, HasMemories, IsFit};
 
 use super::assembling::write_text;
+use super::edited::{edited_image, tell_edited};
 use super::faults::tell_unsaid;
 use super::listing::{push_hex, push_node};
 use super::remark::Roles;
@@ -73,7 +77,7 @@ fn source_for<E: Write>(
     ensures ok { IfOk result (λ text. IsAccepted image.items text.items) }
     ensures err { IfErr result (λ fault. IsFault image.items fault) }
 {
-    let chip = parse(alloc, image.as_slice())?;
+    let chip = parse_told(alloc, errors, image.as_slice())?;
     match source_of(alloc, &chip) {
         Ok(text) => {
             tell_unsaid(errors, &chip);
@@ -81,6 +85,18 @@ fn source_for<E: Write>(
         }
         Err(_) => Err(NO_MEMORY),
     }
+}
+
+/// The chip of an image. Of a refused one it is told on `errors` what an editor wrote into it.
+fn parse_told<E: Write>(alloc: Global, errors: &mut E, image: &[u8]) -> Result<Chip, ImageFault>
+    ensures found { IfOk result (λ chip. IsImage (lines_of image.now) chip) }
+    ensures refused { IfErr result (λ fault. (fault ≡ no_memory) ⊎ IsFirstFault (lines_of image.now) fault) }
+{
+    let parsed = parse(alloc, image);
+    if parsed.is_err() {
+        tell_edited(errors, edited_image(image));
+    }
+    parsed
 }
 
 /// Source of the memories, A, B and P of a chip.

@@ -10,6 +10,7 @@ use arrayvec::ArrayVec;
 use ga_grid::{Chip, NODES, NodeId};
 use ga_node::{Node, Place};
 use ga_source::{Cause, Fault, Store};
+use std::alloc::AllocError;
 use std::io::Write;
 
 /// The most bytes of a word of source.
@@ -25,16 +26,33 @@ type FaultText = ArrayVec<u8, FAULT_ROOM>;
 pub fn tell_fault<E: Write>(errors: &mut E, fault: Fault<'_>) {
     match fault.cause {
         Cause::Memory => tell_memory(errors),
-        Cause::Unknown(word) => {
-            let mut text = FaultText::new();
-            put_unknown(&mut text, fault.line, word);
-            tell(errors, text.as_slice());
-        }
+        _ => tell(errors, fault_text(fault).as_slice()),
+    }
+}
+
+/// The line that tells a fault.
+fn fault_text(fault: Fault<'_>) -> FaultText {
+    let mut text = FaultText::new();
+    match fault.cause {
+        Cause::Unknown(word) => put_unknown(&mut text, fault.line, word),
         cause => {
-            let mut text = Text::new();
             let _ = write!(text, "ga144: line {}: {}\n", fault.line, cause);
-            tell(errors, text.as_slice());
         }
+    }
+    text
+}
+
+/// Adds what is told of a fault, without the program's name and the line feed.
+pub(crate) fn push_fault(text: &mut Vec<u8>, fault: Fault<'_>) -> Result<(), AllocError> {
+    let told = fault_text(fault);
+    text.extend_from_slice(unnamed(told.as_slice()))
+}
+
+/// A line without the program's name before it and its line feed.
+fn unnamed(line: &[u8]) -> &[u8] {
+    match line {
+        [b'g', b'a', b'1', b'4', b'4', b':', b' ', rest @ .., b'\n'] => rest,
+        _ => line,
     }
 }
 
@@ -174,6 +192,6 @@ fn has_returns(node: &Node, fresh: &Node) -> bool {
 }
 
 /// Tells a line. Nothing is to be done where that fails.
-fn tell<E: Write>(errors: &mut E, text: &[u8]) {
+pub(crate) fn tell<E: Write>(errors: &mut E, text: &[u8]) {
     let _ = write_all(errors, text);
 }

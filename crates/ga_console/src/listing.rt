@@ -1,28 +1,31 @@
 //! Source in, a listing of its cells out.
-ghost use Rattle.std.specs.Prelude.{◌≡◌, ◌≤◌, ◌<◌, ◌++◌, [], ◌∷◌, codes, Some, OnOk, slice_index};
+ghost use Rattle.std.specs.Prelude.{◌≡◌, ◌≤◌, ◌<◌, ◌++◌, [], ◌∷◌, codes, length, Some, None, IfOk, IfSome, OnOk, slice_index};
 ghost use Rattle.ga_image.specs.Lines.{Bytes};
 ghost use Rattle.hex.specs.Hex.{lower_digits};
 ghost use Rattle.ga_grid.specs.Grid.{yxx_of};
 ghost use Rattle.ga_image.specs.Spelling.{decimal3_of};
 ghost use Rattle.ga_console.specs.kept.Disassembling.{Adds, hex_of};
-ghost use Rattle.ga_console.specs.kept.Source.{Listing};
+ghost use Rattle.ga_console.specs.kept.Source.{Listing, IsListed, with_fault, behind_listing};
 ghost use Rattle.ga_console.specs.Source.{Lists};
 
 use super::assembling::write_text;
+use super::fault_lines::{FaultLines, on_line};
 use super::faults::{tell_fault, tell_memory};
 use super::run::Status;
 use super::whole::read_source;
 use ga_grid::{Chip, NodeId};
 use ga_node::Place;
-use ga_notes::Lines;
 use ga_ports::{Target, advance_p, classify};
 use ga_slots::Op;
-use ga_source::{Assembled, Group, Item, Program, Request, Value, assemble};
+use ga_source::{
+    Assembled, Fault, Group, Item, Program, Request, Token, Value, assemble_behind_faults, words_of,
+};
 use std::alloc::{AllocError, Global};
 use std::io::{Read, Write};
 
 /// Reads source up to its end or to its first line `end`, and writes for each cell its address, its word, what it holds, and
-/// the line that asks for it. Source that has a fault gets a line on `errors` and no listing.
+/// the line that asks for it. Of source that has a fault the first one is told on `errors`, and what is left of it is listed without
+/// the words at fault, with each fault where these stand.
 pub fn list_source<R: Read, W: Write, E: Write>(
     alloc: Global,
     reader: &mut R,
@@ -36,52 +39,120 @@ pub fn list_source<R: Read, W: Write, E: Write>(
         × (W.contents writer.new ≡ Some (before ++ text)) × Lists read rest text result }
 {
     match read_source(alloc, reader, errors) {
-        Ok(source) => list_text(alloc, writer, errors, source),
+        Ok(source) => list_text(alloc, writer, errors, source.as_slice()),
         Err(status) => status,
     }
 }
 
-/// Writes the listing of a source, or tells the source's fault.
+/// Writes the listing of a source, and tells its first fault.
 fn list_text<W: Write, E: Write>(
     alloc: Global,
     writer: &mut W,
     errors: &mut E,
-    source: Vec<u8>,
+    source: &[u8],
 ) -> Status
     ensures { (before : Bytes) → W.contents writer.old ≡ Some before →
-        (text : Bytes) × (W.contents writer.new ≡ Some (before ++ text)) × Listing text result }
+        (text : Bytes) × (W.contents writer.new ≡ Some (before ++ text)) × Listing source.now text result }
 {
-    match listing_of(alloc, errors, source) {
-        Some(text) => write_text(writer, text),
-        None => Status::ImageRefused,
-    }
-}
-
-/// The listing of a source; or none, where a fault is told on `errors`.
-fn listing_of<E: Write>(alloc: Global, errors: &mut E, source: Vec<u8>) -> Option<Vec<u8>> {
-    match assemble(alloc, source.as_slice()) {
-        Ok(assembled) => match listing(alloc, &assembled, source.as_slice()) {
-            Ok(text) => Some(text),
-            Err(_) => {
-                tell_memory(errors);
-                None
-            }
-        },
-        Err(fault) => {
-            tell_fault(errors, fault);
-            None
+    match listing_of(alloc, source) {
+        Ok(listed) => write_listed(writer, errors, listed),
+        Err(_) => {
+            tell_memory(errors);
+            Status::ImageRefused
         }
     }
 }
 
-/// The listing of a source's chip.
-fn listing(alloc: Global, assembled: &Assembled<'_>, source: &[u8]) -> Result<Vec<u8>, AllocError> {
-    let mut text = Vec::new(alloc);
-    let mut lines = Lines::new(source);
-    for program in &assembled.programs {
-        push_node(&mut text, program.node)?;
-        push_program(&mut text, &assembled.chip, program, &mut lines)?;
+/// Writes a listing, and tells the first fault.
+fn write_listed<W: Write, E: Write>(writer: &mut W, errors: &mut E, listed: Listed<'_>) -> Status
+    ensures { (before source : Bytes) → W.contents writer.old ≡ Some before → IsListed source listed.entry.fault →
+        (text : Bytes) × (W.contents writer.new ≡ Some (before ++ text)) × Listing source text result }
+{
+    let Listed { text, fault } = listed;
+    tell_first(errors, fault);
+    let written = write_text(writer, text);
+    status_behind(written, fault)
+}
+
+/// Tells a fault, where there is one.
+fn tell_first<E: Write>(errors: &mut E, fault: Option<Fault<'_>>) {
+    if let Some(fault) = fault {
+        tell_fault(errors, fault);
     }
+}
+
+/// The status behind a listing, which has a fault or none.
+fn status_behind(written: Status, fault: Option<Fault<'_>>) -> Status
+    ensures { result ≡ behind_listing written fault.entry }
+{
+    match fault {
+        Some(_) => refused(written),
+        None => written,
+    }
+}
+
+/// The status behind a listing with a fault.
+fn refused(written: Status) -> Status
+    ensures { result ≡ with_fault written }
+{
+    match written {
+        Status::Done => Status::ImageRefused,
+        status => status,
+    }
+}
+
+/// A listing, and the first fault that its source has.
+#[derive(Drop)]
+struct Listed<'s> {
+    text: Vec<u8>,
+    fault: Option<Fault<'s>>,
+}
+
+/// The listing of a source.
+///
+/// # Errors
+/// Memory was refused.
+fn listing_of(alloc: Global, source: &[u8]) -> Result<Listed<'_>, Fault<'_>>
+    ensures { IfOk result (λ listed. IsListed source.now listed.fault) }
+{
+    let words = words_of(alloc, source)?;
+    let all = words.as_slice();
+    let mended = assemble_behind_faults(alloc, all)?;
+    let fault = first_of(all, mended.faults.as_slice());
+    let mut lines = FaultLines::new(source, all, mended.faults)?;
+    let text = listing(alloc, mended.assembled.as_ref(), &mut lines)?;
+    Ok(Listed { text, fault })
+}
+
+/// The first of faults, told of its line.
+fn first_of<'s>(words: &[Token<'_>], faults: &[Fault<'s>]) -> Option<Fault<'s>>
+    ensures none { result ≡ None → faults.now ≡ [] }
+    ensures some { IfSome result (λ _. 0 < length faults.now) }
+{
+    let Some(fault) = faults.first() else {
+        return None;
+    };
+    Some(on_line(words, *fault))
+}
+
+/// The listing of a chip, where there is one, and of faults.
+fn listing(
+    alloc: Global,
+    assembled: Option<&Assembled<'_>>,
+    lines: &mut FaultLines<'_, '_>,
+) -> Result<Vec<u8>, AllocError> {
+    let mut text = Vec::new(alloc);
+    let Some(assembled) = assembled else {
+        lines.push_rest(&mut text)?;
+        text.extend_from_slice(b"\\ too many faults to list what is left\n")?;
+        return Ok(text);
+    };
+    for program in &assembled.programs {
+        lines.push_before(&mut text, program.line)?;
+        push_node(&mut text, program.node)?;
+        push_program(&mut text, &assembled.chip, program, lines)?;
+    }
+    lines.push_rest(&mut text)?;
     Ok(text)
 }
 
@@ -137,13 +208,13 @@ fn push_program(
     text: &mut Vec<u8>,
     chip: &Chip,
     program: &Program<'_>,
-    lines: &mut Lines<'_>,
+    lines: &mut FaultLines<'_, '_>,
 ) -> Result<(), AllocError> {
     let mut groups = program.groups.iter();
     let mut left = 0usize;
     for asked in &program.asked {
         match asked.request {
-            Request::Mark(label) => push_label(text, program, label)?,
+            Request::Mark(label) => push_label(text, program, label, asked.line, lines)?,
             Request::Put(_) | Request::Unext(_) => {
                 if left == 0 {
                     let Some(group) = groups.next() else {
@@ -161,13 +232,20 @@ fn push_program(
 }
 
 /// Adds the name of a label that has one.
-fn push_label(text: &mut Vec<u8>, program: &Program<'_>, label: usize) -> Result<(), AllocError> {
+fn push_label(
+    text: &mut Vec<u8>,
+    program: &Program<'_>,
+    label: usize,
+    number: u32,
+    lines: &mut FaultLines<'_, '_>,
+) -> Result<(), AllocError> {
     let Some(found) = program.names.get(label) else {
         return Ok(());
     };
     if found.name.is_empty() {
         return Ok(());
     }
+    lines.push_before(text, number)?;
     text.extend_from_slice(found.name)?;
     text.extend_from_slice(b":\n")
 }
@@ -178,8 +256,9 @@ fn push_group(
     chip: &Chip,
     program: &Program<'_>,
     group: &Group,
-    lines: &mut Lines<'_>,
+    lines: &mut FaultLines<'_, '_>,
 ) -> Result<(), AllocError> {
+    lines.push_before(text, group.line())?;
     push_cell(text, chip, program.node, group.address)?;
     for item in &group.items {
         text.push(b' ')?;

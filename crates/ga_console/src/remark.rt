@@ -23,6 +23,8 @@ enum Role {
     Unreached,
     /// The literal of an `@p`.
     Literal,
+    /// The literal of an `@p`, which is 0.
+    Zero,
     /// An instruction word.
     Code,
     /// An instruction word to which a jump leads.
@@ -65,7 +67,7 @@ impl Roles {
     fn note(&mut self, address: u32, role: Role) {
         let is_more = match self.role(address) {
             Role::Unreached => true,
-            Role::Literal => role != Role::Unreached,
+            Role::Literal | Role::Zero => role == Role::Code || role == Role::Label,
             Role::Code => role == Role::Label,
             Role::Label => false,
         };
@@ -114,7 +116,7 @@ impl Roles {
         for slot in 0..4u8 {
             match opcode(word, slot) {
                 Op::FetchP => {
-                    self.note(p, Role::Literal);
+                    self.note(p, literal_role(node, p));
                     p = advance_p(p);
                 }
                 Op::StoreP => p = advance_p(p),
@@ -145,21 +147,54 @@ impl Roles {
     }
 
     /// The remark of the cell at an address: `003: dup call 005` where a jump leads to it, `003  dup` for other code, `004  right` for a
-    /// literal, and `005? dup` where code doesn't come.
+    /// literal, and `005? dup` where code doesn't come. A literal 0, whose cell has no line, is told behind the opcodes:
+    /// `000  @p a!, 001 is 0`.
     pub(crate) fn remark(&self, word: u32, address: u32) -> Remark {
         let mut remark = Remark::new();
         let role = self.role(address);
         let mark = match role {
             Role::Label => ':',
             Role::Unreached => '?',
-            Role::Literal | Role::Code => ' ',
+            Role::Literal | Role::Zero | Role::Code => ' ',
         };
         let _ = write!(remark, "{:03x}{} ", address, mark);
         match role {
-            Role::Literal => push_literal(&mut remark, word),
-            _ => push_opcodes(&mut remark, Word18::truncated(word), address),
+            Role::Literal | Role::Zero => push_literal(&mut remark, word),
+            Role::Unreached => push_opcodes(&mut remark, Word18::truncated(word), address),
+            Role::Code | Role::Label => {
+                push_opcodes(&mut remark, Word18::truncated(word), address);
+                self.push_zeros(&mut remark, Word18::truncated(word), address);
+            }
         }
         remark
+    }
+
+    /// Adds the literals of a word that are 0.
+    fn push_zeros(&self, remark: &mut Remark, word: Word18, address: u32) {
+        let mut p = advance_p(address);
+        for slot in 0..4u8 {
+            match opcode(word, slot) {
+                Op::FetchP => {
+                    if self.role(p) == Role::Zero {
+                        let _ = write!(remark, ", {:03x} is 0", p);
+                    }
+                    p = advance_p(p);
+                }
+                Op::StoreP => p = advance_p(p),
+                Op::Jump | Op::Call | Op::Next | Op::If | Op::MinusIf => return,
+                Op::Return | Op::Execute => return,
+                _ => {}
+            }
+        }
+    }
+}
+
+/// What a cell is that is the literal of an `@p`.
+fn literal_role(node: &Node, address: u32) -> Role {
+    if word_at(node, address).get() == 0 {
+        Role::Zero
+    } else {
+        Role::Literal
     }
 }
 

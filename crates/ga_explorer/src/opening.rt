@@ -4,7 +4,9 @@ ghost use Rattle.ga_explorer.specs.Opening.{begins_as_image, Opens, OpensSource}
 ghost use Rattle.ga_explorer.specs.kept.Opening.{IsUnopened};
 
 use crate::explorer::Explorer;
-use ga_console::{open_image, tell_fault, tell_memory, tell_stores};
+use ga_console::{
+    edited_image, edited_source, open_image, tell_edited, tell_fault, tell_memory, tell_stores,
+};
 use ga_image::ImageFault;
 use ga_lab::Lab;
 use ga_notes::notes_of;
@@ -43,12 +45,18 @@ pub(crate) fn open_text<E: Write>(
     ensures err { IfErr result (λ why. IsUnopened text.items why) }
 {
     if is_image(text.as_slice()) {
+        let edited = edited_image(text.as_slice());
         return match open_image(alloc, text, limit) {
             Ok(lab) => Ok(Explorer::of(lab, None)),
-            Err(fault) => Err(Unopened::Image(fault)),
+            Err(fault) => {
+                tell_edited(errors, edited);
+                Err(Unopened::Image(fault))
+            }
         };
     }
-    match open_source(alloc, errors, text.as_slice(), limit) {
+    let opened = open_source(alloc, errors, text.as_slice(), limit);
+    tell_edited(errors, edited_source(text.as_slice()));
+    match opened {
         Some(begun) => Ok(begun),
         None => Err(Unopened::Source),
     }

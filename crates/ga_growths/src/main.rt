@@ -100,6 +100,7 @@ fn run_of<R: Threads + Wait + Sync>(rt: &R, alloc: Global, run: &str) -> Outcome
         "race-report" => shared::report_of_one(rt, alloc),
         "asm" => sources::assembled(alloc),
         "list" => sources::listed(alloc),
+        "list-faults" => sources::listed_behind(alloc),
         "dis" => sources::disassembled(alloc),
         "arguments" => shared::command_line(alloc),
         _ => Outcome::Wrong("there is no such run"),

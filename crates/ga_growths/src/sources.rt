@@ -77,6 +77,39 @@ fn listed_once(alloc: Global) -> Outcome {
     }
 }
 
+/// Three faults: of a name, of a node and of a cell.
+const FAULTY: &[u8] = b"node 000\n: main foo dup ;\nnode 018 +\nnode 001\n7 , org 0 8 ,\n";
+
+const LISTED_BEHIND: &[u8] =
+    b"node 000\nmain:\nline 2: what is foo \\ : main foo dup ;\n000 0255b2 dup ; \\ : main foo dup ;\nline 3: no such node \\ node 018 +\nnode 001\n000 000007 0x00007 \\ 7 , org 0 8 ,\nline 5: cell 000 given before on line 5 (org 0 is 000) \\ 7 , org 0 8 ,\n";
+
+const FIRST_FAULT: &[u8] = b"ga144: line 2: what is foo\n";
+
+/// The listing of a source with faults.
+pub fn listed_behind(alloc: Global) -> Outcome {
+    match listed_behind_once(alloc) {
+        Outcome::Refused(what) => Outcome::Refused(what).and(listed_behind_once(alloc)),
+        once => once,
+    }
+}
+
+fn listed_behind_once(alloc: Global) -> Outcome {
+    let mut reader = FAULTY;
+    let mut listing = Page::new();
+    let mut errors = Page::new();
+    let status = list_source(alloc, &mut reader, &mut listing, &mut errors);
+    if is_refused(status, &listing, &errors) {
+        Outcome::Refused("source")
+    } else if status == Status::ImageRefused
+        && listing.holds(LISTED_BEHIND)
+        && errors.holds(FIRST_FAULT)
+    {
+        Outcome::Answered
+    } else {
+        Outcome::Wrong("another listing")
+    }
+}
+
 /// Whether source was refused for want of memory.
 fn is_refused(status: Status, written: &Page, errors: &Page) -> bool {
     status == Status::ImageRefused && written.holds(b"") && errors.holds(b"ga144: no memory\n")

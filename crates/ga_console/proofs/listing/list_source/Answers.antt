@@ -1,5 +1,6 @@
-use Rattle.std.proofs.Common.{[], Some, sym, ap, ◌∙◌}
+use Rattle.std.proofs.Common.{ℕ, List, [], Some, sym, ap, subst, ◌∙◌}
 use Rattle.std.proofs.lemmas.List.{append-nil}
+use Rattle.ga_console.specs.kept.Source.{Listing}
 use Rattle.ga_console.proofs.Sources.{lists, lists_nothing}
 use Rattle.ga_console.proofs.listing.list_source.Goals as goal
 
@@ -13,7 +14,7 @@ returns-in-Ok g c = λ left before known held.
       got.2,
       got.3,
       done.1,
-      lists c.in-Ok.source.items got.4.0 got.0 got.1 done.0 c.list_text.result got.4.1 got.4.2 done.2,
+      lists c.in-Ok.source.items got.4.0 got.0 got.1 done.0 c.list_text.result got.4.1 got.4.2 (subst (λ (source : List ℕ). Listing source done.0 c.list_text.result) c.as_slice.ensures.value done.2),
     )
 
 pub returns-in-Err : goal.returns-in-Err

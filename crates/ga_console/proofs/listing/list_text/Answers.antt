@@ -1,10 +1,9 @@
-use Rattle.ga_console.proofs.Sources.{listing_written}
+use Rattle.std.proofs.Common.{[], Some, inl, refl, sym, ap, ◌∙◌}
+use Rattle.std.proofs.lemmas.List.{append-nil}
 use Rattle.ga_console.proofs.listing.list_text.Goals as goal
 
-pub returns-in-Some : goal.returns-in-Some
-returns-in-Some g c = λ before held.
-    let done = c.write_text.ensures before held in (
-      done.0,
-      done.1,
-      listing_written c.in-Some.text.items done.0 c.write_text.result done.2,
-    )
+pub returns-in-Ok : goal.returns-in-Ok
+returns-in-Ok g c = λ before held. c.write_listed.ensures before c.args.source.now held c.in-Ok.ensures
+
+pub returns-in-Err : goal.returns-in-Err
+returns-in-Err g c = λ before held. ([], held ∙ ap Some (sym (append-nil before)), inl refl)
