@@ -1,6 +1,6 @@
 //! Steps that could have come out otherwise, told line by line.
 
-ghost use Rattle.std.specs.Prelude.{◌≡◌, ◌++◌, flat_map};
+ghost use Rattle.std.specs.Prelude.{◌≡◌, ◌≤◌, ◌++◌, length, flat_map};
 ghost use Rattle.ga_image.specs.Lines.{Bytes};
 ghost use Rattle.ga_console.specs.Output.{IsSaid, IsSaidOrCut};
 ghost use Rattle.ga_console.specs.kept.Output.{Says};
@@ -145,7 +145,8 @@ fn reading_line(reading: Reading) -> Text
 
 /// On which side of the change a look would have read the other word.
 fn side_of(early: bool) -> &'static [u8]
-    ensures { result.now ≡ side_text early }
+    ensures text { result.now ≡ side_text early }
+    ensures len { length result.now ≤ 8 }
 {
     if early { b" behind " } else { b" before " }
 }
