@@ -4,25 +4,28 @@ import re
 
 from listing import NAMES
 from machine import Machine, NODES, name
-from node import Node, SIDES, neighbour, target_of
+from node import FETCH_DUE, Node, SIDES, neighbour, target_of
 from notes import Notes
 from whence import LOADED, asked_of, rows_of, tested_by
 
 NODE, W, HH = "[0-7](?:0[0-9]|1[0-7])", "0[0-3][0-9a-fA-F]{4}", "[0-9a-fA-F]{2}"
 NUMBER = "(?:0|[1-9][0-9]{0,9})"
 MOST = (1 << 32) - 1
+LONGEST = 200
 STORES = {"0c": ("!p", "p"), "0d": ("!+", "a"), "0e": ("!b", "b"), "0f": ("!", "a")}
-CONDITION = (
+CONDITION = re.compile(
     rf"pass {NODE} {NODE} (?:= {W}|{NUMBER})|step {NODE} {NUMBER}|stop|stop {NODE}|wait {NODE}|mem {NODE} {HH} = {W}|p {NODE} [^ ]+"
+    rf"|reach {NODE} [^ ]+|change {NODE} {HH}(?: = {W})?"
 )
-RUN = re.compile(rf"run(?: (greedy|random ({NUMBER})))?(?: ({NUMBER}))?(?: until ({CONDITION}))?")
+MOST_CONDITIONS = 8
+RUN = re.compile(rf"run(?: (greedy|random ({NUMBER})))?(?: ({NUMBER}))?(?: until (.+))?")
 RACES = re.compile(rf"races(?: ({NODE}))?")
 ASKED = re.compile(rf"(effects|whence) ({NODE}) ({NUMBER})|(words) ({NODE}) ({NODE})|(writes) ({NODE}) ({HH})|(at|because) ({NODE}) ({NUMBER})(?: ([1-9]?[0-9]))?")
 HELP = """\
 run [greedy|random SEED] [N] [until COND]
                       make up to N events, in rounds or in this order
 COND: pass NNN MMM = W, pass NNN MMM J, step NNN K, stop, stop NNN, wait NNN,
-      mem NNN HH = W, p NNN X
+      mem NNN HH = W, p NNN X, reach NNN X, change NNN HH [= W], COND or COND
 chip                  what each node does
 who                   who waits for whom, and which nodes can never go on
 effects NNN K         what rewind NNN K would take
@@ -99,6 +102,8 @@ class Explorer(Machine):
 
     def explored(self, line):
         """The answer to a command of exploring, or None."""
+        if len(line) > LONGEST:
+            return None
         if line == "chip":
             return self.glance()
         if line == "help":
@@ -126,13 +131,19 @@ class Explorer(Machine):
         found = RUN.fullmatch(line)
         if not found:
             return None
-        order, seed, most, condition = found.groups()
-        if condition and condition.startswith("p ") and self.address(*condition.split(" ")[1:]) is None:
+        order, seed, most, until = found.groups()
+        conditions = until.split(" or ") if until else []
+        if len(conditions) > MOST_CONDITIONS or not all(map(self.is_condition, conditions)):
             return None
-        return self.run(order and order.split(" ")[0], seed and int(seed), int(most) if most else MOST, condition)
+        return self.run(order and order.split(" ")[0], seed and int(seed), int(most) if most else MOST, conditions)
 
-    def run(self, order, seed, most, condition):
+    def is_condition(self, text):
+        kind, *words = text.split(" ")
+        return bool(CONDITION.fullmatch(text)) and (kind not in ("p", "reach") or self.address(*words) is not None)
+
+    def run(self, order, seed, most, conditions):
         turn, state = 0, seed
+        written = [number_of(condition.split(" ")[1]) for condition in conditions if condition.startswith("change ")]
         if order == "random":
             word, state = mixed(state)
             turn = word % NODES
@@ -143,9 +154,11 @@ class Explorer(Machine):
                 return f"quiet {made}"
             if len(self.events) == self.limit:
                 return f"full {made}"
+            before = {it: self.chip[it].copy() for it in written}
             told = self.step(node)
-            if condition and self.holds(condition, told):
-                return f"reached {made + 1} {told}"
+            held = next((number for number, condition in enumerate(conditions, 1) if self.holds(condition, told, before)), None)
+            if held:
+                return f"reached {made + 1}{f' by {held}' if len(conditions) > 1 else ''} {told}"
             if order == "random":
                 word, state = mixed(state)
                 turn = word % NODES
@@ -153,7 +166,8 @@ class Explorer(Machine):
                 turn = node if order == "greedy" else (node + 1) % NODES
         return f"made {most}"
 
-    def holds(self, condition, told):
+    def holds(self, condition, told, before):
+        """Whether a condition holds right behind an event of which this is told, where some nodes were so before."""
         kind, *words = condition.split(" ")
         event = told.split(" ")
         own = event[0] != "pass"
@@ -171,7 +185,20 @@ class Explorer(Machine):
         node = number_of(words[0])
         if kind == "mem":
             return self.mem(node, int(words[1], 16)).split(" ")[3] == words[3].lower()
-        return self.chip[node].p == self.address(*words)
+        if kind == "p":
+            return self.chip[node].p == self.address(*words)
+        if words[0] not in ([event[0]] if own else event[1:4:2]):
+            return False
+        if kind == "reach":
+            it = self.chip[node]
+            return not it.wait and not it.stop and it.slot == FETCH_DUE and it.p == self.address(*words)
+        return self.wrote(before[node], told, int(words[1], 16)) and [it.lower() for it in words[3:]] in ([], [self.mem(node, int(words[1], 16)).split(" ")[3]])
+
+    @staticmethod
+    def wrote(before, told, address):
+        """Whether an event of a node that was so before it wrote the cell at an address: by one of four opcodes."""
+        store = STORES.get(told.split(" ")[-1]) if " run " in told else None
+        return bool(store) and address < 0x80 and target_of(getattr(before, store[1])) == ("ram", address % 64)
 
     def address(self, node, word):
         """The address that a word or a label of the node tells, or None."""
@@ -223,9 +250,8 @@ class Explorer(Machine):
         """The steps by which a node wrote a cell of its RAM: one of four opcodes, at an address that names the cell."""
         lines = []
         for step, (told, before, behind) in enumerate(self.passed_through(node), 1):
-            store = STORES.get(told.split(" ")[-1]) if " run " in told else None
-            if store and address < 0x80 and target_of(getattr(before, store[1])) == ("ram", address % 64):
-                lines.append(f"{name(node)} {step} {store[0]} {before.d[0]:06x}")
+            if self.wrote(before, told, address):
+                lines.append(f"{name(node)} {step} {STORES[told.split(' ')[-1]][0]} {before.d[0]:06x}")
         return lines
 
     def tails(self, passed):

@@ -11,7 +11,7 @@ import subprocess
 import sys
 from itertools import zip_longest
 
-from explore import Explorer, number_of
+from explore import STORES, Explorer, number_of
 from files import answer, load_of
 from machine import name
 from notes import Notes
@@ -114,7 +114,7 @@ class Session:
     def ahead(self, order):
         """Conditions that hold behind some event that such a run would make."""
         machine, pick = pickle.loads(pickle.dumps(self.machine)), self.random.choice
-        machine.run(order and order.split(" ")[1], int(order.split(" ")[-1]) if "random" in order else None, pick((1, 20, 200)), None)
+        machine.run(order and order.split(" ")[1], int(order.split(" ")[-1]) if "random" in order else None, pick((1, 20, 200)), [])
         made = machine.told[len(self.machine.told) :] or ["000 1 fetch"]
         passes = [told for told in made if told.startswith("pass")]
         words = pick(passes or made if self.random.random() < 0.6 else made).split(" ")
@@ -124,8 +124,20 @@ class Session:
             return [f"pass {writer} {reader} = {word.upper()}", f"pass {writer} {reader} {number}", f"step {reader} {its}"]
         held = machine.chip[number_of(words[0])]
         ended = ["stop", f"{words[2]} {words[0]}"] if words[2] in ("wait", "stop") else []
-        ended += [f"p {words[0]} {label}" for label, address in machine.notes.labels.get(held.number, []) if address == held.p]
+        ended += [f"{kind} {words[0]} {label}" for kind in ("p", "reach") for label, address in machine.notes.labels.get(held.number, []) if address == held.p]
+        ended += [f"reach {words[0]} {held.p:06x}"]
+        written = [told for told in made if " run " in told and told.split(" ")[-1] in STORES]
+        if written:
+            node = written[-1].split(" ")[0]
+            store = machine.chip[number_of(node)]
+            cell = pick([at for at in range(64) if store.ram[at] != self.machine.chip[number_of(node)].ram[at]] or [0x22])
+            ended += [f"change {node} {cell:02x}", f"change {node} {cell + 0x40:02x} = {store.ram[cell]:06X}"]
         return [f"step {words[0]} {words[1]}", f"p {words[0]} {held.p:06x}", f"mem {words[0]} 22 = {held.ram[0x22]:06x}"] + ended
+
+    def conditions(self, order):
+        """Mostly one condition; or some, of which now and then there are too many."""
+        several = self.random.random() < 0.25
+        return " or ".join(self.condition(order) for _ in range(self.random.choice((2, 2, 3, 8, 9)) if several else 1))
 
     def condition(self, order):
         node, pick = self.node(), self.random.choice
@@ -136,12 +148,13 @@ class Session:
         return pick((
             f"{passing} = {self.word():06X}", f"{passing} {len(self.machine.sent(writer, reader)) + pick((0, 1, 2))}", "stop", f"stop {name(node)}",
             f"wait {name(node)}", f"mem {name(node)} {self.address():02x} = {self.word():06X}",
-            f"p {name(node)} {pick([f'{self.random.randrange(12):06x}', *(label for label, _ in self.machine.notes.labels.get(node, []))])}",
+            f"{pick(('p', 'reach'))} {name(node)} {pick([f'{self.random.randrange(12):06x}', *(label for label, _ in self.machine.notes.labels.get(node, []))])}",
+            f"change {name(node)} {self.address():02x}" + pick(("", f" = {self.word():06X}")),
         ))  # fmt: skip
 
     def run(self):
         order = self.random.choice(("", "", " greedy", f" random {self.random.randrange(1 << 32)}"))
-        return f"run{order} {self.random.choice((1, 5, 30, 200, 400))}" + (f" until {self.condition(order)}" if self.random.random() < 0.6 else "")
+        return f"run{order} {self.random.choice((1, 5, 30, 200, 400))}" + (f" until {self.conditions(order)}" if self.random.random() < 0.6 else "")
 
     def command(self):
         node, number = self.node(), self.random.randrange
@@ -177,7 +190,7 @@ class Session:
             return line, answer(self.machine, line)
         if command == "debug":
             return self.base.command(self.machine)
-        return command, self.machine.explored(command)
+        return command, answer(self.machine, command)
 
 
 def session(number):

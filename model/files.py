@@ -12,7 +12,7 @@ import re
 import sys
 from itertools import zip_longest
 
-from explore import Explorer, cure
+from explore import LONGEST, Explorer, cure
 from machine import Machine, NODES, name
 from node import Node, SIDES, WORD
 from notes import Notes
@@ -27,7 +27,6 @@ FIELDS["ga144 2"] = FIELDS["ga144 1"] + (
 )
 GREATEST = {"b": 0x1FF, "p": 0x3FF}
 COMMAND = rf"back|count|dump|quit|(?:step|node|trace) {NODE}|mem {NODE} {HH}|rewind {NODE} {STEP}|why {NODE} {STEP} {NODE} {STEP}"
-LONGEST = 200
 NO_COMMANDS = ("no 31 syntax", "no 32 long")
 NUMBERS = {name(node): node for node in range(NODES)}
 

@@ -295,7 +295,11 @@ WRONG = (
     (EXPLORE, "for node, others in awaited.items() if len(others) == 1", "for node, others in awaited.items() if others"),
     (EXPLORE, "if after.get(ring[-1]) == first and min(ring) == first", "if after.get(ring[-1]) == first"),
     (EXPLORE, "if event == (writer, reader)]", "if set(event) == {writer, reader}]"),
-    (EXPLORE, "getattr(before, store[1])) == (\"ram\", address % 64)", "getattr(behind, store[1])) == (\"ram\", address % 64)"),
+    (EXPLORE, "if self.wrote(before, told, address):", "if self.wrote(behind, told, address):"),
+    (EXPLORE, "not it.stop and it.slot == FETCH_DUE and it.p", "not it.stop and it.p"),
+    (EXPLORE, "return not it.wait and not it.stop and", "return"),
+    (EXPLORE, "before = {it: self.chip[it].copy() for it in written}", "before = {it: self.chip[it] for it in written}"),
+    (EXPLORE, "for number, condition in enumerate(conditions, 1) if", "for number, condition in enumerate(conditions) if"),
     # and what source says of cells
     (EXPLORE, "if again.next(other) == (other, node)]", "if (again.chip[other].wait or ' ')[0] == 'write']"),
     (EXPLORE, "self.offers(node, int(step)) if name(other) != writer]", "self.offers(node, int(step))]"),

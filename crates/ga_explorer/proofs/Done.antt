@@ -1,9 +1,10 @@
 -- A command of exploring that was carried out.
 use Rattle.std.specs.Prelude.{Option}
-use Rattle.std.proofs.Common.{◌≡◌, ◌≤◌, ℕ, List, refl, sym, ap, subst}
+use Rattle.std.proofs.Common.{◌≡◌, ◌∙◌, ◌≤◌, ℕ, List, length, refl, sym, ap, subst}
 use Rattle.ga_grid.specs.declared.node_id.NodeId.{NodeId}
 use Rattle.ga_lab.specs.Machine.{State}
-use Rattle.ga_search.specs.Running.{running, after, AreMade, HasEnded}
+use Rattle.ga_search.specs.Conditions.{asked_of}
+use Rattle.ga_search.specs.Running.{Running, running, after, AreMade, HasEnded}
 use Rattle.ga_search.specs.declared.schedule.Schedule.{Schedule}
 use Rattle.ga_search.specs.declared.condition.Condition.{Condition}
 use Rattle.ga_search.specs.declared.running.End.{End}
@@ -21,20 +22,20 @@ use Rattle.ga_explorer.specs.Answers.{TellsEffects, TellsWho, Explored}
 use Rattle.ga_explorer.specs.declared.request.Request.{Request}
 use Rattle.ga_explorer.specs.declared.request.Request.TheVariants.{Run, Effects, Words, Writes, At, Whence, Because, Races, Who, Chip, Save, Help}
 
-pub run_done : (s : State) (notes : Option Notes) (asked : Request) (schedule : Schedule) (most bound : ℕ) (until : Condition) (events : ℕ) (end : End) (new : State)
-    → asked ≡ Run schedule most until → bound ≡ most → AreMade (running s schedule) events → events ≤ bound
-    → HasEnded (running s schedule) bound until events end → new ≡ (after (running s schedule) events).state
-    → Explored (exploring s notes) asked (run_text events end) (exploring new notes)
-run_done s notes asked schedule most bound until events end new e f made within ended state =
-    subst (λ z. Explored (exploring s notes) z (run_text events end) (exploring new notes)) (sym e) (
+pub run_done : (s : State) (notes : Option Notes) (asked : Request) (schedule : Schedule) (most bound : ℕ) (given until : List Condition) (many events : ℕ) (end : End) (new : State) (gone : Schedule)
+    → asked ≡ Run schedule most given → until ≡ asked_of given → many ≡ length until → bound ≡ most → AreMade (running s schedule) events → events ≤ bound
+    → HasEnded (running s schedule) bound until events end → running new gone ≡ after (running s schedule) events
+    → Explored (exploring s notes) asked (run_text many events end) (exploring new notes)
+run_done s notes asked schedule most bound given until many events end new gone e given_so many_so f made within ended state =
+    subst (λ z. Explored (exploring s notes) z (run_text many events end) (exploring new notes)) (sym e) (
       record {
         events = events;
         end = end;
         made = made;
         within = subst (λ z. events ≤ z) f within;
-        ended = subst (λ z. HasEnded (running s schedule) z until events end) f ended;
-        state = state;
-        text = refl;
+        ended = subst (λ z. HasEnded (running s schedule) most z events end) given_so (subst (λ z. HasEnded (running s schedule) z until events end) f ended);
+        state = ap (λ (r : Running). r.state) state;
+        text = ap (λ z. run_text z events end) (many_so ∙ ap length given_so);
       },
       refl,
     )

@@ -14,3 +14,4 @@ pub mod Because
 pub mod Trees
 pub mod Rings
 pub mod Finding
+pub mod Alternatives

@@ -1,5 +1,5 @@
 -- What exploring answers to a line (docs/REFERENCE.md, "Exploring"; this project's own).
-use Rattle.std.specs.Prelude.{◌≡◌, ℕ, ◌<◌, ◌≤◌, ◌⊎◌, Bool, IsOk, length, Some, None}
+use Rattle.std.specs.Prelude.{◌≡◌, ℕ, ◌<◌, ◌≤◌, ◌⊎◌, Bool, IsOk, List, length, Some, None}
 use Rattle.ga_image.specs.Lines.{longest, Text, Line}
 use Rattle.ga_grid.specs.declared.node_id.NodeId.{NodeId}
 use Rattle.ga_lab.specs.Machine.{State, chip_of, rewind_answer}
@@ -8,6 +8,7 @@ use Rattle.ga_search.specs.Effects.{effects_of}
 use Rattle.ga_search.specs.Stuck.{AreStuck}
 use Rattle.ga_search.specs.Freed.{IsWithin}
 use Rattle.ga_search.specs.Idle.{MarksIdle}
+use Rattle.ga_search.specs.Conditions.{asked_of}
 use Rattle.ga_search.specs.Running.{running, after, AreMade, HasEnded}
 use Rattle.ga_search.specs.declared.schedule.Schedule.{Schedule}
 use Rattle.ga_search.specs.declared.condition.Condition.{Condition}
@@ -30,16 +31,16 @@ use Rattle.ga_explorer.specs.Races.{TellsRaces}
 use Rattle.ga_explorer.specs.declared.request.Request.{Request}
 use Rattle.ga_explorer.specs.declared.request.Request.TheVariants.{Run, Effects, Words, Writes, At, Whence, Because, Races, Who, Chip, Save, Help}
 
--- Events were made in the order of the schedule, at most so many, up to the first after which the condition holds: the text says
--- how many and why no more, and the machine is the one after them.
-pub record IsRun (s : State) (schedule : Schedule) (most : ℕ) (until : Condition) (answer : Text) (new : State) : Type 0 where
+-- Events were made in the order of the schedule, at most so many, up to the first after which one of the conditions holds: the text
+-- says how many and why no more, and the machine is the one after them.
+pub record IsRun (s : State) (schedule : Schedule) (most : ℕ) (until : List Condition) (answer : Text) (new : State) : Type 0 where
   pub events : ℕ
   pub end : End
   pub made : AreMade (running s schedule) events
   pub within : events ≤ most
   pub ended : HasEnded (running s schedule) most until events end
   pub state : new ≡ (after (running s schedule) events).state
-  pub text : answer ≡ run_text events end
+  pub text : answer ≡ run_text (length until) events end
 
 -- It is told what a rollback would take, or memory is wanting where one could be made.
 abbrev pub TellsEffects : State → NodeId → ℕ → Text → Type 0
@@ -59,7 +60,7 @@ pub record TellsWho (s : State) (answer : Text) : Type 0 where
 
 -- what is answered to a command of exploring, and what is explored then
 abbrev pub Explored : Exploring → Request → Text → Exploring → Type 0
-Explored e (Run schedule most until) answer new = IsRun e.lab schedule most until answer new.lab × (new.notes ≡ e.notes)
+Explored e (Run schedule most until) answer new = IsRun e.lab schedule most (asked_of until) answer new.lab × (new.notes ≡ e.notes)
 Explored e (Effects node step) answer new = TellsEffects e.lab node step answer × (new ≡ e)
 Explored e (Words from to) answer new = (answer ≡ words_text e.lab from to) × (new ≡ e)
 Explored e (Writes node address) answer new = (answer ≡ writes_text e.lab node address) × (new ≡ e)

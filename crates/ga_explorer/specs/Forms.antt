@@ -18,7 +18,7 @@ entry name form does = record { name = name; form = form; does = does }
 -- the commands, in the order of `help`
 unfoldable pub rows : List Entry
 rows =
-    entry (codes "run") (codes "run [greedy|random SEED] [N] [until COND]") (codes "\n                      make up to N events, in rounds or in this order\nCOND: pass NNN MMM = W, pass NNN MMM J, step NNN K, stop, stop NNN, wait NNN,\n      mem NNN HH = W, p NNN X\n")
+    entry (codes "run") (codes "run [greedy|random SEED] [N] [until COND]") (codes "\n                      make up to N events, in rounds or in this order\nCOND: pass NNN MMM = W, pass NNN MMM J, step NNN K, stop, stop NNN, wait NNN,\n      mem NNN HH = W, p NNN X, reach NNN X, change NNN HH [= W], COND or COND\n")
     ∷ entry (codes "chip") (codes "chip") (codes "                  what each node does\n")
     ∷ entry (codes "who") (codes "who") (codes "                   who waits for whom, and which nodes can never go on\n")
     ∷ entry (codes "effects") (codes "effects NNN K") (codes "         what rewind NNN K would take\n")

@@ -1,16 +1,16 @@
 -- The commands of exploring, and how a line is read as one: words with one space between two of them (docs/REFERENCE.md,
 -- "Exploring"; this project's own). Nodes and numbers are spelled as in the debugger's commands.
-use Rattle.std.specs.Prelude.{ℕ, ◌+◌, ◌*◌, ◌^◌, nat_eq, nat_lt, nat_le, if◌then◌else◌, [], ◌∷◌, codes, Option, Some, None, option_map}
+use Rattle.std.specs.Prelude.{ℕ, zero, suc, ◌+◌, ◌*◌, ◌^◌, ◌==◌, nat_eq, nat_lt, nat_le, ◌&&◌, if◌then◌else◌, List, [], ◌∷◌, ◌++◌, replicate, codes, Option, Some, None, option_map}
 use Rattle.std.specs.Cmp.Lexicographic.{pointwise}
 use Rattle.ga_image.specs.Lines.{Line}
 use Rattle.ga_grid.specs.declared.node_id.NodeId.{NodeId}
 use Rattle.ga_ports.specs.Steps.{◌>>=◌}
 use Rattle.ga_image.specs.Digits.{byte_in}
-use Rattle.ga_console.specs.Parsing.{cut, node_in, number_in}
+use Rattle.ga_console.specs.Parsing.{in_front, cut, node_in, number_in}
 use Rattle.ga_search.specs.Schedules.{in_rounds, greedily, at_random}
 use Rattle.ga_search.specs.declared.schedule.Schedule.{Schedule}
 use Rattle.ga_search.specs.declared.condition.Condition.{Condition}
-use Rattle.ga_search.specs.declared.condition.Condition.TheVariants.{Never, Passes, PassesNumber, Steps, Stops, StopsAt, WaitsAt, Holds, ComesTo}
+use Rattle.ga_search.specs.declared.condition.Condition.TheVariants.{Never, Passes, PassesNumber, Steps, Stops, StopsAt, WaitsAt, Holds, ComesTo, Reaches, Writes as WritesTo}
 use Rattle.ga_notes.specs.declared.notes.Notes.{Notes}
 use Rattle.ga_notes.specs.Notes.{address_of}
 use Rattle.ga_explorer.specs.declared.request.Request.{Request}
@@ -20,7 +20,7 @@ use Rattle.ga_explorer.specs.declared.request.Request.TheVariants.{Run, Effects,
 abbrev pub most_events : ℕ
 most_events = 4294967295
 
--- ---- a condition
+-- ---- a condition: of the last two, each holds at an event alone that makes it so
 
 -- a number that fits in a word
 abbrev pub in_word : ℕ → Option ℕ
@@ -97,6 +97,33 @@ comes_in notes text = do
   address ← address_in notes node parts.1
   Some (ComesTo node address)
 
+unfoldable pub reaches_in : Option Notes → Line → Option Condition
+reaches_in notes text = do
+  parts ← cut text
+  node ← node_in parts.0
+  address ← address_in notes node parts.1
+  Some (Reaches node address)
+
+-- `HH` or `HH = W` behind `NNN`
+abbrev pub written_cut : NodeId → Option (Line × Line) → Line → Option Condition
+written_cut node None text = do
+  address ← byte_in text
+  Some (WritesTo node address None)
+written_cut node (Some parts) text = do
+  address ← byte_in parts.0
+  word ← equal_in parts.1
+  Some (WritesTo node address (Some word))
+
+abbrev pub written_in : NodeId → Line → Option Condition
+written_in node text = written_cut node (cut text) text
+
+-- `NNN HH` or `NNN HH = W`
+unfoldable pub writes_to_in : Line → Option Condition
+writes_to_in text = do
+  parts ← cut text
+  node ← node_in parts.0
+  written_in node parts.1
+
 -- a condition of one word
 unfoldable pub lone_condition : Line → Option Condition
 lone_condition name = if pointwise nat_eq name (codes "stop") then Some Stops else None
@@ -110,6 +137,8 @@ named_condition notes name text =
     else if pointwise nat_eq name (codes "pass") then passes_in text
     else if pointwise nat_eq name (codes "mem") then holds_in text
     else if pointwise nat_eq name (codes "p") then comes_in notes text
+    else if pointwise nat_eq name (codes "reach") then reaches_in notes text
+    else if pointwise nat_eq name (codes "change") then writes_to_in text
     else None
 
 abbrev pub condition_by : Option Notes → Option (Line × Line) → Line → Option Condition
@@ -119,12 +148,68 @@ condition_by notes (Some parts) text = named_condition notes parts.0 parts.1
 abbrev pub condition_in : Option Notes → Line → Option Condition
 condition_in notes text = condition_by notes (cut text) text
 
+-- ---- conditions with ` or ` between them
+
+-- what stands behind one in front
+unfoldable pub behind_or : Line → Option Line
+behind_or (a ∷ b ∷ c ∷ d ∷ rest) = if (a == 32) && ((b == 111) && ((c == 114) && (d == 32))) then Some rest else None
+behind_or _ = None
+
+abbrev pub cut_here : Option Line → Option (Line × Line) → Option (Line × Line)
+cut_here None later = later
+cut_here (Some rest) later = Some ([], rest)
+
+-- what stands before the first of them, and what stands behind it
+abbrev pub or_cut : Line → Option (Line × Line)
+or_cut [] = None
+or_cut (b ∷ text) = cut_here (behind_or (b ∷ text)) (in_front b (or_cut text))
+
+-- the first condition, and those behind it where there are some
+abbrev pub split_by : Option (Line × Line) → Line → Line × Option Line
+split_by None text = (text, None)
+split_by (Some parts) text = (parts.0, Some parts.1)
+
+abbrev pub or_split : Line → Line × Option Line
+or_split text = split_by (or_cut text) text
+
+-- how many are watched at most
+abbrev pub most_conditions : ℕ
+most_conditions = 8
+
+-- some in front of others
+abbrev pub with_front : List Condition → Option (List Condition) → Option (List Condition)
+with_front front others = option_map (λ more. front ++ more) others
+
+abbrev pub with_first : Option Condition → Option (List Condition) → Option (List Condition)
+with_first None others = None
+with_first (Some one) others = with_front (one ∷ []) others
+
+-- those behind the first, or else as many that hold never as there are places left
+abbrev pub others_by : ℕ → (Line → Option (List Condition)) → Option Line → Option (List Condition)
+others_by more others None = Some (replicate more Never)
+others_by more others (Some text) = others text
+
+abbrev pub conditions_by : Option Notes → ℕ → (Line → Option (List Condition)) → Line × Option Line → Option (List Condition)
+conditions_by notes more others parts = with_first (condition_in notes parts.0) (others_by more others parts.1)
+
+-- for so many places
+unfoldable pub conditions_within : Option Notes → ℕ → Line → Option (List Condition)
+conditions_within notes zero text = None
+conditions_within notes (suc more) text = conditions_by notes more (conditions_within notes more) (or_split text)
+
+abbrev pub conditions_in : Option Notes → Line → Option (List Condition)
+conditions_in notes text = conditions_within notes most_conditions text
+
+-- none
+abbrev pub no_condition : List Condition
+no_condition = replicate most_conditions Never
+
 -- ---- `run`
 
 abbrev pub run_until : Option Notes → Schedule → ℕ → Line → Option Request
-run_until notes schedule most text = option_map (Run schedule most) (condition_in notes text)
+run_until notes schedule most text = option_map (Run schedule most) (conditions_in notes text)
 
--- `until COND` behind a number
+-- `until COND or COND ..` behind a number
 unfoldable pub until_in : Option Notes → Schedule → ℕ → Line → Option Request
 until_in notes schedule most text = do
   parts ← cut text
@@ -139,7 +224,7 @@ bounded_by notes schedule name text =
       until_in notes schedule most text)
 
 abbrev pub bounded_cut : Option Notes → Option (Line × Line) → Schedule → Line → Option Request
-bounded_cut notes None schedule text = option_map (λ most. Run schedule most Never) (number_in text)
+bounded_cut notes None schedule text = option_map (λ most. Run schedule most no_condition) (number_in text)
 bounded_cut notes (Some parts) schedule text = bounded_by notes schedule parts.0 parts.1
 
 -- a number, `until COND`, or both
@@ -147,7 +232,7 @@ abbrev pub bounded_in : Option Notes → Schedule → Line → Option Request
 bounded_in notes schedule text = bounded_cut notes (cut text) schedule text
 
 abbrev pub seeded_cut : Option Notes → Option (Line × Line) → Line → Option Request
-seeded_cut notes None text = option_map (λ seed. Run (at_random seed) most_events Never) (number_in text)
+seeded_cut notes None text = option_map (λ seed. Run (at_random seed) most_events no_condition) (number_in text)
 seeded_cut notes (Some parts) text = do
   seed ← number_in parts.0
   bounded_in notes (at_random seed) parts.1
@@ -158,7 +243,7 @@ seeded_in notes text = seeded_cut notes (cut text) text
 
 -- an order of one word, or what bounds a run in rounds
 unfoldable pub lone_order : Option Notes → Line → Option Request
-lone_order notes text = if pointwise nat_eq text (codes "greedy") then Some (Run greedily most_events Never) else bounded_in notes in_rounds text
+lone_order notes text = if pointwise nat_eq text (codes "greedy") then Some (Run greedily most_events no_condition) else bounded_in notes in_rounds text
 
 -- an order with what stands behind it, or what bounds a run in rounds
 unfoldable pub named_order : Option Notes → Line → Line → Line → Option Request
@@ -269,7 +354,7 @@ races_in text = do
 -- a command of one word
 unfoldable pub lone_request : Line → Option Request
 lone_request name =
-    if pointwise nat_eq name (codes "run") then Some (Run in_rounds most_events Never)
+    if pointwise nat_eq name (codes "run") then Some (Run in_rounds most_events no_condition)
     else if pointwise nat_eq name (codes "who") then Some Who
     else if pointwise nat_eq name (codes "races") then Some (Races None)
     else if pointwise nat_eq name (codes "chip") then Some Chip

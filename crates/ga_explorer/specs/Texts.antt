@@ -31,12 +31,16 @@ fault_word Empty = codes "empty "
 fault_word NoStep = codes "nostep "
 fault_word Spent = codes "spent "
 
--- how many events were made, and why no more
-abbrev pub run_text : ℕ → End → Text
-run_text events (Reached made) = codes "reached " ++ decimal events ++ codes " " ++ made_text made
-run_text events Made = codes "made " ++ decimal events ++ codes "\n"
-run_text events Quiet = codes "quiet " ++ decimal events ++ codes "\n"
-run_text events (Refused why) = fault_word why ++ decimal events ++ codes "\n"
+-- which of several conditions held, counted from 1; nothing of one alone
+abbrev pub which_text : ℕ → ℕ → Text
+which_text conditions which = if nat_lt 1 conditions then codes " by " ++ decimal (which + 1) else []
+
+-- how many events were made up to one of so many conditions, and why no more
+abbrev pub run_text : ℕ → ℕ → End → Text
+run_text conditions events (Reached made which) = codes "reached " ++ decimal events ++ which_text conditions which ++ codes " " ++ made_text made
+run_text conditions events Made = codes "made " ++ decimal events ++ codes "\n"
+run_text conditions events Quiet = codes "quiet " ++ decimal events ++ codes "\n"
+run_text conditions events (Refused why) = fault_word why ++ decimal events ++ codes "\n"
 
 -- ---- `chip`
 

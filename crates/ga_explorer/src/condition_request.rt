@@ -1,7 +1,7 @@
 //! Conditions, as lines spell them.
 
 ghost use Rattle.std.specs.Prelude.{◌≡◌};
-ghost use Rattle.ga_explorer.specs.Reading.{condition_in, lone_condition, named_condition, steps_in, passes_in, passed_in, holds_in, comes_in, address_in, label_in, equal_in, word_in};
+ghost use Rattle.ga_explorer.specs.Reading.{condition_in, lone_condition, named_condition, steps_in, passes_in, passed_in, holds_in, comes_in, reaches_in, writes_to_in, written_in, address_in, label_in, equal_in, word_in};
 
 use ga_console::{cut, node_of, number_of};
 use ga_grid::NodeId;
@@ -46,6 +46,10 @@ fn named_condition(notes: &Option<Notes>, name: &[u8], rest: &[u8]) -> Option<Co
         holds_of(rest)
     } else if name == b"p".as_slice() {
         comes_of(notes, rest)
+    } else if name == b"reach".as_slice() {
+        reaches_of(notes, rest)
+    } else if name == b"change".as_slice() {
+        changes_of(rest)
     } else {
         None
     }
@@ -114,6 +118,51 @@ fn comes_of(notes: &Option<Notes>, text: &[u8]) -> Option<Condition>
     let node = node_of(node)?;
     let address = address_of(notes, node, address)?;
     Some(Condition::ComesTo { node, address })
+}
+
+/// `NNN X`
+#[tactic(auto, unfolding(crate::specs::Reading::reaches_in))]
+fn reaches_of(notes: &Option<Notes>, text: &[u8]) -> Option<Condition>
+    ensures { result ≡ reaches_in notes.now text.now }
+{
+    let (node, address) = cut(text)?;
+    let node = node_of(node)?;
+    let address = address_of(notes, node, address)?;
+    Some(Condition::Reaches { node, address })
+}
+
+/// `NNN HH` or `NNN HH = W`
+#[tactic(auto, unfolding(crate::specs::Reading::writes_to_in))]
+fn changes_of(text: &[u8]) -> Option<Condition>
+    ensures { result ≡ writes_to_in text.now }
+{
+    let (node, rest) = cut(text)?;
+    written_of(node_of(node)?, rest)
+}
+
+/// `HH` or `HH = W`
+fn written_of(node: NodeId, text: &[u8]) -> Option<Condition>
+    ensures { result ≡ written_in node text.now }
+{
+    match cut(text) {
+        Some((address, rest)) => {
+            let address = byte_of(address)?;
+            let word = equal_of(rest)?;
+            Some(Condition::Writes {
+                node,
+                address,
+                word: Some(word),
+            })
+        }
+        None => {
+            let address = byte_of(text)?;
+            Some(Condition::Writes {
+                node,
+                address,
+                word: None,
+            })
+        }
+    }
 }
 
 /// An address, or else a label of the node, which only source gives.

@@ -24,7 +24,7 @@ use ga_console::{Command, Line, Output, Responder, Turn, WriteFailed, command_of
 use ga_image::LINE_LIMIT;
 use ga_lab::Lab;
 use ga_notes::Notes;
-use ga_search::run;
+use ga_search::{asked_of, run};
 use std::alloc::Global;
 use std::io::Write;
 use std::marker::Model;
@@ -164,8 +164,9 @@ fn explored<W: Write>(
             most,
             until,
         } => {
-            let ran = run(lab, schedule, u64::from(most), &until);
-            output.say_blocks(writer, ran_text(&ran).as_slice())
+            let watched = asked_of(&until);
+            let ran = run(lab, schedule, u64::from(most), watched);
+            output.say_blocks(writer, ran_text(&ran, watched.len()).as_slice())
         }
         Request::Effects { node, step } => say_effects(alloc, lab, node, step, output, writer),
         Request::Words { from, to } => say_words(lab, from, to, output, writer),

@@ -25,7 +25,7 @@ static ROWS: [Row; 22] = [
     Row {
         name: b"run",
         form: b"run [greedy|random SEED] [N] [until COND]",
-        does: b"\n                      make up to N events, in rounds or in this order\nCOND: pass NNN MMM = W, pass NNN MMM J, step NNN K, stop, stop NNN, wait NNN,\n      mem NNN HH = W, p NNN X\n",
+        does: b"\n                      make up to N events, in rounds or in this order\nCOND: pass NNN MMM = W, pass NNN MMM J, step NNN K, stop, stop NNN, wait NNN,\n      mem NNN HH = W, p NNN X, reach NNN X, change NNN HH [= W], COND or COND\n",
     },
     Row {
         name: b"chip",

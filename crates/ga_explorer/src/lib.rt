@@ -6,6 +6,7 @@ mod because_text;
 mod beginning;
 mod chip_text;
 mod condition_request;
+mod conditions_request;
 mod deed_text;
 mod effects_text;
 mod explorer;

@@ -3,12 +3,13 @@
 ghost use Rattle.std.specs.Prelude.{◌≡◌};
 ghost use Rattle.ga_explorer.specs.Reading.{request_in, lone_request, named_request, effects_in, words_in, writes_in, at_in, around_in, whence_in, because_in, decided_in, races_in};
 
+use crate::conditions_request::{Conditions, no_condition};
 use crate::run_request::run_of;
 use ga_console::{cut, node_of, number_of};
 use ga_grid::NodeId;
 use ga_image::byte_of;
 use ga_notes::Notes;
-use ga_search::{Condition, Schedule};
+use ga_search::Schedule;
 
 /// How many events are made at most where no number is given.
 pub(crate) const MOST_EVENTS: u32 = u32::MAX;
@@ -21,11 +22,11 @@ const MOST_STEPS: u32 = 99;
 /// A command of exploring.
 #[derive(Clone, Copy, PartialEq, Eq)]
 pub enum Request {
-    /// `run`: makes events in the order of a schedule, at most so many, up to one after which the condition holds.
+    /// `run`: makes events in the order of a schedule, at most so many, up to one after which a condition holds.
     Run {
         schedule: Schedule,
         most: u32,
-        until: Condition,
+        until: Conditions,
     },
     /// `effects`: tells what a rollback of a step would take, without taking it.
     Effects {
@@ -92,7 +93,7 @@ fn lone_request(name: &[u8]) -> Option<Request>
         b"run" => Some(Request::Run {
             schedule: Schedule::in_rounds(),
             most: MOST_EVENTS,
-            until: Condition::Never,
+            until: no_condition(),
         }),
         b"who" => Some(Request::Who),
         b"races" => Some(Request::Races { only: None }),

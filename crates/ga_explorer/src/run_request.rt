@@ -1,13 +1,13 @@
-//! What stands behind `run`: an order, how many events, and a condition.
+//! What stands behind `run`: an order, how many events, and conditions.
 
 ghost use Rattle.std.specs.Prelude.{◌≡◌};
 ghost use Rattle.ga_explorer.specs.Reading.{run_in, lone_order, named_order, seeded_in, bounded_in, bounded_by, until_in, run_until};
 
-use crate::condition_request::condition_of;
+use crate::conditions_request::{conditions_of, no_condition};
 use crate::request::{MOST_EVENTS, Request};
 use ga_console::{cut, number_of};
 use ga_notes::Notes;
-use ga_search::{Condition, Schedule};
+use ga_search::Schedule;
 
 /// What stands behind `run` and a space.
 pub(crate) fn run_of(notes: &Option<Notes>, text: &[u8]) -> Option<Request>
@@ -28,7 +28,7 @@ fn lone_order(notes: &Option<Notes>, text: &[u8]) -> Option<Request>
         Some(Request::Run {
             schedule: Schedule::greedily(),
             most: MOST_EVENTS,
-            until: Condition::Never,
+            until: no_condition(),
         })
     } else {
         bounded_of(notes, Schedule::in_rounds(), text)
@@ -63,13 +63,13 @@ fn seeded_of(notes: &Option<Notes>, text: &[u8]) -> Option<Request>
             Some(Request::Run {
                 schedule: Schedule::at_random(u64::from(seed)),
                 most: MOST_EVENTS,
-                until: Condition::Never,
+                until: no_condition(),
             })
         }
     }
 }
 
-/// A number, `until` and a condition, or both.
+/// A number, `until` and conditions, or both.
 fn bounded_of(notes: &Option<Notes>, schedule: Schedule, text: &[u8]) -> Option<Request>
     ensures { result ≡ bounded_in notes.now schedule text.now }
 {
@@ -78,7 +78,7 @@ fn bounded_of(notes: &Option<Notes>, schedule: Schedule, text: &[u8]) -> Option<
         None => Some(Request::Run {
             schedule,
             most: number_of(text)?,
-            until: Condition::Never,
+            until: no_condition(),
         }),
     }
 }
@@ -99,7 +99,7 @@ fn bounded_by(
     }
 }
 
-/// `until` and a condition.
+/// `until` and conditions.
 #[tactic(auto, unfolding(crate::specs::Reading::until_in))]
 fn until_of(notes: &Option<Notes>, schedule: Schedule, most: u32, text: &[u8]) -> Option<Request>
     ensures { result ≡ until_in notes.now schedule most text.now }
@@ -117,6 +117,6 @@ fn run_until(notes: &Option<Notes>, schedule: Schedule, most: u32, text: &[u8]) 
     Some(Request::Run {
         schedule,
         most,
-        until: condition_of(notes, text)?,
+        until: conditions_of(notes, text)?,
     })
 }

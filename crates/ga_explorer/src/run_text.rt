@@ -1,11 +1,11 @@
 //! The text of a run.
 
-ghost use Rattle.std.specs.Prelude.{◌≡◌, ◌+◌, ◌≤◌, ◌++◌, length, codes, decimal};
+ghost use Rattle.std.specs.Prelude.{◌≡◌, ◌+◌, ◌*◌, ◌≤◌, ◌++◌, length, codes, decimal};
 ghost use Rattle.arrayvec.specs.ArrayVec.{array_vec_len};
-ghost use Rattle.ga_explorer.specs.Texts.{run_text, fault_word};
+ghost use Rattle.ga_explorer.specs.Texts.{run_text, which_text, fault_word};
 
 use arrayvec::ArrayVec;
-use ga_console::{LINE_ROOM, push_made, push_number, push_text};
+use ga_console::{LINE_ROOM, NUMBER_ROOM, push_made, push_number, push_text};
 use ga_lab::LabFault;
 use ga_search::{End, Ran};
 
@@ -15,15 +15,16 @@ const RUN_ROOM: usize = 2 * LINE_ROOM;
 /// The text of a run's line.
 pub(crate) type RunText = ArrayVec<u8, RUN_ROOM>;
 
-/// How many events a run made, and why no more.
-pub(crate) fn ran_text(ran: &Ran) -> RunText
-    ensures { result.items ≡ run_text ran.now.events ran.now.end }
+/// How many events a run made, and why no more: where several conditions are asked for, which of them held first.
+pub(crate) fn ran_text(ran: &Ran, conditions: usize) -> RunText
+    ensures { result.items ≡ run_text conditions ran.now.events ran.now.end }
 {
     let mut out = ArrayVec::new();
     match ran.end {
-        End::Reached(made) => {
+        End::Reached { made, which } => {
             push_text(&mut out, b"reached ");
             push_number(&mut out, ran.events);
+            push_which(&mut out, conditions, which);
             push_text(&mut out, b" ");
             push_made(&mut out, made);
         }
@@ -32,6 +33,18 @@ pub(crate) fn ran_text(ran: &Ran) -> RunText
         End::Refused(why) => push_count(&mut out, word_of(why), ran.events),
     }
     out
+}
+
+/// Adds which of several conditions held, counted from 1, and nothing of one alone.
+fn push_which(out: &mut RunText, conditions: usize, which: u8)
+    requires { array_vec_len out.old + 2 * NUMBER_ROOM ≤ LINE_ROOM }
+    ensures text { out.new.items ≡ out.old.items ++ which_text conditions which }
+    ensures len { array_vec_len out.new ≤ array_vec_len out.old + 2 * NUMBER_ROOM }
+{
+    if conditions > 1 {
+        push_text(out, b" by ");
+        push_number(out, u64::from(which) + 1);
+    }
 }
 
 /// Adds a word, a number and the end of the line.

@@ -155,16 +155,16 @@ pub(crate) static EXPLORED: [Explored; 9] = [
         refusals: &[],
     },
     Explored {
-        asks: "run greedy until pass 000 001 1",
-        answer: "reached 5 pass 000 8 001 5 00002a\n",
+        asks: "run greedy until change 001 00 or reach 001 000000 or pass 000 001 1",
+        answer: "reached 5 by 3 pass 000 8 001 5 00002a\n",
         refusals: &[
             (
                 0,
-                "memory 0\nkept 7 made 7 limit 1000000\nreached 5 pass 000 8 001 5 00002a\n",
+                "memory 0\nkept 7 made 7 limit 1000000\nreached 5 by 3 pass 000 8 001 5 00002a\n",
             ),
             (
                 4,
-                "memory 4\nkept 11 made 11 limit 1000000\nreached 1 pass 000 8 001 5 00002a\n",
+                "memory 4\nkept 11 made 11 limit 1000000\nreached 1 by 3 pass 000 8 001 5 00002a\n",
             ),
         ],
     },

@@ -22,7 +22,7 @@ use ga_lab::{Lab, LabFault, Made};
 pub enum End {
     /// A condition holds right after this event, and none held after one before. Of those that hold it is the first, at this place
     /// of their list.
-    Reached { made: Made, which: usize },
+    Reached { made: Made, which: u8 },
     /// As many as were asked for.
     Made,
     /// No node of the chip has an event.

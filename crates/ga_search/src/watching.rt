@@ -60,7 +60,7 @@ pub(crate) fn first_held(
     words: &LinkCounts,
     made: &Made,
     lab: &Lab,
-) -> Option<usize>
+) -> Option<u8>
     requires most { length until.now ≤ 8 }
     requires size { length words.now ≡ 8 }
     requires counted { AreCounted until.now lab.now words.now }
@@ -69,7 +69,7 @@ pub(crate) fn first_held(
 {
     for (place, condition) in until.iter().enumerate() {
         if condition.holds(made, lab, words[place]) {
-            return Some(place);
+            return Some(place as u8);
         }
     }
     None

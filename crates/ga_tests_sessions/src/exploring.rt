@@ -112,7 +112,7 @@ fn says(rt: &impl Abort, alloc: Global, commands: &[u8], said: &[u8]) -> Result<
     Ok(())
 }
 
-static COMMANDS: [&str; 20] = [
+static COMMANDS: [&str; 25] = [
     "run",
     "run 5",
     "run greedy 5",
@@ -123,6 +123,11 @@ static COMMANDS: [&str; 20] = [
     "run until stop 000",
     "run until wait 000",
     "run until mem 000 00 = 00002a",
+    "run until reach 000 000001",
+    "run until change 000 00",
+    "run until change 000 00 = 00002a",
+    "run until stop or wait 000",
+    "run 5 until stop or step 000 5 or change 000 00",
     "effects 000 1",
     "words 000 001",
     "whence 000 1",
@@ -277,7 +282,7 @@ fn cut_at_every_byte(rt: HostRuntime) -> Result<(), Fail> {
 }
 
 /// Numbers at their bound and one past it.
-static BOUNDS: [(&str, &str); 12] = [
+static BOUNDS: [(&str, &str); 20] = [
     ("run 4294967295", "quiet 144\n"),
     ("run 4294967296", "no 31 syntax\n"),
     ("run random 4294967295 0", "made 0\n"),
@@ -285,6 +290,20 @@ static BOUNDS: [(&str, &str); 12] = [
     ("run until step 717 4294967295", "quiet 144\n"),
     ("run until step 717 4294967296", "no 31 syntax\n"),
     ("run until wait 718", "no 31 syntax\n"),
+    ("run until reach 717 03ffff", "quiet 144\n"),
+    ("run until reach 717 040000", "no 31 syntax\n"),
+    ("run until change 717 ff = 03ffff", "quiet 144\n"),
+    ("run until change 717 ff = 040000", "no 31 syntax\n"),
+    ("run until stop or wait 717", "reached 144 by 2 717 1 wait\n"),
+    (
+        "run until stop or stop or stop or stop or stop or stop or stop or wait 000",
+        "reached 1 by 8 000 1 wait\n",
+    ),
+    (
+        "run until stop or stop or stop or stop or stop or stop or stop or stop or wait 000",
+        "no 31 syntax\n",
+    ),
+    ("run until stop or ", "no 31 syntax\n"),
     ("effects 717 4294967295", "no 6 nostep\n"),
     ("effects 717 4294967296", "no 31 syntax\n"),
     ("words 717 716", "words 717 716 0\n"),

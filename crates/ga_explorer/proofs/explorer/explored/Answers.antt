@@ -1,4 +1,4 @@
-use Rattle.std.proofs.Common.{◌∙◌}
+use Rattle.std.proofs.Common.{◌∙◌, length, refl}
 use Rattle.ga_explorer.specs.Texts.{run_text, chip_text}
 use Rattle.ga_explorer.proofs.Done.{run_done, effects_done, words_done, writes_done, at_done, whence_done, because_done, races_done, who_done, save_done, chip_done, help_done}
 use Rattle.ga_explorer.proofs.Told.{told_as}
@@ -6,11 +6,12 @@ use Rattle.ga_explorer.proofs.explorer.explored.Goals as goal
 
 pub returns-in-Run : goal.returns-in-Run
 returns-in-Run g c = λ before said h.
-    let ran = c.run-ran.result in (
-      run_text ran.events ran.end,
-      run_done c.args.lab.now c.args.notes.now c.args.asked c.in-Run.schedule c.in-Run.most c.from.result c.in-Run.until ran.events ran.end c.run-ran.new.lab
-          c.in-Run.is c.from.ensures c.run-ran.ensures.made c.run-ran.ensures.most c.run-ran.ensures.end c.run-ran.ensures.state,
-      told_as c.say_blocks.result _ before said c.as_slice.result.now (run_text ran.events ran.end) c.say_blocks.new.self
+    let ran = c.run-ran.result in
+    let many = length c.asked_of-watched.result.now in (
+      run_text many ran.events ran.end,
+      run_done c.args.lab.now c.args.notes.now c.args.asked c.in-Run.schedule c.in-Run.most c.from.result c.in-Run.until c.asked_of-watched.result.now many ran.events ran.end c.run-ran.new.lab ran.schedule
+          c.in-Run.is c.asked_of-watched.ensures.asked refl c.from.ensures c.run-ran.ensures.made c.run-ran.ensures.most c.run-ran.ensures.end c.run-ran.ensures.state,
+      told_as c.say_blocks.result _ before said c.as_slice.result.now (run_text many ran.events ran.end) c.say_blocks.new.self
           (c.as_slice.ensures.value ∙ c.ran_text.ensures) (c.say_blocks.ensures before said h),
     )
 
