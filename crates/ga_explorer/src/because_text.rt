@@ -98,7 +98,16 @@ fn say_decision<W: Write>(
     let value = decision.source;
     output.say_blocks(writer, decided_line(node, decision).as_slice())?;
     say_step_tail(lab, notes, near, node, node, decision.step, output, writer)?;
-    say_row(lab, notes, near, node, 1, Row { depth, value }, output, writer)
+    say_row(
+        lab,
+        notes,
+        near,
+        node,
+        1,
+        Row { depth, value },
+        output,
+        writer,
+    )
 }
 
 /// A step, what it did and what it tested.

@@ -294,7 +294,10 @@ static BOUNDS: [(&str, &str); 20] = [
     ("run until reach 717 040000", "no 31 syntax\n"),
     ("run until change 717 ff = 03ffff", "quiet 144\n"),
     ("run until change 717 ff = 040000", "no 31 syntax\n"),
-    ("run until stop or wait 717", "reached 144 by 2 717 1 wait\n"),
+    (
+        "run until stop or wait 717",
+        "reached 144 by 2 717 1 wait\n",
+    ),
     (
         "run until stop or stop or stop or stop or stop or stop or stop or wait 000",
         "reached 1 by 8 000 1 wait\n",

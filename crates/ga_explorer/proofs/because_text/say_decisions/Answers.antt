@@ -42,7 +42,7 @@ returns-in_err-say_decision g c = λ before said h.
     let whole : List ℕ = decisions_text notes s node c.args.most (c.args.near.now.step - 1) in
     let done = c.telling.invariant.said before said h in
     let more = next_decision notes s node c.telling.left (c.telling.left - 1) at c.next.new.self.step decision (omega (arith, c.telling-test.true)) refl
-        (c.in-Some.ensures.value ∙ ap (λ (w : Standing). newest_decided w.machine w.node at) c.telling.invariant.decisions) c.in-Some.ensures.step in (
+    (c.in-Some.ensures.value ∙ ap (λ (w : Standing). newest_decided w.machine w.node at) c.telling.invariant.decisions) c.in-Some.ensures.step in (
       whole,
       refl,
       cut_here c.from_residual.result _ before (said ++ whole) _ c.from_residual.ensures.0
@@ -61,7 +61,7 @@ telling-preserved g c = record {
       let whole : List ℕ = decisions_text notes s node c.args.most (c.args.near.now.step - 1) in
       let done = c.telling.invariant.said before said h in
       let more = next_decision notes s node c.telling.left (c.telling.left - 1) at c.next.new.self.step decision (omega (arith, c.telling-test.true)) refl
-          (c.in-Some.ensures.value ∙ ap (λ (w : Standing). newest_decided w.machine w.node at) c.telling.invariant.decisions) c.in-Some.ensures.step in
+      (c.in-Some.ensures.value ∙ ap (λ (w : Standing). newest_decided w.machine w.node at) c.telling.invariant.decisions) c.in-Some.ensures.step in
       line_said _ before said whole _ (decision_text notes s node decision) _ done.front _ more done.splits (c.in_ok-say_decision.ensures before (said ++ done.front) done.is_said);
 }
 
