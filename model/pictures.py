@@ -247,13 +247,12 @@ def rows_of(machine, view):
         return None
     colours, idle = colours_of(machine, view.cause, view.rewind), Explorer.idle(machine)
     places = range(len(machine.events))[view.start - 1 : view.end]
-    looked = {it for at in places if machine.looked[at] for it in seen_by(machine, at)}
     asked = ["red"] + ["black"] * bool(view.cause)
     rows = []
     for at in places:
         row = Row(machine.events[at], machine.told[at], machine.looked[at], colours[at])
-        silent = row.event[0] in idle - looked and at not in named
-        row.out = silent and not view.all or bool(steps) and view.only and row.colour not in asked
+        silent = row.event[0] in idle and not view.all or bool(steps) and view.only
+        row.out = silent and row.colour not in asked
         row.plain = row.kind() in ("fetch", "run") and not (row.looked or at in named or row.out)
         row.sees = seen_by(machine, at)
         rows.append(row)

@@ -2,7 +2,6 @@ pub mod Flags
 pub mod Grounded
 pub mod Touching
 pub mod Plains
-pub mod Looked
 pub mod Running
 pub mod Laid
 pub mod Listed

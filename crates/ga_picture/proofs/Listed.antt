@@ -16,14 +16,14 @@ plain_parts true look runs more e = absurd (true≢false (sym e))
 plain_parts false true runs more e = absurd (true≢false (sym e))
 plain_parts false false runs more e = (refl, refl)
 
-item_simple : (known : Known) (view : View) (from to place : ℕ) → IsSimple (item_at known view from to place)
-item_simple known view from to place = λ e. plain_parts (is_a_pass (event_at known.events place).event) (event_at known.events place).look _ _ e
+item_simple : (known : Known) (view : View) (place : ℕ) → IsSimple (item_at known view place)
+item_simple known view place = λ e. plain_parts (is_a_pass (event_at known.events place).event) (event_at known.events place).look _ _ e
 
 pub items_simple : (known : Known) (view : View) (from to : ℕ) → All IsSimple (items_of known view from to)
 items_simple known view from to = λ k d l.
-    let size : length (items_of known view from to) ≡ to - from = length-map-range_with_len (item_at known view from to) from (to - from) in
-    subst IsSimple (sym (get_or-map-range_with_len (item_at known view from to) from (to - from) k (from + k) d (omega arith) refl))
-    (item_simple known view from to (from + k))
+    let size : length (items_of known view from to) ≡ to - from = length-map-range_with_len (item_at known view) from (to - from) in
+    subst IsSimple (sym (get_or-map-range_with_len (item_at known view) from (to - from) k (from + k) d (omega arith) refl))
+    (item_simple known view (from + k))
 
 pub item_same : (view : View) (e f : Cause) (s t : Shade) (plain simple named asked silent still : Bool) → e ≡ f → s ≡ t → plain ≡ simple → named ≡ asked → silent ≡ still
     → item_of view e s plain named silent ≡ item_of view f t simple asked still

@@ -67,8 +67,8 @@ pub behind_more : (items : List Item) (at : ℕ) (told : List ℕ) (runs more : 
 behind_more items at told runs more item count within a here is node sizes few counts =
     let front : drop at items ≡ item ∷ drop (at + 1) items = drop_more items at no_item within ∙ ap (λ (z : Item). z ∷ drop (at + 1) items) here in
     let placed : count ≡ behind_at items at =
-        is ∙ a.counts (actor item.cause.event) item.shade node
-        ∙ ap (λ (z : Item). run_in_front (actor z.cause.event) z.shade (drop (at + 1) items)) (sym here) in
+    is ∙ a.counts (actor item.cause.event) item.shade node
+    ∙ ap (λ (z : Item). run_in_front (actor z.cause.event) z.shade (drop (at + 1) items)) (sym here) in
     let size : length told ≡ length items = a.size in
     record {
       size = length-set told at count ∙ a.size;
@@ -281,8 +281,8 @@ front_few n shade [] = omega (arith, front_none n shade)
 front_few n shade (item ∷ items) =
     let more : run_with n shade item (run_in_front n shade items) ≤ run_in_front n shade items + 1 = with_few n shade item (run_in_front n shade items) in
     omega (arith, front_one n shade item items, front_few n shade items, more) where
-  with_few : (n : ℕ) (shade : Shade) (item : Item) (count : ℕ) → run_with n shade item count ≤ count + 1
-  with_few n shade item count = grind arith
+      with_few : (n : ℕ) (shade : Shade) (item : Item) (count : ℕ) → run_with n shade item count ≤ count + 1
+      with_few n shade item count = grind arith
 
 pub behind_few : (items : List Item) (place : ℕ) → place < length items → behind_at items place + place + 1 ≤ length items
 behind_few items place l =

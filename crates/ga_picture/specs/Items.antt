@@ -1,13 +1,12 @@
 -- The kept events as a picture takes them: which are left out, and which may be drawn with others as one mark (docs/REFERENCE.md,
 -- "Pictures"; this project's own). Places count from 0.
-use Rattle.std.specs.Prelude.{ℕ, ◌+◌, ◌-◌, Bool, true, false, ◌&&◌, ◌||◌, not, if◌then◌else◌, List, [], ◌∷◌, map, drop, take, Option, is_some, slice_index_or}
+use Rattle.std.specs.Prelude.{ℕ, ◌+◌, ◌-◌, Bool, true, false, ◌&&◌, ◌||◌, not, if◌then◌else◌, List, [], ◌∷◌, map, drop, Option, is_some, slice_index_or}
 use Rattle.std.specs.List.{range_with_len}
 use Rattle.ga_event.specs.declared.event.Event.{Event}
 use Rattle.ga_event.specs.declared.event.Event.TheVariants.{Own, Pass}
 use Rattle.ga_event.specs.declared.event.Cause.{Cause}
 use Rattle.ga_event.specs.Apply.{is_number}
 use Rattle.ga_causal.specs.Dependence.{cause_touches, event_at, is_a_pass}
-use Rattle.ga_causal.specs.Equivalence.{sees}
 use Rattle.ga_picture.specs.declared.shade.Shade.{Shade}
 use Rattle.ga_picture.specs.declared.shade.Shade.TheVariants.{Black, Grey, Red}
 use Rattle.ga_picture.specs.declared.view.View.{View}
@@ -30,15 +29,6 @@ is_plain runs e = not (is_a_pass e.event) && (not e.look && runs (actor e.event)
 abbrev pub is_plain_at : (ℕ → Bool) → List Cause → ℕ → Bool
 is_plain_at ready events place = is_plain (runs_on ready (drop (place + 1) events)) (event_at events place)
 
--- one of the events looks, and at this node or from it
-abbrev pub looked_in : List Cause → ℕ → Bool
-looked_in [] n = false
-looked_in (e ∷ es) n = (e.look && sees e n) || looked_in es n
-
--- the events from one place on and up to another
-abbrev pub span_of : List Cause → ℕ → ℕ → List Cause
-span_of events from to = take (to - from) (drop from events)
-
 -- one of the steps that are asked for
 abbrev pub is_named : Option ℕ → Option ℕ → ℕ → Bool
 is_named cause rewind place = is_number cause place || is_number rewind place
@@ -53,14 +43,14 @@ is_asked view Grey = false
 abbrev pub is_narrow : View → Bool
 is_narrow view = view.only && (is_some view.cause || is_some view.rewind)
 
--- an event of an idle node, at which no event looks, and which isn't asked for; or one that isn't, where nothing else is wanted
-abbrev pub is_left_out : View → Bool → Bool → Shade → Bool
-is_left_out view named silent shade = (not view.all && (not named && silent)) || (is_narrow view && not (is_asked view shade))
+-- an event of an idle node, or where nothing else is wanted any event, that isn't asked for
+abbrev pub is_left_out : View → Bool → Shade → Bool
+is_left_out view idle shade = (not view.all && (idle && not (is_asked view shade))) || (is_narrow view && not (is_asked view shade))
 
--- an event of a colour, which is plain, one of the steps that are asked for, or the wait of an idle node at which no event looks
+-- an event of a colour, which is plain, one of the steps that are asked for, or of an idle node
 abbrev pub item_of : View → Cause → Shade → Bool → Bool → Bool → Item
-item_of view e shade plain named silent =
-    let out = is_left_out view named silent shade in record { cause = e; shade = shade; plain = plain && (not named && not out); out = out }
+item_of view e shade plain named idle =
+    let out = is_left_out view idle shade in record { cause = e; shade = shade; plain = plain && (not named && not out); out = out }
 
 -- what is known of the kept events: these, their colours, the nodes that are ready behind them, the idle ones, and the places of the
 -- steps that are asked for
@@ -72,12 +62,12 @@ pub record Known : Type 0 where
   pub cause : Option ℕ
   pub rewind : Option ℕ
 
--- the event at a place, where those from one place on and up to another are looked at
-abbrev pub item_at : Known → View → ℕ → ℕ → ℕ → Item
-item_at known view from to place =
+-- the event at a place, and those from one place on and up to another
+abbrev pub item_at : Known → View → ℕ → Item
+item_at known view place =
     let e = event_at known.events place in
     item_of view e (slice_index_or known.shades place Black) (is_plain_at known.ready known.events place) (is_named known.cause known.rewind place)
-    (known.idle (actor e.event) && not (looked_in (span_of known.events from to) (actor e.event)))
+    (known.idle (actor e.event))
 
 abbrev pub items_of : Known → View → ℕ → ℕ → List Item
-items_of known view from to = map (item_at known view from to) (range_with_len from (to - from))
+items_of known view from to = map (item_at known view) (range_with_len from (to - from))

@@ -7,15 +7,14 @@ ghost use Rattle.ga_picture.specs.Items.{actor, is_plain_at, is_named, is_asked,
 ghost use Rattle.ga_picture.specs.kept.Items.{known_in};
 
 use crate::shade::Shade;
-use crate::touched::looked_by;
 use crate::view::View;
-use ga_causal::{Cause, Memory, Nodes};
+use ga_causal::{Cause, Memory};
 use ga_event::Event;
 use ga_grid::NodeId;
 use std::alloc::Global;
 
 /// A kept event as a picture takes it.
-#[derive(Clone, Copy, PartialEq, Eq, Debug)]
+#[derive(Clone, Copy, PartialEq, Eq)]
 pub struct Item {
     /// The event, and whether it looks.
     pub cause: Cause,
@@ -56,34 +55,26 @@ pub(crate) fn items(
     requires plain { length facts.plain.now ≡ length facts.events.now }
     ensures { (ready : ℕ → Bool) →
         ((place : ℕ) → place < length facts.entry.events.now →
-            slice_index_or facts.entry.plain.now place false ≡ is_plain_at ready facts.entry.events.now place) →
+        slice_index_or facts.entry.plain.now place false ≡ is_plain_at ready facts.entry.events.now place) →
         IfOk result (λ items. items.items ≡ items_of (known_in facts.entry ready (is_marked idle.now)) view from to) }
 {
-    let looked = looked_by(facts.events, from, to);
     let mut items = Vec::with_capacity(alloc, to - from)?;
     'events: for place in from..to {
         let cause = facts.events[place];
         let shade = facts.shades[place];
         let plain = facts.plain[place];
         let named = is_named(facts.cause, facts.rewind, place);
-        let silent = is_silent(cause, idle, &looked);
+        let silent = is_idle(idle, actor(cause.event));
         items.push(item_of(view, cause, shade, plain, named, silent))?;
     }
     Ok(items)
 }
 
-/// An event of a colour, which is plain, one of the steps that are asked for, or the wait of an idle node at which no event looks.
-fn item_of(
-    view: View,
-    cause: Cause,
-    shade: Shade,
-    plain: bool,
-    named: bool,
-    silent: bool,
-) -> Item
-    ensures { result ≡ item_of view cause shade plain named silent }
+/// An event of a colour, which is plain, one of the steps that are asked for, or of an idle node.
+fn item_of(view: View, cause: Cause, shade: Shade, plain: bool, named: bool, idle: bool) -> Item
+    ensures { result ≡ item_of view cause shade plain named idle }
 {
-    let out = is_left_out(view, named, silent, shade);
+    let out = is_left_out(view, idle, shade);
     Item {
         cause,
         shade,
@@ -93,10 +84,11 @@ fn item_of(
 }
 
 /// Whether such an event is left out.
-fn is_left_out(view: View, named: bool, silent: bool, shade: Shade) -> bool
-    ensures { result ≡ is_left_out view named silent shade }
+fn is_left_out(view: View, idle: bool, shade: Shade) -> bool
+    ensures { result ≡ is_left_out view idle shade }
 {
-    (!view.all && (!named && silent)) || (is_narrow(view) && !is_asked(view, shade))
+    let asked = is_asked(view, shade);
+    (!view.all && (idle && !asked)) || (is_narrow(view) && !asked)
 }
 
 /// Whether one of the steps that are asked for is at this place.
@@ -116,12 +108,11 @@ fn is_at(step: Option<u32>, place: usize) -> bool
     }
 }
 
-/// Whether it is an event of an idle node, at which no event looks.
-fn is_silent(cause: Cause, idle: &[bool; 144], looked: &Nodes) -> bool
-    ensures { result ≡ (is_marked idle.now (actor cause.event) && not (is_marked looked.now (actor cause.event))) }
+/// Whether a node is idle.
+fn is_idle(idle: &[bool; 144], node: NodeId) -> bool
+    ensures { result ≡ is_marked idle.now node.number }
 {
-    let node = actor(cause.event);
-    idle[node.index()] && !looked.has(node)
+    idle[node.index()]
 }
 
 /// Whether what isn't asked for is left out.

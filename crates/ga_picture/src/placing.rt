@@ -49,7 +49,7 @@ impl Shape {
 }
 
 /// What is drawn at one height.
-#[derive(Clone, Copy, PartialEq, Eq, Debug)]
+#[derive(Clone, Copy, PartialEq, Eq)]
 pub struct Row {
     /// The place of its event among those that are looked at, of many the first.
     pub place: u32,

@@ -1,13 +1,12 @@
 //! The nodes that some events touch.
 
-ghost use Rattle.std.specs.Prelude.{◌≡◌, ◌≤◌, ◌<◌, ℕ, true, false, length};
+ghost use Rattle.std.specs.Prelude.{◌≡◌, ◌<◌, ℕ, true, false, length};
 ghost use Rattle.ga_causal.specs.Dependence.{cause_touches, is_marked};
 ghost use Rattle.ga_picture.specs.Drawing.{IsTouched};
-ghost use Rattle.ga_picture.specs.Items.{looked_in, span_of};
 ghost use Rattle.ga_picture.specs.Runs.{at_place};
 
 use crate::item::Item;
-use ga_causal::{Cause, Nodes};
+use ga_causal::Nodes;
 
 /// The nodes that the events touch that are not left out.
 pub(crate) fn touched_by(items: &[Item]) -> Nodes
@@ -22,20 +21,4 @@ pub(crate) fn touched_by(items: &[Item]) -> Nodes
         }
     }
     touched
-}
-
-/// The nodes that the events from one place on and up to another look at, each look with its own node.
-pub(crate) fn looked_by(events: &[Cause], from: usize, to: usize) -> Nodes
-    requires order { from ≤ to }
-    requires within { to ≤ length events.now }
-    ensures { (n : ℕ) → is_marked result n ≡ looked_in (span_of events.now from to) n }
-{
-    let mut looked = Nodes::none();
-    'events: for place in from..to {
-        let event = &events[place];
-        if event.look {
-            looked.add_seen(event);
-        }
-    }
-    looked
 }
