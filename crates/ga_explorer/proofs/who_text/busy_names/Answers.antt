@@ -11,9 +11,9 @@ nodes-preserved c =
     let idle : ℕ → Bool = is_marked c.args.idle.now in
     record {
       len = omega (arith, c.push_name_if.ensures.len, c.nodes.invariant.len);
-      text = next_added (λ n. name_if (marks n && not (idle n)) n) c.nodes.number c.new.result.number c.nodes.out.items c.push_name_if.new.out.items _
-          (omega arith) c.new.ensures
-          (c.push_name_if.ensures.text ∙ ap (λ (b : Bool). c.nodes.out.items ++ name_if b c.new.result.number) c.is_busy.ensures) c.nodes.invariant.text;
+      text = next_added (λ n. name_if (marks n && not (idle n)) n) c.nodes.number c.new-node.result.number c.nodes.out.items c.push_name_if.new.out.items _
+          (omega arith) c.new-node.ensures
+          (c.push_name_if.ensures.text ∙ ap (λ (b : Bool). c.nodes.out.items ++ name_if b c.new-node.result.number) c.is_busy.ensures) c.nodes.invariant.text;
     }
 
 pub returns : goal.returns

@@ -12,9 +12,9 @@ nodes-preserved c =
     let marks : ℕ → Bool = is_marked c.args.marks.now in
     let idle : ℕ → Bool = is_marked c.args.idle.now in
     record {
-      few = omega (arith, c.one_if.ensures.few, c.nodes.invariant.few);
-      all = counted_on (λ n. marks n && idle n) c.nodes.number c.new.result.number c.nodes.count c.one_if.result c.nodes.invariant.all c.new.ensures
-          (c.one_if.ensures.one ∙ ap (λ (b : Bool). if b then 1 else 0) c.is_both.ensures);
+      few = omega (arith, c.one_if-count.ensures.few, c.nodes.invariant.few);
+      all = counted_on (λ n. marks n && idle n) c.nodes.number c.new.result.number c.nodes.count c.one_if-count.result c.nodes.invariant.all c.new.ensures
+          (c.one_if-count.ensures.one ∙ ap (λ (b : Bool). if b then 1 else 0) c.is_both.ensures);
     }
 
 pub returns : goal.returns

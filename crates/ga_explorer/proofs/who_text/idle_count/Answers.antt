@@ -9,9 +9,9 @@ nodes-init c = record { few = omega arith; all = counted_none (is_marked c.args.
 
 pub nodes-preserved : goal.nodes-preserved
 nodes-preserved c = record {
-  few = omega (arith, c.one_if.ensures.few, c.nodes.invariant.few);
-  all = counted_on (is_marked c.args.idle.now) c.nodes.number c.new.result.number c.nodes.count c.one_if.result c.nodes.invariant.all c.new.ensures
-      (c.one_if.ensures.one ∙ ap (λ (b : Bool). if b then 1 else 0) c.is_idle.ensures);
+  few = omega (arith, c.one_if-count.ensures.few, c.nodes.invariant.few);
+  all = counted_on (is_marked c.args.idle.now) c.nodes.number c.new.result.number c.nodes.count c.one_if-count.result c.nodes.invariant.all c.new.ensures
+      (c.one_if-count.ensures.one ∙ ap (λ (b : Bool). if b then 1 else 0) c.is_idle.ensures);
 }
 
 pub returns : goal.returns

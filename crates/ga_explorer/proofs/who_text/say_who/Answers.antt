@@ -75,5 +75,5 @@ returns g c = λ before said h.
       done.0 ++ second ++ third.0 ++ last,
       who_told c.args.lab.now chip marks idle done.0 second third.0 last c.chip-chip.ensures.value c.find_stuck-stuck.ensures.stuck c.find_stuck-stuck.ensures.greatest
           c.find_idle-idle.ensures done.1 (c.as_slice.ensures.value ∙ c.stuck_line.ensures) third.1 (c.as_slice-2.ensures.value ∙ c.idle_line.ensures),
-      joined_said c.say_blocks.result _ before said (done.0 ++ second ++ third.0) last _ (c.say_blocks.ensures before (said ++ (done.0 ++ second ++ third.0)) all),
+      joined_said c.say_blocks-2.result _ before said (done.0 ++ second ++ third.0) last _ (c.say_blocks-2.ensures before (said ++ (done.0 ++ second ++ third.0)) all),
     )
