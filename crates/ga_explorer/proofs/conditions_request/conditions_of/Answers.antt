@@ -1,6 +1,5 @@
 use Rattle.std.proofs.Common.{◌≡◌, ◌∙◌, List, ℕ, Bor, Some, None, rules, length-set, sym, ap}
 use Rattle.std.specs.Prelude.{Option, option_map}
-use Rattle.ga_search.specs.declared.condition.Condition.{Condition}
 use Rattle.ga_explorer.specs.Reading.{condition_in, or_split}
 use Rattle.ga_explorer.proofs.Alternatives.{given_more, left_more, all_given, none_given, too_many}
 use Rattle.ga_explorer.proofs.conditions_request.conditions_of.Goals as goal
