@@ -134,7 +134,7 @@ pub(crate) struct Explored {
 
 /// What the sender and the taker make, and what is asked of it. Node 000 takes memory at its first and at its fifth event, node 001
 /// at its first and at its fifth, which is the pass.
-pub(crate) static EXPLORED: [Explored; 9] = [
+pub(crate) static EXPLORED: [Explored; 10] = [
     Explored {
         asks: "run greedy until wait 000",
         answer: "reached 7 000 7 wait\n",
