@@ -57,9 +57,6 @@ fn main(rt: HostRuntime) -> ExitCode {
                 rewind,
                 from,
                 to,
-                all,
-                only,
-                fold,
                 file,
             },
         ) => {
@@ -68,9 +65,6 @@ fn main(rt: HostRuntime) -> ExitCode {
                 rewind,
                 from: from - 1,
                 to,
-                all,
-                only,
-                fold,
             };
             served(&rt, Work::Draw(view), &file)
         }

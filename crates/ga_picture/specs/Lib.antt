@@ -1,5 +1,3 @@
-pub mod Items
-pub mod Runs
 pub mod Drawing
 pub mod Svg
 pub mod Picture

@@ -1,4 +1,2 @@
 pub mod Lines
 pub mod Following
-pub mod Items
-pub mod Runs

@@ -5,14 +5,11 @@
 
 mod before;
 mod follow;
-mod item;
 mod lines;
 mod marks;
 mod placing;
-mod plain;
 mod reports;
 mod run;
-mod runs;
 mod shade;
 mod silent;
 mod text;
@@ -22,8 +19,7 @@ mod view;
 
 pub use before::grounds;
 pub use follow::follow_session;
-pub use item::Item;
-pub use placing::{Drawing, Row, Shape, layout};
+pub use placing::{Drawing, Shape, layout};
 pub use run::draw_session;
 pub use shade::{Shade, shades};
 pub use silent::Silent;
