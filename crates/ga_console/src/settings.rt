@@ -49,6 +49,7 @@ Further commands (N is a number of events; NNN and MMM are nodes, K a step, HH t
   writes NNN HH          show the steps that wrote the cell HH of NNN, the newest first
   at NNN K [N]           show the steps from K - N to K + N of NNN, each with registers behind it [N: 3]
   whence NNN K           show the steps whose values went into what step K of NNN made, down to literals and loaded cells
+  because NNN K [N]      show the last N steps of NNN before its step K at which a value decided where it went on [N: 3]
   races [NNN]            show the steps that could have come out otherwise in another order, and by which commands
   save                   show the kept events as lines step NNN
   help                   show the commands
@@ -61,6 +62,9 @@ COND is one of:
   wait NNN               NNN came to wait
   mem NNN HH = W         the word of its memory is W
   p NNN X                its P is X
+  reach NNN X            NNN came to fetch at X
+  change NNN HH [= W]    NNN wrote to its cell HH, or W
+COND or COND ..          ends at the first that holds
 
 Exit status: 0 done, 1 image refused, 2 a stream failed, 3 command line refused.";
 
