@@ -55,10 +55,10 @@ pub(crate) fn say_because<W: Write>(
 }
 
 /// Says those before the step to which the node is walked back.
-fn say_decisions<W: Write>(
-    lab: &Lab,
+fn say_decisions<'l, W: Write>(
+    lab: &'l Lab,
     notes: &Option<Notes>,
-    near: &Walk<'_>,
+    near: &Walk<'l>,
     node: NodeId,
     most: u32,
     output: &mut Output,
@@ -94,20 +94,14 @@ fn say_decision<W: Write>(
     ensures { (before said : Bytes) → IsSaid (W.contents writer.old) before said output.old →
         IsSaidOrCut result (W.contents writer.new) before (said ++ decision_text notes.now lab.now node decision) output.new }
 {
-    let depth = 0;
-    let value = decision.source;
+    let step = decision.step;
+    let row = Row {
+        depth: 0,
+        value: decision.source,
+    };
     output.say_blocks(writer, decided_line(node, decision).as_slice())?;
-    say_step_tail(lab, notes, near, node, node, decision.step, output, writer)?;
-    say_row(
-        lab,
-        notes,
-        near,
-        node,
-        1,
-        Row { depth, value },
-        output,
-        writer,
-    )
+    say_step_tail(lab, notes, near, node, node, step, output, writer)?;
+    say_row(lab, notes, near, node, 1, row, output, writer)
 }
 
 /// A step, what it did and what it tested.

@@ -126,6 +126,7 @@ fn head_line(count: u64) -> Text
 fn reading_line(reading: Reading) -> Text
     ensures { result.items ≡ reading_text reading }
 {
+    let (node, step) = back_of(&reading);
     let mut out = ArrayVec::new();
     push_step(&mut out, reading.node, reading.step);
     push_text(&mut out, b" reads ");
@@ -135,7 +136,6 @@ fn reading_line(reading: Reading) -> Text
     push_text(&mut out, side_of(reading.early));
     push_step(&mut out, reading.neighbour, reading.change);
     push_text(&mut out, b": rewind ");
-    let (node, step) = back_of(reading);
     push_step(&mut out, node, step);
     push_text(&mut out, b", step ");
     push_node(&mut out, reading.node);
@@ -152,8 +152,8 @@ fn side_of(early: bool) -> &'static [u8]
 }
 
 /// The step that is taken back for a look to read the other word.
-fn back_of(reading: Reading) -> (NodeId, u32)
-    ensures { result ≡ back_of reading }
+fn back_of(reading: &Reading) -> (NodeId, u32)
+    ensures { result ≡ back_of reading.now }
 {
     if reading.early {
         (reading.node, reading.step)

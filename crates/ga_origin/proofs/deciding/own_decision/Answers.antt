@@ -1,9 +1,7 @@
-use Rattle.std.proofs.Common.{◌≡◌, ℕ, suc, ◌+◌, sym, ap, ◌∙◌, arith}
+use Rattle.std.proofs.Common.{◌≡◌, ◌+◌, sym, ap, ◌∙◌, arith}
 use Rattle.ga_node.specs.Record.{NodeRecord, record_of}
-use Rattle.ga_event.specs.Told.{steps_of}
 use Rattle.ga_lab.specs.Machine.{Standing, standing}
 use Rattle.ga_flow.specs.Flow.{part_of}
-use Rattle.ga_origin.specs.Origins.{node_after}
 use Rattle.ga_origin.proofs.Made.{stood_of}
 use Rattle.ga_origin.proofs.Decided.{own_so}
 use Rattle.ga_origin.proofs.deciding.own_decision.Goals as goal
