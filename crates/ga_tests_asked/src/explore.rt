@@ -227,8 +227,9 @@ fn slices_and_alternatives(rt: HostRuntime) -> Result<(), Fail> {
     ];
     let mut lab = pair(rt.alloc())?;
     let first = run(&mut lab, Schedule::in_rounds(), 2, &until);
+    let schedule = first.schedule;
     ends(&rt, first, 2, End::Made);
-    let second = run(&mut lab, first.schedule, 100, &until);
+    let second = run(&mut lab, schedule, 100, &until);
     let made = own(0, 3, Kind::Run(0x1e));
     ends(&rt, second, 3, End::Reached { made, which: 1 });
     Ok(())
@@ -325,12 +326,12 @@ fn tells_words(rt: HostRuntime) -> Result<(), Fail> {
 fn counts_words(rt: HostRuntime) -> Result<(), Fail> {
     let mut lab = pair(rt.alloc())?;
     let (writer, reader) = (NodeId::new(0), NodeId::new(1));
-    let until = Condition::PassesNumber {
+    let until = [Condition::PassesNumber {
         writer,
         reader,
         number: 2,
-    };
-    run(&mut lab, Schedule::in_rounds(), 12, &[until]);
+    }];
+    run(&mut lab, Schedule::in_rounds(), 12, &until);
     same(&rt, &count_words(&lab, writer, reader), &1);
     let made = Made::Pass {
         writer,
@@ -339,7 +340,7 @@ fn counts_words(rt: HostRuntime) -> Result<(), Fail> {
         reader_step: 9,
         word: Word18::truncated(0x2a),
     };
-    let ran = run(&mut lab, Schedule::in_rounds(), 100, &[until]);
+    let ran = run(&mut lab, Schedule::in_rounds(), 100, &until);
     ends(&rt, ran, 16, End::Reached { made, which: 0 });
     let counts = [
         count_words(&lab, writer, reader),
