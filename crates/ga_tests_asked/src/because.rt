@@ -58,14 +58,13 @@ fn tests(alloc: Global) -> Result<Lab, Fail> {
 #[test]
 fn tests_of_words(rt: HostRuntime) -> Result<(), Fail> {
     let lab = tests(rt.alloc())?;
-    let branch = Some(tested(3, 6, Part::T, 5, 2));
     let goes = Decision {
         source: value(0, 2, Part::T),
         ..tested(6, 0, Part::R, 5, 2)
     };
     newest(&rt, &lab, 0, 7, Some(goes));
-    newest(&rt, &lab, 0, 6, branch);
-    newest(&rt, &lab, 0, 4, branch);
+    newest(&rt, &lab, 0, 6, Some(tested(3, 6, Part::T, 5, 2)));
+    newest(&rt, &lab, 0, 4, Some(tested(3, 6, Part::T, 5, 2)));
     newest(&rt, &lab, 0, 3, None);
     Ok(())
 }
