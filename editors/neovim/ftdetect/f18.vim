@@ -1,0 +1,1 @@
+autocmd BufRead,BufNewFile *.f18 setfiletype f18
