@@ -1,0 +1,78 @@
+-- How messages are framed: the Debug Adapter Protocol's "Base protocol". A header part, whose one field `Content-Length` says how many bytes the content part has, and the content part.
+use Rattle.std.specs.Prelude.{◌≡◌, ◌≤◌, ◌<◌, ◌+◌, ◌*◌, ◌-◌, ◌++◌, ℕ, List, [], ◌∷◌, length, take, drop, min, codes, decimal}
+use Rattle.std.specs.List.{All}
+use Rattle.ga_protocol.specs.declared.broken.Broken.{Broken}
+use Rattle.ga_protocol.specs.declared.broken.Broken.TheVariants.{Field, NoDigit, TooLong, ManyDigits, HeaderEnd, Cut}
+use Rattle.ga_protocol.specs.declared.framing.Front.{Front}
+use Rattle.ga_protocol.specs.declared.framing.Front.TheVariants.{Message, Part, Wrong}
+
+-- the most bytes of a content part
+abbrev pub content_limit : ℕ
+content_limit = 1048576
+
+-- the most digits that its length is written with
+abbrev pub digit_limit : ℕ
+digit_limit = 7
+
+-- the field's name, and what stands between it and its value
+abbrev pub field : List ℕ
+field = codes "Content-Length: "
+
+-- the end of the field, and that of the header part
+abbrev pub header_end : List ℕ
+header_end = codes "\r\n\r\n"
+
+-- a header part whose field has this value
+abbrev pub header : List ℕ → List ℕ
+header digits = field ++ digits ++ header_end
+
+abbrev pub IsDigit : ℕ → Type 0
+IsDigit byte = (48 ≤ byte) × (byte ≤ 57)
+
+-- the number that digits spell behind one that was read
+abbrev pub value_from : ℕ → List ℕ → ℕ
+value_from n [] = n
+value_from n (byte ∷ rest) = value_from (10 * n + (byte - 48)) rest
+
+-- digits that spell the length of a content part
+abbrev pub IsLength : List ℕ → ℕ → Type 0
+IsLength digits n = (1 ≤ length digits) × (length digits ≤ digit_limit) × All IsDigit digits × (value_from 0 digits ≡ n) × (n ≤ content_limit)
+
+-- a text is the message with this content part
+abbrev pub IsMessage : List ℕ → List ℕ → Type 0
+IsMessage content text = (digits : List ℕ) × IsLength digits (length content) × (text ≡ header digits ++ content)
+
+-- the message with a content part, as it is written
+unfoldable pub framed : List ℕ → List ℕ
+framed content = header (decimal (length content)) ++ content
+
+-- bytes are the beginning of a message: more of them make it whole
+abbrev pub BeginsOne : List ℕ → Type 0
+BeginsOne bytes = (content more : List ℕ) × (1 ≤ length more) × IsMessage content (bytes ++ more)
+
+-- whatever comes behind them, no message stands first
+abbrev pub BeginsNone : List ℕ → Type 0
+BeginsNone bytes = (content text more after : List ℕ) → IsMessage content text → bytes ++ more ≡ text ++ after → ⊥
+
+-- one of two texts is the beginning of the other
+abbrev pub Agree : List ℕ → List ℕ → Type 0
+Agree xs ys = take (min (length xs) (length ys)) xs ≡ take (min (length xs) (length ys)) ys
+
+-- bytes are the field's name, digits, and what comes behind them
+abbrev pub Reads : List ℕ → List ℕ → List ℕ → Type 0
+Reads bytes digits rest = (bytes ≡ field ++ digits ++ rest) × All IsDigit digits
+
+-- why no message stands first
+abbrev pub Shows : Broken → List ℕ → Type 0
+Shows Field bytes = Agree bytes field → ⊥
+Shows NoDigit bytes = (byte : ℕ) × (rest : List ℕ) × Reads bytes [] (byte ∷ rest) × (IsDigit byte → ⊥)
+Shows TooLong bytes = (digits rest : List ℕ) × Reads bytes digits rest × (length digits ≤ digit_limit + 1) × (content_limit < value_from 0 digits)
+Shows ManyDigits bytes = (digits rest : List ℕ) × Reads bytes digits rest × (length digits ≡ digit_limit + 1) × (value_from 0 digits ≤ content_limit)
+Shows HeaderEnd bytes = (digits : List ℕ) × (byte : ℕ) × (rest : List ℕ) × Reads bytes digits (byte ∷ rest) × IsLength digits (value_from 0 digits) × (IsDigit byte → ⊥) × (Agree (byte ∷ rest) header_end → ⊥)
+Shows Cut bytes = ⊥
+
+-- what stands first in some bytes: a message, up to its end, with its content part from a place on; the beginning of one; or neither
+abbrev pub Finds : List ℕ → Front → Type 0
+Finds bytes (Message start end) = (start ≤ end) × (end ≤ length bytes) × IsMessage (drop start (take end bytes)) (take end bytes)
+Finds bytes Part = BeginsOne bytes
+Finds bytes (Wrong why) = BeginsNone bytes × Shows why bytes

@@ -1,0 +1,4 @@
+pub mod Framing
+pub mod Inbox
+pub mod Messages
+pub mod Sent

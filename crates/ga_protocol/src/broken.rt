@@ -1,0 +1,26 @@
+//! Why an input holds no further message.
+
+use thiserror::Error;
+
+/// What is wrong with a frame. Behind it no message can be found again.
+#[derive(Clone, Copy, PartialEq, Eq, Debug, Error)]
+pub enum Broken {
+    /// The header does not begin with the field `Content-Length`, a colon and a blank.
+    #[error("the header does not begin with `Content-Length: `")]
+    Field,
+    /// No digit stands behind the field's name.
+    #[error("`Content-Length` is no number")]
+    NoDigit,
+    /// The content would have more than 1048576 bytes.
+    #[error("`Content-Length` is more than 1048576")]
+    TooLong,
+    /// The length has more than seven digits.
+    #[error("`Content-Length` has more than seven digits")]
+    ManyDigits,
+    /// The digits are not followed by the end of the header.
+    #[error("the header does not end behind `Content-Length`")]
+    HeaderEnd,
+    /// The input ended within a message.
+    #[error("the input ends within a message")]
+    Cut,
+}

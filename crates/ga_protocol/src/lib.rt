@@ -1,0 +1,15 @@
+//! Messages of the Debug Adapter Protocol: how they are framed ("Base protocol"), read as JSON (RFC 8259), and written.
+#![tactic(auto)]
+
+mod broken;
+mod framing;
+mod inbox;
+pub mod laws;
+mod outbox;
+mod request;
+
+pub use broken::Broken;
+pub use framing::{CONTENT_LIMIT, Front, front_of, push_frame};
+pub use inbox::{Inbox, Next};
+pub use outbox::Outbox;
+pub use request::{Request, RequestError, number_at, read_request, text_at};
