@@ -1,9 +1,11 @@
-//! The tests of images and source, through what their crates offer to others.
+//! The tests of images, source and an editor's messages, through what their crates offer to others.
 #![tactic(auto)]
 
 #[cfg(test)]
 mod asserts;
 #[cfg(test)]
 mod image;
+#[cfg(test)]
+mod protocol;
 #[cfg(test)]
 mod source;

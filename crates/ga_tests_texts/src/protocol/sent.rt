@@ -1,0 +1,96 @@
+//! Messages that are written, byte for byte.
+
+use ga_protocol::{Inbox, Next, Outbox, Request, read_request};
+use serde_json::{Value, json};
+use std::alloc::{AllocError, Global};
+use std::process::Abort;
+use std::test::Fail;
+
+fn threads(alloc: Global) -> Result<Request, AllocError> {
+    Ok(Request {
+        seq: 7,
+        command: String::from_str(alloc, "threads")?,
+        arguments: Value::Null,
+    })
+}
+
+/// Asserts what is to be written, and forgets it.
+fn assert_sent(rt: &impl Abort, outbox: &mut Outbox, wanted: &str) {
+    assert_eq!(rt; outbox.bytes(), wanted.as_bytes());
+    outbox.clear();
+}
+
+#[test]
+fn responses_are_written(rt: HostRuntime) -> Result<(), Fail> {
+    let request = threads(rt.alloc())?;
+    let mut outbox = Outbox::new(rt.alloc());
+    let body = json!(in rt.alloc(); {"threads": []})?;
+    outbox.respond(&request, body)?;
+    assert_sent(
+        &rt,
+        &mut outbox,
+        "Content-Length: 100\r\n\r\n{\"body\":{\"threads\":[]},\"command\":\"threads\",\"request_seq\":7,\"seq\":1,\"success\":true,\"type\":\"response\"}",
+    );
+    outbox.acknowledge(&request)?;
+    assert_sent(
+        &rt,
+        &mut outbox,
+        "Content-Length: 78\r\n\r\n{\"command\":\"threads\",\"request_seq\":7,\"seq\":2,\"success\":true,\"type\":\"response\"}",
+    );
+    outbox.refuse(&request, "no node \"018\"")?;
+    assert_sent(
+        &rt,
+        &mut outbox,
+        "Content-Length: 160\r\n\r\n{\"body\":{\"error\":{\"format\":\"no node \\\"018\\\"\",\"id\":1}},\"command\":\"threads\",\"message\":\"no node \\\"018\\\"\",\"request_seq\":7,\"seq\":3,\"success\":false,\"type\":\"response\"}",
+    );
+    Ok(())
+}
+
+#[test]
+fn events_are_written(rt: HostRuntime) -> Result<(), Fail> {
+    let mut outbox = Outbox::new(rt.alloc());
+    outbox.tell_alone("initialized")?;
+    assert_sent(
+        &rt,
+        &mut outbox,
+        "Content-Length: 46\r\n\r\n{\"event\":\"initialized\",\"seq\":1,\"type\":\"event\"}",
+    );
+    let body = json!(in rt.alloc(); {"reason": "step", "threadId": 1000u64})?;
+    outbox.tell("stopped", body)?;
+    assert_sent(
+        &rt,
+        &mut outbox,
+        "Content-Length: 83\r\n\r\n{\"body\":{\"reason\":\"step\",\"threadId\":1000},\"event\":\"stopped\",\"seq\":2,\"type\":\"event\"}",
+    );
+    Ok(())
+}
+
+/// What is written comes back as the same messages, and as values.
+#[test]
+fn what_is_written_is_read_back(rt: HostRuntime) -> Result<(), Fail> {
+    let request = threads(rt.alloc())?;
+    let mut outbox = Outbox::new(rt.alloc());
+    outbox.tell_alone("initialized")?;
+    let body = json!(in rt.alloc(); {"text": "a\n\u{1F600} \\ \""})?;
+    outbox.respond(&request, body)?;
+    let mut inbox = Inbox::new(rt.alloc());
+    let mut reader = outbox.bytes();
+    let mut seqs = 0u64;
+    for _ in 0..2 {
+        let Next::Message(content) = inbox.next(&mut reader)? else {
+            return Ok(());
+        };
+        let value = Value::from_slice(rt.alloc(), &content)?;
+        seqs += value.get("seq").and_then(Value::as_u64).unwrap_or(0) % 8;
+        assert!(rt; read_request(rt.alloc(), &content).is_err());
+        if let Some(body) = value.get("body") {
+            assert_eq!(rt;
+                body.get("text").and_then(Value::as_str),
+                Some("a\n\u{1F600} \\ \"")
+            );
+        }
+    }
+    assert_eq!(rt; seqs, 3);
+    assert!(rt; matches!(inbox.next(&mut reader)?, Next::End));
+    Ok(())
+}
