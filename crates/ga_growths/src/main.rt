@@ -9,6 +9,7 @@
 mod causes;
 mod images;
 mod labs;
+mod messages;
 mod outcome;
 mod page;
 mod pictures;
@@ -83,6 +84,7 @@ fn run_of<R: Threads + Wait + Sync>(rt: &R, alloc: Global, run: &str) -> Outcome
         "print" => images::printed(alloc),
         "causes" => causes::causes(alloc),
         "lab" => labs::lab(alloc),
+        "messages" => messages::messages(alloc),
         "session" => sessions::session_with_lists(alloc),
         "session-readings" => sessions::session_with_readings(alloc),
         "session-looks" => sessions::session_with_looks(alloc),
