@@ -126,7 +126,7 @@ fn a_failed_read_is_told(rt: HostRuntime) -> std::result::Result<(), Fail> {
         for _ in 0..5 {
             match inbox.next(&mut reader)? {
                 Next::Message(content) => contents.extend_from_slice(&content)?,
-                Next::Failed => failed += 1,
+                Next::Failed => failed = failed.saturating_add(1),
                 _ => {}
             }
         }
