@@ -7,7 +7,7 @@ ghost use Rattle.ga_protocol.specs.Framing.{Agree, IsDigit, Finds, Reads, conten
 use crate::broken::Broken;
 use std::alloc::{AllocError, Global};
 
-/// The most bytes of a content part.
+/// The most bytes of a content part, 1 MiB.
 pub const CONTENT_LIMIT: usize = 1_048_576;
 
 /// The field's name, and what stands between it and its value.
@@ -22,7 +22,7 @@ const DIGIT_LIMIT: usize = 7;
 /// What stands first in some bytes.
 #[derive(Clone, Copy, PartialEq, Eq, Debug)]
 pub enum Front {
-    /// A whole message, up to its end, with its content part from `start` on.
+    /// A whole message, up to `end`, with its content part from `start` on.
     Message { start: usize, end: usize },
     /// The beginning of a message.
     Part,
@@ -72,7 +72,7 @@ fn length_of(digits: &[u8]) -> Option<usize>
     Some(number)
 }
 
-/// What stands first.
+/// What stands first. Takes no memory, and time by the header alone.
 pub fn front_of(bytes: &[u8]) -> Front
     ensures { Finds bytes.now result }
 {
@@ -139,7 +139,7 @@ fn without_digit(rest: &[u8]) -> Front
     }
 }
 
-/// Adds the message with this content part.
+/// Adds the message with this content part. Takes memory for it twice, once to be given back.
 ///
 /// # Errors
 /// Memory was refused; nothing is added.

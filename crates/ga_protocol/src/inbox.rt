@@ -30,7 +30,7 @@ enum Fill {
     Failed,
 }
 
-/// What was read and is not taken yet.
+/// What was read and is not taken yet. A contract sees these bytes: less than a message and a block.
 #[derive(Drop)]
 pub struct Inbox {
     alloc: Global,
@@ -60,7 +60,7 @@ impl Inbox {
         }
     }
 
-    /// Whether the next message can be told without a read.
+    /// Whether the next message, or that there is none, can be told without a read. Takes no memory, and time by the header alone.
     pub fn has_next(&self) -> bool
         ensures { IsTrue result ↔ (BeginsOne self.now → ⊥) }
     {
@@ -118,7 +118,8 @@ impl Inbox {
         }
     }
 
-    /// Takes the next message, and reads on as long as it isn't whole.
+    /// Takes the next message, and reads on as long as it isn't whole. Takes memory for the content part and for what is read, some 3 MB at most.
+    /// That a read failed is told too where 2^64 reads brought no message.
     ///
     /// # Errors
     /// Memory was refused. Nothing is lost: a further call goes on.

@@ -10,7 +10,7 @@ use serde_json::{Value, json};
 use std::alloc::{AllocError, Global};
 use std::marker::Model;
 
-/// Messages that are to be written, with the number of the last.
+/// Messages that are to be written, with the number of the last. Each call that adds one takes memory for its value, its text and its frame.
 #[derive(Drop)]
 pub struct Outbox {
     alloc: Global,

@@ -52,7 +52,7 @@ impl From<AllocError> for RequestError {
     }
 }
 
-/// The request that a content part is.
+/// The request that a content part is. Takes memory for its values, 32 bytes for each, some 20 MB at most.
 ///
 /// # Errors
 /// Why it is none.
@@ -102,14 +102,14 @@ fn request_of(alloc: Global, value: &Value) -> Result<Request, RequestError>
     })
 }
 
-/// The text of a member.
+/// The text of a member. Takes no memory.
 pub fn text_at<'v>(value: &'v Value, name: &str) -> Option<&'v str>
     ensures { option_map (λ t. t.now) result ≡ text_in name.now (view value.now) }
 {
     value.get(name).and_then(Value::as_str)
 }
 
-/// The number of a member, where it is a whole number from 0 on.
+/// The number of a member, where it is a whole number from 0 on. Takes no memory.
 pub fn number_at(value: &Value, name: &str) -> Option<u64>
     ensures { result ≡ number_in name.now (view value.now) }
 {
