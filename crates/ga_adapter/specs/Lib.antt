@@ -1,0 +1,12 @@
+pub mod Numbers
+pub mod Json
+pub mod Doing
+pub mod Threads
+pub mod Spots
+pub mod Lines
+pub mod Frames
+pub mod Variables
+pub mod Disassembly
+pub mod Evaluating
+pub mod Exceptions
+pub mod Moves
