@@ -1,7 +1,7 @@
 -- The response to `disassemble` (Debug Adapter Protocol, "DisassembleRequest"): a cell of memory is one instruction of up to four opcodes (F18A Technology Reference DB001, instruction word).
-use Rattle.std.specs.Prelude.{ℕ, zero, suc, ◌+◌, ◌-◌, ◌*◌, ◌/◌, ◌%◌, ◌^◌, ◌==◌, nat_le, nat_lt, Bool, true, false, ◌&&◌, not, if◌then◌else◌, List, [], ◌∷◌, ◌++◌, map, drop, codes, decimal, Option, Some, None, option_map, option_and_then}
-use Rattle.std.specs.List.{range_with_len, list_any, flat_map}
-use Rattle.serde_json.specs.Data.{Data, string, array, object, Members, no_members, member}
+use Rattle.std.specs.Prelude.{ℕ, ◌%◌, ◌==◌, Bool, true, false, if◌then◌else◌, List, [], ◌∷◌, ◌++◌, map, drop, codes, decimal, Option, Some, None, option_and_then}
+use Rattle.std.specs.List.{range_with_len, list_any}
+use Rattle.serde_json.specs.Data.{Data, string, array, object, no_members, member}
 use Rattle.ga_word.specs.Word.{hex6_of, hex_digit}
 use Rattle.ga_slots.specs.declared.op.Op.{Op}
 use Rattle.ga_slots.specs.declared.op.Op.TheVariants.{Return, Execute, Jump, Call, Next, If, MinusIf}
@@ -18,10 +18,9 @@ use Rattle.ga_source.specs.declared.item.Group.{Group}
 use Rattle.ga_source.specs.declared.item.Program.{Program}
 use Rattle.ga_source.specs.Reading.{is_same}
 use Rattle.ga_notes.specs.Source.{cell_at, label_before, label_cell, name_of as label_name}
-use Rattle.ga_explorer.specs.Waiting.{name_text}
 use Rattle.ga_adapter.specs.Frames.{Opened, source, reference_text}
 use Rattle.ga_adapter.specs.Json.{count, items_of, only, with}
-use Rattle.ga_adapter.specs.Lines.{is_data, line_of, program_of}
+use Rattle.ga_adapter.specs.Lines.{line_of, program_of}
 use Rattle.ga_adapter.specs.Numbers.{address_of}
 use Rattle.ga_adapter.specs.Spots.{spot}
 
@@ -101,17 +100,17 @@ instruction opened programs s node cell =
     let word = word_at (record_at (chip_of s) node.number) cell in
     let line = line_of programs node (spot 0 cell) in
     object (member (codes "address") (string (reference_text (address_of node.number cell)))
-      (member (codes "instruction") (string (instruction_text programs node cell word))
-      (member (codes "instructionBytes") (string (hex6_of word))
-      (with (codes "line") count line
-      (with (codes "location") (λ (one : ℕ). source opened) line
-      (with (codes "symbol") string (label_named programs node cell) no_members))))))
+    (member (codes "instruction") (string (instruction_text programs node cell word))
+    (member (codes "instructionBytes") (string (hex6_of word))
+    (with (codes "line") count line
+    (with (codes "location") (λ (one : ℕ). source opened) line
+    (with (codes "symbol") string (label_named programs node cell) no_members))))))
 
 -- where there is no memory
 abbrev pub no_instruction : NodeId → ℕ → Data
 no_instruction node address =
     object (member (codes "address") (string (reference_text (address_of node.number address))) (member (codes "instruction") (string (codes "no memory"))
-      (member (codes "presentationHint") (string (codes "invalid")) no_members)))
+    (member (codes "presentationHint") (string (codes "invalid")) no_members)))
 
 abbrev pub instruction_at : Opened → List Program → State → NodeId → ℕ → Option ℕ → Data
 instruction_at opened programs s node address None = no_instruction node address

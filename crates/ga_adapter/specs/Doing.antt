@@ -1,8 +1,8 @@
 -- What a node does, as a person reads it (F18A Technology Reference DB001, ports).
-use Rattle.std.specs.Prelude.{ℕ, ◌==◌, ◌+◌, ◌-◌, nat_lt, if◌then◌else◌, List, [], ◌∷◌, ◌++◌, codes, decimal}
+use Rattle.std.specs.Prelude.{ℕ, ◌==◌, ◌-◌, nat_lt, if◌then◌else◌, List, [], ◌∷◌, ◌++◌, codes, decimal}
 use Rattle.ga_image.specs.Lines.{Text}
 use Rattle.ga_word.specs.Word.{hex6_of}
-use Rattle.ga_ports.specs.Address.{only, has_side}
+use Rattle.ga_ports.specs.Address.{has_side}
 use Rattle.ga_ports.specs.declared.side.Side.{Side}
 use Rattle.ga_ports.specs.declared.side.Side.TheVariants.{Right, Down, Left, Up}
 use Rattle.ga_node.specs.Record.{NodeRecord}

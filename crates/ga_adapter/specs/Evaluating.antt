@@ -1,6 +1,6 @@
 -- The response to `evaluate` (Debug Adapter Protocol, "EvaluateRequest") where it asks for a register or a cell: its word, in the node of the frame. Any
 -- other expression is a command of exploring (docs/REFERENCE.md), and its answer is the text that exploring gives.
-use Rattle.std.specs.Prelude.{ℕ, ◌==◌, nat_lt, Bool, if◌then◌else◌, List, [], ◌∷◌, ◌++◌, codes, Option, Some, None, option_map, bytes_eq, slice_index}
+use Rattle.std.specs.Prelude.{ℕ, if◌then◌else◌, codes, Option, Some, None, option_map, bytes_eq, slice_index}
 use Rattle.serde_json.specs.Data.{Data, string, object, no_members, member}
 use Rattle.ga_image.specs.Lines.{Text}
 use Rattle.ga_node.specs.Record.{NodeRecord}

@@ -14,5 +14,5 @@ exception_of stop stuck = if stop == 0 then (if stuck then codes "stuck" else co
 abbrev pub exception_info : State → (ℕ → Bool) → ℕ → Data
 exception_info s marks n =
     object (member (codes "breakMode") (string (codes "always"))
-      (member (codes "description") (string (codes "node " ++ name_text n ++ codes " " ++ doing (chip_of s) n))
-        (member (codes "exceptionId") (string (exception_of (record_at (chip_of s) n).stop (marks n))) no_members)))
+    (member (codes "description") (string (codes "node " ++ name_text n ++ codes " " ++ doing (chip_of s) n))
+    (member (codes "exceptionId") (string (exception_of (record_at (chip_of s) n).stop (marks n))) no_members)))

@@ -1,5 +1,5 @@
 -- The response to `stackTrace` (Debug Adapter Protocol, "StackTraceRequest"): where a node stands, and the calls that it has not come back from.
-use Rattle.std.specs.Prelude.{ℕ, zero, suc, ◌+◌, ◌-◌, ◌==◌, Bool, true, false, if◌then◌else◌, List, [], ◌∷◌, ◌++◌, length, map, codes, decimal, Option, Some, None, option_map, option_and_then, unwrap_or, filter}
+use Rattle.std.specs.Prelude.{ℕ, zero, suc, ◌+◌, ◌-◌, ◌==◌, Bool, false, if◌then◌else◌, List, [], ◌∷◌, ◌++◌, length, map, codes, decimal, Option, Some, None, unwrap_or, filter}
 use Rattle.std.specs.List.{range_with_len, slice_get}
 use Rattle.serde_json.specs.Data.{Data, string, array, object, no_members, member}
 use Rattle.ga_word.specs.Word.{hex6_of}
@@ -79,22 +79,22 @@ reference_text address = codes "0x" ++ hex6_of address
 abbrev pub frame_at : Opened → ℕ → Text → Text → Option ℕ → Data
 frame_at opened id name pointer None =
     object (member (codes "column") (count 0) (member (codes "id") (count id) (member (codes "instructionPointerReference") (string pointer)
-      (member (codes "line") (count 0) (member (codes "name") (string name) no_members)))))
+    (member (codes "line") (count 0) (member (codes "name") (string name) no_members)))))
 frame_at opened id name pointer (Some line) =
     object (member (codes "column") (count 1) (member (codes "id") (count id) (member (codes "instructionPointerReference") (string pointer)
-      (member (codes "line") (count line) (member (codes "name") (string name) (member (codes "source") (source opened) no_members))))))
+    (member (codes "line") (count line) (member (codes "name") (string name) (member (codes "source") (source opened) no_members))))))
 
 -- a frame that stands in no memory: its code came over a port, or stood in the node at load
 abbrev pub frame_outside : ℕ → Text → Data
 frame_outside id name =
     object (member (codes "column") (count 0) (member (codes "id") (count id) (member (codes "line") (count 0) (member (codes "name") (string name)
-      (member (codes "presentationHint") (string (codes "subtle")) no_members)))))
+    (member (codes "presentationHint") (string (codes "subtle")) no_members)))))
 
 abbrev pub frame : Opened → List Program → NodeId → ℕ → Option Spot → Data
 frame opened programs node level None = frame_outside (frame_of node.number level) (name_text node.number ++ codes " outside of its memory")
 frame opened programs node level (Some at) =
     frame_at opened (frame_of node.number level) (name_text node.number ++ codes " " ++ cell_name programs node at.cell)
-      (reference_text (address_of node.number at.cell)) (line_of programs node at)
+    (reference_text (address_of node.number at.cell)) (line_of programs node at)
 
 -- ---- the response
 
@@ -110,4 +110,4 @@ frames opened programs s node = frame opened programs node 0 (spot_of s node) �
 abbrev pub stack_trace : Opened → List Program → State → NodeId → Data
 stack_trace opened programs s node =
     object (member (codes "stackFrames") (array (items_of (frames opened programs s node)))
-      (member (codes "totalFrames") (count (length (frames opened programs s node))) no_members))
+    (member (codes "totalFrames") (count (length (frames opened programs s node))) no_members))

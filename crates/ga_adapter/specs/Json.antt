@@ -1,6 +1,6 @@
 -- Values of JSON. An object's members stand in the order of their keys.
 use Rattle.std.specs.Prelude.{ℕ, List, [], ◌∷◌, map, Option, Some, None}
-use Rattle.serde_json.specs.Data.{Data, number, unsigned, string, array, object, Items, no_items, item, Members, no_members, member}
+use Rattle.serde_json.specs.Data.{Data, number, unsigned, array, object, Items, no_items, item, Members, no_members, member}
 
 abbrev pub count : ℕ → Data
 count n = number (unsigned n)

@@ -10,3 +10,4 @@ pub mod Disassembly
 pub mod Evaluating
 pub mod Exceptions
 pub mod Moves
+pub mod Stepping

@@ -1,5 +1,5 @@
 -- Which line of the source each slot of each cell comes from (docs/REFERENCE.md, "Source"; Debug Adapter Protocol, "Breakpoint").
-use Rattle.std.specs.Prelude.{ℕ, ◌==◌, ◌-◌, nat_le, nat_lt, min, Bool, true, false, ◌&&◌, not, List, [], ◌∷◌, length, map, slice_index, Option, Some, None, option_and_then, option_map, position, if◌then◌else◌}
+use Rattle.std.specs.Prelude.{ℕ, ◌==◌, ◌-◌, nat_le, nat_lt, min, Bool, true, false, ◌&&◌, not, List, [], ◌∷◌, length, Option, Some, None, option_and_then, position, if◌then◌else◌}
 use Rattle.std.specs.List.{slice_get, flat_map, range_with_len}
 use Rattle.ga_grid.specs.declared.node_id.NodeId.{NodeId}
 use Rattle.ga_source.specs.declared.item.Item.{Item}

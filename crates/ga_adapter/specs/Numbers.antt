@@ -1,5 +1,5 @@
 -- The numbers by which a client names what it is shown (Debug Adapter Protocol: `Thread.id`, `StackFrame.id`, `Scope.variablesReference`, `DisassembledInstruction.address`). Each means something by itself, so that none goes stale: there is no table of handles.
-use Rattle.std.specs.Prelude.{ℕ, ◌+◌, ◌*◌, ◌-◌, ◌/◌, ◌%◌, ◌==◌, nat_le, nat_lt, ◌&&◌, if◌then◌else◌, Bool, Option, Some, None, option_map, option_and_then}
+use Rattle.std.specs.Prelude.{ℕ, ◌+◌, ◌*◌, ◌-◌, ◌/◌, ◌%◌, nat_lt, ◌&&◌, if◌then◌else◌, Option, Some, None}
 use Rattle.ga_grid.specs.Grid.{yxx_of}
 use Rattle.ga_adapter.specs.declared.scope.Scope.{Scope}
 use Rattle.ga_adapter.specs.declared.scope.Scope.TheVariants.{Registers, Data, Returns, Links, Ram, Rom}

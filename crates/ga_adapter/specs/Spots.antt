@@ -1,6 +1,5 @@
 -- Where a node stands: the slot that it carries out next, or the cell that it fetches next (F18A Technology Reference DB001, instruction fetch).
-use Rattle.std.specs.Prelude.{ℕ, ◌==◌, if◌then◌else◌, List, Option, Some, None, option_map, option_and_then, slice_index_or}
-use Rattle.std.specs.List.{find_first, slice_get}
+use Rattle.std.specs.Prelude.{ℕ, ◌==◌, if◌then◌else◌, Option, option_map}
 use Rattle.ga_node.specs.Record.{NodeRecord}
 use Rattle.ga_grid.specs.declared.node_id.NodeId.{NodeId}
 use Rattle.ga_event.specs.Told.{steps_of}

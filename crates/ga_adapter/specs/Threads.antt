@@ -2,7 +2,6 @@
 use Rattle.std.specs.Prelude.{ℕ, ◌==◌, nat_lt, Bool, ◌||◌, List, ◌++◌, codes, is_some, filter}
 use Rattle.std.specs.List.{range_with_len, list_any}
 use Rattle.serde_json.specs.Data.{Data, string, object, no_members, member}
-use Rattle.ga_node.specs.Record.{NodeRecord}
 use Rattle.ga_grid.specs.Chip.{record_at}
 use Rattle.ga_grid.specs.declared.node_id.NodeId.{NodeId}
 use Rattle.ga_event.specs.Told.{steps_of}

@@ -1,5 +1,5 @@
 -- The responses to `scopes` and `variables` (Debug Adapter Protocol, "ScopesRequest", "VariablesRequest"): what a node holds.
-use Rattle.std.specs.Prelude.{ℕ, ◌+◌, ◌-◌, ◌==◌, nat_le, nat_lt, Bool, true, false, ◌&&◌, if◌then◌else◌, List, [], ◌∷◌, ◌++◌, map, filter, codes, decimal, Option, Some, None, slice_index}
+use Rattle.std.specs.Prelude.{ℕ, ◌+◌, ◌==◌, nat_le, nat_lt, Bool, true, false, ◌&&◌, if◌then◌else◌, List, [], ◌∷◌, ◌++◌, map, filter, codes, decimal, Option, Some, None, slice_index}
 use Rattle.std.specs.Int.{from_bool}
 use Rattle.std.specs.List.{range_with_len}
 use Rattle.serde_json.specs.Data.{Data, string, boolean, array, object, no_members, member}
@@ -30,7 +30,7 @@ scope_named name expensive reference =
 abbrev pub scope_counted : Text → Bool → ℕ → ℕ → Data
 scope_counted name expensive places reference =
     object (member (codes "expensive") (boolean expensive) (member (codes "indexedVariables") (count places)
-      (member (codes "name") (string name) (member (codes "variablesReference") (count reference) no_members))))
+    (member (codes "name") (string name) (member (codes "variablesReference") (count reference) no_members))))
 
 abbrev pub scopes : ℕ → Data
 scopes node = only (codes "scopes") (array (items_of (
@@ -85,7 +85,7 @@ returns_of node = map (λ k. word (return_name k) (slice_index node.r k)) (range
 abbrev pub cell : ℕ → ℕ → ℕ → Data
 cell n address value =
     object (member (codes "memoryReference") (string (reference_text (address_of n address))) (member (codes "name") (string (hex2_of address))
-      (member (codes "value") (string (word_text value)) (member (codes "variablesReference") (count 0) no_members))))
+    (member (codes "value") (string (word_text value)) (member (codes "variablesReference") (count 0) no_members))))
 
 -- so many places from one on, of 64
 abbrev pub asked_for : ℕ → ℕ → List ℕ

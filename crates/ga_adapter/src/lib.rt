@@ -3,6 +3,10 @@
 
 mod numbers;
 mod scope;
+mod state_text;
 
-pub use numbers::{address_of, frame_of, node_of_frame, node_of_thread, reference_of, referred, thread_of};
+pub use numbers::{
+    address_of, frame_of, node_of_frame, node_of_thread, reference_of, referred, thread_of,
+};
 pub use scope::Scope;
+pub use state_text::doing;

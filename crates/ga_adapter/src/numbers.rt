@@ -1,6 +1,6 @@
 //! The numbers by which a client names what it is shown. Each means something by itself.
 
-ghost use Rattle.std.specs.Prelude.{◌≡◌, ◌<◌, ◌≢◌, Some, IfSome, IfNone};
+ghost use Rattle.std.specs.Prelude.{◌≡◌, ◌<◌, ◌≢◌, ℕ, IfSome, IfNone, option_map};
 ghost use Rattle.ga_grid.specs.Grid.{yxx_of};
 ghost use Rattle.ga_adapter.specs.Numbers.{thread_of as thread_number, frame_of as frame_number, framed_node, number_of, reference_of as reference_number, address_of as address_number};
 
