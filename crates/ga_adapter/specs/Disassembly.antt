@@ -2,6 +2,7 @@
 use Rattle.std.specs.Prelude.{ℕ, ◌%◌, ◌==◌, Bool, true, false, if◌then◌else◌, List, [], ◌∷◌, ◌++◌, map, drop, codes, decimal, Option, Some, None, option_and_then}
 use Rattle.std.specs.List.{range_with_len, list_any}
 use Rattle.serde_json.specs.Data.{Data, string, array, object, no_members, member}
+use Rattle.serde_json.specs.View.{items_of}
 use Rattle.ga_word.specs.Word.{hex6_of, hex_digit}
 use Rattle.ga_slots.specs.declared.op.Op.{Op}
 use Rattle.ga_slots.specs.declared.op.Op.TheVariants.{Return, Execute, Jump, Call, Next, If, MinusIf}
@@ -19,7 +20,7 @@ use Rattle.ga_source.specs.declared.item.Program.{Program}
 use Rattle.ga_source.specs.Reading.{is_same}
 use Rattle.ga_notes.specs.Source.{cell_at, label_before, label_cell, name_of as label_name}
 use Rattle.ga_adapter.specs.Frames.{Opened, source, reference_text}
-use Rattle.ga_adapter.specs.Json.{count, items_of, only, with}
+use Rattle.ga_adapter.specs.Json.{count, only, with}
 use Rattle.ga_adapter.specs.Lines.{line_of, program_of}
 use Rattle.ga_adapter.specs.Numbers.{address_of}
 use Rattle.ga_adapter.specs.Spots.{spot}

@@ -2,6 +2,7 @@
 use Rattle.std.specs.Prelude.{ℕ, zero, suc, ◌+◌, ◌-◌, ◌==◌, Bool, false, if◌then◌else◌, List, [], ◌∷◌, ◌++◌, length, map, codes, decimal, Option, Some, None, unwrap_or, filter}
 use Rattle.std.specs.List.{range_with_len, slice_get}
 use Rattle.serde_json.specs.Data.{Data, string, array, object, no_members, member}
+use Rattle.serde_json.specs.View.{items_of}
 use Rattle.ga_word.specs.Word.{hex6_of}
 use Rattle.ga_slots.specs.declared.op.Op.TheVariants.{Call}
 use Rattle.ga_slots.specs.Codes.{code_of}
@@ -18,7 +19,7 @@ use Rattle.ga_origin.specs.Origins.{value_at, origin_of}
 use Rattle.ga_source.specs.declared.item.Program.{Program}
 use Rattle.ga_notes.specs.Source.{label_before, label_cell, name_of as label_name}
 use Rattle.ga_explorer.specs.Waiting.{name_text}
-use Rattle.ga_adapter.specs.Json.{count, items_of}
+use Rattle.ga_adapter.specs.Json.{count}
 use Rattle.ga_adapter.specs.Lines.{line_of, program_of}
 use Rattle.ga_adapter.specs.Numbers.{frame_of, address_of}
 use Rattle.ga_adapter.specs.Spots.{Spot, spot_of, spot_behind}

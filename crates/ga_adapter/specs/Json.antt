@@ -1,13 +1,10 @@
 -- Values of JSON. An object's members stand in the order of their keys.
 use Rattle.std.specs.Prelude.{ℕ, List, [], ◌∷◌, map, Option, Some, None}
 use Rattle.serde_json.specs.Data.{Data, number, unsigned, array, object, Items, no_items, item, Members, no_members, member}
+use Rattle.serde_json.specs.View.{items_of}
 
 abbrev pub count : ℕ → Data
 count n = number (unsigned n)
-
-abbrev pub items_of : List Data → Items
-items_of [] = no_items
-items_of (d ∷ ds) = item d (items_of ds)
 
 -- a list of what each of some things is
 abbrev pub array_of : {A : Type 0} → (A → Data) → List A → Data

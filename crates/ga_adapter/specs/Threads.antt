@@ -2,6 +2,7 @@
 use Rattle.std.specs.Prelude.{ℕ, ◌==◌, nat_lt, Bool, ◌||◌, List, ◌++◌, codes, is_some, filter}
 use Rattle.std.specs.List.{range_with_len, list_any}
 use Rattle.serde_json.specs.Data.{Data, string, object, no_members, member}
+use Rattle.ga_image.specs.Lines.{Text}
 use Rattle.ga_grid.specs.Chip.{record_at}
 use Rattle.ga_grid.specs.declared.node_id.NodeId.{NodeId}
 use Rattle.ga_event.specs.Told.{steps_of}
@@ -18,8 +19,11 @@ abbrev pub is_shown : State → List NodeId → ℕ → Bool
 is_shown s programs n =
     list_any (λ (one : NodeId). one.number == n) programs || nat_lt 1 (steps_of n s.kept) || is_some (cell_at (record_at (chip_of s) n).p)
 
+unfoldable pub thread_named : ℕ → Text → Data
+thread_named n name = object (member (codes "id") (count (thread_of n)) (member (codes "name") (string name) no_members))
+
 abbrev pub thread : State → ℕ → Data
-thread s n = object (member (codes "id") (count (thread_of n)) (member (codes "name") (string (name_text n ++ codes " " ++ doing (chip_of s) n)) no_members))
+thread s n = thread_named n (name_text n ++ codes " " ++ doing (chip_of s) n)
 
 abbrev pub shown : State → List NodeId → List ℕ
 shown s programs = filter (is_shown s programs) (range_with_len 0 144)

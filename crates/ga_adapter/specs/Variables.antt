@@ -3,6 +3,7 @@ use Rattle.std.specs.Prelude.{ℕ, ◌+◌, ◌==◌, nat_le, nat_lt, Bool, true
 use Rattle.std.specs.Int.{from_bool}
 use Rattle.std.specs.List.{range_with_len}
 use Rattle.serde_json.specs.Data.{Data, string, boolean, array, object, no_members, member}
+use Rattle.serde_json.specs.View.{items_of}
 use Rattle.ga_image.specs.Lines.{Text}
 use Rattle.ga_image.specs.Spelling.{hex2_of}
 use Rattle.ga_ports.specs.declared.side.Side.{Side}
@@ -15,7 +16,7 @@ use Rattle.ga_lab.specs.Machine.{State, chip_of}
 use Rattle.ga_explorer.specs.Waiting.{name_text}
 use Rattle.ga_adapter.specs.Doing.{doing, side_name, word_text}
 use Rattle.ga_adapter.specs.Frames.{reference_text}
-use Rattle.ga_adapter.specs.Json.{count, items_of, only}
+use Rattle.ga_adapter.specs.Json.{count, only}
 use Rattle.ga_adapter.specs.Numbers.{address_of, reference_of}
 use Rattle.ga_adapter.specs.declared.scope.Scope.{Scope}
 use Rattle.ga_adapter.specs.declared.scope.Scope.TheVariants as scope

@@ -4,6 +4,7 @@
 mod numbers;
 mod scope;
 mod state_text;
+mod threads;
 
 pub use numbers::{
     address_of, frame_of, node_of_frame, node_of_thread, reference_of, referred, thread_of,
