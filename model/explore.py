@@ -4,7 +4,7 @@ import re
 
 from listing import NAMES
 from machine import Machine, NODES, name
-from node import SIDES, neighbour, target_of
+from node import Node, SIDES, neighbour, target_of
 from notes import Notes
 from whence import LOADED, asked_of, rows_of
 
@@ -336,15 +336,23 @@ class Explorer(Machine):
                 return sorted(marked)
             marked -= freed
 
+    def idle(self):
+        """The nodes into which nothing was loaded, and which kept nothing but the event by which they came to wait for code."""
+        waits = [event[0] for event, told in zip(self.events, self.told) if told.endswith(" 1 wait")]
+        return {node for node in waits if self.steps[node] == 1 and vars(self.load[node]) == vars(Node(node))}
+
     def who(self):
+        idle, stuck = self.idle(), self.stuck()
         for node in range(NODES):
-            if self.chip[node].wait:
+            if self.chip[node].wait and node not in idle:
                 beside = "".join(f" {side} {name(other)} {self.does(other)}" for side, other in self.awaited(node))
                 yield f"{name(node)} {self.does(node)}{beside}"
-        stuck = self.stuck()
-        if stuck:
-            yield "stuck " + " ".join(map(name, stuck))
+        busy = [name(node) for node in stuck if node not in idle]
+        if busy:
+            yield " ".join(["stuck", *busy] + ([f"and {len(stuck) - len(busy)} idle"] if len(busy) < len(stuck) else []))
         yield from (" ".join(["ring", *map(name, ring)]) for ring in self.rings(stuck))
+        if idle:
+            yield f"idle {len(idle)}"
 
     def rings(self, stuck):
         """The rings among some nodes, each of which awaits the next alone: each from its node of the lowest number on."""

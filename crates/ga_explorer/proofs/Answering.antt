@@ -10,12 +10,13 @@ use Rattle.ga_console.specs.Texts.{refusal_text}
 use Rattle.ga_search.specs.Effects.{effects_of}
 use Rattle.ga_search.specs.Stuck.{AreStuck}
 use Rattle.ga_search.specs.Freed.{IsWithin}
+use Rattle.ga_search.specs.Idle.{MarksIdle}
 use Rattle.ga_search.specs.declared.effects.Effect.{Effect}
 use Rattle.ga_search.specs.declared.races.Race.{Race}
 use Rattle.ga_search.specs.Races.{races_asked, has_looks, first_ready}
 use Rattle.ga_explorer.specs.Races.{listed_text, TellsRaces}
 use Rattle.ga_explorer.specs.Texts.{effects_text, effects_answer}
-use Rattle.ga_explorer.specs.Waiting.{all_waiting, stuck_text, all_rings}
+use Rattle.ga_explorer.specs.Waiting.{all_waiting, stuck_text, all_rings, idle_text}
 use Rattle.ga_explorer.specs.Answers.{TellsEffects, TellsWho}
 
 pub effects_found : (s : State) (node : NodeId) (step events : ℕ) (nodes : List Effect) (text : List ℕ) → rewind_answer s node.number step ≡ Ok events
@@ -30,14 +31,16 @@ effects_refused s node step why text (inl answer) t =
     inl (t ∙ ap (λ (r : Result ℕ LabFault). effects_answer (effects_of s node.number step) r) (sym answer))
 effects_refused s node step why text (inr wanting) t = inr (wanting.1, t ∙ ap refusal_text wanting.0)
 
-pub who_told : (s : State) (chip : List NodeRecord) (marks : ℕ → Bool) (first second last : List ℕ) → chip ≡ chip_of s → AreStuck chip marks
-    → ((others : ℕ → Bool) → AreStuck chip others → IsWithin others marks) → first ≡ all_waiting chip → second ≡ stuck_text marks
-    → last ≡ all_rings chip marks → TellsWho s (first ++ second ++ last)
-who_told s chip marks first second last e stuck greatest f g h = record {
+pub who_told : (s : State) (chip : List NodeRecord) (marks idle : ℕ → Bool) (first second third last : List ℕ) → chip ≡ chip_of s → AreStuck chip marks
+    → ((others : ℕ → Bool) → AreStuck chip others → IsWithin others marks) → MarksIdle s idle → first ≡ all_waiting chip idle
+    → second ≡ stuck_text marks idle → third ≡ all_rings chip marks → last ≡ idle_text idle → TellsWho s (first ++ second ++ third ++ last)
+who_told s chip marks idle first second third last e stuck greatest silent f g h i = record {
   marks = marks;
   stuck = subst (λ z. AreStuck z marks) e stuck;
   greatest = λ others h. greatest others (subst (λ z. AreStuck z others) (sym e) h);
-  text = rw (f, g, h, e) refl;
+  idle = idle;
+  silent = silent;
+  text = rw (f, g, h, i, e) refl;
 }
 
 pub races_found : (s : State) (only : Option NodeId) (races : List Race) (looks quiet : Bool) (text : List ℕ) → races ≡ races_asked s only

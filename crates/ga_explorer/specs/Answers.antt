@@ -7,6 +7,7 @@ use Rattle.ga_lab.specs.declared.fault.LabFault.TheVariants.{Memory}
 use Rattle.ga_search.specs.Effects.{effects_of}
 use Rattle.ga_search.specs.Stuck.{AreStuck}
 use Rattle.ga_search.specs.Freed.{IsWithin}
+use Rattle.ga_search.specs.Idle.{MarksIdle}
 use Rattle.ga_search.specs.Running.{running, after, AreMade, HasEnded}
 use Rattle.ga_search.specs.declared.schedule.Schedule.{Schedule}
 use Rattle.ga_search.specs.declared.condition.Condition.{Condition}
@@ -45,12 +46,15 @@ TellsEffects s node step answer =
     (answer ≡ effects_answer (effects_of s node.number step) (rewind_answer s node.number step))
     ⊎ (IsOk (rewind_answer s node.number step) × (answer ≡ refusal_text Memory))
 
--- Of each node that waits it is told for whom, and which nodes can never go on: of all such sets of nodes the greatest.
+-- Of each node that waits it is told for whom, unless it is idle, and which nodes can never go on: of all such sets of nodes the
+-- greatest.
 pub record TellsWho (s : State) (answer : Text) : Type 0 where
   pub marks : ℕ → Bool
   pub stuck : AreStuck (chip_of s) marks
   pub greatest : (others : ℕ → Bool) → AreStuck (chip_of s) others → IsWithin others marks
-  pub text : answer ≡ who_text (chip_of s) marks
+  pub idle : ℕ → Bool
+  pub silent : MarksIdle s idle
+  pub text : answer ≡ who_text (chip_of s) marks idle
 
 -- what is answered to a command of exploring, and what is explored then
 abbrev pub Explored : Exploring → Request → Text → Exploring → Type 0

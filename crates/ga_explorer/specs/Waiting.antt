@@ -1,6 +1,6 @@
--- The texts of `who`: what each node that waits waits for, which nodes can never go on, and the rings among them (docs/REFERENCE.md, "Exploring"; this
--- project's own).
-use Rattle.std.specs.Prelude.{ℕ, zero, suc, ◌+◌, ◌==◌, nat_le, Bool, if◌then◌else◌, List, [], ◌∷◌, ◌++◌, codes, Option, Some, None, option_map}
+-- The texts of `who`: what each node that waits waits for, which nodes can never go on, the rings among them, and how many nodes are
+-- idle, of which no more is said (docs/REFERENCE.md, "Exploring"; this project's own).
+use Rattle.std.specs.Prelude.{ℕ, zero, suc, ◌+◌, ◌==◌, nat_le, Bool, ◌&&◌, not, if◌then◌else◌, List, [], ◌∷◌, ◌++◌, codes, decimal, Option, Some, None, option_map}
 use Rattle.ga_image.specs.Lines.{Text}
 use Rattle.ga_ports.specs.declared.side.Side.{Side}
 use Rattle.ga_ports.specs.declared.side.Side.TheVariants.{Right, Down, Left, Up}
@@ -55,20 +55,44 @@ unfoldable pub each_node : (ℕ → Text) → ℕ → ℕ → Text
 each_node text n zero = []
 each_node text n (suc more) = text n ++ each_node text (n + 1) more
 
-abbrev pub all_waiting : List NodeRecord → Text
-all_waiting chip = each_node (waiting_text chip) 0 144
+-- where it is not idle
+abbrev pub busy_text : List NodeRecord → (ℕ → Bool) → ℕ → Text
+busy_text chip idle n = if idle n then [] else waiting_text chip n
 
--- a marked node's name behind a space
-abbrev pub marked_name : (ℕ → Bool) → ℕ → Text
-marked_name marks n = if marks n then codes " " ++ name_text n else []
+abbrev pub all_waiting : List NodeRecord → (ℕ → Bool) → Text
+all_waiting chip idle = each_node (busy_text chip idle) 0 144
 
--- the line of nodes that can never go on, where there are any
-abbrev pub stuck_line : Text → Text
-stuck_line [] = []
-stuck_line (c ∷ names) = codes "stuck" ++ (c ∷ names) ++ codes "\n"
+-- a node's name behind a space, where this holds of it
+abbrev pub name_if : Bool → ℕ → Text
+name_if named n = if named then codes " " ++ name_text n else []
 
-abbrev pub stuck_text : (ℕ → Bool) → Text
-stuck_text marks = stuck_line (each_node (marked_name marks) 0 144)
+-- the names of the marked nodes that are not idle
+abbrev pub busy_names : (ℕ → Bool) → (ℕ → Bool) → Text
+busy_names marks idle = each_node (λ n. name_if (marks n && not (idle n)) n) 0 144
+
+-- of how many of the first nodes this holds
+unfoldable pub node_count : (ℕ → Bool) → ℕ → ℕ
+node_count test zero = 0
+node_count test (suc n) = node_count test n + (if test n then 1 else 0)
+
+-- how many of the marked nodes are idle, where some are
+abbrev pub idle_tail : ℕ → Text
+idle_tail count = if count == 0 then [] else codes " and " ++ decimal count ++ codes " idle"
+
+-- the line of nodes that can never go on, where there are any that are not idle
+abbrev pub stuck_line : Text → ℕ → Text
+stuck_line [] count = []
+stuck_line (c ∷ names) count = codes "stuck" ++ (c ∷ names) ++ idle_tail count ++ codes "\n"
+
+abbrev pub stuck_text : (ℕ → Bool) → (ℕ → Bool) → Text
+stuck_text marks idle = stuck_line (busy_names marks idle) (node_count (λ n. marks n && idle n) 144)
+
+-- the last line: how many nodes are idle, where some are
+abbrev pub idle_line : ℕ → Text
+idle_line count = if count == 0 then [] else codes "idle " ++ decimal count ++ codes "\n"
+
+abbrev pub idle_text : (ℕ → Bool) → Text
+idle_text idle = idle_line (node_count idle 144)
 
 -- ---- rings
 
@@ -107,5 +131,5 @@ ring_text chip marks n = if marks n then ring_line n (ring_names chip n 144 (sol
 abbrev pub all_rings : List NodeRecord → (ℕ → Bool) → Text
 all_rings chip marks = each_node (ring_text chip marks) 0 144
 
-abbrev pub who_text : List NodeRecord → (ℕ → Bool) → Text
-who_text chip marks = all_waiting chip ++ stuck_text marks ++ all_rings chip marks
+abbrev pub who_text : List NodeRecord → (ℕ → Bool) → (ℕ → Bool) → Text
+who_text chip marks idle = all_waiting chip idle ++ stuck_text marks idle ++ all_rings chip marks ++ idle_text idle

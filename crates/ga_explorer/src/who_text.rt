@@ -1,6 +1,6 @@
 //! Who waits for whom, told line by line.
 
-ghost use Rattle.std.specs.Prelude.{◌≡◌, ◌++◌, ◌+◌, ◌≤◌, length};
+ghost use Rattle.std.specs.Prelude.{◌≡◌, ◌++◌, ◌+◌, ◌≤◌, ◌&&◌, not, if◌then◌else◌, length};
 ghost use Rattle.ga_image.specs.Lines.{Bytes};
 ghost use Rattle.arrayvec.specs.ArrayVec.{array_vec_len};
 ghost use Rattle.ga_grid.specs.Grid.{number_in};
@@ -8,17 +8,17 @@ ghost use Rattle.ga_grid.specs.Chip.{records_of};
 ghost use Rattle.ga_causal.specs.Dependence.{is_marked};
 ghost use Rattle.ga_console.specs.Output.{IsSaid, IsSaidOrCut};
 ghost use Rattle.ga_console.specs.kept.Output.{Says};
-ghost use Rattle.ga_explorer.specs.Waiting.{doing_word, does_text, beside_text, awaited_text, awaiting_text, waiting_text, all_waiting, each_node, marked_name, stuck_line, stuck_text};
+ghost use Rattle.ga_explorer.specs.Waiting.{doing_word, does_text, beside_text, awaited_text, awaiting_text, waiting_text, busy_text, all_waiting, name_if, busy_names, node_count, idle_tail, stuck_line, stuck_text, idle_line, idle_text};
 ghost use Rattle.ga_explorer.specs.Answers.{TellsWho};
 
 use super::ring_text::say_rings;
 use arrayvec::ArrayVec;
-use ga_console::{Output, Text, WriteFailed, push_node, push_text};
+use ga_console::{NUMBER_ROOM, Output, Text, WriteFailed, push_node, push_number, push_text};
 use ga_grid::{Chip, NodeId, neighbour};
 use ga_lab::Lab;
 use ga_node::{Node, Wait};
 use ga_ports::Side;
-use ga_search::{awaits, find_stuck};
+use ga_search::{awaits, find_idle, find_stuck};
 use std::io::Write;
 
 /// The most bytes of what a node does.
@@ -36,14 +36,17 @@ const NAMES_ROOM: usize = 144 * NAME_ROOM;
 /// The names of some nodes.
 type Names = ArrayVec<u8, NAMES_ROOM>;
 
-/// The most bytes of the last line.
-const STUCK_ROOM: usize = b"stuck".len() + NAMES_ROOM + 1;
+/// The most bytes of how many idle nodes there are.
+const IDLE_ROOM: usize = b" and ".len() + NUMBER_ROOM + b" idle".len();
 
-/// The text of the last line.
+/// The most bytes of the line of nodes that can never go on.
+const STUCK_ROOM: usize = b"stuck".len() + NAMES_ROOM + IDLE_ROOM + b"\n".len();
+
+/// The text of that line.
 type StuckLine = ArrayVec<u8, STUCK_ROOM>;
 
-/// `who`: tells of each node that waits what for, of whom and what that node does, which nodes can never go on, and the rings among
-/// them. Takes no memory.
+/// `who`: tells of each node that waits what for, of whom and what that node does, which nodes can never go on, the rings among them,
+/// and how many nodes are idle, of which it says no more. Takes no memory.
 ///
 /// # Errors
 /// A write failed.
@@ -57,37 +60,53 @@ pub(crate) fn say_who<W: Write>(
 {
     let chip = lab.chip();
     let stuck = find_stuck(chip);
-    say_waiting(chip, output, writer)?;
-    output.say_blocks(writer, stuck_line(&stuck).as_slice())?;
-    say_rings(chip, &stuck, output, writer)
+    let idle = find_idle(lab);
+    say_waiting(chip, &idle, output, writer)?;
+    output.say_blocks(writer, stuck_line(&stuck, &idle).as_slice())?;
+    say_rings(chip, &stuck, output, writer)?;
+    output.say_blocks(writer, idle_line(&idle).as_slice())
 }
 
-/// Says the lines of the nodes that wait.
+/// Says the lines of the nodes that wait and are not idle.
 fn say_waiting<W: Write>(
     chip: &Chip,
+    idle: &[bool; 144],
     output: &mut Output,
     writer: &mut W,
 ) -> Result<(), WriteFailed>
-    ensures { Says result (λ text. text ≡ all_waiting (records_of chip.now))
+    ensures { Says result (λ text. text ≡ all_waiting (records_of chip.now) (is_marked idle.now))
         (W.contents writer.old) output.old (W.contents writer.new) output.new }
 {
     'nodes: for number in 0..144u8 {
-        say_node(chip, NodeId::new(number), output, writer)?;
+        say_node(chip, idle, NodeId::new(number), output, writer)?;
     }
     Ok(())
 }
 
-/// Says the line of a node, where it waits.
+/// Says the line of a node, where it waits and is not idle.
 fn say_node<W: Write>(
     chip: &Chip,
+    idle: &[bool; 144],
     node: NodeId,
     output: &mut Output,
     writer: &mut W,
 ) -> Result<(), WriteFailed>
     ensures { (before said : Bytes) → IsSaid (W.contents writer.old) before said output.old →
-        IsSaidOrCut result (W.contents writer.new) before (said ++ waiting_text (records_of chip.now) node.number) output.new }
+        IsSaidOrCut result (W.contents writer.new) before
+        (said ++ busy_text (records_of chip.now) (is_marked idle.now) node.number) output.new }
 {
-    output.say_blocks(writer, waiting_line(chip, node).as_slice())
+    output.say_blocks(writer, busy_line(chip, idle, node).as_slice())
+}
+
+/// The line of a node that waits, where it is not idle.
+fn busy_line(chip: &Chip, idle: &[bool; 144], node: NodeId) -> Text
+    ensures { result.items ≡ busy_text (records_of chip.now) (is_marked idle.now) node.number }
+{
+    if idle[node.index()] {
+        ArrayVec::new()
+    } else {
+        waiting_line(chip, node)
+    }
 }
 
 /// The line of a node that waits: what it does, and of each neighbour that it awaits the side, the name and what that one does.
@@ -172,46 +191,132 @@ fn push_beside(out: &mut Text, chip: &Chip, beside: Option<NodeId>, letter: u8)
     }
 }
 
-/// The last line: the nodes that can never go on, where there are any.
-fn stuck_line(marks: &[bool; 144]) -> StuckLine
-    ensures { result.items ≡ stuck_text (is_marked marks.now) }
+/// The line of the nodes that can never go on, where there are any that are not idle.
+fn stuck_line(marks: &[bool; 144], idle: &[bool; 144]) -> StuckLine
+    ensures { result.items ≡ stuck_text (is_marked marks.now) (is_marked idle.now) }
 {
-    line_of_names(names_of(marks).as_slice())
+    line_of_names(busy_names(marks, idle).as_slice(), idle_among(marks, idle))
 }
 
-/// The line of these names.
-fn line_of_names(names: &[u8]) -> StuckLine
+/// The line of these names, and of so many idle nodes.
+fn line_of_names(names: &[u8], idle: u8) -> StuckLine
     requires { length names.now ≤ NAMES_ROOM }
-    ensures { result.items ≡ stuck_line names.now }
+    ensures { result.items ≡ stuck_line names.now idle }
 {
     let mut out = ArrayVec::new();
     if !names.is_empty() {
         push_text(&mut out, b"stuck");
         push_text(&mut out, names);
+        push_idle(&mut out, idle);
         push_text(&mut out, b"\n");
     }
     out
 }
 
-/// The names of the marked nodes, each behind a space.
-fn names_of(marks: &[bool; 144]) -> Names
-    ensures { result.items ≡ each_node (marked_name (is_marked marks.now)) 0 144 }
+/// Adds how many idle nodes are among those of a line, where some are.
+fn push_idle(out: &mut StuckLine, idle: u8)
+    requires { array_vec_len out.old + IDLE_ROOM ≤ STUCK_ROOM }
+    ensures text { out.new.items ≡ out.old.items ++ idle_tail idle }
+    ensures len { array_vec_len out.new ≤ array_vec_len out.old + IDLE_ROOM }
+{
+    if idle > 0 {
+        push_text(out, b" and ");
+        push_number(out, u64::from(idle));
+        push_text(out, b" idle");
+    }
+}
+
+/// The names of the marked nodes that are not idle, each behind a space.
+fn busy_names(marks: &[bool; 144], idle: &[bool; 144]) -> Names
+    ensures { result.items ≡ busy_names (is_marked marks.now) (is_marked idle.now) }
 {
     let mut out = ArrayVec::new();
     'nodes: for number in 0..144u8 {
-        push_marked(&mut out, NodeId::new(number), marks);
+        let node = NodeId::new(number);
+        push_name_if(&mut out, node, is_busy(marks, idle, node));
     }
     out
 }
 
-/// Adds a node's name behind a space, where it is marked.
-fn push_marked(out: &mut Names, node: NodeId, marks: &[bool; 144])
+/// Whether a node is marked and not idle.
+fn is_busy(marks: &[bool; 144], idle: &[bool; 144], node: NodeId) -> bool
+    ensures { result ≡ (is_marked marks.now node.number && not (is_marked idle.now node.number)) }
+{
+    marks[node.index()] && !idle[node.index()]
+}
+
+/// Adds a node's name behind a space, where it is to be named.
+fn push_name_if(out: &mut Names, node: NodeId, named: bool)
     requires { array_vec_len out.old + NAME_ROOM ≤ NAMES_ROOM }
-    ensures text { out.new.items ≡ out.old.items ++ marked_name (is_marked marks.now) node.number }
+    ensures text { out.new.items ≡ out.old.items ++ name_if named node.number }
     ensures len { array_vec_len out.new ≤ array_vec_len out.old + NAME_ROOM }
 {
-    if marks[node.index()] {
+    if named {
         push_text(out, b" ");
         push_node(out, node);
     }
+}
+
+/// How many of the marked nodes are idle.
+fn idle_among(marks: &[bool; 144], idle: &[bool; 144]) -> u8
+    ensures { result ≡ node_count (λ n. is_marked marks.now n && is_marked idle.now n) 144 }
+{
+    let mut count = 0;
+    'nodes: for number in 0..144u8 {
+        count += one_if(is_both(marks, idle, NodeId::new(number)));
+    }
+    count
+}
+
+/// Whether a node is marked and idle.
+fn is_both(marks: &[bool; 144], idle: &[bool; 144], node: NodeId) -> bool
+    ensures { result ≡ (is_marked marks.now node.number && is_marked idle.now node.number) }
+{
+    marks[node.index()] && idle[node.index()]
+}
+
+/// How many nodes are idle.
+fn idle_count(idle: &[bool; 144]) -> u8
+    ensures { result ≡ node_count (is_marked idle.now) 144 }
+{
+    let mut count = 0;
+    'nodes: for number in 0..144u8 {
+        count += one_if(is_idle(idle, NodeId::new(number)));
+    }
+    count
+}
+
+/// Whether a node is idle.
+fn is_idle(idle: &[bool; 144], node: NodeId) -> bool
+    ensures { result ≡ is_marked idle.now node.number }
+{
+    idle[node.index()]
+}
+
+/// One where this holds.
+fn one_if(holds: bool) -> u8
+    ensures one { result ≡ (if holds then 1 else 0) }
+    ensures few { result ≤ 1 }
+{
+    if holds { 1 } else { 0 }
+}
+
+/// The last line: how many nodes are idle, where some are.
+fn idle_line(idle: &[bool; 144]) -> Text
+    ensures { result.items ≡ idle_text (is_marked idle.now) }
+{
+    line_of_count(idle_count(idle))
+}
+
+/// The line of so many idle nodes.
+fn line_of_count(idle: u8) -> Text
+    ensures { result.items ≡ idle_line idle }
+{
+    let mut out = ArrayVec::new();
+    if idle > 0 {
+        push_text(&mut out, b"idle ");
+        push_number(&mut out, u64::from(idle));
+        push_text(&mut out, b"\n");
+    }
+    out
 }

@@ -9,4 +9,5 @@ pub mod Freed
 pub mod Words
 pub mod kept
 pub mod Offered
+pub mod Idle
 pub mod Races

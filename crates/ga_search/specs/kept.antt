@@ -1,5 +1,6 @@
 pub mod Counted
 pub mod Freed
+pub mod Idle
 pub mod Numbers
 pub mod Ready
 pub mod Writers

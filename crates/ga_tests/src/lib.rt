@@ -18,6 +18,8 @@ mod flow;
 #[cfg(test)]
 mod grid;
 #[cfg(test)]
+mod idle;
+#[cfg(test)]
 mod journal;
 #[cfg(test)]
 mod lab;

@@ -215,7 +215,7 @@ static LINES: [(&str, &str); 6] = [
     ("effects 000 1", "effects 1 1\n000 1 1\n"),
     ("words 000 001", "words 000 001 0\n"),
     ("save", "step 000\n"),
-    ("who", "000 fetches r 001 runs d 100 runs\n"),
+    ("who", "idle 1\n"),
     ("run until step 000 2", "quiet 143\n"),
 ];
 
