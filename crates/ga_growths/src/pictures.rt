@@ -48,6 +48,9 @@ fn drawn(alloc: Global) -> (Status, Sheet) {
         rewind: None,
         from: 0,
         to: u32::MAX,
+        all: false,
+        only: false,
+        fold: 3,
     };
     let mut errors = Sheet {
         text: ArrayVec::new(),

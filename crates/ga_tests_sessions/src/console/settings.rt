@@ -177,7 +177,7 @@ fn files(rt: HostRuntime) {
 }
 
 /// Command lines of pictures that are refused.
-static NO_PICTURES: [&[&str]; 7] = [
+static NO_PICTURES: [&[&str]; 10] = [
     &["ga144", "draw", "--cause", "001"],
     &["ga144", "draw", "--cause", "001", "01"],
     &["ga144", "draw", "--rewind", "018", "1"],
@@ -187,6 +187,9 @@ static NO_PICTURES: [&[&str]; 7] = [
     ],
     &["ga144", "draw", "--from", "0"],
     &["ga144", "draw", "--to", "4294967296"],
+    &["ga144", "draw", "--fold", "-1"],
+    &["ga144", "draw", "--fold", "4294967296"],
+    &["ga144", "draw", "--all=yes"],
 ];
 
 #[test]
@@ -196,8 +199,9 @@ fn no_pictures(rt: HostRuntime) {
     }
 }
 
-static PART: [&str; 11] = [
+static PART: [&str; 15] = [
     "ga144", "draw", "--to", "9", "--rewind", "717", "0", "--from=2", "--cause", "001", "10",
+    "--all", "--fold", "0", "--only",
 ];
 
 #[test]
@@ -207,6 +211,9 @@ fn pictures(rt: HostRuntime) {
         rewind: None,
         from: 1,
         to: 4_294_967_295,
+        all: false,
+        only: false,
+        fold: 3,
         file: None,
     };
     asks(&rt, rt.alloc(), &["ga144", "draw"], Some(whole));
@@ -215,6 +222,9 @@ fn pictures(rt: HostRuntime) {
         rewind: Some((NodeId::new(143), 0)),
         from: 2,
         to: 9,
+        all: true,
+        only: true,
+        fold: 0,
         file: None,
     };
     asks(&rt, rt.alloc(), &PART, Some(part));
