@@ -89,7 +89,7 @@ class Page {
   arrange(seen = null) {
     this.forget();
     this.seen = seen; this.places = null;
-    this.drawn = NAMES.filter(n => find("idle").checked ? this.session.steps[n] : this.session.is_busy(n));
+    this.drawn = NAMES.filter(n => this.session.steps[n] && (find("idle").checked || this.working.includes(n) || this.session.is_busy(n)));
     this.picture.set(this.session.events, this.drawn);
   }
 
