@@ -1,4 +1,5 @@
 pub mod Orders
 pub mod Exploring
 pub mod HappensBefore
+pub mod Acts
 pub mod Kahn

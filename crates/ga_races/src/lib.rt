@@ -1,4 +1,9 @@
 //! What of a list of events hangs on the order in which nodes happened to run.
 #![tactic(auto)]
 
+mod act;
 pub mod laws;
+mod near;
+
+pub use act::{Act, Sides};
+pub use near::{Near, find_near};

@@ -18,3 +18,4 @@ pub mod Behind
 pub mod Untold
 pub mod Silent
 pub mod Racing
+pub mod Placed

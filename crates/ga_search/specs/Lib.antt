@@ -10,3 +10,4 @@ pub mod Words
 pub mod kept
 pub mod Offered
 pub mod Races
+pub mod Readings

@@ -3,3 +3,4 @@ pub mod Freed
 pub mod Numbers
 pub mod Ready
 pub mod Writers
+pub mod Readings

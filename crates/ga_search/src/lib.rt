@@ -1,6 +1,7 @@
 //! Exploring a lab: its events in an order, up to a condition.
 #![tactic(auto)]
 
+mod acts;
 mod condition;
 mod counting;
 mod effects;
@@ -9,6 +10,7 @@ pub mod laws;
 mod numbers;
 mod offers;
 mod races;
+mod readings;
 mod ready;
 mod running;
 mod schedule;
@@ -21,6 +23,7 @@ pub use effects::{Effect, Effects, find_effects};
 pub use freed::{awaits, find_stuck};
 pub use offers::offered;
 pub use races::{Race, Races, find_races};
+pub use readings::Reading;
 pub use running::{End, Ran, run};
 pub use schedule::{Order, Schedule};
 pub use words::{Sent, Words};

@@ -16,7 +16,7 @@ use ga_ports::Side;
 use ga_rollback::Visited;
 
 // The node as it would stand where so many of its steps went.
-fn behind(lab: &Lab, steps: &Visited, node: NodeId) -> Node
+pub(crate) fn behind(lab: &Lab, steps: &Visited, node: NodeId) -> Node
     requires { slice_index steps.now node.number ≤ steps_of node.number lab.now.kept }
     ensures value { (place : ℕ) → steps_of node.number (take place lab.now.kept) + slice_index steps.now node.number ≡ steps_of node.number lab.now.kept →
         record_of result ≡ record_at (chip_of (earlier lab.now place)) node.number }

@@ -1,13 +1,16 @@
 //! Steps that could have come out otherwise.
 
-ghost use Rattle.std.specs.Prelude.{◌≡◌, ◌<◌, ◌^◌, ◌∷◌, ◌++◌, [], true, is_none, Some, IfSome, IfOk, OnOk, IfErr};
+ghost use Rattle.std.specs.Prelude.{◌≡◌, ◌<◌, ◌^◌, length, ◌∷◌, ◌++◌, [], true, is_none, Some, IfSome, IfOk, OnOk, IfErr};
 ghost use Rattle.ga_grid.specs.Chip.{records_of};
 ghost use Rattle.ga_event.specs.Told.{steps_of};
 ghost use Rattle.ga_lab.specs.Machine.{chip_of, causes_of, stands};
+ghost use Rattle.std.specs.List.{All};
+ghost use Rattle.ga_search.specs.Readings.{IsTold};
 ghost use Rattle.ga_search.specs.kept.Writers.{AreSilent};
 ghost use Rattle.ga_search.specs.Races.{race_from, races_over, races_around, races_told, races_of, races_below, races_asked, has_look, looks_next, has_next_look, has_looks, first_ready};
 
 use crate::offers::offered;
+use crate::readings::{Reading, find_readings};
 use crate::ready::{first_from, ready_nodes};
 use crate::writers::{Writers, may_come, writers_of};
 use ga_event::Cause;
@@ -40,6 +43,8 @@ pub struct Race {
 pub struct Races {
     /// In the order of the nodes' numbers, of a node in that of its steps, of a step in the order right, down, left, up.
     pub list: Vec<Race>,
+    /// The looks that could have read another word, in the order of whichever of the look and the change stands later.
+    pub readings: Vec<Reading>,
     /// Whether a kept event looks, or one that comes next: then there may be others.
     pub looks: bool,
     /// Whether no node of the chip has an event.
@@ -246,16 +251,23 @@ fn is_quiet(chip: &Chip) -> bool
     }
 }
 
-/// The steps of a node, or of all, by which it took a word where another neighbour could have given it one. Nothing is taken back.
-/// Takes memory for the list, and for a while for a list of all kept events; and time by these, and by what the rollbacks of steps
-/// would take for which another neighbour ever waited to write.
-///
-/// # Errors
-/// `Memory` alone.
-pub fn find_races(alloc: Global, lab: &mut Lab, only: Option<NodeId>) -> Result<Races, LabFault>
-    ensures list { IfOk result (λ races. races.list.items ≡ races_asked lab.old only) }
-    ensures looks { IfOk result (λ races. races.looks ≡ has_looks (causes_of lab.old) (chip_of lab.old)) }
-    ensures quiet { IfOk result (λ races. races.quiet ≡ is_none (first_ready (chip_of lab.old))) }
+// The kept events in order.
+fn kept_causes(lab: &Lab) -> Result<Vec<Cause>, LabFault>
+    ensures ok { IfOk result (λ list. list.items ≡ causes_of lab.now) }
+    ensures few { IfOk result (λ list. length list.items < 2 ^ 32) }
+    ensures err { IfErr result (λ why. why ≡ LabFault.Memory) }
+{
+    let kept = lab.counts().kept;
+    prove!(kept <= u32::MAX);
+    match lab.causes() {
+        Ok(list) => Ok(list),
+        Err(why) => Err(why),
+    }
+}
+
+// The steps of a node, or of all, by which it took a word where another neighbour could have given it one.
+fn find_taken(alloc: Global, lab: &mut Lab, only: Option<NodeId>) -> Result<Vec<Race>, LabFault>
+    ensures list { IfOk result (λ list. list.items ≡ races_asked lab.old only) }
     ensures err { IfErr result (λ why. why ≡ LabFault.Memory) }
     ensures same { lab.new ≡ lab.old }
 {
@@ -264,10 +276,31 @@ pub fn find_races(alloc: Global, lab: &mut Lab, only: Option<NodeId>) -> Result<
         Some(node) => add_node(&mut list, lab, node)?,
         None => add_nodes(&mut list, lab)?,
     }
-    let causes = lab.causes()?;
+    Ok(list)
+}
+
+/// The steps of a node, or of all, by which it took a word where another neighbour could have given it one. Nothing is taken back.
+/// Takes memory for the list, and for a while for a list of all kept events; and time by these, and by what the rollbacks of steps
+/// would take for which another neighbour ever waited to write.
+///
+/// # Errors
+/// `Memory` alone.
+pub fn find_races(alloc: Global, lab: &mut Lab, only: Option<NodeId>) -> Result<Races, LabFault>
+    ensures list { IfOk result (λ races. races.list.items ≡ races_asked lab.old only) }
+    ensures readings { IfOk result (λ races. All (IsTold lab.old only) races.readings.items) }
+    ensures looks { IfOk result (λ races. races.looks ≡ has_looks (causes_of lab.old) (chip_of lab.old)) }
+    ensures quiet { IfOk result (λ races. races.quiet ≡ is_none (first_ready (chip_of lab.old))) }
+    ensures err { IfErr result (λ why. why ≡ LabFault.Memory) }
+    ensures same { lab.new ≡ lab.old }
+{
+    let list = find_taken(alloc, lab, only)?;
+    let causes = kept_causes(lab)?;
+    let looks = has_look(causes.as_slice());
+    let readings = find_readings(alloc, lab, causes.as_slice(), looks, only)?;
     Ok(Races {
         list,
-        looks: has_look(causes.as_slice()) || has_next_look(lab.chip()),
+        readings,
+        looks: looks || has_next_look(lab.chip()),
         quiet: is_quiet(lab.chip()),
     })
 }

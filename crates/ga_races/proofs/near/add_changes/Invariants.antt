@@ -1,0 +1,8 @@
+use Rattle.std.proofs.Common.{◌≤◌}
+use Rattle.ga_races.proofs.near.add_changes.Given as goal
+
+abbrev pub invariant-back : goal.invariant-back
+invariant-back l = l.place ≤ l.look
+
+abbrev pub decreases-back : goal.decreases-back
+decreases-back l = l.place

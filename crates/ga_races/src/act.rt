@@ -1,0 +1,116 @@
+//! Actions: events as they were made, with what they changed of what neighbours are shown.
+
+ghost use Rattle.std.specs.Prelude.{◌≡◌, ◌&&◌, ◌||◌};
+ghost use Rattle.std.specs.List.{list_any};
+ghost use Rattle.ga_grid.specs.Grid.{neighbour_of};
+ghost use Rattle.ga_event.specs.Apply.{is_number};
+ghost use Rattle.ga_causal.specs.Dependence.{cause_touches, cause_nodes};
+ghost use Rattle.ga_races.specs.Acts.{leads_to, action_in};
+ghost use Rattle.ga_races.specs.HappensBefore.{are_bound, is_shown};
+
+use ga_event::{Cause, Event, touches};
+use ga_grid::{NodeId, neighbour};
+use ga_ports::Side;
+
+/// Sides of a node.
+#[derive(Clone, Copy, PartialEq, Eq, Debug)]
+pub struct Sides {
+    /// Whether it is side right.
+    pub right: bool,
+    /// Whether it is side down.
+    pub down: bool,
+    /// Whether it is side left.
+    pub left: bool,
+    /// Whether it is side up.
+    pub up: bool,
+}
+
+/// An event as it was made: with whether it looked, and with the sides on which it changed what its nodes show there.
+#[derive(Clone, Copy, PartialEq, Eq, Debug)]
+pub struct Act {
+    /// The event, with whether it looked.
+    pub cause: Cause,
+    /// The sides of its node; of a pass those of the writer.
+    pub first: Sides,
+    /// Of a pass the sides of the reader.
+    pub second: Sides,
+}
+
+// Whether a side, if it is one of some, leads from the first node to the second.
+fn leads_over(from: NodeId, side: Side, has: bool, to: NodeId) -> bool
+    ensures { result ≡ (has && is_number (neighbour_of from.number side) to.number) }
+{
+    match neighbour(from, side) {
+        Some(other) => has && other.number == to.number,
+        None => false,
+    }
+}
+
+impl Sides {
+    /// Whether one of them leads from the first node to the second.
+    pub fn lead(&self, from: NodeId, to: NodeId) -> bool
+        ensures { result ≡ leads_to self.now from.number to.number }
+    {
+        leads_over(from, Side::Right, self.right, to)
+            || leads_over(from, Side::Down, self.down, to)
+            || leads_over(from, Side::Left, self.left, to)
+            || leads_over(from, Side::Up, self.up, to)
+    }
+}
+
+impl Act {
+    /// Whether it changed what is shown to the node.
+    pub fn changes(&self, node: NodeId) -> bool
+        ensures { result ≡ (action_in self.now).changes node.number }
+    {
+        match self.cause.event {
+            Event::Own(own) => self.first.lead(own, node),
+            Event::Pass { writer, reader, .. } => {
+                self.first.lead(writer, node) || self.second.lead(reader, node)
+            }
+        }
+    }
+
+    // Whether it changed what is shown to one of the nodes that an event touches.
+    fn changes_some(&self, event: &Cause) -> bool
+        ensures { result ≡ list_any (action_in self.now).changes (cause_nodes event.now) }
+    {
+        match event.event {
+            Event::Own(node) => self.changes(node),
+            Event::Pass { writer, reader, .. } => self.changes(writer) || self.changes(reader),
+        }
+    }
+
+    // Whether both touch a common node.
+    fn meets(&self, event: &Cause) -> bool
+        ensures { result ≡ list_any (cause_touches self.now.cause) (cause_nodes event.now) }
+    {
+        match event.event {
+            Event::Own(node) => touches(self.cause.event, node),
+            Event::Pass { writer, reader, .. } => {
+                touches(self.cause.event, writer) || touches(self.cause.event, reader)
+            }
+        }
+    }
+
+    // Whether it is a look, and the other changes what is shown to it.
+    fn is_shown(&self, other: &Act) -> bool
+        ensures { result ≡ is_shown (action_in self.now) (action_in other.now) }
+    {
+        self.cause.look && other.changes_some(&self.cause)
+    }
+
+    /// Whether both keep their order in each order of a list in which they are neighbours.
+    pub fn is_bound(&self, other: &Act) -> bool
+        ensures { result ≡ are_bound (action_in self.now) (action_in other.now) }
+    {
+        self.meets(&other.cause) || self.is_shown(other) || other.is_shown(self)
+    }
+
+    /// Whether both touch a common node.
+    pub fn is_beside(&self, other: &Act) -> bool
+        ensures { result ≡ list_any (cause_touches self.now.cause) (cause_nodes other.now.cause) }
+    {
+        self.meets(&other.cause)
+    }
+}

@@ -1,0 +1,316 @@
+//! Looks and changes of what is shown to them, between which nothing happens.
+
+ghost use Rattle.std.specs.Prelude.{◌≡◌, ◌≢◌, ◌<◌, ◌^◌, ◌&&◌, length};
+ghost use Rattle.ga_grid.specs.Grid.{neighbour_of};
+ghost use Rattle.ga_causal.specs.Dependence.{is_marked};
+ghost use Rattle.ga_causal.specs.kept.Firsts.{any_of};
+ghost use Rattle.ga_races.specs.Acts.{shows_marked};
+
+use crate::act::{Act, Sides};
+use ga_causal::Nodes;
+use ga_event::{Cause, Event};
+use ga_grid::{Memory, NodeId, neighbour};
+use ga_ports::Side;
+use std::alloc::Global;
+
+/// The places of a look and of a change of what is shown to it, in a list of actions.
+#[derive(Clone, Copy, PartialEq, Eq, Debug)]
+pub struct Near {
+    /// That of the look.
+    pub look: u32,
+    /// That of the change.
+    pub change: u32,
+}
+
+// Of some actions the nodes that they touch, those to which they change what is shown, and those that look in them.
+#[derive(Drop)]
+struct Reached {
+    touched: Nodes,
+    shown: Nodes,
+    looked: Nodes,
+}
+
+// Whether the neighbour on a side, if it is one of some, is marked.
+fn is_marked_over(marks: &Nodes, node: NodeId, side: Side, has: bool) -> bool
+    ensures { result ≡ (has && any_of (is_marked marks.now) (neighbour_of node.number side)) }
+{
+    match neighbour(node, side) {
+        Some(other) => has && marks.has(other),
+        None => false,
+    }
+}
+
+// Whether a neighbour on one of the sides is marked.
+fn is_marked_beside(marks: &Nodes, node: NodeId, sides: &Sides) -> bool
+    ensures { result ≡ shows_marked (is_marked marks.now) sides.now node.number }
+{
+    is_marked_over(marks, node, Side::Right, sides.right)
+        || is_marked_over(marks, node, Side::Down, sides.down)
+        || is_marked_over(marks, node, Side::Left, sides.left)
+        || is_marked_over(marks, node, Side::Up, sides.up)
+}
+
+// Marks the neighbour on a side, if it is one of some.
+fn mark_over(marks: &mut Nodes, node: NodeId, side: Side, has: bool) {
+    match neighbour(node, side) {
+        Some(other) if has => marks.add_touched(&Cause {
+            event: Event::Own(other),
+            look: false,
+        }),
+        _ => {}
+    }
+}
+
+// Marks the neighbours on the sides.
+fn mark_beside(marks: &mut Nodes, node: NodeId, sides: &Sides) {
+    mark_over(marks, node, Side::Right, sides.right);
+    mark_over(marks, node, Side::Down, sides.down);
+    mark_over(marks, node, Side::Left, sides.left);
+    mark_over(marks, node, Side::Up, sides.up);
+}
+
+impl Reached {
+    // Those of one action.
+    fn by(act: &Act) -> Self {
+        let mut reached = Reached {
+            touched: Nodes::none(),
+            shown: Nodes::none(),
+            looked: Nodes::none(),
+        };
+        reached.add(act);
+        reached
+    }
+
+    // Adds an action.
+    fn add(&mut self, act: &Act) {
+        self.touched.add_touched(&act.cause);
+        if act.cause.look {
+            self.looked.add_touched(&act.cause);
+        }
+        match act.cause.event {
+            Event::Own(node) => mark_beside(&mut self.shown, node, &act.first),
+            Event::Pass { writer, reader, .. } => {
+                mark_beside(&mut self.shown, writer, &act.first);
+                mark_beside(&mut self.shown, reader, &act.second);
+            }
+        }
+    }
+
+    // Whether an action is bound to one of them.
+    fn meets(&self, act: &Act) -> bool {
+        self.touched.met_by(&act.cause)
+            || (act.cause.look && self.shown.met_by(&act.cause))
+            || self.is_shown_by(act)
+    }
+
+    // Whether an action changes what is shown to a node that looked in them.
+    fn is_shown_by(&self, act: &Act) -> bool {
+        match act.cause.event {
+            Event::Own(node) => is_marked_beside(&self.looked, node, &act.first),
+            Event::Pass { writer, reader, .. } => {
+                is_marked_beside(&self.looked, writer, &act.first)
+                    || is_marked_beside(&self.looked, reader, &act.second)
+            }
+        }
+    }
+}
+
+// Whether something happens between two actions of a list, by one pass over what stands between them.
+fn is_between(acts: &[Act], first: usize, later: usize) -> bool
+    requires order { first < later }
+    requires within { later < length acts.now }
+{
+    let end = acts[later];
+    let mut reached = Reached::by(&acts[first]);
+    'between: for place in first + 1..later {
+        let act = acts[place];
+        if reached.meets(&act) {
+            if act.is_bound(&end) {
+                return true;
+            }
+            reached.add(&act);
+        }
+    }
+    false
+}
+
+// Whether two actions of a list touch no common node, are bound, and nothing happens between them.
+fn is_near(acts: &[Act], first: usize, later: usize) -> bool
+    requires order { first < later }
+    requires within { later < length acts.now }
+{
+    let act = acts[first];
+    let end = acts[later];
+    !act.is_beside(&end) && act.is_bound(&end) && !is_between(acts, first, later)
+}
+
+// The node of a look.
+fn looking(act: &Act) -> Option<NodeId> {
+    match act.cause.event {
+        Event::Own(node) if act.cause.look => Some(node),
+        _ => None,
+    }
+}
+
+// Whether it is a look of the node.
+fn is_look_of(act: &Act, node: NodeId) -> bool {
+    match looking(act) {
+        Some(own) => own.number == node.number,
+        None => false,
+    }
+}
+
+// Puts two places at the end of a list, where the actions there are near.
+fn add_near(list: &mut Vec<Near>, acts: &[Act], look: usize, change: usize) -> Result<(), Memory>
+    requires look { look < length acts.now }
+    requires change { change < length acts.now }
+    requires apart { look ≢ change }
+    requires few { length acts.now < 2 ^ 32 }
+{
+    let near = if look < change {
+        is_near(acts, look, change)
+    } else {
+        is_near(acts, change, look)
+    };
+    if !near {
+        return Ok(());
+    }
+    list.push(Near {
+        look: look as u32,
+        change: change as u32,
+    })?;
+    Ok(())
+}
+
+// The same where the second changes what is shown to the node.
+fn add_change(
+    list: &mut Vec<Near>,
+    acts: &[Act],
+    look: usize,
+    change: usize,
+    node: NodeId,
+) -> Result<(), Memory>
+    requires order { change < look }
+    requires within { look < length acts.now }
+    requires few { length acts.now < 2 ^ 32 }
+{
+    if !acts[change].changes(node) {
+        return Ok(());
+    }
+    add_near(list, acts, look, change)
+}
+
+// Adds the changes that are near to a look of the node. The last look before it was shown what came before that.
+fn add_changes(list: &mut Vec<Near>, acts: &[Act], look: usize, node: NodeId) -> Result<(), Memory>
+    requires within { look < length acts.now }
+    requires few { length acts.now < 2 ^ 32 }
+{
+    if !is_look_of(&acts[look], node) {
+        return Ok(());
+    }
+    let mut place = look;
+    'back: while place > 0 {
+        place -= 1;
+        add_change(list, acts, look, place, node)?;
+        if is_look_of(&acts[place], node) {
+            return Ok(());
+        }
+    }
+    Ok(())
+}
+
+// Adds the last look of a node, where a change of what is shown to it is near to that. None is near behind which the neighbour
+// already changed this.
+fn add_look(list: &mut Vec<Near>, acts: &[Act], change: usize, node: NodeId) -> Result<(), Memory>
+    requires within { change < length acts.now }
+    requires few { length acts.now < 2 ^ 32 }
+{
+    let end = acts[change];
+    let mut place = change;
+    'back: while place > 0 {
+        place -= 1;
+        let act = acts[place];
+        if is_look_of(&act, node) {
+            return add_near(list, acts, place, change);
+        }
+        if act.changes(node) && act.is_beside(&end) {
+            return Ok(());
+        }
+    }
+    Ok(())
+}
+
+// The same of the neighbour on a side, if it is one of some, where it looked at all.
+fn add_look_over(
+    list: &mut Vec<Near>,
+    acts: &[Act],
+    change: usize,
+    looked: &Nodes,
+    over: (NodeId, Side, bool),
+) -> Result<(), Memory>
+    requires within { change < length acts.now }
+    requires few { length acts.now < 2 ^ 32 }
+{
+    let (from, side, has) = over;
+    match neighbour(from, side) {
+        Some(node) if has && looked.has(node) => add_look(list, acts, change, node),
+        _ => Ok(()),
+    }
+}
+
+// The same of the neighbours on the sides.
+fn add_looks_beside(
+    list: &mut Vec<Near>,
+    acts: &[Act],
+    change: usize,
+    looked: &Nodes,
+    from: (NodeId, Sides),
+) -> Result<(), Memory>
+    requires within { change < length acts.now }
+    requires few { length acts.now < 2 ^ 32 }
+{
+    let (node, sides) = from;
+    add_look_over(list, acts, change, looked, (node, Side::Right, sides.right))?;
+    add_look_over(list, acts, change, looked, (node, Side::Down, sides.down))?;
+    add_look_over(list, acts, change, looked, (node, Side::Left, sides.left))?;
+    add_look_over(list, acts, change, looked, (node, Side::Up, sides.up))?;
+    Ok(())
+}
+
+// Adds what is near to an action before it.
+fn add_at(list: &mut Vec<Near>, acts: &[Act], place: usize, looked: &Nodes) -> Result<(), Memory>
+    requires within { place < length acts.now }
+    requires few { length acts.now < 2 ^ 32 }
+{
+    let act = acts[place];
+    match act.cause.event {
+        Event::Own(node) => {
+            add_changes(list, acts, place, node)?;
+            add_looks_beside(list, acts, place, looked, (node, act.first))
+        }
+        Event::Pass { writer, reader, .. } => {
+            add_looks_beside(list, acts, place, looked, (writer, act.first))?;
+            add_looks_beside(list, acts, place, looked, (reader, act.second))
+        }
+    }
+}
+
+/// The looks of a list with the changes of what is shown to them that keep their order with them only by this (`IsNear`): each could
+/// come before a change that stands before it, or behind one that stands behind it. In the order of whichever stands later. Takes
+/// memory for these, and time by the list; and for each node that looks by the list once more for each of its sides.
+///
+/// # Errors
+/// `Memory` alone.
+pub fn find_near(alloc: Global, acts: &[Act]) -> Result<Vec<Near>, Memory>
+    requires few { length acts.now < 2 ^ 32 }
+{
+    let mut list = Vec::new(alloc);
+    let mut looked = Nodes::none();
+    'acts: for place in 0..acts.len() {
+        add_at(&mut list, acts, place, &looked)?;
+        if acts[place].cause.look {
+            looked.add_touched(&acts[place].cause);
+        }
+    }
+    Ok(list)
+}
