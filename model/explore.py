@@ -273,8 +273,73 @@ class Explorer(Machine):
             self.chip[node].copy().own(lambda: self.io_word(node, looks))
         return bool(looks)
 
+    def seen(self):
+        """Of each kept event the word that it read in `io`, if it looks, and the nodes that read another word there behind it."""
+        again, words, changes = Explorer(self.load, self.limit), [], []
+        for event, looked in zip(self.events, self.looked):
+            words.append(again.io_word(event[0], []) if looked else None)
+            around = sorted({other for node in event for side in SIDES for other in [neighbour(node, side)] if other is not None})
+            before = [again.io_word(node, []) for node in around]
+            again.apply(event)
+            changes.append({node for node, word in zip(around, before) if again.io_word(node, []) != word})
+        return words, changes
+
+    def near(self):
+        """The looks and the changes of what is shown to them between which nothing happens, each pair by the places of both. Sets of
+        places are the bits of a number."""
+        words, changes = self.seen()
+        touching, changing, looking = ([0] * NODES for _ in range(3))
+        past, pairs = [], []
+        for place, event in enumerate(self.events):
+            look, apart, bound = self.looked[place], 0, 0
+            for node in event:
+                bound |= touching[node]
+            if look:
+                apart |= changing[event[0]]
+            for node in changes[place]:
+                apart |= looking[node]
+            apart &= ~bound
+            before, near = 0, []
+            while (bound | apart) & ~before:
+                last = ((bound | apart) & ~before).bit_length() - 1
+                before |= past[last] | 1 << last
+                near += [last] if apart >> last & 1 else []
+            past.append(before)
+            if look:
+                pairs += [(place, change) for change in near if event[0] in changes[change]]
+            for node in [neighbour(node, side) for node in event for side in SIDES]:
+                pairs += [(it, place) for it in near if node in changes[place] and self.looked[it] and self.events[it] == (node,)]
+            for node in event:
+                touching[node] |= 1 << place
+            for node in changes[place]:
+                changing[node] |= 1 << place
+            if look:
+                looking[event[0]] |= 1 << place
+        return words, pairs
+
+    def reading(self, word, look, change):
+        """The line of a look and a change, where the look reads another word."""
+        (node,), event = self.events[look], self.events[change]
+        step = sum(node in it for it in self.events[: look + 1])
+        beside = next(it for it in event if len(event) == 1 or it in [neighbour(node, side) for side in SIDES] or it == event[1])
+        changed = sum(beside in it for it in self.events[: change + 1])
+        back = (node, step) if look < change else (beside, changed)
+        again = Explorer(self.load, self.limit)
+        again.events = [it for it, gone in zip(self.events, self.dependents(self.place(*back))) if not gone]
+        again.replay()
+        if again.steps[node] + 1 != step or not again.looks_next(node) or again.io_word(node, []) == word:
+            return []
+        where = "behind" if look < change else "before"
+        return [f"{name(node)} {step} reads {word:06x}, or {again.io_word(node, []):06x} {where} {name(beside)} {changed}: rewind {name(back[0])} {back[1]}, step {name(node)}"]
+
+    def readings(self, only):
+        if not any(self.looked):
+            return []
+        words, pairs = self.near()
+        return [line for look, change in pairs if only is None or self.events[look] == (only,) for line in self.reading(words[look], look, change)]
+
     def races(self, only):
-        """The passes that could have come out otherwise, of a node or of all, and what holds of other orders."""
+        """The steps that could have come out otherwise, of a node or of all, and what holds of other orders."""
         lines = []
         for node in range(NODES) if only is None else [only]:
             for told in [told for event, told in zip(self.events, self.told) if event[1:] == (node,)]:
@@ -282,6 +347,7 @@ class Explorer(Machine):
                 others = [(name(other), it) for other, it in self.offers(node, int(step)) if name(other) != writer]
                 taken = f"{reader} {step} takes {word} from {writer}"
                 lines += [f"{taken}, or {it:06x} from {other}: rewind {reader} {step}, step {other}" for other, it in others]
+        lines += self.readings(only)
         last = []
         if any(self.looked) or any(map(self.looks_next, range(NODES))):
             last = ["looks are kept or come next: there may be other races"]

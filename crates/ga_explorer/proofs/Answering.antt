@@ -13,6 +13,9 @@ use Rattle.ga_search.specs.Freed.{IsWithin}
 use Rattle.ga_search.specs.declared.effects.Effect.{Effect}
 use Rattle.ga_search.specs.declared.races.Race.{Race}
 use Rattle.ga_search.specs.Races.{races_asked, has_looks, first_ready}
+use Rattle.std.specs.List.{All}
+use Rattle.ga_search.specs.declared.readings.Reading.{Reading}
+use Rattle.ga_search.specs.Readings.{IsTold}
 use Rattle.ga_explorer.specs.Races.{listed_text, TellsRaces}
 use Rattle.ga_explorer.specs.Texts.{effects_text, effects_answer}
 use Rattle.ga_explorer.specs.Waiting.{all_waiting, stuck_text, all_rings}
@@ -40,11 +43,16 @@ who_told s chip marks first second last e stuck greatest f g h = record {
   text = rw (f, g, h, e) refl;
 }
 
-pub races_found : (s : State) (only : Option NodeId) (races : List Race) (looks quiet : Bool) (text : List ℕ) → races ≡ races_asked s only
-    → looks ≡ has_looks (causes_of s) (chip_of s) → quiet ≡ is_none (first_ready (chip_of s)) → text ≡ listed_text only races looks quiet → TellsRaces s only text
-races_found s only races looks quiet text r l q t =
-    inl (t ∙ ap (λ (z : List Race). listed_text only z looks quiet) r ∙ ap (λ (z : Bool). listed_text only (races_asked s only) z quiet) l
-    ∙ ap (listed_text only (races_asked s only) (has_looks (causes_of s) (chip_of s))) q)
+pub races_found : (s : State) (only : Option NodeId) (races : List Race) (readings : List Reading) (looks quiet : Bool) (text : List ℕ) → races ≡ races_asked s only
+    → All (IsTold s only) readings → looks ≡ has_looks (causes_of s) (chip_of s) → quiet ≡ is_none (first_ready (chip_of s))
+    → text ≡ listed_text only races readings looks quiet → TellsRaces s only text
+races_found s only races readings looks quiet text r told l q t =
+    inl (
+      readings,
+      told,
+      t ∙ ap (λ (z : List Race). listed_text only z readings looks quiet) r ∙ ap (λ (z : Bool). listed_text only (races_asked s only) readings z quiet) l
+          ∙ ap (listed_text only (races_asked s only) readings (has_looks (causes_of s) (chip_of s))) q,
+    )
 
 pub races_refused : (s : State) (only : Option NodeId) (why : LabFault) (text : List ℕ) → why ≡ Memory → text ≡ refusal_text why → TellsRaces s only text
 races_refused s only why text e t = inr (t ∙ ap refusal_text e)

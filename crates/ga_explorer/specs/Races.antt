@@ -1,12 +1,15 @@
 -- The texts of `races`: the steps that could have come out otherwise, and what holds of other orders (docs/REFERENCE.md, "Exploring";
 -- this project's own). What the last line means is law `every_order` and law `no_other_order` of ga_search.
-use Rattle.std.specs.Prelude.{◌≡◌, ◌⊎◌, Bool, true, false, is_none, List, [], ◌∷◌, ◌++◌, length, flat_map, codes, decimal, ℕ, Option, Some, None}
+use Rattle.std.specs.Prelude.{◌≡◌, ◌+◌, ◌⊎◌, Bool, true, false, is_none, List, [], ◌∷◌, ◌++◌, length, flat_map, codes, decimal, ℕ, Option, Some, None}
+use Rattle.std.specs.List.{All}
 use Rattle.ga_image.specs.Lines.{Text}
 use Rattle.ga_word.specs.Word.{hex6_of}
 use Rattle.ga_grid.specs.declared.node_id.NodeId.{NodeId}
 use Rattle.ga_lab.specs.Machine.{State, chip_of, causes_of}
 use Rattle.ga_lab.specs.declared.fault.LabFault.TheVariants.{Memory}
 use Rattle.ga_search.specs.declared.races.Race.{Race}
+use Rattle.ga_search.specs.declared.readings.Reading.{Reading}
+use Rattle.ga_search.specs.Readings.{back_of, IsTold}
 use Rattle.ga_search.specs.Races.{races_asked, has_looks, first_ready}
 use Rattle.ga_console.specs.Texts.{name_of, step_text, refusal_text}
 
@@ -37,15 +40,32 @@ abbrev pub last_line : Option NodeId → List Race → Bool → Bool → Text
 last_line only races true quiet = codes "looks are kept or come next: there may be other races\n"
 last_line only races false quiet = order_line only races quiet
 
-abbrev pub lines_text : List Race → Text
-lines_text races = races_head (length races) ++ flat_map race_text races
+-- on which side of a change a look would have read another word
+abbrev pub side_text : Bool → Text
+side_text true = codes " behind "
+side_text false = codes " before "
 
-abbrev pub listed_text : Option NodeId → List Race → Bool → Bool → Text
-listed_text only races looks quiet = lines_text races ++ last_line only races looks quiet
+-- a look and the word that it read, another that it could have read, and the commands that make it read that
+abbrev pub reading_text : Reading → Text
+reading_text reading =
+    step_text reading.node reading.step ++ codes " reads " ++ hex6_of reading.word ++ codes ", or " ++ hex6_of reading.other
+    ++ side_text reading.early ++ step_text reading.neighbour reading.change
+    ++ codes ": rewind " ++ step_text (back_of reading).0 (back_of reading).1 ++ codes ", step " ++ name_of reading.node ++ codes "\n"
 
-abbrev pub races_text : State → Option NodeId → Text
-races_text s only = listed_text only (races_asked s only) (has_looks (causes_of s) (chip_of s)) (is_none (first_ready (chip_of s)))
+-- these, of so many lines
+abbrev pub lines_text : List Race → ℕ → Text
+lines_text races count = races_head count ++ flat_map race_text races
 
--- all is told, or memory is wanting
+abbrev pub listed_text : Option NodeId → List Race → List Reading → Bool → Bool → Text
+listed_text only races readings looks quiet =
+    lines_text races (length races + length readings) ++ (flat_map reading_text readings ++ last_line only races looks quiet)
+
+-- with these looks
+abbrev pub races_text : State → Option NodeId → List Reading → Text
+races_text s only readings =
+    listed_text only (races_asked s only) readings (has_looks (causes_of s) (chip_of s)) (is_none (first_ready (chip_of s)))
+
+-- all passes are told, and looks of which each could have read otherwise, or memory is wanting
 abbrev pub TellsRaces : State → Option NodeId → Text → Type 0
-TellsRaces s only answer = (answer ≡ races_text s only) ⊎ (answer ≡ refusal_text Memory)
+TellsRaces s only answer =
+    ((readings : List Reading) × All (IsTold s only) readings × (answer ≡ races_text s only readings)) ⊎ (answer ≡ refusal_text Memory)

@@ -1,10 +1,11 @@
 //! Steps that could have come out otherwise, told line by line.
 
-ghost use Rattle.std.specs.Prelude.{◌≡◌, ◌++◌};
+ghost use Rattle.std.specs.Prelude.{◌≡◌, ◌≤◌, ◌++◌, length, flat_map};
 ghost use Rattle.ga_image.specs.Lines.{Bytes};
 ghost use Rattle.ga_console.specs.Output.{IsSaid, IsSaidOrCut};
 ghost use Rattle.ga_console.specs.kept.Output.{Says};
-ghost use Rattle.ga_explorer.specs.Races.{race_text, races_head, lines_text, last_line, listed_text, TellsRaces};
+ghost use Rattle.ga_search.specs.Readings.{back_of};
+ghost use Rattle.ga_explorer.specs.Races.{race_text, reading_text, side_text, races_head, lines_text, last_line, listed_text, TellsRaces};
 
 use arrayvec::ArrayVec;
 use ga_console::{
@@ -12,7 +13,7 @@ use ga_console::{
 };
 use ga_grid::NodeId;
 use ga_lab::Lab;
-use ga_search::{Race, Races, find_races};
+use ga_search::{Race, Races, Reading, find_races};
 use std::alloc::Global;
 use std::io::Write;
 
@@ -45,28 +46,60 @@ fn say_found<W: Write>(
     output: &mut Output,
     writer: &mut W,
 ) -> Result<(), WriteFailed>
-    ensures { Says result (λ text. text ≡ listed_text only races.now.list.items races.now.looks races.now.quiet)
+    ensures { Says result (λ text. text ≡ listed_text only races.now.list.items races.now.readings.items races.now.looks races.now.quiet)
         (W.contents writer.old) output.old (W.contents writer.new) output.new }
 {
     let list = races.list.as_slice();
-    say_list(list, output, writer)?;
-    output.say_blocks(writer, last_line(only, list, races.looks, races.quiet))
+    let readings = races.readings.as_slice();
+    let count = list.len() as u64 + readings.len() as u64;
+    say_list(list, count, output, writer)?;
+    let last = last_line(only, list, races.looks, races.quiet);
+    say_rest(readings, last, output, writer)
 }
 
-/// Says how many there are, then each of them.
+/// Says that so many lines follow, then each of these.
 fn say_list<W: Write>(
     races: &[Race],
+    count: u64,
     output: &mut Output,
     writer: &mut W,
 ) -> Result<(), WriteFailed>
-    ensures { Says result (λ text. text ≡ lines_text races.now)
+    ensures { Says result (λ text. text ≡ lines_text races.now count)
         (W.contents writer.old) output.old (W.contents writer.new) output.new }
 {
-    output.say_blocks(writer, head_line(races.len()).as_slice())?;
+    output.say_blocks(writer, head_line(count).as_slice())?;
     'races: for race in races {
         say_race(*race, output, writer)?;
     }
     Ok(())
+}
+
+/// Says each of these, and the last line.
+fn say_rest<W: Write>(
+    readings: &[Reading],
+    last: &'static [u8],
+    output: &mut Output,
+    writer: &mut W,
+) -> Result<(), WriteFailed>
+    ensures { Says result (λ text. text ≡ flat_map reading_text readings.now ++ last.now)
+        (W.contents writer.old) output.old (W.contents writer.new) output.new }
+{
+    'readings: for reading in readings {
+        say_reading(*reading, output, writer)?;
+    }
+    output.say_blocks(writer, last)
+}
+
+/// Says one of them.
+fn say_reading<W: Write>(
+    reading: Reading,
+    output: &mut Output,
+    writer: &mut W,
+) -> Result<(), WriteFailed>
+    ensures { (before said : Bytes) → IsSaid (W.contents writer.old) before said output.old →
+        IsSaidOrCut result (W.contents writer.new) before (said ++ reading_text reading) output.new }
+{
+    output.say_blocks(writer, reading_line(reading).as_slice())
 }
 
 /// Says one of them.
@@ -78,14 +111,55 @@ fn say_race<W: Write>(race: Race, output: &mut Output, writer: &mut W) -> Result
 }
 
 /// How many lines of steps follow.
-fn head_line(count: usize) -> Text
+fn head_line(count: u64) -> Text
     ensures { result.items ≡ races_head count }
 {
     let mut out = ArrayVec::new();
     push_text(&mut out, b"races ");
-    push_number(&mut out, count as u64);
+    push_number(&mut out, count);
     push_text(&mut out, b"\n");
     out
+}
+
+/// A look with the word that it read, another that it could have read, the change before or behind which it would have, and the
+/// commands that make it read that.
+fn reading_line(reading: Reading) -> Text
+    ensures { result.items ≡ reading_text reading }
+{
+    let (node, step) = back_of(&reading);
+    let mut out = ArrayVec::new();
+    push_step(&mut out, reading.node, reading.step);
+    push_text(&mut out, b" reads ");
+    push_word(&mut out, reading.word);
+    push_text(&mut out, b", or ");
+    push_word(&mut out, reading.other);
+    push_text(&mut out, side_of(reading.early));
+    push_step(&mut out, reading.neighbour, reading.change);
+    push_text(&mut out, b": rewind ");
+    push_step(&mut out, node, step);
+    push_text(&mut out, b", step ");
+    push_node(&mut out, reading.node);
+    push_text(&mut out, b"\n");
+    out
+}
+
+/// On which side of the change a look would have read the other word.
+fn side_of(early: bool) -> &'static [u8]
+    ensures text { result.now ≡ side_text early }
+    ensures len { length result.now ≤ 8 }
+{
+    if early { b" behind " } else { b" before " }
+}
+
+/// The step that is taken back for a look to read the other word.
+fn back_of(reading: &Reading) -> (NodeId, u32)
+    ensures { result ≡ back_of reading.now }
+{
+    if reading.early {
+        (reading.node, reading.step)
+    } else {
+        (reading.neighbour, reading.change)
+    }
 }
 
 /// A step with its word, another that it could have taken, and the commands that make it take that.

@@ -89,6 +89,7 @@ fn run_of<R: Threads + Wait + Sync>(rt: &R, alloc: Global, run: &str) -> Outcome
         "session-fetches" => sessions::session_with_fetches(alloc),
         "session-format-2" => sessions::session_of_second_format(alloc),
         "explore" => sessions::exploring(alloc),
+        "explore-looks" => sessions::exploring_looks(alloc),
         "explore-source" => sources::explored(alloc),
         "draw" => pictures::picture(alloc),
         "shared" => shared::calls_repeated(rt, alloc),

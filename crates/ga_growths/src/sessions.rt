@@ -6,7 +6,8 @@ use crate::images::{SENDER_AND_FETCHER, SENDER_AND_LOOKER};
 use crate::labs::LIMIT;
 use crate::outcome::Outcome;
 use crate::turns::{
-    EXPLORED, Explored, FETCHES, LISTS, LOOKS, READINGS, STEPS, TRANSFER, TRANSFERRED, Turns,
+    EXPLORED, EXPLORED_LOOKS, Explored, FETCHES, LISTS, LOOKS, READINGS, STEPS, TRANSFER,
+    TRANSFERRED, Turns,
 };
 use arrayvec::ArrayVec;
 use ga_console::{Status, session};
@@ -152,14 +153,24 @@ pub fn session_of_second_format(alloc: Global) -> Outcome {
 
 /// A run up to a wait, who waits, a run up to a word that is counted, the words, what a rollback would take, and the session saved.
 pub fn exploring(alloc: Global) -> Outcome {
-    exploring_with(alloc, &Cell::new(false))
+    exploring_with(alloc, SENDER_AND_TAKER, &EXPLORED, &Cell::new(false))
 }
 
-/// The same, with the note that its reader and its writer share.
-fn exploring_with(alloc: Global, is_refused: &Cell<bool>) -> Outcome {
+/// A run of the sender, a look at it, and the races of that.
+pub fn exploring_looks(alloc: Global) -> Outcome {
+    exploring_with(alloc, SENDER_AND_LOOKER, &EXPLORED_LOOKS, &Cell::new(false))
+}
+
+/// On an image these commands, with the note that the reader and the writer share.
+fn exploring_with(
+    alloc: Global,
+    image: &'static [u8],
+    list: &'static [Explored],
+    is_refused: &Cell<bool>,
+) -> Outcome {
     let mut reader = Asking {
-        image: SENDER_AND_TAKER,
-        script: Script::Explored(&EXPLORED),
+        image,
+        script: Script::Explored(list),
         next: 0,
         is_refused,
     };
@@ -170,16 +181,16 @@ fn exploring_with(alloc: Global, is_refused: &Cell<bool>) -> Outcome {
     let mut errors = Vec::new(alloc);
     let status = explore(alloc, &mut reader, &mut writer, &mut errors, LIMIT);
     match answers_in(status, writer.text.as_slice()) {
-        Ok(answers) => explored(answers),
+        Ok(answers) => explored(list, answers),
         Err(outcome) => outcome,
     }
 }
 
 /// The answer of each command of exploring, of which at most one was refused at first.
-fn explored(text: &[u8]) -> Outcome {
+fn explored(list: &[Explored], text: &[u8]) -> Outcome {
     let mut rest = text;
     let mut outcome = Outcome::Answered;
-    for asked in &EXPLORED {
+    for asked in list {
         match rest.strip_prefix(asked.answer.as_bytes()) {
             Some(after) => rest = after,
             None => {

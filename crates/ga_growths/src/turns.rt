@@ -225,3 +225,39 @@ impl Turns {
         }
     }
 }
+
+/// What the sender and the looker make. Node 001 looks in its step 2, behind the wait of 000.
+pub(crate) static EXPLORED_LOOKS: [Explored; 4] = [
+    Explored {
+        asks: "run greedy until wait 000",
+        answer: "reached 7 000 7 wait\n",
+        refusals: &[
+            (
+                0,
+                "memory 0\nkept 0 made 0 limit 1000000\nreached 7 000 7 wait\n",
+            ),
+            (
+                4,
+                "memory 4\nkept 4 made 4 limit 1000000\nreached 3 000 7 wait\n",
+            ),
+        ],
+    },
+    Explored {
+        asks: "step 001",
+        answer: "001 1 fetch\n",
+        refusals: &[(0, "no 4 memory\nkept 7 made 7 limit 1000000\n001 1 fetch\n")],
+    },
+    Explored {
+        asks: "step 001",
+        answer: "001 2 run 0a\n",
+        refusals: &[],
+    },
+    Explored {
+        asks: "races",
+        answer: "races 1\n001 2 reads 01d555, or 015555 before 000 7: rewind 000 7, step 001\nlooks are kept or come next: there may be other races\n",
+        refusals: &[(
+            0,
+            "no 4 memory\nkept 9 made 9 limit 1000000\nraces 1\n001 2 reads 01d555, or 015555 before 000 7: rewind 000 7, step 001\nlooks are kept or come next: there may be other races\n",
+        )],
+    },
+];

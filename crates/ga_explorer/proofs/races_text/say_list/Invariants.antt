@@ -7,4 +7,4 @@ use Rattle.ga_explorer.proofs.races_text.say_list.Given as goal
 
 abbrev pub invariant-races : goal.invariant-races
 invariant-races g l = (before said : List ℕ) → IsSaid (g.W.Write.contents l.fn.writer) before said l.fn.output
-    → IsSaidUpTo (g.W.Write.contents l.writer) before said (lines_text l.races) (flat_map race_text (drop l.race-index l.races)) l.output
+    → IsSaidUpTo (g.W.Write.contents l.writer) before said (lines_text l.races l.count) (flat_map race_text (drop l.race-index l.races)) l.output
