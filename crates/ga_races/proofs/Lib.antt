@@ -3,6 +3,7 @@ pub mod Orders
 pub mod Rivals
 pub mod Exact
 pub mod Blind
+pub mod Reaching
 pub mod Swaps
 pub mod Exploring
 pub mod Kahn

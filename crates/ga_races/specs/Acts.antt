@@ -1,16 +1,19 @@
 -- Actions as they are kept to be read: of each event whether it looks, and on which sides of the nodes that it touches what it shows
 -- there changes.
-use Rattle.std.specs.Prelude.{ℕ, Bool, ◌&&◌, ◌||◌, List, map}
+use Rattle.std.specs.Prelude.{◌≡◌, ◌⊎◌, ℕ, Bool, false, ◌&&◌, ◌||◌, List, map}
+use Rattle.std.specs.List.{list_any}
 use Rattle.ga_ports.specs.declared.side.Side.TheVariants.{Right, Down, Left, Up}
 use Rattle.ga_node.specs.Record.{NodeRecord}
 use Rattle.ga_grid.specs.Grid.{neighbour_of}
 use Rattle.ga_event.specs.declared.event.Event.{Event}
 use Rattle.ga_event.specs.declared.event.Event.TheVariants.{Own, Pass}
 use Rattle.ga_event.specs.Apply.{is_number}
+use Rattle.ga_causal.specs.Dependence.{cause_touches, cause_nodes}
 use Rattle.ga_causal.specs.kept.Firsts.{any_of}
 use Rattle.ga_races.specs.declared.act.Act.{Act}
 use Rattle.ga_races.specs.declared.act.Sides.{Sides}
-use Rattle.ga_races.specs.HappensBefore.{Action}
+use Rattle.ga_races.specs.declared.near.Near.{Near}
+use Rattle.ga_races.specs.HappensBefore.{Action, action_at, IsBound, HappensBefore}
 
 -- one of the sides of the first node leads to the second
 abbrev pub leads_to : Sides → ℕ → ℕ → Bool
@@ -34,3 +37,13 @@ abbrev pub shows_marked : (ℕ → Bool) → Sides → ℕ → Bool
 shows_marked marks sides m =
     (sides.right && any_of marks (neighbour_of m Right)) || ((sides.down && any_of marks (neighbour_of m Down))
     || ((sides.left && any_of marks (neighbour_of m Left)) || (sides.up && any_of marks (neighbour_of m Up))))
+
+-- Two actions are bound, touch no common node, and nothing happens between them (`IsNear`, of actions).
+pub record AreNear (actions : List Action) (first later : ℕ) : Type 0 where
+  pub bound : IsBound actions first later
+  pub apart : list_any (cause_touches (action_at actions first).cause) (cause_nodes (action_at actions later).cause) ≡ false
+  pub none : (middle : ℕ) → HappensBefore actions first middle → HappensBefore actions middle later → ⊥
+
+-- the actions at these places are near, whichever stands first
+abbrev pub AreFound : List Act → Near → Type 0
+AreFound acts near = AreNear (actions_in acts) near.look near.change ⊎ AreNear (actions_in acts) near.change near.look
