@@ -30,7 +30,7 @@ found None is = absurd (cc)
 found (Some q) is = (q, refl)
 
 -- an earlier step of the node
-earlier_step : (s : State) (asked value other : Value) (k : ℕ) → other.step ≡ suc k → other.node ≡ value.node → other.step ≤ value.step → IsCause s value asked → IsCause s other asked
+pub earlier_step : (s : State) (asked value other : Value) (k : ℕ) → other.step ≡ suc k → other.node ≡ value.node → other.step ≤ value.step → IsCause s value asked → IsCause s other asked
 earlier_step s asked value other k is node less cause =
     let stands = (stands_exact (causes_of s) value.node.number value.step).0 (subst IsSome (sym cause.cause_place) refl) in
     let at : (q : ℕ) × (place_of (causes_of s) value.node.number other.step ≡ Some q) =
@@ -61,7 +61,7 @@ made_before s node (suc k) at = go (moved_at s node.number k at) (made_before s 
     go None before = (refl, omega arith)
     go (Some from) before = let b = before from in (b.0, omega (arith, b.1))
 
-named_origin : (s : State) (asked value : Value) → IsNamedFor s asked value → IsNamedFor s asked (origin_of s value)
+pub named_origin : (s : State) (asked value : Value) → IsNamedFor s asked value → IsNamedFor s asked (origin_of s value)
 named_origin s asked value named =
     let before = made_before s value.node value.step value.part in earlier s asked value (origin_of s value) before.0 before.1 named
 
@@ -73,7 +73,7 @@ named_parts s asked value k less named (at ∷ rest) =
     (earlier s asked value (value_at value.node k at) refl less named)
     (named_parts s asked value k less named rest)
 
-named_sender : (s : State) (asked value : Value) (k : ℕ) → value.step ≡ suc k → IsNamedFor s asked value
+pub named_sender : (s : State) (asked value : Value) (k : ℕ) → value.step ≡ suc k → IsNamedFor s asked value
     → (told : Option Made) → slice_get (history_of s value.node.number) k ≡ told → All (IsNamedFor s asked) (option_to_list (sender_in told))
 named_sender s asked value k is named None h = All-nil (IsNamedFor s asked)
 named_sender s asked value k is named (Some (made.Own node step kind)) h = All-nil (IsNamedFor s asked)

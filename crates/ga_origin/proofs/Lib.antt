@@ -14,3 +14,4 @@ pub mod Dues
 pub mod Holding
 pub mod Resting
 pub mod Newest
+pub mod Decided

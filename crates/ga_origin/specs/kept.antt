@@ -4,3 +4,4 @@ pub mod Moving
 pub mod Open
 pub mod Searching
 pub mod Stores
+pub mod Tested

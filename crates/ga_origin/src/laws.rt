@@ -1,6 +1,6 @@
 //! Laws of the definitions, each the contract of a function that does nothing.
 
-ghost use Rattle.std.specs.Prelude.{◌≡◌, ℕ, List, [], ◌∷◌, Bool, true, All, Some};
+ghost use Rattle.std.specs.Prelude.{◌≡◌, ◌<◌, ℕ, List, [], ◌∷◌, Bool, true, All, Some};
 ghost use Rattle.ga_causal.specs.Dependence.{place_of};
 ghost use Rattle.ga_grid.specs.declared.node_id.NodeId.{NodeId};
 ghost use Rattle.ga_lab.specs.Machine.{State, causes_of};
@@ -10,7 +10,9 @@ ghost use Rattle.ga_origin.specs.declared.listing.Row.{Row};
 ghost use Rattle.ga_origin.specs.Origins.{value_at};
 ghost use Rattle.ga_origin.specs.Asked.{asked_of};
 ghost use Rattle.ga_origin.specs.Rows.{row_at, sources_of, IsToldIn, AreRows};
-ghost use Rattle.ga_origin.specs.Causes.{IsNamedFor};
+ghost use Rattle.ga_origin.specs.Causes.{IsCause, IsNamedFor};
+ghost use Rattle.ga_origin.specs.declared.deciding.Decision.{Decision};
+ghost use Rattle.ga_origin.specs.Deciding.{decided_at};
 
 /// Each step that is told is one on which the step asked for depends, so that `why` leads from it there. What else is told was
 /// loaded. The step asked for must be kept, as each of a node's is.
@@ -33,4 +35,15 @@ pub fn asked_steps_are_causes()
     ensures { (s : State) (node : NodeId) (step place : ℕ) (value : Value) (rows : List Row) (whole : Bool) →
         place_of (causes_of s) node.number step ≡ Some place → asked_of s node step ≡ Some value →
         AreRows s [] (row_at 0 value ∷ []) rows whole → All (λ (row : Row). IsNamedFor s (value_at node step top) row.value) rows }
+{}
+
+/// Each step that a value decided is a cause of every later step of its node, so that `why` leads from it there; and so is the step
+/// that made the value, but where that was loaded. The later step must be kept, as each of a node's is.
+pub fn deciding_steps_are_causes()
+    ensures step { (s : State) (node : NodeId) (step k place : ℕ) (decision : Decision) →
+        place_of (causes_of s) node.number step ≡ Some place → k < step → decided_at s node k ≡ Some decision →
+        IsCause s (value_at node decision.step top) (value_at node step top) }
+    ensures source { (s : State) (node : NodeId) (step k place : ℕ) (decision : Decision) →
+        place_of (causes_of s) node.number step ≡ Some place → k < step → decided_at s node k ≡ Some decision →
+        IsNamedFor s (value_at node step top) decision.source }
 {}

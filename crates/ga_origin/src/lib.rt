@@ -2,6 +2,7 @@
 #![tactic(auto)]
 
 mod asked;
+mod deciding;
 mod fetched;
 mod kept;
 mod known;
@@ -15,6 +16,7 @@ mod value;
 mod writes;
 
 pub use asked::{asked_behind, asked_of};
+pub use deciding::{Decision, Decisions};
 pub use fetched::fetched_near;
 pub use listing::{Listing, Row, whence, whence_near};
 pub use origin::origin_of;

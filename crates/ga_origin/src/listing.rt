@@ -1,6 +1,6 @@
 //! The steps whose values went into a value, as a tree.
 
-ghost use Rattle.std.specs.Prelude.{◌≡◌, ◌⊎◌, ◌↔◌, ◌<◌, ◌≤◌, ◌+◌, ◌-◌, ◌^◌, ◌++◌, ◌∷◌, [], false, Err, IfOk, IfErr, OnOk, All, length, map, reverse, option_to_list};
+ghost use Rattle.std.specs.Prelude.{◌≡◌, ◌⊎◌, ◌↔◌, ◌<◌, ◌≤◌, ◌+◌, ◌-◌, ◌^◌, ◌++◌, ◌∷◌, [], false, Err, IfOk, IfErr, IfSome, OnOk, All, length, map, reverse, option_to_list};
 ghost use Rattle.ga_event.specs.Told.{steps_of};
 ghost use Rattle.ga_lab.specs.Machine.{standing};
 ghost use Rattle.ga_flow.specs.Flow.{IsPart, Same};
@@ -44,8 +44,9 @@ fn is_named(rows: &[Row], value: Value) -> bool
 }
 
 // What a word came from that an event carried: T of the writer before.
-fn sender_in(made: Option<Made>) -> Option<Value>
-    ensures { result ≡ sender_in made }
+pub(crate) fn sender_in(made: Option<Made>) -> Option<Value>
+    ensures value { result ≡ sender_in made }
+    ensures part { IfSome result (λ value. IsPart value.part) }
 {
     match made {
         Some(

@@ -6,6 +6,8 @@
 #[cfg(test)]
 mod asserts;
 #[cfg(test)]
+mod because;
+#[cfg(test)]
 mod causal;
 #[cfg(test)]
 mod event;
