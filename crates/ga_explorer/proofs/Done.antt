@@ -13,12 +13,13 @@ use Rattle.ga_explorer.specs.Saved.{saved_text}
 use Rattle.ga_explorer.specs.Writing.{writes_text}
 use Rattle.ga_explorer.specs.Around.{around_text}
 use Rattle.ga_explorer.specs.Trees.{TellsWhence}
+use Rattle.ga_explorer.specs.Because.{because_text}
 use Rattle.ga_explorer.specs.Races.{TellsRaces}
 use Rattle.ga_notes.specs.declared.notes.Notes.{Notes}
 use Rattle.ga_explorer.specs.kept.Exploring.{exploring}
 use Rattle.ga_explorer.specs.Answers.{TellsEffects, TellsWho, Explored}
 use Rattle.ga_explorer.specs.declared.request.Request.{Request}
-use Rattle.ga_explorer.specs.declared.request.Request.TheVariants.{Run, Effects, Words, Writes, At, Whence, Races, Who, Chip, Save, Help}
+use Rattle.ga_explorer.specs.declared.request.Request.TheVariants.{Run, Effects, Words, Writes, At, Whence, Because, Races, Who, Chip, Save, Help}
 
 pub run_done : (s : State) (notes : Option Notes) (asked : Request) (schedule : Schedule) (most bound : ℕ) (until : Condition) (events : ℕ) (end : End) (new : State)
     → asked ≡ Run schedule most until → bound ≡ most → AreMade (running s schedule) events → events ≤ bound
@@ -57,6 +58,9 @@ at_done s notes asked node step around text e h = subst (λ z. Explored (explori
 
 pub whence_done : (s : State) (notes : Option Notes) (asked : Request) (node : NodeId) (step : ℕ) (text : List ℕ) → asked ≡ Whence node step → TellsWhence notes s node step text → Explored (exploring s notes) asked text (exploring s notes)
 whence_done s notes asked node step text e h = subst (λ z. Explored (exploring s notes) z text (exploring s notes)) (sym e) (h, refl)
+
+pub because_done : (s : State) (notes : Option Notes) (asked : Request) (node : NodeId) (step most : ℕ) (text : List ℕ) → asked ≡ Because node step most → text ≡ because_text notes s node step most → Explored (exploring s notes) asked text (exploring s notes)
+because_done s notes asked node step most text e h = subst (λ z. Explored (exploring s notes) z text (exploring s notes)) (sym e) (h, refl)
 
 pub who_done : (s : State) (notes : Option Notes) (asked : Request) (text : List ℕ) → asked ≡ Who → TellsWho s text → Explored (exploring s notes) asked text (exploring s notes)
 who_done s notes asked text e h = subst (λ z. Explored (exploring s notes) z text (exploring s notes)) (sym e) (h, refl)

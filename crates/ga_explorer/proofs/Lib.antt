@@ -10,6 +10,7 @@ pub mod Saving
 pub mod Fronts
 pub mod Writing
 pub mod Around
+pub mod Because
 pub mod Trees
 pub mod Rings
 pub mod Finding

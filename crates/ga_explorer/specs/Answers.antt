@@ -24,9 +24,10 @@ use Rattle.ga_explorer.specs.Saved.{saved_text}
 use Rattle.ga_explorer.specs.Writing.{writes_text}
 use Rattle.ga_explorer.specs.Around.{around_text}
 use Rattle.ga_explorer.specs.Trees.{TellsWhence}
+use Rattle.ga_explorer.specs.Because.{because_text}
 use Rattle.ga_explorer.specs.Races.{TellsRaces}
 use Rattle.ga_explorer.specs.declared.request.Request.{Request}
-use Rattle.ga_explorer.specs.declared.request.Request.TheVariants.{Run, Effects, Words, Writes, At, Whence, Races, Who, Chip, Save, Help}
+use Rattle.ga_explorer.specs.declared.request.Request.TheVariants.{Run, Effects, Words, Writes, At, Whence, Because, Races, Who, Chip, Save, Help}
 
 -- Events were made in the order of the schedule, at most so many, up to the first after which the condition holds: the text says
 -- how many and why no more, and the machine is the one after them.
@@ -60,6 +61,7 @@ Explored e (Words from to) answer new = (answer ≡ words_text e.lab from to) ×
 Explored e (Writes node address) answer new = (answer ≡ writes_text e.lab node address) × (new ≡ e)
 Explored e (At node step around) answer new = (answer ≡ around_text e.notes e.lab node step around) × (new ≡ e)
 Explored e (Whence node step) answer new = TellsWhence e.notes e.lab node step answer × (new ≡ e)
+Explored e (Because node step most) answer new = (answer ≡ because_text e.notes e.lab node step most) × (new ≡ e)
 Explored e (Races only) answer new = TellsRaces e.lab only answer × (new ≡ e)
 Explored e Who answer new = TellsWho e.lab answer × (new ≡ e)
 Explored e Chip answer new = (answer ≡ chip_text e.lab) × (new ≡ e)

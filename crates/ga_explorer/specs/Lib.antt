@@ -5,6 +5,7 @@ pub mod Writing
 pub mod Tails
 pub mod Around
 pub mod Trees
+pub mod Because
 pub mod Waiting
 pub mod Saved
 pub mod Races

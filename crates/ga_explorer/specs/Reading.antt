@@ -14,7 +14,7 @@ use Rattle.ga_search.specs.declared.condition.Condition.TheVariants.{Never, Pass
 use Rattle.ga_notes.specs.declared.notes.Notes.{Notes}
 use Rattle.ga_notes.specs.Notes.{address_of}
 use Rattle.ga_explorer.specs.declared.request.Request.{Request}
-use Rattle.ga_explorer.specs.declared.request.Request.TheVariants.{Run, Effects, Words, Writes, At, Whence, Races, Who, Chip, Save, Help}
+use Rattle.ga_explorer.specs.declared.request.Request.TheVariants.{Run, Effects, Words, Writes, At, Whence, Because, Races, Who, Chip, Save, Help}
 
 -- how many events are made at most where no number is given
 abbrev pub most_events : ℕ
@@ -175,7 +175,7 @@ run_by notes (Some parts) text = named_order notes parts.0 parts.1 text
 abbrev pub run_in : Option Notes → Line → Option Request
 run_in notes text = run_by notes (cut text) text
 
--- ---- `effects`, `words`, `writes`, `at` and `whence`
+-- ---- `effects`, `words`, `writes`, `at`, `whence`, `because` and `races`
 
 -- `NNN K`
 unfoldable pub effects_in : Line → Option Request
@@ -201,7 +201,7 @@ writes_in text = do
   address ← byte_in parts.1
   Some (Writes node address)
 
--- how many steps `at` tells before and behind one where no number is given, and how many at most
+-- how many steps `at` tells before and behind one, and `because` before one, where no number is given, and how many at most
 abbrev pub few_steps : ℕ
 few_steps = 3
 
@@ -237,6 +237,27 @@ whence_in text = do
   step ← number_in parts.1
   Some (Whence node step)
 
+abbrev pub decided_upto : NodeId → ℕ → ℕ → Option Request
+decided_upto node step most = if nat_le most most_steps then Some (Because node step most) else None
+
+-- `K` or `K N` behind a node
+abbrev pub decided_cut : NodeId → Option (Line × Line) → Line → Option Request
+decided_cut node None text = option_map (λ step. Because node step few_steps) (number_in text)
+decided_cut node (Some parts) text = do
+  step ← number_in parts.0
+  most ← number_in parts.1
+  decided_upto node step most
+
+abbrev pub decided_in : NodeId → Line → Option Request
+decided_in node text = decided_cut node (cut text) text
+
+-- `NNN K` or `NNN K N`
+unfoldable pub because_in : Line → Option Request
+because_in text = do
+  parts ← cut text
+  node ← node_in parts.0
+  decided_in node parts.1
+
 -- `NNN`
 unfoldable pub races_in : Line → Option Request
 races_in text = do
@@ -265,6 +286,7 @@ named_request notes name text =
     else if pointwise nat_eq name (codes "writes") then writes_in text
     else if pointwise nat_eq name (codes "at") then at_in text
     else if pointwise nat_eq name (codes "whence") then whence_in text
+    else if pointwise nat_eq name (codes "because") then because_in text
     else if pointwise nat_eq name (codes "races") then races_in text
     else None
 

@@ -8,6 +8,7 @@ ghost use Rattle.ga_explorer.specs.Answers.{Explored, AnswersOther, IsOfDebugger
 ghost use Rattle.ga_console.specs.kept.Turns.{Turns};
 
 use crate::at_text::say_around;
+use crate::because_text::say_because;
 use crate::chip_text::glance;
 use crate::effects_text::say_effects;
 use crate::forms::{say_help, say_no_command};
@@ -173,6 +174,9 @@ fn explored<W: Write>(
             lab, notes, node, step, around, output, writer,
         ),
         Request::Whence { node, step } => say_whence(alloc, lab, notes, node, step, output, writer),
+        Request::Because { node, step, most } => say_because(
+            lab, notes, node, step, most, output, writer,
+        ),
         Request::Races { only } => say_races(alloc, lab, only, output, writer),
         Request::Who => say_who(lab, output, writer),
         Request::Chip => output.say_blocks(writer, glance(lab).as_slice()),

@@ -21,7 +21,7 @@ struct Row {
 }
 
 /// The commands, in the order of `help`.
-static ROWS: [Row; 21] = [
+static ROWS: [Row; 22] = [
     Row {
         name: b"run",
         form: b"run [greedy|random SEED] [N] [until COND]",
@@ -61,6 +61,11 @@ static ROWS: [Row; 21] = [
         name: b"whence",
         form: b"whence NNN K",
         does: b"          the steps whose values went into what step K of NNN made\n",
+    },
+    Row {
+        name: b"because",
+        form: b"because NNN K [N]",
+        does: b"     N steps before step K at which a value decided where NNN went on\n",
     },
     Row {
         name: b"races",

@@ -2,6 +2,7 @@
 #![tactic(auto)]
 
 mod at_text;
+mod because_text;
 mod beginning;
 mod chip_text;
 mod condition_request;

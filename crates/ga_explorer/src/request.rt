@@ -1,7 +1,7 @@
 //! The commands of exploring, as lines spell them.
 
 ghost use Rattle.std.specs.Prelude.{◌≡◌};
-ghost use Rattle.ga_explorer.specs.Reading.{request_in, lone_request, named_request, effects_in, words_in, writes_in, at_in, around_in, whence_in, races_in};
+ghost use Rattle.ga_explorer.specs.Reading.{request_in, lone_request, named_request, effects_in, words_in, writes_in, at_in, around_in, whence_in, because_in, decided_in, races_in};
 
 use crate::run_request::run_of;
 use ga_console::{cut, node_of, number_of};
@@ -13,7 +13,7 @@ use ga_search::{Condition, Schedule};
 /// How many events are made at most where no number is given.
 pub(crate) const MOST_EVENTS: u32 = u32::MAX;
 
-/// How many steps `at` tells before and behind one where no number is given, and how many at most.
+/// How many steps `at` tells before and behind one, and `because` before one, where no number is given, and how many at most.
 const FEW_STEPS: u32 = 3;
 
 const MOST_STEPS: u32 = 99;
@@ -52,6 +52,12 @@ pub enum Request {
     Whence {
         node: NodeId,
         step: u32,
+    },
+    /// `because`: tells the last steps of a node before one, at most so many, at which a value decided where it went on.
+    Because {
+        node: NodeId,
+        step: u32,
+        most: u32,
     },
     /// `races`: tells the steps that could have come out otherwise, of one node or of all.
     Races {
@@ -114,6 +120,8 @@ fn named_request(notes: &Option<Notes>, name: &[u8], arguments: &[u8]) -> Option
         at_of(arguments)
     } else if name == b"whence".as_slice() {
         whence_of(arguments)
+    } else if name == b"because".as_slice() {
+        because_of(arguments)
     } else if name == b"races".as_slice() {
         races_of(arguments)
     } else {
@@ -198,6 +206,37 @@ fn whence_of(text: &[u8]) -> Option<Request>
         node: node_of(node)?,
         step: number_of(step)?,
     })
+}
+
+/// `NNN K` or `NNN K N`
+#[tactic(auto, unfolding(crate::specs::Reading::because_in))]
+fn because_of(text: &[u8]) -> Option<Request>
+    ensures { result ≡ because_in text.now }
+{
+    let (node, rest) = cut(text)?;
+    decided_of(node_of(node)?, rest)
+}
+
+/// `K` or `K N` behind a node
+fn decided_of(node: NodeId, text: &[u8]) -> Option<Request>
+    ensures { result ≡ decided_in node text.now }
+{
+    match cut(text) {
+        Some((step, most)) => {
+            let step = number_of(step)?;
+            let most = number_of(most)?;
+            if most <= MOST_STEPS {
+                Some(Request::Because { node, step, most })
+            } else {
+                None
+            }
+        }
+        None => Some(Request::Because {
+            node,
+            step: number_of(text)?,
+            most: FEW_STEPS,
+        }),
+    }
 }
 
 /// `NNN`

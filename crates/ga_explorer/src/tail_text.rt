@@ -71,7 +71,10 @@ fn say_tail<W: Write>(
 }
 
 /// Ends a line that tells of a step, by where a walk of some node stands.
-fn say_step_tail<W: Write>(
+///
+/// # Errors
+/// A write failed.
+pub(crate) fn say_step_tail<W: Write>(
     lab: &Lab,
     notes: &Option<Notes>,
     near: &Walk<'_>,

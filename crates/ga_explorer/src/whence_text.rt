@@ -159,7 +159,7 @@ fn say_lines<W: Write>(
 }
 
 /// Says the line of a row.
-fn say_row<W: Write>(
+pub(crate) fn say_row<W: Write>(
     lab: &Lab,
     notes: &Option<Notes>,
     near: &Walk<'_>,

@@ -190,6 +190,11 @@ pub(crate) static EXPLORED: [Explored; 9] = [
         )],
     },
     Explored {
+        asks: "because 001 5",
+        answer: "",
+        refusals: &[],
+    },
+    Explored {
         asks: "races",
         answer: "races 0\nno other order, as long as no node makes more steps\n",
         refusals: &[(

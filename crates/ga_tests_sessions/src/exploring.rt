@@ -37,8 +37,9 @@ fn without_cures(alloc: Global, said: &[u8]) -> Result<Vec<u8>, AllocError> {
 }
 
 /// Lines that are no command, and what to write in their place.
-static CURES: [(&[u8], &[u8]); 18] = [
+static CURES: [(&[u8], &[u8]); 19] = [
     (b"at 003", b"at NNN K [N]"),
+    (b"becuase 003 1", b"because NNN K [N]"),
     (b"words 2 3", b"words NNN MMM"),
     (b"node 2", b"node NNN"),
     (
@@ -111,7 +112,7 @@ fn says(rt: &impl Abort, alloc: Global, commands: &[u8], said: &[u8]) -> Result<
     Ok(())
 }
 
-static COMMANDS: [&str; 19] = [
+static COMMANDS: [&str; 20] = [
     "run",
     "run 5",
     "run greedy 5",
@@ -125,6 +126,7 @@ static COMMANDS: [&str; 19] = [
     "effects 000 1",
     "words 000 001",
     "whence 000 1",
+    "because 000 1",
     "races",
     "races 000",
     "who",

@@ -1,6 +1,6 @@
 use Rattle.std.proofs.Common.{◌∙◌}
 use Rattle.ga_explorer.specs.Texts.{run_text, chip_text}
-use Rattle.ga_explorer.proofs.Done.{run_done, effects_done, words_done, writes_done, at_done, whence_done, races_done, who_done, save_done, chip_done, help_done}
+use Rattle.ga_explorer.proofs.Done.{run_done, effects_done, words_done, writes_done, at_done, whence_done, because_done, races_done, who_done, save_done, chip_done, help_done}
 use Rattle.ga_explorer.proofs.Told.{told_as}
 use Rattle.ga_explorer.proofs.explorer.explored.Goals as goal
 
@@ -41,6 +41,11 @@ pub returns-in-Whence : goal.returns-in-Whence
 returns-in-Whence g c = λ before said h.
     let done = c.say_whence.ensures before said h in
     (done.0, whence_done c.args.lab.now c.args.notes.now c.args.asked c.in-Whence.node c.in-Whence.step done.0 c.in-Whence.is done.1, done.2)
+
+pub returns-in-Because : goal.returns-in-Because
+returns-in-Because g c = λ before said h.
+    let done = c.say_because.ensures before said h in
+    (done.0, because_done c.args.lab.now c.args.notes.now c.args.asked c.in-Because.node c.in-Because.step c.in-Because.most done.0 c.in-Because.is done.1, done.2)
 
 pub returns-in-Races : goal.returns-in-Races
 returns-in-Races g c = λ before said h.
