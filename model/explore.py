@@ -6,7 +6,7 @@ from listing import NAMES
 from machine import Machine, NODES, name
 from node import SIDES, neighbour, target_of
 from notes import Notes
-from whence import LOADED, asked_of, rows_of
+from whence import LOADED, asked_of, rows_of, tested_by
 
 NODE, W, HH = "[0-7](?:0[0-9]|1[0-7])", "0[0-3][0-9a-fA-F]{4}", "[0-9a-fA-F]{2}"
 NUMBER = "(?:0|[1-9][0-9]{0,9})"
@@ -17,7 +17,7 @@ CONDITION = (
 )
 RUN = re.compile(rf"run(?: (greedy|random ({NUMBER})))?(?: ({NUMBER}))?(?: until ({CONDITION}))?")
 RACES = re.compile(rf"races(?: ({NODE}))?")
-ASKED = re.compile(rf"(effects|whence) ({NODE}) ({NUMBER})|(words) ({NODE}) ({NODE})|(writes) ({NODE}) ({HH})|(at) ({NODE}) ({NUMBER})(?: ([1-9]?[0-9]))?")
+ASKED = re.compile(rf"(effects|whence) ({NODE}) ({NUMBER})|(words) ({NODE}) ({NODE})|(writes) ({NODE}) ({HH})|(at|because) ({NODE}) ({NUMBER})(?: ([1-9]?[0-9]))?")
 HELP = """\
 run [greedy|random SEED] [N] [until COND]
                       make up to N events, in rounds or in this order
@@ -30,6 +30,7 @@ words NNN MMM         the words that went from NNN to MMM
 writes NNN HH         the steps that wrote the cell HH of NNN, the newest first
 at NNN K [N]          N steps before and behind step K of NNN, with registers
 whence NNN K          the steps whose values went into what step K of NNN made
+because NNN K [N]     N steps before step K at which a value decided where NNN went on
 races [NNN]           steps that could have come out otherwise, and how
 save                  the kept events as lines of debug
 help                  these lines
@@ -114,8 +115,8 @@ class Explorer(Machine):
             node = number_of(words[1])
             if words[0] == "writes":
                 return "\n".join(reversed(self.writes(node, int(words[2], 16))))
-            if words[0] == "at":
-                return self.at(node, int(words[2]), int(words[3]) if len(words) > 3 else 3)
+            if words[0] in ("at", "because"):
+                return (self.at if words[0] == "at" else self.because)(node, int(words[2]), int(words[3]) if len(words) > 3 else 3)
             if words[0] == "words":
                 return self.words(node, number_of(words[2]))
             return (self.effects if words[0] == "effects" else self.whence)(node, int(words[2]))
@@ -290,15 +291,45 @@ class Explorer(Machine):
             last = ["every order ends on this chip" if ended else "no other order, as long as no node makes more steps"]
         return "\n".join([f"races {len(lines)}"] + lines + last)
 
-    def whence(self, node, step):
-        if not 1 <= step <= self.steps[node]:
-            return "no 6 nostep"
+    def followed(self):
+        """The events with what is told of each and its nodes before it; and of each step of a node what it did."""
         again, passed, deeds = Explorer(self.load, self.limit), [], {}
         for event in self.events:
             before = [again.chip[it].copy() for it in event]
             again.apply(event)
             passed.append((event, again.told[-1], before))
             deeds.update({(it, again.steps[it]): self.deed(it, again.told[-1]) for it in event})
+        return passed, deeds
+
+    def made_line(self, tag, deeds, tails):
+        """The step that made a word, by its tag, or that it was loaded."""
+        node, number, part = tag
+        mark = f" {part}" if part in LOADED + ("r",) and part != "i" else ""
+        told = f"{number} {deeds[node, number]}{mark}{tails[node, number]}" if number else f"load {part}{self.notes.tail(node, cell_of(part))}"
+        return f"{name(node)} {told}"
+
+    def because(self, node, step, most):
+        if not 1 <= step <= self.steps[node]:
+            return "no 6 nostep"
+        passed, deeds = self.followed()
+        asked, made = asked_of(passed, NODES)
+        tails, lines = self.tails(passed), []
+        own = [(told, before[event.index(node)], event[-1] == node) for event, told, before in passed if node in event]
+        came = {at for at, (told, before, taken) in enumerate(own, 1) if told[0] == "p" and taken and before.wait[0] == "fetch"}
+        for number in range(1, step):
+            told, before, _ = own[number - 1]
+            tested = asked[node, number] and tested_by(told, before, asked[node, number], made, came)
+            if tested:
+                tag, register, word = tested
+                mark = f" {register} {word:06x}" if register else ""
+                head = f"{name(node)} {number} {deeds[node, number]}{mark}{tails[node, number]}"
+                lines.append(f"{head}\n  {self.made_line(tag, deeds, tails)}")
+        return "\n".join(reversed(lines[-most:] if most else []))
+
+    def whence(self, node, step):
+        if not 1 <= step <= self.steps[node]:
+            return "no 6 nostep"
+        passed, deeds = self.followed()
         asked, made = asked_of(passed, NODES)
         tails = self.tails(passed)
         first = asked[node, step]
@@ -308,10 +339,7 @@ class Explorer(Machine):
         rows, whole = rows_of(first, made)
         deeper = first[:2] != (node, step)
         lines = [head] if deeper else []
-        for (it, number, part), depth in rows.items():
-            mark = f" {part}" if part in LOADED + ("r",) and part != "i" else ""
-            told = f"{number} {deeds[it, number]}{mark}{tails[it, number]}" if number else f"load {part}{self.notes.tail(it, cell_of(part))}"
-            lines.append("  " * (depth + deeper) + f"{name(it)} {told}")
+        lines += ["  " * (depth + deeper) + self.made_line(tag, deeds, tails) for tag, depth in rows.items()]
         return "\n".join(lines + ([] if whole else ["more"]))
 
     def does(self, node):

@@ -19,9 +19,9 @@ from sessions import DEFAULT_LIMIT, SECONDS, Generator
 from source import asm
 
 # How often each command comes, of 1000. The others are those of the debugger.
-COMMANDS = {"run": 250, "whence": 230, "at": 130, "races": 40, "writes": 70, "words": 60, "effects": 50, "who": 30, "chip": 20, "save": 10, "help": 2, "wrong": 28, "debug": 80}
+COMMANDS = {"run": 250, "whence": 180, "because": 100, "at": 80, "races": 40, "writes": 70, "words": 60, "effects": 50, "who": 30, "chip": 20, "save": 10, "help": 2, "wrong": 28, "debug": 80}
 WORDS = "dup drop over + and or @ ! @b !b a! pop push 2* 2/ - +* @+ !+ a . 1 5 0x20 0x15555 0x3ffff right left down up".split()
-CALLS = ["x", "'y a!", "'y b!", "0x22 a! !", "0x84 a! @", "io b!", "for x next", "for +* unext", "if dup then", "-if a else over then", "begin dup -until", "+cy + -cy"]
+CALLS = ["x", "'y a!", "'y b!", "0x22 a! !", "0x84 a! @", "io b!", "for x next", "1 for x next", "for +* unext", "2 for . unext", "if dup then", "0 if dup then", "'y push ex", "-if a else over then", "begin dup -until", "+cy + -cy"]
 PARTS = ["\\ a remark", "( and ) ", "  ", "\t", ".."]
 
 
@@ -47,6 +47,20 @@ def rivals_of(draw):
     return "".join(f"{line}\n" for line in lines)
 
 
+def code_of(draw):
+    """An instruction word: a jump or a call in its first slot, or any two opcodes, of which the second may go somewhere."""
+    if draw.random() < 0.5:
+        return (draw.choice((2, 3)) << 13 ^ 0x15555) & ~0x3FF | draw.choice((0, 1, 2, 0x1D5))
+    return ((draw.randrange(32) << 13 | draw.choice((2, 3, 6, draw.randrange(32))) << 8) ^ 0x15555) & ~0xFF | draw.randrange(3)
+
+
+def coders_of(draw):
+    """A source of a node that carries out the instruction words which a neighbour writes to it, and has words to which these go."""
+    codes = " ".join(f"0x{code_of(draw):x} !b" for _ in range(draw.randint(2, 5)))
+    own = " ".join(some(draw, draw.randint(1, 3), WORDS))
+    return f"node 000 /b right : main {codes} {draw.choice(('main ;', ''))}\nnode 001 /p right : x {own} ; : y push {draw.choice((';', 'ex', 'x ;'))}\n"
+
+
 def some(draw, count, words=None):
     return [draw.choice(words or (WORDS + CALLS if draw.random() < 0.7 else ["right b! @b", "left b! !b", "@b", "!b", "dup !b", "0x1a5 b! @b", "0x1b5 b! @b drop @b"])) for _ in range(count)]
 
@@ -60,7 +74,7 @@ class Session:
         self.machine = Explorer(self.base.load, self.limit)
         self.source = None
         if number % 2:
-            self.begin_with_source(rivals_of(draw) if number % 10 == 9 else source_of(draw))
+            self.begin_with_source({7: coders_of, 9: rivals_of}.get(number % 10, source_of)(draw))
 
     def begin_with_source(self, source):
         image, told, status = asm(source)
@@ -133,8 +147,8 @@ class Session:
         chosen = self.random.choices(list(COMMANDS), list(COMMANDS.values()))[0]
         if chosen == "run":
             return self.run()
-        if chosen == "at":
-            return f"at {name(node)} {self.step(node)}" + self.random.choice(("", f" {number(4)}", f" {number(100)}"))
+        if chosen in ("at", "because"):
+            return f"{chosen} {name(node)} {self.step(node)}" + self.random.choice(("", f" {number(4)}", f" {number(100)}"))
         return {
             "whence": f"whence {name(node)} {self.step(node)}",
             "effects": f"effects {name(node)} {self.step(node)}",
@@ -146,7 +160,7 @@ class Session:
     def wrong(self):
         """A line that is a command but for one thing, mostly in its first word."""
         draw, node = self.random, name(self.node())
-        line = draw.choice((self.run(), f"whence {node} 1", f"at {node} 1", f"words {node} 001", f"writes {node} 0a", "who", "chip", "count", f"trace {node}", f"why {node} 1 {node} 2"))
+        line = draw.choice((self.run(), f"whence {node} 1", f"because {node} 1", f"at {node} 1", f"words {node} 001", f"writes {node} 0a", "who", "chip", "count", f"trace {node}", f"why {node} 1 {node} 2"))
         at = draw.randrange(len(line.split(" ")[0] if draw.random() < 0.7 else line))
         letter = draw.choice("abcdehimnoprstuw 0")
         return draw.choice((

@@ -7,6 +7,8 @@ the tags from which each was made.
 from node import pop, push, target_of
 
 MOST = 100
+# the register by which each of the first opcodes decides where its node goes on; a jump and a call only by a word that came over a port
+TESTED = ("r", "r", "i", "i", "r", "r", "t", "t")
 LOADED = ("a", "b", "p", "i", "io", "carry", "slot", "wait", "stop")
 
 
@@ -155,6 +157,20 @@ def asked_of(passed, nodes):
             word = asked[event[0], it.step] = it.send()
             asked[event[1], other.step] = other.take(before[1].wait, word)
     return asked, made
+
+
+def tested_by(told, before, asked, made, came):
+    """The tag by which a step of a node was decided, and the register and the word that it tested; of an instruction word that came over
+    a port the tag alone. None where no value decided it. `asked` is the tag for which the step asks, and `came` has the node's steps by
+    which an instruction word came over a port."""
+    words = told.split(" ")
+    if words[0] == "pass":
+        return (made[asked][0], "", None) if asked[1] in came and asked[2] == "i" else None
+    code = int(words[3], 16) if words[2] == "run" else 32
+    if code > 7 or code in (2, 3) and asked[1] not in came:
+        return None
+    held = {"r": before.r[0], "i": before.i, "t": before.d[0]}
+    return made[asked][0] if code < 2 else asked, TESTED[code], held[TESTED[code]]
 
 
 def rows_of(first, made):

@@ -14,9 +14,9 @@ import tempfile
 from concurrent.futures import ThreadPoolExecutor
 
 NODE, MACHINE, WORDS, SOURCE, LISTING = "node.py", "machine.py", "words.py", "source.py", "listing.py"
-EXPLORE, NOTES, PICTURES = "explore.py", "notes.py", "pictures.py"
+EXPLORE, WHENCE, NOTES, PICTURES = "explore.py", "whence.py", "notes.py", "pictures.py"
 # Which generator tells a wrong definition in a file; the others `sessions`.
-GENERATORS = {WORDS: "sources", SOURCE: "sources", LISTING: "sources", EXPLORE: "exploring", NOTES: "exploring", PICTURES: "pictures"}
+GENERATORS = {WORDS: "sources", SOURCE: "sources", LISTING: "sources", EXPLORE: "exploring", WHENCE: "exploring", NOTES: "exploring", PICTURES: "pictures"}
 WRONG = (
     # the grid
     (NODE, '(column % 2 == 0) == (side == "r")', '(column % 2 == 0) == (side == "l")'),
@@ -292,7 +292,22 @@ WRONG = (
     (EXPLORE, "elif only is None and not lines:", "elif only is None:"),
     (EXPLORE, "ended = all(self.next(node) is None for node in range(NODES))", "ended = all(self.chip[node].wait for node in range(NODES))"),
     (EXPLORE, "cells[node] = target_of(held.p)", "cells[node] = target_of(held.p + 1)"),
-    (EXPLORE, "load {part}{self.notes.tail(it, cell_of(part))}", "load {part}"),
+    (EXPLORE, "load {part}{self.notes.tail(node, cell_of(part))}", "load {part}"),
+    # what decided
+    (EXPLORE, "for number in range(1, step):", "for number in range(1, step + 1):"),
+    (EXPLORE, 'taken and before.wait[0] == "fetch"}', 'taken and before.wait[0] == "read"}'),
+    (EXPLORE, "reversed(lines[-most:] if most else [])", "lines[-most:] if most else []"),
+    (EXPLORE, "reversed(lines[-most:] if most else [])", "reversed(lines[:most])"),
+    (EXPLORE, "reversed(lines[-most:] if most else [])", "reversed(lines[-most:])"),
+    (EXPLORE, 'mark = f" {register} {word:06x}" if register else ""', 'mark = f" {register} {word:06x}" if word else ""'),
+    (WHENCE, '("r", "r", "i", "i", "r", "r", "t", "t")', '("r", "t", "i", "i", "r", "r", "t", "t")'),
+    (WHENCE, '("r", "r", "i", "i", "r", "r", "t", "t")', '("r", "r", "i", "i", "r", "r", "t", "r")'),
+    (WHENCE, "if code > 7 or code in (2, 3) and asked[1] not in came:", "if code > 7 or code in (2, 3):"),
+    (WHENCE, "if code > 7 or code in (2, 3) and asked[1] not in came:", "if code > 7:"),
+    (WHENCE, "if code > 7 or code in (2, 3) and asked[1] not in came:", "if code > 6 or code in (2, 3) and asked[1] not in came:"),
+    (WHENCE, "return made[asked][0] if code < 2 else asked,", "return made[asked][0] if code < 1 else asked,"),
+    (WHENCE, 'return (made[asked][0], "", None) if', 'return (asked, "", None) if'),
+    (WHENCE, 'if asked[1] in came and asked[2] == "i" else None', "if asked[1] in came else None"),
     (NOTES, "place[0] == cell[0] and place[1] <= cell[1]", "place[0] == cell[0] and place[1] < cell[1]"),
     (NOTES, "if place == max(before)[0]][-1:]", "if place == min(before)[0]][-1:]"),
     (NOTES, "[line for line, _ in cell.literals]", "[cell.slots[0][0] for _ in cell.literals]"),
