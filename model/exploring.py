@@ -58,7 +58,8 @@ def coders_of(draw):
     """A source of a node that carries out the instruction words which a neighbour writes to it, and has words to which these go."""
     codes = " ".join(f"0x{code_of(draw):x} !b" for _ in range(draw.randint(2, 5)))
     own = " ".join(some(draw, draw.randint(1, 3), WORDS))
-    return f"node 000 /b right : main {codes} {draw.choice(('main ;', ''))}\nnode 001 /p right : x {own} ; : y push {draw.choice((';', 'ex', 'x ;'))}\n"
+    codes = draw.choice(("", "'z push ex ")) + codes
+    return f"node 000 /b right : main {codes} {draw.choice(('main ;', ''))} : z ;\nnode 001 /p right : x {own} ; : y push {draw.choice((';', 'ex', 'x ;'))}\n"
 
 
 def some(draw, count, words=None):

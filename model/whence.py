@@ -165,7 +165,7 @@ def tested_by(told, before, asked, made, came):
     which an instruction word came over a port."""
     words = told.split(" ")
     if words[0] == "pass":
-        return (made[asked][0], "", None) if asked[1] in came and asked[2] == "i" else None
+        return (made[asked][0], "", None) if asked[1] in came else None
     code = int(words[3], 16) if words[2] == "run" else 32
     if code > 7 or code in (2, 3) and asked[1] not in came:
         return None

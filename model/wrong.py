@@ -307,7 +307,6 @@ WRONG = (
     (WHENCE, "if code > 7 or code in (2, 3) and asked[1] not in came:", "if code > 6 or code in (2, 3) and asked[1] not in came:"),
     (WHENCE, "return made[asked][0] if code < 2 else asked,", "return made[asked][0] if code < 1 else asked,"),
     (WHENCE, 'return (made[asked][0], "", None) if', 'return (asked, "", None) if'),
-    (WHENCE, 'if asked[1] in came and asked[2] == "i" else None', "if asked[1] in came else None"),
     (NOTES, "place[0] == cell[0] and place[1] <= cell[1]", "place[0] == cell[0] and place[1] < cell[1]"),
     (NOTES, "if place == max(before)[0]][-1:]", "if place == min(before)[0]][-1:]"),
     (NOTES, "[line for line, _ in cell.literals]", "[cell.slots[0][0] for _ in cell.literals]"),
