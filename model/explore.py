@@ -10,6 +10,7 @@ from whence import LOADED, asked_of, rows_of, tested_by
 
 NODE, W, HH = "[0-7](?:0[0-9]|1[0-7])", "0[0-3][0-9a-fA-F]{4}", "[0-9a-fA-F]{2}"
 NUMBER = "(?:0|[1-9][0-9]{0,9})"
+STEP = f"(?:{NUMBER}|last)"
 MOST = (1 << 32) - 1
 STORES = {"0c": ("!p", "p"), "0d": ("!+", "a"), "0e": ("!b", "b"), "0f": ("!", "a")}
 CONDITION = (
@@ -17,7 +18,7 @@ CONDITION = (
 )
 RUN = re.compile(rf"run(?: (greedy|random ({NUMBER})))?(?: ({NUMBER}))?(?: until ({CONDITION}))?")
 RACES = re.compile(rf"races(?: ({NODE}))?")
-ASKED = re.compile(rf"(effects|whence) ({NODE}) ({NUMBER})|(words) ({NODE}) ({NODE})|(writes) ({NODE}) ({HH})|(at|because) ({NODE}) ({NUMBER})(?: ([1-9]?[0-9]))?")
+ASKED = re.compile(rf"(effects|whence) ({NODE}) ({STEP})|(words) ({NODE}) ({NODE})|(writes) ({NODE}) ({HH})|(at|because) ({NODE}) ({STEP})(?: ([1-9]?[0-9]))?")
 HELP = """\
 run [greedy|random SEED] [N] [until COND]
                       make up to N events, in rounds or in this order
@@ -31,6 +32,7 @@ writes NNN HH         the steps that wrote the cell HH of NNN, the newest first
 at NNN K [N]          N steps before and behind step K of NNN, with registers
 whence NNN K          the steps whose values went into what step K of NNN made
 because NNN K [N]     N steps before step K at which a value decided where NNN went on
+K of effects, at, whence and because: a step's number, or last
 races [NNN]           steps that could have come out otherwise, and how
 save                  the kept events as lines of debug
 help                  these lines
@@ -115,11 +117,12 @@ class Explorer(Machine):
             node = number_of(words[1])
             if words[0] == "writes":
                 return "\n".join(reversed(self.writes(node, int(words[2], 16))))
-            if words[0] in ("at", "because"):
-                return (self.at if words[0] == "at" else self.because)(node, int(words[2]), int(words[3]) if len(words) > 3 else 3)
             if words[0] == "words":
                 return self.words(node, number_of(words[2]))
-            return (self.effects if words[0] == "effects" else self.whence)(node, int(words[2]))
+            step = self.steps[node] if words[2] == "last" else int(words[2])
+            if words[0] in ("at", "because"):
+                return (self.at if words[0] == "at" else self.because)(node, step, int(words[3]) if len(words) > 3 else 3)
+            return (self.effects if words[0] == "effects" else self.whence)(node, step)
         races = RACES.fullmatch(line)
         if races:
             return self.races(races[1] and number_of(races[1]))

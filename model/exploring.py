@@ -93,6 +93,8 @@ class Session:
         return self.random.choice(made if made and self.random.random() < 0.9 else self.base.nodes)
 
     def step(self, node):
+        if self.random.random() < 0.1:
+            return "last"
         return self.random.randint(0 if self.random.random() < 0.1 else 1, max(self.machine.steps[node] + (self.random.random() < 0.1), 1))
 
     def word(self):

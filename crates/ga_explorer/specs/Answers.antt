@@ -15,6 +15,7 @@ use Rattle.ga_console.specs.Texts.{refusal_text}
 use Rattle.ga_console.specs.Replies.{Answer}
 use Rattle.ga_console.specs.Commands.{SpellsCommand}
 use Rattle.ga_console.specs.declared.command.Command.{Command}
+use Rattle.ga_explorer.specs.Which.{step_meant}
 use Rattle.ga_explorer.specs.Reading.{request_in}
 use Rattle.ga_explorer.specs.Tails.{Exploring}
 use Rattle.ga_explorer.specs.Texts.{run_text, effects_answer, words_text, chip_text}
@@ -56,12 +57,12 @@ pub record TellsWho (s : State) (answer : Text) : Type 0 where
 -- what is answered to a command of exploring, and what is explored then
 abbrev pub Explored : Exploring → Request → Text → Exploring → Type 0
 Explored e (Run schedule most until) answer new = IsRun e.lab schedule most until answer new.lab × (new.notes ≡ e.notes)
-Explored e (Effects node step) answer new = TellsEffects e.lab node step answer × (new ≡ e)
+Explored e (Effects node which) answer new = TellsEffects e.lab node (step_meant e.lab node which) answer × (new ≡ e)
 Explored e (Words from to) answer new = (answer ≡ words_text e.lab from to) × (new ≡ e)
 Explored e (Writes node address) answer new = (answer ≡ writes_text e.lab node address) × (new ≡ e)
-Explored e (At node step around) answer new = (answer ≡ around_text e.notes e.lab node step around) × (new ≡ e)
-Explored e (Whence node step) answer new = TellsWhence e.notes e.lab node step answer × (new ≡ e)
-Explored e (Because node step most) answer new = (answer ≡ because_text e.notes e.lab node step most) × (new ≡ e)
+Explored e (At node which around) answer new = (answer ≡ around_text e.notes e.lab node (step_meant e.lab node which) around) × (new ≡ e)
+Explored e (Whence node which) answer new = TellsWhence e.notes e.lab node (step_meant e.lab node which) answer × (new ≡ e)
+Explored e (Because node which most) answer new = (answer ≡ because_text e.notes e.lab node (step_meant e.lab node which) most) × (new ≡ e)
 Explored e (Races only) answer new = TellsRaces e.lab only answer × (new ≡ e)
 Explored e Who answer new = TellsWho e.lab answer × (new ≡ e)
 Explored e Chip answer new = (answer ≡ chip_text e.lab) × (new ≡ e)

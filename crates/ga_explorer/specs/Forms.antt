@@ -26,7 +26,7 @@ rows =
     ∷ entry (codes "writes") (codes "writes NNN HH") (codes "         the steps that wrote the cell HH of NNN, the newest first\n")
     ∷ entry (codes "at") (codes "at NNN K [N]") (codes "          N steps before and behind step K of NNN, with registers\n")
     ∷ entry (codes "whence") (codes "whence NNN K") (codes "          the steps whose values went into what step K of NNN made\n")
-    ∷ entry (codes "because") (codes "because NNN K [N]") (codes "     N steps before step K at which a value decided where NNN went on\n")
+    ∷ entry (codes "because") (codes "because NNN K [N]") (codes "     N steps before step K at which a value decided where NNN went on\nK of effects, at, whence and because: a step's number, or last\n")
     ∷ entry (codes "races") (codes "races [NNN]") (codes "           steps that could have come out otherwise, and how\n")
     ∷ entry (codes "save") (codes "save") (codes "                  the kept events as lines of debug\n")
     ∷ entry (codes "help") (codes "help") (codes "                  these lines\n")

@@ -1,3 +1,4 @@
+pub mod Which
 pub mod Reading
 pub mod Texts
 pub mod Deeds

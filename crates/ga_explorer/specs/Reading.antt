@@ -13,6 +13,8 @@ use Rattle.ga_search.specs.declared.condition.Condition.{Condition}
 use Rattle.ga_search.specs.declared.condition.Condition.TheVariants.{Never, Passes, PassesNumber, Steps, Stops, StopsAt, WaitsAt, Holds, ComesTo}
 use Rattle.ga_notes.specs.declared.notes.Notes.{Notes}
 use Rattle.ga_notes.specs.Notes.{address_of}
+use Rattle.ga_explorer.specs.declared.which.Which.{Which}
+use Rattle.ga_explorer.specs.Which.{which_in}
 use Rattle.ga_explorer.specs.declared.request.Request.{Request}
 use Rattle.ga_explorer.specs.declared.request.Request.TheVariants.{Run, Effects, Words, Writes, At, Whence, Because, Races, Who, Chip, Save, Help}
 
@@ -182,8 +184,8 @@ unfoldable pub effects_in : Line → Option Request
 effects_in text = do
   parts ← cut text
   node ← node_in parts.0
-  step ← number_in parts.1
-  Some (Effects node step)
+  which ← which_in parts.1
+  Some (Effects node which)
 
 -- `NNN MMM`
 unfoldable pub words_in : Line → Option Request
@@ -208,16 +210,16 @@ few_steps = 3
 abbrev pub most_steps : ℕ
 most_steps = 99
 
-abbrev pub steps_around : NodeId → ℕ → ℕ → Option Request
-steps_around node step around = if nat_le around most_steps then Some (At node step around) else None
+abbrev pub steps_around : NodeId → Which → ℕ → Option Request
+steps_around node which around = if nat_le around most_steps then Some (At node which around) else None
 
 -- `K` or `K N` behind a node
 abbrev pub around_cut : NodeId → Option (Line × Line) → Line → Option Request
-around_cut node None text = option_map (λ step. At node step few_steps) (number_in text)
+around_cut node None text = option_map (λ which. At node which few_steps) (which_in text)
 around_cut node (Some parts) text = do
-  step ← number_in parts.0
+  which ← which_in parts.0
   around ← number_in parts.1
-  steps_around node step around
+  steps_around node which around
 
 abbrev pub around_in : NodeId → Line → Option Request
 around_in node text = around_cut node (cut text) text
@@ -234,19 +236,19 @@ unfoldable pub whence_in : Line → Option Request
 whence_in text = do
   parts ← cut text
   node ← node_in parts.0
-  step ← number_in parts.1
-  Some (Whence node step)
+  which ← which_in parts.1
+  Some (Whence node which)
 
-abbrev pub decided_upto : NodeId → ℕ → ℕ → Option Request
-decided_upto node step most = if nat_le most most_steps then Some (Because node step most) else None
+abbrev pub decided_upto : NodeId → Which → ℕ → Option Request
+decided_upto node which most = if nat_le most most_steps then Some (Because node which most) else None
 
 -- `K` or `K N` behind a node
 abbrev pub decided_cut : NodeId → Option (Line × Line) → Line → Option Request
-decided_cut node None text = option_map (λ step. Because node step few_steps) (number_in text)
+decided_cut node None text = option_map (λ which. Because node which few_steps) (which_in text)
 decided_cut node (Some parts) text = do
-  step ← number_in parts.0
+  which ← which_in parts.0
   most ← number_in parts.1
-  decided_upto node step most
+  decided_upto node which most
 
 abbrev pub decided_in : NodeId → Line → Option Request
 decided_in node text = decided_cut node (cut text) text

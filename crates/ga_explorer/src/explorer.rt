@@ -167,16 +167,28 @@ fn explored<W: Write>(
             let ran = run(lab, schedule, u64::from(most), &until);
             output.say_blocks(writer, ran_text(&ran).as_slice())
         }
-        Request::Effects { node, step } => say_effects(alloc, lab, node, step, output, writer),
+        Request::Effects { node, which } => {
+            let step = which.meant(lab, node);
+            say_effects(alloc, lab, node, step, output, writer)
+        }
         Request::Words { from, to } => say_words(lab, from, to, output, writer),
         Request::Writes { node, address } => say_writes(lab, node, address, output, writer),
-        Request::At { node, step, around } => say_around(
-            lab, notes, node, step, around, output, writer,
-        ),
-        Request::Whence { node, step } => say_whence(alloc, lab, notes, node, step, output, writer),
-        Request::Because { node, step, most } => say_because(
-            lab, notes, node, step, most, output, writer,
-        ),
+        Request::At {
+            node,
+            which,
+            around,
+        } => {
+            let step = which.meant(lab, node);
+            say_around(lab, notes, node, step, around, output, writer)
+        }
+        Request::Whence { node, which } => {
+            let step = which.meant(lab, node);
+            say_whence(alloc, lab, notes, node, step, output, writer)
+        }
+        Request::Because { node, which, most } => {
+            let step = which.meant(lab, node);
+            say_because(lab, notes, node, step, most, output, writer)
+        }
         Request::Races { only } => say_races(alloc, lab, only, output, writer),
         Request::Who => say_who(lab, output, writer),
         Request::Chip => output.say_blocks(writer, glance(lab).as_slice()),

@@ -65,7 +65,7 @@ static ROWS: [Row; 22] = [
     Row {
         name: b"because",
         form: b"because NNN K [N]",
-        does: b"     N steps before step K at which a value decided where NNN went on\n",
+        does: b"     N steps before step K at which a value decided where NNN went on\nK of effects, at, whence and because: a step's number, or last\n",
     },
     Row {
         name: b"races",

@@ -4,6 +4,7 @@ ghost use Rattle.std.specs.Prelude.{◌≡◌};
 ghost use Rattle.ga_explorer.specs.Reading.{request_in, lone_request, named_request, effects_in, words_in, writes_in, at_in, around_in, whence_in, because_in, decided_in, races_in};
 
 use crate::run_request::run_of;
+use crate::which::Which;
 use ga_console::{cut, node_of, number_of};
 use ga_grid::NodeId;
 use ga_image::byte_of;
@@ -30,7 +31,7 @@ pub enum Request {
     /// `effects`: tells what a rollback of a step would take, without taking it.
     Effects {
         node: NodeId,
-        step: u32,
+        which: Which,
     },
     /// `words`: tells the words that went from one node to another.
     Words {
@@ -45,18 +46,18 @@ pub enum Request {
     /// `at`: tells the steps of a node up to so many before and behind one, each with registers behind it.
     At {
         node: NodeId,
-        step: u32,
+        which: Which,
         around: u32,
     },
     /// `whence`: tells the steps whose values went into what a step of a node made.
     Whence {
         node: NodeId,
-        step: u32,
+        which: Which,
     },
     /// `because`: tells the last steps of a node before one, at most so many, at which a value decided where it went on.
     Because {
         node: NodeId,
-        step: u32,
+        which: Which,
         most: u32,
     },
     /// `races`: tells the steps that could have come out otherwise, of one node or of all.
@@ -137,7 +138,7 @@ fn effects_of(text: &[u8]) -> Option<Request>
     let (node, step) = cut(text)?;
     Some(Request::Effects {
         node: node_of(node)?,
-        step: number_of(step)?,
+        which: Which::spelled(step)?,
     })
 }
 
@@ -180,17 +181,21 @@ fn around_of(node: NodeId, text: &[u8]) -> Option<Request>
 {
     match cut(text) {
         Some((step, around)) => {
-            let step = number_of(step)?;
+            let which = Which::spelled(step)?;
             let around = number_of(around)?;
             if around <= MOST_STEPS {
-                Some(Request::At { node, step, around })
+                Some(Request::At {
+                    node,
+                    which,
+                    around,
+                })
             } else {
                 None
             }
         }
         None => Some(Request::At {
             node,
-            step: number_of(text)?,
+            which: Which::spelled(text)?,
             around: FEW_STEPS,
         }),
     }
@@ -204,7 +209,7 @@ fn whence_of(text: &[u8]) -> Option<Request>
     let (node, step) = cut(text)?;
     Some(Request::Whence {
         node: node_of(node)?,
-        step: number_of(step)?,
+        which: Which::spelled(step)?,
     })
 }
 
@@ -223,17 +228,17 @@ fn decided_of(node: NodeId, text: &[u8]) -> Option<Request>
 {
     match cut(text) {
         Some((step, most)) => {
-            let step = number_of(step)?;
+            let which = Which::spelled(step)?;
             let most = number_of(most)?;
             if most <= MOST_STEPS {
-                Some(Request::Because { node, step, most })
+                Some(Request::Because { node, which, most })
             } else {
                 None
             }
         }
         None => Some(Request::Because {
             node,
-            step: number_of(text)?,
+            which: Which::spelled(text)?,
             most: FEW_STEPS,
         }),
     }
