@@ -259,7 +259,6 @@ WRONG = (
     (LISTING, 'at + 2 if texts[at + 1 : at + 2] == [","] else at + 1', "at + 1"),
     (LISTING, 'if first and texts[first] != "node":', "if first:"),
     (LISTING, 'if first and texts[first] != "node":', 'if texts[first] != "node":'),
-    (LISTING, "range(max(at, first + 1), len(words))", "range(at + 1, len(words))"),
     (LISTING, "if str(it) != before:", "if True:"),
     (LISTING, "list(words_of(source, goes_on=True))", "list(words_of(source))"),
     (LISTING, "str(line_of[int(found[0])])", "found[0]"),
@@ -322,7 +321,6 @@ WRONG = (
     (EXPLORE, "load {part}{self.notes.tail(node, cell_of(part))}", "load {part}"),
     (EXPLORE, "self.steps[node] == 1 and vars", "vars"),
     (EXPLORE, "busy = [name(node) for node in stuck if node not in idle]", "busy = [name(node) for node in stuck]"),
-    (EXPLORE, "{len(stuck) - len(busy)} idle", "{len(idle)} idle"),
     # what decided
     (EXPLORE, "for number in range(1, step):", "for number in range(1, step + 1):"),
     (EXPLORE, 'taken and before.wait[0] == "fetch"}', 'taken and before.wait[0] == "read"}'),
