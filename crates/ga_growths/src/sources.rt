@@ -31,7 +31,7 @@ const LISTING: &[u8] =
     b"node 000\nmain:\n000 004b12 @p b! @p \\ : main 0 b! 5 !b main ;\n001 000000 0x00000\n002 000005 0x00005\n003 009700 !b jump main \\ : main 0 b! 5 !b main ;\n";
 
 const DISASSEMBLY: &[u8] =
-    b"node 000\n0x004b12 , \\ 000: @p b! @p .\norg 0x02\n0x000005 , \\ 002  5\n0x009700 , \\ 003  !b jump 000\n";
+    b"node 000\n0x004b12 , \\ 000: @p b! @p ., 001 is 0\norg 0x02\n0x000005 , \\ 002  5\n0x009700 , \\ 003  !b jump 000\n";
 
 /// The image of a source.
 pub fn assembled(alloc: Global) -> Outcome {
