@@ -11,4 +11,5 @@ pub mod Popped
 pub mod Recalled
 pub mod Sound
 pub mod Stored
+pub mod Untold
 pub mod Window

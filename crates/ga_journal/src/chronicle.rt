@@ -1,7 +1,7 @@
 //! A journal that is told as a list.
 
 use crate::fault::JournalFault;
-use crate::journal::Journal;
+use crate::journal::{Backward, Journal};
 use crate::since::Since;
 use ga_event::{Cause, Event, Made};
 use ga_grid::NodeId;
@@ -25,6 +25,7 @@ impl Chronicle {
     ghost use Rattle.ga_event.specs.Told.{steps_of, mades_of, made_in};
     ghost use Rattle.ga_journal.specs.Since.{IsSince};
     ghost use Rattle.ga_journal.specs.Logs.{IsWhole};
+    ghost use Rattle.ga_journal.specs.Untold.{untold};
 
     /// What is told of the kept events that touch a node, in order.
     ///
@@ -97,6 +98,14 @@ impl Chronicle {
         ensures err { IfErr result (λ fault. fault ≡ JournalFault.Memory) }
     {
         self.journal.mades_at(places)
+    }
+
+    /// The kept events, none of which is told yet.
+    pub fn backward(&self) -> Backward<'_>
+        requires { IsWhole self.now.journal.histories self.now.journal.made }
+        ensures { result ≡ untold self.now.journal (length (kept_of self.now.journal)) }
+    {
+        self.journal.backward()
     }
 
     /// The kept events in order, each with whether it looked.

@@ -5,7 +5,8 @@ use Rattle.ga_grid.specs.declared.node_id.NodeId.{NodeId}
 use Rattle.ga_grid.specs.Chip.{node_at}
 use Rattle.ga_journal.specs.Histories.{Book, history}
 use Rattle.ga_journal.specs.Walked.{walked}
-use Rattle.ga_lab.specs.Machine.{Standing, standing}
+use Rattle.ga_journal.specs.Untold.{Untold}
+use Rattle.ga_lab.specs.Machine.{Standing, standing, Telling, telling}
 use Rattle.ga_lab.specs.kept.Tied.{state_of, IsLab}
 
 abbrev pub standing_of : List NodeState → Book → NodeId → ℕ → Standing
@@ -16,3 +17,7 @@ pub record IsWalk (chip : List NodeState) (book : Book) (id : NodeId) (step : �
   pub lab : IsLab chip book
   pub within : step ≤ length (history book.histories id.number)
   pub walked_to : node ≡ walked (node_at chip id.number) (drop step (history book.histories id.number))
+
+-- the kept events that are not told yet, of the machine
+abbrev pub telling_of : List NodeState → Untold → Telling
+telling_of chip walk = telling (state_of chip walk.book) walk.place

@@ -1,0 +1,10 @@
+use Rattle.std.proofs.Common.{◌≤◌, length, subst}
+use Rattle.ga_journal.specs.Untold.{Untold}
+use Rattle.ga_journal.specs.Events.{kept_of}
+use Rattle.ga_journal.proofs.Untelling.{place_within}
+use Rattle.ga_journal.proofs.journal.backward.Backward.place.Goals as goal
+
+pub returns-clause-within : goal.returns-clause-within
+returns-clause-within c =
+    let b = c.self.inside in
+    subst (λ (u : Untold). b.place ≤ length (kept_of u.book)) c.self.view_is (place_within b.journal.now b.lengths b.top b.place c.self.invariant)

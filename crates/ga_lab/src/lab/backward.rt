@@ -1,0 +1,72 @@
+//! The kept events of a lab, told one by one from the newest back.
+
+use super::Lab;
+use ga_event::Made;
+use ga_grid::{Chip, NodeId};
+use std::marker::Model;
+
+/// The kept events of a lab, to be told one by one from the newest back. Of the lab nothing is taken back. A contract sees the lab's
+/// machine, and how many of its kept events are not told yet.
+#[derive(Drop)]
+pub struct Backward<'l> {
+    chip: &'l Chip,
+    walk: ga_journal::Backward<'l>,
+}
+
+impl<'l> Model for Backward<'l> {
+    ghost use Rattle.ga_lab.specs.Machine.{Telling};
+    ghost use Rattle.ga_lab.specs.kept.Tied.{IsLab};
+    ghost use Rattle.ga_lab.specs.kept.Walking.{telling_of};
+
+    ghost Value = { Telling };
+
+    ghost view = { λ b. telling_of b.chip.now b.walk };
+
+    ghost invariant = { λ b. IsLab b.chip.now b.walk.book };
+}
+
+impl<'l> Backward<'l> {
+    ghost use Rattle.std.specs.Prelude.{◌≡◌, ◌-◌, ◌≤◌, ◌↔◌, length, take, IsNone};
+    ghost use Rattle.ga_event.specs.Told.{steps_of};
+    ghost use Rattle.ga_lab.specs.Machine.{told_before};
+
+    /// How many of the kept events are not told yet: the place of the one that was told last.
+    pub fn place(&self) -> u32
+        ensures value { result ≡ self.now.place }
+        ensures within { result ≤ length self.now.machine.kept }
+    {
+        self.walk.place()
+    }
+
+    /// How many steps a node had made when so many events had been made.
+    pub fn steps(&self, node: NodeId) -> u32
+        ensures { result ≡ steps_of node.number (take self.now.place self.now.machine.kept) }
+    {
+        self.walk.steps(node)
+    }
+
+    /// What is told of the event right before the place, which is the place from then on; none where no event is left. Takes no memory,
+    /// and as long whatever is kept.
+    pub fn back(&mut self) -> Option<Made>
+        ensures told { result ≡ told_before self.old.machine self.old.place }
+        ensures none { IsNone result ↔ (self.old.place ≡ 0) }
+        ensures left { self.new ≡ record self.old { place = self.old.place - 1 } }
+    {
+        self.walk.back()
+    }
+}
+
+impl Lab {
+    ghost use Rattle.std.specs.Prelude.{◌≡◌, length};
+    ghost use Rattle.ga_lab.specs.Machine.{telling};
+
+    /// The kept events, to be told one by one from the newest back. Takes no memory.
+    pub fn backward(&self) -> Backward<'_>
+        ensures { result ≡ telling self.now (length self.now.kept) }
+    {
+        Backward {
+            chip: &self.chip,
+            walk: self.chronicle.backward(),
+        }
+    }
+}
