@@ -1,4 +1,5 @@
 pub mod Ends
+pub mod Links
 pub mod Marked
 pub mod Raised
 pub mod Rewound
