@@ -54,6 +54,23 @@ fn steps(lab: &mut Lab, nodes: u8, count: u32) -> u32 {
     made
 }
 
+/// The same by the call that has none of its own in this loop.
+#[inline(never)]
+fn steps_inlined(lab: &mut Lab, nodes: u8, count: u32) -> u32 {
+    let mut made = 0u32;
+    let mut number = 0u8;
+    for _ in 0..count {
+        if lab.step_inlined(NodeId::new(number % 144)).is_ok() {
+            made = made.wrapping_add(1);
+        }
+        number = number.wrapping_add(1);
+        if number >= nodes {
+            number = 0;
+        }
+    }
+    made
+}
+
 /// Takes so many events back, and counts them.
 #[inline(never)]
 fn undos(lab: &mut Lab, count: u32) -> u32 {
@@ -76,19 +93,33 @@ pub struct LabTimes {
     pub undone: u32,
 }
 
+/// Makes so many steps, inlined or by calls.
+fn steps_made(lab: &mut Lab, nodes: u8, count: u32, is_inlined: bool) -> u32 {
+    if is_inlined {
+        steps_inlined(lab, nodes, count)
+    } else {
+        steps(lab, nodes, count)
+    }
+}
+
 /// The times of so many steps of the first nodes in turn, of as many undos, and of the steps again; none without memory.
-pub fn time_lab(rt: &HostRuntime, nodes: u8, count: u32) -> io::Result<Option<LabTimes>> {
+pub fn time_lab(
+    rt: &HostRuntime,
+    nodes: u8,
+    count: u32,
+    is_inlined: bool,
+) -> io::Result<Option<LabTimes>> {
     let Some(mut lab) = loaded(rt.alloc(), nodes) else {
         return Ok(None);
     };
     let start = Instant::now(rt)?;
-    let made = steps(&mut lab, nodes, count);
+    let made = steps_made(&mut lab, nodes, count, is_inlined);
     let fresh = start.elapsed(rt)?.as_nanos();
     let start = Instant::now(rt)?;
     let undone = undos(&mut lab, count);
     let undo = start.elapsed(rt)?.as_nanos();
     let start = Instant::now(rt)?;
-    steps(&mut lab, nodes, count);
+    steps_made(&mut lab, nodes, count, is_inlined);
     let warm = start.elapsed(rt)?.as_nanos();
     Ok(Some(LabTimes {
         fresh,

@@ -3,7 +3,8 @@
 //!
 //! `ga_bench busy MODE EVENTS ROUNDS` and `ga_bench mixed MODE EVENTS ROUNDS` make events; MODE is `own`, `into`, `values` or
 //! `back`. `ga_bench image NODES ROUNDS` reads an image of each format that gives all of so many nodes, and prints the second.
-//! `ga_bench lab NODES STEPS` steps the first nodes of a lab in turn, takes all steps back, and makes them again. `ga_bench
+//! `ga_bench lab NODES STEPS` steps the first nodes of a lab in turn, takes all steps back, and makes them again;
+//! `ga_bench lab-inlined NODES STEPS` makes them by `Lab::step_inlined`. `ga_bench
 //! rewind EVENTS ROUNDS` makes rollbacks that remove three entries where so many events are kept, and `ga_bench foretell EVENTS
 //! ROUNDS` asks what they would take. `ga_bench rewind-beside COUNT ROUNDS` and `ga_bench foretell-beside COUNT ROUNDS` do so where
 //! the nodes rolled back, and a neighbour that looked, keep four times so many events each. `ga_bench rewind-all EVENTS` makes one that removes so many, and `ga_bench rewind-looks
@@ -33,9 +34,9 @@ fn hundredths(nanoseconds: u128, count: u32) -> u128 {
     nanoseconds.saturating_mul(100) / u128::from(count.max(1))
 }
 
-fn print_lab(rt: &HostRuntime, nodes: u32, count: u32) -> io::Result<()> {
+fn print_lab(rt: &HostRuntime, nodes: u32, count: u32, is_inlined: bool) -> io::Result<()> {
     let nodes = nodes.clamp(1, 144) as u8;
-    match time_lab(rt, nodes, count)? {
+    match time_lab(rt, nodes, count, is_inlined)? {
         Some(times) => {
             println!(rt; "made {} undone {}", times.made, times.undone)?;
             let fresh = hundredths(times.fresh, count);
@@ -94,9 +95,10 @@ fn main(rt: HostRuntime) -> io::Result<()> {
         None => "busy",
     };
     match what {
-        "lab" => {
+        "lab" | "lab-inlined" => {
             let nodes = number(words.get(2), 1);
-            print_lab(&rt, nodes, number(words.get(3), 1_000_000))
+            let count = number(words.get(3), 1_000_000);
+            print_lab(&rt, nodes, count, what == "lab-inlined")
         }
         "rewind" | "foretell" => {
             let count = number(words.get(2), 1_000_000);
