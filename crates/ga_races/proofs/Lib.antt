@@ -14,3 +14,5 @@ pub mod Nearest
 pub mod Tallies
 pub mod Contended
 pub mod Clocks
+pub mod Reaching
+pub mod Asking

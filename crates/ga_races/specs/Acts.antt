@@ -1,6 +1,6 @@
 -- Actions as they are kept to be read: of each event whether it looks, and on which sides of the nodes that it touches what it shows
 -- there changes.
-use Rattle.std.specs.Prelude.{ℕ, Bool, ◌&&◌, ◌||◌}
+use Rattle.std.specs.Prelude.{◌≡◌, ◌⊎◌, ◌==◌, ℕ, Bool, true, false, ◌&&◌, ◌||◌, List, map}
 use Rattle.ga_ports.specs.declared.side.Side.TheVariants.{Right, Down, Left, Up}
 use Rattle.ga_grid.specs.Grid.{neighbour_of}
 use Rattle.ga_event.specs.declared.event.Event.{Event}
@@ -8,7 +8,8 @@ use Rattle.ga_event.specs.declared.event.Event.TheVariants.{Own, Pass}
 use Rattle.ga_event.specs.Apply.{is_number}
 use Rattle.ga_races.specs.declared.act.Act.{Act}
 use Rattle.ga_races.specs.declared.act.Sides.{Sides}
-use Rattle.ga_races.specs.HappensBefore.{Action}
+use Rattle.ga_races.specs.declared.near.Near.{Near}
+use Rattle.ga_races.specs.HappensBefore.{Action, action_at, AreNear}
 
 -- one of the sides of the first node leads to the second
 abbrev pub leads_to : Sides → ℕ → ℕ → Bool
@@ -23,3 +24,21 @@ shown_by (Pass w r side) first second n = leads_to first w.number n || leads_to 
 
 abbrev pub action_in : Act → Action
 action_in act = record { cause = act.cause; changes = λ n. shown_by act.cause.event act.first act.second n }
+
+abbrev pub actions_in : List Act → List Action
+actions_in acts = map action_in acts
+
+abbrev pub is_own_of : Event → ℕ → Bool
+is_own_of (Own m) n = m.number == n
+is_own_of (Pass w r side) n = false
+
+-- it is a look of the node
+abbrev pub is_look_of : Action → ℕ → Bool
+is_look_of action n = action.cause.look && is_own_of action.cause.event n
+
+-- At the two places are a look of a node and a change of what is shown to it that are near, whichever of them stands first.
+pub record IsNearLook (acts : List Act) (near : Near) : Type 0 where
+  pub node : ℕ
+  pub look : is_look_of (action_at (actions_in acts) near.look) node ≡ true
+  pub change : (action_at (actions_in acts) near.change).changes node ≡ true
+  pub order : AreNear (actions_in acts) near.look near.change ⊎ AreNear (actions_in acts) near.change near.look

@@ -84,12 +84,15 @@ chip_at chip (event ∷ events) (suc place) = chip_at (after chip event).0 event
 abbrev pub made_at : List NodeRecord → List Event → ℕ → Event
 made_at chip events place = (action_at (actions chip events) place).cause.event
 
--- A look and a change of what is shown to it that keep their order only by this, in whichever order they stand: nothing happens
--- between them.
-pub record IsNear (chip : List NodeRecord) (events : List Event) (first later : ℕ) : Type 0 where
-  pub bound : IsBound (actions chip events) first later
-  pub apart : (n : ℕ) → touches (made_at chip events first) n ≡ true → touches (made_at chip events later) n ≡ false
-  pub none : (middle : ℕ) → HappensBefore (actions chip events) first middle → HappensBefore (actions chip events) middle later → ⊥
+-- Two actions that are bound and touch no common node, and between which nothing happens.
+pub record AreNear (actions : List Action) (first later : ℕ) : Type 0 where
+  pub bound : IsBound actions first later
+  pub apart : (n : ℕ) → touches (action_at actions first).cause.event n ≡ true → touches (action_at actions later).cause.event n ≡ false
+  pub none : (middle : ℕ) → HappensBefore actions first middle → HappensBefore actions middle later → ⊥
+
+-- A look and a change of what is shown to it that keep their order only by this, in whichever order they stand.
+abbrev pub IsNear : List NodeRecord → List Event → ℕ → ℕ → Type 0
+IsNear chip events first later = AreNear (actions chip events) first later
 
 -- The event at the place is a pass, and another writer could have been there first: the reader waits for it too, and behind so many
 -- events, none of which is a step of this writer that happens after the pass, it waits to write to the reader.

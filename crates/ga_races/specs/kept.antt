@@ -1,1 +1,3 @@
 pub mod Marked
+pub mod Reached
+pub mod Asked

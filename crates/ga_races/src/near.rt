@@ -1,10 +1,17 @@
 //! Looks and changes of what is shown to them, between which nothing happens.
 
-ghost use Rattle.std.specs.Prelude.{◌≡◌, ◌≢◌, ◌<◌, ◌^◌, ◌&&◌, length};
+ghost use Rattle.std.specs.Prelude.{◌≡◌, ◌≢◌, ◌<◌, ◌^◌, ◌↔◌, ◌⊎◌, ◌&&◌, ◌||◌, ◌++◌, ◌∷◌, [], ℕ, true, false, length, Contains, OnOk, IfOk};
 ghost use Rattle.ga_grid.specs.Grid.{neighbour_of};
-ghost use Rattle.ga_causal.specs.Dependence.{is_marked};
+ghost use Rattle.std.specs.List.{list_any};
+ghost use Rattle.ga_causal.specs.Dependence.{cause_touches, cause_nodes, is_marked};
 ghost use Rattle.ga_causal.specs.kept.Firsts.{any_of};
+ghost use Rattle.ga_event.specs.Apply.{is_number};
+ghost use Rattle.ga_races.specs.declared.near.Near.{Near};
+ghost use Rattle.ga_races.specs.HappensBefore.{action_at, HappensBefore, AreNear};
+ghost use Rattle.ga_races.specs.Acts.{leads_to, action_in, actions_in, is_own_of, is_look_of, IsNearLook};
 ghost use Rattle.ga_races.specs.kept.Marked.{shows_marked};
+ghost use Rattle.ga_races.specs.kept.Reached.{has_touched, has_shown, has_looked, is_shown_to, is_met};
+ghost use Rattle.ga_races.specs.kept.Asked.{IsMore, OfPair, OfLook, OfChange, OverSide, OverSides, AtPlace, LooksAreMarked};
 
 use crate::act::{Act, Sides};
 use ga_causal::Nodes;
@@ -51,7 +58,9 @@ fn is_marked_beside(marks: &Nodes, node: NodeId, sides: &Sides) -> bool
 }
 
 // Marks the neighbour on a side, if it is one of some.
-fn mark_over(marks: &mut Nodes, node: NodeId, side: Side, has: bool) {
+fn mark_over(marks: &mut Nodes, node: NodeId, side: Side, has: bool)
+    ensures { (n : ℕ) → is_marked marks.new n ≡ (is_marked marks.old n || (has && is_number (neighbour_of node.number side) n)) }
+{
     match neighbour(node, side) {
         Some(other) if has => marks.add_touched(&Cause {
             event: Event::Own(other),
@@ -62,16 +71,44 @@ fn mark_over(marks: &mut Nodes, node: NodeId, side: Side, has: bool) {
 }
 
 // Marks the neighbours on the sides.
-fn mark_beside(marks: &mut Nodes, node: NodeId, sides: &Sides) {
+fn mark_beside(marks: &mut Nodes, node: NodeId, sides: &Sides)
+    ensures { (n : ℕ) → is_marked marks.new n ≡ (is_marked marks.old n || leads_to sides.now node.number n) }
+{
     mark_over(marks, node, Side::Right, sides.right);
     mark_over(marks, node, Side::Down, sides.down);
     mark_over(marks, node, Side::Left, sides.left);
     mark_over(marks, node, Side::Up, sides.up);
 }
 
+// Marks the nodes to which an action changes what is shown.
+fn mark_shown(marks: &mut Nodes, act: &Act)
+    ensures { (n : ℕ) → is_marked marks.new n ≡ (is_marked marks.old n || has_shown (action_in act.now) n) }
+{
+    match act.cause.event {
+        Event::Own(node) => mark_beside(marks, node, &act.first),
+        Event::Pass { writer, reader, .. } => {
+            mark_beside(marks, writer, &act.first);
+            mark_beside(marks, reader, &act.second);
+        }
+    }
+}
+
+// Marks the nodes of a look.
+fn mark_look(marks: &mut Nodes, act: &Act)
+    ensures { (n : ℕ) → is_marked marks.new n ≡ (is_marked marks.old n || has_looked (action_in act.now) n) }
+{
+    if act.cause.look {
+        marks.add_touched(&act.cause);
+    }
+}
+
 impl Reached {
     // Those of one action.
-    fn by(act: &Act) -> Self {
+    fn by(act: &Act) -> Self
+        ensures touched { (n : ℕ) → is_marked result.touched n ≡ has_touched (action_in act.now) n }
+        ensures shown { (n : ℕ) → is_marked result.shown n ≡ has_shown (action_in act.now) n }
+        ensures looked { (n : ℕ) → is_marked result.looked n ≡ has_looked (action_in act.now) n }
+    {
         let mut reached = Reached {
             touched: Nodes::none(),
             shown: Nodes::none(),
@@ -82,29 +119,43 @@ impl Reached {
     }
 
     // Adds an action.
-    fn add(&mut self, act: &Act) {
+    fn add(&mut self, act: &Act)
+        ensures touched { (n : ℕ) → is_marked self.new.touched n ≡ (is_marked self.old.touched n || has_touched (action_in act.now) n) }
+        ensures shown { (n : ℕ) → is_marked self.new.shown n ≡ (is_marked self.old.shown n || has_shown (action_in act.now) n) }
+        ensures looked { (n : ℕ) → is_marked self.new.looked n ≡ (is_marked self.old.looked n || has_looked (action_in act.now) n) }
+    {
         self.touched.add_touched(&act.cause);
-        if act.cause.look {
-            self.looked.add_touched(&act.cause);
+        mark_shown(&mut self.shown, act);
+        mark_look(&mut self.looked, act);
+    }
+
+    // Whether an action is bound to one of them. If so it is added.
+    fn take(&mut self, act: &Act) -> bool
+        ensures answer { result ≡ is_met (is_marked self.old.touched) (is_marked self.old.shown) (is_marked self.old.looked) act.now }
+        ensures touched { (n : ℕ) → is_marked self.new.touched n ≡ (is_marked self.old.touched n || (result && has_touched (action_in act.now) n)) }
+        ensures shown { (n : ℕ) → is_marked self.new.shown n ≡ (is_marked self.old.shown n || (result && has_shown (action_in act.now) n)) }
+        ensures looked { (n : ℕ) → is_marked self.new.looked n ≡ (is_marked self.old.looked n || (result && has_looked (action_in act.now) n)) }
+    {
+        if !self.meets(act) {
+            return false;
         }
-        match act.cause.event {
-            Event::Own(node) => mark_beside(&mut self.shown, node, &act.first),
-            Event::Pass { writer, reader, .. } => {
-                mark_beside(&mut self.shown, writer, &act.first);
-                mark_beside(&mut self.shown, reader, &act.second);
-            }
-        }
+        self.add(act);
+        true
     }
 
     // Whether an action is bound to one of them.
-    fn meets(&self, act: &Act) -> bool {
+    fn meets(&self, act: &Act) -> bool
+        ensures { result ≡ is_met (is_marked self.now.touched) (is_marked self.now.shown) (is_marked self.now.looked) act.now }
+    {
         self.touched.met_by(&act.cause)
             || (act.cause.look && self.shown.met_by(&act.cause))
             || self.is_shown_by(act)
     }
 
     // Whether an action changes what is shown to a node that looked in them.
-    fn is_shown_by(&self, act: &Act) -> bool {
+    fn is_shown_by(&self, act: &Act) -> bool
+        ensures { result ≡ is_shown_to (is_marked self.now.looked) act.now.cause.event act.now.first act.now.second }
+    {
         match act.cause.event {
             Event::Own(node) => is_marked_beside(&self.looked, node, &act.first),
             Event::Pass { writer, reader, .. } => {
@@ -115,20 +166,37 @@ impl Reached {
     }
 }
 
+// Whether both hold.
+fn both(one: bool, other: bool) -> bool
+    ensures { result ≡ (one && other) }
+{
+    one && other
+}
+
+// The action at a place.
+fn act_at(acts: &[Act], place: usize) -> Act
+    requires { place < length acts.now }
+    ensures { action_in result ≡ action_at (actions_in acts.now) place }
+{
+    acts[place]
+}
+
 // Whether something happens between two actions of a list, by one pass over what stands between them.
 fn is_between(acts: &[Act], first: usize, later: usize) -> bool
     requires order { first < later }
     requires within { later < length acts.now }
+    ensures some { result ≡ true →
+        (m : ℕ) × HappensBefore (actions_in acts.now) first m × HappensBefore (actions_in acts.now) m later }
+    ensures none { result ≡ false → (m : ℕ) →
+        HappensBefore (actions_in acts.now) first m → HappensBefore (actions_in acts.now) m later → ⊥ }
 {
     let end = acts[later];
     let mut reached = Reached::by(&acts[first]);
     'between: for place in first + 1..later {
         let act = acts[place];
-        if reached.meets(&act) {
-            if act.is_bound(&end) {
-                return true;
-            }
-            reached.add(&act);
+        let met = reached.take(&act);
+        if both(met, act.is_bound(&end)) {
+            return true;
         }
     }
     false
@@ -138,43 +206,56 @@ fn is_between(acts: &[Act], first: usize, later: usize) -> bool
 fn is_near(acts: &[Act], first: usize, later: usize) -> bool
     requires order { first < later }
     requires within { later < length acts.now }
+    ensures { (result ≡ true) ↔ AreNear (actions_in acts.now) first later }
 {
-    let act = acts[first];
-    let end = acts[later];
-    !act.is_beside(&end) && act.is_bound(&end) && !is_between(acts, first, later)
+    let act = act_at(acts, first);
+    let end = act_at(acts, later);
+    if act.is_beside(&end) || !act.is_bound(&end) {
+        return false;
+    }
+    !is_between(acts, first, later)
 }
 
-// The node of a look.
-fn looking(act: &Act) -> Option<NodeId> {
-    match act.cause.event {
-        Event::Own(node) if act.cause.look => Some(node),
-        _ => None,
+// The same of two that stand in any order.
+fn are_near(acts: &[Act], one: usize, other: usize) -> bool
+    requires one { one < length acts.now }
+    requires other { other < length acts.now }
+    requires apart { one ≢ other }
+    ensures { (result ≡ true) ↔ (AreNear (actions_in acts.now) one other ⊎ AreNear (actions_in acts.now) other one) }
+{
+    if one < other {
+        is_near(acts, one, other)
+    } else {
+        is_near(acts, other, one)
     }
 }
 
 // Whether it is a look of the node.
-fn is_look_of(act: &Act, node: NodeId) -> bool {
-    match looking(act) {
-        Some(own) => own.number == node.number,
-        None => false,
+fn is_look_of(acts: &[Act], place: usize, node: NodeId) -> bool
+    requires { place < length acts.now }
+    ensures { result ≡ is_look_of (action_at (actions_in acts.now) place) node.number }
+{
+    let act = act_at(acts, place);
+    match act.cause.event {
+        Event::Own(own) => act.cause.look && own.number == node.number,
+        Event::Pass { .. } => false,
     }
 }
 
-// Puts two places at the end of a list, where the actions there are near.
-fn add_near(list: &mut Vec<Near>, acts: &[Act], look: usize, change: usize) -> Result<(), Memory>
-    requires look { look < length acts.now }
-    requires change { change < length acts.now }
-    requires apart { look ≢ change }
-    requires few { length acts.now < 2 ^ 32 }
+// Whether it changes what is shown to the node.
+fn changes(acts: &[Act], place: usize, node: NodeId) -> bool
+    requires { place < length acts.now }
+    ensures { result ≡ (action_at (actions_in acts.now) place).changes node.number }
 {
-    let near = if look < change {
-        is_near(acts, look, change)
-    } else {
-        is_near(acts, change, look)
-    };
-    if !near {
-        return Ok(());
-    }
+    act_at(acts, place).changes(node)
+}
+
+// Puts two places at the end of a list.
+fn add(list: &mut Vec<Near>, look: usize, change: usize) -> Result<(), Memory>
+    requires looks { look < 2 ^ 32 }
+    requires changes { change < 2 ^ 32 }
+    ensures { OnOk result (list.new.items ≡ list.old.items ++ record { look = look; change = change } ∷ []) }
+{
     list.push(Near {
         look: look as u32,
         change: change as u32,
@@ -182,7 +263,29 @@ fn add_near(list: &mut Vec<Near>, acts: &[Act], look: usize, change: usize) -> R
     Ok(())
 }
 
-// The same where the second changes what is shown to the node.
+// The same of a look of a node and a change of what is shown to it, where they are near.
+fn add_near(
+    list: &mut Vec<Near>,
+    acts: &[Act],
+    look: usize,
+    change: usize,
+    node: NodeId,
+) -> Result<(), Memory>
+    requires look { look < length acts.now }
+    requires change { change < length acts.now }
+    requires apart { look ≢ change }
+    requires few { length acts.now < 2 ^ 32 }
+    requires looks { is_look_of (action_at (actions_in acts.now) look) node.number ≡ true }
+    requires changes { (action_at (actions_in acts.now) change).changes node.number ≡ true }
+    ensures { OnOk result (IsMore acts.now (OfPair look change) list.old.items list.new.items) }
+{
+    if !are_near(acts, look, change) {
+        return Ok(());
+    }
+    add(list, look, change)
+}
+
+// The same, where the second changes what is shown to the node.
 fn add_change(
     list: &mut Vec<Near>,
     acts: &[Act],
@@ -193,30 +296,47 @@ fn add_change(
     requires order { change < look }
     requires within { look < length acts.now }
     requires few { length acts.now < 2 ^ 32 }
+    requires looks { is_look_of (action_at (actions_in acts.now) look) node.number ≡ true }
+    ensures { OnOk result (IsMore acts.now (OfPair look change) list.old.items list.new.items) }
 {
-    if !acts[change].changes(node) {
+    if !changes(acts, change, node) {
         return Ok(());
     }
-    add_near(list, acts, look, change)
+    add_near(list, acts, look, change, node)
 }
 
-// Adds the changes that are near to a look of the node. The last look before it was shown what came before that.
+// Adds the changes before an event of the node that are near to it, if that looks. The last look before it was shown what came before
+// that.
 fn add_changes(list: &mut Vec<Near>, acts: &[Act], look: usize, node: NodeId) -> Result<(), Memory>
     requires within { look < length acts.now }
     requires few { length acts.now < 2 ^ 32 }
+    requires own { is_own_of (action_at (actions_in acts.now) look).cause.event node.number ≡ true }
+    ensures { OnOk result (IsMore acts.now (OfLook look 0) list.old.items list.new.items) }
 {
-    if !is_look_of(&acts[look], node) {
+    if !is_look_of(acts, look, node) {
         return Ok(());
     }
     let mut place = look;
     'back: while place > 0 {
         place -= 1;
         add_change(list, acts, look, place, node)?;
-        if is_look_of(&acts[place], node) {
+        if is_look_of(acts, place, node) {
             return Ok(());
         }
     }
     Ok(())
+}
+
+// Whether both touch a common node, and the first changes what is shown to another.
+fn hides(acts: &[Act], place: usize, change: usize, node: NodeId) -> bool
+    requires place { place < length acts.now }
+    requires change { change < length acts.now }
+    ensures { result ≡ ((action_at (actions_in acts.now) place).changes node.number
+        && list_any (cause_touches (action_at (actions_in acts.now) place).cause) (cause_nodes (action_at (actions_in acts.now) change).cause)) }
+{
+    let act = act_at(acts, place);
+    let end = act_at(acts, change);
+    act.changes(node) && act.is_beside(&end)
 }
 
 // Adds the last look of a node, where a change of what is shown to it is near to that. None is near behind which the neighbour
@@ -224,16 +344,16 @@ fn add_changes(list: &mut Vec<Near>, acts: &[Act], look: usize, node: NodeId) ->
 fn add_look(list: &mut Vec<Near>, acts: &[Act], change: usize, node: NodeId) -> Result<(), Memory>
     requires within { change < length acts.now }
     requires few { length acts.now < 2 ^ 32 }
+    requires changes { (action_at (actions_in acts.now) change).changes node.number ≡ true }
+    ensures { OnOk result (IsMore acts.now (OfChange acts.now change node.number) list.old.items list.new.items) }
 {
-    let end = acts[change];
     let mut place = change;
     'back: while place > 0 {
         place -= 1;
-        let act = acts[place];
-        if is_look_of(&act, node) {
-            return add_near(list, acts, place, change);
+        if is_look_of(acts, place, node) {
+            return add_near(list, acts, place, change, node);
         }
-        if act.changes(node) && act.is_beside(&end) {
+        if hides(acts, place, change, node) {
             return Ok(());
         }
     }
@@ -250,11 +370,20 @@ fn add_look_over(
 ) -> Result<(), Memory>
     requires within { change < length acts.now }
     requires few { length acts.now < 2 ^ 32 }
+    requires looked { LooksAreMarked acts.now change (is_marked looked.now) }
+    requires changes { (n : ℕ) → (over.2 && is_number (neighbour_of over.0.number over.1) n) ≡ true →
+        (action_at (actions_in acts.now) change).changes n ≡ true }
+    ensures { OnOk result (IsMore acts.now (OverSide acts.now change over.0.number over.1 over.2) list.old.items list.new.items) }
 {
     let (from, side, has) = over;
     match neighbour(from, side) {
-        Some(node) if has && looked.has(node) => add_look(list, acts, change, node),
-        _ => Ok(()),
+        Some(node) => {
+            if !both(has, looked.has(node)) {
+                return Ok(());
+            }
+            add_look(list, acts, change, node)
+        }
+        None => Ok(()),
     }
 }
 
@@ -268,6 +397,10 @@ fn add_looks_beside(
 ) -> Result<(), Memory>
     requires within { change < length acts.now }
     requires few { length acts.now < 2 ^ 32 }
+    requires looked { LooksAreMarked acts.now change (is_marked looked.now) }
+    requires changes { (n : ℕ) → leads_to from.1 from.0.number n ≡ true →
+        (action_at (actions_in acts.now) change).changes n ≡ true }
+    ensures { OnOk result (IsMore acts.now (OverSides acts.now change from.0.number from.1) list.old.items list.new.items) }
 {
     let (node, sides) = from;
     add_look_over(list, acts, change, looked, (node, Side::Right, sides.right))?;
@@ -281,8 +414,10 @@ fn add_looks_beside(
 fn add_at(list: &mut Vec<Near>, acts: &[Act], place: usize, looked: &Nodes) -> Result<(), Memory>
     requires within { place < length acts.now }
     requires few { length acts.now < 2 ^ 32 }
+    requires looked { LooksAreMarked acts.now place (is_marked looked.now) }
+    ensures { OnOk result (IsMore acts.now (AtPlace place) list.old.items list.new.items) }
 {
-    let act = acts[place];
+    let act = act_at(acts, place);
     match act.cause.event {
         Event::Own(node) => {
             add_changes(list, acts, place, node)?;
@@ -303,14 +438,14 @@ fn add_at(list: &mut Vec<Near>, acts: &[Act], place: usize, looked: &Nodes) -> R
 /// `Memory` alone.
 pub fn find_near(alloc: Global, acts: &[Act]) -> Result<Vec<Near>, Memory>
     requires few { length acts.now < 2 ^ 32 }
+    ensures exact { IfOk result (λ list. (near : Near) → Contains list.items near ↔ IsNearLook acts.now near) }
 {
     let mut list = Vec::new(alloc);
     let mut looked = Nodes::none();
     'acts: for place in 0..acts.len() {
         add_at(&mut list, acts, place, &looked)?;
-        if acts[place].cause.look {
-            looked.add_touched(&acts[place].cause);
-        }
+        let act = act_at(acts, place);
+        mark_look(&mut looked, &act);
     }
     Ok(list)
 }

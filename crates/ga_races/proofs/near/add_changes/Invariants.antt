@@ -1,8 +1,12 @@
 use Rattle.std.proofs.Common.{◌≤◌}
+use Rattle.ga_races.specs.kept.Asked.{IsMore, OfLook}
 use Rattle.ga_races.proofs.near.add_changes.Given as goal
 
 abbrev pub invariant-back : goal.invariant-back
-invariant-back l = l.place ≤ l.look
+invariant-back l = record {
+  within : l.place ≤ l.look;
+  more : IsMore l.acts (OfLook l.look l.place) l.fn.list.items l.list.items;
+}
 
 abbrev pub decreases-back : goal.decreases-back
 decreases-back l = l.place
