@@ -1,5 +1,5 @@
 -- Races put one behind another.
-use Rattle.std.proofs.Common.{◌≡◌, ◌≢◌, ℕ, zero, suc, ◌+◌, ◌<◌, ◌≤◌, ◌%◌, ◌^◌, ◌==◌, cond, Bool, true, false, ◌||◌, List, [], ◌∷◌, ◌++◌, length, drop, get_or, Option, Some, None, refl, sym, ◌∙◌, ap, append_assoc, arith}
+use Rattle.std.proofs.Common.{◌≡◌, ◌≢◌, ℕ, zero, suc, ◌+◌, ◌<◌, ◌≤◌, ◌%◌, ◌^◌, ◌==◌, cond, Bool, true, false, ◌||◌, List, [], ◌∷◌, ◌++◌, length, drop, get_or, Option, Some, None, refl, sym, ◌∙◌, ap, append_assoc, eq-eqb, arith}
 use Rattle.std.specs.Prelude.{IfSome, is_none}
 use Rattle.std.specs.List.{slice_get}
 use Rattle.std.proofs.lemmas.Bool.{cases_Bool, eqb-true}
@@ -8,14 +8,16 @@ use Rattle.std.proofs.lemmas.List.{append-nil, drop_more, drop_all}
 use Rattle.std.proofs.Math.Nat.{mod-eq_of_lt}
 use Rattle.ga_node.specs.Record.{NodeRecord}
 use Rattle.ga_grid.specs.declared.node_id.NodeId.{NodeId}
-use Rattle.ga_grid.specs.Grid.{node_id}
+use Rattle.ga_grid.specs.Grid.{node_id, neighbour_of}
 use Rattle.ga_grid.proofs.NodeIds.{node_id-number}
 use Rattle.ga_event.specs.declared.event.Cause.{Cause}
 use Rattle.ga_event.specs.declared.made.Made.{Made}
 use Rattle.ga_event.specs.Told.{steps_of}
-use Rattle.ga_lab.specs.Machine.{State, history_of}
+use Rattle.ga_ports.specs.declared.side.Side.{Side}
+use Rattle.ga_lab.specs.Machine.{State, chip_of, history_of, rewound}
+use Rattle.ga_search.specs.Offered.{offered}
 use Rattle.ga_search.specs.declared.races.Race.{Race}
-use Rattle.ga_search.specs.Races.{race_from, races_told, races_at, races_before, races_of, races_below, has_look, looks_next, has_next_look}
+use Rattle.ga_search.specs.Races.{race_from, races_over, races_told, races_at, races_before, races_of, races_below, has_look, looks_next, has_next_look}
 
 pub added : (r : NodeId) (k : ℕ) (w : NodeId) (word : ℕ) (other : NodeId) (offer : Option ℕ) (o cut : ℕ) → offer ≡ Some o → other.number ≢ w.number → cut ≡ o % (2 ^ 18)
     → IfSome offer (λ z. z < 2 ^ 18) → race_from r k w word (Some other.number) offer ≡ record { reader = r; step = k; writer = w; word = word; other = other; offered = cut } ∷ []
@@ -33,6 +35,18 @@ added r k w word other (Some x) o cut is ne c small =
         subst_small : x < 2 ^ 18 → o < 2 ^ 18
         subst_small l = (let e : x ≡ o = same_Some x o is in omega (arith, e, l))
 added r k w word other None o cut is ne c small = absurd (cc)
+
+-- over the side of the writer of a step nothing else came
+none_from : (r : NodeId) (k : ℕ) (w : NodeId) (word n : ℕ) (offer : Option ℕ) → n ≡ w.number → race_from r k w word (Some n) offer ≡ []
+none_from r k w word n None q = refl
+none_from r k w word n (Some x) q =
+    ap (λ (b : Bool). cond {A = List Race} b [] (record { reader = r; step = k; writer = w; word = word; other = node_id n; offered = x } ∷ [])) (eq-eqb n w.number q)
+
+pub own_side : (s : State) (r : NodeId) (k : ℕ) (w : NodeId) (word : ℕ) (side : Side) (old : List Race) → neighbour_of r.number side ≡ Some w.number
+    → old ≡ old ++ races_over s r k w word side
+own_side s r k w word side old is =
+    sym (append-nil old) ∙ ap (λ (z : List Race). old ++ z) (sym (ap (λ (o : Option ℕ). race_from r k w word o (offered (chip_of (rewound s r.number k)) r.number side)) is
+    ∙ none_from r k w word w.number (offered (chip_of (rewound s r.number k)) r.number side) refl))
 
 pub one_more : (s : State) (node : NodeId) (p : ℕ) (m : Made) (old xs ys : List Race) → xs ≡ old ++ races_before s node p → Some m ≡ slice_get (history_of s node.number) p
     → ys ≡ xs ++ races_told s node (p + 1) (Some m) → ys ≡ old ++ races_before s node (p + 1)

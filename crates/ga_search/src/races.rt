@@ -99,7 +99,8 @@ fn add_from(
     }
 }
 
-// The same over a side.
+// The same over a side, where that isn't the writer's: over this nothing else came.
+#[tactic(auto, using(crate::proofs::Racing::own_side))]
 fn add_over(
     list: &mut Vec<Race>,
     lab: &mut Lab,
@@ -118,10 +119,15 @@ fn add_over(
         return Ok(());
     }
     match neighbour(taken.reader, side) {
-        Some(other) => match offered(lab, taken.reader, taken.step, side) {
-            Ok(offer) => add_from(list, taken, other, offer),
-            Err(_) => Ok(()),
-        },
+        Some(other) => {
+            if other.number == taken.writer.number {
+                return Ok(());
+            }
+            match offered(lab, taken.reader, taken.step, side) {
+                Ok(offer) => add_from(list, taken, other, offer),
+                Err(_) => Ok(()),
+            }
+        }
         None => Ok(()),
     }
 }
