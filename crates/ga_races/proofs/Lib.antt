@@ -16,3 +16,5 @@ pub mod Contended
 pub mod Clocks
 pub mod Reaching
 pub mod Asking
+pub mod Shown
+pub mod Likeness

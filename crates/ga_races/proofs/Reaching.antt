@@ -28,7 +28,7 @@ or4_cases false true c d h = inr (inl refl)
 or4_cases false false true d h = inr (inr (inl refl))
 or4_cases false false false d h = inr (inr (inr h))
 
-or4_from : (a b c d : Bool) → (a ≡ true) ⊎ ((b ≡ true) ⊎ ((c ≡ true) ⊎ (d ≡ true))) → (a || (b || (c || d))) ≡ true
+pub or4_from : (a b c d : Bool) → (a ≡ true) ⊎ ((b ≡ true) ⊎ ((c ≡ true) ⊎ (d ≡ true))) → (a || (b || (c || d))) ≡ true
 or4_from a b c d (inl h) = or_left a (b || (c || d)) h
 or4_from a b c d (inr (inl h)) = or_right a (b || (c || d)) (or_left b (c || d) h)
 or4_from a b c d (inr (inr (inl h))) = or_right a (b || (c || d)) (or_right b (c || d) (or_left c d h))

@@ -1,3 +1,4 @@
 pub mod Marked
 pub mod Reached
 pub mod Asked
+pub mod Changed
