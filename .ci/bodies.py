@@ -20,6 +20,7 @@ class Function:
         self.path, self.indent, self.name = path, found[1], found[2]
         block = [*BLOCK.finditer(text, 0, found.start())][-1] if found[1] else None
         self.is_of_trait = bool(block and (block[1] or block[2]))
+        self.block = block and block[3]
         self.type = f"{block[3]}{block[1] or ''}" if block else None
         self.home = home_of(folder, block[3]) or path if block else path
         self.start = found.start()
@@ -153,8 +154,9 @@ def names_itself(function, body):
 
 
 def is_called(function, text):
-    """Whether a text of a function has another function's name in its body."""
-    return re.search(rf"\b{function.name}\(", text.partition("{\n")[2])
+    """Whether a text of a function seems to call another in its body: a method by a value or its type, any other by its bare name."""
+    by = rf"(?:\.|\bSelf::|\b{function.block}(?:::<[^()]*>)?::)" if function.block else r"(?<![.\w])"
+    return re.search(rf"{by}{function.name}\(", text.partition("{\n")[2])
 
 
 def original(edit):
@@ -229,6 +231,16 @@ def hole_of(path):
     """The name of the hole in the proof of a function whose body is left out."""
     crate, *place = path.split("::")
     return ".".join(["Rattle", crate, "proofs", *place, "Answers", "unreachable-requires"])
+
+
+def without_bodies(folder, path):
+    """The text of a file but for the bodies of its functions; those that a constant may need stay, and the methods of traits."""
+    text = read(f"{folder}/{path}")
+    for function in reversed(functions_of(folder, path, text)):
+        whole = text[function.start : function.end]
+        if not (function.is_of_trait or "const fn " in whole or whole.endswith("{}\n")):
+            text = f"{text[: function.start]}{function.head(whole)}{text[function.end :]}"
+    return text
 
 
 def leave_out(folder, crate, kept):
