@@ -1,8 +1,5 @@
 //! Sessions, races and command lines.
 
-mod changes;
-mod every_call;
-mod library;
 mod races;
 mod settings;
 mod streams;

@@ -1,11 +1,11 @@
-//! Pictures: one worked by hand, and those that are refused or can't be written.
+//! Pictures: one worked by hand, and those that can't be read or written.
 
+use crate::fakes::{Dripping, Narrow};
 use crate::same::{ends, holds, joined, same};
 use ga_console::Status;
 use ga_grid::NodeId;
 use ga_picture::{View, draw_session};
 use std::alloc::Global;
-use std::io::{Error, ErrorKind, Read, Result, Write};
 use std::process::Abort;
 use std::test::Fail;
 
@@ -38,27 +38,6 @@ fn view(rewind: u32) -> View {
         rewind: Some((NodeId::new(0), rewind)),
         from: 0,
         to: u32::MAX,
-    }
-}
-
-/// Takes so many bytes, and then fails.
-#[derive(Drop)]
-struct Short {
-    room: usize,
-}
-
-impl Write for Short {
-    fn write(&mut self, buf: &[u8]) -> Result<usize> {
-        if self.room == 0 {
-            return Err(Error::from(ErrorKind::Other));
-        }
-        let count = self.room.min(buf.len());
-        self.room -= count;
-        Ok(count)
-    }
-
-    fn flush(&mut self) -> Result<()> {
-        Ok(())
     }
 }
 
@@ -97,7 +76,7 @@ fn drawn_behind(
     alloc: Global,
     commands: &[u8],
     limit: u32,
-) -> std::result::Result<Vec<u8>, Fail> {
+) -> Result<Vec<u8>, Fail> {
     let input = joined(alloc, IMAGE, commands)?;
     let view = View {
         cause: None,
@@ -111,45 +90,23 @@ fn drawn_behind(
 }
 
 #[test]
-fn a_run_is_followed(rt: HostRuntime) -> std::result::Result<(), Fail> {
-    // Node 000 waits, so 001 and 002 are the first that have an event.
-    let ran = drawn_behind(&rt, rt.alloc(), b"run 2\nchip\nrun 2 until\n", 9)?;
-    let stepped = drawn_behind(&rt, rt.alloc(), b"step 001\nstep 002\n", 9)?;
-    same(&rt, ran.as_slice(), stepped.as_slice());
-    Ok(())
-}
-
-#[test]
-fn no_more_events_than_the_limit(rt: HostRuntime) -> std::result::Result<(), Fail> {
+fn no_more_events_than_the_limit(rt: HostRuntime) -> Result<(), Fail> {
     let full = drawn_behind(&rt, rt.alloc(), b"step 001\nstep 001\nrun\n", 1)?;
     let one = drawn_behind(&rt, rt.alloc(), b"step 001\n", 9)?;
     same(&rt, full.as_slice(), one.as_slice());
     Ok(())
 }
 
-/// Gives what is left of the input, and then fails.
-#[derive(Drop)]
-struct Broken {
-    left: &'static [u8],
-}
-
-impl Read for Broken {
-    fn read(&mut self, buf: &mut [u8]) -> Result<usize> {
-        if self.left.is_empty() {
-            return Err(Error::from(ErrorKind::Other));
-        }
-        let (front, rest) = self.left.split_at(self.left.len().min(buf.len()));
-        buf[..front.len()].copy_from_slice(front);
-        self.left = rest;
-        Ok(front.len())
-    }
-}
-
-static FRONTS: [&[u8]; 3] = [b"", b"ga144 1\nend\n", b"ga144 1\nend\nstep 000\n"];
+/// What is read before a reader fails, and at which of its calls it does.
+static FRONTS: [(&[u8], u32); 3] = [
+    (b"", 1),
+    (b"ga144 1\nend\n", 2),
+    (b"ga144 1\nend\nstep 000\n", 2),
+];
 
 /// A reader fails behind this input.
-fn breaks_off(rt: &impl Abort, alloc: Global, left: &'static [u8]) {
-    let mut reader = Broken { left };
+fn breaks_off(rt: &impl Abort, alloc: Global, front: &'static [u8], fails_at: u32) {
+    let mut reader = Dripping::new(front, 4096, fails_at);
     let mut output = Vec::new(alloc);
     let mut errors = Vec::new(alloc);
     let status = draw_session(alloc, &mut reader, &mut output, &mut errors, view(1), 9);
@@ -159,46 +116,15 @@ fn breaks_off(rt: &impl Abort, alloc: Global, left: &'static [u8]) {
 
 #[test]
 fn a_read_fails(rt: HostRuntime) {
-    for left in &FRONTS {
-        breaks_off(&rt, rt.alloc(), left);
+    for (front, fails_at) in &FRONTS {
+        breaks_off(&rt, rt.alloc(), front, *fails_at);
     }
 }
 
-/// An input that is refused, with what is written on standard output.
-fn is_refused(rt: &impl Abort, alloc: Global, input: &[u8], rewind: u32, wanted: &[u8]) {
-    let drawn = picture_of(alloc, input, view(rewind), 9);
-    ends(rt, drawn.status, Status::ImageRefused);
-    same(rt, drawn.picture.as_slice(), wanted);
-}
-
-#[test]
-fn no_such_step(rt: HostRuntime) {
-    is_refused(&rt, rt.alloc(), INPUT, 3, b"no 6 nostep\n");
-}
-
-#[test]
-fn a_refused_image(rt: HostRuntime) {
-    let input: &[u8] = b"ga144 1\nnode 000\nx\nend\nstep 000\n";
-    is_refused(&rt, rt.alloc(), input, 1, b"no 12 line line 3\n");
-}
-
-#[test]
-fn source_with_a_fault(rt: HostRuntime) {
-    let input: &[u8] = b"node 000\nfoo\nend\nstep 000\n";
-    let drawn = picture_of(rt.alloc(), input, view(1), 9);
-    ends(&rt, drawn.status, Status::ImageRefused);
-    same(&rt, drawn.picture.as_slice(), b"");
-    same(
-        &rt,
-        drawn.errors.as_slice(),
-        b"ga144: line 2: what is foo\n",
-    );
-}
-
-/// A writer fails behind so many bytes.
-fn fails_behind(rt: &impl Abort, alloc: Global, room: usize) {
+/// A writer that takes so many bytes at a call fails at one.
+fn fails_at(rt: &impl Abort, alloc: Global, most: usize, call: u32) {
     let mut reader = INPUT;
-    let mut writer = Short { room };
+    let mut writer = Narrow::new(alloc, most, call, false);
     let mut errors = Vec::new(alloc);
     let status = draw_session(alloc, &mut reader, &mut writer, &mut errors, view(1), 9);
     ends(rt, status, Status::StreamFault);
@@ -206,7 +132,7 @@ fn fails_behind(rt: &impl Abort, alloc: Global, room: usize) {
 
 #[test]
 fn a_write_fails(rt: HostRuntime) {
-    fails_behind(&rt, rt.alloc(), 0);
-    fails_behind(&rt, rt.alloc(), 1);
-    fails_behind(&rt, rt.alloc(), 1000);
+    fails_at(&rt, rt.alloc(), 1, 1);
+    fails_at(&rt, rt.alloc(), 1, 2);
+    fails_at(&rt, rt.alloc(), 500, 3);
 }

@@ -8,6 +8,8 @@ mod drawing;
 #[cfg(test)]
 mod exploring;
 #[cfg(test)]
+mod fakes;
+#[cfg(test)]
 mod same;
 #[cfg(test)]
 mod source;

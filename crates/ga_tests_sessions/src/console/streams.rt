@@ -1,11 +1,12 @@
 //! Streams that hand out little, fail, or are watched.
 
+use crate::fakes::{Dripping, Narrow};
 use crate::same::{ends, holds, same};
 use arrayvec::ArrayVec;
 use ga_console::{Status, session};
 use std::alloc::Global;
 use std::cell::Cell;
-use std::io::{Error, ErrorKind, Read, Result, Write};
+use std::io::{Read, Result, Write};
 use std::process::Abort;
 
 mod bound;
@@ -29,75 +30,6 @@ const WAITING: &[u8] =
 
 const DUMPED: &[u8] =
     b"ready\nga144 2\nnode 000\nb 0001d5\np 000004\ni 0089b2\nslot 0\nwait write r---\nend\n001 1 wait\npass 000 1 001 2 015555\nga144 2\nnode 000\nb 0001d5\np 000004\ni 0089b2\nslot 1\nnode 001\ni 015555\nslot 0\nend\nremoved 1 kept 1\n";
-
-/// Hands out up to so many bytes at a call, and fails at one call.
-#[derive(Drop)]
-struct Dripping {
-    left: &'static [u8],
-    most: usize,
-    calls: u32,
-    fails_at: u32,
-}
-
-impl Dripping {
-    fn new(text: &'static [u8], most: usize, fails_at: u32) -> Self {
-        Dripping {
-            left: text,
-            most,
-            calls: 0,
-            fails_at,
-        }
-    }
-}
-
-impl Read for Dripping {
-    fn read(&mut self, buf: &mut [u8]) -> Result<usize> {
-        self.calls = self.calls.saturating_add(1);
-        if self.calls == self.fails_at {
-            return Err(Error::from(ErrorKind::Interrupted));
-        }
-        let count = self.most.min(buf.len()).min(self.left.len());
-        let (front, rest) = self.left.split_at(count);
-        buf[..count].copy_from_slice(front);
-        self.left = rest;
-        Ok(count)
-    }
-}
-
-/// Takes up to so many bytes at a call, and fails at one call: by an error, or by taking nothing.
-#[derive(Drop)]
-struct Narrow {
-    taken: Vec<u8>,
-    most: usize,
-    calls: u32,
-    fails_at: u32,
-    empty: bool,
-}
-
-impl Write for Narrow {
-    fn write(&mut self, buf: &[u8]) -> Result<usize> {
-        self.calls = self.calls.saturating_add(1);
-        if self.calls == self.fails_at {
-            if self.empty {
-                return Ok(0);
-            }
-            return Err(Error::from(ErrorKind::Interrupted));
-        }
-        let count = self.most.min(buf.len());
-        if self.taken.extend_from_slice(&buf[..count]).is_err() {
-            return Err(Error::from(ErrorKind::OutOfMemory));
-        }
-        Ok(count)
-    }
-
-    fn flush(&mut self) -> Result<()> {
-        self.calls = self.calls.saturating_add(1);
-        if self.calls == self.fails_at {
-            return Err(Error::from(ErrorKind::Other));
-        }
-        Ok(())
-    }
-}
 
 /// A session whose reader hands out up to so many bytes at a call.
 fn drips(rt: &impl Abort, alloc: Global, input: &'static [u8], most: usize, wanted: &[u8]) {
@@ -155,7 +87,7 @@ fn a_read_fails(rt: HostRuntime) {
 /// How many calls a writer gets that takes all.
 fn calls_of(rt: &impl Abort, alloc: Global, input: &'static [u8], wanted: &[u8]) -> u32 {
     let mut reader = Dripping::new(input, 1, 0);
-    let mut whole = failing_writer(alloc, 0, false);
+    let mut whole = Narrow::new(alloc, 5, 0, false);
     let status = session(alloc, &mut reader, &mut whole, 9);
     ends(rt, status, Status::Done);
     same(rt, whole.taken.as_slice(), wanted);
@@ -172,7 +104,7 @@ fn fails_at(
     wanted: &[u8],
 ) {
     let mut reader = Dripping::new(input, 1, 0);
-    let mut writer = failing_writer(alloc, call, empty);
+    let mut writer = Narrow::new(alloc, 5, call, empty);
     let status = session(alloc, &mut reader, &mut writer, 9);
     ends(rt, status, Status::StreamFault);
     holds(rt, writer.calls == call);
@@ -193,16 +125,6 @@ fn a_write_fails(rt: HostRuntime) {
     fails_at_each(&rt, rt.alloc(), INPUT, OUTPUT);
     fails_at_each(&rt, rt.alloc(), LISTS, LISTED);
     fails_at_each(&rt, rt.alloc(), WAITING, DUMPED);
-}
-
-fn failing_writer(alloc: Global, fails_at: u32, empty: bool) -> Narrow {
-    Narrow {
-        taken: Vec::new(alloc),
-        most: 5,
-        calls: 0,
-        fails_at,
-        empty,
-    }
 }
 
 /// A writer that holds what it takes until it is flushed.

@@ -1,96 +1,48 @@
 //! A dump that is longer than what is gathered before it is written.
 
-use super::Narrow;
+use crate::fakes::Narrow;
 use crate::same::{ends, holds, joined};
 use ga_console::{Status, session};
-use std::alloc::{AllocError, Global};
+use ga_grid::{Chip, NodeId};
+use ga_image::print;
+use ga_node::Place;
+use std::alloc::Global;
 use std::process::Abort;
 use std::test::Fail;
 
-/// The cells with which the lines of a memory begin, and a digit for each.
-static CELLS: [(&str, &str); 8] = [
-    ("00", "0"),
-    ("08", "1"),
-    ("10", "2"),
-    ("18", "3"),
-    ("20", "4"),
-    ("28", "5"),
-    ("30", "6"),
-    ("38", "7"),
-];
+/// How many bytes are taken at a call.
+const MOST: usize = 40000;
 
-const SEVEN: &str = " 000001 000002 000003 000004 000005 000006 000007\n";
-
-const FIRST: &[u8] =
-    b"ready\nga144 2\nnode 000\nram 00 000000 000001 000002 000003 000004 000005 000006 000007\nram 08 000001 ";
-
-const LAST: &[u8] =
-    b"rom 30 007176 000001 000002 000003 000004 000005 000006 000007\nrom 38 007177 000001 000002 000003 000004 000005 000006 000007\nend\n";
-
-fn put(text: &mut Vec<u8>, parts: &[&str]) -> Result<(), AllocError> {
-    for part in parts {
-        text.extend_from_slice(part.as_bytes())?;
+/// A chip whose memories are full: each node's text has more than a thousand bytes.
+fn full_chip(alloc: Global) -> Result<Chip, Fail> {
+    let mut chip = Chip::new(alloc)?;
+    for number in 0..144u8 {
+        let node = chip.node_mut(NodeId::new(number));
+        for cell in 0..64u8 {
+            node.set(Place::Ram(cell), 1 + u32::from(cell));
+            node.set(Place::Rom(cell), 1 + u32::from(number));
+        }
     }
-    Ok(())
+    Ok(chip)
 }
 
-/// A memory of a node, line by line. The first word of each line names the node and the line.
-fn put_memory(text: &mut Vec<u8>, memory: &str, name: &str) -> Result<(), AllocError> {
-    for (cell, digit) in &CELLS {
-        put(text, &[memory, " ", *cell, " 00", name, *digit, SEVEN])?;
-    }
-    Ok(())
-}
-
-/// A node with full memories.
-fn put_node(text: &mut Vec<u8>, name: &str) -> Result<(), AllocError> {
-    put(text, &["node ", name, "\n"])?;
-    put_memory(text, "ram", name)?;
-    put_memory(text, "rom", name)
-}
-
-fn name_of(alloc: Global, number: u32) -> Result<String, AllocError> {
-    let row = number / 18;
-    let tens = number % 18 / 10;
-    let ones = number % 18 % 10;
-    format!(in alloc; "{row}{tens}{ones}")
-}
-
-/// An image of all nodes with full memories, as a dump writes it: 8 bytes, for each node 9 and sixteen lines of 63, and 4.
-fn image_of_all(alloc: Global) -> Result<Vec<u8>, AllocError> {
-    let mut text = Vec::new(alloc);
-    put(&mut text, &["ga144 2\n"])?;
-    for number in 0..144u32 {
-        let name = name_of(alloc, number)?;
-        put_node(&mut text, name.as_str())?;
-    }
-    put(&mut text, &["end\n"])?;
-    Ok(text)
-}
-
-/// Takes up to 40000 bytes at a call.
-fn wide_writer(alloc: Global, fails_at: u32) -> Narrow {
-    Narrow {
-        taken: Vec::new(alloc),
-        most: 40000,
-        calls: 0,
-        fails_at,
-        empty: false,
+/// Its image.
+fn full_image(alloc: Global) -> Result<Vec<u8>, Fail> {
+    match print(alloc, &full_chip(alloc)?) {
+        Ok(text) => Ok(text),
+        Err(_) => Err(Fail::new("no memory")),
     }
 }
 
-/// The dump of an image that a dump could have written is this image.
+/// The answers to the image and the command `dump` are a line and this image: 8 bytes, for each node 9 and sixteen lines of 63, and 4.
 fn is_dump(text: &[u8], image: &[u8]) -> bool {
-    text.len() == 146_466
-        && text.starts_with(FIRST)
-        && text.ends_with(LAST)
-        && text.strip_prefix(b"ready\n") == Some(image)
+    text.len() == 146_466 && text.strip_prefix(b"ready\n") == Some(image)
 }
 
 /// A writer fails at this call, and gets none behind it.
 fn fails_at(rt: &impl Abort, alloc: Global, input: &[u8], call: u32, wanted: &[u8]) {
     let mut reader = input;
-    let mut writer = wide_writer(alloc, call);
+    let mut writer = Narrow::new(alloc, MOST, call, false);
     let status = session(alloc, &mut reader, &mut writer, 9);
     ends(rt, status, Status::StreamFault);
     holds(rt, writer.calls == call);
@@ -99,10 +51,10 @@ fn fails_at(rt: &impl Abort, alloc: Global, input: &[u8], call: u32, wanted: &[u
 
 #[test]
 fn a_dump_of_all_nodes(rt: HostRuntime) -> Result<(), Fail> {
-    let image = image_of_all(rt.alloc())?;
+    let image = full_image(rt.alloc())?;
     let input = joined(rt.alloc(), image.as_slice(), b"dump\n")?;
     let mut reader = input.as_slice();
-    let mut whole = wide_writer(rt.alloc(), 0);
+    let mut whole = Narrow::new(rt.alloc(), MOST, 0, false);
     let status = session(rt.alloc(), &mut reader, &mut whole, 9);
     ends(&rt, status, Status::Done);
     holds(&rt, is_dump(whole.taken.as_slice(), image.as_slice()));
