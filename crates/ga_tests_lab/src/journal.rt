@@ -1,13 +1,12 @@
 //! What a journal keeps, call by call.
 
-ghost use Rattle.std.specs.Prelude.{IfOk, OnOk};
+ghost use Rattle.std.specs.Prelude.{IfOk};
 ghost use Rattle.ga_event.specs.Undo.{IsOfKind};
 ghost use Rattle.ga_journal.specs.Logs.{IsWhole};
 ghost use Rattle.ga_journal.specs.Marks.{IsAtRest};
-ghost use Rattle.ga_journal.specs.Popped.{TakesBack};
 
-use ga_event::{Cause, Effect, Event, Made, next_event};
-use ga_grid::{Chip, NodeId};
+use ga_event::{Cause, Effect, Event, Made};
+use ga_grid::NodeId;
 use ga_journal::{Chronicle, Journal, JournalFault};
 use ga_node::{Kind, Place, Saved};
 use ga_ports::Side;
@@ -16,7 +15,6 @@ use std::alloc::Global;
 use std::process::Abort;
 use std::test::Fail;
 
-mod looks;
 mod marks;
 
 // A list of one old value, a slot number.
@@ -237,68 +235,5 @@ fn pops_the_newest(rt: HostRuntime) -> Result<(), Fail> {
     has_room(&rt, &mut journal, own, Ok(()));
     holds(&rt, pops_own(&mut journal, own, Kind::Wait, 0));
     holds(&rt, journal.pop().is_none());
-    Ok(())
-}
-
-// Makes and keeps the next event of a node.
-fn make_next(journal: &mut Journal, chip: &mut Chip, node: NodeId) -> Result<Made, Fail>
-    requires whole { IsWhole journal.old.histories journal.old.made }
-    requires rest { IsAtRest journal.old }
-    ensures whole { OnOk result (IsWhole journal.new.histories journal.new.made) }
-    ensures rest { OnOk result (IsAtRest journal.new) }
-    ensures back { OnOk result (TakesBack chip.new journal.new.histories journal.new.made) }
-{
-    match next_event(chip, node) {
-        Ok(event) => {
-            journal.room(event)?;
-            Ok(journal.make(chip, event))
-        }
-        Err(_) => Err("no event".into()),
-    }
-}
-
-// Makes and keeps the next event of a node, and tells whether it is this own event.
-fn makes_own(journal: &mut Journal, chip: &mut Chip, node: NodeId, kind: Kind) -> Result<bool, Fail>
-    requires whole { IsWhole journal.old.histories journal.old.made }
-    requires rest { IsAtRest journal.old }
-    ensures whole { OnOk result (IsWhole journal.new.histories journal.new.made) }
-    ensures rest { OnOk result (IsAtRest journal.new) }
-    ensures back { OnOk result (TakesBack chip.new journal.new.histories journal.new.made) }
-{
-    let made = make_next(journal, chip, node)?;
-    let step = 1;
-    Ok(made == Made::Own { node, step, kind })
-}
-
-// Whether the newest event is this one, which is taken back.
-fn is_undone(journal: &mut Journal, chip: &mut Chip, event: Event) -> bool
-    requires rest { IsAtRest journal.old }
-    requires back { TakesBack chip.old journal.old.histories journal.old.made }
-    ensures whole { IsWhole journal.new.histories journal.new.made }
-    ensures rest { IsAtRest journal.new }
-{
-    journal.undo(chip) == Some(event)
-}
-
-fn waits(rt: &impl Abort, chip: &Chip, node: NodeId, wanted: u32) {
-    same(
-        rt,
-        u64::from(chip.node(node).get(Place::Wait)),
-        u64::from(wanted),
-    );
-}
-
-// A node at load posts a wait for an instruction from its neighbours, and has no event of its own then.
-#[test]
-fn makes_and_undoes(rt: HostRuntime) -> Result<(), Fail> {
-    let n001 = NodeId::new(1);
-    let mut chip = Chip::new(rt.alloc())?;
-    let mut journal = Journal::new(rt.alloc(), 2)?;
-    holds(&rt, makes_own(&mut journal, &mut chip, n001, Kind::Wait)?);
-    waits(&rt, &chip, n001, 30);
-    holds(&rt, is_undone(&mut journal, &mut chip, Event::Own(n001)));
-    waits(&rt, &chip, n001, 0);
-    holds(&rt, makes_own(&mut journal, &mut chip, n001, Kind::Wait)?);
-    counts(&rt, &journal, 1, 2);
     Ok(())
 }

@@ -1,16 +1,16 @@
 use crate::asserts::{each_same, same};
-use ga_fixtures::{first_difference, is_same, load, sender, taker};
+use ga_fixtures::{load, sender, taker};
 use ga_grid::{Chip, NodeId};
 use ga_lab::{Lab, LabFault, Made};
-use ga_node::{Kind, Node, Place};
+use ga_node::{Kind, Place};
 use ga_word::Word18;
 use std::alloc::Global;
 use std::process::Abort;
 use std::test::Fail;
 
 mod faults;
-mod orders;
 mod reasons;
+mod ticks;
 
 const LIMIT: u32 = 1_000_000;
 
@@ -29,36 +29,25 @@ fn steps(lab: &mut Lab, node: NodeId, count: u32) -> Result<(), LabFault> {
     Ok(())
 }
 
-// Takes a step back, with what depends on it.
-fn goes(lab: &mut Lab, node: NodeId, step: u32) -> Result<(), LabFault> {
-    let _removed = lab.rewind(node, step)?;
-    Ok(())
-}
-
 fn own(node: NodeId, step: u32, kind: Kind) -> Made {
     Made::Own { node, step, kind }
 }
 
-fn pass(writer: (NodeId, u32), reader: (NodeId, u32), word: u32) -> Made {
-    Made::Pass {
-        writer: writer.0,
-        writer_step: writer.1,
-        reader: reader.0,
-        reader_step: reader.1,
-        word: Word18::truncated(word),
-    }
-}
-
-// That of the pair.
+// The word that goes over.
 fn the_pass() -> Made {
-    pass((NodeId::new(0), 8), (NodeId::new(1), 5), 0x2a)
+    Made::Pass {
+        writer: NodeId::new(0),
+        writer_step: 8,
+        reader: NodeId::new(1),
+        reader_step: 5,
+        word: Word18::truncated(0x2a),
+    }
 }
 
 // What is asked of a lab, and what it has to answer.
 #[derive(Clone, Copy)]
 enum Act {
     Steps(NodeId, u32),
-    Goes(NodeId, u32),
     Makes(NodeId, Made),
     Refuses(NodeId, LabFault),
     Undoes(Result<(), LabFault>),
@@ -77,7 +66,6 @@ fn keeps(rt: &impl Abort, lab: &Lab, kept: u32, made: u64) {
 fn play_one(rt: &impl Abort, lab: &mut Lab, act: &Act) -> Result<(), LabFault> {
     match act {
         Act::Steps(node, count) => steps(lab, *node, *count)?,
-        Act::Goes(node, step) => goes(lab, *node, *step)?,
         Act::Makes(node, made) => same(rt, &lab.step(*node), &Ok(*made)),
         Act::Refuses(node, why) => same(rt, &lab.step(*node), &Err(*why)),
         Act::Undoes(answer) => same(rt, &lab.undo(), answer),
@@ -152,62 +140,22 @@ fn makes_and_undoes(rt: HostRuntime) -> Result<(), Fail> {
     plays_behind(&rt, rt.alloc(), &back)
 }
 
-// The contract lets a step be refused for want of memory at any time: where there is memory, each is made.
-#[test]
-fn step_always_out_of_memory(rt: HostRuntime) -> Result<(), Fail> {
-    let lab = passed(&rt, rt.alloc())?;
-    keeps(&rt, &lab, 12, 12);
-    Ok(())
-}
-
-// A node as it was after a step is this.
-fn peeks_one(rt: &impl Abort, lab: &Lab, node: NodeId, step: u32, wanted: &Node) {
-    let is_wanted = match lab.peek(node, step) {
-        Some(then) => is_same(&then, wanted),
-        None => false,
-    };
-    same(rt, &(step, is_wanted), &(step, true));
-}
-
-// It is that of a lab in which the next step was taken back.
-fn peeks_before(
-    rt: &impl Abort,
-    alloc: Global,
-    lab: &Lab,
-    node: NodeId,
-    step: u8,
-) -> Result<(), Fail> {
-    let step = u32::from(step);
-    let next = step + 1;
-    let other = passed_and(rt, alloc, &[Act::Goes(node, next)])?;
-    peeks_one(rt, lab, node, step, other.node(node));
-    Ok(())
-}
-
-// Each node before a step, and at the last step as it stands.
-fn peeks_at(
-    rt: &impl Abort,
-    alloc: Global,
-    lab: &Lab,
-    node: NodeId,
-    steps: u8,
-) -> Result<(), Fail> {
-    for step in 0..steps {
-        peeks_before(rt, alloc, lab, node, step)?;
+// What the wait of a node was after a step, if there is such a step.
+fn waited(lab: &Lab, node: NodeId, step: u32) -> Option<u32> {
+    match lab.peek(node, step) {
+        Some(then) => Some(then.get(Place::Wait)),
+        None => None,
     }
-    let last = u32::from(steps);
-    peeks_one(rt, lab, node, last, lab.node(node));
-    same(rt, &lab.peek(node, last + 1).is_none(), &true);
-    Ok(())
 }
 
+// Node 001 waited to read from its right behind its step 4, and step 5 ended that.
 #[test]
 fn peeks(rt: HostRuntime) -> Result<(), Fail> {
     let lab = passed(&rt, rt.alloc())?;
-    peeks_at(&rt, rt.alloc(), &lab, NodeId::new(0), 8)?;
-    peeks_at(&rt, rt.alloc(), &lab, NodeId::new(1), 5)?;
-    peeks_at(&rt, rt.alloc(), &lab, NodeId::new(2), 0)?;
-    keeps(&rt, &lab, 12, 12);
+    let rows = [(3, Some(0)), (4, Some(40)), (5, Some(0)), (6, None)];
+    for (step, wait) in rows {
+        same(&rt, &waited(&lab, NodeId::new(1), step), &wait);
+    }
     Ok(())
 }
 
@@ -265,30 +213,6 @@ fn tells_what_steps_overwrote(rt: HostRuntime) -> Result<(), Fail> {
 }
 
 #[test]
-fn refuses_in_order(rt: HostRuntime) -> Result<(), Fail> {
-    let n000 = NodeId::new(0);
-    let n001 = NodeId::new(1);
-    let mut chip = Chip::new(rt.alloc())?;
-    load(&mut chip, n000, sender(0x1d5, 0x2a));
-    // a write to several ports stops the node
-    load(&mut chip, n001, sender(0x1a5, 0x1));
-    let mut lab = Lab::new(rt.alloc(), chip, 14)?;
-    let acts = [
-        Act::Steps(n000, 7),
-        Act::Steps(n001, 6),
-        Act::Makes(n001, own(n001, 7, Kind::Stop(1))),
-        Act::Refuses(n000, LabFault::Waiting),
-        Act::Refuses(n001, LabFault::Stopped),
-        Act::Refuses(NodeId::new(2), LabFault::Full),
-        Act::Keeps(14, 14),
-        Act::Undoes(Ok(())),
-        Act::Makes(n001, own(n001, 7, Kind::Stop(1))),
-    ];
-    play(&rt, &mut lab, &acts)?;
-    Ok(())
-}
-
-#[test]
 fn rewinds_a_cause(rt: HostRuntime) -> Result<(), Fail> {
     let n000 = NodeId::new(0);
     let n001 = NodeId::new(1);
@@ -298,88 +222,11 @@ fn rewinds_a_cause(rt: HostRuntime) -> Result<(), Fail> {
         Act::Waits(n001, 40),
     ];
     plays_behind(&rt, rt.alloc(), &writer)?;
-    let later = [
-        Act::Makes(n001, own(n001, 6, Kind::Run(0x1c))),
-        Act::Rewinds(n000, 7, Ok(3)),
-        Act::Keeps(10, 13),
-        Act::Waits(n001, 40),
-    ];
-    plays_behind(&rt, rt.alloc(), &later)?;
     let reader = [
+        Act::Rewinds(n000, 9, Err(LabFault::NoStep)),
         Act::Rewinds(n001, 1, Ok(5)),
         Act::Keeps(7, 12),
         Act::Waits(n000, 56),
     ];
     plays_behind(&rt, rt.alloc(), &reader)
-}
-
-// In one order the second step is gone, in the other both are there.
-fn reader_first(rt: &impl Abort, alloc: Global) -> Result<Lab, Fail> {
-    let n000 = NodeId::new(0);
-    let acts = [
-        Act::Rewinds(n000, 0, Err(LabFault::NoStep)),
-        Act::Rewinds(n000, 9, Err(LabFault::NoStep)),
-        Act::Keeps(12, 12),
-        Act::Rewinds(NodeId::new(1), 1, Ok(5)),
-        Act::Rewinds(n000, 8, Err(LabFault::NoStep)),
-    ];
-    passed_and(rt, alloc, &acts)
-}
-
-fn writer_first(rt: &impl Abort, alloc: Global) -> Result<Lab, Fail> {
-    let acts = [
-        Act::Rewinds(NodeId::new(0), 8, Ok(1)),
-        Act::Keeps(11, 12),
-        Act::Rewinds(NodeId::new(1), 1, Ok(4)),
-        Act::Keeps(7, 12),
-    ];
-    passed_and(rt, alloc, &acts)
-}
-
-#[test]
-fn rewinds_no_step(rt: HostRuntime) -> Result<(), Fail> {
-    let one = reader_first(&rt, rt.alloc())?;
-    let other = writer_first(&rt, rt.alloc())?;
-    assert_same(&rt, &one, &other)
-}
-
-#[test]
-fn keeps_the_other_cause(rt: HostRuntime) -> Result<(), Fail> {
-    let n000 = NodeId::new(0);
-    let n001 = NodeId::new(1);
-    let n101 = NodeId::new(19);
-    let mut chip = Chip::new(rt.alloc())?;
-    load(&mut chip, n000, sender(0x1d5, 0x2a));
-    load(&mut chip, n001, taker(0x195));
-    load(&mut chip, n101, sender(0x115, 0x7));
-    let mut lab = Lab::new(rt.alloc(), chip, LIMIT)?;
-    let acts = [
-        Act::Steps(n001, 4),
-        Act::Steps(n101, 7),
-        Act::Makes(n001, pass((n101, 8), (n001, 5), 0x7)),
-        Act::Steps(n000, 7),
-        Act::Rewinds(n101, 7, Ok(2)),
-        Act::Keeps(17, 19),
-        Act::Makes(n000, the_pass()),
-    ];
-    play(&rt, &mut lab, &acts)?;
-    Ok(())
-}
-
-// Two labs keep the same events of a node.
-fn assert_same_history(rt: &impl Abort, one: &Lab, other: &Lab, node: NodeId) -> Result<(), Fail> {
-    let told = one.history(node)?;
-    let wanted = other.history(node)?;
-    each_same(rt, &told, &wanted);
-    Ok(())
-}
-
-// Whether two labs keep the same events and hold the same nodes.
-fn assert_same(rt: &impl Abort, one: &Lab, other: &Lab) -> Result<(), Fail> {
-    same(rt, &one.counts().kept, &other.counts().kept);
-    for number in 0..144u8 {
-        assert_same_history(rt, one, other, NodeId::new(number))?;
-    }
-    same(rt, &first_difference(one.chip(), other.chip()), &None);
-    Ok(())
 }
