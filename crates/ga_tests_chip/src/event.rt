@@ -3,10 +3,9 @@ use ga_event::{
     Effect, Event, apply, cause_of, cause_with, next_event, seen_from, touches, unapply,
 };
 use ga_fixtures::{load, reader_of_io, sender, taker};
-use ga_grid::{Chip, NodeId, neighbour};
+use ga_grid::{Chip, NodeId};
 use ga_node::{Beside, Kind, NotReady, Place, Seen, Wait};
 use ga_ports::Side;
-use std::alloc::Global;
 use std::process::Abort;
 use std::test::Fail;
 
@@ -89,23 +88,6 @@ fn is_next(rt: &impl Abort, chip: &Chip, node: NodeId, wanted: Result<Event, Not
     assert_eq!(rt; next_event(chip, node), wanted);
 }
 
-// Makes the next step of a node, or a pass, in which this word goes over.
-fn steps(rt: &impl Abort, chip: &mut Chip, node: NodeId, word: u32) -> Result<(), NotReady> {
-    let effect = step(chip, node)?;
-    holds(rt, word_of(&effect) == Some(word));
-    Ok(())
-}
-
-fn goes_over(rt: &impl Abort, chip: &mut Chip, pass: Event, word: u32) -> Result<(), NotReady> {
-    let effect = apply(chip, pass)?;
-    holds(rt, word_of(&effect) == Some(word));
-    Ok(())
-}
-
-fn is_refused(rt: &impl Abort, chip: &mut Chip, event: Event, why: NotReady) {
-    holds(rt, apply(chip, event).err() == Some(why));
-}
-
 // A word from one node to another over a side.
 fn pass(writer: NodeId, reader: NodeId, side: Side) -> Event {
     Event::Pass {
@@ -125,7 +107,10 @@ fn passes_to_the_stack(rt: HostRuntime) -> Result<(), Fail> {
     load(&mut chip, n001, taker(0x1d5));
     run(&rt, &mut chip, n000, &SENDING)?;
     is_next(&rt, &chip, n000, Err(NotReady::Waiting));
-    is_refused(&rt, &mut chip, Event::Own(n000), NotReady::Waiting);
+    holds(
+        &rt,
+        apply(&mut chip, Event::Own(n000)).err() == Some(NotReady::Waiting),
+    );
     run(&rt, &mut chip, n001, &TAKING)?;
     let pass = pass(n000, n001, Side::Right);
     is_next(&rt, &chip, n000, Ok(pass));
@@ -142,62 +127,14 @@ fn passes_to_the_stack(rt: HostRuntime) -> Result<(), Fail> {
     Ok(())
 }
 
-// A node at load waits for an instruction at all its ports, and carries out the word that comes.
-#[test]
-fn passes_an_instruction(rt: HostRuntime) -> Result<(), Fail> {
-    let n000 = NodeId::new(0);
-    let n001 = NodeId::new(1);
-    let mut chip = Chip::new(rt.alloc())?;
-    load(&mut chip, n000, sender(0x1d5, 0x2a));
-    run(&rt, &mut chip, n000, &SENDING)?;
-    run(&rt, &mut chip, n001, &[Kind::Wait])?;
-    shows(&rt, &chip, n001, showing(0x1b5, 0x15d, 0, 4, 30, 0x15555));
-    steps(&rt, &mut chip, n001, 0x2a)?;
-    shows(&rt, &chip, n001, showing(0x1b5, 0x15d, 0x2a, 0, 0, 0x15555));
-    Ok(())
-}
-
-// Node 001 takes a word from 000 and from 101 alike.
-fn two_senders(alloc: Global) -> Result<Chip, Fail> {
-    let mut chip = Chip::new(alloc)?;
-    load(&mut chip, NodeId::new(0), sender(0x1d5, 0x2a));
-    load(&mut chip, NodeId::new(1), taker(0x195));
-    load(&mut chip, NodeId::new(19), sender(0x115, 7));
-    Ok(chip)
-}
-
-// Of two writers the reader takes the one on the first of its sides, whoever posted first; the other pass may be made too.
-#[test]
-fn reader_has_an_order(rt: HostRuntime) -> Result<(), Fail> {
-    let n000 = NodeId::new(0);
-    let n001 = NodeId::new(1);
-    let n101 = NodeId::new(19);
-    let mut chip = two_senders(rt.alloc())?;
-    run(&rt, &mut chip, n001, &TAKING)?;
-    run(&rt, &mut chip, n101, &SENDING)?;
-    let below = pass(n101, n001, Side::Down);
-    is_next(&rt, &chip, n001, Ok(below));
-    run(&rt, &mut chip, n000, &SENDING)?;
-    is_next(&rt, &chip, n001, Ok(pass(n000, n001, Side::Right)));
-    is_next(&rt, &chip, n101, Ok(below));
-    goes_over(&rt, &mut chip, below, 7)?;
-    let taken = showing(2, 0x195, 0x4b02, 3, 0, 7);
-    shows(&rt, &chip, n001, taken);
-    is_refused(&rt, &mut chip, below, NotReady::Unmatched);
-    shows(&rt, &chip, n001, taken);
-    Ok(())
-}
-
-// A write to several ports stops the node.
-#[test]
-fn stops(rt: HostRuntime) -> Result<(), Fail> {
-    let n000 = NodeId::new(0);
-    let mut chip = Chip::new(rt.alloc())?;
-    load(&mut chip, n000, sender(0x1a5, 1));
-    run(&rt, &mut chip, n000, &SENDING[..6])?;
-    run(&rt, &mut chip, n000, &[Kind::Stop(1)])?;
-    is_next(&rt, &chip, n000, Err(NotReady::Stopped));
-    Ok(())
+// What node 001 sees of 000, which waits to write to it, of 101 and 002, and on the side where it has no neighbour.
+fn seen_beside() -> Seen {
+    Seen {
+        right: Beside::Writing,
+        down: Beside::Idle,
+        left: Beside::Idle,
+        up: Beside::Nobody,
+    }
 }
 
 // A read of `io` shows a neighbour that waits, and leaves it alone; it is taken back as other events are.
@@ -214,6 +151,7 @@ fn looks(rt: HostRuntime) -> Result<(), Fail> {
     let fetch = step(&mut chip, n001)?;
     holds(&rt, matches!(fetch, Effect::Own(Kind::Fetch, _)));
     holds(&rt, cause_of(&chip, own).look);
+    holds(&rt, seen_from(&chip, n001) == seen_beside());
     let look = apply(&mut chip, own)?;
     holds(&rt, matches!(look, Effect::Look(Kind::Run(0x0a), _)));
     let cause = cause_with(own, &look);
@@ -222,71 +160,5 @@ fn looks(rt: HostRuntime) -> Result<(), Fail> {
     holds(&rt, chip.node(n000).wait() == Wait::Write(Side::Right));
     unapply(&mut chip, own, &look);
     shows(&rt, &chip, n001, showing(1, 0x15d, 0x009b2, 0, 0, 0x15555));
-    Ok(())
-}
-
-// Loads one neighbour of n101 and lets it come to its wait; answers what n101 then reads of `io`.
-fn read_beside(
-    rt: &impl Abort,
-    chip: &mut Chip,
-    side: Side,
-    words: [u32; 5],
-    kinds: &[Kind],
-) -> Result<u32, NotReady> {
-    let n101 = NodeId::new(19);
-    let Some(other) = neighbour(n101, side) else {
-        return Err(NotReady::Unmatched);
-    };
-    load(chip, other, words);
-    run(rt, chip, other, kinds)?;
-    load(chip, n101, reader_of_io());
-    run(rt, chip, n101, &[Kind::Fetch, Kind::Run(0x0a)])?;
-    Ok(chip.node(n101).d(0))
-}
-
-// Each side has two bits of its own: one for a neighbour that waits to read over the side, one for one that waits to write it.
-// A neighbour that waits for another side changes neither.
-#[test]
-fn looks_at_each_side(rt: HostRuntime) -> Result<(), Fail> {
-    let rows: [(Side, u32, u32, u32); 4] = [
-        (Side::Right, 0x1d5, 0x05555, 0x1d555),
-        (Side::Down, 0x115, 0x11555, 0x17555),
-        (Side::Left, 0x175, 0x14555, 0x15d55),
-        (Side::Up, 0x145, 0x15155, 0x15755),
-    ];
-    for (side, port, reading, writing) in rows {
-        let mut chip = Chip::new(rt.alloc())?;
-        let word = read_beside(&rt, &mut chip, side, taker(port), &TAKING)?;
-        same(&rt, word, reading);
-        let mut chip = Chip::new(rt.alloc())?;
-        let word = read_beside(&rt, &mut chip, side, sender(port, 7), &SENDING)?;
-        same(&rt, word, writing);
-        let mut chip = Chip::new(rt.alloc())?;
-        let away = if side == Side::Left { 0x1d5 } else { 0x175 };
-        let word = read_beside(&rt, &mut chip, side, taker(away), &TAKING)?;
-        same(&rt, word, 0x15555);
-    }
-    Ok(())
-}
-
-// In a corner of the grid two sides have nobody, and show nothing. A fetch from `io` looks as well.
-#[test]
-fn looks_at_the_edge(rt: HostRuntime) -> Result<(), Fail> {
-    let n000 = NodeId::new(0);
-    let n001 = NodeId::new(1);
-    let mut chip = Chip::new(rt.alloc())?;
-    run(&rt, &mut chip, n001, &[Kind::Wait])?;
-    let seen = Seen {
-        right: Beside::Reading,
-        down: Beside::Idle,
-        left: Beside::Nobody,
-        up: Beside::Nobody,
-    };
-    holds(&rt, seen_from(&chip, n000) == seen);
-    load(&mut chip, n000, [0; 5]);
-    chip.node_mut(n000).set(Place::P, 0x15d);
-    let look = step(&mut chip, n000)?;
-    holds(&rt, matches!(look, Effect::Look(Kind::Fetch, _)));
-    same(&rt, chip.node(n000).get(Place::I), 0x05555);
     Ok(())
 }

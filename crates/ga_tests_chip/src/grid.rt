@@ -61,22 +61,6 @@ fn links(rt: HostRuntime) -> Result<(), Fail> {
 }
 
 #[test]
-fn load(rt: HostRuntime) -> Result<(), Fail> {
-    let mut chip = Chip::new(rt.alloc())?;
-    for (yxx, p) in [
-        (0, 0x195),
-        (1, 0x1b5),
-        (100, 0x185),
-        (101, 0x1a5),
-        (717, 0x195),
-    ] {
-        let node = there(NodeId::from_yxx(yxx))?;
-        same(&rt, chip.node(node).get(Place::P), p);
-    }
-    Ok(())
-}
-
-#[test]
 fn one_node_is_changed(rt: HostRuntime) -> Result<(), Fail> {
     let mut chip = Chip::new(rt.alloc())?;
     let changed = NodeId::new(19);

@@ -52,6 +52,7 @@ fn defaults(rt: HostRuntime) {
     }
     same(&rt, node.d(9), 0x15555);
     same(&rt, node.r(8), 0x15555);
+    same(&rt, u32::from(node.stop()), 0);
 }
 
 #[test]
@@ -63,45 +64,6 @@ fn sets_stacks(rt: HostRuntime) {
     same(&rt, node.d(9), 7);
     same(&rt, node.r(8), 8);
     same(&rt, node.get(Place::P), 0x195);
-}
-
-/// Whether the node's events are of these kinds, and the next is refused for this reason.
-fn is_run(node: &mut Node, wanted: &[Kind], reason: NotReady) -> bool {
-    for kind in wanted {
-        match node.own(Seen::nobody()) {
-            Ok((made, _)) if made == *kind => {}
-            _ => return false,
-        }
-    }
-    node.own(Seen::nobody()).err() == Some(reason)
-}
-
-/// The kinds of the sender's events.
-const SENT: [Kind; 7] = [
-    Kind::Fetch,
-    Kind::Run(0x08),
-    Kind::Run(0x1e),
-    Kind::Run(0x08),
-    Kind::Run(0x1c),
-    Kind::Fetch,
-    Kind::Wait,
-];
-
-#[test]
-fn sends_a_word(rt: HostRuntime) {
-    let mut sender = loaded(&[0x04b12, 0x001d5, 0x0002a, 0x089b2]);
-    holds(&rt, is_run(&mut sender, &SENT, NotReady::Waiting));
-    same(&rt, sender.get(Place::Wait), 56);
-}
-
-#[test]
-fn stops(rt: HostRuntime) {
-    let mut kinds = [Kind::Fetch; 8];
-    let mut several = loaded(&[0x04b12, 0x001a5, 0x00001, 0x089b2]);
-    let reason = run(&mut several, &mut kinds);
-    holds(&rt, reason == Some(NotReady::Stopped));
-    holds(&rt, kinds[6] == Kind::Stop(1));
-    same(&rt, u32::from(several.stop()), 1);
 }
 
 /// Nobody but this neighbour, on the right, below, on the left or above.
@@ -136,82 +98,12 @@ const SHOWN: [(u32, Beside, u32); 16] = [
     (3, Beside::Writing, 0x15755),
 ];
 
-/// What `@b . . .` reads, with B at `io` and another word written there.
-fn reads(rt: &impl Abort, seen: Seen, word: u32) -> Result<(), NotReady> {
-    let mut node = Node::new(0);
-    node.set(Place::Io, 7);
-    node.set(Place::I, 0x009b2);
-    node.set(Place::Slot, 0);
-    let (kind, saved) = node.own(seen)?;
-    holds(rt, kind == Kind::Run(0x0a));
-    same(rt, node.d(0), word);
-    node.restore(&saved);
-    same(rt, node.d(0), 0x15555);
-    Ok(())
-}
-
 #[test]
-fn io_shows_each_side(rt: HostRuntime) -> Result<(), Fail> {
+fn io_shows_each_side(rt: HostRuntime) {
     for (side, neighbour, word) in SHOWN {
         let seen = beside(side, neighbour);
         same(&rt, seen.io_word().get(), word);
-        reads(&rt, seen, word)?;
     }
-    Ok(())
-}
-
-/// All four neighbours.
-fn all(neighbour: Beside) -> Seen {
-    Seen {
-        right: neighbour,
-        down: neighbour,
-        left: neighbour,
-        up: neighbour,
-    }
-}
-
-#[test]
-fn io_shows_all_sides(rt: HostRuntime) {
-    same(&rt, all(Beside::Reading).io_word().get(), 0x00155);
-    same(&rt, all(Beside::Writing).io_word().get(), 0x1ff55);
-}
-
-/// `@p`, `@+`, `@b` and `@`, each with `. . .`, and their codes; and an address in all three registers, whether it is looked at
-/// there, and what is read.
-const READS: [(u32, u8, u32, bool, u32); 8] = [
-    (0x049b2, 0x08, 0x15d, true, 0x05555),
-    (0x049b2, 0x08, 0x020, false, 0),
-    (0x069b2, 0x09, 0x15d, true, 0x05555),
-    (0x069b2, 0x09, 0x020, false, 0),
-    (0x009b2, 0x0a, 0x15d, true, 0x05555),
-    (0x009b2, 0x0a, 0x020, false, 0),
-    (0x029b2, 0x0b, 0x15d, true, 0x05555),
-    (0x029b2, 0x0b, 0x020, false, 0),
-];
-
-/// A node with this instruction, and this address in its registers.
-fn reader(word: u32, address: u32) -> Node {
-    let address = address % 0x200;
-    let mut node = Node::new(address);
-    node.set(Place::A, address);
-    node.set(Place::B, address);
-    node.set(Place::I, Word18::truncated(word).get());
-    node.set(Place::Slot, 0);
-    node
-}
-
-#[test]
-fn looks_by_each_read(rt: HostRuntime) -> Result<(), Fail> {
-    for (word, code, address, look, read) in READS {
-        let mut node = reader(word, address);
-        holds(&rt, node.looks() == look);
-        let (kind, _) = node.own(beside(0, Beside::Reading))?;
-        holds(&rt, kind == Kind::Run(code));
-        same(&rt, node.d(0), read);
-        same(&rt, node.get(Place::Slot), 1);
-        holds(&rt, !node.looks());
-    }
-    Ok(())
 }
 
 #[test]
@@ -267,28 +159,6 @@ fn transfers_and_takes_back(rt: HostRuntime) -> Result<(), Fail> {
     let _reason = run(&mut sender, &mut kinds);
     let _reason = run(&mut taker, &mut kinds);
     transfer(&rt, &mut sender, &mut taker)
-}
-
-fn takes_an_instruction(rt: &impl Abort, node: &mut Node) -> Result<(), Fail> {
-    let Wait::Fetch(_) = node.wait() else {
-        return Err(Fail::new("no wait"));
-    };
-    let taken = node.take_half(Word18::truncated(0x2a));
-    same(rt, node.get(Place::I), 0x2a);
-    same(rt, node.get(Place::Slot), 0);
-    node.restore(&taken);
-    same(rt, node.get(Place::Wait), 30);
-    same(rt, node.get(Place::Slot), 4);
-    Ok(())
-}
-
-#[test]
-fn waits_for_an_instruction(rt: HostRuntime) -> Result<(), Fail> {
-    let mut node = Node::new(0x1b5);
-    holds(&rt, is_run(&mut node, &[Kind::Wait], NotReady::Waiting));
-    same(&rt, node.get(Place::Wait), 30);
-    same(&rt, node.get(Place::P), 0x1b5);
-    takes_an_instruction(&rt, &mut node)
 }
 
 /// What `push` overwrites, in this order.

@@ -18,22 +18,6 @@ fn has_returns(rt: &impl Abort, stack: &ReturnStack, wanted: &[u32; 9]) {
 }
 
 #[test]
-fn wraps_around(rt: HostRuntime) {
-    let mut stack = DataStack::new();
-    has_words(&rt, &stack, &[0x15555; 10]);
-    for number in 1..12 {
-        let _overwritten = stack.push(Word18::truncated(number));
-    }
-    has_words(&rt, &stack, &[11, 10, 9, 8, 7, 6, 5, 4, 3, 2]);
-    let _overwritten = stack.pop();
-    has_words(&rt, &stack, &[10, 9, 8, 7, 6, 5, 4, 3, 2, 9]);
-    for _ in 0..10u8 {
-        let _overwritten = stack.pop();
-    }
-    has_words(&rt, &stack, &[8, 7, 6, 5, 4, 3, 2, 9, 8, 7]);
-}
-
-#[test]
 fn of_lists(rt: HostRuntime) {
     let first = Word18::truncated(1);
     let other = Word18::truncated(2);
@@ -76,36 +60,6 @@ fn places(rt: HostRuntime) {
 }
 
 #[test]
-fn places_of_returns(rt: HostRuntime) {
-    let mut stack = ReturnStack::new();
-    stack.set(StackPlace::Top, 9);
-    stack.set(StackPlace::Cell(0), 6);
-    same(&rt, stack.get(StackPlace::Top), 9);
-    same(&rt, stack.get(StackPlace::Cell(0)), 6);
-    same(&rt, stack.at(1).get(), 6);
-    stack.set(StackPlace::Pointer, 7);
-    same(&rt, stack.get(StackPlace::Pointer), 7);
-    same(&rt, stack.at(2).get(), 6);
-}
-
-#[test]
-fn return_ring_wraps(rt: HostRuntime) {
-    let mut stack = ReturnStack::new();
-    for number in 1..11 {
-        let _overwritten = stack.push(Word18::truncated(number));
-    }
-    for place in 0..9u8 {
-        same(&rt, stack.at(place).get(), 10 - u32::from(place));
-    }
-    let _overwritten = stack.pop();
-    same(&rt, stack.at(8).get(), 9);
-    for _ in 0..8u8 {
-        let _overwritten = stack.pop();
-    }
-    has_returns(&rt, &stack, &[9, 8, 7, 6, 5, 4, 3, 2, 9]);
-}
-
-#[test]
 fn returns(rt: HostRuntime) {
     let mut stack = ReturnStack::new();
     let _overwritten = stack.push(Word18::truncated(7));
@@ -115,4 +69,6 @@ fn returns(rt: HostRuntime) {
     let _overwritten = stack.pop();
     same(&rt, stack.top().get(), 0x15555);
     same(&rt, stack.at(8).get(), 0x15555);
+    stack.set(StackPlace::Cell(0), 6);
+    same(&rt, stack.get(StackPlace::Cell(0)), 6);
 }

@@ -7,24 +7,6 @@ fn word(number: u32) -> Result<Word18, Fail> {
     there(Word18::new(number))
 }
 
-/// T, S and A, and T and A behind a step.
-const MULTIPLY_STEPS: [(u32, u32, u32, u32, u32); 4] = [
-    (3, 5, 1, 4, 0),
-    (2, 5, 3, 3, 0x20001),
-    (0x3ffff, 0, 0, 0x3ffff, 0x20000),
-    (0x20000, 0x3ffff, 1, 0x2ffff, 0x20000),
-];
-
-#[test]
-fn multiply_steps(rt: HostRuntime) -> Result<(), Fail> {
-    for (t, s, a, left, right) in MULTIPLY_STEPS {
-        let (high, low) = Word18::mul_step(word(t)?, word(s)?, word(a)?);
-        same(&rt, high.get(), left);
-        same(&rt, low.get(), right);
-    }
-    Ok(())
-}
-
 #[test]
 fn arithmetic(rt: HostRuntime) -> Result<(), Fail> {
     holds(&rt, Word18::new(0x40000).is_none());
@@ -36,6 +18,9 @@ fn arithmetic(rt: HostRuntime) -> Result<(), Fail> {
     holds(&rt, greatest.signed() == -1);
     same(&rt, greatest.shl().get(), 0x3fffe);
     same(&rt, word(0x20002)?.shr().get(), 0x30001);
+    let (high, low) = Word18::mul_step(word(2)?, word(5)?, word(3)?);
+    same(&rt, high.get(), 3);
+    same(&rt, low.get(), 0x20001);
     Ok(())
 }
 
