@@ -7,14 +7,6 @@ use ga_image::{ImageCause, ImageFault, parse, print};
 use ga_node::Place;
 use std::alloc::Global;
 
-/// Node 000 sends 2a to the right, node 001 reads `io`, and so looks at it.
-pub const SENDER_AND_LOOKER: &[u8] =
-    b"ga144 1\nnode 000\np 000000\nram 00 004b12 0001d5 00002a 0089b2\nnode 001\np 000000\nram 00 0009b2\nend\n";
-
-/// Node 000 sends 2a to the right, node 001 fetches from `io` first, and so looks at it.
-pub const SENDER_AND_FETCHER: &[u8] =
-    b"ga144 1\nnode 000\np 000000\nram 00 004b12 0001d5 00002a 0089b2\nnode 001\np 00015d\nend\n";
-
 /// Want of memory.
 const MEMORY: ImageFault = ImageFault {
     line: 0,

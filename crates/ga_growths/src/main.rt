@@ -11,12 +11,7 @@ mod images;
 mod labs;
 mod messages;
 mod outcome;
-mod page;
-mod pictures;
-mod sessions;
 mod shared;
-mod sources;
-mod turns;
 
 use outcome::Outcome;
 use std::alloc::Global;
@@ -85,24 +80,9 @@ fn run_of<R: Threads + Wait + Sync>(rt: &R, alloc: Global, run: &str) -> Outcome
         "causes" => causes::causes(alloc),
         "lab" => labs::lab(alloc),
         "messages" => messages::messages(alloc),
-        "session" => sessions::session_with_lists(alloc),
-        "session-readings" => sessions::session_with_readings(alloc),
-        "session-looks" => sessions::session_with_looks(alloc),
-        "session-fetches" => sessions::session_with_fetches(alloc),
-        "session-format-2" => sessions::session_of_second_format(alloc),
-        "explore" => sessions::exploring(alloc),
-        "explore-looks" => sessions::exploring_looks(alloc),
-        "explore-source" => sources::explored(alloc),
-        "draw" => pictures::picture(alloc),
         "shared" => shared::calls_repeated(rt, alloc),
         "shared-broken-off" => shared::calls_broken_off(rt, alloc),
         "race" => shared::race_of_one(rt, alloc),
-        "race-report" => shared::report_of_one(rt, alloc),
-        "asm" => sources::assembled(alloc),
-        "list" => sources::listed(alloc),
-        "list-faults" => sources::listed_behind(alloc),
-        "dis" => sources::disassembled(alloc),
-        "arguments" => shared::command_line(alloc),
         _ => Outcome::Wrong("there is no such run"),
     }
 }

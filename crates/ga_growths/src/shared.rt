@@ -4,9 +4,6 @@ ghost use Rattle.std.specs.Prelude.{◌≡◌, ◌<◌, ◌^◌, All, IfOk, vec_
 
 use crate::labs::{LIMIT, linked};
 use crate::outcome::Outcome;
-use crate::page::Page;
-use ga_console::{LineFault, Settings, Status, arguments, race_report};
-use ga_fixtures::SENDER_AND_TAKER;
 use ga_grid::NodeId;
 use ga_lab::Made;
 use ga_node::Kind;
@@ -179,30 +176,4 @@ fn one_list(alloc: Global) -> Result<Vec<Vec<Call>>, AllocError>
     let mut lists = Vec::new(alloc);
     lists.push(calls.as_slice().to_vec(alloc)?)?;
     Ok(lists)
-}
-
-/// The report of a race of one worker. Nothing is written where it is not finished.
-pub fn report_of_one<R: Threads + Wait + Sync>(rt: &R, alloc: Global) -> Outcome {
-    let mut reader = SENDER_AND_TAKER;
-    let mut writer = Page::new();
-    let status = race_report(rt, alloc, &mut reader, &mut writer, 1, 8, LIMIT);
-    if status == Status::NotFinished && writer.holds(b"") {
-        Outcome::Refused("race")
-    } else if status == Status::Done && writer.holds(b"calls 8\nmade 7\nkept 7\n") {
-        Outcome::Answered
-    } else {
-        Outcome::Wrong("another report")
-    }
-}
-
-/// A command line.
-pub fn command_line(alloc: Global) -> Outcome {
-    let line = ["ga144", "debug", "--limit", "3"];
-    match arguments(alloc, line.as_slice()) {
-        Ok(Settings::Debug { limit: 3 }) => Outcome::Answered,
-        Ok(_) => Outcome::Wrong("other settings"),
-        Err(LineFault::Refused(_)) => Outcome::Refused("command line"),
-        Err(LineFault::Memory) => Outcome::Refused("command line"),
-        Err(LineFault::Help(_)) => Outcome::Wrong("help"),
-    }
 }
