@@ -1,12 +1,14 @@
-/* Loaded before a program (LD_PRELOAD), this refuses one growth of its memory: the thousandth that the program itself asks for, counted
-   from the first of one byte, with which crates/ga_growths begins to count. What the C library asks for, as where it starts a thread,
-   isn't counted. Nothing else is changed. */
+/* Loaded before a program (LD_PRELOAD), this refuses the growth of its memory whose number is REFUSED, and makes the file REFUSED_TOLD then.
+   Counted is what the program itself asks for, from its first growth on, or from the first of so many bytes as REFUSED_FROM says: with one
+   of one byte crates/ga_growths begins to count. What the C library asks for, as where it starts a thread, isn't counted. Nothing else is
+   changed. */
 #define _GNU_SOURCE
 #include <dlfcn.h>
+#include <fcntl.h>
 #include <stddef.h>
+#include <stdlib.h>
 #include <string.h>
-
-#define REFUSED 1000
+#include <unistd.h>
 
 static int begun;
 static unsigned grown;
@@ -17,11 +19,20 @@ static int is_own(void *caller) {
     return dladdr(caller, &from) && !strstr(from.dli_fname, ".so");
 }
 
+static unsigned number(const char *name) {
+    const char *value = getenv(name);
+    return value ? (unsigned)strtoul(value, NULL, 10) : 0;
+}
+
 /* Whether the growth that is asked for there is the one to refuse. */
 static int is_refused(void *caller, size_t size) {
+    unsigned from = number("REFUSED_FROM");
     if (!is_own(caller)) return 0;
-    if (size == 1) __atomic_store_n(&begun, 1, __ATOMIC_SEQ_CST);
-    return __atomic_load_n(&begun, __ATOMIC_SEQ_CST) && __atomic_add_fetch(&grown, 1, __ATOMIC_SEQ_CST) == REFUSED;
+    if (!from || size == from) __atomic_store_n(&begun, 1, __ATOMIC_SEQ_CST);
+    if (!__atomic_load_n(&begun, __ATOMIC_SEQ_CST)) return 0;
+    if (__atomic_add_fetch(&grown, 1, __ATOMIC_SEQ_CST) != number("REFUSED")) return 0;
+    if (getenv("REFUSED_TOLD")) close(open(getenv("REFUSED_TOLD"), O_CREAT | O_WRONLY, 0600));
+    return 1;
 }
 
 void *malloc(size_t size) {
