@@ -26,24 +26,32 @@ fn go(rt: &impl Print, lab: &mut Lab, node: NodeId) -> anyhow::Result<()> {
     Ok(())
 }
 
-fn walk(rt: &impl Print, alloc: Global) -> anyhow::Result<()> {
-    let chip = parse(alloc, IMAGE)?;
-    let mut lab = Lab::new(alloc, chip, LIMIT)?;
-    let (sender, reader) = (NodeId::new(0), NodeId::new(1));
-    go(rt, &mut lab, sender)?;
-    go(rt, &mut lab, reader)?;
-
-    // Step 5 of the reader took the word. Was step 4 of the sender, which read it from memory, a cause?
+/// Steps both nodes, and tells how step 4 of the sender, which read the word from memory, led to step 5 of the reader, which took it.
+fn send(rt: &impl Print, lab: &mut Lab, sender: NodeId, reader: NodeId) -> anyhow::Result<()> {
+    go(rt, lab, sender)?;
+    go(rt, lab, reader)?;
     let chain = lab.why((sender, 4), (reader, 5))?.context("no cause")?;
     println!(rt; "a chain of {} events", chain.len())?;
+    Ok(())
+}
 
-    let removed = lab.rewind(sender, 4)?;
+/// Takes a step back, with all that depends on it.
+fn take_back(rt: &impl Print, lab: &mut Lab, node: NodeId, step: u32) -> anyhow::Result<()> {
+    let removed = lab.rewind(node, step)?;
     let counts = lab.counts();
     println!(rt;
         "removed {removed}, kept {}, made {}",
         counts.kept, counts.made
     )?;
     Ok(())
+}
+
+fn walk(rt: &impl Print, alloc: Global) -> anyhow::Result<()> {
+    let chip = parse(alloc, IMAGE)?;
+    let mut lab = Lab::new(alloc, chip, LIMIT)?;
+    let (sender, reader) = (NodeId::new(0), NodeId::new(1));
+    send(rt, &mut lab, sender, reader)?;
+    take_back(rt, &mut lab, sender, 4)
 }
 
 fn main(rt: HostRuntime) -> ExitCode {
