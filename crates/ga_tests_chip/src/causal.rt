@@ -5,6 +5,8 @@ use ga_causal::{Cause, Chain, Link, Marks, Nodes, check_chain, closure, find_cha
 use ga_event::Event;
 use ga_grid::NodeId;
 use ga_ports::Side;
+use std::alloc::Global;
+use std::process::Abort;
 use std::test::Fail;
 
 fn plain(event: Event) -> Cause {
@@ -67,39 +69,82 @@ fn sets_of_nodes(rt: HostRuntime) -> Result<(), Fail> {
     Ok(())
 }
 
+// The links between two of the events.
+fn links_are(
+    rt: &impl Abort,
+    alloc: Global,
+    from: u32,
+    to: u32,
+    wanted: &[Link],
+) -> Result<(), Fail>
+    requires from { from < 5 }
+    requires to { to < 5 }
+{
+    let events = events();
+    let chain = there(find_chain(alloc, &events, from, to)?)?;
+    holds(rt, chain.links() == wanted);
+    holds(rt, chain.len() == wanted.len() && !chain.is_empty());
+    holds(rt, chain.get(0) == Some(link(from, 0)));
+    holds(rt, check_chain(&events, &chain));
+    Ok(())
+}
+
 #[test]
 fn chains(rt: HostRuntime) -> Result<(), Fail> {
-    let events = events();
-    let chain = there(find_chain(rt.alloc(), &events, 1, 3)?)?;
-    let links = [link(1, 0), link(2, 2), link(3, 2)];
-    holds(&rt, chain.links() == links.as_slice());
-    holds(&rt, chain.len() == 3 && !chain.is_empty());
-    holds(
-        &rt,
-        chain.get(2) == Some(link(3, 2)) && chain.get(3).is_none(),
-    );
-    holds(&rt, check_chain(&events, &chain));
-    holds(&rt, find_chain(rt.alloc(), &events, 0, 4)?.is_none());
-    let apart = [link(1, 0), link(3, 1)];
-    let apart = Chain::new(apart.as_slice().to_vec(rt.alloc())?);
-    holds(&rt, !check_chain(&events, &apart));
+    links_are(&rt, rt.alloc(), 0, 3, &[link(0, 0), link(3, 1)])?;
+    let long = [link(1, 0), link(2, 2), link(3, 2)];
+    links_are(&rt, rt.alloc(), 1, 3, &long)?;
+    holds(&rt, find_chain(rt.alloc(), &events(), 0, 4)?.is_none());
     Ok(())
+}
+
+// Whether these links are a chain of the events.
+fn checked(rt: &impl Abort, alloc: Global, links: &[Link], wanted: bool) -> Result<(), Fail> {
+    let chain = Chain::new(links.to_vec(alloc)?);
+    holds(rt, check_chain(&events(), &chain) == wanted);
+    Ok(())
+}
+
+#[test]
+fn checks(rt: HostRuntime) -> Result<(), Fail> {
+    let other = [link(0, 0), link(2, 2), link(3, 2)];
+    checked(&rt, rt.alloc(), &other, true)?;
+    checked(&rt, rt.alloc(), &[link(1, 0), link(3, 1)], false)?;
+    checked(&rt, rt.alloc(), &[link(5, 0)], false)?;
+    checked(&rt, rt.alloc(), &[], false)
+}
+
+// Which events of a list depend on one of them.
+fn depend(
+    rt: &impl Abort,
+    alloc: Global,
+    events: &[Cause; 5],
+    place: u32,
+    wanted: &[bool; 5],
+) -> Result<(), Fail>
+    requires { place < 5 }
+{
+    let flags = closure(alloc, events, place)?;
+    holds(rt, flags.as_slice() == wanted.as_slice());
+    Ok(())
+}
+
+#[test]
+fn dependents(rt: HostRuntime) -> Result<(), Fail> {
+    let first = [true, false, true, true, false];
+    depend(&rt, rt.alloc(), &events(), 0, &first)?;
+    let second = [false, true, true, true, false];
+    depend(&rt, rt.alloc(), &events(), 1, &second)
 }
 
 // A look depends on what the neighbours did before, and they do not depend on it.
 #[test]
 fn looks_go_one_way(rt: HostRuntime) -> Result<(), Fail> {
     let events = [own(0), look(1), own(0), own(1), own(2)];
-    let flags = closure(rt.alloc(), &events, 0)?;
-    holds(
-        &rt,
-        flags.as_slice() == [true, true, true, true, false].as_slice(),
-    );
-    let flags = closure(rt.alloc(), &events, 1)?;
-    holds(
-        &rt,
-        flags.as_slice() == [false, true, false, true, false].as_slice(),
-    );
+    let first = [true, true, true, true, false];
+    depend(&rt, rt.alloc(), &events, 0, &first)?;
+    let second = [false, true, false, true, false];
+    depend(&rt, rt.alloc(), &events, 1, &second)?;
     let mut marks = Marks::new(own(0));
     holds(
         &rt,

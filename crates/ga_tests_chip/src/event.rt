@@ -6,6 +6,7 @@ use ga_fixtures::{load, reader_of_io, sender, taker};
 use ga_grid::{Chip, NodeId};
 use ga_node::{Beside, Kind, NotReady, Place, Seen, Wait};
 use ga_ports::Side;
+use std::alloc::Global;
 use std::process::Abort;
 use std::test::Fail;
 
@@ -88,6 +89,10 @@ fn is_next(rt: &impl Abort, chip: &Chip, node: NodeId, wanted: Result<Event, Not
     assert_eq!(rt; next_event(chip, node), wanted);
 }
 
+fn is_refused(rt: &impl Abort, chip: &mut Chip, event: Event, why: NotReady) {
+    holds(rt, apply(chip, event).err() == Some(why));
+}
+
 // A word from one node to another over a side.
 fn pass(writer: NodeId, reader: NodeId, side: Side) -> Event {
     Event::Pass {
@@ -107,10 +112,7 @@ fn passes_to_the_stack(rt: HostRuntime) -> Result<(), Fail> {
     load(&mut chip, n001, taker(0x1d5));
     run(&rt, &mut chip, n000, &SENDING)?;
     is_next(&rt, &chip, n000, Err(NotReady::Waiting));
-    holds(
-        &rt,
-        apply(&mut chip, Event::Own(n000)).err() == Some(NotReady::Waiting),
-    );
+    is_refused(&rt, &mut chip, Event::Own(n000), NotReady::Waiting);
     run(&rt, &mut chip, n001, &TAKING)?;
     let pass = pass(n000, n001, Side::Right);
     is_next(&rt, &chip, n000, Ok(pass));
@@ -124,6 +126,38 @@ fn passes_to_the_stack(rt: HostRuntime) -> Result<(), Fail> {
     unapply(&mut chip, pass, &effect);
     shows(&rt, &chip, n000, showing(4, 0x1d5, 0x89b2, 0, 56, 0x2a));
     shows(&rt, &chip, n001, showing(2, 0x1d5, 0x4b02, 2, 40, 0x15555));
+    Ok(())
+}
+
+// Node 001 takes a word from 000 and from 101 alike.
+fn two_senders(alloc: Global) -> Result<Chip, Fail> {
+    let mut chip = Chip::new(alloc)?;
+    load(&mut chip, NodeId::new(0), sender(0x1d5, 0x2a));
+    load(&mut chip, NodeId::new(1), taker(0x195));
+    load(&mut chip, NodeId::new(19), sender(0x115, 7));
+    Ok(chip)
+}
+
+// Of two writers the reader takes the one on the first of its sides, whoever posted first; the other pass may be made too.
+#[test]
+fn reader_has_an_order(rt: HostRuntime) -> Result<(), Fail> {
+    let n000 = NodeId::new(0);
+    let n001 = NodeId::new(1);
+    let n101 = NodeId::new(19);
+    let mut chip = two_senders(rt.alloc())?;
+    run(&rt, &mut chip, n001, &TAKING)?;
+    run(&rt, &mut chip, n101, &SENDING)?;
+    let below = pass(n101, n001, Side::Down);
+    is_next(&rt, &chip, n001, Ok(below));
+    run(&rt, &mut chip, n000, &SENDING)?;
+    is_next(&rt, &chip, n001, Ok(pass(n000, n001, Side::Right)));
+    is_next(&rt, &chip, n101, Ok(below));
+    let effect = apply(&mut chip, below)?;
+    holds(&rt, word_of(&effect) == Some(7));
+    let taken = showing(2, 0x195, 0x4b02, 3, 0, 7);
+    shows(&rt, &chip, n001, taken);
+    is_refused(&rt, &mut chip, below, NotReady::Unmatched);
+    shows(&rt, &chip, n001, taken);
     Ok(())
 }
 
