@@ -1,5 +1,6 @@
 //! Sessions, races and command lines.
 
+mod library;
 mod races;
 mod settings;
 mod streams;

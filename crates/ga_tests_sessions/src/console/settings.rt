@@ -19,16 +19,21 @@ fn asks(rt: &impl Abort, alloc: Global, words: &[&str], wanted: Option<Settings>
     assert!(rt; is_asked(alloc, words, wanted), "{words:?}");
 }
 
-static RACE: [&str; 8] = [
-    "ga144",
-    "race",
-    "--calls",
-    "100000",
-    "--limit",
-    "7",
-    "--workers",
-    "16",
+/// Command lines that are refused.
+static REFUSED: [&[&str]; 3] = [
+    &["ga144"],
+    &["ga144", "debug", "--limit", "0"],
+    &["ga144", "race", "--workers", "17", "--calls", "1"],
 ];
+
+#[test]
+fn refused(rt: HostRuntime) {
+    for words in &REFUSED {
+        asks(&rt, rt.alloc(), words, None);
+    }
+}
+
+static RACE: [&str; 6] = ["ga144", "race", "--workers", "2", "--calls", "4"];
 
 static PART: [&str; 11] = [
     "ga144", "draw", "--to", "9", "--rewind", "717", "0", "--from=2", "--cause", "001", "10",
@@ -36,11 +41,17 @@ static PART: [&str; 11] = [
 
 #[test]
 fn command_lines(rt: HostRuntime) {
-    asks(&rt, rt.alloc(), &["ga144"], None);
+    let debug = Settings::Debug { limit: 3 };
+    asks(
+        &rt,
+        rt.alloc(),
+        &["ga144", "debug", "--limit", "3"],
+        Some(debug),
+    );
     let race = Settings::Race {
-        workers: 16,
-        calls: 100_000,
-        limit: 7,
+        workers: 2,
+        calls: 4,
+        limit: 1_000_000,
     };
     asks(&rt, rt.alloc(), &RACE, Some(race));
     let part = Settings::Draw {

@@ -84,6 +84,26 @@ fn a_read_fails(rt: HostRuntime) {
     }
 }
 
+/// The sender and the taker, up to the word that goes over.
+const TRANSFER: &[u8] =
+    b"ga144 1\nnode 000\np 000000\nram 00 004b12 0001d5 00002a 0089b2\nnode 001\np 000000\nram 00 004b02 0001d5\nend\nstep 000\nstep 000\nstep 000\nstep 000\nstep 000\nstep 000\nstep 000\nstep 001\nstep 001\nstep 001\nstep 001\nstep 001\n";
+
+const EIGHT: &[u8] =
+    b"ready\n000 1 fetch\n000 2 run 08\n000 3 run 1e\n000 4 run 08\n000 5 run 1c\n000 6 fetch\n000 7 wait\n001 1 fetch\n";
+
+// A reader of single bytes fails within the ninth command, also where the bytes so far would be one: eight are answered.
+#[test]
+fn a_read_fails_in_the_ninth_command(rt: HostRuntime) {
+    // 104 bytes of image, and eight commands of nine
+    for fails_at in 177..186u32 {
+        let mut reader = Dripping::new(TRANSFER, 1, fails_at);
+        let mut output = Vec::new(rt.alloc());
+        let status = session(rt.alloc(), &mut reader, &mut output, 99);
+        ends(&rt, status, Status::StreamFault);
+        same(&rt, output.as_slice(), EIGHT);
+    }
+}
+
 /// How many calls a writer gets that takes all.
 fn calls_of(rt: &impl Abort, alloc: Global, input: &'static [u8], wanted: &[u8]) -> u32 {
     let mut reader = Dripping::new(input, 1, 0);
