@@ -140,6 +140,14 @@ fn makes_and_undoes(rt: HostRuntime) -> Result<(), Fail> {
     plays_behind(&rt, rt.alloc(), &back)
 }
 
+// The contract lets a step be refused for want of memory at any time: where there is memory, each is made.
+#[test]
+fn step_always_out_of_memory(rt: HostRuntime) -> Result<(), Fail> {
+    let lab = passed(&rt, rt.alloc())?;
+    keeps(&rt, &lab, 12, 12);
+    Ok(())
+}
+
 // What the wait of a node was after a step, if there is such a step.
 fn waited(lab: &Lab, node: NodeId, step: u32) -> Option<u32> {
     match lab.peek(node, step) {
