@@ -192,14 +192,18 @@ def in_place(folder, edits):
     return chosen
 
 
+def can_be_copied(edit):
+    """Whether a function can stand under another name: it is no method of a trait, and doesn't name itself."""
+    return not edit.function.is_of_trait and not names_itself(edit.function, original(edit))
+
+
 def copies_of(folder, edits, those):
     """A copy with each edit that isn't tried in its place, and one of each edited function as it is, where something is written of its
     proof or an edit asks to be tried in its place; but for what can't be copied."""
     wrong, plain = [], {}
     for number, edit in enumerate(edits):
         function, place, whole = edit.function, edit.function.place(), original(edit)
-        can_be = not function.is_of_trait and not names_itself(function, whole)
-        if edit not in those and os.path.isdir(f"{folder}/proofs/{'/'.join(place)}") or edit.is_alone and can_be:
+        if edit not in those and os.path.isdir(f"{folder}/proofs/{'/'.join(place)}") or edit.is_alone and can_be_copied(edit):
             plain[tuple(place)] = Copy(function, whole, "as_it_is", None)
         if edit not in those:
             wrong.append(Copy(function, edit.body, f"wrong_{number}", edit))
