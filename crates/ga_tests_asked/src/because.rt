@@ -1,6 +1,6 @@
 use crate::asserts::same;
 use ga_event::Made;
-use ga_fixtures::{load, sender};
+use ga_fixtures::load;
 use ga_flow::Part;
 use ga_grid::{Chip, NodeId};
 use ga_lab::{Lab, LabFault};
@@ -66,32 +66,5 @@ fn tests_of_words(rt: HostRuntime) -> Result<(), Fail> {
     newest(&rt, &lab, 0, 6, Some(tested(3, 6, Part::T, 5, 2)));
     newest(&rt, &lab, 0, 4, Some(tested(3, 6, Part::T, 5, 2)));
     newest(&rt, &lab, 0, 3, None);
-    Ok(())
-}
-
-// Node 001 waits for code, and node 000 sends it 2a in its step 8.
-#[test]
-fn code_over_a_link(rt: HostRuntime) -> Result<(), Fail> {
-    let mut chip = Chip::new(rt.alloc())?;
-    load(&mut chip, NodeId::new(0), sender(0x1d5, 0x2a));
-    let mut lab = Lab::new(rt.alloc(), chip, 1_000)?;
-    steps(&mut lab, 0, 7)?;
-    steps(&mut lab, 1, 3)?;
-    let word = Word18::truncated(0x2a);
-    let code = Decision {
-        step: 2,
-        made: Made::Pass {
-            writer: NodeId::new(0),
-            writer_step: 8,
-            reader: NodeId::new(1),
-            reader_step: 2,
-            word,
-        },
-        tested: value(0, 7, Part::T),
-        word,
-        source: value(0, 4, Part::T),
-    };
-    newest(&rt, &lab, 1, 3, Some(code));
-    newest(&rt, &lab, 1, 2, None);
     Ok(())
 }

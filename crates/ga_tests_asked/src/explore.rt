@@ -1,5 +1,5 @@
 use crate::asserts::{each_same, same};
-use ga_fixtures::{load, reader_of_io, sender, taker};
+use ga_fixtures::{load, sender, taker};
 use ga_grid::{Chip, NodeId};
 use ga_lab::{Lab, LabFault, Made};
 use ga_node::{Kind, Place};
@@ -63,20 +63,6 @@ fn ends(rt: &impl Abort, ran: Ran, events: u64, end: End) {
     same(rt, &ran.end, &end);
 }
 
-// In rounds both nodes make four events in turn, then 000 alone goes on up to its wait.
-#[test]
-fn rounds(rt: HostRuntime) -> Result<(), Fail> {
-    let mut lab = pair(rt.alloc())?;
-    let ran = run(&mut lab, Schedule::in_rounds(), 12, &[]);
-    ends(&rt, ran, 12, End::Made);
-    is_made_at(&rt, &lab, 0, own(0, 1, Kind::Fetch));
-    is_made_at(&rt, &lab, 1, own(1, 1, Kind::Fetch));
-    is_made_at(&rt, &lab, 7, own(1, 4, Kind::Wait));
-    is_made_at(&rt, &lab, 8, own(0, 5, Kind::Run(0x1c)));
-    is_made_at(&rt, &lab, 11, the_pass());
-    Ok(())
-}
-
 // Greedily 000 makes all its seven events before 001 makes one.
 #[test]
 fn greedy(rt: HostRuntime) -> Result<(), Fail> {
@@ -109,110 +95,6 @@ fn drawn(rt: HostRuntime) -> Result<(), Fail> {
             is_made_at(&rt, &lab, place as u32, own(*node, 1, Kind::Wait));
         }
     }
-    Ok(())
-}
-
-// In rounds, how many events it takes until the condition holds, and the last of them.
-fn reaches(
-    rt: &impl Abort,
-    mut lab: Lab,
-    until: Condition,
-    events: u64,
-    made: Made,
-) -> Result<(), Fail> {
-    let ran = run(&mut lab, Schedule::in_rounds(), 100, &[until]);
-    ends(rt, ran, events, End::Reached { made, which: 0 });
-    Ok(())
-}
-
-#[test]
-fn reaches_a_step_and_a_wait(rt: HostRuntime) -> Result<(), Fail> {
-    let node = NodeId::new(0);
-    let third = Condition::Steps { node, step: 3 };
-    let lab = pair(rt.alloc())?;
-    reaches(&rt, lab, third, 5, own(0, 3, Kind::Run(0x1e)))?;
-    let waits = Condition::WaitsAt(node);
-    reaches(&rt, pair(rt.alloc())?, waits, 11, own(0, 7, Kind::Wait))
-}
-
-#[test]
-fn reaches_a_word_and_an_address(rt: HostRuntime) -> Result<(), Fail> {
-    let passes = Condition::Passes {
-        writer: NodeId::new(0),
-        reader: NodeId::new(1),
-        word: Word18::truncated(0x2a),
-    };
-    reaches(&rt, pair(rt.alloc())?, passes, 12, the_pass())?;
-    let comes = Condition::ComesTo {
-        node: NodeId::new(1),
-        address: 2,
-    };
-    let lab = pair(rt.alloc())?;
-    reaches(&rt, lab, comes, 4, own(1, 2, Kind::Run(0x8)))
-}
-
-// A write to several ports stops the node.
-#[test]
-fn reaches_a_stop(rt: HostRuntime) -> Result<(), Fail> {
-    let lab = lab_of(rt.alloc(), taker(0x1d5), sender(0x1a5, 1))?;
-    reaches(&rt, lab, Condition::Stops, 11, own(1, 7, Kind::Stop(1)))?;
-    let lab = lab_of(rt.alloc(), sender(0x1a5, 1), sender(0x1a5, 1))?;
-    let of_one = Condition::StopsAt(NodeId::new(1));
-    reaches(&rt, lab, of_one, 14, own(1, 7, Kind::Stop(1)))
-}
-
-// The cell that is written is read at its second address.
-#[test]
-fn reaches_a_word_in_a_cell(rt: HostRuntime) -> Result<(), Fail> {
-    let lab = lab_of(rt.alloc(), sender(5, 0x2a), taker(0x1d5))?;
-    let holds = Condition::Holds {
-        node: NodeId::new(0),
-        address: 0x45,
-        word: Word18::truncated(0x2a),
-    };
-    reaches(&rt, lab, holds, 11, own(0, 7, Kind::Run(0xe)))
-}
-
-// Node 000 fetches at 3 next behind its step 5: two literals of its first word stand before. P is 3 before, behind step 4, where the
-// last slot of the word is still to be run. Step 7 writes cell 5.
-#[test]
-fn reaches_edges(rt: HostRuntime) -> Result<(), Fail> {
-    let node = NodeId::new(0);
-    let reach = Condition::Reaches { node, address: 3 };
-    let lab = lab_of(rt.alloc(), sender(5, 0x2a), taker(0x1d5))?;
-    reaches(&rt, lab, reach, 9, own(0, 5, Kind::Run(0x1c)))?;
-    let word = Some(Word18::truncated(0x2a));
-    let writes = Condition::Writes {
-        node,
-        address: 0x45,
-        word,
-    };
-    let lab = lab_of(rt.alloc(), sender(5, 0x2a), taker(0x1d5))?;
-    reaches(&rt, lab, writes, 11, own(0, 7, Kind::Run(0xe)))
-}
-
-// Another cell, and another word: up to the end.
-#[test]
-fn passes_other_edges_by(rt: HostRuntime) -> Result<(), Fail> {
-    let node = NodeId::new(0);
-    let cell = Condition::Writes {
-        node,
-        address: 6,
-        word: None,
-    };
-    let word = Condition::Writes {
-        node,
-        address: 5,
-        word: Some(Word18::truncated(0x2b)),
-    };
-    let rom = Condition::Writes {
-        node,
-        address: 0x85,
-        word: None,
-    };
-    let mut lab = lab_of(rt.alloc(), sender(5, 0x2a), taker(0x1d5))?;
-    let ran = run(&mut lab, Schedule::in_rounds(), 11, &[cell, word, rom]);
-    ends(&rt, ran, 11, End::Made);
     Ok(())
 }
 

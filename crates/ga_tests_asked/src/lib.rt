@@ -8,8 +8,6 @@ mod because;
 #[cfg(test)]
 mod explore;
 #[cfg(test)]
-mod far;
-#[cfg(test)]
 mod idle;
 #[cfg(test)]
 mod shared;

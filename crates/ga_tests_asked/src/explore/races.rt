@@ -1,12 +1,11 @@
 //! Steps that could have come out otherwise.
 
-use super::lab_of;
 use crate::asserts::{each_same, same};
-use ga_fixtures::{load, reader_of_io, sender, taker};
+use ga_fixtures::{load, sender, taker};
 use ga_grid::{Chip, NodeId};
 use ga_lab::{Lab, LabFault, Made};
 use ga_node::Place;
-use ga_search::{Race, Reading, Schedule, find_races, run};
+use ga_search::{Race, Schedule, find_races, run};
 use ga_word::Word18;
 use std::alloc::Global;
 use std::process::Abort;
@@ -83,33 +82,5 @@ fn tells_races(rt: HostRuntime) -> Result<(), Fail> {
     same(&rt, &lab.step(NodeId::new(2)).is_ok(), &true);
     has_the_race(&rt, rt.alloc(), &mut lab)?;
     same(&rt, &made_instead(&mut lab), &Ok(the_other_pass()));
-    Ok(())
-}
-
-// Node 001 looks in its step 2, before 000 waits to write to it. Then it could have looked behind that: taken back, the look sees it.
-#[test]
-fn tells_readings(rt: HostRuntime) -> Result<(), Fail> {
-    let mut lab = lab_of(rt.alloc(), sender(0x1d5, 0x2a), reader_of_io())?;
-    let (writer, reader) = (NodeId::new(0), NodeId::new(1));
-    for node in [1u8, 1, 0, 0, 0, 0, 0, 0, 0] {
-        let _made = lab.step(NodeId::new(node % 144))?;
-    }
-    let told = find_races(rt.alloc(), &mut lab, None)?;
-    let wanted = [Reading {
-        node: reader,
-        step: 2,
-        word: Word18::truncated(0x15555),
-        neighbour: writer,
-        change: 7,
-        early: true,
-        other: Word18::truncated(0x1d555),
-    }];
-    each_same(&rt, &told.readings, &wanted);
-    same(&rt, &told.looks, &true);
-    let none = find_races(rt.alloc(), &mut lab, Some(writer))?;
-    same(&rt, &none.readings.len(), &0);
-    lab.rewind(reader, 2)?;
-    let _made = lab.step(reader)?;
-    same(&rt, &lab.node(reader).d(0), &0x1d555);
     Ok(())
 }

@@ -1,23 +1,18 @@
 //! What a gate is told of the calls of a race.
 
-ghost use Rattle.std.specs.Prelude.{◌≡◌, ◌<◌, ◌^◌, All, IfOk, vec_len};
-
 use super::{linked, two_lists};
 use crate::asserts::same;
-use ga_grid::NodeId;
-use ga_shared::{Call, Closed, Gate, race};
-use std::alloc::Global;
+use ga_shared::{Closed, Gate, race};
 use std::process::Abort;
 use std::sync::atomic::{AtomicBool, AtomicU32, Ordering};
 use std::test::Fail;
 use std::thread;
 
-/// Counts what each of three workers tells: 2k behind call k, and 2k - 1 before its answer. Notes any other order.
+/// Counts what each of two workers tells: 2k behind call k, and 2k - 1 before its answer. Notes any other order.
 #[derive(Drop)]
 struct Told {
     first: AtomicU32,
     second: AtomicU32,
-    third: AtomicU32,
     has_failed: AtomicBool,
 }
 
@@ -25,8 +20,7 @@ impl Told {
     fn tell(&self, worker: u32, call: u32, is_after: bool) {
         let told = match worker {
             0 => &self.first,
-            1 => &self.second,
-            _ => &self.third,
+            _ => &self.second,
         };
         let was = told.load(Ordering::SeqCst);
         let is_due = if is_after {
@@ -51,25 +45,12 @@ impl Gate for Told {
     }
 }
 
-/// Many steps of one node for each of three workers.
-fn three_lists(alloc: Global) -> Result<Vec<Vec<Call>>, Fail>
-    ensures { IfOk result (λ lists. (vec_len lists ≡ 3) × All (λ l. vec_len l < 2 ^ 32) lists.items) }
-{
-    let calls = [Call::Step(NodeId::new(0)); 101];
-    let mut lists = Vec::new(alloc);
-    lists.push(calls.as_slice().to_vec(alloc)?)?;
-    lists.push(calls.as_slice().to_vec(alloc)?)?;
-    lists.push(calls.as_slice().to_vec(alloc)?)?;
-    Ok(lists)
-}
-
 #[test]
 fn gates_are_told_of_each_call(rt: HostRuntime) -> Result<(), Fail> {
     let alloc = rt.alloc();
     let gate = Told {
         first: AtomicU32::new(0),
         second: AtomicU32::new(0),
-        third: AtomicU32::new(0),
         has_failed: AtomicBool::new(false),
     };
     let _closed = race(
@@ -77,13 +58,12 @@ fn gates_are_told_of_each_call(rt: HostRuntime) -> Result<(), Fail> {
         alloc,
         linked(alloc)?,
         1000000,
-        three_lists(alloc)?,
+        two_lists(alloc)?,
         &gate,
     )?;
     assert!(rt; !gate.has_failed.load(Ordering::SeqCst));
-    assert_eq!(rt; gate.first.load(Ordering::SeqCst), 202);
-    assert_eq!(rt; gate.second.load(Ordering::SeqCst), 202);
-    assert_eq!(rt; gate.third.load(Ordering::SeqCst), 202);
+    same(&rt, &gate.first.load(Ordering::SeqCst), &8);
+    same(&rt, &gate.second.load(Ordering::SeqCst), &8);
     Ok(())
 }
 
