@@ -2,7 +2,7 @@
 
 use super::{Refusal, assert_refusals};
 use crate::asserts::same;
-use ga_image::{ImageCause, ImageFault, parse};
+use ga_image::{ImageCause, ImageFault};
 use std::test::Fail;
 
 const FIRST_FAULTS: &[(&[u8], Refusal)] = &[
@@ -132,16 +132,6 @@ const SECOND_FAULTS: &[(&[u8], Refusal)] = &[
 #[test]
 fn first_faults_of_the_second_format(rt: HostRuntime) {
     assert_refusals(&rt, rt.alloc(), SECOND_FAULTS);
-}
-
-/// With enough memory a text without any line is told as one that ends too early.
-#[test]
-fn empty_text(rt: HostRuntime) {
-    let wanted = ImageFault {
-        line: 1,
-        cause: ImageCause::Truncated,
-    };
-    same(&rt, &parse(rt.alloc(), b"").err(), &Some(wanted));
 }
 
 /// The causes, with their numbers and words.

@@ -1,14 +1,11 @@
 //! What the images of both formats give.
 
-ghost use Rattle.std.specs.Prelude.{◌<◌};
 ghost use Rattle.ga_node.specs.State.{IsPlace};
 
 use crate::asserts::same;
 use ga_grid::{Chip, NodeId};
 use ga_image::{byte_of, parse};
 use ga_node::{Node, Place};
-use ga_word::Word18;
-use std::alloc::{AllocError, Global};
 use std::process::Abort;
 use std::test::Fail;
 
@@ -100,63 +97,4 @@ fn assert_stacks(rt: &impl Abort, first: &Node, second: &Node) {
         0x15555,
     );
     same(rt, &(data, returns, first.r(0)), &wanted);
-}
-
-/// A word that differs from place to place.
-fn word(number: u8, cell: u8, salt: u8) -> Word18 {
-    Word18::truncated(1009 * u32::from(number) + 64 * u32::from(cell) + u32::from(salt))
-}
-
-/// The lines of one memory, each with one word.
-fn add_memory(text: &mut Vec<u8>, name: &[u8], number: u8, salt: u8) -> Result<(), AllocError> {
-    for cell in 0..64u8 {
-        text.extend_from_slice(name)?;
-        text.extend_from_slice(&Word18::truncated(u32::from(cell)).hex6()[4..])?;
-        text.extend_from_slice(b" ")?;
-        text.extend_from_slice(&word(number, cell, salt).hex6())?;
-        text.extend_from_slice(b"\n")?;
-    }
-    Ok(())
-}
-
-/// A node with the lines of both memories.
-fn add_node(text: &mut Vec<u8>, number: u8) -> Result<(), AllocError>
-    requires { number < 144 }
-{
-    let (row, column) = (number / 18, number % 18);
-    text.extend_from_slice(b"node ")?;
-    text.extend_from_slice(&[b'0' + row, b'0' + column / 10, b'0' + column % 10])?;
-    text.extend_from_slice(b"\n")?;
-    add_memory(text, b"ram ", number, 1)?;
-    add_memory(text, b"rom ", number, 2)
-}
-
-/// An image that gives each cell of each node in a line of its own.
-fn full_image(alloc: Global) -> Result<Vec<u8>, AllocError> {
-    let mut text = b"ga144 1\n".to_vec(alloc)?;
-    for number in 0..144u8 {
-        add_node(&mut text, number)?;
-    }
-    text.extend_from_slice(b"end\n")?;
-    Ok(text)
-}
-
-#[test]
-fn every_cell(rt: HostRuntime) -> Result<(), Fail> {
-    let text = full_image(rt.alloc())?;
-    assert!(rt; text.len() > 200_000);
-    let chip = parse(rt.alloc(), &text)?;
-    for number in 0..144u8 {
-        assert_cells(&rt, chip.node(NodeId::new(number)), number);
-    }
-    Ok(())
-}
-
-/// Asserts that each cell of a node has its word.
-fn assert_cells(rt: &impl Abort, node: &Node, number: u8) {
-    for cell in 0..64u8 {
-        let held = (node.get(Place::Ram(cell)), node.get(Place::Rom(cell)));
-        let wanted = (word(number, cell, 1).get(), word(number, cell, 2).get());
-        same(rt, &(number, cell, held), &(number, cell, wanted));
-    }
 }

@@ -1,6 +1,6 @@
 //! Messages that are written, byte for byte.
 
-use ga_protocol::{Inbox, Next, Outbox, Request, read_request};
+use ga_protocol::{Inbox, Next, Outbox, Request, number_at, read_request, text_at};
 use serde_json::{Value, json};
 use std::alloc::{AllocError, Global};
 use std::process::Abort;
@@ -81,14 +81,11 @@ fn what_is_written_is_read_back(rt: HostRuntime) -> Result<(), Fail> {
             return Ok(());
         };
         let value = Value::from_slice(rt.alloc(), &content)?;
-        let seq = value.get("seq").and_then(Value::as_u64).unwrap_or(0);
+        let seq = number_at(&value, "seq").unwrap_or(0);
         seqs = seqs.saturating_add(seq);
         assert!(rt; read_request(rt.alloc(), &content).is_err());
         if let Some(body) = value.get("body") {
-            assert_eq!(rt;
-                body.get("text").and_then(Value::as_str),
-                Some("a\n\u{1F600} \\ \"")
-            );
+            assert_eq!(rt; text_at(body, "text"), Some("a\n\u{1F600} \\ \""));
         }
     }
     assert_eq!(rt; seqs, 3);
