@@ -20,5 +20,6 @@ pub mod Behind
 pub mod Untold
 pub mod Silent
 pub mod Racing
+pub mod Acting
 pub mod Placed
 mod Alike

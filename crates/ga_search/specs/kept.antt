@@ -5,3 +5,4 @@ pub mod Numbers
 pub mod Ready
 pub mod Writers
 pub mod Readings
+pub mod Acts

@@ -1,8 +1,18 @@
 //! The kept events of a lab with what they changed of what neighbours are shown.
 
-ghost use Rattle.std.specs.Prelude.{◌≡◌, ◌<◌, ◌^◌, IfOk, IfErr, length};
-ghost use Rattle.ga_lab.specs.Machine.{causes_of};
+ghost use Rattle.std.specs.Prelude.{◌≡◌, ◌≢◌, ◌<◌, ◌+◌, ◌++◌, ◌∷◌, [], ℕ, Some, take, slice_index, length, IfOk, OnOk, IfErr};
+ghost use Rattle.ga_node.specs.Waits.{wait_of, IsWaitCode};
+ghost use Rattle.ga_ports.specs.declared.side.Side.{Side};
+ghost use Rattle.ga_grid.specs.Chip.{record_at};
+ghost use Rattle.ga_event.specs.Apply.{writes_to, shows, replay};
+ghost use Rattle.ga_event.specs.Told.{steps_of};
+ghost use Rattle.ga_races.specs.HappensBefore.{causes_in, actions};
+ghost use Rattle.ga_races.specs.Acts.{actions_in};
+ghost use Rattle.ga_races.specs.kept.Changed.{shown_as, is_changed, changed_sides, AreAlike};
+ghost use Rattle.ga_lab.specs.Machine.{chip_of, causes_of, earlier};
+ghost use Rattle.ga_search.specs.kept.Acts.{StoodSo, AllStood, IsAt, IsActAt};
 
+use crate::writers::reads_by;
 use ga_event::{Cause, Event};
 use ga_grid::NodeId;
 use ga_lab::{Lab, LabFault};
@@ -28,81 +38,221 @@ fn no_sides() -> Sides {
     }
 }
 
-// What a node whose wait has this number shows on a side: 0 nothing, 1 that it waits to read there, 2 that it waits to write.
-fn shown(wait: u32, side: Side) -> u8 {
-    let bit = side.bit() as u32;
-    if (wait & bit) == 0 {
-        0
-    } else if wait < 48 {
-        1
-    } else {
-        2
+// Whether a node whose wait has this number waits to write the side.
+fn writes_by(wait: u32, side: Side) -> bool
+    requires { IsWaitCode wait }
+    ensures { result ≡ writes_to (wait_of wait) side }
+{
+    match side {
+        Side::Right => wait == 56,
+        Side::Down => wait == 52,
+        Side::Left => wait == 50,
+        Side::Up => wait == 49,
     }
 }
 
-// On which sides two such nodes show something else.
-fn differ(before: u32, behind: u32) -> Sides {
-    Sides {
-        right: shown(before, Side::Right) != shown(behind, Side::Right),
-        down: shown(before, Side::Down) != shown(behind, Side::Down),
-        left: shown(before, Side::Left) != shown(behind, Side::Left),
-        up: shown(before, Side::Up) != shown(behind, Side::Up),
+// What a node whose wait has this number shows on a side: 0 nothing, 1 that it waits to read there, 2 that it waits to write.
+fn shown(wait: u32, side: Side) -> u8
+    requires { IsWaitCode wait }
+    ensures { result ≡ shown_as (shows (wait_of wait) side) }
+{
+    if reads_by(wait, side) {
+        1
+    } else if writes_by(wait, side) {
+        2
+    } else {
+        0
     }
+}
+
+// Whether two such nodes show something else on a side.
+fn is_changed(before: u32, behind: u32, side: Side) -> bool
+    requires before { IsWaitCode before }
+    requires behind { IsWaitCode behind }
+    ensures { result ≡ is_changed (wait_of before) (wait_of behind) side }
+{
+    shown(before, side) != shown(behind, side)
+}
+
+// On which sides they do.
+fn differ(before: u32, behind: u32) -> Sides
+    requires before { IsWaitCode before }
+    requires behind { IsWaitCode behind }
+    ensures { result ≡ changed_sides (wait_of before) (wait_of behind) }
+{
+    Sides {
+        right: is_changed(before, behind, Side::Right),
+        down: is_changed(before, behind, Side::Down),
+        left: is_changed(before, behind, Side::Left),
+        up: is_changed(before, behind, Side::Up),
+    }
+}
+
+// The number of the wait of a node before its step at this position, behind which it had that one.
+fn wait_before(lab: &Lab, node: NodeId, at: u32, behind: u32) -> u32
+    requires { IsWaitCode behind }
+    ensures valid { IsWaitCode result }
+    ensures value { (p q : ℕ) → steps_of node.number (take p lab.now.kept) ≡ at → steps_of node.number (take q lab.now.kept) ≡ at + 1 →
+        (record_at (chip_of (earlier lab.now q)) node.number).wait ≡ wait_of behind →
+        (record_at (chip_of (earlier lab.now p)) node.number).wait ≡ wait_of result }
+{
+    match lab.overwritten(node, at, Place::Wait) {
+        Some(before) => before,
+        None => behind,
+    }
+}
+
+// The number of the wait of a node as it stands.
+fn wait_now(lab: &Lab, node: NodeId) -> u32
+    ensures value { wait_of result ≡ (record_at (chip_of lab.now) node.number).wait }
+    ensures valid { IsWaitCode result }
+{
+    let at = lab.node(node);
+    at.wait().code()
 }
 
 impl Behind {
     // Those of the lab as it stands.
-    fn of(lab: &Lab) -> Self {
+    fn of(lab: &Lab) -> Self
+        ensures { (p : ℕ) → take p lab.now.kept ≡ lab.now.kept → AllStood lab.now p result.waits result.steps }
+    {
         let mut waits = [0u32; 144];
         let mut steps = [0u32; 144];
         'nodes: for number in 0..144u8 {
             let node = NodeId::new(number);
-            waits[node.index()] = lab.node(node).get(Place::Wait);
-            steps[node.index()] = lab.steps(node);
+            let at = node.index();
+            let wait = wait_now(lab, node);
+            let step = lab.steps(node);
+            waits[at] = wait;
+            steps[at] = step;
         }
         Behind { waits, steps }
     }
 
-    // Goes back by the last step of a node, and says on which sides it changed what the node shows.
-    fn back(&mut self, lab: &Lab, node: NodeId) -> Sides {
+    // The number of the wait of a node.
+    fn wait_at(&self, node: NodeId) -> u32
+        ensures { result ≡ slice_index self.now.waits node.number }
+    {
+        self.waits[node.index()]
+    }
+
+    // How many steps it had made.
+    fn steps_at(&self, node: NodeId) -> u32
+        ensures { result ≡ slice_index self.now.steps node.number }
+    {
+        self.steps[node.index()]
+    }
+
+    // Puts other numbers there.
+    fn put(&mut self, node: NodeId, wait: u32, step: u32)
+        ensures wait { slice_index self.new.waits node.number ≡ wait }
+        ensures step { slice_index self.new.steps node.number ≡ step }
+        ensures waits { (m : ℕ) → m ≢ node.number → slice_index self.new.waits m ≡ slice_index self.old.waits m }
+        ensures others { (m : ℕ) → m ≢ node.number → slice_index self.new.steps m ≡ slice_index self.old.steps m }
+    {
         let at = node.index();
-        let behind = self.waits[at];
-        if self.steps[at] == 0 {
-            return no_sides();
-        }
-        self.steps[at] -= 1;
-        match lab.overwritten(node, self.steps[at], Place::Wait) {
-            Some(before) => {
-                self.waits[at] = before;
-                differ(before, behind)
-            }
-            None => no_sides(),
+        self.waits[at] = wait;
+        self.steps[at] = step;
+    }
+
+    // Goes back by the last step of a node, and says on which sides it changed what the node shows.
+    fn back(&mut self, lab: &Lab, node: NodeId) -> Sides
+        requires steps { 0 < slice_index self.old.steps node.number }
+        requires valid { IsWaitCode (slice_index self.old.waits node.number) }
+        ensures here { (p q : ℕ) →
+            StoodSo lab.now node.number q (slice_index self.old.waits node.number) (slice_index self.old.steps node.number) →
+            steps_of node.number (take q lab.now.kept) ≡ steps_of node.number (take p lab.now.kept) + 1 →
+            StoodSo lab.now node.number p (slice_index self.new.waits node.number) (slice_index self.new.steps node.number) }
+        ensures sides { result ≡ changed_sides (wait_of (slice_index self.new.waits node.number)) (wait_of (slice_index self.old.waits node.number)) }
+        ensures waits { (m : ℕ) → m ≢ node.number → slice_index self.new.waits m ≡ slice_index self.old.waits m }
+        ensures others { (m : ℕ) → m ≢ node.number → slice_index self.new.steps m ≡ slice_index self.old.steps m }
+    {
+        let behind = self.wait_at(node);
+        let had = self.steps_at(node);
+        let step = had - 1;
+        let before = wait_before(lab, node, step, behind);
+        self.put(node, before, step);
+        differ(before, behind)
+    }
+
+    // Goes back by the last event, which is this one, an own event of the node.
+    fn back_own(&mut self, lab: &Lab, cause: Cause, node: NodeId) -> Act
+        requires own { cause.event ≡ Event.Own node }
+        requires replays { replay lab.now.load lab.now.kept ≡ Some (chip_of lab.now) }
+        requires stood { (p : ℕ) × IsAt lab.now p cause × AllStood lab.now (p + 1) self.old.waits self.old.steps }
+        ensures cause { result.cause ≡ cause }
+        ensures stood { (p : ℕ) → IsAt lab.now p cause → AllStood lab.now (p + 1) self.old.waits self.old.steps →
+            AllStood lab.now p self.new.waits self.new.steps }
+        ensures changes { (p : ℕ) → IsAt lab.now p cause → AllStood lab.now (p + 1) self.old.waits self.old.steps → IsActAt lab.now p result }
+    {
+        let first = self.back(lab, node);
+        Act {
+            cause,
+            first,
+            second: no_sides(),
         }
     }
 
-    // Goes back by the last event, which is this one.
-    fn back_by(&mut self, lab: &Lab, cause: Cause) -> Act {
+    // The same of a pass between two nodes.
+    fn back_pass(&mut self, lab: &Lab, cause: Cause, writer: NodeId, reader: NodeId) -> Act
+        requires pass { (side : Side) × (cause.event ≡ Event.Pass writer reader side) }
+        requires replays { replay lab.now.load lab.now.kept ≡ Some (chip_of lab.now) }
+        requires stood { (p : ℕ) × IsAt lab.now p cause × AllStood lab.now (p + 1) self.old.waits self.old.steps }
+        ensures cause { result.cause ≡ cause }
+        ensures stood { (p : ℕ) → IsAt lab.now p cause → AllStood lab.now (p + 1) self.old.waits self.old.steps →
+            AllStood lab.now p self.new.waits self.new.steps }
+        ensures changes { (p : ℕ) → IsAt lab.now p cause → AllStood lab.now (p + 1) self.old.waits self.old.steps → IsActAt lab.now p result }
+    {
+        let first = self.back(lab, writer);
+        let second = self.back(lab, reader);
+        Act {
+            cause,
+            first,
+            second,
+        }
+    }
+
+    // The same of any event.
+    fn back_by(&mut self, lab: &Lab, cause: Cause) -> Act
+        requires replays { replay lab.now.load lab.now.kept ≡ Some (chip_of lab.now) }
+        requires stood { (p : ℕ) × IsAt lab.now p cause × AllStood lab.now (p + 1) self.old.waits self.old.steps }
+        ensures cause { result.cause ≡ cause }
+        ensures stood { (p : ℕ) → IsAt lab.now p cause → AllStood lab.now (p + 1) self.old.waits self.old.steps →
+            AllStood lab.now p self.new.waits self.new.steps }
+        ensures changes { (p : ℕ) → IsAt lab.now p cause → AllStood lab.now (p + 1) self.old.waits self.old.steps → IsActAt lab.now p result }
+    {
         match cause.event {
-            Event::Own(node) => Act {
-                cause,
-                first: self.back(lab, node),
-                second: no_sides(),
-            },
-            Event::Pass { writer, reader, .. } => Act {
-                cause,
-                first: self.back(lab, writer),
-                second: self.back(lab, reader),
-            },
+            Event::Own(node) => self.back_own(lab, cause, node),
+            Event::Pass { writer, reader, .. } => self.back_pass(lab, cause, writer, reader),
         }
     }
 }
 
-/// The kept events in order, each with what it changed of what the neighbours of its nodes are shown. Takes memory and time by these.
-///
-/// # Errors
-/// `Memory` alone.
-pub(crate) fn acts_of(alloc: Global, lab: &Lab, causes: &[Cause]) -> Result<Vec<Act>, LabFault>
-    ensures size { IfOk result (λ acts. length acts.items ≡ length causes.now) }
+// The event, with no sides yet.
+fn plain(cause: &Cause) -> Act
+    ensures { result.cause ≡ cause.now }
+{
+    Act {
+        cause: *cause,
+        first: no_sides(),
+        second: no_sides(),
+    }
+}
+
+// Puts an act at the end of a list.
+fn add_act(list: &mut Vec<Act>, act: Act) -> Result<(), LabFault>
+    ensures ok { OnOk result (list.new.items ≡ list.old.items ++ act ∷ []) }
+    ensures err { IfErr result (λ why. why ≡ LabFault.Memory) }
+{
+    match list.push(act) {
+        Ok(()) => Ok(()),
+        Err(_) => Err(LabFault::Memory),
+    }
+}
+
+// The events, with no sides yet.
+fn plain_acts(alloc: Global, causes: &[Cause]) -> Result<Vec<Act>, LabFault>
+    ensures causes { IfOk result (λ acts. causes_in (actions_in acts.items) ≡ causes.now) }
     ensures err { IfErr result (λ why. why ≡ LabFault.Memory) }
 {
     let mut acts = match Vec::with_capacity(alloc, causes.len()) {
@@ -110,21 +260,31 @@ pub(crate) fn acts_of(alloc: Global, lab: &Lab, causes: &[Cause]) -> Result<Vec<
         Err(_) => return Err(LabFault::Memory),
     };
     'causes: for cause in causes {
-        let act = Act {
-            cause: *cause,
-            first: no_sides(),
-            second: no_sides(),
-        };
-        if acts.push(act).is_err() {
-            return Err(LabFault::Memory);
-        }
+        let act = plain(cause);
+        add_act(&mut acts, act)?;
     }
+    Ok(acts)
+}
+
+/// The kept events in order, each with what it changed of what the neighbours of its nodes are shown. Takes memory and time by these.
+///
+/// # Errors
+/// `Memory` alone.
+pub(crate) fn acts_of(alloc: Global, lab: &Lab, causes: &[Cause]) -> Result<Vec<Act>, LabFault>
+    requires all { causes.now ≡ causes_of lab.now }
+    ensures size { IfOk result (λ acts. length acts.items ≡ length causes.now) }
+    ensures alike { IfOk result (λ acts. AreAlike (actions_in acts.items) (actions lab.now.load lab.now.kept)) }
+    ensures err { IfErr result (λ why. why ≡ LabFault.Memory) }
+{
+    let _stands = lab.node(NodeId::new(0));
+    let mut acts = plain_acts(alloc, causes)?;
     let mut behind = Behind::of(lab);
     let mut place = acts.len();
     'back: while place > 0 {
         place -= 1;
-        let cause = acts[place].cause;
-        acts[place] = behind.back_by(lab, cause);
+        let cause = causes[place];
+        let act = behind.back_by(lab, cause);
+        acts[place] = act;
     }
     Ok(acts)
 }

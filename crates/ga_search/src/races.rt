@@ -1,9 +1,9 @@
 //! Steps that could have come out otherwise.
 
-ghost use Rattle.std.specs.Prelude.{◌≡◌, ◌<◌, ◌^◌, length, ◌∷◌, ◌++◌, [], true, is_none, Some, IfSome, IfOk, OnOk, IfErr};
+ghost use Rattle.std.specs.Prelude.{◌≡◌, ◌<◌, ◌^◌, length, ◌∷◌, ◌++◌, [], ℕ, true, false, is_none, Some, IfSome, IfOk, OnOk, IfErr};
 ghost use Rattle.ga_grid.specs.Chip.{records_of};
 ghost use Rattle.ga_event.specs.Told.{steps_of};
-ghost use Rattle.ga_lab.specs.Machine.{chip_of, causes_of, stands};
+ghost use Rattle.ga_lab.specs.Machine.{State, chip_of, causes_of, stands};
 ghost use Rattle.std.specs.List.{All};
 ghost use Rattle.ga_search.specs.Readings.{IsTold};
 ghost use Rattle.ga_search.specs.kept.Writers.{AreSilent};
@@ -187,12 +187,43 @@ fn add_told(
     }
 }
 
+// Whether by this step the node took a word: else it has no race.
+fn takes(made: &Made, node: NodeId) -> bool
+    ensures { result ≡ false → (s : State) (step : ℕ) → races_told s node step (Some made.now) ≡ [] }
+{
+    match made {
+        Made::Pass { reader, .. } => reader.number == node.number,
+        _ => false,
+    }
+}
+
+// Whether the node took a word by some step.
+fn takes_some(lab: &Lab, node: NodeId) -> bool
+    ensures { result ≡ false → races_of lab.now node ≡ [] }
+{
+    let steps = lab.steps(node);
+    'steps: for place in 0..steps {
+        match lab.told(node, place) {
+            Some(made) => {
+                if takes(&made, node) {
+                    return true;
+                }
+            }
+            None => return true,
+        }
+    }
+    false
+}
+
 // Adds the races of a node.
 fn add_node(list: &mut Vec<Race>, lab: &mut Lab, node: NodeId) -> Result<(), LabFault>
     ensures ok { OnOk result (list.new.items ≡ list.old.items ++ races_of lab.old node) }
     ensures err { IfErr result (λ why. why ≡ LabFault.Memory) }
     ensures same { lab.new ≡ lab.old }
 {
+    if !takes_some(lab, node) {
+        return Ok(());
+    }
     let steps = lab.steps(node);
     let writers = writers_of(lab, node);
     'steps: for place in 0..steps {

@@ -75,8 +75,8 @@ pub(crate) fn writers_of(lab: &Lab, node: NodeId) -> Writers
     }
 }
 
-// Whether a node whose wait has this number waits to read a set that has the side.
-fn reads_by(code: u32, side: Side) -> bool
+/// Whether a node whose wait has this number waits to read a set that has the side.
+pub(crate) fn reads_by(code: u32, side: Side) -> bool
     requires { IsWaitCode code }
     ensures { result ≡ reads_from (wait_of code) side }
 {

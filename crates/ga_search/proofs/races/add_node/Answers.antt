@@ -1,5 +1,7 @@
-use Rattle.std.proofs.Common.{◌≡◌, ◌∙◌, ◌+◌, ◌++◌, ℕ, Some, None, refl, length, ap, sym, subst, arith}
+use Rattle.std.proofs.Common.{◌≡◌, ◌∙◌, ◌+◌, ◌++◌, ℕ, List, Some, None, refl, length, ap, sym, subst, arith}
 use Rattle.std.specs.List.{slice_get}
+use Rattle.std.proofs.lemmas.List.{append-nil}
+use Rattle.ga_search.specs.declared.races.Race.{Race}
 use Rattle.ga_event.specs.Told.{steps_of}
 use Rattle.ga_lab.specs.Machine.{State, history_of}
 use Rattle.ga_search.specs.Races.{races_told, races_before}
@@ -7,6 +9,10 @@ use Rattle.ga_search.specs.kept.Writers.{AreSilent}
 use Rattle.ga_search.proofs.Behind.{stands_within}
 use Rattle.ga_search.proofs.Racing.{one_more, none_before, told_there}
 use Rattle.ga_search.proofs.races.add_node.Goals as goal
+
+pub returns-then-not-takes_some-clause-ok : goal.returns-then-not-takes_some-clause-ok
+returns-then-not-takes_some-clause-ok c =
+    sym (append-nil c.args.list.now.items) ∙ ap (λ (z : List Race). c.args.list.now.items ++ z) (sym (c.takes_some.ensures c.if-not-takes_some.true))
 
 pub steps-init : goal.steps-init
 steps-init c = record { same = refl; told = none_before c.args.lab.now c.args.node c.args.list.now.items }
