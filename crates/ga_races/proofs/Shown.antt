@@ -147,7 +147,7 @@ module _ (c d : List NodeRecord) (n : ℕ) where
   unfolding changed_some
   same_all q =
       let s = same_bits (part d Right) (part d Down) (part d Left) (part d Up) (part c Right) (part c Down) (part c Left) (part c Up)
-          (few d Right) (few d Down) (few d Left) (few d Up) (few c Right) (few c Down) (few c Left) (few c Up) (sym (word_at d) ∙ q ∙ word_at c) in
+      (few d Right) (few d Down) (few d Left) (few d Up) (few c Right) (few c Down) (few c Left) (few c Up) (sym (word_at d) ∙ q ∙ word_at c) in
       or_from (changed_at c d Right (neighbour_of n Right)) (changed_at c d Down (neighbour_of n Down) || (changed_at c d Left (neighbour_of n Left) || changed_at c d Up (neighbour_of n Up)))
       (unchanged_at c d Right (neighbour_of n Right) s.right)
       (or_from (changed_at c d Down (neighbour_of n Down)) (changed_at c d Left (neighbour_of n Left) || changed_at c d Up (neighbour_of n Up))
@@ -283,10 +283,10 @@ or8 a b c d x y z w = alike ((a || (b || (c || d))) || (x || (y || (z || w)))) (
     back h = go (or4_cases (a || x) (b || y) (c || z) (d || w) h)
       where
         go : ((a || x) ≡ true) ⊎ (((b || y) ≡ true) ⊎ (((c || z) ≡ true) ⊎ ((d || w) ≡ true))) → ((a || (b || (c || d))) || (x || (y || (z || w)))) ≡ true
-        go (inl k) = elim (or_cases a x k) [ | inl j ↦ one (inl j) | inr j ↦ two (inl j) ]
-        go (inr (inl k)) = elim (or_cases b y k) [ | inl j ↦ one (inr (inl j)) | inr j ↦ two (inr (inl j)) ]
-        go (inr (inr (inl k))) = elim (or_cases c z k) [ | inl j ↦ one (inr (inr (inl j))) | inr j ↦ two (inr (inr (inl j))) ]
-        go (inr (inr (inr k))) = elim (or_cases d w k) [ | inl j ↦ one (inr (inr (inr j))) | inr j ↦ two (inr (inr (inr j))) ]
+        go (inl k) = elim (or_cases a x k) [ inl j ↦ one (inl j) | inr j ↦ two (inl j) ]
+        go (inr (inl k)) = elim (or_cases b y k) [ inl j ↦ one (inr (inl j)) | inr j ↦ two (inr (inl j)) ]
+        go (inr (inr (inl k))) = elim (or_cases c z k) [ inl j ↦ one (inr (inr (inl j))) | inr j ↦ two (inr (inr (inl j))) ]
+        go (inr (inr (inr k))) = elim (or_cases d w k) [ inl j ↦ one (inr (inr (inr j))) | inr j ↦ two (inr (inr (inr j))) ]
 
 four : (a b c d x y z w : Bool) → a ≡ x → b ≡ y → c ≡ z → d ≡ w → (a || (b || (c || d))) ≡ (x || (y || (z || w)))
 four a b c d x y z w p q r s = ap₂ (λ (i j : Bool). i || j) p (ap₂ (λ (i j : Bool). i || j) q (ap₂ (λ (i j : Bool). i || j) r s))
