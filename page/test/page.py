@@ -6,8 +6,8 @@
 2. Clicks at random. What the page says will go has to be what goes, the chip of its preview the chip then, its causes those that
    `why` tells, and at the end the session that it keeps has to give its chip anew: in the page, and in the program where `rt ci`
    left one.
-3. Runs in each order and up to a condition, who waits for whom, what a rollback would take and the words of a link, each as the
-   core answers it to its line.
+3. Runs in each order and up to a condition, who waits for whom, what a rollback would take, the words of a link and the other way of
+   a race, each as the core answers it to its line.
 4. Source lines as worked by hand, keys, the session in the address, refused texts and addresses, ends of lines, a small heap:
    `no 4 memory`, and the session goes on.
 """
@@ -17,7 +17,7 @@ sys.dont_write_bytecode = True
 TOP = os.path.dirname(os.path.dirname(os.path.dirname(os.path.abspath(__file__))))
 sys.path.insert(0, f"{TOP}/model")
 from browser import Browser
-from runs import orders, until_stop, whence
+from runs import orders, races, until_stop, whence
 from listing import listed
 from looks import commands, from_afar, shots, shown, times
 from source import asm
@@ -302,7 +302,7 @@ def main():
         dice, taken = random.Random(7), 0
         for name in browser.run("return [...document.getElementById('examples').options].map(it => it.value).filter(it => it)"):
             taken += clicks(browser, name, dice)
-        for tried in (until_stop, orders, whence, shown, from_afar):
+        for tried in (until_stop, orders, whence, races, shown, from_afar):
             tried(browser, check)
         source_lines(browser)
         keys(browser)

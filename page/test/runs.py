@@ -1,7 +1,9 @@
-"""What the page asks of exploring, for page.py: runs up to a condition, who waits for whom, what a rollback would take, words."""
+"""What the page asks of exploring, for page.py: runs up to a condition, who waits for whom, what a rollback would take, words, races."""
 import json, os
 
 TOP = os.path.dirname(os.path.dirname(os.path.dirname(os.path.abspath(__file__))))
+with open(f"{TOP}/sources/first_come.f18") as it:
+    FIRST_COME = json.dumps(it.read())
 with open(f"{TOP}/examples/fault") as it:
     FAULT = json.dumps(it.read().split("end\n")[0] + "end\n")
 
@@ -73,3 +75,26 @@ return { reached, answer, before, now: told(), hidden: find("whence").hidden };
     check(said["reached"] == "reached 18 001 10 stop 2", f"a greedy run: {said['reached']}")
     unknown = said["answer"][0].startswith("no 31 ")
     check(said["hidden"] == unknown and said["now"] == (said["before"] if unknown else said["answer"]), f"whence: {said}")
+
+
+def races(browser, check):
+    """Of a word that 101 takes from 100 or from 102, whichever comes first, the other way is shown, and then made; a step with no other way
+    has no mark."""
+    said = browser.run(USED + """
+page.open(%s); page.command("run 300"); const before = find("racing").hidden, none = page.races.length;
+press("z"); const lines = asked("races").slice(1), rows = [...find("racing").children].map(it => it.textContent), marks = page.picture.turns.map(it => it[2].text);
+const [x, y] = page.picture.turns[0], box = find("time").getBoundingClientRect(), at = { clientX: box.left + x, clientY: box.top + y, bubbles: true };
+const click = () => { for (const kind of ["pointerdown", "pointerup"]) find("time").dispatchEvent(new PointerEvent(kind, at)); };
+click(); const chip = JSON.stringify(page.then), goes = page.goes, note = find("chipnote").textContent, button = find("take").textContent, events = page.session.events.length;
+find("racing").firstChild.click(); const log = find("log").textContent.split("\\n").slice(-5, -1), made = JSON.stringify(page.seen.nodes) === chip, left = page.session.events.length;
+const other = page.races.map(it => it.text); page.choose(["101", 5]); const chosen = page.chosen; page.turn(page.races[0]); page.choose(["101", 5]); const again = page.race === null && page.session.events.length === left;
+press("z"); const after = [find("racing").hidden, page.picture.turns.length];
+return { before, none, lines, rows, marks, goes, note, button, events, log, made, left, other, chosen, again, after };
+""" % FIRST_COME)
+    line, other = "101 5 takes 000005 from 100, or 000007 from 102: rewind 101 5, step 102", "101 5 takes 000007 from 102, or 000005 from 100: rewind 101 5, step 100"
+    wanted = {
+        "before": True, "none": 0, "lines": [line], "rows": [line], "marks": [line], "button": "or 000007 from 102", "made": True, "other": [other], "chosen": ["101", 5], "again": True, "after": [True, 0],
+        "log": ["> rewind 101 5", f"removed {said['goes']} kept {said['events'] - said['goes']}", "> step 102", "pass 102 8 101 5 000007"],
+    }
+    check({it: said[it] for it in wanted} == wanted, f"races: {said}")
+    check(said["left"] == said["events"] - said["goes"] + 1 and said["note"].endswith(", then pass 102 8 101 5 000007"), f"a race: {said}")

@@ -53,7 +53,7 @@ function acts_of(page) {
     ",": () => page.along(-1), ".": () => page.along(1), PageUp: () => page.along(-20), PageDown: () => page.along(20), Home: () => page.along(-1e9), End: () => page.along(1e9), p: () => page.across(),
     ArrowLeft: () => page.beside(-1, 0), ArrowRight: () => page.beside(1, 0), ArrowUp: () => page.beside(0, 1), ArrowDown: () => page.beside(0, -1),
     "+": look(() => page.picture.zoom(.6)), "-": look(() => page.picture.zoom(1.6)), "0": look(() => page.picture.fit()), "[": look(() => page.picture.move(-.4)), "]": look(() => page.picture.move(.4)),
-    e: () => find("examples").focus(), a: () => find("idle").click(), n: () => find("most").focus(), "/": () => find("line").focus(), l: theme, "?": () => find("keys").showModal(),
+    e: () => find("examples").focus(), a: () => find("idle").click(), z: () => find("races").click(), n: () => find("most").focus(), "/": () => find("line").focus(), l: theme, "?": () => find("keys").showModal(),
     c: () => copy(page.session.text), d: () => copy(page.session.script), x: save, o: () => find("file").click(), "#": link, i: () => { find("session").open = true; find("text").focus(); },
   };
 }
@@ -80,6 +80,7 @@ function listen_to_fields(page, acts, examples) {
   find("reach").onclick = until;
   find("order").onchange = () => { find("order").blur(); find("seed").hidden = find("order").value !== "random"; };
   find("idle").onchange = () => { page.arrange(); page.draw(); };
+  find("races").onchange = () => { page.ask_races(); page.draw_picture(); };
   find("examples").onchange = () => { find("examples").blur(); choose_example(page, examples, find("examples").value); };
   find("open").onclick = () => page.open(find("text").value);
   find("file").onchange = async () => page.open(await find("file").files[0].text());
@@ -120,15 +121,20 @@ function listen_to_picture(page) {
   const redraw = () => { if (!due) { due = true; requestAnimationFrame(() => { due = false; page.draw_picture(); }); } };
   canvas.onpointerdown = event => { held = { x: event.offsetX, from: page.picture.from, moved: false }; };
   canvas.onpointermove = event => {
-    if (!held) { const it = page.picture.near(event.offsetX, event.offsetY); canvas.title = it ? it[4].text : ""; return; }
+    if (!held) {
+      const race = page.picture.race_near(event.offsetX, event.offsetY), it = page.picture.near(event.offsetX, event.offsetY);
+      canvas.title = race ? race.text : it ? it[4].text : "";
+      return;
+    }
     if (Math.abs(event.offsetX - held.x) > 4) held.moved = true;
     if (held.moved) { page.picture.from = Math.max(0, held.from - (event.offsetX - held.x) / canvas.clientWidth * page.picture.wide); redraw(); }
   };
   canvas.onpointerup = event => {
-    const clicked = held && !held.moved, it = clicked && page.picture.near(event.offsetX, event.offsetY);
+    const clicked = held && !held.moved, it = clicked && page.picture.near(event.offsetX, event.offsetY), race = clicked && page.picture.race_near(event.offsetX, event.offsetY);
     held = null;
+    if (race) return page.turn(race);
     // The second click on the same step takes it back, whichever of its nodes it meets.
-    if (it) page.choose(page.chosen && it[4] === page.event ? page.chosen : [it[2], it[3]]);
+    if (it) page.choose(page.chosen && !page.race && it[4] === page.event ? page.chosen : [it[2], it[3]]);
     else if (clicked && page.picture.far) { page.picture.zoom(.2, event.offsetX / canvas.clientWidth); page.draw_picture(); }
   };
   canvas.onpointerleave = () => { held = null; };

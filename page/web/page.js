@@ -1,6 +1,6 @@
 // What the page shows, and what it does for a person.
 // A longer text than SHOWN is not put into the text area, which would take minutes.
-const STEPS = 120, LONGEST_RUN = 100000, SHOWN = 200000;
+const STEPS = 120, LONGEST_RUN = 100000, SHOWN = 200000, SHOWN_RACES = 200;
 
 // What `effects` told, as a sentence.
 function told_effects([head, ...rows]) {
@@ -63,7 +63,7 @@ class Page {
     find("log").scrollTop = find("log").scrollHeight;
   }
 
-  forget() { this.chosen = null; this.marks = null; this.said = null; this.then = null; this.touched = [new Set(), new Set(), new Set()]; this.goes = 0; }
+  forget() { this.chosen = null; this.race = null; this.marks = null; this.said = null; this.then = null; this.touched = [new Set(), new Set(), new Set()]; this.goes = 0; }
 
   // Gives one command as a person does.
   command(line) {
@@ -89,8 +89,15 @@ class Page {
   arrange(seen = null) {
     this.forget();
     this.seen = seen; this.places = null;
-    this.drawn = NAMES.filter(n => find("idle").checked ? this.session.steps[n] : this.session.is_busy(n));
+    this.drawn = NAMES.filter(n => this.session.steps[n] && (find("idle").checked || this.working.includes(n) || this.session.is_busy(n)));
     this.picture.set(this.session.events, this.drawn);
+    this.ask_races();
+  }
+
+  // The steps that could have come out otherwise, where they are to be marked: asking takes long where much is kept.
+  ask_races() {
+    this.races = find("races").checked ? this.session.races() : [];
+    if (!this.races) { this.races = []; this.say("races", [NO_MEMORY]); }
   }
 
   // A run in the order that is chosen: of so many events, or up to a condition.
@@ -118,22 +125,42 @@ class Page {
   choose(step) {
     const event = this.session.event_at(step);
     if (!event) return;
-    if (this.chosen && this.chosen[0] === step[0] && this.chosen[1] === step[1]) return this.take();
-    this.earlier = this.chosen;
+    if (!this.race && this.chosen && this.chosen[0] === step[0] && this.chosen[1] === step[1]) return this.take();
+    const earlier = this.chosen, marks = this.session.marks(step), seen = marks && this.session.look(step[0], step);
     this.forget();
     this.selected = step[0];
-    const marks = this.session.marks(step), seen = marks && this.session.look(step[0], step);
+    this.earlier = earlier;
     if (!seen) { find("status").textContent = NO_MEMORY; return this.draw(); }
-    Object.assign(this, { chosen: step, event, marks, seen, said: seen.said, then: seen.then, takes: seen.effects });
-    for (const { place, ends } of this.session.events) {
-      for (const [n] of ends) this.touched[marks[place]].add(n);
-      if (marks[place] === GOES) this.goes++;
-    }
+    this.mark(marks);
+    Object.assign(this, { chosen: step, event, seen, said: seen.said, then: seen.then, takes: seen.effects });
     this.picture.show(this.picture.xs[event.place]);
     this.draw();
   }
 
-  take() { if (this.chosen) return this.command(`rewind ${this.chosen[0]} ${this.chosen[1]}`)[0]; }
+  // Shows the other outcome of a step that races: what goes for it, and the chip behind it. Shown once more, it is made.
+  turn(race) {
+    if (this.race === race) return this.take();
+    const marks = this.session.marks(race.back), outcome = marks && this.session.outcome(race), [name] = race.step;
+    this.forget();
+    this.selected = name;
+    if (!outcome) { find("status").textContent = NO_MEMORY; return this.draw(); }
+    this.mark(marks);
+    Object.assign(this, { race, chosen: race.back, event: this.session.event_at(race.back), said: outcome.said, then: outcome.then, takes: outcome.effects, makes: outcome.made });
+    this.draw();
+  }
+
+  mark(marks) {
+    this.marks = marks;
+    for (const { place, ends } of this.session.events) {
+      for (const [n] of ends) this.touched[marks[place]].add(n);
+      if (marks[place] === GOES) this.goes++;
+    }
+  }
+
+  take() {
+    if (this.race) return this.race.commands.map(line => this.command(line)[0]).pop();
+    if (this.chosen) return this.command(`rewind ${this.chosen[0]} ${this.chosen[1]}`)[0];
+  }
   why() { if (this.chosen && this.earlier) this.command(`why ${this.earlier.join(" ")} ${this.chosen.join(" ")}`); }
   select(name) { if (name !== this.selected) this.before = this.selected; this.selected = name; this.draw(); }
 
@@ -157,16 +184,31 @@ class Page {
     this.draw_picture();
     const take = find("take");
     take.disabled = !this.chosen; take.className = this.chosen ? "ready" : "";
-    take.textContent = this.chosen ? `take back ${this.chosen.join(" ")}: ${this.goes} events` : "take back";
+    take.textContent = this.race ? this.race.other : this.chosen ? `take back ${this.chosen.join(" ")}: ${this.goes} events` : "take back";
     for (const id of ["effects", "whence"]) find(id).disabled = !this.chosen;
-    find("chipnote").textContent = this.then ? `as it would be: ${told_effects(this.takes)}` : "";
+    find("chipnote").textContent = this.then ? `as it would be: ${told_effects(this.takes)}${this.race ? `, then ${this.makes}` : ""}` : "";
     find("status").textContent = this.seen.count;
     if (document.activeElement !== find("text")) find("text").value = this.session.text.length < SHOWN ? this.session.text : "";
   }
 
   draw_picture() {
-    this.picture.draw(this.marks, this.chosen && this.event, this.selected);
+    this.picture.draw(this.marks, this.chosen && this.event, this.selected, this.races.map(race => ({ race, place: this.session.event_at(race.step).place, picked: race === this.race })));
     find("timenote").textContent = this.chosen ? `of ${this.chosen.join(" ")}` : "click a step";
+    this.draw_races();
+  }
+
+  // The lines of `races`, of which a click shows the other outcome.
+  draw_races() {
+    const box = find("racing");
+    box.hidden = !find("races").checked;
+    box.textContent = this.races.length ? "" : "no step could have come out otherwise, as far as `races` tells";
+    for (const race of this.races.slice(0, SHOWN_RACES)) {
+      const row = document.createElement("div");
+      row.className = race === this.race ? "picked" : "";
+      row.textContent = row.title = race.text;
+      row.onclick = () => this.turn(race);
+      box.append(row);
+    }
   }
 
   draw_chip(nodes) {

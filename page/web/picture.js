@@ -44,7 +44,7 @@ class Picture {
     return low;
   }
 
-  draw(marks, chosen, selected) {
+  draw(marks, chosen, selected, races = []) {
     const { canvas } = this, ratio = window.devicePixelRatio || 1, width = canvas.clientWidth, many = this.names.length;
     const height = Math.max(120, Math.min(900, 16 + many * (many > 30 ? 9 : 22)));
     canvas.style.height = height + "px"; canvas.width = width * ratio; canvas.height = height * ratio;
@@ -57,10 +57,11 @@ class Picture {
       g.strokeStyle = colour("line"); g.lineWidth = 1; g.beginPath(); g.moveTo(left, line[n]); g.lineTo(width, line[n]); g.stroke();
       if (row > 8) { g.fillStyle = n === selected ? pick : colours[0]; g.fillText(n, 6, line[n]); }
     }
-    this.spots = [];
+    this.spots = []; this.turns = [];
     const from = this.first_at(this.from), upto = this.first_at(this.from + this.wide + 1), labels = [], dots = [];
+    const over = () => { this.draw_races(g, races, line, left, width, unit, colour("race"), pick); if (chosen) this.draw_pick(g, chosen, line, left, unit, pick); };
     this.far = unit < 2;
-    if (this.far) { this.draw_far(g, marks, from, upto, line, left, unit, colours); if (chosen) this.draw_pick(g, chosen, line, left, unit, pick); return; }
+    if (this.far) { this.draw_far(g, marks, from, upto, line, left, unit, colours); return over(); }
     for (let i = from; i < upto; i++) {
       const at = this.order[i], event = this.events[at], kind = marks ? marks[at] : 0, px = left + (this.xs[at] - this.from) * unit;
       if (!(event.ends[0][0] in line)) continue;
@@ -81,7 +82,21 @@ class Picture {
     for (const [label, x, y, tint, align] of labels) { g.textAlign = align; lettered(g, label, x, y, tint, back); }
     g.textAlign = "left";
     this.draw_dots(g, dots, unit, colours);
-    if (chosen) this.draw_pick(g, chosen, line, left, unit, pick);
+    over();
+  }
+
+  // A mark above each step that could have come out otherwise, one beside the other for each way; marks that would hide one another are left out.
+  draw_races(g, races, line, left, width, unit, tint, pick) {
+    const taken = new Map();
+    for (const { race, place, picked } of races) {
+      const [name] = race.step, y = line[name] - 8, at = left + (this.xs[place] - this.from) * unit, last = taken.get(name), x = last && last.place === place ? last.x - 11 : at - 9;
+      if (!(name in line) || at < left || at > width || (last && last.place !== place && !picked && at < last.at + 9)) continue;
+      taken.set(name, { place, at, x });
+      g.fillStyle = tint; g.strokeStyle = pick; g.lineWidth = 2;
+      g.beginPath(); g.moveTo(x - 5, y - 5); g.lineTo(x + 5, y - 5); g.lineTo(x, y + 4); g.closePath(); g.fill();
+      if (picked) g.stroke();
+      this.turns.push([x, y, race]);
+    }
   }
 
   draw_dots(g, dots, unit, colours) {
@@ -134,6 +149,9 @@ class Picture {
     g.lineWidth = 2; g.strokeStyle = pick;
     for (const [n] of chosen.ends) if (n in line) g.strokeRect(px - 7, line[n] - 7, 14, 14);
   }
+
+  // The race whose mark is there.
+  race_near(x, y) { const it = this.turns.find(([left, top]) => Math.abs(left - x) <= 6 && Math.abs(top - y) <= 6); return it && it[2]; }
 
   near(x, y) {
     let best = null, least = 300;

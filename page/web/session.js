@@ -10,6 +10,8 @@ const NODE = /^node (\d{3}) (run|stop (\d)|(fetch|read|write) ([rdlu-]{4})) p (\
 const PAST = 1, GOES = 2;
 const KEEPS = /^(step|back|rewind|run)\b/, STEPS_ALONE = /^(step|back)\b/;
 const RAN = /^(?:reached|made|quiet|full|memory|spent) (\d+)/;
+// A step that could have come out otherwise, as `races` tells it: the step, what else it could have been, and the commands that make it so.
+const RACE = /^(\d{3}) (\d+) (?:takes|reads) \w+(?: from \d{3})?, (or .*): (rewind (\d{3}) (\d+)), (step \d{3})$/;
 const NO_MEMORY = "no 4 memory";
 // An answer of which the first line tells how many stand behind it.
 const COUNTED = /^(?:trace \d{3}|chain|effects \d+|words \d{3} \d{3}) (\d+)$/;
@@ -26,6 +28,11 @@ function node_of(line) {
   const m = NODE.exec(line);
   if (!m) return null;
   return { state: m[2], stop: m[3], wait: m[4], set: m[5], p: m[6], a: m[7], b: m[8], i: m[9], slot: +m[10], carry: m[11], io: m[12], d: m[13].split(" "), r: m[14].split(" ") };
+}
+
+function race_of(line) {
+  const m = RACE.exec(line);
+  return m && { text: line, step: [m[1], +m[2]], other: m[3], back: [m[5], +m[6]], commands: [m[4], m[7]] };
 }
 
 // A run of the same order with so many events.
@@ -154,6 +161,15 @@ class Session {
   }
 
   look(name, step = null) { const answers = this.ask(this.questions(name, step)); return answers && this.seen(name, answers); }
+
+  // The steps that could have come out otherwise; null for want of memory.
+  races() { const answer = (this.ask(["races"]) || [[NO_MEMORY]])[0]; return answer[0] === NO_MEMORY ? null : answer.map(race_of).filter(it => it); }
+
+  // The other outcome of such a step: what its rollback takes, what is made then, and the chip behind that.
+  outcome({ back, commands }) {
+    const all = this.ask([`effects ${back.join(" ")}`, ...commands, ...NODES]);
+    return all && { effects: all[0], said: all[1][0], made: all[2][0], then: all.slice(3).map(it => node_of(it[0])) };
+  }
 
   // Of each of a node's steps the address that its instruction word was fetched from: P right before the last fetch, or
   // the wait for one. Of the steps from one on and up to another, where one of them or of the 40 before was a fetch.
