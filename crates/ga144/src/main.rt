@@ -57,6 +57,9 @@ fn main(rt: HostRuntime) -> ExitCode {
                 rewind,
                 from,
                 to,
+                all,
+                only,
+                fold,
                 file,
             },
         ) => {
@@ -65,6 +68,9 @@ fn main(rt: HostRuntime) -> ExitCode {
                 rewind,
                 from: from - 1,
                 to,
+                all,
+                only,
+                fold,
             };
             served(&rt, Work::Draw(view), &file)
         }

@@ -4,7 +4,7 @@ ghost use Rattle.ga_console.specs.Settings.{AreInRange, Within};
 
 use super::command::{node_of, number_of};
 use clap::builder::ValueParser;
-use clap::{Arg, ArgMatches, Command, value_parser};
+use clap::{Arg, ArgAction, ArgMatches, Command, value_parser};
 use ga_grid::NodeId;
 use std::alloc::{AllocError, Global};
 use thiserror::Error;
@@ -77,13 +77,16 @@ Exit status: 0 done, 1 image refused, 2 a stream failed, 3 command line refused,
 /// What `ga144 draw --help` says behind the options.
 const PICTURES: &str = "\
 Reads what explore reads: an image or source, from FILE where one is given, then commands, one a line. Carries them out without an answer,
-and at their end writes one SVG: a line down for each node, its own events as marks, passes as arrows with their word,
-waits dotted, looks dashed. An event's title says what debug says of it, and the name of its opcode.
+and at their end writes one SVG: a line down for each node that isn't idle, its own events as marks, passes as arrows with
+their word, waits dotted, looks dashed. An event's title says what debug says of it, and the name of its opcode.
 
 Exit status: 0 done, 1 image or step refused, 2 a stream failed, 3 command line refused.";
 
 /// How many events are kept where no limit is given.
 const DEFAULT_LIMIT: u32 = 1_000_000;
+
+/// From how many own steps on a run is drawn as one mark, where no number is given.
+const DEFAULT_FOLD: u32 = 3;
 
 const GREATEST_LIMIT: u32 = 4_000_000;
 
@@ -139,12 +142,17 @@ pub enum Settings {
         file: Option<String>,
     },
     /// Draw the kept events of a session from one place of their list on and up to another, both counted from 1. Shown are the
-    /// causes of a step, and what a rollback of a step would take; each step is a node and a number, counted from 1.
+    /// causes of a step, and what a rollback of a step would take; each step is a node and a number, counted from 1. Idle nodes are
+    /// drawn too where `all` is set, and with `only` nothing but such causes and what would be taken; from `fold` on that many own
+    /// steps in a row are one mark, where it is not 0.
     Draw {
         cause: Option<(NodeId, u32)>,
         rewind: Option<(NodeId, u32)>,
         from: u32,
         to: u32,
+        all: bool,
+        only: bool,
+        fold: u32,
         file: Option<String>,
     },
 }
@@ -288,7 +296,32 @@ fn draw_line<'a>(alloc: Global) -> Result<Command<'a>, AllocError> {
             u32::MAX,
         )
         .value_name("P"))?
+        .arg(flag(alloc, "all", "Give idle nodes a line too"))?
+        .arg(flag(
+            alloc,
+            "only",
+            "Leave out what is neither such a cause nor would be taken",
+        ))?
+        .arg(fold_option(alloc))?
         .arg(file_argument(alloc, "An image or source"))
+}
+
+/// From how many own steps on a run of them is drawn as one mark.
+fn fold_option<'a>(alloc: Global) -> Arg<'a> {
+    Arg::new(alloc, "fold")
+        .long("fold")
+        .help(
+            "Draw N and more fetches and opcodes of a node in a row as one mark, 0 for none [default: 3]",
+        )
+        .value_parser(value_parser!(u32))
+        .value_name("N")
+}
+
+fn flag<'a>(alloc: Global, name: &'a str, help: &'a str) -> Arg<'a> {
+    Arg::new(alloc, name)
+        .long(name)
+        .help(help)
+        .action(ArgAction::SetTrue)
 }
 
 fn limit_option<'a>(alloc: Global) -> Arg<'a> {
@@ -376,6 +409,9 @@ fn drawn(alloc: Global, draw: &ArgMatches<'_>) -> Result<Settings, LineFault>
         rewind: step(alloc, draw, "rewind")?,
         from,
         to,
+        all: draw.get_flag("all"),
+        only: draw.get_flag("only"),
+        fold: fold(draw.get_str("fold"))?,
         file: file(alloc, draw)?,
     })
 }
@@ -409,6 +445,17 @@ fn place(text: Option<&str>, usual: u32) -> Result<u32, LineFault>
     match text {
         None => Ok(usual),
         given => number(given, u32::MAX),
+    }
+}
+
+/// From how many own steps on a run is drawn as one mark. That it is a number was seen by its parser.
+fn fold(text: Option<&str>) -> Result<u32, LineFault> {
+    let Some(text) = text else {
+        return Ok(DEFAULT_FOLD);
+    };
+    match text.parse::<u32>() {
+        Ok(n) => Ok(n),
+        Err(_) => Err(LineFault::Memory),
     }
 }
 

@@ -1,6 +1,10 @@
 pub mod Flags
 pub mod Grounded
 pub mod Touching
+pub mod Plains
+pub mod Running
+pub mod Laid
+pub mod Listed
 pub mod Lined
 pub mod Drawn
 pub mod Shaded

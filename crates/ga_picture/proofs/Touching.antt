@@ -1,15 +1,16 @@
 -- The nodes that events touch.
-use Rattle.std.proofs.Common.{◌≡◌, ℕ, ◌+◌, ◌<◌, ◌≤◌, ◌==◌, Bool, true, false, ◌||◌, List, length, get_or, refl, sym, ◌∙◌, ap, subst, inl, inr, ⊎_elim, arith, eq-eqb, eqb-true}
+use Rattle.std.proofs.Common.{◌≡◌, ℕ, ◌+◌, ◌<◌, ◌==◌, Bool, true, false, ◌||◌, List, length, refl, sym, ◌∙◌, ap, subst, inl, inr, ⊎_elim, arith, eq-eqb, eqb-true}
 use Rattle.std.specs.List.{list_any}
 use Rattle.std.proofs.lemmas.Bool.{or_left, or_right, or_cases, both_ways, cases_eq}
-use Rattle.std.proofs.lemmas.List.{get_or_default}
 use Rattle.ga_ports.specs.declared.side.Side.{Side}
 use Rattle.ga_grid.specs.declared.node_id.NodeId.{NodeId}
 use Rattle.ga_event.specs.declared.event.Event.{Event}
 use Rattle.ga_event.specs.declared.event.Event.TheVariants.{Own, Pass}
 use Rattle.ga_event.specs.declared.event.Cause.{Cause}
 use Rattle.ga_event.specs.Touches.{nodes_of}
-use Rattle.ga_causal.specs.Dependence.{cause_touches, no_cause, event_at}
+use Rattle.ga_causal.specs.Dependence.{cause_touches}
+use Rattle.ga_picture.specs.declared.item.Item.{Item}
+use Rattle.ga_picture.specs.Runs.{at_place}
 use Rattle.ga_picture.specs.Drawing.{IsTouched}
 
 pub own_touches : (e : Cause) (node : NodeId) → e.event ≡ Own node → cause_touches e node.number ≡ true
@@ -25,29 +26,43 @@ reader_touches e w r side is =
     (or_right (w.number == r.number) ((r.number == r.number) || false) (or_left (r.number == r.number) false (eq-eqb r.number r.number refl)))
 
 -- what holds of the flags once the events up to a place are looked at
-pub record AreUsed (es : List Cause) (from place : ℕ) (marks : ℕ → Bool) : Type 0 where
-  pub needed : (n : ℕ) → marks n ≡ true → IsTouched es from place n
-  pub all : (n at : ℕ) → from ≤ at → at < place → cause_touches (event_at es at) n ≡ true → marks n ≡ true
+pub record AreUsed (items : List Item) (place : ℕ) (marks : ℕ → Bool) : Type 0 where
+  pub needed : (n : ℕ) → marks n ≡ true → IsTouched items n
+  pub all : (n at : ℕ) → at < place → (at_place items at).out ≡ false → cause_touches (at_place items at).cause n ≡ true → marks n ≡ true
 
-pub used_none : (es : List Cause) (from : ℕ) (marks : ℕ → Bool) → ((n : ℕ) → marks n ≡ false) → AreUsed es from from marks
-used_none es from marks f = record {
+pub used_none : (items : List Item) (marks : ℕ → Bool) → ((n : ℕ) → marks n ≡ false) → AreUsed items 0 marks
+used_none items marks f = record {
   needed = λ n t. absurd (both_ways (marks n) (f n) t);
-  all = λ n at b l t. absurd (omega (arith, b, l));
+  all = λ n at l o t. absurd (omega (arith, l));
 }
 
-pub used_more : (es : List Cause) (from place : ℕ) (marks more : ℕ → Bool) (e : Cause) → from ≤ place → place < length es → AreUsed es from place marks → e ≡ get_or es place e → ((n : ℕ) → more n ≡ (marks n || cause_touches e n)) → AreUsed es from (place + 1) more
-used_more es from place marks more e o l u is m =
-    let here : event_at es place ≡ e = get_or_default es place no_cause e l ∙ sym is in
-    record {
-      needed = λ n t. ⊎_elim
-          (λ s. let w = u.needed n s in record { place = w.place; behind = w.behind; before = omega (arith, w.before); touched = w.touched })
-          (λ s. record { place = place; behind = o; before = omega arith; touched = subst (λ z. cause_touches z n ≡ true) (sym here) s })
-          (or_cases (marks n) (cause_touches e n) (sym (m n) ∙ t));
-      all = λ n at b k t. m n ∙ elim (cases_eq at place) [
-        | inl q ↦ or_right (marks n) (cause_touches e n) (subst (λ z. cause_touches z n ≡ true) (ap (event_at es) q ∙ here) t)
-        | inr ne ↦ or_left (marks n) (cause_touches e n) (u.all n at b (omega (arith, k, ne)) t)
-      ];
-    }
+pub used_more : (items : List Item) (place : ℕ) (marks more : ℕ → Bool) (item : Item) → place < length items → AreUsed items place marks → at_place items place ≡ item
+    → item.out ≡ false → ((n : ℕ) → more n ≡ (marks n || cause_touches item.cause n)) → AreUsed items (place + 1) more
+used_more items place marks more item l u here o m = record {
+  needed = λ n t. ⊎_elim (λ s. u.needed n s)
+      (λ s. record {
+        place = place;
+        within = l;
+        drawn = ap (λ (z : Item). z.out) here ∙ o;
+        touched = subst (λ (z : Item). cause_touches z.cause n ≡ true) (sym here) s;
+      })
+      (or_cases (marks n) (cause_touches item.cause n) (sym (m n) ∙ t));
+  all = λ n at k s t. m n ∙ elim (cases_eq at place) [
+    | inl q ↦ or_right (marks n) (cause_touches item.cause n) (subst (λ (z : Item). cause_touches z.cause n ≡ true) (ap (at_place items) q ∙ here) t)
+    | inr ne ↦ or_left (marks n) (cause_touches item.cause n) (u.all n at (omega (arith, k, ne)) s t)
+  ];
+}
+
+-- an event that is left out
+pub used_same : (items : List Item) (place : ℕ) (marks : ℕ → Bool) (item : Item) → AreUsed items place marks → at_place items place ≡ item → item.out ≡ true
+    → AreUsed items (place + 1) marks
+used_same items place marks item u here o = record {
+  needed = u.needed;
+  all = λ n at k s t. elim (cases_eq at place) [
+    | inl q ↦ absurd (both_ways (at_place items at).out s (ap (λ (z : Item). z.out) (ap (at_place items) q ∙ here) ∙ o))
+    | inr ne ↦ u.all n at (omega (arith, k, ne)) s t
+  ];
+}
 
 pub touched_below : (e : Event) (n : ℕ) → list_any (λ m. m == n) (nodes_of e) ≡ true → n < 144
 touched_below (Own node) n t = ⊎_elim

@@ -1,15 +1,19 @@
 -- What a picture shows of a list of events (this project's own). Places count from 0 here.
-use Rattle.std.specs.Prelude.{◌≡◌, ℕ, ◌+◌, ◌-◌, ◌<◌, ◌≤◌, true, List, length, Option, Some, None, slice_get}
+use Rattle.std.specs.Prelude.{◌≡◌, ℕ, ◌<◌, true, false, List, length, map, Option, Some, None, slice_get}
+use Rattle.std.specs.List.{All}
 use Rattle.ga_event.specs.declared.event.Cause.{Cause}
 use Rattle.ga_event.specs.declared.event.Event.TheVariants.{Own, Pass}
 use Rattle.ga_grid.specs.declared.node_id.NodeId.{NodeId}
 use Rattle.ga_ports.specs.declared.side.Side.{Side}
-use Rattle.ga_causal.specs.Dependence.{cause_touches, event_at, DependsOn}
+use Rattle.ga_causal.specs.Dependence.{cause_touches, DependsOn}
 use Rattle.ga_picture.specs.declared.shade.Shade.{Shade}
 use Rattle.ga_picture.specs.declared.shade.Shade.TheVariants.{Black, Grey, Red}
 use Rattle.ga_picture.specs.declared.placing.Shape.{Shape}
 use Rattle.ga_picture.specs.declared.placing.Shape.TheVariants.{Mark, Arrow}
+use Rattle.ga_picture.specs.declared.placing.Row.{Row}
 use Rattle.ga_picture.specs.declared.placing.Drawing.{Drawing}
+use Rattle.ga_picture.specs.declared.item.Item.{Item}
+use Rattle.ga_picture.specs.Runs.{at_place, steps_at, rows_in}
 
 -- a rollback of the step takes the event at the place; without such a step none goes
 abbrev pub Goes : List Cause → Option ℕ → ℕ → Type 0
@@ -55,28 +59,36 @@ pub record IsArrow (event : Cause) (lines : List NodeId) (from to : ℕ) : Type 
 
 -- the event is drawn so on these lines
 abbrev pub IsShape : Cause → List NodeId → Shape → Type 0
-IsShape event lines (Mark line look shade) = IsMark event lines line × (event.look ≡ look)
+IsShape event lines (Mark line look steps shade) = IsMark event lines line × (event.look ≡ look)
 IsShape event lines (Arrow from to shade) = IsArrow event lines from to
 
 abbrev pub shade_of : Shape → Shade
-shade_of (Mark line look shade) = shade
+shade_of (Mark line look steps shade) = shade
 shade_of (Arrow from to shade) = shade
 
--- an event at one of the places touches the node
-pub record IsTouched (events : List Cause) (from to node : ℕ) : Type 0 where
-  pub place : ℕ
-  pub behind : from ≤ place
-  pub before : place < to
-  pub touched : cause_touches (event_at events place) node ≡ true
+-- how many events it stands for
+abbrev pub steps_of : Shape → ℕ
+steps_of (Mark line look steps shade) = steps
+steps_of (Arrow from to shade) = 1
 
--- The picture of the events from one place on and up to another: one shape for each, in their order, each on the lines of its
--- nodes; and lines for the nodes that these events touch and for no others, by their numbers.
-pub record IsDrawing (events : List Cause) (shades : List Shade) (from to : ℕ) (drawing : Drawing) : Type 0 where
-  pub count : length drawing.shapes.items ≡ to - from
-  pub drawn : (row : ℕ) (shape : Shape) → slice_get drawing.shapes.items row ≡ Some shape
-      → IsShape (event_at events (from + row)) drawing.lines.items shape
-  pub shaded : (row : ℕ) (shape : Shape) → slice_get drawing.shapes.items row ≡ Some shape
-      → slice_get shades (from + row) ≡ Some (shade_of shape)
-  pub needed : (line : ℕ) (node : NodeId) → slice_get drawing.lines.items line ≡ Some node → IsTouched events from to node.number
+-- an event that isn't left out touches the node
+pub record IsTouched (items : List Item) (node : ℕ) : Type 0 where
+  pub place : ℕ
+  pub within : place < length items
+  pub drawn : (at_place items place).out ≡ false
+  pub touched : cause_touches (at_place items place).cause node ≡ true
+
+-- a row shows its event, in its colour, and with it the run that begins with it
+pub record IsRow (items : List Item) (fold : ℕ) (lines : List NodeId) (row : Row) : Type 0 where
+  pub shape : IsShape (at_place items row.place).cause lines row.shape
+  pub shaded : shade_of row.shape ≡ (at_place items row.place).shade
+  pub steps : steps_of row.shape ≡ steps_at items fold row.place
+
+-- The picture of some events: a row for each that isn't left out, in their order, but one for each run that is drawn together; each on
+-- the lines of its nodes. There are lines for the nodes that these events touch and for no others, by their numbers.
+pub record IsDrawing (items : List Item) (fold : ℕ) (drawing : Drawing) : Type 0 where
+  pub places : map (λ row. row.place) drawing.rows.items ≡ rows_in items fold
+  pub drawn : All (IsRow items fold drawing.lines.items) drawing.rows.items
+  pub needed : (line : ℕ) (node : NodeId) → slice_get drawing.lines.items line ≡ Some node → IsTouched items node.number
   pub rising : (line other : ℕ) (node next : NodeId) → slice_get drawing.lines.items line ≡ Some node
       → slice_get drawing.lines.items other ≡ Some next → line < other → node.number < next.number

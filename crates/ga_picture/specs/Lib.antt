@@ -1,3 +1,5 @@
+pub mod Items
+pub mod Runs
 pub mod Drawing
 pub mod Svg
 pub mod Picture

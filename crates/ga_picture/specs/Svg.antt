@@ -1,6 +1,7 @@
 -- The text of a picture, as far as it is said of what it consists (docs/REFERENCE.md, "Pictures"; this project's own).
-use Rattle.std.specs.Prelude.{◌≡◌, ℕ, List, [], ◌∷◌, ◌++◌, codes}
+use Rattle.std.specs.Prelude.{◌≡◌, ℕ, List, [], ◌∷◌, ◌++◌, map, codes}
 use Rattle.ga_picture.specs.declared.placing.Shape.{Shape}
+use Rattle.ga_picture.specs.declared.placing.Row.{Row}
 use Rattle.ga_picture.specs.declared.shade.Shade.{Shade}
 use Rattle.ga_picture.specs.declared.shade.Shade.TheVariants.{Black, Grey, Red}
 use Rattle.ga_picture.specs.Drawing.{shade_of}
@@ -15,6 +16,9 @@ class_of Red = codes "<g class='r'>"
 pub record IsGroup (shape : Shape) (text : List ℕ) : Type 0 where
   pub body : List ℕ
   pub is : text ≡ class_of (shade_of shape) ++ (body ++ codes "</g>\n")
+
+abbrev pub shapes_in : List Row → List Shape
+shapes_in rows = map (λ row. row.shape) rows
 
 -- one group for each shape, in their order
 abbrev pub AreGroups : List Shape → List ℕ → Type 0

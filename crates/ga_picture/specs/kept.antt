@@ -1,2 +1,4 @@
 pub mod Lines
 pub mod Following
+pub mod Items
+pub mod Runs

@@ -5,11 +5,14 @@
 
 mod before;
 mod follow;
+mod item;
 mod lines;
 mod marks;
 mod placing;
+mod plain;
 mod reports;
 mod run;
+mod runs;
 mod shade;
 mod silent;
 mod text;
@@ -19,7 +22,8 @@ mod view;
 
 pub use before::grounds;
 pub use follow::follow_session;
-pub use placing::{Drawing, Shape, layout};
+pub use item::Item;
+pub use placing::{Drawing, Row, Shape, layout};
 pub use run::draw_session;
 pub use shade::{Shade, shades};
 pub use silent::Silent;

@@ -19,7 +19,18 @@ pub(crate) fn push_event(
     made: Option<&Made>,
 ) -> Result<(), AllocError> {
     match shape {
-        Shape::Mark { line, look, .. } => push_own(text, drawing, (x_of(line), y), look, made),
+        Shape::Mark {
+            line,
+            look,
+            steps,
+            ..
+        } => {
+            if steps > 1 {
+                push_many(text, (x_of(line), y), steps, made)
+            } else {
+                push_own(text, drawing, (x_of(line), y), look, made)
+            }
+        }
         Shape::Arrow { from, to, .. } => push_pass(text, x_of(from), x_of(to), y, made),
     }
 }
@@ -50,6 +61,36 @@ fn push_own(
         }
         _ => push_mark(text, x, y, Kind::Run(0)),
     }
+}
+
+/// Adds a box for so many own events of a node, of which the first is told.
+fn push_many(
+    text: &mut String,
+    at: (u32, u64),
+    steps: u32,
+    made: Option<&Made>,
+) -> Result<(), AllocError> {
+    let (x, y) = at;
+    let Some(Made::Own { node, step, .. }) = made else {
+        return push_box(text, x, y);
+    };
+    let name = node.yxx();
+    let last = step.saturating_add(steps.saturating_sub(1));
+    let (left, base) = (x.saturating_add(10), y.saturating_add(4));
+    write!(
+        text,
+        "<title>{name:03} {step} to {last}, {steps} steps</title>"
+    )?;
+    push_box(text, x, y)?;
+    write!(
+        text,
+        "<text x='{left}' y='{base}'>{step} to {last}: {steps}</text>"
+    )
+}
+
+/// Adds a box.
+fn push_box(text: &mut String, x: u32, y: u64) -> Result<(), AllocError> {
+    write!(text, "<path class='f' d='M{x} {y}m-3 -6h6v12h-6z'/>")
 }
 
 /// Adds a pass from one line to another.

@@ -1,14 +1,18 @@
 //! What is drawn where.
 
-ghost use Rattle.std.specs.Prelude.{◌≡◌, ◌≤◌, ℕ, true, List, length, slice_index, IfOk};
+ghost use Rattle.std.specs.Prelude.{◌==◌, ◌&&◌, ◌||◌, not, ◌≡◌, ◌<◌, ◌^◌, ℕ, true, false, List, length, slice_index, IfOk, ◌+◌};
+ghost use Rattle.std.specs.List.{All};
 ghost use Rattle.ga_grid.specs.declared.node_id.NodeId.{NodeId};
-ghost use Rattle.ga_picture.specs.Drawing.{IsDrawing, IsShape, IsLineOf, shade_of};
-ghost use Rattle.ga_causal.specs.Dependence.{cause_touches};
+ghost use Rattle.ga_picture.specs.Drawing.{IsDrawing, IsShape, IsLineOf, shade_of, steps_of};
+ghost use Rattle.ga_picture.specs.Runs.{drawn_with, IsSimple};
+ghost use Rattle.ga_causal.specs.Dependence.{cause_touches, is_a_pass};
 
+use crate::item::{Item, actor};
 use crate::lines::{Lines, lines_of};
+use crate::runs::{Runs, runs_behind};
 use crate::shade::Shade;
 use crate::touched::touched_by;
-use ga_causal::{Cause, Memory};
+use ga_causal::Memory;
 use ga_event::Event;
 use ga_grid::NodeId;
 use std::alloc::Global;
@@ -16,10 +20,20 @@ use std::alloc::Global;
 /// What is drawn of an event, on lines that are named by their index from the left, 0 for the first.
 #[derive(Clone, Copy, PartialEq, Eq)]
 pub enum Shape {
-    /// An own event: a mark on the line of its node. A look also has dashed lines to the lines of the node's neighbours.
-    Mark { line: u8, look: bool, shade: Shade },
+    /// So many own events of a node, one or a run of them: a mark on its line. A look also has dashed lines to the lines of the node's
+    /// neighbours.
+    Mark {
+        line: u8,
+        look: bool,
+        steps: u32,
+        shade: Shade,
+    },
     /// A pass: an arrow from the line of its writer to that of its reader.
-    Arrow { from: u8, to: u8, shade: Shade },
+    Arrow {
+        from: u8,
+        to: u8,
+        shade: Shade,
+    },
 }
 
 impl Shape {
@@ -34,55 +48,89 @@ impl Shape {
     }
 }
 
+/// What is drawn at one height.
+#[derive(Clone, Copy, PartialEq, Eq)]
+pub struct Row {
+    /// The place of its event among those that are looked at, of many the first.
+    pub place: u32,
+    /// What is drawn.
+    pub shape: Shape,
+}
+
 /// A picture of some events.
 #[derive(Drop)]
 pub struct Drawing {
     /// The nodes that have lines, from left to right.
     pub lines: Vec<NodeId>,
-    /// What is drawn of each event, from top to bottom.
-    pub shapes: Vec<Shape>,
+    /// What is drawn, from top to bottom.
+    pub rows: Vec<Row>,
 }
 
-/// Lays the events out from one place on and up to another, with their colours.
-pub fn layout(
-    alloc: Global,
-    events: &[Cause],
-    shades: &[Shade],
-    from: usize,
-    to: usize,
-) -> Result<Drawing, Memory>
-    requires order { from ≤ to }
-    requires within { to ≤ length events.now }
-    requires size { length shades.now ≡ length events.now }
-    ensures { IfOk result (λ drawing. IsDrawing events.now shades.now from to drawing) }
+/// Lays the events out that are not left out: each has a row, but a run of at least so many events of a node has one together, where
+/// its first stands. 0 stands for no such number.
+pub fn layout(alloc: Global, items: &[Item], fold: u32) -> Result<Drawing, Memory>
+    requires few { length items.now < 2 ^ 32 }
+    requires simple { All IsSimple items.now }
+    ensures { IfOk result (λ drawing. IsDrawing items.now fold drawing) }
 {
-    let Lines { nodes, columns } = lines_of(alloc, &touched_by(events, from, to))?;
-    let mut shapes = Vec::with_capacity(alloc, to - from)?;
-    'events: for place in from..to {
-        shapes.push(shape_of(&events[place], shades[place], &columns))?;
+    let Lines { nodes, columns } = lines_of(alloc, &touched_by(items))?;
+    let behind = runs_behind(alloc, items)?;
+    let mut runs = Runs::new();
+    let mut rows = Vec::new(alloc);
+    'items: for place in 0..items.len() {
+        let item = items[place];
+        let before = runs.count(actor(item.cause.event), item.shade);
+        let steps = drawn_with(&item, before, behind[place], fold);
+        if has_row(&item, steps, before) {
+            rows.push(Row {
+                place: place as u32,
+                shape: shape_of(&item, steps, &columns),
+            })?;
+        }
+        runs.pass(&item);
     }
-    Ok(Drawing {
-        lines: nodes,
-        shapes,
-    })
+    Ok(Drawing { lines: nodes, rows })
 }
 
-/// What is drawn of an event.
-fn shape_of(event: &Cause, shade: Shade, columns: &[u8; 144]) -> Shape
-    ensures drawn { (lines : List NodeId) →
-        ((n : ℕ) → cause_touches event.now n ≡ true → IsLineOf lines (slice_index columns.now n) n) → IsShape event.now lines result }
-    ensures shaded { shade_of result ≡ shade }
+/// Whether an event has a row, which is drawn together with so many, and has so many of its run before it.
+fn has_row(item: &Item, steps: u32, before: u32) -> bool
+    ensures { result ≡ (not item.now.out && ((steps == 1) || (before == 0))) }
 {
-    match event.event {
+    !item.out && (steps == 1 || before == 0)
+}
+
+/// How many events are drawn together with this one, which has so many of its run before and behind it.
+fn drawn_with(item: &Item, before: u32, behind: u32, fold: u32) -> u32
+    requires { before + behind + 1 < 2 ^ 32 }
+    ensures { result ≡ drawn_with item.now before behind fold }
+{
+    let run = before + behind + 1;
+    if item.plain && (fold != 0 && run >= fold) {
+        run
+    } else {
+        1
+    }
+}
+
+/// What is drawn of an event, or of a run that it begins.
+fn shape_of(item: &Item, steps: u32, columns: &[u8; 144]) -> Shape
+    ensures drawn { (lines : List NodeId) →
+        ((n : ℕ) → cause_touches item.now.cause n ≡ true → IsLineOf lines (slice_index columns.now n) n) → IsShape item.now.cause lines result }
+    ensures shaded { shade_of result ≡ item.now.shade }
+    ensures steps { is_a_pass item.now.cause.event ≡ false → steps_of result ≡ steps }
+    ensures one { is_a_pass item.now.cause.event ≡ true → steps_of result ≡ 1 }
+{
+    match item.cause.event {
         Event::Own(node) => Shape::Mark {
             line: columns[node.index()],
-            look: event.look,
-            shade,
+            look: item.cause.look,
+            steps,
+            shade: item.shade,
         },
         Event::Pass { writer, reader, .. } => Shape::Arrow {
             from: columns[writer.index()],
             to: columns[reader.index()],
-            shade,
+            shade: item.shade,
         },
     }
 }

@@ -1,7 +1,7 @@
 //! A picture as text in SVG.
 
 ghost use Rattle.std.specs.Prelude.{◌≡◌, IfOk, string_bytes};
-ghost use Rattle.ga_picture.specs.Svg.{IsSvg, IsGroup, class_of};
+ghost use Rattle.ga_picture.specs.Svg.{IsSvg, IsGroup, class_of, shapes_in};
 
 use crate::marks::push_event;
 use crate::placing::{Drawing, Shape};
@@ -45,18 +45,18 @@ line,path,circle{stroke:#111;fill:none;stroke-width:1.2}
 </style>
 ";
 
-/// The text of a picture: a head, a group for each shape in order, and a foot. Of the events that are drawn their reports are
-/// given, in the same order; where there is none the shape has no title and no label.
+/// The text of a picture: a head, a group for each row in order, and a foot. Of the events that are looked at their reports are
+/// given, in order; where there is none a shape has no title and no label.
 ///
 /// # Errors
 /// Memory was refused.
 pub fn svg(alloc: Global, drawing: &Drawing, mades: &[Made]) -> Result<String, AllocError>
-    ensures { IfOk result (λ text. IsSvg drawing.now.shapes.items (string_bytes text)) }
+    ensures { IfOk result (λ text. IsSvg (shapes_in drawing.now.rows.items) (string_bytes text)) }
 {
     let mut text = head(alloc, drawing, mades)?;
-    'rows: for row in 0..drawing.shapes.len() {
-        let shape = drawing.shapes[row];
-        let group = group(alloc, drawing, row, shape, mades.get(row))?;
+    'rows: for at in 0..drawing.rows.len() {
+        let row = drawing.rows[at];
+        let group = group(alloc, drawing, at, row.shape, mades.get(row.place as usize))?;
         text.push_str(group.as_str())?;
     }
     text.push_str("</svg>\n")?;
@@ -118,8 +118,8 @@ pub(crate) fn y_of(row: usize) -> u64 {
 /// What stands before the events: the size, the classes, of each node its name and a thin line, and when it runs and waits.
 fn head(alloc: Global, drawing: &Drawing, mades: &[Made]) -> Result<String, AllocError> {
     let mut text = String::new(alloc);
-    let width = x_of(drawing.lines.len().min(144) as u8).saturating_sub(20);
-    let height = y_of(drawing.shapes.len());
+    let width = x_of(drawing.lines.len().min(144) as u8).saturating_add(20);
+    let height = y_of(drawing.rows.len());
     write!(
         text,
         "<svg xmlns='http://www.w3.org/2000/svg' viewBox='0 0 {width} {height}' width='{width}' height='{height}'>\n"
@@ -152,18 +152,19 @@ fn push_tracks(
     mades: &[Made],
 ) -> Result<(), AllocError> {
     let mut tracks = Tracks::new(alloc, drawing.lines.len())?;
-    for (row, shape) in drawing.shapes.iter().enumerate() {
-        match *shape {
+    for (at, row) in drawing.rows.iter().enumerate() {
+        match row.shape {
             Shape::Mark { line, .. } => {
-                tracks.own(text, line, y_of(row), is_wait(mades.get(row)))?;
+                let waits = is_wait(mades.get(row.place as usize));
+                tracks.own(text, line, y_of(at), waits)?;
             }
             Shape::Arrow { from, to, .. } => {
-                tracks.passed(text, from, y_of(row))?;
-                tracks.passed(text, to, y_of(row))?;
+                tracks.passed(text, from, y_of(at))?;
+                tracks.passed(text, to, y_of(at))?;
             }
         }
     }
-    tracks.end(text, y_of(drawing.shapes.len()).saturating_sub(12))
+    tracks.end(text, y_of(drawing.rows.len()).saturating_sub(12))
 }
 
 fn is_wait(made: Option<&Made>) -> bool {

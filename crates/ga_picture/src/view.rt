@@ -1,15 +1,22 @@
 //! The picture of a lab's kept events.
 
-ghost use Rattle.std.specs.Prelude.{◌≡◌, ◌↔◌, ◌⊎◌, ◌<◌, ◌≤◌, ◌^◌, false, length, Err, IfOk, IfErr, IfSome, min, string_bytes};
-ghost use Rattle.ga_picture.specs.Picture.{IsPicture, IsPictureOf, IsPictureText, all_stand, stands_for, place_for};
+ghost use Rattle.std.specs.Prelude.{ℕ, ◌≡◌, ◌↔◌, ◌⊎◌, ◌<◌, ◌≤◌, ◌^◌, false, length, Err, IfOk, IfErr, IfSome, min, string_bytes};
+ghost use Rattle.ga_grid.specs.Chip.{records_of};
+ghost use Rattle.ga_causal.specs.Dependence.{is_marked};
+ghost use Rattle.ga_lab.specs.Machine.{causes_of};
+ghost use Rattle.ga_picture.specs.Picture.{IsPicture, IsPictureOf, IsPictureText, is_ready, all_stand, stands_for, place_for};
+ghost use Rattle.ga_picture.specs.kept.Items.{AreItemsOf};
 
+use crate::item::{Facts, Item, items};
 use crate::placing::{Drawing, layout};
+use crate::plain::plain_events;
 use crate::reports::reports;
 use crate::shade::shades;
 use crate::text::svg;
 use ga_causal::{Cause, Memory, place_of};
-use ga_grid::NodeId;
+use ga_grid::{Chip, NodeId};
 use ga_lab::{Lab, LabFault};
+use ga_search::find_idle;
 use std::alloc::Global;
 
 /// A step: its node and its number, counted from 1.
@@ -26,6 +33,12 @@ pub struct View {
     pub from: u32,
     /// How many of the oldest events are looked at: the last of these is the last one drawn.
     pub to: u32,
+    /// Whether idle nodes have lines too.
+    pub all: bool,
+    /// Whether what is neither a cause of the first step nor goes with the second is left out, where one is given.
+    pub only: bool,
+    /// From how many events on a run of fetches and opcodes of a node is drawn as one; 0 for none.
+    pub fold: u32,
 }
 
 /// The picture of the kept events of a lab. Takes memory and time by how many events are kept, not by how many are drawn.
@@ -85,13 +98,34 @@ fn stands(lab: &Lab, step: Option<Step>) -> bool
 fn drawn(lab: &Lab, view: View) -> Result<Drawing, Memory>
     ensures { IfOk result (λ drawing. IsPicture lab.now view drawing) }
 {
-    // So few that a place has room in 32 bits.
+    let causes = kept_causes(lab)?;
+    let idle = find_idle(lab);
+    let ready = ready_nodes(lab.chip());
+    drawn_of(*causes.allocator(), causes.as_slice(), &idle, ready, view)
+}
+
+/// The kept events, so few that a place has room in 32 bits.
+fn kept_causes(lab: &Lab) -> Result<Vec<Cause>, Memory>
+    ensures kept { IfOk result (λ causes. causes.items ≡ causes_of lab.now) }
+    ensures few { IfOk result (λ causes. length causes.items < 2 ^ 32) }
+{
     let kept = lab.counts().kept;
     prove!(kept <= u32::MAX);
-    let Ok(causes) = lab.causes() else {
-        return Err(Memory);
-    };
-    drawn_of(*causes.allocator(), causes.as_slice(), view)
+    match lab.causes() {
+        Ok(causes) => Ok(causes),
+        Err(_) => Err(Memory),
+    }
+}
+
+/// The nodes that neither wait nor are stopped.
+fn ready_nodes(chip: &Chip) -> [bool; 144]
+    ensures { (n : ℕ) → n < 144 → is_marked result n ≡ is_ready (records_of chip.now) n }
+{
+    let mut ready = [false; 144];
+    'nodes: for number in 0..144u8 {
+        ready[number as usize] = chip.node(NodeId::new(number)).not_ready().is_none();
+    }
+    ready
 }
 
 /// Its text.
@@ -99,9 +133,7 @@ fn written(lab: &Lab, view: View) -> Result<String, Memory>
     ensures { IfOk result (λ text. IsPictureText lab.now view (string_bytes text)) }
 {
     let drawing = drawn(lab, view)?;
-    let Ok(causes) = lab.causes() else {
-        return Err(Memory);
-    };
+    let causes = kept_causes(lab)?;
     let alloc = *causes.allocator();
     let (from, to) = span(causes.len(), view);
     let Ok(mades) = reports(alloc, lab, causes.as_slice(), from, to) else {
@@ -113,16 +145,45 @@ fn written(lab: &Lab, view: View) -> Result<String, Memory>
     }
 }
 
-/// The picture of these events.
-fn drawn_of(alloc: Global, events: &[Cause], view: View) -> Result<Drawing, Memory>
+/// The picture of these events, with the idle nodes, and those that neither wait nor are stopped.
+fn drawn_of(
+    alloc: Global,
+    events: &[Cause],
+    idle: &[bool; 144],
+    ready: [bool; 144],
+    view: View,
+) -> Result<Drawing, Memory>
     requires { length events.now < 2 ^ 32 }
-    ensures { IfOk result (λ drawing. IsPictureOf events.now view drawing) }
+    ensures { IfOk result (λ drawing. IsPictureOf events.now (is_marked ready) (is_marked idle.now) view drawing) }
+{
+    let items = items_of(alloc, events, idle, ready, view)?;
+    layout(alloc, items.as_slice(), view.fold)
+}
+
+/// These events as the picture takes them.
+fn items_of(
+    alloc: Global,
+    events: &[Cause],
+    idle: &[bool; 144],
+    ready: [bool; 144],
+    view: View,
+) -> Result<Vec<Item>, Memory>
+    requires { length events.now < 2 ^ 32 }
+    ensures { IfOk result (λ items. AreItemsOf events.now (is_marked ready) (is_marked idle.now) view items.items) }
 {
     let cause = place(events, view.cause);
     let rewind = place(events, view.rewind);
     let shades = shades(alloc, events, cause, rewind)?;
+    let plain = plain_events(alloc, events, ready)?;
+    let facts = Facts {
+        events,
+        shades: shades.as_slice(),
+        plain: plain.as_slice(),
+        cause,
+        rewind,
+    };
     let (from, to) = span(events.len(), view);
-    layout(alloc, events, shades.as_slice(), from, to)
+    items(alloc, facts, idle, view, from, to)
 }
 
 /// From where to where events are drawn, of so many.

@@ -38,6 +38,9 @@ fn view(rewind: u32) -> View {
         rewind: Some((NodeId::new(0), rewind)),
         from: 0,
         to: u32::MAX,
+        all: false,
+        only: false,
+        fold: 3,
     }
 }
 
@@ -60,7 +63,7 @@ fn picture_of(alloc: Global, mut input: &[u8], view: View, limit: u32) -> Drawn 
     }
 }
 
-const HEAD: &[u8] = b"<svg xmlns='http://www.w3.org/2000/svg' viewBox='0 0 290 106'";
+const HEAD: &[u8] = b"<svg xmlns='http://www.w3.org/2000/svg' viewBox='0 0 330 106'";
 
 #[test]
 fn three_events(rt: HostRuntime) {
@@ -83,6 +86,9 @@ fn drawn_behind(
         rewind: None,
         from: 0,
         to: u32::MAX,
+        all: false,
+        only: false,
+        fold: 3,
     };
     let drawn = picture_of(alloc, input.as_slice(), view, limit);
     ends(rt, drawn.status, Status::Done);

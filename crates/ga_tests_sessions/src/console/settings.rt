@@ -35,8 +35,9 @@ fn refused(rt: HostRuntime) {
 
 static RACE: [&str; 6] = ["ga144", "race", "--workers", "2", "--calls", "4"];
 
-static PART: [&str; 11] = [
+static PART: [&str; 15] = [
     "ga144", "draw", "--to", "9", "--rewind", "717", "0", "--from=2", "--cause", "001", "10",
+    "--all", "--fold", "0", "--only",
 ];
 
 #[test]
@@ -59,6 +60,9 @@ fn command_lines(rt: HostRuntime) {
         rewind: Some((NodeId::new(143), 0)),
         from: 2,
         to: 9,
+        all: true,
+        only: true,
+        fold: 0,
         file: None,
     };
     asks(&rt, rt.alloc(), &PART, Some(part));

@@ -1,34 +1,94 @@
-use Rattle.std.proofs.Common.{◌≡◌, ◌+◌, ◌<◌, ◌≤◌, true, Some, length, sym, ◌∙◌, ap, subst, arith}
+use Rattle.std.proofs.Common.{◌≡◌, ℕ, ◌+◌, ◌-◌, ◌<◌, ◌≤◌, true, false, length, refl, sym, ap, ◌∙◌, subst, get_or, arith}
 use Rattle.std.proofs.lemmas.List.{get_or_default}
-use Rattle.std.proofs.lemmas.Option.{slice_get-get_or}
-use Rattle.ga_causal.specs.Dependence.{cause_touches, no_cause, event_at}
-use Rattle.ga_picture.specs.Drawing.{IsShape}
+use Rattle.ga_grid.specs.declared.node_id.NodeId.{NodeId}
+use Rattle.ga_causal.specs.Dependence.{cause_touches}
+use Rattle.ga_picture.specs.declared.item.Item.{Item}
+use Rattle.ga_picture.specs.declared.placing.Row.{Row}
+use Rattle.ga_picture.specs.Drawing.{IsShape, IsRow}
+use Rattle.ga_picture.specs.Items.{actor}
+use Rattle.ga_picture.specs.Runs.{at_place, no_item, IsSimple, run_before, before_at, behind_at, steps_at, rows_below}
+use Rattle.ga_picture.specs.kept.Runs.{count_in}
 use Rattle.ga_picture.proofs.Touching.{touched_below}
-use Rattle.ga_picture.proofs.Drawn.{AreDrawn, drawn_none, drawn_more}
+use Rattle.ga_picture.proofs.Running.{AreBefore, before_first, before_more, behind_few, count_few}
+use Rattle.ga_picture.proofs.Laid.{AreLaid, laid_none, laid_more, laid_same, steps_are, row_is, is_in, steps_shown}
+use Rattle.ga_picture.proofs.placing.layout.Goals.{then-has_row+in_ok-push, else-has_row}
 use Rattle.ga_picture.proofs.placing.layout.Goals as goal
 
-pub events-init : goal.events-init
-events-init c =
-    subst (λ z. AreDrawn c.args.events.now c.args.shades.now c.in_ok-nodes.field-0.nodes.items c.args.from c.args.from z) (sym c.in_ok-shapes.ensures.items)
-    (drawn_none c.args.events.now c.args.shades.now c.in_ok-nodes.field-0.nodes.items c.args.from)
+pub items-init : goal.items-init
+items-init c = record {
+  runs = before_first c.args.items.now c.new-runs.result c.new-runs.ensures.sizes c.new-runs.ensures.none;
+  laid = laid_none c.args.items.now c.args.fold c.in_ok-nodes.field-0.nodes.items c.new-rows.result.items c.new-rows.ensures.items;
+}
 
-pub events-preserved : goal.events-preserved
-events-preserved c =
-    let within : c.events.place < length c.args.events.now = omega arith in
-    let coloured : c.events.place < length c.args.shades.now = let size : length c.args.shades.now ≡ length c.args.events.now = c.requires.size in omega arith in
-    let here : event_at c.args.events.now c.events.place ≡ c.index-events-place.result = get_or_default c.args.events.now c.events.place no_cause c.index-events-place.result within ∙ sym c.index-events-place.is in
-    subst (λ z. AreDrawn c.args.events.now c.args.shades.now c.in_ok-nodes.field-0.nodes.items c.args.from (c.events.place + 1) z) (sym c.in_ok-push.ensures.items)
-    (drawn_more c.args.events.now c.args.shades.now c.in_ok-nodes.field-0.nodes.items c.args.from c.events.place c.events.shapes.items c.shape_of.result c.events.invariant
-    (subst (λ z. IsShape z c.in_ok-nodes.field-0.nodes.items c.shape_of.result) (sym here)
-    (c.shape_of.ensures.drawn c.in_ok-nodes.field-0.nodes.items
-    (λ n t. c.in_ok-nodes.ensures.found n (touched_below c.index-events-place.result.event n t) (c.touched_by.ensures.all n c.events.place c.events.auto.place c.events-test.true (subst (λ z. cause_touches z n ≡ true) (sym here) t)))))
-    (slice_get-get_or c.args.shades.now c.events.place _ coloured ∙ ap Some (sym c.shape_of.ensures.shaded)))
+pub drawn_with-steps-requires : goal.drawn_with-steps-requires
+drawn_with-steps-requires c =
+    let items = c.args.items.now in
+    let place = c.items.place in
+    let within : place < length items = omega arith in
+    let size : length c.in_ok-behind.behind.items ≡ length items = c.in_ok-behind.ensures.size in
+    let near : place < length c.in_ok-behind.behind.items = omega arith in
+    let behind : c.index.result.now ≡ behind_at items place =
+    c.index.ensures ∙ get_or_default c.in_ok-behind.behind.items place c.index.result.now 0 near ∙ c.in_ok-behind.ensures.exact place within in
+    omega (arith, count_few c.items.runs c.actor.result.number c.index-items-place.result.shade place c.items.invariant.runs.within, behind_few items place within)
+
+pub pass-requires-clause-few : goal.pass-requires-clause-few
+pass-requires-clause-few c = λ n. omega (arith, c.items.invariant.runs.within n)
+
+pub pass-requires-clause-simple : goal.pass-requires-clause-simple
+pass-requires-clause-simple c =
+    let within : c.items.place < length c.args.items.now = omega arith in
+    subst IsSimple (sym c.index-items-place.is) (c.requires.simple c.items.place c.index-items-place.result within)
+
+pub items-preserved : goal.items-preserved
+items-preserved c =
+    let items = c.args.items.now in
+    let place = c.items.place in
+    let fold = c.args.fold in
+    let lines = c.in_ok-nodes.field-0.nodes.items in
+    let item = c.index-items-place.result in
+    let before = c.count-before.result in
+    let steps = c.drawn_with-steps.result in
+    let within : place < length items = omega arith in
+    let here : at_place items place ≡ item = get_or_default items place no_item item within ∙ sym c.index-items-place.is in
+    let simple : IsSimple item = subst IsSimple (sym c.index-items-place.is) (c.requires.simple place item within) in
+    let node : actor item.cause.event < 144 = subst (λ z. z < 144) c.actor.ensures c.actor.result.in_range in
+    let size : length c.in_ok-behind.behind.items ≡ length items = c.in_ok-behind.ensures.size in
+    let near : place < length c.in_ok-behind.behind.items = omega arith in
+    let behind : c.index.result.now ≡ behind_at items place =
+    c.index.ensures ∙ get_or_default c.in_ok-behind.behind.items place c.index.result.now 0 near ∙ c.in_ok-behind.ensures.exact place within in
+    let front : before ≡ before_at items place =
+    c.count-before.ensures ∙ ap (λ z. count_in c.items.runs z item.shade) c.actor.ensures ∙ c.items.invariant.runs.counts (actor item.cause.event) item.shade node
+    ∙ ap (λ (z : Item). run_before (actor z.cause.event) z.shade items place) (sym here) in
+    let many : steps ≡ steps_at items fold place = steps_are items fold place item before c.index.result.now steps here front behind c.drawn_with-steps.ensures in
+    let has = row_is items fold place item before steps c.has_row.result here front many c.has_row.ensures in
+    record {
+      runs = before_more items place c.items.runs c.pass.new.self item c.items.invariant.runs here c.pass.ensures.sizes
+          (c.pass.ensures.within place c.items.invariant.runs.within) (λ n shade l. c.pass.ensures.counts n shade l);
+      laid = elim c.if-has_row.branch [
+        | then-has_row+in_ok-push w ↦ (
+            let in_it : item.out ≡ false = is_in item.out _ c.has_row.result w.if-has_row.true c.has_row.ensures in
+            let row : Row = record { place = place; shape = w.shape_of.result } in
+            let is : IsRow items fold lines row = record {
+              shape = subst (λ (z : Item). IsShape z.cause lines w.shape_of.result) (sym here) (w.shape_of.ensures.drawn lines
+                  (λ n t. c.in_ok-nodes.ensures.found n (touched_below item.cause.event n t)
+                  (c.touched_by.ensures.all n place within (ap (λ (z : Item). z.out) here ∙ in_it) (subst (λ (z : Item). cause_touches z.cause n ≡ true) (sym here) t))));
+              shaded = w.shape_of.ensures.shaded ∙ ap (λ (z : Item). z.shade) (sym here);
+              steps = steps_shown item _ steps before c.index.result.now fold simple c.drawn_with-steps.ensures w.shape_of.ensures.steps w.shape_of.ensures.one ∙ many;
+            } in
+            subst (λ z. AreLaid items fold lines (place + 1) z) (sym (ap (λ z. z.items) w.rows-is))
+            (laid_more items fold lines place c.items.rows.items w.push.new.self.items row c.items.invariant.laid (has ∙ w.if-has_row.true) refl is w.in_ok-push.ensures.items))
+        | else-has_row w ↦ (
+            subst (λ z. AreLaid items fold lines (place + 1) z) (sym (ap (λ z. z.items) w.rows-is))
+            (laid_same items fold lines place c.items.rows.items c.items.invariant.laid (has ∙ w.if-has_row.false)))
+      ];
+    }
 
 pub returns : goal.returns
-returns c = record {
-  count = let so_far : length c.events.shapes.items + c.args.from ≡ c.events.place = c.events.invariant.count in let within : c.events.place ≤ c.args.to = c.events.auto.place-end c.requires.order in omega arith;
-  drawn = c.events.invariant.drawn;
-  shaded = c.events.invariant.shaded;
-  needed = λ line node e. c.touched_by.ensures.needed node.number (c.in_ok-nodes.ensures.needed line node e);
-  rising = c.in_ok-nodes.ensures.rising;
-}
+returns c =
+    let all : c.items.place ≡ length c.args.items.now = omega arith in
+    record {
+      places = c.items.invariant.laid.places ∙ ap (rows_below c.args.items.now c.args.fold) all;
+      drawn = c.items.invariant.laid.drawn;
+      needed = λ line node e. c.touched_by.ensures.needed node.number (c.in_ok-nodes.ensures.needed line node e);
+      rising = c.in_ok-nodes.ensures.rising;
+    }

@@ -1,5 +1,6 @@
-use Rattle.ga_picture.proofs.Drawn.{AreDrawn}
+use Rattle.ga_picture.proofs.Running.{AreBefore}
+use Rattle.ga_picture.proofs.Laid.{AreLaid}
 use Rattle.ga_picture.proofs.placing.layout.Given as goal
 
-abbrev pub invariant-events : goal.invariant-events
-invariant-events l = AreDrawn l.events l.shades l.nodes.items l.from l.place l.shapes.items
+abbrev pub invariant-items : goal.invariant-items
+invariant-items l = record { runs : AreBefore l.items l.place l.runs; laid : AreLaid l.items l.fn.fold l.nodes.items l.place l.rows.items }

@@ -2,5 +2,5 @@ use Rattle.ga_causal.specs.Dependence.{is_marked}
 use Rattle.ga_picture.proofs.Touching.{AreUsed}
 use Rattle.ga_picture.proofs.touched.touched_by.Given as goal
 
-abbrev pub invariant-events : goal.invariant-events
-invariant-events l = AreUsed l.events l.from l.place (is_marked l.touched)
+abbrev pub invariant-items : goal.invariant-items
+invariant-items l = AreUsed l.items l.item-index (is_marked l.touched)

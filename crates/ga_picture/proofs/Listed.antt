@@ -1,0 +1,63 @@
+-- The events that are looked at; one that may be folded is an own one without a look.
+use Rattle.std.proofs.Common.{◌≡◌, ℕ, ◌+◌, ◌-◌, ◌<◌, ◌≤◌, ◌&&◌, Bool, true, false, true≢false, List, Option, length, get_or, refl, sym, ap, ◌∙◌, subst, arith}
+use Rattle.std.specs.Prelude.{not, slice_index_or, map, min}
+use Rattle.std.specs.List.{All, range_with_len}
+use Rattle.std.proofs.lemmas.List.FromFn.{get_or-map-range_with_len, length-map-range_with_len}
+use Rattle.ga_causal.specs.Dependence.{event_at, is_a_pass}
+use Rattle.ga_event.specs.declared.event.Cause.{Cause}
+use Rattle.ga_picture.specs.declared.shade.Shade.{Shade}
+use Rattle.ga_picture.specs.declared.item.Item.{Item}
+use Rattle.ga_picture.specs.declared.view.View.{View}
+use Rattle.ga_picture.specs.Items.{Known, item_of, item_at, items_of}
+use Rattle.ga_picture.specs.Runs.{IsSimple}
+use Rattle.ga_picture.specs.Drawing.{AreShades}
+use Rattle.ga_picture.specs.Picture.{place_for, start_in, end_in, known_of}
+use Rattle.ga_picture.specs.kept.Items.{known_by, AreItemsOf}
+
+plain_parts : (pass look runs more : Bool) → ((not pass && (not look && runs)) && more) ≡ true → (pass ≡ false) × (look ≡ false)
+plain_parts true look runs more e = absurd (true≢false (sym e))
+plain_parts false true runs more e = absurd (true≢false (sym e))
+plain_parts false false runs more e = (refl, refl)
+
+item_simple : (known : Known) (view : View) (place : ℕ) → IsSimple (item_at known view place)
+item_simple known view place = λ e. plain_parts (is_a_pass (event_at known.events place).event) (event_at known.events place).look _ _ e
+
+pub items_simple : (known : Known) (view : View) (from to : ℕ) → All IsSimple (items_of known view from to)
+items_simple known view from to = λ k d l.
+    let size : length (items_of known view from to) ≡ to - from = length-map-range_with_len (item_at known view) from (to - from) in
+    subst IsSimple (sym (get_or-map-range_with_len (item_at known view) from (to - from) k (from + k) d (omega arith) refl))
+    (item_simple known view (from + k))
+
+pub item_same : (view : View) (e f : Cause) (s t : Shade) (plain simple named asked silent still : Bool) → e ≡ f → s ≡ t → plain ≡ simple → named ≡ asked → silent ≡ still
+    → item_of view e s plain named silent ≡ item_of view f t simple asked still
+item_same view e f s t plain simple named asked silent still p q r u v =
+    ap (λ (z : Cause). item_of view z s plain named silent) p ∙ ap (λ (z : Shade). item_of view f z plain named silent) q
+    ∙ ap (λ (z : Bool). item_of view f t z named silent) r ∙ ap (λ (z : Bool). item_of view f t simple z silent) u
+    ∙ ap (λ (z : Bool). item_of view f t simple asked z) v
+
+pub items_drawn : (events : List Cause) (ready idle : ℕ → Bool) (view : View) (shades list : List Shade) (cause rewind : Option ℕ) (from to : ℕ) (items : List Item)
+    → AreShades events cause rewind shades → list ≡ shades → cause ≡ place_for events view.cause → rewind ≡ place_for events view.rewind
+    → from ≡ start_in events view → to ≡ end_in events view → items ≡ items_of (known_by events list ready idle cause rewind) view from to
+    → AreItemsOf events ready idle view items
+items_drawn events ready idle view shades list cause rewind from to items a l p q f t e = record {
+  shades = shades;
+  shaded = subst (λ (z : Option ℕ). AreShades events z (place_for events view.rewind) shades) p (subst (λ (z : Option ℕ). AreShades events cause z shades) q a);
+  are = e ∙ ap (λ (z : List Shade). items_of (known_by events z ready idle cause rewind) view from to) l
+      ∙ ap (λ (z : Option ℕ). items_of (known_by events shades ready idle z rewind) view from to) p
+      ∙ ap (λ (z : Option ℕ). items_of (known_by events shades ready idle (place_for events view.cause) z) view from to) q
+      ∙ ap (λ (z : ℕ). items_of (known_of events ready idle view shades) view z to) f
+      ∙ ap (λ (z : ℕ). items_of (known_of events ready idle view shades) view (start_in events view) z) t;
+}
+
+pub drawn_few : (events : List Cause) (ready idle : ℕ → Bool) (view : View) (items : List Item) → AreItemsOf events ready idle view items → length items ≤ length events
+drawn_few events ready idle view items a =
+    let known = known_of events ready idle view a.shades in
+    let size : length items ≡ end_in events view - start_in events view =
+    ap (λ (z : List Item). length z) a.are ∙ length-map-range_with_len (item_at known view) (start_in events view) (end_in events view - start_in events view) in
+    let within : end_in events view ≤ length events = omega arith in
+    omega arith
+
+pub drawn_simple : (events : List Cause) (ready idle : ℕ → Bool) (view : View) (items : List Item) → AreItemsOf events ready idle view items → All IsSimple items
+drawn_simple events ready idle view items a =
+    subst (λ (z : List Item). All IsSimple z) (sym a.are)
+    (items_simple (known_of events ready idle view a.shades) view (start_in events view) (end_in events view))

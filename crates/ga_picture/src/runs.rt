@@ -1,0 +1,124 @@
+//! Runs of events of a node, which may be drawn as one mark.
+
+ghost use Rattle.std.specs.Prelude.{◌≡◌, ◌≤◌, ◌<◌, ◌+◌, ◌^◌, ℕ, if◌then◌else◌, length, slice_index, slice_set, IfOk};
+ghost use Rattle.std.specs.List.{All};
+ghost use Rattle.ga_causal.specs.Equivalence.{sees};
+ghost use Rattle.ga_picture.specs.declared.shade.Shade.{Shade};
+ghost use Rattle.ga_picture.specs.Runs.{run_with, behind_at, is_same, IsSimple};
+ghost use Rattle.ga_picture.specs.kept.Runs.{count_in, HasNodes, AreWithin};
+
+use crate::item::{Item, actor};
+use crate::shade::Shade;
+use ga_causal::{Memory, Nodes};
+use ga_grid::{NODES, NodeId};
+use std::alloc::Global;
+
+/// Of each node the run that reaches up to here: how many events it has, and in which colour.
+#[derive(Drop)]
+pub(crate) struct Runs {
+    counts: [u32; 144],
+    shades: [Shade; 144],
+}
+
+impl Runs {
+    /// No event has come.
+    pub(crate) fn new() -> Self
+        ensures sizes { HasNodes result }
+        ensures none { AreWithin result 0 }
+    {
+        Runs {
+            counts: [0; NODES],
+            shades: [Shade::Black; NODES],
+        }
+    }
+
+    /// How many events the run of this node has in this colour.
+    pub(crate) fn count(&self, node: NodeId, shade: Shade) -> u32
+        requires { HasNodes self.now }
+        ensures { result ≡ count_in self.now node.number shade }
+    {
+        if is_same(self.shades[node.index()], shade) {
+            self.counts[node.index()]
+        } else {
+            0
+        }
+    }
+
+    /// Goes past an event: it is one more of its run, or ends the runs of the nodes that it touches or looks at.
+    pub(crate) fn pass(&mut self, item: &Item)
+        requires sizes { HasNodes self.old }
+        requires few { AreWithin self.old 4294967294 }
+        requires simple { IsSimple item.now }
+        ensures sizes { HasNodes self.new }
+        ensures counts { (n : ℕ) (shade : Shade) → n < 144 → count_in self.new n shade ≡ run_with n shade item.now (count_in self.old n shade) }
+        ensures within { (bound : ℕ) → AreWithin self.old bound → AreWithin self.new (bound + 1) }
+    {
+        if item.plain {
+            self.add(actor(item.cause.event), item.shade);
+        } else {
+            self.end(item);
+        }
+    }
+
+    /// Adds an event to the run of a node in this colour.
+    fn add(&mut self, node: NodeId, shade: Shade)
+        requires sizes { HasNodes self.old }
+        requires few { AreWithin self.old 4294967294 }
+        ensures sizes { HasNodes self.new }
+        ensures counts { self.new.counts ≡ slice_set self.old.counts node.number (count_in self.old node.number shade + 1) }
+        ensures shades { self.new.shades ≡ slice_set self.old.shades node.number shade }
+    {
+        let count = self.count(node, shade);
+        self.counts[node.index()] = count + 1;
+        self.shades[node.index()] = shade;
+    }
+
+    /// Ends the runs of the nodes that an event touches or looks at.
+    fn end(&mut self, item: &Item)
+        requires { HasNodes self.old }
+        ensures sizes { HasNodes self.new }
+        ensures counts { (n : ℕ) → n < 144 →
+            slice_index self.new.counts n ≡ (if sees item.now.cause n then 0 else slice_index self.old.counts n) }
+        ensures shades { self.new.shades ≡ self.old.shades }
+        ensures within { (bound : ℕ) → AreWithin self.old bound → AreWithin self.new bound }
+    {
+        let mut seen = Nodes::none();
+        seen.add_seen(&item.cause);
+        'nodes: for number in 0..NODES as u8 {
+            if seen.has(NodeId::new(number)) {
+                self.counts[number as usize] = 0;
+            }
+        }
+    }
+}
+
+/// Whether two colours are one.
+fn is_same(one: Shade, other: Shade) -> bool
+    ensures { result ≡ is_same one other }
+{
+    match (one, other) {
+        (Shade::Black, Shade::Black) => true,
+        (Shade::Grey, Shade::Grey) => true,
+        (Shade::Red, Shade::Red) => true,
+        _ => false,
+    }
+}
+
+/// Of each event, how many events of its run come behind it.
+pub(crate) fn runs_behind(alloc: Global, items: &[Item]) -> Result<Vec<u32>, Memory>
+    requires few { length items.now < 2 ^ 32 }
+    requires simple { All IsSimple items.now }
+    ensures size { IfOk result (λ counts. length counts.items ≡ length items.now) }
+    ensures exact { IfOk result (λ counts. (place : ℕ) → place < length items.now →
+        slice_index counts.items place ≡ behind_at items.now place) }
+{
+    let mut runs = Runs::new();
+    let mut counts = vec![in alloc; 0; items.len()]?;
+    'items: for back in 0..items.len() {
+        let at = items.len() - 1 - back;
+        let item = items[at];
+        counts[at] = runs.count(actor(item.cause.event), item.shade);
+        runs.pass(&item);
+    }
+    Ok(counts)
+}
