@@ -14,6 +14,7 @@ import subprocess
 import sys
 from itertools import zip_longest
 
+from explore import Explorer
 from exploring import Session
 from files import answer, opened
 from listing import NAMES
@@ -22,13 +23,14 @@ from node import SIDES, neighbour
 from sessions import DEFAULT_LIMIT, SECONDS
 
 COLOURS = {"k": "black", "g": "grey", "r": "red"}
-MARKS = {"fetch": "ring", "run": "dot", "wait": "bar", "stop": "cross"}
+MARKS = {"fetch": "ring", "run": "dot", "wait": "bar", "stop": "cross", "many": "box"}
 NUMBER = r"(-?\d+(?:\.\d+)?)"
 SHAPES = {
     "ring": rf"<circle class='o' cx='{NUMBER}' cy='{NUMBER}' r='[\d.]+'/>",
     "dot": rf"<circle class='f' cx='{NUMBER}' cy='{NUMBER}' r='[\d.]+'/>",
     "bar": rf"<path d='M{NUMBER} {NUMBER}m-6 0h12'/>",
     "cross": rf"<path d='M{NUMBER} {NUMBER}m-5 -5l10 10m-10 0l10 -10'/>",
+    "box": rf"<path class='f' d='M{NUMBER} {NUMBER}m-3 -6h6v12h-6z'/>",
     "dashed": rf"<path class='d' d='M{NUMBER} {NUMBER}H{NUMBER}'/>",
     "shaft": rf"<path d='M{NUMBER} {NUMBER}H{NUMBER}'/>",
     "head": rf"<path class='f' d='M{NUMBER} {NUMBER}l{NUMBER} -4v8z'/>",
@@ -43,6 +45,7 @@ TRACK = re.compile(rf"<path class='([tw])' d='M{NUMBER} {NUMBER}V{NUMBER}'/>")
 NEAR = 8
 # The picture of a session whose events are known without a replay, and how many of its events are drawn.
 MILLION, DRAWN = 99, 101000
+USUAL_FOLD = 3
 JUMPING = "ga144 1\nnode 000\np 000000\nram 00 010000\nend\nrun greedy 1000001\n"
 # A node that runs for long before each word that it sends, and one that takes them; by these numbers.
 LONG, FAR = 12, "node 000 : main 300 for . . unext right b! 5 !b main ;\nnode 001 : main right b! @b drop main ;\nend\nrun greedy 3000\n"
@@ -56,10 +59,10 @@ class Unread(Exception):
 
 
 class Row:
-    """An event that is drawn: its nodes, the text that is told of it, whether it looked, and its colour."""
+    """An event that is drawn: its nodes, the text that is told of it, whether it looked, its colour, and how many are drawn with it."""
 
     def __init__(self, event, told, looked, colour):
-        self.event, self.words, self.looked, self.colour = event, told.split(" "), looked, colour
+        self.event, self.words, self.looked, self.colour, self.many = event, told.split(" "), looked, colour, 1
 
     def kind(self):
         return self.words[2] if len(self.event) == 1 else "pass"
@@ -71,6 +74,9 @@ class Row:
             _, writer, step, reader, its, word = self.words
             return f"{self.colour}: arrow {writer} {step} to {reader} {its}, '{word}', title '{title}'"
         node, (_, step, kind, *more) = self.event[0], self.words
+        if self.many > 1:
+            last = int(step) + self.many - 1
+            return f"{self.colour}: box {name(node)}, '{step} to {last}: {self.many}', title '{name(node)} {step} to {last}, {self.many} steps'"
         what, title = " ".join([kind, *more]), title
         if kind == "run":
             what = NAMES[int(more[0], 16)]
@@ -225,12 +231,52 @@ def colours_of(machine, cause, rewind):
     return ["red" if goes[at] else "black" if leads[at] else "grey" for at in range(count)]
 
 
-def rows_of(machine, cause, rewind, start, end):
-    """What is drawn from one kept event on and up to another, which count from 1; none where a step doesn't stand."""
-    if any(machine.place(*it) is None for it in (cause, rewind) if it):
+class View:
+    """What is to be drawn: the steps whose causes and effects are asked for, from which kept event on and up to which, which count from
+    1, whether idle nodes are drawn, whether nothing but what is asked for is, and how many events of a run are drawn as one; 0 for none."""
+
+    def __init__(self):
+        self.cause, self.rewind, self.start, self.end, self.all, self.only, self.fold = None, None, 1, None, False, False, USUAL_FOLD
+
+
+def rows_of(machine, view):
+    """What is drawn; none where a step doesn't stand."""
+    steps = [it for it in (view.cause, view.rewind) if it]
+    named = {machine.place(*it) for it in steps}
+    if None in named:
         return None
-    told = zip(machine.events, machine.told, machine.looked, colours_of(machine, cause, rewind))
-    return [Row(*it) for it in told][start - 1 : end]
+    colours, idle = colours_of(machine, view.cause, view.rewind), Explorer.idle(machine)
+    places = range(len(machine.events))[view.start - 1 : view.end]
+    asked = ["red"] + ["black"] * bool(view.cause)
+    rows = []
+    for at in places:
+        row = Row(machine.events[at], machine.told[at], machine.looked[at], colours[at])
+        silent = row.event[0] in idle and not view.all or bool(steps) and view.only
+        row.out = silent and row.colour not in asked
+        row.plain = row.kind() in ("fetch", "run") and not (row.looked or at in named or row.out)
+        row.sees = seen_by(machine, at)
+        rows.append(row)
+    return list(folded(rows, view.fold))
+
+
+def folded(rows, fold):
+    """The rows that aren't left out: of each run of plain events of a node in a colour, between which no event touches the node or looks
+    at it, the first alone, where it has so many."""
+    runs, last = [], {}
+    for row in rows:
+        run = last.get(row.event[0])
+        if row.plain and run and run[-1].colour == row.colour:
+            run.append(row)
+            continue
+        last.update((node, None) for node in row.sees)
+        if not row.out:
+            runs.append([row])
+        if row.plain:
+            last[row.event[0]] = runs[-1]
+    shown = [[(run[0], len(run))] if fold and len(run) >= fold else [(row, 1) for row in run] for run in runs]
+    for row, many in sorted(sum(shown, []), key=lambda it: rows.index(it[0])):
+        row.many = many
+        yield row
 
 
 class Drawn:
@@ -241,7 +287,7 @@ class Drawn:
         self.draw, self.machine = self.made.random, self.made.machine
         self.machine.limit = DEFAULT_LIMIT
         self.text = self.made.front
-        self.words, self.cause, self.rewind, self.start, self.end = [], None, None, 1, None
+        self.words, self.view = [], View()
         if number % 25 == LONG:
             self.begin_far()
         else:
@@ -278,17 +324,24 @@ class Drawn:
         self.obey(FAR.splitlines()[-1])
 
     def choose(self, is_far):
-        count, pick = len(self.machine.events), self.draw.randint
+        count, pick, view = len(self.machine.events), self.draw.randint, self.view
         if not is_far and self.draw.random() < 0.5:
-            self.cause = self.option("--cause")
+            view.cause = self.option("--cause")
         if not is_far and self.draw.random() < 0.5:
-            self.rewind = self.option("--rewind")
+            view.rewind = self.option("--rewind")
         if is_far or self.draw.random() < 0.5:
-            self.start = pick(max(count - 1200, 1), count) if is_far else pick(1, count + 2)
-            self.words += ["--from", str(self.start)]
+            view.start = pick(max(count - 1200, 1), count) if is_far else pick(1, count + 2)
+            self.words += ["--from", str(view.start)]
         if self.draw.random() < 0.5:
-            self.end = pick(max(1, self.start - 2), count + 2)
-            self.words += ["--to", str(self.end)]
+            view.end = pick(max(1, view.start - 2), count + 2)
+            self.words += ["--to", str(view.end)]
+        if self.draw.random() < 0.5:
+            view.fold = self.draw.choice((0, 0, 1, 2, 4, 9))
+            self.words += ["--fold", str(view.fold)]
+        for word in ("all", "only"):
+            if self.draw.random() < 0.3:
+                setattr(view, word, True)
+                self.words.append(f"--{word}")
 
     def option(self, word):
         node = self.made.node()
@@ -305,9 +358,9 @@ def picture(number):
     """A session's text, the words with which it is drawn, and the rows that are wanted, or none."""
     if number == MILLION:
         steps = range(DEFAULT_LIMIT - DRAWN + 1, DEFAULT_LIMIT + 1)
-        return JUMPING, ["--from", str(steps[0])], [Row((0,), f"000 {it} {'fetch' if it % 2 else 'run 02'}", False, "black") for it in steps]
+        return JUMPING, ["--fold", "0", "--from", str(steps[0])], [Row((0,), f"000 {it} {'fetch' if it % 2 else 'run 02'}", False, "black") for it in steps]
     it = Drawn(number)
-    return it.text, it.words, rows_of(it.machine, it.cause, it.rewind, it.start, it.end)
+    return it.text, it.words, rows_of(it.machine, it.view)
 
 
 def parted(rows, text):
@@ -340,11 +393,16 @@ def compared(row):
     for line in commands:
         if line.startswith(("step ", "back", "run")):
             answer(machine, line)
-    options = {it: words[at + 1 : at + 3] for at, it in enumerate(words) if it.startswith("--")}
-    cause, rewind = ((number_of(it[0]), int(it[1])) if it else None for it in (options.get("--cause"), options.get("--rewind")))
-    start, end = (int(options[it][0]) if it in options else usual for it, usual in (("--from", 1), ("--to", None)))
+    view, options = View(), {it: words[at + 1 : at + 3] for at, it in enumerate(words) if it.startswith("--")}
+    for word, given in options.items():
+        if word in ("--cause", "--rewind"):
+            setattr(view, word[2:], (number_of(given[0]), int(given[1])))
+        elif word in ("--all", "--only"):
+            setattr(view, word[2:], True)
+        else:
+            setattr(view, {"--from": "start", "--to": "end", "--fold": "fold"}[word], int(given[0]))
     with open(f"docs/pictures/{shown}.svg", encoding="utf-8") as file:
-        return parted(rows_of(machine, cause, rewind, start, end), file.read())
+        return parted(rows_of(machine, view), file.read())
 
 
 def main():
