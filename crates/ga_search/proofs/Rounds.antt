@@ -1,5 +1,5 @@
 -- The first of the nodes round the chip.
-use Rattle.std.proofs.Common.{◌≡◌, ℕ, zero, suc, ◌+◌, ◌-◌, ◌%◌, ◌<◌, ◌≤◌, Bool, true, false, cond, Some, None, inl, inr, true≢false, refl, sym, ◌∙◌, ap, arith}
+use Rattle.std.proofs.Common.{◌≡◌, ◌≢◌, ℕ, zero, suc, ◌+◌, ◌-◌, ◌%◌, ◌<◌, ◌≤◌, Bool, true, false, cond, Some, None, inl, inr, true≢false, refl, sym, ◌∙◌, ap, arith}
 use Rattle.std.specs.Prelude.{Option, IfSome, IfNone}
 use Rattle.std.proofs.lemmas.Bool.{cases_lt}
 use Rattle.std.proofs.Math.Nat.{mod-eq_of_lt}
@@ -93,3 +93,22 @@ pub behind_is : (f : ℕ → Bool) (turn start : ℕ) (o : Option NodeId) → tu
 behind_is f turn start None t begins ahead is before none = sym (first_none f turn 144 (λ m l. none m (omega arith) l))
 behind_is f turn start (Some node) t begins ahead is before none =
     chosen_is node node.number refl node.in_range ∙ sym (first_behind f turn node.number t node.in_range is ahead (λ m l. before m (omega arith) l))
+
+-- one that is alone
+pub alone_is : (f : ℕ → Bool) (turn : ℕ) (node : NodeId) → turn < 144 → f node.number ≡ true → ((m : ℕ) → m < 144 → m ≢ node.number → f m ≡ false) → Some node ≡ first_in f turn 144
+alone_is f turn node t is others = elim (cases_lt node.number turn) [
+  | inl less ↦ behind_is f turn 0 (Some node) t refl (λ m l h. others m h (λ e. omega arith)) is (λ m l h. others m (omega arith) (λ e. omega arith)) tt
+  | inr more ↦ ahead_is f turn node more is (λ m l h. others m (omega arith) (λ e. omega arith))
+]
+
+-- one that has the turn
+pub turn_is : (f : ℕ → Bool) (turn : NodeId) → f turn.number ≡ true → Some turn ≡ first_in f turn.number 144
+turn_is f turn is = ahead_is f turn.number turn (omega arith) is (λ m l h. absurd (omega arith))
+
+-- the only one, where none stands before it, and none from the number behind it on
+pub none_other : (f : ℕ → Bool) (n turn : ℕ) → n + 1 ≡ turn → ((m : ℕ) → turn ≤ m → m < 144 → f m ≡ false) → ((m : ℕ) → 0 ≤ m → m < n → f m ≡ false)
+    → (m : ℕ) → m < 144 → m ≢ n → f m ≡ false
+none_other f n turn e ahead before m l ne = elim (cases_lt m n) [
+  | inl less ↦ before m (omega arith) less
+  | inr more ↦ ahead m (omega (arith, e, ne)) l
+]

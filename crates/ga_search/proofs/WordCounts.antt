@@ -1,7 +1,8 @@
 -- How many words went over a link, from one event to the next.
 use Rattle.std.proofs.Common.{◌≡◌, ℕ, ◌+◌, ◌≤◌, Bool, true, false, ◌&&◌, ◌||◌, ◌==◌, if◌then◌else◌, List, [], ◌∷◌, ◌++◌, length, drop, Some, None, Ok, refl, sym, ◌∙◌, ap, subst, arith, append_assoc, length-append}
-use Rattle.std.specs.Prelude.{Option, IsSome, option_to_list, slice_get}
+use Rattle.std.specs.Prelude.{Option, IsSome, option_to_list, slice_get, slice_index}
 use Rattle.std.proofs.lemmas.List.{append-nil}
+use Rattle.ga_node.specs.declared.kind.Kind.{Kind}
 use Rattle.ga_grid.specs.declared.node_id.NodeId.{NodeId}
 use Rattle.ga_event.specs.declared.event.Event.{Event}
 use Rattle.ga_event.specs.declared.event.Event.TheVariants as event
@@ -154,6 +155,17 @@ counted_on until s t m h = over_on (counted_link until) s t m h
 pub all_counted_on : (until : List Condition) (s t : State) (m : Made) (words : List ℕ) → ((w r : ℕ) → word_count t w r ≡ word_count s w r + one_over w r m)
     → AreCounted until s words → WereCounted until t m words
 all_counted_on until s t m words h before k one is = counted_on one s t m h ∙ ap (λ (z : ℕ). z + counted_by one m) (before k one is)
+
+-- an own event carries none
+own_over : (link : Option (NodeId × NodeId)) (node : NodeId) (step : ℕ) (kind : Kind) → more_over link (made.Own node step kind) ≡ 0
+own_over None node step kind = refl
+own_over (Some link) node step kind = refl
+
+pub none_counted : (until : List Condition) (s : State) (m : Made) (words : List ℕ) (node : NodeId) (step : ℕ) (kind : Kind) → m ≡ made.Own node step kind
+    → WereCounted until s m words → AreCounted until s words
+none_counted until s m words node step kind own h k one is =
+    let none : counted_by one m ≡ 0 = ap (counted_by one) own ∙ own_over (counted_link one) node step kind in
+    h k one is ∙ (let q : slice_index words k + counted_by one m ≡ slice_index words k = omega (arith, none) in q)
 
 -- how many they are is no more than the writer's steps
 pub few_more : (until : Condition) (link : NodeId × NodeId) (s : State) (m : Made) (words : ℕ) → Some link ≡ counted_link until → counted until s ≡ words + counted_by until m

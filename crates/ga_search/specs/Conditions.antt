@@ -52,9 +52,9 @@ abbrev pub is_of : ℕ → Made → Bool
 is_of node (made.Own n k what) = n.number == node
 is_of node (made.Pass w k r j carried) = (w.number == node) || (r.number == node)
 
--- the node runs, and what it does next is to fetch the word at this address
+-- what the node does next is to fetch the word at this address
 abbrev pub fetches_at : ℕ → NodeRecord → Bool
-fetches_at address n = is_none (refusal n) && (n.slot == 4) && (n.p == address)
+fetches_at address n = (n.slot == 4) && (n.p == address) && is_none (refusal n)
 
 -- the address at which an opcode with this code stores: `!p` at P, `!+` and `!` at A, `!b` at B
 abbrev pub stored_at : ℕ → NodeRecord → Option ℕ

@@ -60,6 +60,16 @@ impl Numbers {
         self.words[index] = with_bit(self.words[index], place, is_in);
     }
 
+    /// Whether a number is in the set.
+    #[tactic(auto, unfolding(crate::specs::kept::Numbers::has))]
+    pub fn has(&self, number: u8) -> bool
+        requires { number < 192 }
+        ensures { result ≡ has self.now number }
+    {
+        let word = self.words[(number / 64) as usize];
+        (word >> (number % 64)) % 2 == 1
+    }
+
     /// The lowest number in the set from this one on.
     pub fn lowest_from(&self, first: u8) -> Option<u8>
         requires { first < 192 }

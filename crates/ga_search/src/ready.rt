@@ -5,7 +5,7 @@ ghost use Rattle.ga_grid.specs.Chip.{records_of};
 ghost use Rattle.ga_grid.specs.Grid.{neighbour_of};
 ghost use Rattle.ga_search.specs.kept.Numbers.{has};
 ghost use Rattle.ga_search.specs.Ready.{first_in};
-ghost use Rattle.ga_search.specs.kept.Ready.{IsRight, HoldsReady, StaysRight, IsRightAround, IsRefreshed};
+ghost use Rattle.ga_search.specs.kept.Ready.{IsRight, HoldsReady, StaysRight, IsRightAround, IsRefreshed, IsAlone};
 
 use crate::numbers::Numbers;
 use ga_event::next_event;
@@ -55,18 +55,22 @@ pub(crate) fn ready_nodes(chip: &Chip) -> Numbers
     ready
 }
 
-// Looks at what an event that was made may have changed.
-pub(crate) fn refresh(ready: &mut Numbers, chip: &Chip, made: &Made)
+// Looks at what an event that was made may have changed. Then it isn't known any more that one node is alone.
+pub(crate) fn refresh(ready: &mut Numbers, alone: &mut Option<NodeId>, chip: &Chip, made: &Made)
     ensures around { IsRefreshed (records_of chip.now) made.now ready.new }
     ensures kept { StaysRight (records_of chip.now) ready.old ready.new }
+    ensures alone { IfSome alone.old (IsAlone ready.old) → IfSome alone.new (IsAlone ready.new) }
 {
     match made {
         Made::Own { node, .. } => {
-            if chip.node(*node).not_ready().is_some() {
-                look_around(ready, chip, *node);
+            if chip.node(*node).not_ready().is_none() {
+                return;
             }
+            *alone = None;
+            look_around(ready, chip, *node);
         }
         Made::Pass { writer, reader, .. } => {
+            *alone = None;
             look_around(ready, chip, *writer);
             look_around(ready, chip, *reader);
         }
@@ -95,5 +99,57 @@ pub(crate) fn first_from(ready: &Numbers, turn: NodeId) -> Option<NodeId>
     match lowest_from(ready, turn) {
         Some(node) => Some(node),
         None => lowest_from(ready, NodeId::new(0)),
+    }
+}
+
+// The same where none from the turn on is in the set. One that is found right before the turn is alone.
+fn first_before(ready: &Numbers, alone: &mut Option<NodeId>, turn: NodeId) -> Option<NodeId>
+    requires past { (n : ℕ) → 144 ≤ n → n < 192 → has ready.now n ≡ false }
+    requires alone { IfSome alone.old (IsAlone ready.now) }
+    requires ahead { (n : ℕ) → turn.number ≤ n → n < 144 → has ready.now n ≡ false }
+    ensures first { result ≡ first_in (has ready.now) turn.number 144 }
+    ensures alone { IfSome alone.new (IsAlone ready.now) }
+{
+    match lowest_from(ready, NodeId::new(0)) {
+        Some(node) => {
+            if node.number + 1 == turn.number {
+                *alone = Some(node);
+                return Some(node);
+            }
+            Some(node)
+        }
+        None => None,
+    }
+}
+
+// The same where the one with the turn is not in the set.
+fn first_behind(ready: &Numbers, alone: &mut Option<NodeId>, turn: NodeId) -> Option<NodeId>
+    requires past { (n : ℕ) → 144 ≤ n → n < 192 → has ready.now n ≡ false }
+    requires alone { IfSome alone.old (IsAlone ready.now) }
+    ensures first { result ≡ first_in (has ready.now) turn.number 144 }
+    ensures alone { IfSome alone.new (IsAlone ready.now) }
+{
+    match lowest_from(ready, turn) {
+        Some(node) => Some(node),
+        None => first_before(ready, alone, turn),
+    }
+}
+
+// The same, where it may be known that one node is alone in the set.
+pub(crate) fn next_from(ready: &Numbers, alone: &mut Option<NodeId>, turn: NodeId) -> Option<NodeId>
+    requires past { (n : ℕ) → 144 ≤ n → n < 192 → has ready.now n ≡ false }
+    requires alone { IfSome alone.old (IsAlone ready.now) }
+    ensures first { result ≡ first_in (has ready.now) turn.number 144 }
+    ensures alone { IfSome alone.new (IsAlone ready.now) }
+{
+    match *alone {
+        Some(node) => Some(node),
+        None => {
+            if ready.has(turn.number) {
+                Some(turn)
+            } else {
+                first_behind(ready, alone, turn)
+            }
+        }
     }
 }

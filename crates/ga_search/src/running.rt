@@ -1,17 +1,17 @@
 //! Events in the order of a schedule.
 
-ghost use Rattle.std.specs.Prelude.{◌≡◌, ◌≤◌, ◌+◌, ℕ, length, Ok, IfOk, IfErr, IsSome, OnOk, OnErr, Some};
+ghost use Rattle.std.specs.Prelude.{◌≡◌, ◌≤◌, ◌+◌, ℕ, length, Ok, IfOk, IfErr, IfSome, IsSome, OnOk, OnErr, Some};
 ghost use Rattle.ga_event.specs.Apply.{replay};
 ghost use Rattle.ga_lab.specs.Machine.{chip_of, step_answer, stepped};
 ghost use Rattle.ga_search.specs.Words.{one_over, word_count};
-ghost use Rattle.ga_search.specs.kept.Ready.{HoldsReady};
+ghost use Rattle.ga_search.specs.kept.Ready.{HoldsReady, IsAlone};
 ghost use Rattle.ga_search.specs.kept.Counted.{newest_told};
 ghost use Rattle.ga_search.specs.Schedules.{passed_on};
 ghost use Rattle.ga_search.specs.Running.{running, told, moved, after, AreMade, IsRefusedFor, IsHalted, HasEnded};
 
 use crate::condition::Condition;
 use crate::numbers::Numbers;
-use crate::ready::{first_from, ready_nodes, refresh};
+use crate::ready::{next_from, ready_nodes, refresh};
 use crate::schedule::Schedule;
 use crate::watching::{count_all, count_on, first_held};
 use ga_grid::NodeId;
@@ -46,15 +46,18 @@ pub struct Ran {
 fn make(
     lab: &mut Lab,
     ready: &mut Numbers,
+    alone: &mut Option<NodeId>,
     schedule: &mut Schedule,
     node: NodeId,
 ) -> Result<Made, LabFault>
     requires ready { HoldsReady (chip_of lab.old) ready.old }
+    requires alone { IfSome alone.old (IsAlone ready.old) }
     requires replays { IsSome (replay lab.old.load lab.old.kept) }
     ensures ok { IfOk result (λ made. step_answer lab.old node ≡ Ok made) }
     ensures state { OnOk result (lab.new ≡ stepped lab.old node) }
     ensures schedule { OnOk result (schedule.new ≡ passed_on schedule.old node) }
     ensures ready { OnOk result (HoldsReady (chip_of lab.new) ready.new) }
+    ensures alone { OnOk result (IfSome alone.new (IsAlone ready.new)) }
     ensures words { IfOk result (λ made. (writer reader : ℕ) →
         word_count lab.new writer reader ≡ word_count lab.old writer reader + one_over writer reader made) }
     ensures newest { IfOk result (λ made. newest_told lab.new ≡ Some made) }
@@ -65,7 +68,7 @@ fn make(
 {
     match lab.step_inlined(node) {
         Ok(made) => {
-            refresh(ready, lab.chip(), &made);
+            refresh(ready, alone, lab.chip(), &made);
             *schedule = schedule.pass_on(node);
             Ok(made)
         }
@@ -74,12 +77,19 @@ fn make(
 }
 
 // Makes the next event of the schedule, where nothing halts it.
-fn advance(lab: &mut Lab, ready: &mut Numbers, schedule: &mut Schedule) -> Result<Made, End>
+fn advance(
+    lab: &mut Lab,
+    ready: &mut Numbers,
+    alone: &mut Option<NodeId>,
+    schedule: &mut Schedule,
+) -> Result<Made, End>
     requires ready { HoldsReady (chip_of lab.old) ready.old }
+    requires alone { IfSome alone.old (IsAlone ready.old) }
     requires replays { IsSome (replay lab.old.load lab.old.kept) }
     ensures told { IfOk result (λ made. told (running lab.old schedule.old) ≡ Some made) }
     ensures moved { OnOk result (running lab.new schedule.new ≡ moved (running lab.old schedule.old)) }
     ensures ready { OnOk result (HoldsReady (chip_of lab.new) ready.new) }
+    ensures alone { OnOk result (IfSome alone.new (IsAlone ready.new)) }
     ensures words { IfOk result (λ made. (writer reader : ℕ) →
         word_count lab.new writer reader ≡ word_count lab.old writer reader + one_over writer reader made) }
     ensures newest { IfOk result (λ made. newest_told lab.new ≡ Some made) }
@@ -88,8 +98,8 @@ fn advance(lab: &mut Lab, ready: &mut Numbers, schedule: &mut Schedule) -> Resul
     ensures same { OnErr result (lab.new ≡ lab.old) }
     ensures stays { OnErr result (schedule.new ≡ schedule.old) }
 {
-    match first_from(ready, schedule.turn) {
-        Some(node) => match make(lab, ready, schedule, node) {
+    match next_from(ready, alone, schedule.turn) {
+        Some(node) => match make(lab, ready, alone, schedule, node) {
             Ok(made) => Ok(made),
             Err(why) => Err(End::Refused(why)),
         },
@@ -108,10 +118,11 @@ pub fn run(lab: &mut Lab, mut schedule: Schedule, most: u64, until: &[Condition]
     ensures end { HasEnded (running lab.old schedule) most until.now result.events result.end }
 {
     let mut ready = ready_nodes(lab.chip());
+    let mut alone = None;
     let mut words = count_all(until, lab);
     let mut events = 0;
     while events < most {
-        match advance(lab, &mut ready, &mut schedule) {
+        match advance(lab, &mut ready, &mut alone, &mut schedule) {
             Ok(made) => {
                 events += 1;
                 count_on(until, &mut words, &made, lab);

@@ -1,6 +1,6 @@
 //! In what order the nodes make their events.
 
-ghost use Rattle.std.specs.Prelude.{◌≡◌};
+ghost use Rattle.std.specs.Prelude.{◌≡◌, ◌+◌};
 ghost use Rattle.rand_xoshiro.specs.SplitMix64.{mix_u64};
 ghost use Rattle.ga_grid.specs.Grid.{node_id};
 
@@ -48,6 +48,17 @@ fn node_at(number: u64) -> NodeId
     ensures { result ≡ node_id number }
 {
     NodeId::new((number % NODES as u64) as u8)
+}
+
+// The node behind this one, and 000 behind the last.
+fn following(node: NodeId) -> NodeId
+    ensures { result ≡ node_id (node.number + 1) }
+{
+    if node.number < 143 {
+        NodeId::new(node.number + 1)
+    } else {
+        NodeId::new(0)
+    }
 }
 
 impl Schedule {
@@ -106,7 +117,7 @@ impl Schedule {
     {
         match self.order {
             Order::Rounds => Schedule {
-                turn: node_at(u64::from(node.number) + 1),
+                turn: following(node),
                 ..self
             },
             Order::Greedy => Schedule { turn: node, ..self },

@@ -48,8 +48,14 @@ pub(crate) fn count_on(until: &[Condition], words: &mut LinkCounts, made: &Made,
     ensures size { length words.new ≡ 8 }
     ensures counted { AreCounted until.now lab.now words.new }
 {
-    for (place, condition) in until.iter().enumerate() {
-        words[place] = condition.count_on(words[place], made, lab);
+    match made {
+        // It carries no word.
+        Made::Own { .. } => {}
+        Made::Pass { .. } => {
+            for (place, condition) in until.iter().enumerate() {
+                words[place] = condition.count_on(words[place], made, lab);
+            }
+        }
     }
 }
 

@@ -1,8 +1,9 @@
 -- Where a set of numbers is right about the nodes that have an event.
-use Rattle.std.specs.Prelude.{◌≡◌, ℕ, ◌<◌, List, Some, None, ◌⊎◌}
+use Rattle.std.specs.Prelude.{◌≡◌, ◌≢◌, ℕ, ◌<◌, true, false, List, Some, None, ◌⊎◌}
 use Rattle.ga_ports.specs.declared.side.Side.{Side}
 use Rattle.ga_node.specs.Record.{NodeRecord}
 use Rattle.ga_node.specs.Table.{refusal}
+use Rattle.ga_grid.specs.declared.node_id.NodeId.{NodeId}
 use Rattle.ga_grid.specs.Grid.{neighbour_of}
 use Rattle.ga_grid.specs.Chip.{record_at}
 use Rattle.ga_event.specs.declared.made.Made.{Made}
@@ -18,6 +19,11 @@ IsRight chip ready n = n < 192 → has ready n ≡ can_go chip n
 -- it holds the nodes that have an event, and nothing else
 abbrev pub HoldsReady : List NodeRecord → Numbers → Type 0
 HoldsReady chip ready = (n : ℕ) → IsRight chip ready n
+
+-- no other node is in the set
+pub record IsAlone (ready : Numbers) (node : NodeId) : Type 0 where
+  pub here : has ready node.number ≡ true
+  pub others : (n : ℕ) → n < 144 → n ≢ node.number → has ready n ≡ false
 
 -- what was right stays so
 abbrev pub StaysRight : List NodeRecord → Numbers → Numbers → Type 0

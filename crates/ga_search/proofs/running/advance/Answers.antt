@@ -5,28 +5,28 @@ use Rattle.ga_search.proofs.Stepping.{choice_is, nothing_past, quiet_is}
 use Rattle.ga_search.proofs.Events.{told_is, moved_is}
 use Rattle.ga_search.proofs.running.advance.Goals as goal
 
-pub first_from-requires : goal.first_from-requires
-first_from-requires c = nothing_past (chip_of c.args.lab.now) c.args.ready.now c.requires.ready
+pub next_from-requires-clause-past : goal.next_from-requires-clause-past
+next_from-requires-clause-past c = nothing_past (chip_of c.args.lab.now) c.args.ready.now c.requires.ready
 
 pub returns-in-None-clause-halted : goal.returns-in-None-clause-halted
 returns-in-None-clause-halted c =
     quiet_is (chip_of c.args.lab.now) c.args.schedule.now.turn.number c.args.schedule.now.turn.in_range
-    (sym (choice_is (chip_of c.args.lab.now) c.args.ready.now c.args.schedule.now.turn.number c.requires.ready) ∙ sym c.in-None.ensures)
+    (sym (choice_is (chip_of c.args.lab.now) c.args.ready.now c.args.schedule.now.turn.number c.requires.ready) ∙ sym c.in-None.ensures.first)
 
 pub returns-in-Ok-clause-told : goal.returns-in-Ok-clause-told
 returns-in-Ok-clause-told c =
     let who : chosen (running c.args.lab.now c.args.schedule.now) ≡ Some c.in-Some.node =
-    sym (choice_is (chip_of c.args.lab.now) c.args.ready.now c.args.schedule.now.turn.number c.requires.ready) ∙ sym c.in-Some.ensures in
+    sym (choice_is (chip_of c.args.lab.now) c.args.ready.now c.args.schedule.now.turn.number c.requires.ready) ∙ sym c.in-Some.ensures.first in
     told_is c.args.lab.now c.args.schedule.now c.in-Some.node c.in-Ok.made who c.in-Ok.ensures.ok
 
 pub returns-in-Ok-clause-moved : goal.returns-in-Ok-clause-moved
 returns-in-Ok-clause-moved c =
     let who : chosen (running c.args.lab.now c.args.schedule.now) ≡ Some c.in-Some.node =
-    sym (choice_is (chip_of c.args.lab.now) c.args.ready.now c.args.schedule.now.turn.number c.requires.ready) ∙ sym c.in-Some.ensures in
+    sym (choice_is (chip_of c.args.lab.now) c.args.ready.now c.args.schedule.now.turn.number c.requires.ready) ∙ sym c.in-Some.ensures.first in
     moved_is c.args.lab.now c.make.new.lab c.args.schedule.now c.make.new.schedule c.in-Some.node who c.in-Ok.ensures.state c.in-Ok.ensures.schedule
 
 pub returns-in-Err-clause-halted : goal.returns-in-Err-clause-halted
 returns-in-Err-clause-halted c =
     let who : chosen (running c.args.lab.now c.args.schedule.now) ≡ Some c.in-Some.node =
-    sym (choice_is (chip_of c.args.lab.now) c.args.ready.now c.args.schedule.now.turn.number c.requires.ready) ∙ sym c.in-Some.ensures in
+    sym (choice_is (chip_of c.args.lab.now) c.args.ready.now c.args.schedule.now.turn.number c.requires.ready) ∙ sym c.in-Some.ensures.first in
     (c.in-Some.node, who, c.in-Err.ensures.refused)

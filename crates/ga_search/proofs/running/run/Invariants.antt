@@ -1,8 +1,8 @@
 use Rattle.std.proofs.Common.{◌≡◌, ◌-◌, ◌≤◌, length}
-use Rattle.std.specs.Prelude.{IsSome}
+use Rattle.std.specs.Prelude.{IsSome, IfSome}
 use Rattle.ga_event.specs.Apply.{replay}
 use Rattle.ga_lab.specs.Machine.{chip_of}
-use Rattle.ga_search.specs.kept.Ready.{HoldsReady}
+use Rattle.ga_search.specs.kept.Ready.{HoldsReady, IsAlone}
 use Rattle.ga_search.specs.kept.Counted.{AreCounted}
 use Rattle.ga_search.specs.Running.{running, after, AreMade, NeverHolds}
 use Rattle.ga_search.proofs.running.run.Given as goal
@@ -13,6 +13,7 @@ invariant-loop-events l = record {
   made : AreMade (running l.initial.lab l.initial.schedule) l.events;
   never : NeverHolds l.until (running l.initial.lab l.initial.schedule) l.events;
   ready : HoldsReady (chip_of l.lab) l.ready;
+  alone : IfSome l.alone (IsAlone l.ready);
   size : length l.words ≡ 8;
   words : AreCounted l.until l.lab l.words;
   replays : IsSome (replay l.lab.load l.lab.kept);
