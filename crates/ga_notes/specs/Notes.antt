@@ -5,10 +5,15 @@ use Rattle.ga_grid.specs.declared.node_id.NodeId.{NodeId}
 use Rattle.ga_notes.specs.declared.notes.Note.{Note}
 use Rattle.ga_notes.specs.declared.notes.Name.{Name}
 
--- the note is of this cell of the node, and the name one that the node has
+-- the note is of this cell of the node
 abbrev pub is_of : NodeId → ℕ → Note → Bool
 is_of node cell note = note.node.number == node.number && note.cell == cell
 
+-- the note is of an instruction word of the node that this line begins
+abbrev pub is_begun : NodeId → ℕ → Note → Bool
+is_begun node line note = note.is_code && note.node.number == node.number && note.line == line
+
+-- the name is one that the node has
 abbrev pub is_named : NodeId → List ℕ → Name → Bool
 is_named node text name = name.node.number == node.number && bytes_eq name.text.items text
 
@@ -20,6 +25,11 @@ text_in None = []
 abbrev pub text_of : List Note → NodeId → Option ℕ → List ℕ
 text_of notes node (Some cell) = text_in (option_and_then (slice_get notes) (position (is_of node cell) notes))
 text_of notes node None = []
+
+-- the address of the first instruction word that a line begins
+abbrev pub line_address : List Note → NodeId → ℕ → Option ℕ
+line_address notes node line =
+    option_map (λ (note : Note). note.address) (option_and_then (slice_get notes) (position (is_begun node line) notes))
 
 abbrev pub address_in : Option Name → Option ℕ
 address_in found = option_map (λ (name : Name). name.address) found

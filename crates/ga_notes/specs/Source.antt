@@ -1,6 +1,6 @@
 -- What a source says of the cells that its programs give, and the names of their labels (docs/REFERENCE.md, "Exploring"; this project's
 -- own). A cell is 0 to 63 of RAM, 128 to 191 of ROM.
-use Rattle.std.specs.Prelude.{ℕ, ◌≡◌, ◌+◌, ◌-◌, ◌*◌, ◌/◌, ◌%◌, zero, suc, if◌then◌else◌, List, [], ◌∷◌, ◌++◌, map, length, take, drop, slice_get, slice_index, slice_index_or, flat_map, codes, decimal, Option, Some, None, option_and_then}
+use Rattle.std.specs.Prelude.{ℕ, ◌≡◌, ◌+◌, ◌-◌, ◌*◌, ◌/◌, ◌%◌, zero, suc, Bool, true, false, if◌then◌else◌, List, [], ◌∷◌, ◌++◌, map, length, take, drop, slice_get, slice_index, slice_index_or, flat_map, codes, decimal, Option, Some, None, option_and_then}
 use Rattle.std.specs.List.{prefix_len, suffix_len}
 use Rattle.std.specs.Option.{option_or}
 use Rattle.std.specs.Char.{is_ascii_whitespace}
@@ -11,7 +11,7 @@ use Rattle.ga_ports.specs.Address.{classified, advanced}
 use Rattle.ga_grid.specs.declared.node_id.NodeId.{NodeId}
 use Rattle.ga_source.specs.declared.labels.Label.{Label}
 use Rattle.ga_source.specs.declared.item.Item.{Item}
-use Rattle.ga_source.specs.declared.item.Item.TheVariants.{Literal}
+use Rattle.ga_source.specs.declared.item.Item.TheVariants.{Literal, Cell}
 use Rattle.ga_source.specs.declared.item.Request.{Request}
 use Rattle.ga_source.specs.declared.item.Request.TheVariants.{Mark}
 use Rattle.ga_source.specs.declared.item.Asked.{Asked}
@@ -112,14 +112,17 @@ line_in source line = trimmed (unmarked line (slice_index_or (lines_of source) (
 
 -- ---- notes
 
--- what is said of a cell of a node
+-- what is said of a cell of a node: P there, the line that gives it, whether it holds an instruction word, and a text
 pub record Noted : Type 0 where
   pub node : NodeId
   pub cell : ℕ
+  pub address : ℕ
+  pub line : ℕ
+  pub is_code : Bool
   pub text : List ℕ
 
 abbrev pub noted_by : Note → Noted
-noted_by note = record { node = note.node; cell = note.cell; text = note.text.items }
+noted_by note = record { node = note.node; cell = note.cell; address = note.address; line = note.line; is_code = note.is_code; text = note.text.items }
 
 -- an address in three hexadecimal digits
 abbrev pub address_text : ℕ → List ℕ
@@ -136,18 +139,23 @@ note_text source program address label line =
     codes " \\ " ++ (address_text address ++ (label_text program label ++ (codes " " ++ (decimal line ++ (codes ": " ++ line_in source line)))))
 
 -- the note of a cell that stands at an address
-abbrev pub note_at : List ℕ → Program → ℕ → ℕ → Option ℕ → List Noted
-note_at source program line address (Some cell) =
-    record { node = program.node; cell = cell; text = note_text source program address (label_before program cell) line } ∷ []
-note_at source program line address None = []
+abbrev pub note_at : List ℕ → Program → Bool → ℕ → ℕ → Option ℕ → List Noted
+note_at source program is_code line address (Some cell) =
+    record { node = program.node; cell = cell; address = address; line = line; is_code = is_code; text = note_text source program address (label_before program cell) line } ∷ []
+note_at source program is_code line address None = []
 
 -- the note of the cell at an address, where it names one
-abbrev pub noted_at : List ℕ → Program → ℕ → ℕ → List Noted
-noted_at source program address line = note_at source program line address (cell_at address)
+abbrev pub noted_at : List ℕ → Program → Bool → ℕ → ℕ → List Noted
+noted_at source program is_code address line = note_at source program is_code line address (cell_at address)
+
+-- the items are those of an instruction word, and no cell of data
+abbrev pub is_code : List Item → Bool
+is_code (Cell _ ∷ []) = false
+is_code _ = true
 
 -- the note of an item's literal, from P on
 abbrev pub literal_noted : List ℕ → Program → ℕ → Item → ℕ → List Noted
-literal_noted source program p (Literal _) line = noted_at source program p line
+literal_noted source program p (Literal _) line = noted_at source program false p line
 literal_noted source program p _ line = []
 
 -- the notes of the literals among items with these lines, from P on, in order
@@ -159,7 +167,7 @@ literals_noted source program p (item ∷ items) (line ∷ lines) = literal_note
 -- the notes of a group: of its own cell, by its first line, and of its literals behind it
 abbrev pub group_noted : List ℕ → Program → Group → List Noted
 group_noted source program group =
-    noted_at source program group.address (slice_index group.lines.items 0)
+    noted_at source program (is_code group.items.items) group.address (slice_index group.lines.items 0)
     ++ literals_noted source program (advanced group.address) group.items.items group.lines.items
 
 -- the notes of a program, and of each of some programs, in order

@@ -1,7 +1,7 @@
 //! The notes of a source.
 
 ghost use Rattle.std.specs.Prelude.{◌≡◌, ◌++◌, map, decimal, IfOk, OnOk};
-ghost use Rattle.ga_notes.specs.Source.{AreOfSource, named_by, named_at, names_in, label_text, address_text, note_text as note_text_of, noted_by, noted_at, group_noted, notes_in, literal_noted};
+ghost use Rattle.ga_notes.specs.Source.{AreOfSource, named_by, named_at, names_in, label_text, address_text, note_text as note_text_of, noted_by, noted_at, is_code, group_noted, notes_in, literal_noted};
 ghost use Rattle.ga_source.specs.Reading.{p_behind};
 ghost use Rattle.ga_notes.specs.kept.Marking.{IsMarked};
 
@@ -98,12 +98,32 @@ fn add_group(
     ensures same { lines.new ≡ lines.old }
 {
     let first = group.line();
-    add_cell(alloc, notes, program, marked, group.address, first, lines)?;
+    let is_code = is_code(group);
+    add_cell(
+        alloc,
+        notes,
+        program,
+        marked,
+        is_code,
+        group.address,
+        first,
+        lines,
+    )?;
     let mut p = advance_p(group.address);
     for (item, line) in group.items.iter().zip(&group.lines) {
         p = add_literal(alloc, notes, program, marked, p, *item, *line, lines)?;
     }
     Ok(())
+}
+
+/// Whether a group is an instruction word, and no cell of data.
+fn is_code(group: &Group) -> bool
+    ensures { result ≡ is_code group.now.items.items }
+{
+    match group.items.as_slice() {
+        [Item::Cell(_)] => false,
+        _ => true,
+    }
 }
 
 /// Adds the cell of an item's literal, where it has one, from P on, and tells P behind it.
@@ -125,7 +145,7 @@ fn add_literal(
     let Item::Literal(_) = item else {
         return Ok(p);
     };
-    add_cell(alloc, notes, program, marked, p, line, lines)?;
+    add_cell(alloc, notes, program, marked, false, p, line, lines)?;
     Ok(advance_p(p))
 }
 
@@ -135,12 +155,13 @@ fn add_cell(
     notes: &mut Vec<Note>,
     program: &Program<'_>,
     marked: &Marked,
+    is_code: bool,
     address: u32,
     line: u32,
     lines: &mut Lines<'_>,
 ) -> Result<(), AllocError>
     requires { IsMarked program.now marked.now.labels }
-    ensures notes { OnOk result (map noted_by notes.new.items ≡ map noted_by notes.old.items ++ noted_at lines.old program.now address line) }
+    ensures notes { OnOk result (map noted_by notes.new.items ≡ map noted_by notes.old.items ++ noted_at lines.old program.now is_code address line) }
     ensures same { lines.new ≡ lines.old }
 {
     let Some(cell) = cell_of(address) else {
@@ -151,6 +172,9 @@ fn add_cell(
     notes.push(Note {
         node: program.node,
         cell,
+        address,
+        line,
+        is_code,
         text,
     })?;
     Ok(())

@@ -1,7 +1,7 @@
 //! Notes of cells, and the names of addresses.
 
 ghost use Rattle.std.specs.Prelude.{◌≡◌, position};
-ghost use Rattle.ga_notes.specs.Notes.{is_of, is_named};
+ghost use Rattle.ga_notes.specs.Notes.{is_of, is_begun, is_named};
 
 use ga_grid::NodeId;
 use std::alloc::Global;
@@ -12,6 +12,12 @@ pub struct Note {
     pub node: NodeId,
     /// 0 to 63 of RAM, 128 to 191 of ROM.
     pub cell: u8,
+    /// P at the cell: 10 bits.
+    pub address: u32,
+    /// The line that gives the cell, of an instruction word the one that begins it.
+    pub line: u32,
+    /// Whether the cell holds an instruction word, and no literal or data.
+    pub is_code: bool,
     /// ` \ `, the address, the label before it, and the line that gives the cell.
     pub text: Vec<u8>,
 }
@@ -34,7 +40,7 @@ pub struct Notes {
 
 impl Notes {
     ghost use Rattle.std.specs.Prelude.{◌≡◌, []};
-    ghost use Rattle.ga_notes.specs.Notes.{text_of, address_of};
+    ghost use Rattle.ga_notes.specs.Notes.{text_of, line_address, address_of};
 
     /// Those of an image: none.
     pub fn none(alloc: Global) -> Self
@@ -68,6 +74,17 @@ impl Notes {
         }
     }
 
+    /// The address of the first instruction word of a node that a line begins.
+    pub fn line_address(&self, node: NodeId, line: u32) -> Option<u32>
+        ensures { result ≡ line_address self.now.notes.items node line }
+    {
+        let place = begun_place(self.notes.as_slice(), node, line)?;
+        match self.notes.get(place) {
+            Some(note) => Some(note.address),
+            None => None,
+        }
+    }
+
     /// The address of a label of a node.
     pub fn address_of(&self, node: NodeId, text: &[u8]) -> Option<u32>
         ensures { result ≡ address_of self.now.names.items node text.now }
@@ -92,6 +109,20 @@ fn note_place(notes: &[Note], node: NodeId, cell: u8) -> Option<usize>
     ensures { result ≡ position (is_of node cell) notes.now }
 {
     notes.iter().position(|note| is_of(note, node, cell))
+}
+
+/// Whether a note is of an instruction word of the node that this line begins.
+fn is_begun(note: &Note, node: NodeId, line: u32) -> bool
+    ensures { result ≡ is_begun node line note.now }
+{
+    note.is_code && note.node == node && note.line == line
+}
+
+/// Where the first such note stands.
+fn begun_place(notes: &[Note], node: NodeId, line: u32) -> Option<usize>
+    ensures { result ≡ position (is_begun node line) notes.now }
+{
+    notes.iter().position(|note| is_begun(note, node, line))
 }
 
 /// Whether a name is this one of the node.
