@@ -3,9 +3,9 @@ use Rattle.std.proofs.Common.{◌≡◌, ℕ, ◌+◌, ◌<◌, ◌≤◌, ◌++
 use Rattle.std.specs.Prelude.{map}
 use Rattle.std.specs.Cmp.Lexicographic.{pointwise}
 use Rattle.std.proofs.lemmas.List.{drop_more, drop_all}
-use Rattle.ga_explorer.specs.Forms.{form_in, near_form_in, is_near, is_upper, row_text, rows_text}
+use Rattle.ga_explorer.specs.Forms.{form_in, place_from, near_form_in, is_near, is_upper, row_text, rows_text}
 use Rattle.ga_explorer.specs.kept.Forms.{entry_of}
-use Rattle.ga_explorer.specs.declared.forms.Row.{Row}
+use Rattle.ga_explorer.specs.declared.commands.Row.{Row}
 
 named : (word : List ℕ) (rows : List Row) (i : ℕ) (d : Row) → i < length rows → (b : Bool) → b ≡ pointwise nat_eq (get_or rows i d).name.now word
     → form_in word (map entry_of (drop i rows)) ≡ (if b then Some (get_or rows i d).form.now else form_in word (map entry_of (drop (i + 1) rows)))
@@ -51,3 +51,20 @@ next_row rows i d within = ap (λ z. rows_text (map entry_of z)) (drop_more rows
 
 pub no_row : (rows : List Row) (i : ℕ) → length rows ≤ i → rows_text (map entry_of (drop i rows)) ≡ []
 no_row rows i past = ap (λ z. rows_text (map entry_of z)) (drop_all i rows past)
+
+placed : (word : List ℕ) (rows : List Row) (i : ℕ) (d : Row) → i < length rows → (b : Bool) → b ≡ pointwise nat_eq (get_or rows i d).name.now word
+    → place_from word i (map entry_of (drop i rows)) ≡ (if b then Some i else place_from word (i + 1) (map entry_of (drop (i + 1) rows)))
+unfolding place_from
+placed word rows i d within b e =
+    ap (λ z. place_from word i (map entry_of z)) (drop_more rows i d within)
+    ∙ ap (λ (z : Bool). if z then Some i else place_from word (i + 1) (map entry_of (drop (i + 1) rows))) (sym e)
+
+pub place_here : (word : List ℕ) (rows : List Row) (i : ℕ) (d : Row) → i < length rows → (b : Bool) → b ≡ true → b ≡ pointwise nat_eq (get_or rows i d).name.now word
+    → Some i ≡ place_from word i (map entry_of (drop i rows))
+place_here word rows i d within b is e =
+    sym (placed word rows i d within b e ∙ ap (λ (z : Bool). if z then Some i else place_from word (i + 1) (map entry_of (drop (i + 1) rows))) is)
+
+pub place_behind : (word : List ℕ) (rows : List Row) (i : ℕ) (d : Row) → i < length rows → (b : Bool) → b ≡ false → b ≡ pointwise nat_eq (get_or rows i d).name.now word
+    → place_from word (i + 1) (map entry_of (drop (i + 1) rows)) ≡ place_from word i (map entry_of (drop i rows))
+place_behind word rows i d within b is e =
+    sym (placed word rows i d within b e ∙ ap (λ (z : Bool). if z then Some i else place_from word (i + 1) (map entry_of (drop (i + 1) rows))) is)

@@ -17,10 +17,11 @@ use Rattle.ga_console.specs.Texts.{refusal_text}
 use Rattle.ga_console.specs.Replies.{Answer}
 use Rattle.ga_console.specs.Commands.{SpellsCommand}
 use Rattle.ga_console.specs.declared.command.Command.{Command}
+use Rattle.ga_explorer.specs.Which.{step_meant}
 use Rattle.ga_explorer.specs.Reading.{request_in}
 use Rattle.ga_explorer.specs.Tails.{Exploring}
 use Rattle.ga_explorer.specs.Texts.{run_text, effects_answer, words_text, chip_text}
-use Rattle.ga_explorer.specs.Forms.{rows, rows_text, no_command}
+use Rattle.ga_explorer.specs.Forms.{rows, rows_text, command_text, no_command}
 use Rattle.ga_explorer.specs.Waiting.{who_text}
 use Rattle.ga_explorer.specs.Saved.{saved_text}
 use Rattle.ga_explorer.specs.Writing.{writes_text}
@@ -29,7 +30,7 @@ use Rattle.ga_explorer.specs.Trees.{TellsWhence}
 use Rattle.ga_explorer.specs.Because.{because_text}
 use Rattle.ga_explorer.specs.Races.{TellsRaces}
 use Rattle.ga_explorer.specs.declared.request.Request.{Request}
-use Rattle.ga_explorer.specs.declared.request.Request.TheVariants.{Run, Effects, Words, Writes, At, Whence, Because, Races, Who, Chip, Save, Help}
+use Rattle.ga_explorer.specs.declared.request.Request.TheVariants.{Run, Effects, Words, Writes, At, Whence, Because, Races, Who, Chip, Save, Help, HelpOf}
 
 -- Events were made in the order of the schedule, at most so many, up to the first after which one of the conditions holds: the text
 -- says how many and why no more, and the machine is the one after them.
@@ -61,17 +62,18 @@ pub record TellsWho (s : State) (answer : Text) : Type 0 where
 -- what is answered to a command of exploring, and what is explored then
 abbrev pub Explored : Exploring → Request → Text → Exploring → Type 0
 Explored e (Run schedule most until) answer new = IsRun e.lab schedule most (asked_of until) answer new.lab × (new.notes ≡ e.notes)
-Explored e (Effects node step) answer new = TellsEffects e.lab node step answer × (new ≡ e)
+Explored e (Effects node which) answer new = TellsEffects e.lab node (step_meant e.lab node which) answer × (new ≡ e)
 Explored e (Words from to) answer new = (answer ≡ words_text e.lab from to) × (new ≡ e)
 Explored e (Writes node address) answer new = (answer ≡ writes_text e.lab node address) × (new ≡ e)
-Explored e (At node step around) answer new = (answer ≡ around_text e.notes e.lab node step around) × (new ≡ e)
-Explored e (Whence node step) answer new = TellsWhence e.notes e.lab node step answer × (new ≡ e)
-Explored e (Because node step most) answer new = (answer ≡ because_text e.notes e.lab node step most) × (new ≡ e)
+Explored e (At node which around) answer new = (answer ≡ around_text e.notes e.lab node (step_meant e.lab node which) around) × (new ≡ e)
+Explored e (Whence node which) answer new = TellsWhence e.notes e.lab node (step_meant e.lab node which) answer × (new ≡ e)
+Explored e (Because node which most) answer new = (answer ≡ because_text e.notes e.lab node (step_meant e.lab node which) most) × (new ≡ e)
 Explored e (Races only) answer new = TellsRaces e.lab only answer × (new ≡ e)
 Explored e Who answer new = TellsWho e.lab answer × (new ≡ e)
 Explored e Chip answer new = (answer ≡ chip_text e.lab) × (new ≡ e)
 Explored e Save answer new = (answer ≡ saved_text e.lab) × (new ≡ e)
 Explored e Help answer new = (answer ≡ rows_text rows) × (new ≡ e)
+Explored e (HelpOf place) answer new = (answer ≡ command_text place) × (new ≡ e)
 
 -- the line is too long, or spells a command of the debugger
 abbrev pub IsOfDebugger : Line → Type 0

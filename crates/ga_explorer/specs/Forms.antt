@@ -1,45 +1,47 @@
 -- The commands of a session of exploring with their forms, and what is said of a line that spells none (docs/REFERENCE.md,
 -- "Exploring"; this project's own).
-use Rattle.std.specs.Prelude.{ℕ, nat_eq, nat_le, Bool, false, ◌==◌, ◌&&◌, ◌||◌, if◌then◌else◌, List, [], ◌∷◌, ◌++◌, length, flat_map, codes, Option, Some, None}
+use Rattle.std.specs.Prelude.{ℕ, ◌+◌, nat_eq, nat_le, Bool, false, ◌==◌, ◌&&◌, ◌||◌, if◌then◌else◌, List, [], ◌∷◌, ◌++◌, length, flat_map, slice_get, codes, Option, Some, None}
 use Rattle.std.specs.Cmp.Lexicographic.{pointwise}
 use Rattle.std.specs.List.{starts_with, ends_with}
 use Rattle.ga_image.specs.Lines.{Text, Line}
 use Rattle.ga_console.specs.Parsing.{cut}
 
--- a command: the word that a line of it begins with, how it is spelled, and what `help` says behind that
+-- a command: the word that a line of it begins with, how it is spelled, what `help` says behind that, and what `help` of this command says
+-- besides
 pub record Entry : Type 0 where
   pub name : Text
   pub form : Text
   pub does : Text
+  pub more : Text
 
-abbrev pub entry : Text → Text → Text → Entry
-entry name form does = record { name = name; form = form; does = does }
+abbrev pub entry : Text → Text → Text → Text → Entry
+entry name form does more = record { name = name; form = form; does = does; more = more }
 
 -- the commands, in the order of `help`
 unfoldable pub rows : List Entry
 rows =
-    entry (codes "run") (codes "run [greedy|random SEED] [N] [until COND]") (codes "\n                      make up to N events, in rounds or in this order\nCOND: pass NNN MMM = W, pass NNN MMM J, step NNN K, stop, stop NNN, wait NNN,\n      mem NNN HH = W, p NNN X, reach NNN X, change NNN HH [= W], COND or COND\n")
-    ∷ entry (codes "chip") (codes "chip") (codes "                  what each node does\n")
-    ∷ entry (codes "who") (codes "who") (codes "                   who waits for whom, and which nodes can never go on\n")
-    ∷ entry (codes "effects") (codes "effects NNN K") (codes "         what rewind NNN K would take\n")
-    ∷ entry (codes "words") (codes "words NNN MMM") (codes "         the words that went from NNN to MMM\n")
-    ∷ entry (codes "writes") (codes "writes NNN HH") (codes "         the steps that wrote the cell HH of NNN, the newest first\n")
-    ∷ entry (codes "at") (codes "at NNN K [N]") (codes "          N steps before and behind step K of NNN, with registers\n")
-    ∷ entry (codes "whence") (codes "whence NNN K") (codes "          the steps whose values went into what step K of NNN made\n")
-    ∷ entry (codes "because") (codes "because NNN K [N]") (codes "     N steps before step K at which a value decided where NNN went on\n")
-    ∷ entry (codes "races") (codes "races [NNN]") (codes "           steps that could have come out otherwise, and how\n")
-    ∷ entry (codes "save") (codes "save") (codes "                  the kept events as lines of debug\n")
-    ∷ entry (codes "help") (codes "help") (codes "                  these lines\n")
-    ∷ entry (codes "step") (codes "step NNN") (codes "              make the next event of NNN\n")
-    ∷ entry (codes "back") (codes "back") (codes "                  take the newest event back\n")
-    ∷ entry (codes "rewind") (codes "rewind NNN K") (codes "          take step K of NNN back, with all that depends on it\n")
-    ∷ entry (codes "node") (codes "node NNN") (codes "              what NNN holds\n")
-    ∷ entry (codes "mem") (codes "mem NNN HH") (codes "            the word at HH of the memory of NNN\n")
-    ∷ entry (codes "trace") (codes "trace NNN") (codes "             the steps of NNN\n")
-    ∷ entry (codes "why") (codes "why NNN K MMM J") (codes "       by which events step K of NNN led to step J of MMM\n")
-    ∷ entry (codes "count") (codes "count") (codes "                 how many events are kept and were made\n")
-    ∷ entry (codes "dump") (codes "dump") (codes "                  the chip as an image\n")
-    ∷ entry (codes "quit") (codes "quit") (codes "                  end\n")
+    entry (codes "run") (codes "run [greedy|random SEED] [N] [until COND]") (codes "\n                      make up to N events, in rounds or in this order\nCOND: pass NNN MMM = W, pass NNN MMM J, step NNN K, stop, stop NNN, wait NNN,\n      mem NNN HH = W, p NNN X, reach NNN X, change NNN HH [= W], COND or COND\nX: an address, a label, line N\n") (codes "answers: reached M EVENT, made M, quiet M or full M: how many events, and why no more\nexample: run 1000 until stop or reach 001 000012\n")
+    ∷ entry (codes "chip") (codes "chip") (codes "                  what each node does\n") (codes "answers: rows 7 to 0 of nodes: . made no step, * runs, x stopped, @ waits for code, ? reads, ! writes\nexample: chip\n")
+    ∷ entry (codes "who") (codes "who") (codes "                   who waits for whom, and which nodes can never go on\n") (codes "answers: for each that waits what it does, and the nodes that it awaits; then stuck, ring and idle\nexample: who\n")
+    ∷ entry (codes "effects") (codes "effects NNN K") (codes "         what rewind NNN K would take\n") (codes "answers: effects X N, and for each of N nodes its first step that would go, and how many would\nexample: effects 001 last\n")
+    ∷ entry (codes "words") (codes "words NNN MMM") (codes "         the words that went from NNN to MMM\n") (codes "answers: words NNN MMM C, and for each of C words its number, the steps of both nodes and the word\nexample: words 000 001\n")
+    ∷ entry (codes "writes") (codes "writes NNN HH") (codes "         the steps that wrote the cell HH of NNN, the newest first\n") (codes "answers: for each the step, the opcode and the word that stood there then\nexample: writes 001 20\n")
+    ∷ entry (codes "at") (codes "at NNN K [N]") (codes "          N steps before and behind step K of NNN, with registers\n") (codes "answers: for each the step, what it did, and the registers t, s, r, a, b and p behind it\nexample: at 001 last 5\n")
+    ∷ entry (codes "whence") (codes "whence NNN K") (codes "          the steps whose values went into what step K of NNN made\n") (codes "answers: a tree: below each step, two blanks deeper, the steps that made the values it used\nexample: whence 001 last\n")
+    ∷ entry (codes "because") (codes "because NNN K [N]") (codes "     N steps before step K at which a value decided where NNN went on\nK of effects, at, whence, because: a step's number, or last\n") (codes "answers: for each the step and the word that it tested, and below it the step that made that word\nexample: because 001 last\n")
+    ∷ entry (codes "races") (codes "races [NNN]") (codes "           steps that could have come out otherwise, and how\n") (codes "answers: races N, and for each of N steps what else it could have got, and two commands that lead there\nexample: races 001\n")
+    ∷ entry (codes "save") (codes "save") (codes "                  the kept events as lines of debug\n") (codes "answers: step NNN for each kept event, the oldest first\nexample: save\n")
+    ∷ entry (codes "help") (codes "help [COMMAND]") (codes "        these lines, or more of one command\n") (codes "answers: the command's form and what it does, what it answers, and an example\nexample: help why\n")
+    ∷ entry (codes "step") (codes "step NNN") (codes "              make the next event of NNN\n") (codes "answers: NNN K and what the step did, or pass WWW K RRR J W: the word W went from WWW to RRR\nexample: step 001\n")
+    ∷ entry (codes "back") (codes "back") (codes "                  take the newest event back\n") (codes "answers: removed 1 kept M: M events are left\nexample: back\n")
+    ∷ entry (codes "rewind") (codes "rewind NNN K") (codes "          take step K of NNN back, with all that depends on it\n") (codes "answers: removed X kept M: X events went, and M are left\nexample: rewind 001 4\n")
+    ∷ entry (codes "node") (codes "node NNN") (codes "              what NNN holds\n") (codes "answers: the state, the registers and both stacks, the top first\nexample: node 001\n")
+    ∷ entry (codes "mem") (codes "mem NNN HH") (codes "            the word at HH of the memory of NNN\n") (codes "answers: mem NNN HH W: RAM below 80, ROM from there on\nexample: mem 001 20\n")
+    ∷ entry (codes "trace") (codes "trace NNN") (codes "             the steps of NNN\n") (codes "answers: trace NNN C, and C events, the oldest first\nexample: trace 001\n")
+    ∷ entry (codes "why") (codes "why NNN K MMM J") (codes "       by which events step K of NNN led to step J of MMM\n") (codes "answers: chain C, and C events from the cause to what came of it; or independent\nexample: why 000 3 001 7, the cause first: did step 3 of 000 lead to step 7 of 001?\n")
+    ∷ entry (codes "count") (codes "count") (codes "                 how many events are kept and were made\n") (codes "answers: kept K made M limit L\nexample: count\n")
+    ∷ entry (codes "dump") (codes "dump") (codes "                  the chip as an image\n") (codes "answers: an image of format 2, which every command reads\nexample: dump\n")
+    ∷ entry (codes "quit") (codes "quit") (codes "                  end\n") (codes "answers: nothing\nexample: quit\n")
     ∷ []
 
 -- ---- `help`
@@ -49,6 +51,25 @@ row_text row = row.form ++ row.does
 
 abbrev pub rows_text : List Entry → Text
 rows_text all = flat_map row_text all
+
+-- the place of the command of this name among some that follow so many
+unfoldable pub place_from : Line → ℕ → List Entry → Option ℕ
+place_from word before [] = None
+place_from word before (row ∷ more) = if pointwise nat_eq row.name word then Some before else place_from word (before + 1) more
+
+abbrev pub place_in : Line → Option ℕ
+place_in word = place_from word 0 rows
+
+-- what is told of one of them
+abbrev pub about_text : Entry → Text
+about_text row = row_text row ++ row.more
+
+abbrev pub about_found : Option Entry → Text
+about_found None = []
+about_found (Some row) = about_text row
+
+abbrev pub command_text : ℕ → Text
+command_text place = about_found (slice_get rows place)
 
 -- ---- a line that spells no command
 

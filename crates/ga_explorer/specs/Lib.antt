@@ -1,3 +1,5 @@
+pub mod Which
+pub mod Forms
 pub mod Reading
 pub mod Texts
 pub mod Deeds
@@ -9,7 +11,6 @@ pub mod Because
 pub mod Waiting
 pub mod Saved
 pub mod Races
-pub mod Forms
 pub mod Answers
 pub mod Opening
 pub mod Front

@@ -12,9 +12,12 @@ use Rattle.ga_search.specs.declared.schedule.Schedule.{Schedule}
 use Rattle.ga_search.specs.declared.condition.Condition.{Condition}
 use Rattle.ga_search.specs.declared.condition.Condition.TheVariants.{Never, Passes, PassesNumber, Steps, Stops, StopsAt, WaitsAt, Holds, ComesTo, Reaches, Writes as WritesTo}
 use Rattle.ga_notes.specs.declared.notes.Notes.{Notes}
-use Rattle.ga_notes.specs.Notes.{address_of}
+use Rattle.ga_notes.specs.Notes.{line_address, address_of}
+use Rattle.ga_explorer.specs.Forms.{place_in}
+use Rattle.ga_explorer.specs.declared.which.Which.{Which}
+use Rattle.ga_explorer.specs.Which.{which_in}
 use Rattle.ga_explorer.specs.declared.request.Request.{Request}
-use Rattle.ga_explorer.specs.declared.request.Request.TheVariants.{Run, Effects, Words, Writes, At, Whence, Because, Races, Who, Chip, Save, Help}
+use Rattle.ga_explorer.specs.declared.request.Request.TheVariants.{Run, Effects, Words, Writes, At, Whence, Because, Races, Who, Chip, Save, Help, HelpOf}
 
 -- how many events are made at most where no number is given
 abbrev pub most_events : ℕ
@@ -85,9 +88,30 @@ abbrev pub word_or : Option ℕ → Option ℕ → Option ℕ
 word_or None other = other
 word_or (Some word) other = Some word
 
--- an address, or else a label
+-- the address of the first instruction word of a node that a line begins, which only source gives
+abbrev pub begun_in : Option Notes → NodeId → ℕ → Option ℕ
+begun_in None node line = None
+begun_in (Some notes) node line = line_address notes.notes.items node line
+
+-- `line N`
+unfoldable pub line_in : Option Notes → NodeId → Line → Line → Option ℕ
+line_in notes node name text =
+    if pointwise nat_eq name (codes "line") then (do
+      line ← number_in text
+      begun_in notes node line)
+    else None
+
+abbrev pub noted_cut : Option Notes → NodeId → Option (Line × Line) → Line → Option ℕ
+noted_cut notes node None text = label_in notes node text
+noted_cut notes node (Some parts) text = line_in notes node parts.0 parts.1
+
+-- a label, or `line N`
+abbrev pub noted_in : Option Notes → NodeId → Line → Option ℕ
+noted_in notes node text = noted_cut notes node (cut text) text
+
+-- an address, or else a label or a line
 abbrev pub address_in : Option Notes → NodeId → Line → Option ℕ
-address_in notes node text = word_or (word_in text) (label_in notes node text)
+address_in notes node text = word_or (word_in text) (noted_in notes node text)
 
 -- `NNN X`
 unfoldable pub comes_in : Option Notes → Line → Option Condition
@@ -260,15 +284,15 @@ run_by notes (Some parts) text = named_order notes parts.0 parts.1 text
 abbrev pub run_in : Option Notes → Line → Option Request
 run_in notes text = run_by notes (cut text) text
 
--- ---- `effects`, `words`, `writes`, `at`, `whence`, `because` and `races`
+-- ---- `effects`, `words`, `writes`, `at`, `whence`, `because`, `races` and `help`
 
 -- `NNN K`
 unfoldable pub effects_in : Line → Option Request
 effects_in text = do
   parts ← cut text
   node ← node_in parts.0
-  step ← number_in parts.1
-  Some (Effects node step)
+  which ← which_in parts.1
+  Some (Effects node which)
 
 -- `NNN MMM`
 unfoldable pub words_in : Line → Option Request
@@ -293,16 +317,16 @@ few_steps = 3
 abbrev pub most_steps : ℕ
 most_steps = 99
 
-abbrev pub steps_around : NodeId → ℕ → ℕ → Option Request
-steps_around node step around = if nat_le around most_steps then Some (At node step around) else None
+abbrev pub steps_around : NodeId → Which → ℕ → Option Request
+steps_around node which around = if nat_le around most_steps then Some (At node which around) else None
 
 -- `K` or `K N` behind a node
 abbrev pub around_cut : NodeId → Option (Line × Line) → Line → Option Request
-around_cut node None text = option_map (λ step. At node step few_steps) (number_in text)
+around_cut node None text = option_map (λ which. At node which few_steps) (which_in text)
 around_cut node (Some parts) text = do
-  step ← number_in parts.0
+  which ← which_in parts.0
   around ← number_in parts.1
-  steps_around node step around
+  steps_around node which around
 
 abbrev pub around_in : NodeId → Line → Option Request
 around_in node text = around_cut node (cut text) text
@@ -319,19 +343,19 @@ unfoldable pub whence_in : Line → Option Request
 whence_in text = do
   parts ← cut text
   node ← node_in parts.0
-  step ← number_in parts.1
-  Some (Whence node step)
+  which ← which_in parts.1
+  Some (Whence node which)
 
-abbrev pub decided_upto : NodeId → ℕ → ℕ → Option Request
-decided_upto node step most = if nat_le most most_steps then Some (Because node step most) else None
+abbrev pub decided_upto : NodeId → Which → ℕ → Option Request
+decided_upto node which most = if nat_le most most_steps then Some (Because node which most) else None
 
 -- `K` or `K N` behind a node
 abbrev pub decided_cut : NodeId → Option (Line × Line) → Line → Option Request
-decided_cut node None text = option_map (λ step. Because node step few_steps) (number_in text)
+decided_cut node None text = option_map (λ which. Because node which few_steps) (which_in text)
 decided_cut node (Some parts) text = do
-  step ← number_in parts.0
+  which ← which_in parts.0
   most ← number_in parts.1
-  decided_upto node step most
+  decided_upto node which most
 
 abbrev pub decided_in : NodeId → Line → Option Request
 decided_in node text = decided_cut node (cut text) text
@@ -348,6 +372,10 @@ unfoldable pub races_in : Line → Option Request
 races_in text = do
   node ← node_in text
   Some (Races (Some node))
+
+-- the name of a command
+abbrev pub help_in : Line → Option Request
+help_in text = option_map HelpOf (place_in text)
 
 -- ---- a line
 
@@ -373,6 +401,7 @@ named_request notes name text =
     else if pointwise nat_eq name (codes "whence") then whence_in text
     else if pointwise nat_eq name (codes "because") then because_in text
     else if pointwise nat_eq name (codes "races") then races_in text
+    else if pointwise nat_eq name (codes "help") then help_in text
     else None
 
 abbrev pub request_by : Option Notes → Option (Line × Line) → Line → Option Request

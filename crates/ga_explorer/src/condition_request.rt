@@ -1,7 +1,7 @@
 //! Conditions, as lines spell them.
 
 ghost use Rattle.std.specs.Prelude.{◌≡◌};
-ghost use Rattle.ga_explorer.specs.Reading.{condition_in, lone_condition, named_condition, steps_in, passes_in, passed_in, holds_in, comes_in, reaches_in, writes_to_in, written_in, address_in, label_in, equal_in, word_in};
+ghost use Rattle.ga_explorer.specs.Reading.{condition_in, lone_condition, named_condition, steps_in, passes_in, passed_in, holds_in, comes_in, reaches_in, writes_to_in, written_in, address_in, noted_in, line_in, begun_in, label_in, equal_in, word_in};
 
 use ga_console::{cut, node_of, number_of};
 use ga_grid::NodeId;
@@ -165,13 +165,44 @@ fn written_of(node: NodeId, text: &[u8]) -> Option<Condition>
     }
 }
 
-/// An address, or else a label of the node, which only source gives.
+/// An address, or else a label of the node or `line N`, which only source gives.
 fn address_of(notes: &Option<Notes>, node: NodeId, text: &[u8]) -> Option<u32>
     ensures { result ≡ address_in notes.now node text.now }
 {
     match word_of(text) {
         Some(word) => Some(word.get()),
+        None => noted_of(notes, node, text),
+    }
+}
+
+/// A label, or `line N`.
+fn noted_of(notes: &Option<Notes>, node: NodeId, text: &[u8]) -> Option<u32>
+    ensures { result ≡ noted_in notes.now node text.now }
+{
+    match cut(text) {
+        Some((name, line)) => line_of(notes, node, name, line),
         None => label_of(notes, node, text),
+    }
+}
+
+/// `line N`: the address of the first instruction word of the node that this line begins.
+#[tactic(auto, unfolding(crate::specs::Reading::line_in))]
+fn line_of(notes: &Option<Notes>, node: NodeId, name: &[u8], line: &[u8]) -> Option<u32>
+    ensures { result ≡ line_in notes.now node name.now line.now }
+{
+    match name {
+        b"line" => begun_by(notes, node, number_of(line)?),
+        _ => None,
+    }
+}
+
+/// The address of the first instruction word of the node that a line begins.
+fn begun_by(notes: &Option<Notes>, node: NodeId, line: u32) -> Option<u32>
+    ensures { result ≡ begun_in notes.now node line }
+{
+    match notes {
+        Some(notes) => notes.line_address(node, line),
+        None => None,
     }
 }
 

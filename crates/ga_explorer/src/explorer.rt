@@ -11,7 +11,7 @@ use crate::at_text::say_around;
 use crate::because_text::say_because;
 use crate::chip_text::glance;
 use crate::effects_text::say_effects;
-use crate::forms::{say_help, say_no_command};
+use crate::forms::{say_command, say_help, say_no_command};
 use crate::races_text::say_races;
 use crate::request::{Request, request_of};
 use crate::run_text::ran_text;
@@ -168,20 +168,33 @@ fn explored<W: Write>(
             let ran = run(lab, schedule, u64::from(most), watched);
             output.say_blocks(writer, ran_text(&ran, watched.len()).as_slice())
         }
-        Request::Effects { node, step } => say_effects(alloc, lab, node, step, output, writer),
+        Request::Effects { node, which } => {
+            let step = which.meant(lab, node);
+            say_effects(alloc, lab, node, step, output, writer)
+        }
         Request::Words { from, to } => say_words(lab, from, to, output, writer),
         Request::Writes { node, address } => say_writes(lab, node, address, output, writer),
-        Request::At { node, step, around } => say_around(
-            lab, notes, node, step, around, output, writer,
-        ),
-        Request::Whence { node, step } => say_whence(alloc, lab, notes, node, step, output, writer),
-        Request::Because { node, step, most } => say_because(
-            lab, notes, node, step, most, output, writer,
-        ),
+        Request::At {
+            node,
+            which,
+            around,
+        } => {
+            let step = which.meant(lab, node);
+            say_around(lab, notes, node, step, around, output, writer)
+        }
+        Request::Whence { node, which } => {
+            let step = which.meant(lab, node);
+            say_whence(alloc, lab, notes, node, step, output, writer)
+        }
+        Request::Because { node, which, most } => {
+            let step = which.meant(lab, node);
+            say_because(lab, notes, node, step, most, output, writer)
+        }
         Request::Races { only } => say_races(alloc, lab, only, output, writer),
         Request::Who => say_who(lab, output, writer),
         Request::Chip => output.say_blocks(writer, glance(lab).as_slice()),
         Request::Save => say_saved(lab, output, writer),
         Request::Help => say_help(output, writer),
+        Request::HelpOf(place) => say_command(place, output, writer),
     }
 }

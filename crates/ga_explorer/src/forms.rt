@@ -1,145 +1,15 @@
-//! The commands of a session of exploring with their forms, what `help` tells of them, and what is said of a line that spells none.
+//! What `help` answers, and what is said of a line that spells no command.
 
 ghost use Rattle.std.specs.Prelude.{◌≡◌, ◌++◌, codes, map, option_map};
 ghost use Rattle.ga_image.specs.Lines.{Bytes};
 ghost use Rattle.ga_console.specs.Output.{IsSaid, IsSaidOrCut};
 ghost use Rattle.ga_console.specs.kept.Output.{Says};
-ghost use Rattle.ga_explorer.specs.Forms.{rows, row_text, rows_text, form_in, near_form_in, form_for, is_near, are_exchanged, is_mark, is_return, is_blank, is_upper, cure, no_command};
+ghost use Rattle.ga_explorer.specs.Forms.{rows, row_text, rows_text, about_text, command_text, form_in, near_form_in, form_for, is_near, are_exchanged, is_mark, is_return, is_blank, is_upper, cure, no_command};
 ghost use Rattle.ga_explorer.specs.kept.Forms.{entry_of};
 
+use crate::commands::{Row, row_in, rows};
 use ga_console::{Output, WriteFailed, cut};
 use std::io::Write;
-
-/// A command of a session of exploring.
-struct Row {
-    /// The word that a line of it begins with.
-    name: &'static [u8],
-    /// How it is spelled. What stands in brackets may be left out.
-    form: &'static [u8],
-    /// What `help` says behind the form, up to the line's end.
-    does: &'static [u8],
-}
-
-/// The commands, in the order of `help`.
-static ROWS: [Row; 22] = [
-    Row {
-        name: b"run",
-        form: b"run [greedy|random SEED] [N] [until COND]",
-        does: b"\n                      make up to N events, in rounds or in this order\nCOND: pass NNN MMM = W, pass NNN MMM J, step NNN K, stop, stop NNN, wait NNN,\n      mem NNN HH = W, p NNN X, reach NNN X, change NNN HH [= W], COND or COND\n",
-    },
-    Row {
-        name: b"chip",
-        form: b"chip",
-        does: b"                  what each node does\n",
-    },
-    Row {
-        name: b"who",
-        form: b"who",
-        does: b"                   who waits for whom, and which nodes can never go on\n",
-    },
-    Row {
-        name: b"effects",
-        form: b"effects NNN K",
-        does: b"         what rewind NNN K would take\n",
-    },
-    Row {
-        name: b"words",
-        form: b"words NNN MMM",
-        does: b"         the words that went from NNN to MMM\n",
-    },
-    Row {
-        name: b"writes",
-        form: b"writes NNN HH",
-        does: b"         the steps that wrote the cell HH of NNN, the newest first\n",
-    },
-    Row {
-        name: b"at",
-        form: b"at NNN K [N]",
-        does: b"          N steps before and behind step K of NNN, with registers\n",
-    },
-    Row {
-        name: b"whence",
-        form: b"whence NNN K",
-        does: b"          the steps whose values went into what step K of NNN made\n",
-    },
-    Row {
-        name: b"because",
-        form: b"because NNN K [N]",
-        does: b"     N steps before step K at which a value decided where NNN went on\n",
-    },
-    Row {
-        name: b"races",
-        form: b"races [NNN]",
-        does: b"           steps that could have come out otherwise, and how\n",
-    },
-    Row {
-        name: b"save",
-        form: b"save",
-        does: b"                  the kept events as lines of debug\n",
-    },
-    Row {
-        name: b"help",
-        form: b"help",
-        does: b"                  these lines\n",
-    },
-    Row {
-        name: b"step",
-        form: b"step NNN",
-        does: b"              make the next event of NNN\n",
-    },
-    Row {
-        name: b"back",
-        form: b"back",
-        does: b"                  take the newest event back\n",
-    },
-    Row {
-        name: b"rewind",
-        form: b"rewind NNN K",
-        does: b"          take step K of NNN back, with all that depends on it\n",
-    },
-    Row {
-        name: b"node",
-        form: b"node NNN",
-        does: b"              what NNN holds\n",
-    },
-    Row {
-        name: b"mem",
-        form: b"mem NNN HH",
-        does: b"            the word at HH of the memory of NNN\n",
-    },
-    Row {
-        name: b"trace",
-        form: b"trace NNN",
-        does: b"             the steps of NNN\n",
-    },
-    Row {
-        name: b"why",
-        form: b"why NNN K MMM J",
-        does: b"       by which events step K of NNN led to step J of MMM\n",
-    },
-    Row {
-        name: b"count",
-        form: b"count",
-        does: b"                 how many events are kept and were made\n",
-    },
-    Row {
-        name: b"dump",
-        form: b"dump",
-        does: b"                  the chip as an image\n",
-    },
-    Row {
-        name: b"quit",
-        form: b"quit",
-        does: b"                  end\n",
-    },
-];
-
-/// The commands.
-fn rows() -> &'static [Row]
-    ensures { map entry_of result.now ≡ rows }
-{
-    &ROWS
-}
 
 /// Says what `help` answers: each command's form, and what it does.
 ///
@@ -168,6 +38,32 @@ fn say_row<W: Write>(row: &Row, output: &mut Output, writer: &mut W) -> Result<(
 {
     output.say_blocks(writer, row.form)?;
     output.say_blocks(writer, row.does)
+}
+
+/// Says what `help` of one command answers, by its place: its form, what it does, what it answers, and an example.
+///
+/// # Errors
+/// A write failed.
+pub(crate) fn say_command<W: Write>(
+    place: usize,
+    output: &mut Output,
+    writer: &mut W,
+) -> Result<(), WriteFailed>
+    ensures { Says result (λ text. text ≡ command_text place)
+        (W.contents writer.old) output.old (W.contents writer.new) output.new }
+{
+    match row_in(rows(), place) {
+        Some(row) => say_about(row, output, writer),
+        None => Ok(()),
+    }
+}
+
+fn say_about<W: Write>(row: &Row, output: &mut Output, writer: &mut W) -> Result<(), WriteFailed>
+    ensures { (before said : Bytes) → IsSaid (W.contents writer.old) before said output.old →
+        IsSaidOrCut result (W.contents writer.new) before (said ++ about_text (entry_of row.now)) output.new }
+{
+    say_row(row, output, writer)?;
+    output.say_blocks(writer, row.more)
 }
 
 /// Says that a line is no command, and what to write in its place.

@@ -1,10 +1,12 @@
 //! The commands of exploring, as lines spell them.
 
 ghost use Rattle.std.specs.Prelude.{◌≡◌};
-ghost use Rattle.ga_explorer.specs.Reading.{request_in, lone_request, named_request, effects_in, words_in, writes_in, at_in, around_in, whence_in, because_in, decided_in, races_in};
+ghost use Rattle.ga_explorer.specs.Reading.{request_in, lone_request, named_request, effects_in, words_in, writes_in, at_in, around_in, whence_in, because_in, decided_in, races_in, help_in};
 
+use crate::commands::place_of;
 use crate::conditions_request::{Conditions, no_condition};
 use crate::run_request::run_of;
+use crate::which::Which;
 use ga_console::{cut, node_of, number_of};
 use ga_grid::NodeId;
 use ga_image::byte_of;
@@ -31,7 +33,7 @@ pub enum Request {
     /// `effects`: tells what a rollback of a step would take, without taking it.
     Effects {
         node: NodeId,
-        step: u32,
+        which: Which,
     },
     /// `words`: tells the words that went from one node to another.
     Words {
@@ -46,18 +48,18 @@ pub enum Request {
     /// `at`: tells the steps of a node up to so many before and behind one, each with registers behind it.
     At {
         node: NodeId,
-        step: u32,
+        which: Which,
         around: u32,
     },
     /// `whence`: tells the steps whose values went into what a step of a node made.
     Whence {
         node: NodeId,
-        step: u32,
+        which: Which,
     },
     /// `because`: tells the last steps of a node before one, at most so many, at which a value decided where it went on.
     Because {
         node: NodeId,
-        step: u32,
+        which: Which,
         most: u32,
     },
     /// `races`: tells the steps that could have come out otherwise, of one node or of all.
@@ -72,6 +74,8 @@ pub enum Request {
     Save,
     /// `help`: shows the commands.
     Help,
+    /// `help` of one command, by its place among them.
+    HelpOf(usize),
 }
 
 /// The command of exploring that a line spells, or none.
@@ -125,6 +129,8 @@ fn named_request(notes: &Option<Notes>, name: &[u8], arguments: &[u8]) -> Option
         because_of(arguments)
     } else if name == b"races".as_slice() {
         races_of(arguments)
+    } else if name == b"help".as_slice() {
+        help_of(arguments)
     } else {
         None
     }
@@ -138,7 +144,7 @@ fn effects_of(text: &[u8]) -> Option<Request>
     let (node, step) = cut(text)?;
     Some(Request::Effects {
         node: node_of(node)?,
-        step: number_of(step)?,
+        which: Which::spelled(step)?,
     })
 }
 
@@ -181,17 +187,21 @@ fn around_of(node: NodeId, text: &[u8]) -> Option<Request>
 {
     match cut(text) {
         Some((step, around)) => {
-            let step = number_of(step)?;
+            let which = Which::spelled(step)?;
             let around = number_of(around)?;
             if around <= MOST_STEPS {
-                Some(Request::At { node, step, around })
+                Some(Request::At {
+                    node,
+                    which,
+                    around,
+                })
             } else {
                 None
             }
         }
         None => Some(Request::At {
             node,
-            step: number_of(text)?,
+            which: Which::spelled(text)?,
             around: FEW_STEPS,
         }),
     }
@@ -205,7 +215,7 @@ fn whence_of(text: &[u8]) -> Option<Request>
     let (node, step) = cut(text)?;
     Some(Request::Whence {
         node: node_of(node)?,
-        step: number_of(step)?,
+        which: Which::spelled(step)?,
     })
 }
 
@@ -224,17 +234,17 @@ fn decided_of(node: NodeId, text: &[u8]) -> Option<Request>
 {
     match cut(text) {
         Some((step, most)) => {
-            let step = number_of(step)?;
+            let which = Which::spelled(step)?;
             let most = number_of(most)?;
             if most <= MOST_STEPS {
-                Some(Request::Because { node, step, most })
+                Some(Request::Because { node, which, most })
             } else {
                 None
             }
         }
         None => Some(Request::Because {
             node,
-            step: number_of(text)?,
+            which: Which::spelled(text)?,
             most: FEW_STEPS,
         }),
     }
@@ -248,4 +258,11 @@ fn races_of(text: &[u8]) -> Option<Request>
     Some(Request::Races {
         only: Some(node_of(text)?),
     })
+}
+
+/// A command's name
+fn help_of(text: &[u8]) -> Option<Request>
+    ensures { result ≡ help_in text.now }
+{
+    Some(Request::HelpOf(place_of(text)?))
 }

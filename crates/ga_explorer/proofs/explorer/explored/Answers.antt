@@ -1,6 +1,6 @@
 use Rattle.std.proofs.Common.{◌∙◌, length, refl}
 use Rattle.ga_explorer.specs.Texts.{run_text, chip_text}
-use Rattle.ga_explorer.proofs.Done.{run_done, effects_done, words_done, writes_done, at_done, whence_done, because_done, races_done, who_done, save_done, chip_done, help_done}
+use Rattle.ga_explorer.proofs.Done.{run_done, effects_done, words_done, writes_done, at_done, whence_done, because_done, races_done, who_done, save_done, chip_done, help_done, help_of_done}
 use Rattle.ga_explorer.proofs.Told.{told_as}
 use Rattle.ga_explorer.proofs.explorer.explored.Goals as goal
 
@@ -19,7 +19,7 @@ pub returns-in-Effects : goal.returns-in-Effects
 returns-in-Effects g c = λ before said h.
     let done = c.say_effects.ensures.said before said h in (
       done.0,
-      effects_done c.args.lab.now c.args.notes.now c.args.asked c.in-Effects.node c.in-Effects.step done.0 c.say_effects.new.lab c.in-Effects.is c.say_effects.ensures.same done.1,
+      effects_done c.args.lab.now c.args.notes.now c.args.asked c.in-Effects.node c.in-Effects.which c.meant-step.result done.0 c.say_effects.new.lab c.in-Effects.is c.meant-step.ensures c.say_effects.ensures.same done.1,
       done.2,
     )
 
@@ -36,17 +36,17 @@ returns-in-Writes g c = λ before said h.
 pub returns-in-At : goal.returns-in-At
 returns-in-At g c = λ before said h.
     let done = c.say_around.ensures before said h in
-    (done.0, at_done c.args.lab.now c.args.notes.now c.args.asked c.in-At.node c.in-At.step c.in-At.around done.0 c.in-At.is done.1, done.2)
+    (done.0, at_done c.args.lab.now c.args.notes.now c.args.asked c.in-At.node c.in-At.which c.meant-step-in-At.result c.in-At.around done.0 c.in-At.is c.meant-step-in-At.ensures done.1, done.2)
 
 pub returns-in-Whence : goal.returns-in-Whence
 returns-in-Whence g c = λ before said h.
     let done = c.say_whence.ensures before said h in
-    (done.0, whence_done c.args.lab.now c.args.notes.now c.args.asked c.in-Whence.node c.in-Whence.step done.0 c.in-Whence.is done.1, done.2)
+    (done.0, whence_done c.args.lab.now c.args.notes.now c.args.asked c.in-Whence.node c.in-Whence.which c.meant-step-in-Whence.result done.0 c.in-Whence.is c.meant-step-in-Whence.ensures done.1, done.2)
 
 pub returns-in-Because : goal.returns-in-Because
 returns-in-Because g c = λ before said h.
     let done = c.say_because.ensures before said h in
-    (done.0, because_done c.args.lab.now c.args.notes.now c.args.asked c.in-Because.node c.in-Because.step c.in-Because.most done.0 c.in-Because.is done.1, done.2)
+    (done.0, because_done c.args.lab.now c.args.notes.now c.args.asked c.in-Because.node c.in-Because.which c.meant-step-in-Because.result c.in-Because.most done.0 c.in-Because.is c.meant-step-in-Because.ensures done.1, done.2)
 
 pub returns-in-Races : goal.returns-in-Races
 returns-in-Races g c = λ before said h.
@@ -79,5 +79,13 @@ returns-in-Help g c = λ before said h.
     let done = c.say_help.ensures before said h in (
       done.0,
       help_done c.args.lab.now c.args.notes.now c.args.asked c.in-Help.is done.0 done.1,
+      done.2,
+    )
+
+pub returns-in-HelpOf : goal.returns-in-HelpOf
+returns-in-HelpOf g c = λ before said h.
+    let done = c.say_command.ensures before said h in (
+      done.0,
+      help_of_done c.args.lab.now c.args.notes.now c.args.asked c.in-HelpOf.place c.in-HelpOf.is done.0 done.1,
       done.2,
     )

@@ -1,6 +1,6 @@
 use Rattle.std.proofs.Common.{refl}
 use Rattle.ga_explorer.specs.Forms.{rows}
-use Rattle.ga_explorer.proofs.forms.rows.Goals as goal
+use Rattle.ga_explorer.proofs.commands.rows.Goals as goal
 
 pub returns : goal.returns
 unfolding rows

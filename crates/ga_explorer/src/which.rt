@@ -1,0 +1,40 @@
+//! Which step of a node a command means.
+
+ghost use Rattle.std.specs.Prelude.{◌≡◌};
+ghost use Rattle.ga_explorer.specs.Which.{which_in, step_meant};
+
+use ga_console::number_of;
+use ga_grid::NodeId;
+use ga_lab::Lab;
+
+/// Which step of a node is meant.
+#[derive(Clone, Copy, PartialEq, Eq, Debug)]
+pub enum Which {
+    /// The one with this number.
+    Number(u32),
+    /// The last that it made.
+    Last,
+}
+
+impl Which {
+    /// What a word spells: a number, or `last`.
+    pub(crate) fn spelled(word: &[u8]) -> Option<Self>
+        ensures { result ≡ which_in word.now }
+    {
+        if word == b"last".as_slice() {
+            Some(Which::Last)
+        } else {
+            Some(Which::Number(number_of(word)?))
+        }
+    }
+
+    /// The number of the step: of the last of a node that made none, 0, which no step has.
+    pub(crate) fn meant(self, lab: &Lab, node: NodeId) -> u32
+        ensures { result ≡ step_meant lab.now node self }
+    {
+        match self {
+            Which::Number(step) => step,
+            Which::Last => lab.steps(node),
+        }
+    }
+}
