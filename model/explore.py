@@ -10,22 +10,24 @@ from whence import LOADED, asked_of, rows_of, tested_by
 
 NODE, W, HH = "[0-7](?:0[0-9]|1[0-7])", "0[0-3][0-9a-fA-F]{4}", "[0-9a-fA-F]{2}"
 NUMBER = "(?:0|[1-9][0-9]{0,9})"
+STEP, PLACE = f"(?:{NUMBER}|last)", f"(?:line {NUMBER}|[^ ]+)"
 MOST = (1 << 32) - 1
 LONGEST = 200
 STORES = {"0c": ("!p", "p"), "0d": ("!+", "a"), "0e": ("!b", "b"), "0f": ("!", "a")}
 CONDITION = re.compile(
-    rf"pass {NODE} {NODE} (?:= {W}|{NUMBER})|step {NODE} {NUMBER}|stop|stop {NODE}|wait {NODE}|mem {NODE} {HH} = {W}|p {NODE} [^ ]+"
-    rf"|reach {NODE} [^ ]+|change {NODE} {HH}(?: = {W})?"
+    rf"pass {NODE} {NODE} (?:= {W}|{NUMBER})|step {NODE} {NUMBER}|stop|stop {NODE}|wait {NODE}|mem {NODE} {HH} = {W}|p {NODE} {PLACE}"
+    rf"|reach {NODE} {PLACE}|change {NODE} {HH}(?: = {W})?"
 )
 MOST_CONDITIONS = 8
 RUN = re.compile(rf"run(?: (greedy|random ({NUMBER})))?(?: ({NUMBER}))?(?: until (.+))?")
 RACES = re.compile(rf"races(?: ({NODE}))?")
-ASKED = re.compile(rf"(effects|whence) ({NODE}) ({NUMBER})|(words) ({NODE}) ({NODE})|(writes) ({NODE}) ({HH})|(at|because) ({NODE}) ({NUMBER})(?: ([1-9]?[0-9]))?")
+ASKED = re.compile(rf"(effects|whence) ({NODE}) ({STEP})|(words) ({NODE}) ({NODE})|(writes) ({NODE}) ({HH})|(at|because) ({NODE}) ({STEP})(?: ([1-9]?[0-9]))?")
 HELP = """\
 run [greedy|random SEED] [N] [until COND]
                       make up to N events, in rounds or in this order
 COND: pass NNN MMM = W, pass NNN MMM J, step NNN K, stop, stop NNN, wait NNN,
       mem NNN HH = W, p NNN X, reach NNN X, change NNN HH [= W], COND or COND
+X: an address, a label, line N
 chip                  what each node does
 who                   who waits for whom, and which nodes can never go on
 effects NNN K         what rewind NNN K would take
@@ -34,9 +36,10 @@ writes NNN HH         the steps that wrote the cell HH of NNN, the newest first
 at NNN K [N]          N steps before and behind step K of NNN, with registers
 whence NNN K          the steps whose values went into what step K of NNN made
 because NNN K [N]     N steps before step K at which a value decided where NNN went on
+K of effects, at, whence, because: a step's number, or last
 races [NNN]           steps that could have come out otherwise, and how
 save                  the kept events as lines of debug
-help                  these lines
+help [COMMAND]        these lines, or more of one command
 step NNN              make the next event of NNN
 back                  take the newest event back
 rewind NNN K          take step K of NNN back, with all that depends on it
@@ -47,8 +50,34 @@ why NNN K MMM J       by which events step K of NNN led to step J of MMM
 count                 how many events are kept and were made
 dump                  the chip as an image
 quit                  end"""
-# the form of each command, by its name
-FORMS = {form.split(" ")[0]: form for form in (re.split("  +", line)[0] for line in HELP.split("\n")) if form[:1].islower()}
+# what `help` of a command says behind its lines of these: what it answers, and an example
+MORE = {
+    "run": ("reached M EVENT, made M, quiet M or full M: how many events, and why no more", "run 1000 until stop or reach 001 000012"),
+    "chip": ("rows 7 to 0 of nodes: . made no step, * runs, x stopped, @ waits for code, ? reads, ! writes", "chip"),
+    "who": ("for each that waits what it does, and the nodes that it awaits; then stuck, ring and idle", "who"),
+    "effects": ("effects X N, and for each of N nodes its first step that would go, and how many would", "effects 001 last"),
+    "words": ("words NNN MMM C, and for each of C words its number, the steps of both nodes and the word", "words 000 001"),
+    "writes": ("for each the step, the opcode and the word that stood there then", "writes 001 20"),
+    "at": ("for each the step, what it did, and the registers t, s, r, a, b and p behind it", "at 001 last 5"),
+    "whence": ("a tree: below each step, two blanks deeper, the steps that made the values it used", "whence 001 last"),
+    "because": ("for each the step and the word that it tested, and below it the step that made that word", "because 001 last"),
+    "races": ("races N, and for each of N steps what else it could have got, and two commands that lead there", "races 001"),
+    "save": ("step NNN for each kept event, the oldest first", "save"),
+    "help": ("the command's form and what it does, what it answers, and an example", "help why"),
+    "step": ("NNN K and what the step did, or pass WWW K RRR J W: the word W went from WWW to RRR", "step 001"),
+    "back": ("removed 1 kept M: M events are left", "back"),
+    "rewind": ("removed X kept M: X events went, and M are left", "rewind 001 4"),
+    "node": ("the state, the registers and both stacks, the top first", "node 001"),
+    "mem": ("mem NNN HH W: RAM below 80, ROM from there on", "mem 001 20"),
+    "trace": ("trace NNN C, and C events, the oldest first", "trace 001"),
+    "why": ("chain C, and C events from the cause to what came of it; or independent", "why 000 3 001 7, the cause first: did step 3 of 000 lead to step 7 of 001?"),
+    "count": ("kept K made M limit L", "count"),
+    "dump": ("an image of format 2, which every command reads", "dump"),
+    "quit": ("nothing", "quit"),
+}
+# what `help` says of each command, by its name, and the form of each
+ROWS = {row.split(" ")[0]: row for row in re.split("\n(?=[a-z])", HELP)}
+FORMS = {name: re.split("  +|\n", row)[0] for name, row in ROWS.items()}
 
 
 def distance(one, other):
@@ -108,6 +137,9 @@ class Explorer(Machine):
             return self.glance()
         if line == "help":
             return HELP
+        if line.startswith("help ") and line[5:] in ROWS:
+            answers, example = MORE[line[5:]]
+            return f"{ROWS[line[5:]]}\nanswers: {answers}\nexample: {example}"
         if line == "who":
             return "\n".join(self.who())
         if line == "save":
@@ -120,11 +152,12 @@ class Explorer(Machine):
             node = number_of(words[1])
             if words[0] == "writes":
                 return "\n".join(reversed(self.writes(node, int(words[2], 16))))
-            if words[0] in ("at", "because"):
-                return (self.at if words[0] == "at" else self.because)(node, int(words[2]), int(words[3]) if len(words) > 3 else 3)
             if words[0] == "words":
                 return self.words(node, number_of(words[2]))
-            return (self.effects if words[0] == "effects" else self.whence)(node, int(words[2]))
+            step = self.steps[node] if words[2] == "last" else int(words[2])
+            if words[0] in ("at", "because"):
+                return (self.at if words[0] == "at" else self.because)(node, step, int(words[3]) if len(words) > 3 else 3)
+            return (self.effects if words[0] == "effects" else self.whence)(node, step)
         races = RACES.fullmatch(line)
         if races:
             return self.races(races[1] and number_of(races[1]))
@@ -200,8 +233,10 @@ class Explorer(Machine):
         store = STORES.get(told.split(" ")[-1]) if " run " in told else None
         return bool(store) and address < 0x80 and target_of(getattr(before, store[1])) == ("ram", address % 64)
 
-    def address(self, node, word):
-        """The address that a word or a label of the node tells, or None."""
+    def address(self, node, word, line=None):
+        """The address that a word, a label of the node or a line of its source tells, or None."""
+        if line is not None:
+            return self.notes.begun(number_of(node), int(line))
         return int(word, 16) if re.fullmatch(W, word) else self.notes.address(number_of(node), word)
 
     def doing(self, node):

@@ -11,7 +11,7 @@ import subprocess
 import sys
 from itertools import zip_longest
 
-from explore import STORES, Explorer, number_of
+from explore import ROWS, STORES, Explorer, number_of
 from files import answer, load_of
 from machine import name
 from notes import Notes
@@ -19,7 +19,7 @@ from sessions import DEFAULT_LIMIT, SECONDS, Generator
 from source import asm
 
 # How often each command comes, of 1000. The others are those of the debugger.
-COMMANDS = {"run": 250, "whence": 180, "because": 100, "at": 80, "races": 40, "writes": 70, "words": 60, "effects": 50, "who": 30, "chip": 20, "save": 10, "help": 2, "wrong": 28, "debug": 80}
+COMMANDS = {"run": 250, "whence": 180, "because": 100, "at": 80, "races": 40, "writes": 70, "words": 60, "effects": 50, "who": 30, "chip": 20, "save": 10, "help": 6, "wrong": 28, "debug": 80}
 WORDS = "dup drop over + and or @ ! @b !b a! pop push 2* 2/ - +* @+ !+ a . 1 5 0x20 0x15555 0x3ffff right left down up".split()
 CALLS = ["x", "'y a!", "'y b!", "0x22 a! !", "0x84 a! @", "io b!", "for x next", "1 for x next", "for +* unext", "2 for . unext", "if dup then", "0 if dup then", "'y push ex", "-if a else over then", "begin dup -until", "+cy + -cy"]
 PARTS = ["\\ a remark", "( and ) ", "  ", "\t", ".."]
@@ -93,6 +93,8 @@ class Session:
         return self.random.choice(made if made and self.random.random() < 0.9 else self.base.nodes)
 
     def step(self, node):
+        if self.random.random() < 0.1:
+            return "last"
         return self.random.randint(0 if self.random.random() < 0.1 else 1, max(self.machine.steps[node] + (self.random.random() < 0.1), 1))
 
     def word(self):
@@ -111,6 +113,11 @@ class Session:
             return pair if self.random.random() < 0.8 else pair[::-1]
         return self.random.choice(self.base.nodes), self.random.choice(self.base.nodes)
 
+    def places(self, node):
+        """What else tells an address of a node, with that address: its labels, and the lines that begin its instruction words."""
+        notes = self.machine.notes
+        return notes.labels.get(node, []) + [(f"line {line}", address) for (its, line), address in notes.begins.items() if its == node]
+
     def ahead(self, order):
         """Conditions that hold behind some event that such a run would make."""
         machine, pick = pickle.loads(pickle.dumps(self.machine)), self.random.choice
@@ -124,7 +131,7 @@ class Session:
             return [f"pass {writer} {reader} = {word.upper()}", f"pass {writer} {reader} {number}", f"step {reader} {its}"]
         held = machine.chip[number_of(words[0])]
         ended = ["stop", f"{words[2]} {words[0]}"] if words[2] in ("wait", "stop") else []
-        ended += [f"{kind} {words[0]} {label}" for kind in ("p", "reach") for label, address in machine.notes.labels.get(held.number, []) if address == held.p]
+        ended += [f"{kind} {words[0]} {label}" for kind in ("p", "reach") for label, address in self.places(held.number) if address == held.p]
         ended += [f"reach {words[0]} {held.p:06x}"]
         written = [told for told in made if " run " in told and told.split(" ")[-1] in STORES]
         if written:
@@ -148,7 +155,7 @@ class Session:
         return pick((
             f"{passing} = {self.word():06X}", f"{passing} {len(self.machine.sent(writer, reader)) + pick((0, 1, 2))}", "stop", f"stop {name(node)}",
             f"wait {name(node)}", f"mem {name(node)} {self.address():02x} = {self.word():06X}",
-            f"{pick(('p', 'reach'))} {name(node)} {pick([f'{self.random.randrange(12):06x}', *(label for label, _ in self.machine.notes.labels.get(node, []))])}",
+            f"{pick(('p', 'reach'))} {name(node)} {pick([f'{self.random.randrange(12):06x}', *(place for place, _ in self.places(node)), f'line {self.random.randrange(20)}'])}",
             f"change {name(node)} {self.address():02x}" + pick(("", f" = {self.word():06X}")),
         ))  # fmt: skip
 
@@ -168,6 +175,7 @@ class Session:
             "effects": f"effects {name(node)} {self.step(node)}",
             "writes": f"writes {name(node)} {self.address():02x}",
             "words": "words " + " ".join(map(name, self.link())),
+            "help": "help" + self.random.choice(("", " " + self.random.choice([*ROWS, "cond"]))),
             "races": "races" + self.random.choice(("", f" {name(node)}", f" {name(self.link()[1])}")),
         }.get(chosen, chosen)
 

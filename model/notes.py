@@ -9,12 +9,14 @@ class Notes:
     """The lines and the labels of the cells that a source gives; of an image there are none."""
 
     def __init__(self, source=None):
-        self.cells, self.labels = {}, {}
+        self.cells, self.labels, self.begins = {}, {}, {}
         lines = [it.strip(" \t\r\f") for it in lines_of(source or "")]
         for name, (_, _, layout) in (programs_of(words_of(source)) if source is not None else {}).items():
             node = NODE_NAMES[name]
             for cell in layout.cells:
                 address = cell.address
+                if not cell.data:
+                    self.begins.setdefault((node, cell.slots[0][0]), address)
                 for line in [cell.slots[0][0]] + [line for line, _ in cell.literals]:
                     self.cells[node, target_of(address)] = f"{address:03x}", f"{line}: {lines[line - 1]}"
                     address = advanced(address)
@@ -32,6 +34,10 @@ class Notes:
             return ""
         address, line = self.cells[node, cell]
         return " \\ " + " ".join([address, *self.label(node, cell), line])
+
+    def begun(self, node, line):
+        """P at the first instruction word that a line of a node begins, or None."""
+        return self.begins.get((node, line))
 
     def address(self, node, name):
         """P at a label."""
