@@ -60,6 +60,7 @@ fn main(rt: HostRuntime) -> ExitCode {
                 all,
                 only,
                 fold,
+                races,
                 file,
             },
         ) => {
@@ -71,6 +72,7 @@ fn main(rt: HostRuntime) -> ExitCode {
                 all,
                 only,
                 fold,
+                races,
             };
             served(&rt, Work::Draw(view), &file)
         }

@@ -14,4 +14,4 @@ AreInRange (Race workers calls limit) = Within 1 16 workers × Within 1 100000 c
 AreInRange (Assemble file) = Unit {0}
 AreInRange (List file) = Unit {0}
 AreInRange (Disassemble file) = Unit {0}
-AreInRange (Draw cause rewind from to all only fold file) = Within 1 4294967295 from × Within 1 4294967295 to
+AreInRange (Draw cause rewind from to all only fold races file) = Within 1 4294967295 from × Within 1 4294967295 to

@@ -144,7 +144,7 @@ pub enum Settings {
     /// Draw the kept events of a session from one place of their list on and up to another, both counted from 1. Shown are the
     /// causes of a step, and what a rollback of a step would take; each step is a node and a number, counted from 1. Idle nodes are
     /// drawn too where `all` is set, and with `only` nothing but such causes and what would be taken; from `fold` on that many own
-    /// steps in a row are one mark, where it is not 0.
+    /// steps in a row are one mark, where it is not 0. Steps that could have come out otherwise are marked where `races` is set.
     Draw {
         cause: Option<(NodeId, u32)>,
         rewind: Option<(NodeId, u32)>,
@@ -153,6 +153,7 @@ pub enum Settings {
         all: bool,
         only: bool,
         fold: u32,
+        races: bool,
         file: Option<String>,
     },
 }
@@ -303,6 +304,11 @@ fn draw_line<'a>(alloc: Global) -> Result<Command<'a>, AllocError> {
             "Leave out what is neither such a cause nor would be taken",
         ))?
         .arg(fold_option(alloc))?
+        .arg(flag(
+            alloc,
+            "races",
+            "Mark the steps that could have come out otherwise",
+        ))?
         .arg(file_argument(alloc, "An image or source"))
 }
 
@@ -412,6 +418,7 @@ fn drawn(alloc: Global, draw: &ArgMatches<'_>) -> Result<Settings, LineFault>
         all: draw.get_flag("all"),
         only: draw.get_flag("only"),
         fold: fold(draw.get_str("fold"))?,
+        races: draw.get_flag("races"),
         file: file(alloc, draw)?,
     })
 }

@@ -59,6 +59,14 @@ impl Explorer {
     {
         &self.lab
     }
+
+    /// The lab, for which nothing is explored any more.
+    pub fn into_lab(self) -> Lab
+        ensures { result ≡ self.lab }
+    {
+        let Explorer { lab, notes: _ } = self;
+        lab
+    }
 }
 
 impl Responder for Explorer {

@@ -4,5 +4,5 @@
 mod images;
 mod programs;
 
-pub use images::{SENDER_AND_TAKER, WAITING};
+pub use images::{RACING, SENDER_AND_TAKER, WAITING};
 pub use programs::{load, reader_of_io, sender, taker};

@@ -8,6 +8,7 @@ pub mod Listed
 pub mod Lined
 pub mod Drawn
 pub mod Shaded
+pub mod RaceMarked
 pub mod Grouped
 pub mod Following
 pub mod Reached

@@ -1,5 +1,6 @@
 -- What a picture shows of a machine's kept events (docs/REFERENCE.md, "Pictures"; this project's own).
-use Rattle.std.specs.Prelude.{◌≡◌, ℕ, ◌<◌, Bool, true, ◌&&◌, List, length, min, Option, Some, None, is_none}
+use Rattle.std.specs.Prelude.{◌≡◌, ℕ, ◌<◌, Bool, true, ◌&&◌, if◌then◌else◌, List, [], length, min, Option, Some, None, is_none}
+use Rattle.std.specs.List.{All}
 use Rattle.ga_grid.specs.declared.node_id.NodeId.{NodeId}
 use Rattle.ga_event.specs.declared.event.Cause.{Cause}
 use Rattle.ga_causal.specs.Dependence.{place_of}
@@ -8,12 +9,18 @@ use Rattle.ga_node.specs.Table.{refusal}
 use Rattle.ga_grid.specs.Chip.{record_at}
 use Rattle.ga_lab.specs.Machine.{State, chip_of, causes_of, stands}
 use Rattle.ga_search.specs.Idle.{MarksIdle}
+use Rattle.ga_search.specs.declared.readings.Reading.{Reading}
+use Rattle.ga_search.specs.Races.{races_asked}
+use Rattle.ga_search.specs.Readings.{IsTold}
 use Rattle.ga_picture.specs.declared.view.View.{View}
+use Rattle.ga_picture.specs.declared.placing.Row.{Row}
 use Rattle.ga_picture.specs.declared.placing.Drawing.{Drawing}
+use Rattle.ga_picture.specs.declared.race_marks.RaceMark.{RaceMark}
 use Rattle.ga_picture.specs.declared.shade.Shade.{Shade}
 use Rattle.ga_picture.specs.Drawing.{AreShades, IsDrawing}
 use Rattle.ga_picture.specs.Items.{Known, items_of}
-use Rattle.ga_picture.specs.Svg.{IsSvg, shapes_in}
+use Rattle.ga_picture.specs.RaceMarks.{marks_of}
+use Rattle.ga_picture.specs.Svg.{IsSvg}
 
 -- the step stands, where one is given
 abbrev pub stands_for : State → Option (NodeId × ℕ) → Bool
@@ -61,8 +68,16 @@ pub record IsPicture (s : State) (view : View) (drawing : Drawing) : Type 0 wher
   pub are_idle : MarksIdle s idle
   pub drawn : IsPictureOf (causes_of s) ready idle view drawing
 
+-- where they are asked for, the marks of the passes and looks that `races` tells
+pub record AreRaceMarks (s : State) (view : View) (rows : List Row) (marks : List RaceMark) : Type 0 where
+  pub readings : List Reading
+  pub told : All (IsTold s None) readings
+  pub are : marks ≡ (if view.races then marks_of (causes_of s) (start_in (causes_of s) view) rows (races_asked s None) readings else [])
+
 -- The text of such a picture.
 pub record IsPictureText (s : State) (view : View) (text : List ℕ) : Type 0 where
   pub drawing : Drawing
   pub is : IsPicture s view drawing
-  pub written : IsSvg (shapes_in drawing.rows.items) text
+  pub marks : List RaceMark
+  pub raced : AreRaceMarks s view drawing.rows.items marks
+  pub written : IsSvg drawing.rows.items marks text

@@ -1,7 +1,7 @@
 -- The text of a picture, as far as it is said of what it consists (docs/REFERENCE.md, "Pictures"; this project's own).
 use Rattle.std.specs.Prelude.{◌≡◌, ℕ, List, [], ◌∷◌, ◌++◌, map, codes}
-use Rattle.ga_picture.specs.declared.placing.Shape.{Shape}
 use Rattle.ga_picture.specs.declared.placing.Row.{Row}
+use Rattle.ga_picture.specs.declared.race_marks.RaceMark.{RaceMark}
 use Rattle.ga_picture.specs.declared.shade.Shade.{Shade}
 use Rattle.ga_picture.specs.declared.shade.Shade.TheVariants.{Black, Grey, Red}
 use Rattle.ga_picture.specs.Drawing.{shade_of}
@@ -12,22 +12,32 @@ class_of Black = codes "<g class='k'>"
 class_of Grey = codes "<g class='g'>"
 class_of Red = codes "<g class='r'>"
 
--- what is drawn of an event is a group of its colour
-pub record IsGroup (shape : Shape) (text : List ℕ) : Type 0 where
+-- how that of a step begins that could have come out otherwise
+abbrev pub race_class : List ℕ
+race_class = codes "<g class='c'>"
+
+-- what is drawn of an event or of such a step is a group that begins so
+pub record IsGroup (class text : List ℕ) : Type 0 where
   pub body : List ℕ
-  pub is : text ≡ class_of (shade_of shape) ++ (body ++ codes "</g>\n")
+  pub is : text ≡ class ++ (body ++ codes "</g>\n")
 
-abbrev pub shapes_in : List Row → List Shape
-shapes_in rows = map (λ row. row.shape) rows
-
--- one group for each shape, in their order
-abbrev pub AreGroups : List Shape → List ℕ → Type 0
+-- one group for each, in their order
+abbrev pub AreGroups : List (List ℕ) → List ℕ → Type 0
 AreGroups [] text = text ≡ []
-AreGroups (shape ∷ shapes) text = (group : List ℕ) × (more : List ℕ) × IsGroup shape group × AreGroups shapes more × (text ≡ group ++ more)
+AreGroups (class ∷ classes) text = (group : List ℕ) × (more : List ℕ) × IsGroup class group × AreGroups classes more × (text ≡ group ++ more)
 
--- a head, the groups of the shapes, and a foot
-pub record IsSvg (shapes : List Shape) (text : List ℕ) : Type 0 where
+-- those of rows, and those of marks
+abbrev pub classes_in : List Row → List (List ℕ)
+classes_in rows = map (λ (row : Row). class_of (shade_of row.shape)) rows
+
+abbrev pub race_classes : List RaceMark → List (List ℕ)
+race_classes marks = map (λ (mark : RaceMark). race_class) marks
+
+-- a head, the groups of the rows, those of the marks, and a foot
+pub record IsSvg (rows : List Row) (marks : List RaceMark) (text : List ℕ) : Type 0 where
   pub head : List ℕ
   pub groups : List ℕ
-  pub drawn : AreGroups shapes groups
-  pub is : text ≡ head ++ (groups ++ codes "</svg>\n")
+  pub races : List ℕ
+  pub drawn : AreGroups (classes_in rows) groups
+  pub raced : AreGroups (race_classes marks) races
+  pub is : text ≡ head ++ (groups ++ (races ++ codes "</svg>\n"))

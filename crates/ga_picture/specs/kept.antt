@@ -2,3 +2,4 @@ pub mod Lines
 pub mod Following
 pub mod Items
 pub mod Runs
+pub mod Svg

@@ -29,15 +29,15 @@ pub fn draw_session<R: Read, W: Write, E: Write>(
         × (W.contents writer.new ≡ Some (before ++ text)) × Draws limit view read rest text result }
 {
     match follow_session(alloc, reader, writer, errors, limit) {
-        Ok(explorer) => write_picture(writer, explorer.lab(), view),
+        Ok(explorer) => write_picture(writer, &mut explorer.into_lab(), view),
         Err(status) => status,
     }
 }
 
 /// Writes the picture of a lab's kept events, or why there is none.
-fn write_picture<W: Write>(writer: &mut W, lab: &Lab, view: View) -> Status
+fn write_picture<W: Write>(writer: &mut W, lab: &mut Lab, view: View) -> Status
     ensures { (before : Bytes) → W.contents writer.old ≡ Some before →
-        (text : Bytes) × (W.contents writer.new ≡ Some (before ++ text)) × Pictures lab.now view text result }
+        (text : Bytes) × (W.contents writer.new ≡ Some (before ++ text)) × Pictures lab.old view text result }
 {
     match picture(lab, view) {
         Ok(text) => write_out(writer, text.as_bytes()),

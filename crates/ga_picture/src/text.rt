@@ -1,10 +1,14 @@
 //! A picture as text in SVG.
 
 ghost use Rattle.std.specs.Prelude.{◌≡◌, IfOk, string_bytes};
-ghost use Rattle.ga_picture.specs.Svg.{IsSvg, IsGroup, class_of, shapes_in};
+ghost use Rattle.ga_picture.specs.Drawing.{shade_of};
+ghost use Rattle.ga_picture.specs.Svg.{IsSvg, IsGroup, AreGroups, class_of, race_class, race_classes};
+ghost use Rattle.ga_picture.specs.kept.Svg.{BeginsSvg};
 
 use crate::marks::push_event;
 use crate::placing::{Drawing, Shape};
+use crate::race_marks::RaceMark;
+use crate::race_text::push_race;
 use crate::shade::Shade;
 use crate::tracks::Tracks;
 use ga_event::Made;
@@ -22,8 +26,8 @@ const HEAD: u64 = 52;
 
 const ROW: u64 = 18;
 
-/// What the classes look like: `k` black, `g` grey, `r` red. Red is heavier too, so that it stands out in print. Each text has a
-/// white rim, and so is read over lines.
+/// What the classes look like: `k` black, `g` grey, `r` red, `c` of steps that could have come out otherwise. Red is heavier too, so
+/// that it stands out in print. Each text has a white rim, and so is read over lines.
 const STYLE: &str = "<style>
 text{font:11px ui-monospace,Menlo,Consolas,'DejaVu Sans Mono',monospace;fill:#111;paint-order:stroke;stroke:#fff;stroke-width:3px}
 line,path,circle{stroke:#111;fill:none;stroke-width:1.2}
@@ -42,16 +46,34 @@ line,path,circle{stroke:#111;fill:none;stroke-width:1.2}
 .r text{fill:#b84300;font-weight:bold}
 .r line,.r path,.r circle{stroke:#d55e00;stroke-width:2.8}
 .r .f{fill:#d55e00}
+.c text{fill:#7a35a8;font-size:9px}
+.c circle{stroke:#7a35a8;stroke-width:2}
 </style>
 ";
 
-/// The text of a picture: a head, a group for each row in order, and a foot. Of the events that are looked at their reports are
-/// given, in order; where there is none a shape has no title and no label.
+/// The text of a picture: a head, a group for each row in order and for each mark, and a foot. Of the events that are looked at
+/// their reports are given, in order; where there is none a shape has no title and no label.
 ///
 /// # Errors
 /// Memory was refused.
-pub fn svg(alloc: Global, drawing: &Drawing, mades: &[Made]) -> Result<String, AllocError>
-    ensures { IfOk result (λ text. IsSvg (shapes_in drawing.now.rows.items) (string_bytes text)) }
+pub fn svg(
+    alloc: Global,
+    drawing: &Drawing,
+    marks: &[RaceMark],
+    mades: &[Made],
+) -> Result<String, AllocError>
+    ensures { IfOk result (λ text. IsSvg drawing.now.rows.items marks.now (string_bytes text)) }
+{
+    let mut text = events(alloc, drawing, mades)?;
+    let races = races(alloc, drawing, marks)?;
+    text.push_str(races.as_str())?;
+    text.push_str("</svg>\n")?;
+    Ok(text)
+}
+
+/// The head, and a group for each row.
+fn events(alloc: Global, drawing: &Drawing, mades: &[Made]) -> Result<String, AllocError>
+    ensures { IfOk result (λ text. BeginsSvg drawing.now.rows.items (string_bytes text)) }
 {
     let mut text = head(alloc, drawing, mades)?;
     'rows: for at in 0..drawing.rows.len() {
@@ -59,7 +81,18 @@ pub fn svg(alloc: Global, drawing: &Drawing, mades: &[Made]) -> Result<String, A
         let group = group(alloc, drawing, at, row.shape, mades.get(row.place as usize))?;
         text.push_str(group.as_str())?;
     }
-    text.push_str("</svg>\n")?;
+    Ok(text)
+}
+
+/// A group for each mark.
+fn races(alloc: Global, drawing: &Drawing, marks: &[RaceMark]) -> Result<String, AllocError>
+    ensures { IfOk result (λ text. AreGroups (race_classes marks.now) (string_bytes text)) }
+{
+    let mut text = String::new(alloc);
+    'marks: for mark in marks {
+        let group = race_group(alloc, drawing, mark)?;
+        text.push_str(group.as_str())?;
+    }
     Ok(text)
 }
 
@@ -71,13 +104,32 @@ fn group(
     shape: Shape,
     made: Option<&Made>,
 ) -> Result<String, AllocError>
-    ensures { IfOk result (λ text. IsGroup shape (string_bytes text)) }
+    ensures { IfOk result (λ text. IsGroup (class_of (shade_of shape)) (string_bytes text)) }
 {
     let mut text = String::new(alloc);
     text.push_str(class(shape.shade()))?;
     let body = body(alloc, drawing, y_of(row), shape, made)?;
     text.push_str(body.as_str())?;
     text.push_str("</g>\n")?;
+    Ok(text)
+}
+
+/// What is drawn of a step that could have come out otherwise.
+fn race_group(alloc: Global, drawing: &Drawing, mark: &RaceMark) -> Result<String, AllocError>
+    ensures { IfOk result (λ text. IsGroup race_class (string_bytes text)) }
+{
+    let mut text = String::new(alloc);
+    text.push_str("<g class='c'>")?;
+    let body = race_body(alloc, drawing, mark)?;
+    text.push_str(body.as_str())?;
+    text.push_str("</g>\n")?;
+    Ok(text)
+}
+
+/// What stands in its group.
+fn race_body(alloc: Global, drawing: &Drawing, mark: &RaceMark) -> Result<String, AllocError> {
+    let mut text = String::new(alloc);
+    push_race(&mut text, drawing, mark)?;
     Ok(text)
 }
 

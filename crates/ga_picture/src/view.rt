@@ -1,22 +1,26 @@
 //! The picture of a lab's kept events.
 
-ghost use Rattle.std.specs.Prelude.{ℕ, ◌≡◌, ◌↔◌, ◌⊎◌, ◌<◌, ◌≤◌, ◌^◌, false, length, Err, IfOk, IfErr, IfSome, min, string_bytes};
+ghost use Rattle.std.specs.Prelude.{ℕ, ◌≡◌, ◌↔◌, ◌⊎◌, ◌<◌, ◌≤◌, ◌^◌, false, length, None, Err, IfOk, IfErr, IfSome, min, string_bytes};
+ghost use Rattle.std.specs.List.{All};
 ghost use Rattle.ga_grid.specs.Chip.{records_of};
 ghost use Rattle.ga_causal.specs.Dependence.{is_marked};
 ghost use Rattle.ga_lab.specs.Machine.{causes_of};
-ghost use Rattle.ga_picture.specs.Picture.{IsPicture, IsPictureOf, IsPictureText, is_ready, all_stand, stands_for, place_for};
+ghost use Rattle.ga_search.specs.Races.{races_asked};
+ghost use Rattle.ga_search.specs.Readings.{IsTold};
+ghost use Rattle.ga_picture.specs.Picture.{IsPicture, IsPictureOf, IsPictureText, AreRaceMarks, is_ready, all_stand, stands_for, place_for};
 ghost use Rattle.ga_picture.specs.kept.Items.{AreItemsOf};
 
 use crate::item::{Facts, Item, items};
-use crate::placing::{Drawing, layout};
+use crate::placing::{Drawing, Row, layout};
 use crate::plain::plain_events;
+use crate::race_marks::{RaceMark, Shown, marks_of};
 use crate::reports::reports;
 use crate::shade::shades;
 use crate::text::svg;
 use ga_causal::{Cause, Memory, place_of};
 use ga_grid::{Chip, NodeId};
 use ga_lab::{Lab, LabFault};
-use ga_search::find_idle;
+use ga_search::{Races, find_idle, find_races};
 use std::alloc::Global;
 
 /// A step: its node and its number, counted from 1.
@@ -39,6 +43,8 @@ pub struct View {
     pub only: bool,
     /// From how many events on a run of fetches and opcodes of a node is drawn as one; 0 for none.
     pub fold: u32,
+    /// Whether steps that could have come out otherwise are marked.
+    pub races: bool,
 }
 
 /// The picture of the kept events of a lab. Takes memory and time by how many events are kept, not by how many are drawn.
@@ -63,10 +69,11 @@ pub fn draw(lab: &Lab, view: View) -> Result<Drawing, LabFault>
 ///
 /// # Errors
 /// `NoStep`, where a node has no such step; then `Memory`.
-pub fn picture(lab: &Lab, view: View) -> Result<String, LabFault>
-    ensures ok { IfOk result (λ text. IsPictureText lab.now view (string_bytes text)) }
-    ensures refused { (result ≡ Err LabFault.NoStep) ↔ (all_stand lab.now view ≡ false) }
+pub fn picture(lab: &mut Lab, view: View) -> Result<String, LabFault>
+    ensures ok { IfOk result (λ text. IsPictureText lab.old view (string_bytes text)) }
+    ensures refused { (result ≡ Err LabFault.NoStep) ↔ (all_stand lab.old view ≡ false) }
     ensures err { IfErr result (λ why. (why ≡ LabFault.NoStep) ⊎ (why ≡ LabFault.Memory)) }
+    ensures same { lab.new ≡ lab.old }
 {
     if !all_stand(lab, view) {
         return Err(LabFault::NoStep);
@@ -129,18 +136,56 @@ fn ready_nodes(chip: &Chip) -> [bool; 144]
 }
 
 /// Its text.
-fn written(lab: &Lab, view: View) -> Result<String, Memory>
-    ensures { IfOk result (λ text. IsPictureText lab.now view (string_bytes text)) }
+fn written(lab: &mut Lab, view: View) -> Result<String, Memory>
+    ensures ok { IfOk result (λ text. IsPictureText lab.old view (string_bytes text)) }
+    ensures same { lab.new ≡ lab.old }
 {
     let drawing = drawn(lab, view)?;
+    let marks = race_marks(lab, drawing.rows.as_slice(), view)?;
     let causes = kept_causes(lab)?;
     let alloc = *causes.allocator();
     let (from, to) = span(causes.len(), view);
     let Ok(mades) = reports(alloc, lab, causes.as_slice(), from, to) else {
         return Err(Memory);
     };
-    match svg(alloc, &drawing, mades.as_slice()) {
+    match svg(alloc, &drawing, marks.as_slice(), mades.as_slice()) {
         Ok(text) => Ok(text),
+        Err(_) => Err(Memory),
+    }
+}
+
+/// The marks of the steps that could have come out otherwise, where they are asked for.
+fn race_marks(lab: &mut Lab, rows: &[Row], view: View) -> Result<Vec<RaceMark>, Memory>
+    ensures ok { IfOk result (λ marks. AreRaceMarks lab.old view rows.now marks.items) }
+    ensures same { lab.new ≡ lab.old }
+{
+    let causes = kept_causes(lab)?;
+    let alloc = *causes.allocator();
+    if !view.races {
+        return Ok(Vec::new(alloc));
+    }
+    let races = found_races(alloc, lab)?;
+    let shown = Shown {
+        events: causes.as_slice(),
+        start: span(causes.len(), view).0 as u32,
+        rows,
+    };
+    marks_of(
+        alloc,
+        shown,
+        races.list.as_slice(),
+        races.readings.as_slice(),
+    )
+}
+
+/// The passes and looks that could have come out otherwise.
+fn found_races(alloc: Global, lab: &mut Lab) -> Result<Races, Memory>
+    ensures list { IfOk result (λ races. races.list.items ≡ races_asked lab.old None) }
+    ensures readings { IfOk result (λ races. All (IsTold lab.old None) races.readings.items) }
+    ensures same { lab.new ≡ lab.old }
+{
+    match find_races(alloc, lab, None) {
+        Ok(races) => Ok(races),
         Err(_) => Err(Memory),
     }
 }

@@ -3,6 +3,7 @@
 use crate::fakes::{Dripping, Narrow};
 use crate::same::{ends, holds, joined, same};
 use ga_console::Status;
+use ga_fixtures::RACING;
 use ga_grid::NodeId;
 use ga_picture::{View, draw_session};
 use std::alloc::Global;
@@ -41,6 +42,7 @@ fn view(rewind: u32) -> View {
         all: false,
         only: false,
         fold: 3,
+        races: false,
     }
 }
 
@@ -73,6 +75,28 @@ fn three_events(rt: HostRuntime) {
     holds(&rt, drawn.picture.as_slice().ends_with(PICTURE));
 }
 
+/// Node 101, on the second line, took the word of 100 and could have taken that of 102, which has no line.
+const RACE: &[u8] =
+    b"<g class='k'><title>pass 100 1 101 1 000005</title><path d='M70 52H190'/><path class='f' d='M190 52l-8 -4v8z'/><text class='m' x='130' y='48'>000005</text><text class='e' x='62' y='56'>1</text><text x='200' y='56'>1</text></g>
+<g class='c'><title>101 1 takes 000005 from 100, or 000007 from 102: rewind 101 1, step 102</title><circle cx='190' cy='52' r='7'/><text x='199' y='64'>or 000007</text></g>
+</svg>
+";
+
+#[test]
+fn a_race(rt: HostRuntime) -> std::result::Result<(), Fail> {
+    let input = joined(rt.alloc(), RACING.as_bytes(), b"step 100\n")?;
+    let view = View {
+        cause: None,
+        rewind: None,
+        races: true,
+        ..view(0)
+    };
+    let drawn = picture_of(rt.alloc(), input.as_slice(), view, 9);
+    ends(&rt, drawn.status, Status::Done);
+    holds(&rt, drawn.picture.as_slice().ends_with(RACE));
+    Ok(())
+}
+
 /// What is drawn of the events behind these commands, at most so many of which are kept.
 fn drawn_behind(
     rt: &impl Abort,
@@ -89,6 +113,7 @@ fn drawn_behind(
         all: false,
         only: false,
         fold: 3,
+        races: false,
     };
     let drawn = picture_of(alloc, input.as_slice(), view, limit);
     ends(rt, drawn.status, Status::Done);

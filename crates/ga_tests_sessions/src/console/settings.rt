@@ -35,9 +35,9 @@ fn refused(rt: HostRuntime) {
 
 static RACE: [&str; 6] = ["ga144", "race", "--workers", "2", "--calls", "4"];
 
-static PART: [&str; 15] = [
+static PART: [&str; 16] = [
     "ga144", "draw", "--to", "9", "--rewind", "717", "0", "--from=2", "--cause", "001", "10",
-    "--all", "--fold", "0", "--only",
+    "--all", "--fold", "0", "--only", "--races",
 ];
 
 #[test]
@@ -63,6 +63,7 @@ fn command_lines(rt: HostRuntime) {
         all: true,
         only: true,
         fold: 0,
+        races: true,
         file: None,
     };
     asks(&rt, rt.alloc(), &PART, Some(part));

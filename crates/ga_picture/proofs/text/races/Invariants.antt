@@ -1,0 +1,8 @@
+use Rattle.std.proofs.Common.{take, []}
+use Rattle.std.specs.Prelude.{string_bytes}
+use Rattle.ga_picture.specs.Svg.{race_classes}
+use Rattle.ga_picture.proofs.Grouped.{AreBehind}
+use Rattle.ga_picture.proofs.text.races.Given as goal
+
+abbrev pub invariant-marks : goal.invariant-marks
+invariant-marks l = AreBehind [] (race_classes (take l.mark-index l.marks)) (string_bytes l.text)

@@ -1,8 +1,0 @@
-use Rattle.std.proofs.Common.{take}
-use Rattle.std.specs.Prelude.{string_bytes}
-use Rattle.ga_picture.specs.Svg.{shapes_in}
-use Rattle.ga_picture.proofs.Grouped.{AreBehind}
-use Rattle.ga_picture.proofs.text.svg.Given as goal
-
-abbrev pub invariant-rows : goal.invariant-rows
-invariant-rows l = AreBehind (string_bytes l.initial.text) (shapes_in (take l.at l.drawing.rows.items)) (string_bytes l.text)
