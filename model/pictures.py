@@ -39,6 +39,8 @@ SHAPES = {
     "before": rf"<text class='e' x='{NUMBER}' y='{NUMBER}'>([^<]*)</text>",
 }
 GROUP = re.compile(r"<g class='([kgr])'><title>([^<]*)</title>(.*)</g>")
+# A step that could have come out otherwise: round it a ring, and beside that the other word.
+RACE = re.compile(rf"<g class='c'><title>([^<]*)</title><circle cx='{NUMBER}' cy='{NUMBER}' r='[\d.]+'/><text( class='e')? x='{NUMBER}' y='{NUMBER}'>([^<]*)</text></g>")
 NAMED = re.compile(rf"<text class='n' x='{NUMBER}' y='{NUMBER}'>(\d\d\d)</text><line class='l' x1='{NUMBER}' y1='{NUMBER}' x2='{NUMBER}' y2='{NUMBER}'/>")
 TRACK = re.compile(rf"<path class='([tw])' d='M{NUMBER} {NUMBER}V{NUMBER}'/>")
 # How near to its event, up or down, a text stands.
@@ -62,7 +64,7 @@ class Row:
     """An event that is drawn: its nodes, the text that is told of it, whether it looked, its colour, and how many are drawn with it."""
 
     def __init__(self, event, told, looked, colour):
-        self.event, self.words, self.looked, self.colour, self.many = event, told.split(" "), looked, colour, 1
+        self.event, self.words, self.looked, self.colour, self.many, self.races = event, told.split(" "), looked, colour, 1, []
 
     def kind(self):
         return self.words[2] if len(self.event) == 1 else "pass"
@@ -110,7 +112,16 @@ def seen_of(rows):
     lines = ["lines " + " ".join(map(name, lined))]
     for node in lined:
         lines += sorted(f"{how} {name(node)} {start} to {end}" for how, start, end in tracks_of(rows, node) if start != end)
-    return lines + [f"{place} {row.text(lined)}" for place, row in enumerate(rows)]
+    races = sorted(f"race at {place}: {it}" for place, row in enumerate(rows) for it in row.races)
+    return lines + [f"{place} {row.text(lined)}" for place, row in enumerate(rows)] + races
+
+
+def race_seen(told):
+    """What is seen of a line of `races`: on which line the ring is, and the other word on the side of the neighbour that it comes from."""
+    node = told[:3]
+    word, beside = re.search(r", or (\w{6}) (?:from|before|behind) (\d{3})", told).groups()
+    side = f"{'left' if beside < node else 'right'} {'next' if beside[0] == node[0] else 'behind'}"
+    return f"{node}, {side} 'or {word}', title '{told}'"
 
 
 # What is read back.
@@ -131,15 +142,17 @@ class Picture:
         head, style, body = re.fullmatch(r"(<svg [^>]*>)\n<style>\n(.*)</style>\n<rect [^>]*/>\n(.*)</svg>\n", text, re.S).groups()
         self.styled(style)
         self.width, self.height = map(float, re.fullmatch(rf"<svg .* viewBox='0 0 {NUMBER} {NUMBER}' .*>", head).groups())
-        self.names, self.tracks, self.groups = {}, [], []
+        self.names, self.tracks, self.groups, self.races = {}, [], [], []
         for line in body.splitlines():
-            named, track, group = NAMED.fullmatch(line), TRACK.fullmatch(line), GROUP.fullmatch(line)
+            named, track, group, race = (it.fullmatch(line) for it in (NAMED, TRACK, GROUP, RACE))
             if named:
                 self.line(*named.groups())
             elif track:
                 self.tracks.append([track[1], *map(float, track.groups()[1:])])
-            elif group:
+            elif group and not self.races:
                 self.groups.append((group[1], group[2], list(pieces_of(group[3]))))
+            elif race:
+                self.races.append((race[1], float(race[2]), float(race[3]), race[4], float(race[5]), float(race[6]), race[7]))
             else:
                 raise Unread(f"what is {line[:60]}")
         heights = [pieces[0][1][1] for _, _, pieces in self.groups[:2]]
@@ -151,7 +164,8 @@ class Picture:
         rules = dict(re.findall(r"^(.*)\{(.*)\}$", style, re.M))
         grey, red = (re.search("stroke:#([0-9a-f]+)", rules[f".{it} line,.{it} path,.{it} circle"])[1] for it in "gr")
         wide = [float(re.search("stroke-width:([0-9.]+)", rules[it])[1]) for it in ("line,path,circle", ".r line,.r path,.r circle")]
-        if not (grey[0] == grey[-1] > "5" and red[:2] > "c0" and red[4:] < "40" and wide[0] < wide[1] and "dasharray" in rules[".w"] and "dasharray" in rules[".d"]):
+        violet = re.search("stroke:#([0-9a-f]{6})", rules[".c circle"])[1]
+        if violet in (grey, red) or not (grey[0] == grey[-1] > "5" and red[:2] > "c0" and red[4:] < "40" and wide[0] < wide[1] and "dasharray" in rules[".w"] and "dasharray" in rules[".d"]):
             raise Unread("the classes of colours and lines")
 
     def line(self, x, y, node, start, top, end, bottom):
@@ -172,7 +186,13 @@ class Picture:
             mine = [(it, self.row(start), self.row(end)) for it, at, start, end in self.tracks if at == x]
             lines += sorted(f"{'solid' if it == 't' else 'dotted'} {node} {start} to {end}" for it, start, end in mine)
         lines += [f"a track at {it[1]}" for it in self.tracks if it[1] not in self.names]
-        return lines + [self.group(*it) for it in self.groups]
+        return lines + [self.group(*it) for it in self.groups] + sorted(self.race(*it) for it in self.races)
+
+    def race(self, title, x, y, ends, at, base, label):
+        apart = x - at if ends else at - x
+        if not (0 < apart < 75 and 0 < base - y < self.apart):
+            raise Unread(f"the place of '{label}'")
+        return f"race at {self.row(y)}: {self.names[x]}, {'left' if ends else 'right'} {'next' if apart < 20 else 'behind'} '{label}', title '{title}'"
 
     def group(self, colour, title, pieces):
         x, y = pieces[-1][1][:2] if pieces[-1][0] in MARKS.values() else pieces[0][1][:2]
@@ -233,10 +253,11 @@ def colours_of(machine, cause, rewind):
 
 class View:
     """What is to be drawn: the steps whose causes and effects are asked for, from which kept event on and up to which, which count from
-    1, whether idle nodes are drawn, whether nothing but what is asked for is, and how many events of a run are drawn as one; 0 for none."""
+    1, whether idle nodes are drawn, whether nothing but what is asked for is, how many events of a run are drawn as one, 0 for none, and
+    whether races are marked."""
 
     def __init__(self):
-        self.cause, self.rewind, self.start, self.end, self.all, self.only, self.fold = None, None, 1, None, False, False, USUAL_FOLD
+        self.cause, self.rewind, self.start, self.end, self.all, self.only, self.fold, self.races = None, None, 1, None, False, False, USUAL_FOLD, False
 
 
 def rows_of(machine, view):
@@ -248,13 +269,17 @@ def rows_of(machine, view):
     colours, idle = colours_of(machine, view.cause, view.rewind), Explorer.idle(machine)
     places = range(len(machine.events))[view.start - 1 : view.end]
     asked = ["red"] + ["black"] * bool(view.cause)
-    rows = []
+    rows, races = [], {}
+    for line in Explorer.races(machine, None).split("\n")[1:] if view.races else []:
+        if line[:3].isdecimal():
+            node, step, *_ = line.split(" ")
+            races.setdefault(machine.place(number_of(node), int(step)), []).append(race_seen(line))
     for at in places:
         row = Row(machine.events[at], machine.told[at], machine.looked[at], colours[at])
         silent = row.event[0] in idle and not view.all or bool(steps) and view.only
         row.out = silent and row.colour not in asked
         row.plain = row.kind() in ("fetch", "run") and not (row.looked or at in named or row.out)
-        row.sees = seen_by(machine, at)
+        row.sees, row.races = seen_by(machine, at), races.get(at, [])
         rows.append(row)
     return list(folded(rows, view.fold))
 
@@ -338,8 +363,8 @@ class Drawn:
         if self.draw.random() < 0.5:
             view.fold = self.draw.choice((0, 0, 1, 2, 4, 9))
             self.words += ["--fold", str(view.fold)]
-        for word in ("all", "only"):
-            if self.draw.random() < 0.3:
+        for word in ("all", "only", "races"):
+            if self.draw.random() < 0.3 and not (is_far and word == "races"):
                 setattr(view, word, True)
                 self.words.append(f"--{word}")
 
@@ -397,7 +422,7 @@ def compared(row):
     for word, given in options.items():
         if word in ("--cause", "--rewind"):
             setattr(view, word[2:], (number_of(given[0]), int(given[1])))
-        elif word in ("--all", "--only"):
+        elif word in ("--all", "--only", "--races"):
             setattr(view, word[2:], True)
         else:
             setattr(view, {"--from": "start", "--to": "end", "--fold": "fold"}[word], int(given[0]))

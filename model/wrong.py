@@ -372,6 +372,8 @@ WRONG = (
     (PICTURES, "last.update((node, None) for node in row.sees)", "last.update((node, None) for node in row.event)"),
     (PICTURES, "len(run) >= fold", "len(run) > fold"),
     (PICTURES, "int(step) + self.many - 1", "int(step) + self.many"),
+    (PICTURES, "races.get(at, [])", "races.get(at + 1, [])"),
+    (PICTURES, "if view.races else []:", "if not view.races else []:"),
     (PICTURES, 'self.text += "quit\\nrun 5\\n"', 'self.obey("quit")\n            self.obey("run 5")'),
 )
 
