@@ -1,5 +1,5 @@
 -- Rows put one behind another.
-use Rattle.std.proofs.Common.{⊎_elim, ◌≡◌, ℕ, zero, suc, ◌+◌, ◌<◌, ◌==◌, ◌&&◌, ◌||◌, Bool, true, false, List, [], ◌∷◌, ◌++◌, length, refl, sym, ap, ◌∙◌, subst, add-one, arith, true≢false}
+use Rattle.std.proofs.Common.{⊎_elim, ◌≡◌, ℕ, zero, suc, ◌+◌, ◌==◌, ◌&&◌, ◌||◌, Bool, true, false, List, [], ◌∷◌, ◌++◌, refl, sym, ap, ◌∙◌, subst, add-one, arith, true≢false}
 use Rattle.std.specs.Prelude.{not, if◌then◌else◌, map, nat_le}
 use Rattle.std.specs.List.{All}
 use Rattle.std.proofs.lemmas.Bool.{cases_Bool, both_ways}
@@ -9,7 +9,7 @@ use Rattle.ga_causal.specs.Dependence.{is_a_pass}
 use Rattle.ga_grid.specs.declared.node_id.NodeId.{NodeId}
 use Rattle.ga_picture.specs.declared.item.Item.{Item}
 use Rattle.ga_picture.specs.declared.placing.Row.{Row}
-use Rattle.ga_picture.specs.Runs.{at_place, IsSimple, before_at, behind_at, drawn_with, steps_at, has_row, rows_below, rows_in}
+use Rattle.ga_picture.specs.Runs.{at_place, IsSimple, before_at, behind_at, drawn_with, steps_at, has_row, rows_below}
 use Rattle.ga_picture.specs.Drawing.{IsRow}
 
 rows_none : (items : List Item) (fold : ℕ) → rows_below items fold zero ≡ []

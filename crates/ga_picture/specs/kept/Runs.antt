@@ -1,5 +1,5 @@
 -- Runs of the nodes, as they are kept while a list is gone through.
-use Rattle.std.specs.Prelude.{◌≡◌, ℕ, ◌<◌, ◌≤◌, if◌then◌else◌, List, length, slice_index, slice_index_or}
+use Rattle.std.specs.Prelude.{◌≡◌, ℕ, ◌≤◌, if◌then◌else◌, length, slice_index, slice_index_or}
 use Rattle.ga_picture.specs.declared.shade.Shade.{Shade}
 use Rattle.ga_picture.specs.declared.shade.Shade.TheVariants.{Black}
 use Rattle.ga_picture.specs.declared.runs.Runs.{Runs}

@@ -1,6 +1,5 @@
-use Rattle.std.proofs.Common.{◌≡◌, ℕ, ◌+◌, ◌-◌, ◌<◌, ◌≤◌, true, false, length, refl, sym, ap, ◌∙◌, subst, get_or, arith}
+use Rattle.std.proofs.Common.{◌≡◌, ◌+◌, ◌<◌, true, false, length, refl, sym, ap, ◌∙◌, subst, arith}
 use Rattle.std.proofs.lemmas.List.{get_or_default}
-use Rattle.ga_grid.specs.declared.node_id.NodeId.{NodeId}
 use Rattle.ga_causal.specs.Dependence.{cause_touches}
 use Rattle.ga_picture.specs.declared.item.Item.{Item}
 use Rattle.ga_picture.specs.declared.placing.Row.{Row}
@@ -9,7 +8,7 @@ use Rattle.ga_picture.specs.Items.{actor}
 use Rattle.ga_picture.specs.Runs.{at_place, no_item, IsSimple, run_before, before_at, behind_at, steps_at, rows_below}
 use Rattle.ga_picture.specs.kept.Runs.{count_in}
 use Rattle.ga_picture.proofs.Touching.{touched_below}
-use Rattle.ga_picture.proofs.Running.{AreBefore, before_first, before_more, behind_few, count_few}
+use Rattle.ga_picture.proofs.Running.{before_first, before_more, behind_few, count_few}
 use Rattle.ga_picture.proofs.Laid.{AreLaid, laid_none, laid_more, laid_same, steps_are, row_is, is_in, steps_shown}
 use Rattle.ga_picture.proofs.placing.layout.Goals.{then-has_row+in_ok-push, else-has_row}
 use Rattle.ga_picture.proofs.placing.layout.Goals as goal

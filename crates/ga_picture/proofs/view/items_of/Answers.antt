@@ -1,9 +1,7 @@
-use Rattle.std.proofs.Common.{◌≡◌, ◌<◌, ℕ, false, List, length, get_or, ap, ◌∙◌}
+use Rattle.std.proofs.Common.{false, get_or, ap, ◌∙◌}
 use Rattle.std.specs.Prelude.{min}
-use Rattle.std.specs.Result.{IfOk}
 use Rattle.std.proofs.lemmas.Result.{IfOk-weaker}
 use Rattle.ga_causal.specs.Dependence.{is_marked}
-use Rattle.ga_picture.specs.Items.{is_plain_at}
 use Rattle.ga_picture.proofs.Listed.{items_drawn}
 use Rattle.ga_picture.proofs.view.items_of.Goals as goal
 
