@@ -321,6 +321,7 @@ WRONG = (
     (EXPLORE, "load {part}{self.notes.tail(node, cell_of(part))}", "load {part}"),
     (EXPLORE, "self.steps[node] == 1 and vars", "vars"),
     (EXPLORE, "busy = [name(node) for node in stuck if node not in idle]", "busy = [name(node) for node in stuck]"),
+    (EXPLORE, 'step = self.steps[node] if words[2] == "last"', 'step = self.steps[node] - 1 if words[2] == "last"'),
     # what decided
     (EXPLORE, "for number in range(1, step):", "for number in range(1, step + 1):"),
     (EXPLORE, 'taken and before.wait[0] == "fetch"}', 'taken and before.wait[0] == "read"}'),
@@ -339,6 +340,7 @@ WRONG = (
     (NOTES, "if place == max(before)[0]][-1:]", "if place == min(before)[0]][-1:]"),
     (NOTES, "[line for line, _ in cell.literals]", "[cell.slots[0][0] for _ in cell.literals]"),
     (NOTES, "                    address = advanced(address)\n", ""),
+    (NOTES, "self.begins.setdefault((node, cell.slots[0][0]), address)", "self.begins[node, cell.slots[0][0]] = address"),
     (NOTES, "return dict(self.labels.get(node, [])).get(name)", "return {it: at % 0x200 + 1 for it, at in self.labels.get(node, [])}.get(name)"),
     # what a picture shows
     (PICTURES, '"fetch": "ring"', '"fetch": "dot"'),
