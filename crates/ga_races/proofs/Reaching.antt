@@ -1,5 +1,5 @@
 -- What one pass over a list finds of what happens after one of its actions.
-use Rattle.std.proofs.Common.{◌≡◌, ℕ, ◌+◌, ◌<◌, ◌≤◌, ◌==◌, ◌⊎◌, Bool, true, false, ◌&&◌, ◌||◌, inl, inr, List, length, Option, Some, None, refl, sym, ◌∙◌, ap, subst, arith, eq-eqb, ap₂, get_or}
+use Rattle.std.proofs.Common.{◌≡◌, ℕ, ◌+◌, ◌<◌, ◌==◌, ◌⊎◌, Bool, true, false, ◌&&◌, ◌||◌, inl, inr, List, length, Option, Some, None, refl, sym, ◌∙◌, ap, subst, arith, eq-eqb, ap₂, get_or}
 use Rattle.std.specs.List.{list_any}
 use Rattle.std.proofs.lemmas.List.{get_or-map, length-map}
 use Rattle.std.proofs.lemmas.Bool.{cases_lt, both_ways, or_cases, or_left, or_right, and_parts, eqb-true}

@@ -8,7 +8,6 @@ use Rattle.ga_causal.specs.Dependence.{cause_nodes}
 use Rattle.ga_races.specs.declared.act.Act.{Act}
 use Rattle.ga_races.specs.declared.act.Sides.{Sides}
 use Rattle.ga_races.specs.HappensBefore.{Action, action_at, are_bound, HappensBefore}
-use Rattle.ga_races.specs.Acts.{action_in}
 use Rattle.ga_races.specs.kept.Marked.{shows_marked}
 
 -- the action touches the node; it looks in it
