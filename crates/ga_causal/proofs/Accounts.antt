@@ -8,7 +8,8 @@ use Rattle.ga_event.specs.Touches.{meets}
 use Rattle.ga_event.specs.Apply.{Told, run}
 use Rattle.ga_node.specs.Record.{NodeRecord}
 use Rattle.ga_event.proofs.Locality.{meets-touched}
-use Rattle.ga_causal.specs.Dependence.{cause_nodes, events_in, cause_touches, marked, dependents_after, dependents, without, rest, place_of, rest_from, rewound_list}
+use Rattle.ga_causal.specs.Dependence.{cause_nodes, cause_touches, marked, dependents_after, dependents, without, rest, place_of, rest_from, rewound_list}
+use Rattle.ga_event.specs.Told.{events_in}
 use Rattle.ga_causal.specs.Equivalence.{recorded, account, account_told}
 use Rattle.ga_causal.specs.Steps.{counted, numbered_seen}
 use Rattle.ga_causal.proofs.Exact.{any-mono}
@@ -32,7 +33,7 @@ marked-stays marks e m h = go (meets marks e)
 pub marked-touched : (marks : ℕ → Bool) (e : Cause) (m : ℕ) → meets marks e ≡ true → cause_touches e m ≡ true → marked marks e m ≡ true
 marked-touched marks e m t h = subst (λ b. cond b (λ n. marks n || cause_touches e n) marks m ≡ true) (sym t) (or_right (marks m) (cause_touches e m) h)
 
-touched-marked : (marks : ℕ → Bool) (e : Cause) (m : ℕ) → marks m ≡ true → cause_touches e m ≡ true → meets marks e ≡ true
+pub touched-marked : (marks : ℕ → Bool) (e : Cause) (m : ℕ) → marks m ≡ true → cause_touches e m ≡ true → meets marks e ≡ true
 touched-marked marks e m h t = meets-touched marks e (any-mono (λ k. k == m) marks (λ k q. subst (λ z. marks z ≡ true) (sym (eqb-true k m q)) h) (cause_nodes e) t)
 
 -- the things that are left of one and more, by whether it is dropped

@@ -6,7 +6,8 @@ use Rattle.std.proofs.lemmas.Option.{same_Some}
 use Rattle.std.proofs.lemmas.List.Sorted.{IsPermutation-refl, IsPermutation-sym, IsPermutation-trans, IsPermutation-cons, IsPermutation-append_left, IsPermutation-to_front, Contains-permutation}
 use Rattle.ga_event.specs.declared.event.Event.{Event}
 use Rattle.ga_event.specs.declared.event.Cause.{Cause}
-use Rattle.ga_causal.specs.Dependence.{events_in, cause_touches, without}
+use Rattle.ga_causal.specs.Dependence.{cause_touches, without}
+use Rattle.ga_event.specs.Told.{events_in}
 use Rattle.ga_event.specs.Apply.{Told, apply, cause_of, run}
 use Rattle.ga_node.specs.Record.{NodeRecord}
 use Rattle.ga_event.proofs.Locality.{Agree-sym, cause_alike}

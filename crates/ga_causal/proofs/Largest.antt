@@ -15,7 +15,7 @@ pub record Lacks (marks : ℕ → Bool) (s z : ℕ → ℕ) : Type 0 where
   pub most : (n : ℕ) → s n ≤ z n
   pub less : (n : ℕ) → marks n ≡ true → s n < z n
 
-counted-least : (z : ℕ → ℕ) (e : Cause) (n : ℕ) → z n ≤ counted z e n
+pub counted-least : (z : ℕ → ℕ) (e : Cause) (n : ℕ) → z n ≤ counted z e n
 counted-least z e n = ⊎_elim (λ t. rw t (omega arith)) (λ f. rw f (omega arith)) (cases_Bool (cause_touches e n))
 
 counted-more : (z : ℕ → ℕ) (e : Cause) (n : ℕ) → cause_touches e n ≡ true → z n < counted z e n

@@ -10,7 +10,7 @@ use Rattle.ga_node.specs.Record.{NodeRecord}
 use Rattle.ga_causal.specs.declared.chain.Link.{Link}
 use Rattle.ga_causal.specs.Dependence.{cause_touches, rule_of, event_at, rule_between}
 use Rattle.ga_causal.specs.Chains.{IsNext, IsLinked, IsChain}
-use Rattle.ga_causal.specs.Steps.{named, no_entry, counted}
+use Rattle.ga_causal.specs.Steps.{links_by_events, no_entry, counted}
 use Rattle.ga_causal.specs.Equivalence.{AreApart, AreEquivalent}
 use Rattle.ga_causal.proofs.Exact.{rule_meets}
 use Rattle.ga_causal.proofs.Runs.{causes}
@@ -123,14 +123,14 @@ linked_moved : (s : ℕ → ℕ) (xs ys : List Cause) (m : Moved s xs ys) (befor
 linked_moved s xs ys m before [] h = tt
 linked_moved s xs ys m before (link ∷ links) h = (next_moved s xs ys m before link h.0, linked_moved s xs ys m link.place links h.1)
 
-linked_named : (xs ys : List Cause) (m : Moved (λ n. 0) xs ys) (before : ℕ) (links : List Link) → IsLinked xs before links → named xs links ≡ named ys (there m.to links)
+linked_named : (xs ys : List Cause) (m : Moved (λ n. 0) xs ys) (before : ℕ) (links : List Link) → IsLinked xs before links → links_by_events xs links ≡ links_by_events ys (there m.to links)
 linked_named xs ys m before [] h = refl
 linked_named xs ys m before (link ∷ links) h =
     ap₂ (λ (a : Cause × List ℕ) (b : List ((Cause × List ℕ) × ℕ)). (a, link.rule) ∷ b) (m.alike link.place h.0.0.within) (linked_named xs ys m link.place links h.1)
 
 -- a chain of the one list is one of the other, of the same steps
 abbrev pub Again : List Cause → List Cause → List Link → Type 0
-Again xs ys links = (chain : List Link) × IsChain ys chain × (named xs links ≡ named ys chain)
+Again xs ys links = (chain : List Link) × IsChain ys chain × (links_by_events xs links ≡ links_by_events ys chain)
 
 pub chain_again : (xs ys : List Cause) (links : List Link) → Shuffled xs ys → IsChain xs links → Again xs ys links
 chain_again xs ys [] h c = absurd c

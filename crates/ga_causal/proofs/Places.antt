@@ -9,7 +9,8 @@ use Rattle.std.proofs.lemmas.List.Sums.{sum_by-cons}
 use Rattle.ga_event.specs.declared.event.Event.{Event}
 use Rattle.ga_event.specs.declared.event.Cause.{Cause}
 use Rattle.ga_event.specs.Touches.{touches as event_touches}
-use Rattle.ga_causal.specs.Dependence.{events_in, cause_touches, event_at, place_of}
+use Rattle.ga_causal.specs.Dependence.{cause_touches, event_at, place_of}
+use Rattle.ga_event.specs.Told.{events_in}
 use Rattle.ga_causal.specs.Steps.{touching, IsStep}
 use Rattle.ga_causal.proofs.Refusals.{place-first, place-touched, place-other, some-shift, shifted_of}
 

@@ -1,15 +1,15 @@
 -- Whether a step still stands after a rollback.
 use Rattle.std.proofs.Common.{◌≡◌, ℕ, zero, suc, ◌<◌, ◌↔◌, Bool, true, false, not, ◌||◌, ◌==◌, cond, List, [], ◌∷◌, length, Option, Some, None, refl, sym, ◌∙◌, ap, subst, ⊎_elim, arith, is_some, IsNone, slice_index_or}
 use Rattle.std.specs.Prelude.{option_map}
-use Rattle.std.proofs.lemmas.Bool.{or_left, or_right, cases_Bool, both_ways, cond-true, cond-false, ne_eqb, eqb-true, not-false, false_from_ne_true}
+use Rattle.std.proofs.lemmas.Bool.{or_left, cases_Bool, both_ways, cond-true, cond-false, ne_eqb, not-false, false_from_ne_true}
 use Rattle.std.proofs.lemmas.Option.{same_Some}
 use Rattle.ga_event.specs.declared.event.Cause.{Cause}
-use Rattle.ga_causal.specs.Dependence.{cause_nodes, cause_touches, marked, event_at, dependents_after, dependents, rest, DependsOn, place_of}
+use Rattle.ga_causal.specs.Dependence.{cause_touches, marked, event_at, dependents_after, dependents, rest, DependsOn, place_of}
 use Rattle.ga_event.specs.Touches.{meets}
-use Rattle.ga_event.proofs.Locality.{meets-touched}
-use Rattle.ga_causal.proofs.Exact.{any-mono, flag_marked, DependsOn_from_flag, flag_from_DependsOn}
+use Rattle.ga_causal.proofs.Exact.{flag_marked, DependsOn_from_flag, flag_from_DependsOn}
 use Rattle.ga_causal.proofs.Runs.{kept}
 use Rattle.ga_causal.proofs.Rollbacks.{kept-dropped, kept-kept}
+use Rattle.ga_causal.proofs.Accounts.{touched-marked as touch_meets, marked-touched as marked-stays}
 
 -- the place of a step by cases
 pub place-first : (e : Cause) (es : List Cause) (n : ℕ) → cause_touches e n ≡ true → place_of (e ∷ es) n 1 ≡ Some 0
@@ -56,9 +56,6 @@ touching (e ∷ es) n (suc (suc i)) q h = ⊎_elim
     let r = touching es n (suc (suc i)) s.place s.is in
     subst (λ w. (w < suc (length es)) × (cause_touches (event_at (e ∷ es) w) n ≡ true)) (sym s.shift) (omega (arith, r.0), r.1))
     (cases_Bool (cause_touches e n))
-
-touch_meets : (marks : ℕ → Bool) (e : Cause) (n : ℕ) → marks n ≡ true → cause_touches e n ≡ true → meets marks e ≡ true
-touch_meets marks e n m t = meets-touched marks e (any-mono (λ k. k == n) marks (λ k q. subst (λ z. marks z ≡ true) (sym (eqb-true k n q)) m) (cause_nodes e) t)
 
 -- no step of a marked node stays
 none_kept : (marks : ℕ → Bool) (es : List Cause) (n k : ℕ) → marks n ≡ true → place_of (kept marks es) n k ≡ None
@@ -118,9 +115,6 @@ joined marks e n = marks n || cause_touches e n
 
 flag_of : (marks : ℕ → Bool) (es : List Cause) (n k q : ℕ) → marks n ≡ true → place_of es n k ≡ Some q → slice_index_or (dependents_after marks es) q false ≡ true
 flag_of marks es n k q m h = let r = touching es n k q h in flag_marked marks es q r.0 (touch_meets marks (event_at es q) n m r.1)
-
-marked-stays : (marks : ℕ → Bool) (e : Cause) (n : ℕ) → meets marks e ≡ true → cause_touches e n ≡ true → marked marks e n ≡ true
-marked-stays marks e n m t = rw m (or_right (marks n) (cause_touches e n) t)
 
 after_drop : (marks : ℕ → Bool) (e : Cause) (es : List Cause) → meets marks e ≡ true → kept marks (e ∷ es) ≡ kept (marked marks e) es
 after_drop marks e es m = kept-dropped marks e es m ∙ ap (λ z. kept z es) (sym (cond-true (meets marks e) (λ n. marks n || cause_touches e n) marks m))

@@ -45,7 +45,7 @@ or-join : (x y z : Bool) → ((x || y) || z) ≡ (x || (y || z))
 or-join true y z = refl
 or-join false y z = refl
 
-counted-other : (c : ℕ → ℕ) (e : Cause) (n : ℕ) → cause_touches e n ≡ false → counted c e n ≡ c n
+pub counted-other : (c : ℕ → ℕ) (e : Cause) (n : ℕ) → cause_touches e n ≡ false → counted c e n ≡ c n
 counted-other c e n f = cond-false (cause_touches e n) (c n + 1) (c n) f
 
 -- a drop is a drop of the one walk too

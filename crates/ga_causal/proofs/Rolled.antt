@@ -9,7 +9,8 @@ use Rattle.ga_event.specs.declared.event.Cause.{Cause}
 use Rattle.ga_event.specs.Touches.{meets}
 use Rattle.ga_event.specs.Apply.{Told, run}
 use Rattle.ga_node.specs.Record.{NodeRecord}
-use Rattle.ga_causal.specs.Dependence.{cause_nodes, events_in, cause_touches, dependents, rest, place_of, rest_from, rewound_list, rewound_all}
+use Rattle.ga_causal.specs.Dependence.{cause_nodes, cause_touches, dependents, rest, place_of, rest_from, rewound_list, rewound_all}
+use Rattle.ga_event.specs.Told.{events_in}
 use Rattle.ga_causal.specs.Equivalence.{AreApart, AreEquivalent}
 use Rattle.ga_causal.specs.Steps.{counted, touching}
 use Rattle.ga_event.proofs.Locality.{touched_free}

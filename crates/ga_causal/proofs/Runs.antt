@@ -5,7 +5,8 @@ use Rattle.std.proofs.lemmas.Bool.{or_parts, cases_Bool}
 use Rattle.std.proofs.lemmas.Option.{same_Some}
 use Rattle.ga_event.specs.declared.event.Event.{Event}
 use Rattle.ga_event.specs.declared.event.Cause.{Cause}
-use Rattle.ga_causal.specs.Dependence.{events_in, cause_touches, dependents_after, dependents, without, rest}
+use Rattle.ga_causal.specs.Dependence.{cause_touches, dependents_after, dependents, without, rest}
+use Rattle.ga_event.specs.Told.{events_in}
 use Rattle.ga_event.specs.Touches.{meets}
 use Rattle.ga_event.specs.Apply.{Told, apply, cause_of, run}
 use Rattle.ga_node.specs.Record.{NodeRecord}

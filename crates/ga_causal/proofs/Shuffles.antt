@@ -2,7 +2,7 @@
 use Rattle.std.proofs.Common.{◌≡◌, ℕ, ◌+◌, ◌<◌, ◌≤◌, ◌⊎◌, Bool, true, false, ◌||◌, ◌==◌, cond, List, [], ◌∷◌, map, refl, sym, ◌∙◌, ap, subst, inl, inr, ⊎_elim, arith, eqb-true, eq-eqb}
 use mathlib.Core.Path.{fun_ext}
 use Rattle.std.specs.List.{list_any}
-use Rattle.std.proofs.lemmas.Bool.{cases_Bool, both_ways, cond-true, cond-false, or_cases, or_left, false_from_ne_true}
+use Rattle.std.proofs.lemmas.Bool.{both_ways, cond-true, or_cases, or_left, false_from_ne_true}
 use Rattle.ga_event.specs.declared.event.Event.{Event}
 use Rattle.ga_event.specs.declared.event.Event.TheVariants.{Own, Pass}
 use Rattle.ga_event.specs.declared.event.Cause.{Cause}
@@ -13,6 +13,8 @@ use Rattle.ga_causal.specs.Equivalence.{sees, AreApart}
 use Rattle.ga_causal.specs.Steps.{counted, numbered_by}
 use Rattle.ga_causal.proofs.Swaps.{apart_meets}
 use Rattle.ga_causal.proofs.Counts.{numbers_alike, AgreeOn-first}
+use Rattle.ga_causal.proofs.Largest.{counted-least}
+use Rattle.ga_causal.proofs.Rollbacks.{counted-other}
 
 -- one list is made from the other by swaps of neighbours that are apart
 pub data Shuffled : List Cause → List Cause → Type 0 where
@@ -82,9 +84,6 @@ pub record IsLate (s : ℕ → ℕ) (x : Cause × List ℕ) : Type 0 where
   pub most : (n : ℕ) → s n ≤ when n
   pub is : numbers when x.0 ≡ x.1
 
-counted-least : (s : ℕ → ℕ) (e : Cause) (n : ℕ) → s n ≤ counted s e n
-counted-least s e n = ⊎_elim (λ t. rw t (omega arith)) (λ f. rw f (omega arith)) (cases_Bool (cause_touches e n))
-
 late_of : (s : ℕ → ℕ) (x : Cause × List ℕ) (es : List Cause) → In x (entries s es) → IsLate s x
 late_of s x [] i = absurd i
 late_of s x (e ∷ es) (inl q) = subst (IsLate s) q (record { when = s; most = λ n. omega arith; is = refl })
@@ -137,9 +136,6 @@ not_beyond k s b =
     let t : Touched k.event = touched_of k.event in
     let l : s t.node < s t.node = b t.node t.is (sees_touched k t.node t.is) s refl in
     omega arith
-
-counted-other : (s : ℕ → ℕ) (e : Cause) (n : ℕ) → cause_touches e n ≡ false → counted s e n ≡ s n
-counted-other s e n f = cond-false (cause_touches e n) (s n + 1) (s n) f
 
 -- an event that comes later touches nothing that k sees, where k has its numbers already now
 first_apart : (k f : Cause) (s : ℕ → ℕ) → IsLate (counted s f) (k, numbers s k) → (n : ℕ) → cause_touches f n ≡ true → sees k n ≡ true → ⊥

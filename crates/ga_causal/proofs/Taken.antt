@@ -7,7 +7,8 @@ use Rattle.ga_event.specs.declared.event.Cause.{Cause}
 use Rattle.ga_event.specs.Touches.{seen_by, meets}
 use Rattle.ga_event.specs.Apply.{Told, run}
 use Rattle.ga_node.specs.Record.{NodeRecord}
-use Rattle.ga_causal.specs.Dependence.{events_in, cause_touches, marked, dependents_after, dependents, without, rest, NoneLooks}
+use Rattle.ga_causal.specs.Dependence.{cause_touches, marked, dependents_after, dependents, without, rest, NoneLooks}
+use Rattle.ga_event.specs.Told.{events_in}
 use Rattle.ga_causal.specs.Equivalence.{sees, AreApart, AreEquivalent}
 use Rattle.ga_causal.proofs.Exact.{any-mono}
 use Rattle.ga_causal.proofs.Runs.{causes}

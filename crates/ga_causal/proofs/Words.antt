@@ -18,7 +18,7 @@ use Rattle.ga_node.specs.declared.kind.NotReady.{NotReady}
 use Rattle.ga_node.specs.Io.{io_word}
 use Rattle.ga_node.specs.Record.{NodeRecord, record_of}
 use Rattle.ga_node.specs.Changes.{after_changes as changed_by}
-use Rattle.ga_node.specs.Table.{Access, Plain, Reads, Writes, named, found, followed, carried_out, does, fetches, due_of, done_by, own_event, own, looks, t, sent, taken}
+use Rattle.ga_node.specs.Table.{Access, Plain, Reads, Writes, with_kind, found, followed, carried_out, does, fetches, due_of, done_by, own_event, own, looks, t, sent, taken}
 use Rattle.ga_node.proofs.Looks.{own_blind}
 use Rattle.ga_grid.specs.Chip.{nowhere, record_at}
 use Rattle.ga_grid.specs.declared.node_id.NodeId.{NodeId}
@@ -46,8 +46,8 @@ access_same reader (Reads address more) seen other n h = ap (λ found. followed 
 access_same reader (Writes address more) seen other n h = refl
 
 done_same : (due : Due) (seen other : Seen) (n : NodeRecord) → io_word seen ≡ io_word other → done_by due seen n ≡ done_by due other n
-done_same due.Fetch seen other n h = ap (named kind.Fetch) (access_same Instruction (fetches n) seen other n h)
-done_same (due.Run op) seen other n h = ap (named _) (access_same Stack (does op n) seen other n h)
+done_same due.Fetch seen other n h = ap (with_kind kind.Fetch) (access_same Instruction (fetches n) seen other n h)
+done_same (due.Run op) seen other n h = ap (with_kind _) (access_same Stack (does op n) seen other n h)
 
 own_same : (seen other : Seen) (n : NodeRecord) → io_word seen ≡ io_word other → own seen n ≡ own other n
 unfolding own own_event

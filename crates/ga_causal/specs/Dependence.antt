@@ -13,11 +13,7 @@ abbrev pub is_a_pass : Event → Bool
 is_a_pass (Own n) = false
 is_a_pass (Pass writer reader side) = true
 
--- the events alone
-abbrev pub events_in : List Cause → List Event
-events_in causes = map (λ (cause : Cause). cause.event) causes
-
--- the nodes that the event cause_touches, whether it looks or not
+-- the nodes that the event touches, whether it looks or not
 abbrev pub cause_nodes : Cause → List ℕ
 cause_nodes cause = Touches.nodes_of cause.event
 
@@ -26,7 +22,7 @@ cause_touches cause n = Touches.touches cause.event n
 
 -- the rule by which a later event depends directly on an earlier one, or 0 where it does not: rule 1 for two events of one
 -- node alone, rule 2 where at least one is a pass and they touch a common node, else rule 3 for a look at a node that the
--- earlier cause_touches
+-- earlier touches
 abbrev pub rule_of : Cause → Cause → ℕ
 rule_of earlier later =
     if list_any (cause_touches earlier) (cause_nodes later)
@@ -95,7 +91,7 @@ pub record IsRest (events : List Cause) (place : ℕ) (left : List Cause) : Type
   pub exact : (j : ℕ) → j < length events → (IsTrue (slice_index_or gone j false) ↔ DependsOn events place j)
   pub kept : left ≡ without gone events
 
--- the place of the k-th event that cause_touches the node, counted from 1; none where there is none
+-- the place of the k-th event that touches the node, counted from 1; none where there is none
 abbrev pub place_of : List Cause → ℕ → ℕ → Option ℕ
 place_of [] n k = None
 place_of (e ∷ es) n zero = None

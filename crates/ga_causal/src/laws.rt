@@ -9,8 +9,9 @@ ghost use Rattle.ga_event.specs.Touches.{touches};
 ghost use Rattle.ga_event.specs.Apply.{Told, replay, run, cause_of};
 ghost use Rattle.ga_causal.specs.declared.chain.Link.{Link};
 ghost use Rattle.ga_causal.specs.Chains.{IsChain, IsChainTo, IsFound, chain_of};
-ghost use Rattle.ga_causal.specs.Steps.{named, numbered, numbered_seen, touching, IsStep};
-ghost use Rattle.ga_causal.specs.Dependence.{events_in, dependents, rest, without, DependsOn, NoneLooks, place_of, rewound_list, rewound_all};
+ghost use Rattle.ga_causal.specs.Steps.{links_by_events, numbered, numbered_seen, touching, IsStep};
+ghost use Rattle.ga_causal.specs.Dependence.{dependents, rest, without, DependsOn, NoneLooks, place_of, rewound_list, rewound_all};
+ghost use Rattle.ga_event.specs.Told.{events_in};
 ghost use Rattle.ga_causal.specs.Equivalence.{AreApart, AreEquivalent, recorded, account, account_told};
 ghost use Rattle.ga_causal.specs.Words.{account_read};
 
@@ -172,7 +173,7 @@ pub fn equivalent_chains()
         run chip events ≡ Some (last, steps) → run chip others ≡ Some (now, made) → AreEquivalent chip events others →
         let causes = map (λ (s : Cause × Told). s.0) in
         IsChain (causes steps) links →
-        (chain : List Link) × IsChain (causes made) chain × (named (causes steps) links ≡ named (causes made) chain) }
+        (chain : List Link) × IsChain (causes made) chain × (links_by_events (causes steps) links ≡ links_by_events (causes made) chain) }
 {}
 
 /// There is one chain from a place to another, it is a chain, and `chain_of` tells whether there is one, and which.

@@ -4,8 +4,8 @@ use Rattle.std.proofs.lemmas.List.{take_all}
 use Rattle.std.proofs.lemmas.List.Elements.{All-from_recursion}
 use Rattle.ga_grid.specs.Grid.{yxx_of}
 use Rattle.ga_grid.specs.declared.node_id.NodeId.{NodeId}
-use Rattle.ga_console.specs.Texts.{name_of}
-use Rattle.ga_console.specs.Lines.{HasNoFeed, is_feed}
+use Rattle.ga_console.specs.Texts.{name_of_node}
+use Rattle.ga_console.specs.Lines.{HasNoFeed, ends_line}
 use Rattle.ga_console.specs.Commands.{SpellsCommand}
 use Rattle.ga_console.specs.kept.Ahead.{IsAhead, IsLineAhead}
 use Rattle.ga_console.specs.declared.command.Command.{Command}
@@ -28,17 +28,17 @@ nine (a ∷ b ∷ c ∷ d ∷ e ∷ f ∷ g ∷ i ∷ []) h = absurd (omega arit
 nine (a ∷ b ∷ c ∷ d ∷ e ∷ f ∷ g ∷ i ∷ j ∷ text) h = refl
 
 step_line : NodeId → List ℕ
-step_line node = 115 ∷ 116 ∷ 101 ∷ 112 ∷ 32 ∷ name_of node
+step_line node = 115 ∷ 116 ∷ 101 ∷ 112 ∷ 32 ∷ name_of_node node
 
 -- no byte of it is a line feed
 step_feeds : (node : NodeId) → HasNoFeed (step_line node)
 unfolding step_line
-step_feeds node = All-from_recursion (λ b. is_feed b ≡ false) (step_line node)
+step_feeds node = All-from_recursion (λ b. ends_line b ≡ false) (step_line node)
     (refl, (refl, (refl, (refl, (refl, (not_feed _ (omega arith), (not_feed _ (omega arith), (not_feed _ (omega arith), tt))))))))
 
 pub step_front : (text : List ℕ) (node : NodeId) → 9 ≤ length text
     → (get_or text 0 0 ≡ 115) → (get_or text 1 0 ≡ 116) → (get_or text 2 0 ≡ 101) → (get_or text 3 0 ≡ 112) → (get_or text 4 0 ≡ 32)
-    → (name_of node ++ 10 ∷ []) ≡ (get_or text 5 0 ∷ get_or text 6 0 ∷ get_or text 7 0 ∷ get_or text 8 0 ∷ []) → IsAhead text (Step node) 8
+    → (name_of_node node ++ 10 ∷ []) ≡ (get_or text 5 0 ∷ get_or text 6 0 ∷ get_or text 7 0 ∷ get_or text 8 0 ∷ []) → IsAhead text (Step node) 8
 unfolding step_line
 step_front text node long b0 b1 b2 b3 b4 name = record {
   line = step_line node;
@@ -68,9 +68,9 @@ guess_is_node guess four word none sums = elim (eq-zero-or-pos (144 - guess)) [
 ]
 
 -- a name and a space are the same number as these bytes and what a space has more than a line feed
-pub name_same : (node : NodeId) (four : List ℕ) (row tens ones feed : ℕ) → four ≡ name_of node ++ 32 ∷ [] → row < 256 → tens < 256 → ones < 256 → feed < 256
+pub name_same : (node : NodeId) (four : List ℕ) (row tens ones feed : ℕ) → four ≡ name_of_node node ++ 32 ∷ [] → row < 256 → tens < 256 → ones < 256 → feed < 256
     → get_or four 0 0 + 256 * get_or four 1 0 + 65536 * get_or four 2 0 + 16777216 * get_or four 3 0 ≡ row + 256 * tens + 65536 * ones + 16777216 * feed + 369098752
-    → (name_of node ++ 10 ∷ []) ≡ (row ∷ tens ∷ ones ∷ feed ∷ [])
+    → (name_of_node node ++ 10 ∷ []) ≡ (row ∷ tens ∷ ones ∷ feed ∷ [])
 name_same node four row tens ones feed e kr kt ko kf sums =
     let small : node.number < 144 = node.in_range in
     let n = yxx_of node.number in

@@ -5,11 +5,11 @@ use Rattle.std.proofs.lemmas.List.{append-nil}
 use Rattle.std.proofs.lemmas.Bool.{cases_Bool, eqb-true}
 use Rattle.ga_ports.specs.Address.{advanced}
 use Rattle.ga_node.specs.Record.{NodeState}
-use Rattle.ga_source.specs.declared.item.Value.TheVariants.{Number}
+use Rattle.ga_source.specs.declared.item.Operand.TheVariants.{Number}
 use Rattle.ga_source.specs.declared.item.Item.TheVariants.{Cell}
 use Rattle.ga_source.specs.declared.item.Request.{Request}
 use Rattle.ga_source.specs.declared.item.Request.TheVariants.{Put}
-use Rattle.ga_source.specs.Sound.{cells_from, IsMemoryAddress, cell_of, AreFree}
+use Rattle.ga_source.specs.Sound.{cells_from, IsMemoryAddress, cell_of, AreDistinctCells}
 use Rattle.ga_console.specs.kept.Disassembling.{next_of, next_behind, IsFit}
 use Rattle.ga_console.proofs.PlainWords.{address_requests, cell_requests, cells_requests, node_requests, IsCellAddress, IsWithin, first_within, rest_within}
 use Rattle.ga_console.proofs.PlainCells.{counts_up}
@@ -46,7 +46,7 @@ in_memory : (address : ℕ) → IsCellAddress address → IsMemoryAddress addres
 in_memory address (inl ram) = inl (omega (arith, ram))
 in_memory address (inr rom) = inr (omega (arith, rom.0, rom.1), omega (arith, rom.0, rom.1))
 
-free : (cells : List (ℕ × ℕ)) → Ascend 0 cells → AreFree cells
+free : (cells : List (ℕ × ℕ)) → Ascend 0 cells → AreDistinctCells cells
 free cells up = record {
   memory = λ k within. in_memory (cell_of cells k).0 (cell_up 0 cells k up within).1;
   apart = λ j k less within same.
@@ -98,7 +98,7 @@ none_up : (least at : ℕ) → Ascend least (cells_from at [])
 unfolding Ascend cells_from
 none_up least at = tt
 
-pub node_free : (node : NodeState) → IsFit node → AreFree (cells_from 0 (node_requests node))
+pub node_free : (node : NodeState) → IsFit node → AreDistinctCells (cells_from 0 (node_requests node))
 node_free node fit =
     let ram = fit.memories.ram in
     let rom = fit.memories.rom in

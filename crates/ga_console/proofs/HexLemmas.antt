@@ -9,7 +9,7 @@ use Rattle.std.proofs.lemmas.Bool.{and_parts, and_from, lt-ltb, cond-true, eqb-t
 use Rattle.hex.specs.Hex.{lower_digits}
 use Rattle.ga_word.specs.Word.{hex_digit}
 use Rattle.ga_ports.specs.Letters.{set_number}
-use Rattle.ga_source.specs.Numbers.{is_numeral, digits_in, set_in, number_in}
+use Rattle.ga_source.specs.Numbers.{is_numeral, digits_in, set_in, number_by_word}
 use Rattle.ga_source.specs.Plain.{by_number}
 use Rattle.ga_console.specs.kept.Disassembling.{hex_of, number_word}
 
@@ -96,5 +96,5 @@ digits_read k n below =
     ∙ ap Some (ap (λ (m : ℕ). digits_value_after 16 m (hex_of (suc k) n)) (sym below) ∙ digits_back (suc k) n)
 
 -- a number is read as it is written
-pub number_read : {X : Type 0} (k n : ℕ) (asks : ℕ → Option X) → n / 16 ^ suc k ≡ 0 → n < 262144 → by_number (number_in (number_word (suc k) n)) asks ≡ asks n
+pub number_read : {X : Type 0} (k n : ℕ) (asks : ℕ → Option X) → n / 16 ^ suc k ≡ 0 → n < 262144 → by_number (number_by_word (number_word (suc k) n)) asks ≡ asks n
 number_read k n asks below small = rw (none_in (120 ∷ hex_of (suc k) n), digits_read k n below, lt-ltb n 262144 small) refl

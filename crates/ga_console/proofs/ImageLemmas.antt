@@ -4,7 +4,7 @@ use Rattle.std.specs.List.{AllByRecursion}
 use Rattle.std.proofs.lemmas.List.{append-nil, take_all, length-drop}
 use Rattle.std.proofs.lemmas.List.Elements.{All-append, All-nil}
 use Rattle.std.proofs.lemmas.Grind.{flat_map-append}
-use Rattle.ga_console.specs.Lines.{HasNoFeed, is_feed, ended, text_of}
+use Rattle.ga_console.specs.Lines.{HasNoFeed, ends_line, ended, text_of}
 use Rattle.ga_console.specs.Image.{IsBodyLine, end_line, HasNoEnd}
 
 -- the lines that were read whole, and the part behind them, which begins at start
@@ -17,7 +17,7 @@ pub record Body (text : List ℕ) (start : ℕ) : Type 0 where
   pub starts : start ≡ length (text_of lines)
 
 nothing : HasNoFeed []
-nothing = All-nil (λ b. is_feed b ≡ false)
+nothing = All-nil (λ b. ends_line b ≡ false)
 
 pub no_end : (text : List ℕ) (start : ℕ) → Body text start → HasNoEnd text
 no_end text start b = record { lines = b.lines; part = b.part; before = b.before; no_feed = b.no_feed; splits = b.splits }
@@ -28,7 +28,7 @@ body_more text more start piece b none e = record {
   lines = b.lines;
   part = b.part ++ piece;
   before = b.before;
-  no_feed = All-append (λ y. is_feed y ≡ false) b.part piece b.no_feed none;
+  no_feed = All-append (λ y. ends_line y ≡ false) b.part piece b.no_feed none;
   splits = e ∙ ap (λ (t : List ℕ). t ++ piece) b.splits ∙ append_assoc (text_of b.lines) b.part piece;
   starts = b.starts;
 }
@@ -67,7 +67,7 @@ body_line text more start piece b none e other =
       lines = b.lines ++ line ∷ [];
       part = [];
       before = push_body b.lines line b.before
-          (record { no_feed = All-append (λ y. is_feed y ≡ false) b.part piece b.no_feed none; not_end = λ q. other (ap ended q) });
+          (record { no_feed = All-append (λ y. ends_line y ≡ false) b.part piece b.no_feed none; not_end = λ q. other (ap ended q) });
       no_feed = nothing;
       splits = whole ∙ sym (append-nil (text_of (b.lines ++ line ∷ [])));
       starts = ap length whole;

@@ -4,7 +4,7 @@ use Rattle.std.proofs.lemmas.List.{append-nil, take_all}
 use Rattle.std.proofs.lemmas.Bool.Decides.{nat_tests}
 use Rattle.std.specs.Prelude.{◌==◌}
 use Rattle.std.proofs.lemmas.List.Elements.{All-append, All-nil}
-use Rattle.ga_console.specs.Lines.{HasNoFeed, is_feed}
+use Rattle.ga_console.specs.Lines.{HasNoFeed, ends_line}
 use Rattle.ga_console.specs.kept.ReadLine.{IsLine}
 use Rattle.ga_console.specs.Turns.{quit_line}
 
@@ -14,7 +14,7 @@ take-take-append (suc n) [] ys = refl
 take-take-append (suc n) (x ∷ xs) ys = ap (λ (t : List ℕ). x ∷ t) (take-take-append n xs ys)
 
 pub line_none : (whole line : List ℕ) → line ≡ [] → IsLine whole line [] whole
-line_none whole line e = record { splits = refl; no_feed = All-nil (λ b. is_feed b ≡ false); kept = e }
+line_none whole line e = record { splits = refl; no_feed = All-nil (λ b. ends_line b ≡ false); kept = e }
 
 -- the same bytes, split the same
 pub line_same : (whole line part more other : List ℕ) → more ≡ other → IsLine whole line part more → IsLine whole line part other
@@ -25,7 +25,7 @@ pub line_piece : (whole line longer part piece old new rest : List ℕ) → IsLi
     → HasNoFeed piece → old ≡ piece ++ new → longer ≡ take 201 (line ++ piece) → IsLine whole longer (part ++ piece) (new ++ rest)
 line_piece whole line longer part piece old new rest l none e kept = record {
   splits = l.splits ∙ ap (λ (t : List ℕ). part ++ t) (ap (λ (t : List ℕ). t ++ rest) e ∙ append_assoc piece new rest) ∙ sym (append_assoc part piece (new ++ rest));
-  no_feed = All-append (λ b. is_feed b ≡ false) part piece l.no_feed none;
+  no_feed = All-append (λ b. ends_line b ≡ false) part piece l.no_feed none;
   kept = kept ∙ ap (λ (t : List ℕ). take 201 (t ++ piece)) l.kept ∙ take-take-append 201 part piece;
 }
 

@@ -9,12 +9,12 @@ use Rattle.ga_grid.specs.Grid.{yxx_of}
 use Rattle.ga_grid.specs.Chip.{node_at, nowhere}
 use Rattle.ga_image.specs.Lines.{Text}
 use Rattle.ga_image.specs.Spelling.{decimal3_of}
-use Rattle.ga_source.specs.Saying.{Said, parted, said_from, lines_of}
+use Rattle.ga_source.specs.Saying.{Said, parted, said_from, source_lines}
 use Rattle.ga_console.specs.kept.Disassembling.{Word, Says, Adds, holds_words, registers_words, memory_words, node_words, named_words, source_words, HasRegisters, IsFit}
 use Rattle.ga_console.proofs.Telling.{says_nothing, says_both}
 use Rattle.ga_console.proofs.SourceLines.{nothing_added, both_added}
 
-no_lines : (said : List Said) (line next : ℕ) → said_from line (lines_of []) ≡ said ++ said_from next (lines_of []) → said ≡ []
+no_lines : (said : List Said) (line next : ℕ) → said_from line (source_lines []) ≡ said ++ said_from next (source_lines []) → said ≡ []
 unfolding parted said_from
 no_lines said line next e = sym (append-nil said) ∙ sym e
 

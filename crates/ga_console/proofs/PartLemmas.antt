@@ -6,14 +6,14 @@ use Rattle.std.proofs.lemmas.List.Elements.{All-from_get_or}
 use Rattle.std.proofs.lemmas.Bool.Decides.{nat_tests}
 use Rattle.std.specs.Prelude.{slice_range, ◌==◌}
 use Rattle.std.specs.Result.{IsOk, OnOk, OnErr}
-use Rattle.ga_console.specs.Lines.{is_feed, HasNoFeed, ended}
+use Rattle.ga_console.specs.Lines.{ends_line, HasNoFeed, ended}
 
-pub not_feed : (b : ℕ) → (b ≡ 10 → ⊥) → is_feed b ≡ false
+pub not_feed : (b : ℕ) → (b ≡ 10 → ⊥) → ends_line b ≡ false
 not_feed b h = grind (arith, nat_tests)
 
 -- bytes none of which is a line feed
 pub no_feed : (bytes : List ℕ) → ((k : ℕ) → k < length bytes → get_or bytes k 0 ≢ 10) → HasNoFeed bytes
-no_feed bytes h = All-from_get_or (λ b. is_feed b ≡ false) bytes 0 (λ k below. not_feed (get_or bytes k 0) (h k below))
+no_feed bytes h = All-from_get_or (λ b. ends_line b ≡ false) bytes 0 (λ k below. not_feed (get_or bytes k 0) (h k below))
 
 -- as much of the bytes as there is room for behind a line
 pub kept_bytes : (line bytes : List ℕ) (room : ℕ) → room + length line ≡ 201 → line ++ take (min room (length bytes)) bytes ≡ take 201 (line ++ bytes)

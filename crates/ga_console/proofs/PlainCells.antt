@@ -9,12 +9,12 @@ use Rattle.std.proofs.lemmas.Bool.{cases_Bool, eqb-true}
 use Rattle.ga_ports.specs.declared.address.Target.TheVariants.{Ram, Rom}
 use Rattle.ga_ports.specs.Address.{classified, advanced}
 use Rattle.ga_node.specs.Record.{NodeState}
-use Rattle.ga_source.specs.declared.item.Value.TheVariants.{Number}
+use Rattle.ga_source.specs.declared.item.Operand.TheVariants.{Number}
 use Rattle.ga_source.specs.declared.item.Item.TheVariants.{Cell}
 use Rattle.ga_source.specs.declared.item.Request.{Request}
 use Rattle.ga_source.specs.declared.item.Request.TheVariants.{Put}
 use Rattle.ga_source.specs.Programs.{is_item}
-use Rattle.ga_source.specs.Made.{with_cell, written}
+use Rattle.ga_source.specs.Made.{with_cell, with_requests}
 use Rattle.ga_console.specs.kept.Disassembling.{next_of, next_behind, holds_word, IsFit}
 use Rattle.ga_console.proofs.PlainWords.{address_requests, cell_requests, cells_requests, node_requests, IsCellAddress, IsWithin, first_within, rest_within}
 
@@ -76,36 +76,36 @@ unfoldable with_cells : NodeState → ℕ → List ℕ → NodeState
 with_cells node address [] = node
 with_cells node address (word ∷ words) = with_cells (if word == 0 then node else with_cell node (classified address) word) (address + 1) words
 
-gone : (node : NodeState) (address next : ℕ) (rest : List Request) → written node next (address_requests address next ++ rest) ≡ written node address rest
-unfolding written
+gone : (node : NodeState) (address next : ℕ) (rest : List Request) → with_requests node next (address_requests address next ++ rest) ≡ with_requests node address rest
+unfolding with_requests
 gone node address next rest = elim (cases_Bool (address == next)) [
-  | inl same ↦ rw same (ap (λ (at : ℕ). written node at rest) (sym (eqb-true address next same)))
+  | inl same ↦ rw same (ap (λ (at : ℕ). with_requests node at rest) (sym (eqb-true address next same)))
   | inr differs ↦ rw differs refl
 ]
 
-put : (node : NodeState) (address word : ℕ) (rest : List Request) → written node address (Put (Cell (Number word)) ∷ rest) ≡ written (with_cell node (classified address) word) (advanced address) rest
-unfolding written
+put : (node : NodeState) (address word : ℕ) (rest : List Request) → with_requests node address (Put (Cell (Number word)) ∷ rest) ≡ with_requests (with_cell node (classified address) word) (advanced address) rest
+unfolding with_requests
 put node address word rest = refl
 
 one_written : (node : NodeState) (word address next : ℕ) (rest : List Request) → IsCellAddress address
-    → written node next (cell_requests word address next ++ rest) ≡ written (if word == 0 then node else with_cell node (classified address) word) (next_of word address next) rest
+    → with_requests node next (cell_requests word address next ++ rest) ≡ with_requests (if word == 0 then node else with_cell node (classified address) word) (next_of word address next) rest
 one_written node word address next rest is = elim (cases_Bool (word == 0)) [
   | inl none ↦ rw none refl
   | inr some ↦ rw some
-      (ap (written node next) (append_assoc (address_requests address next) (Put (Cell (Number word)) ∷ []) rest)
+      (ap (with_requests node next) (append_assoc (address_requests address next) (Put (Cell (Number word)) ∷ []) rest)
       ∙ (gone node address next (Put (Cell (Number word)) ∷ rest)
       ∙ (put node address word rest
-      ∙ ap (λ (at : ℕ). written (with_cell node (classified address) word) at rest) (counts_up address is))))
+      ∙ ap (λ (at : ℕ). with_requests (with_cell node (classified address) word) at rest) (counts_up address is))))
 ]
 
 cells_written : (node : NodeState) (address next : ℕ) (words : List ℕ) (rest : List Request) → IsWithin address (length words)
-    → written node next (cells_requests address next words ++ rest) ≡ written (with_cells node address words) (next_behind address next words) rest
+    → with_requests node next (cells_requests address next words ++ rest) ≡ with_requests (with_cells node address words) (next_behind address next words) rest
 unfolding cells_requests with_cells next_behind
 cells_written node address next [] rest within = refl
 cells_written node address next (word ∷ words) rest within =
     let behind = next_of word address next in
     let after = cells_requests (address + 1) behind words in
-    ap (written node next) (append_assoc (cell_requests word address next) after rest)
+    ap (with_requests node next) (append_assoc (cell_requests word address next) after rest)
     ∙ (one_written node word address next (after ++ rest) (first_within address (length words) within)
     ∙ cells_written (if word == 0 then node else with_cell node (classified address) word) (address + 1) behind words rest (rest_within address (length words) within))
 
@@ -138,8 +138,8 @@ rom_cells node cell (word ∷ words) within =
     ∙ rom_cells (record node { rom = if word == 0 then node.rom else set node.rom cell word }) (cell + 1) words (omega arith))
 
 -- a node without cells gets just those of this one
-pub memories_written : (empty node : NodeState) → IsFit node → empty.ram ≡ replicate 64 0 → empty.rom ≡ replicate 64 0 → written empty 0 (node_requests node) ≡ record empty { ram = node.ram; rom = node.rom }
-unfolding written
+pub memories_written : (empty node : NodeState) → IsFit node → empty.ram ≡ replicate 64 0 → empty.rom ≡ replicate 64 0 → with_requests empty 0 (node_requests node) ≡ record empty { ram = node.ram; rom = node.rom }
+unfolding with_requests
 memories_written empty node fit no_ram no_rom =
     let ram = fit.memories.ram in
     let rom = fit.memories.rom in
@@ -150,8 +150,8 @@ memories_written empty node fit no_ram no_rom =
     let rom_made : with_cells half 0x80 node.rom ≡ record half { rom = node.rom } =
     rom_cells half 0 node.rom (omega (arith, rom.size)) ∙ ap (λ (l : List ℕ). record half { rom = l }) (ap (λ (l : List ℕ). filled l 0 node.rom) no_rom ∙ memory_filled node.rom rom.size) in
     cells_written empty 0 0 node.ram (cells_requests 0x80 behind node.rom) (inl (omega (arith, ram.size)))
-    ∙ (ap (λ (next : NodeState). written next behind (cells_requests 0x80 behind node.rom)) ram_made
-    ∙ (ap (written half behind) (sym (append-nil (cells_requests 0x80 behind node.rom)))
+    ∙ (ap (λ (next : NodeState). with_requests next behind (cells_requests 0x80 behind node.rom)) ram_made
+    ∙ (ap (with_requests half behind) (sym (append-nil (cells_requests 0x80 behind node.rom)))
     ∙ (cells_written half 0x80 behind node.rom [] (inr (omega arith, omega (arith, rom.size))) ∙ rom_made)))
 
 -- ---- whether there are cells

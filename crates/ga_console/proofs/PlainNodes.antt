@@ -8,7 +8,7 @@ use Rattle.ga_node.specs.Record.{NodeState, fresh_node}
 use Rattle.ga_grid.specs.Load.{load_p_of}
 use Rattle.ga_source.specs.Plain.{no_request, plain_of}
 use Rattle.ga_source.specs.Programs.{is_item}
-use Rattle.ga_source.specs.Made.{written, number_or, plain_node, IsNode}
+use Rattle.ga_source.specs.Made.{with_requests, number_or, plain_node, IsNode}
 use Rattle.ga_console.specs.Source.{IsLoadedAs}
 use Rattle.ga_console.specs.kept.Disassembling.{usual_p, holds_words, node_words, IsFit}
 use Rattle.ga_console.proofs.PlainWords.{given, node_requests, plain_by, node_asks, nothing_asks}
@@ -53,7 +53,7 @@ named_loaded n node made fit is =
     }
 
 unasked : (node : NodeState) → plain_node node no_request ≡ node
-unfolding written
+unfolding with_requests
 unasked node = refl
 
 nothing_by : (n : ℕ) (node : NodeState) → IsFit node → node_words n node ≡ [] → plain_by n node ≡ no_request

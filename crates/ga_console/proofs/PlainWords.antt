@@ -6,8 +6,8 @@ use Rattle.std.specs.List.{All}
 use Rattle.std.proofs.lemmas.List.Elements.{All-head, All-tail}
 use Rattle.std.proofs.lemmas.Bool.{lt-ltb, le-leb, cases_Bool}
 use Rattle.ga_node.specs.Record.{NodeState}
-use Rattle.ga_source.specs.declared.item.Value.{Value}
-use Rattle.ga_source.specs.declared.item.Value.TheVariants.{Number}
+use Rattle.ga_source.specs.declared.item.Operand.{Operand}
+use Rattle.ga_source.specs.declared.item.Operand.TheVariants.{Number}
 use Rattle.ga_source.specs.declared.item.Item.TheVariants.{Cell}
 use Rattle.ga_source.specs.declared.item.Request.{Request}
 use Rattle.ga_source.specs.declared.item.Request.TheVariants.{Put, Go}
@@ -106,10 +106,10 @@ cells_ask plain address next (word ∷ words) rest small within =
 -- ---- registers
 
 -- the value of a register, unless it is the usual one
-abbrev pub given : ℕ → ℕ → Option Value
+abbrev pub given : ℕ → ℕ → Option Operand
 given value usual = if value == usual then None else Some (Number value)
 
-abbrev registers_of : Option Value → Option Value → Option Value → Plain
+abbrev registers_of : Option Operand → Option Operand → Option Operand → Plain
 registers_of p a b = record { requests = []; p = p; a = a; b = b }
 
 p_asks : (value usual : ℕ) (rest : List Word) → value < 0x400 → plain_from no_request (register_words (codes "/p") value usual ++ rest) ≡ plain_from (registers_of (given value usual) None None) rest
@@ -119,14 +119,14 @@ p_asks value usual rest small = elim (cases_Bool (value == usual)) [
   | inr differs ↦ rw (differs, number_read 4 value (λ n. only_if (may_be None n 0x400) (registers_of (Some (Number n)) None None)) (omega arith) (omega arith), lt-ltb value 0x400 small) refl
 ]
 
-a_asks : (p : Option Value) (value usual : ℕ) (rest : List Word) → value < 0x40000 → plain_from (registers_of p None None) (register_words (codes "/a") value usual ++ rest) ≡ plain_from (registers_of p (given value usual) None) rest
+a_asks : (p : Option Operand) (value usual : ℕ) (rest : List Word) → value < 0x40000 → plain_from (registers_of p None None) (register_words (codes "/a") value usual ++ rest) ≡ plain_from (registers_of p (given value usual) None) rest
 unfolding plain_from
 a_asks p value usual rest small = elim (cases_Bool (value == usual)) [
   | inl same ↦ rw same refl
   | inr differs ↦ rw (differs, number_read 4 value (λ n. only_if (may_be None n 0x40000) (registers_of p (Some (Number n)) None)) (omega arith) small, lt-ltb value 0x40000 small) refl
 ]
 
-b_asks : (p a : Option Value) (value usual : ℕ) (rest : List Word) → value < 0x200 → plain_from (registers_of p a None) (register_words (codes "/b") value usual ++ rest) ≡ plain_from (registers_of p a (given value usual)) rest
+b_asks : (p a : Option Operand) (value usual : ℕ) (rest : List Word) → value < 0x200 → plain_from (registers_of p a None) (register_words (codes "/b") value usual ++ rest) ≡ plain_from (registers_of p a (given value usual)) rest
 unfolding plain_from
 b_asks p a value usual rest small = elim (cases_Bool (value == usual)) [
   | inl same ↦ rw same refl

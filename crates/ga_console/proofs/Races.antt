@@ -20,7 +20,7 @@ use Rattle.ga_image.specs.declared.fault.ImageCause.TheVariants.{Memory}
 use Rattle.ga_lab.specs.Machine.{State}
 use Rattle.ga_console.specs.Texts.{image_fault_text}
 use Rattle.ga_console.specs.Run.{IsReadAlone, Refuses}
-use Rattle.ga_console.specs.Race.{calls_by, IsRace, Reports, report_text}
+use Rattle.ga_console.specs.Race.{calls_by, IsRaceOfWorkers, Reports, report_text}
 use Rattle.ga_console.specs.kept.Race.{Writes, Races}
 use Rattle.ga_console.specs.declared.run.Status.{Status}
 use Rattle.ga_console.specs.declared.run.Status.TheVariants.{Done, ImageRefused, StreamFault, NotFinished}
@@ -58,7 +58,7 @@ race_count load limit workers calls lists closed size at raced =
 
 -- the race of these lists
 pub is_race : (load : List NodeRecord) (limit workers calls : ℕ) (lists : List (List Call)) (closed : Closed) → length lists ≡ workers
-    → ((w : ℕ) → w < workers → slice_get lists w ≡ Some (calls_by w calls)) → Raced load limit lists closed → IsRace load limit workers calls closed.lab
+    → ((w : ℕ) → w < workers → slice_get lists w ≡ Some (calls_by w calls)) → Raced load limit lists closed → IsRaceOfWorkers load limit workers calls closed.lab
 is_race load limit workers calls lists closed size at raced = record {
   log = closed.log.items;
   legal = raced.legal;
@@ -67,7 +67,7 @@ is_race load limit workers calls lists closed size at raced = record {
 }
 
 -- a report that was written, or not wholly
-pub races_reported : (limit workers calls : ℕ) (image text : List ℕ) (chip : List NodeState) (lab : State) (count : ℕ) (status : Status) → IsImage (lines_of image) chip → count ≡ workers * calls → IsRace (records_of chip) limit workers calls lab
+pub races_reported : (limit workers calls : ℕ) (image text : List ℕ) (chip : List NodeState) (lab : State) (count : ℕ) (status : Status) → IsImage (lines_of image) chip → count ≡ workers * calls → IsRaceOfWorkers (records_of chip) limit workers calls lab
     → Writes (report_text count lab.made (length lab.kept)) text status → Races limit workers calls image text status
 races_reported limit workers calls image text chip lab count Done accepted counted race written =
     record { chip = chip; lab = lab; accepted = accepted; race = race; told = written ∙ ap (λ n. report_text n lab.made (length lab.kept)) counted }

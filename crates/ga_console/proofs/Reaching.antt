@@ -1,21 +1,16 @@
 -- The load of a session stays.
 use Rattle.std.proofs.Common.{◌≡◌, ℕ, List, [], ◌∷◌, Result, Ok, Err, inl, inr, refl, ◌∙◌, ap}
 use Rattle.ga_grid.specs.declared.node_id.NodeId.{NodeId}
-use Rattle.ga_event.specs.declared.event.Event.{Event}
-use Rattle.ga_node.specs.declared.kind.NotReady.{NotReady}
 use Rattle.ga_event.specs.Next.{next}
 use Rattle.ga_event.specs.declared.made.Made.{Made}
 use Rattle.ga_lab.specs.Machine.{State, chip_of, step_answer, with_event, unless_refused, undo_answer, rewind_answer, rewound}
 use Rattle.ga_lab.specs.declared.fault.LabFault.{LabFault}
-use Rattle.ga_console.specs.Replies.{Reply, Does, Answer, reply, step_reply, back_reply, rewind_reply}
-use Rattle.ga_console.specs.Replies.Answer.{long, command, syntax}
+use Rattle.ga_console.specs.Replies.{Reply, Does, LineAnswer, reply, step_reply, back_reply, rewind_reply}
+use Rattle.ga_console.specs.Replies.LineAnswer.{long, command, syntax}
 use Rattle.ga_console.specs.declared.command.Command.{Command}
 use Rattle.ga_console.specs.declared.command.Command.TheVariants.{Step, Back, Rewind, Node, Memory, Trace, Why, Count, Dump, Quit}
 use Rattle.ga_console.specs.Reached.{Reaches}
-
-event_load : (s : State) (found : Result Event NotReady) → (with_event s found).load ≡ s.load
-event_load s (Ok event) = refl
-event_load s (Err why) = refl
+use Rattle.ga_shared.proofs.Machine.{with_event-load as event_load}
 
 unless_load : (s : State) (answer : Result Made LabFault) (new : State) → new.load ≡ s.load → (unless_refused s answer new).load ≡ s.load
 unless_load s (Ok made) new same = same
@@ -49,7 +44,7 @@ does_load : (s : State) (asked : Command) (answer : List ℕ) (new : State) → 
 does_load s asked answer new (inl e) = ap (λ (r : Reply). r.1.load) e ∙ reply_load s asked
 does_load s asked answer new (inr refused) = ap (λ (m : State). m.load) refused.2
 
-answer_load : (s : State) (line answer : List ℕ) (new : State) → Answer s line answer new → new.load ≡ s.load
+answer_load : (s : State) (line answer : List ℕ) (new : State) → LineAnswer s line answer new → new.load ≡ s.load
 answer_load s line answer new (long past text same) = ap (λ (m : State). m.load) same
 answer_load s line answer new (command c short spelled does) = does_load s c answer new does
 answer_load s line answer new (syntax short none text same) = ap (λ (m : State). m.load) same

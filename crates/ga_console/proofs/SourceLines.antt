@@ -6,7 +6,7 @@ use Rattle.std.proofs.lemmas.List.{append-nil}
 use Rattle.std.proofs.lemmas.List.Folds.{list_all-append}
 use Rattle.std.proofs.lemmas.Bool.{and_from, cond-true, cond-false, eq-eqb, ne_eqb}
 use Rattle.ga_image.specs.Lines.{Text}
-use Rattle.ga_source.specs.Saying.{words_of, Said, a_word, spoken}
+use Rattle.ga_source.specs.Saying.{source_words, Said, a_word, spoken}
 use Rattle.ga_console.specs.kept.Disassembling.{Word, Says, Adds, AddsRemark, IsOrdinary, IsUnmarked, is_inner, hex_of, number_word, register_words, address_words, cell_words}
 use Rattle.ga_console.proofs.HexLemmas.{all_shown}
 use Rattle.ga_console.proofs.Telling.{says_nothing, says_both, says_line, says_two, no_end, word_first, remark_last, all_inner, plain_word, grown}
@@ -60,7 +60,7 @@ address_usual old address next same = nothing_added old (address_words address n
 abbrev behind : Text → Text
 behind remark = 44 ∷ 32 ∷ 92 ∷ 32 ∷ remark
 
-cell_says : (w : ℕ) (remark : Text) (line : ℕ) → spoken line false (words_of (number_word 6 w ++ 32 ∷ behind remark)) ≡ map (a_word line) (number_word 6 w ∷ codes "," ∷ [])
+cell_says : (w : ℕ) (remark : Text) (line : ℕ) → spoken line false (source_words (number_word 6 w ++ 32 ∷ behind remark)) ≡ map (a_word line) (number_word 6 w ∷ codes "," ∷ [])
 cell_says w remark line =
     word_first line (number_word 6 w) (behind remark) (number_ordinary 6 w)
     ∙ ap (λ (l : List Said). a_word line (number_word 6 w) ∷ l) (word_first line (codes ",") (92 ∷ 32 ∷ remark) (plain_word (codes ",") refl refl refl refl)

@@ -12,7 +12,7 @@ use Rattle.ga_image.specs.Lines.{Text}
 use Rattle.ga_image.specs.Spelling.{decimal3_of}
 use Rattle.ga_source.specs.Plain.{words_in, body_in, bodies_in, yxx_in}
 use Rattle.ga_source.specs.Made.{plain_node, IsNode, HasPlain}
-use Rattle.ga_source.specs.Sound.{IsSoundBody, number_of}
+use Rattle.ga_source.specs.Sound.{IsSoundBody, node_number_of_words}
 use Rattle.ga_console.specs.Source.{IsLoadedAs, IsSourceOf}
 use Rattle.ga_console.specs.kept.Disassembling.{Word, Says, node_words, source_words, IsFit}
 use Rattle.ga_console.proofs.SourceWords.{says_whole, says_words, starts, body_of, bodies_of, all_bodies, name_back}
@@ -22,13 +22,13 @@ use Rattle.ga_console.proofs.PlainNodes.{named_loaded, unnamed_loaded}
 
 -- the k-th of these names a node, from a number on
 abbrev IsNamed : ℕ → List (List Word) → ℕ → Type 0
-IsNamed n bodies k = (m : ℕ) × (n ≤ m) × (number_of bodies k ≡ Some m)
+IsNamed n bodies k = (m : ℕ) × (n ≤ m) × (node_number_of_words bodies k ≡ Some m)
 
 AreNamed : ℕ → List (List Word) → Type 0
 AreNamed n bodies = (k : ℕ) → k < length bodies → IsNamed n bodies k
 
 AreApart : List (List Word) → Type 0
-AreApart bodies = (j k : ℕ) → j < k → k < length bodies → number_of bodies j ≢ number_of bodies k
+AreApart bodies = (j k : ℕ) → j < k → k < length bodies → node_number_of_words bodies j ≢ node_number_of_words bodies k
 
 same_some : (n m : ℕ) → Some n ≡ Some m → n ≡ m
 same_some n m e = cc
@@ -47,7 +47,7 @@ unfolding AreNamed AreApart
 apart_more n [] rest within named apart = apart
 apart_more n (word ∷ words) rest within named apart = at
   where
-    at : (j k : ℕ) → j < k → k < suc (length rest) → number_of ((decimal3_of (yxx_of n) ∷ word ∷ words) ∷ rest) j ≢ number_of ((decimal3_of (yxx_of n) ∷ word ∷ words) ∷ rest) k
+    at : (j k : ℕ) → j < k → k < suc (length rest) → node_number_of_words ((decimal3_of (yxx_of n) ∷ word ∷ words) ∷ rest) j ≢ node_number_of_words ((decimal3_of (yxx_of n) ∷ word ∷ words) ∷ rest) k
     at j zero less below = absurd (omega arith)
     at zero (suc k) less below = λ same. let a = named k (omega arith) in let e = same_some n a.0 (sym (name_back n within) ∙ (same ∙ a.2)) in omega (arith, a.1, e)
     at (suc j) (suc k) less below = apart j k (omega arith) (omega arith)
@@ -159,7 +159,7 @@ is_source chip text size fit says =
         whole = says_whole text (source_words 0 chip) says;
         begins = ap body_in words ∙ starts 0 chip;
         bodies = subst (All IsSoundBody) (sym bodies) (all_sound 0 chip (omega (arith, size)) fit);
-        apart = subst (λ (l : List (List Word)). (j k : ℕ) → j < k → k < length l → number_of l j ≢ number_of l k) (sym bodies) (all_apart 0 chip (omega (arith, size)));
+        apart = subst (λ (l : List (List Word)). (j k : ℕ) → j < k → k < length l → node_number_of_words l j ≢ node_number_of_words l k) (sym bodies) (all_apart 0 chip (omega (arith, size)));
       };
       same = λ made is n within.
           source_loaded chip made n size within fit (subst (All (HasPlain made)) bodies is.named)

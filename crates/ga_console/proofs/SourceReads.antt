@@ -9,11 +9,11 @@ use Rattle.ga_node.specs.Record.{NodeState}
 use Rattle.ga_grid.specs.Chip.{node_at}
 use Rattle.ga_grid.specs.Load.{default_chip}
 use Rattle.ga_image.specs.Lines.{Bytes, Text, Line}
-use Rattle.ga_source.specs.Saying.{Said, is_feed, lines_of, bare, said_by, said_from, said_in, next_line, up_to_fault}
+use Rattle.ga_source.specs.Saying.{Said, is_feed, source_lines, bare, said_by, said_from, said_in, next_line, up_to_fault}
 use Rattle.ga_source.specs.Plain.{bodies_in, yxx_in}
-use Rattle.ga_source.specs.Made.{HasPlain, IsMade}
+use Rattle.ga_source.specs.Made.{HasPlain, IsChipOfSource}
 use Rattle.ga_console.specs.Lines.{HasNoFeed, ended, text_of}
-use Rattle.ga_console.specs.Lines.{is_feed as ends_line}
+use Rattle.ga_console.specs.Lines.{ends_line}
 use Rattle.ga_console.specs.Image.{IsBodyLine, EndsAtEnd, end_line}
 use Rattle.ga_console.specs.Source.{IsReadWhole}
 use Rattle.ga_console.proofs.Telling.{part_behind, own_line}
@@ -29,39 +29,39 @@ inner_of (b ∷ line) none =
     (inner_of line (All-tail (λ b. ends_line b ≡ false) b line none))
 
 -- nothing is said from a line `end` on
-end_last : (line : ℕ) (rest : Bytes) → said_from line (lines_of (ended end_line ++ rest)) ≡ []
+end_last : (line : ℕ) (rest : Bytes) → said_from line (source_lines (ended end_line ++ rest)) ≡ []
 unfolding said_from
 end_last line rest =
     ap (said_from line) (part_behind is_feed end_line 10 rest refl refl)
-    ∙ ap (λ (own : List ℕ). if bytes_eq own (codes "end") then [] else said_by line own ++ said_from (next_line line) (lines_of rest)) (own_line line end_line refl refl)
+    ∙ ap (λ (own : List ℕ). if bytes_eq own (codes "end") then [] else said_by line own ++ said_from (next_line line) (source_lines rest)) (own_line line end_line refl refl)
 
 -- a line, and what those behind it say
-line_then : (line : ℕ) (first rest : Text) → HasNoFeed first → said_from line (lines_of (ended first ++ rest)) ≡ (if bytes_eq (bare line first) (codes "end") then [] else said_by line (bare line first) ++ said_from (next_line line) (lines_of rest))
+line_then : (line : ℕ) (first rest : Text) → HasNoFeed first → said_from line (source_lines (ended first ++ rest)) ≡ (if bytes_eq (bare line first) (codes "end") then [] else said_by line (bare line first) ++ said_from (next_line line) (source_lines rest))
 unfolding said_from
 line_then line first rest none =
-    ap (λ (t : Text). said_from line (lines_of t)) (append_assoc first (10 ∷ []) rest)
+    ap (λ (t : Text). said_from line (source_lines t)) (append_assoc first (10 ∷ []) rest)
     ∙ ap (said_from line) (part_behind is_feed first 10 rest (inner_of first none) refl)
 
 -- what stands behind a line `end` says nothing
-to_end : (lines : List Line) → AllByRecursion IsBodyLine lines → (line : ℕ) (rest : Bytes) → said_from line (lines_of ((text_of lines ++ ended end_line) ++ rest)) ≡ said_from line (lines_of (text_of lines ++ ended end_line))
+to_end : (lines : List Line) → AllByRecursion IsBodyLine lines → (line : ℕ) (rest : Bytes) → said_from line (source_lines ((text_of lines ++ ended end_line) ++ rest)) ≡ said_from line (source_lines (text_of lines ++ ended end_line))
 to_end [] body line rest = end_last line rest ∙ sym (end_last line [])
 to_end (first ∷ lines) body line rest =
     let behind : Text = text_of lines ++ ended end_line in
     let whole : (text_of (first ∷ lines) ++ ended end_line) ++ rest ≡ ended first ++ (behind ++ rest) =
     ap (λ (t : Text). t ++ rest) (append_assoc (ended first) (text_of lines) (ended end_line)) ∙ append_assoc (ended first) behind rest in
-    ap (λ (t : Text). said_from line (lines_of t)) whole
+    ap (λ (t : Text). said_from line (source_lines t)) whole
     ∙ (line_then line first (behind ++ rest) body.0.no_feed
     ∙ (ap (λ (l : List Said). if bytes_eq (bare line first) (codes "end") then [] else said_by line (bare line first) ++ l) (to_end lines body.1 (next_line line) rest)
     ∙ (sym (line_then line first behind body.0.no_feed)
-    ∙ ap (λ (t : Text). said_from line (lines_of t)) (sym (append_assoc (ended first) (text_of lines) (ended end_line))))))
+    ∙ ap (λ (t : Text). said_from line (source_lines t)) (sym (append_assoc (ended first) (text_of lines) (ended end_line))))))
 
 -- so a source up to its line `end` says what the whole text says
 says_all : (source rest : Text) → EndsAtEnd source → said_in (source ++ rest) ≡ said_in source
 unfolding said_in
 says_all source rest ends =
-    ap (λ (t : Text). up_to_fault (said_from 1 (lines_of (t ++ rest)))) ends.splits
+    ap (λ (t : Text). up_to_fault (said_from 1 (source_lines (t ++ rest)))) ends.splits
     ∙ (ap up_to_fault (to_end ends.lines ends.before 1 rest)
-    ∙ ap (λ (t : Text). up_to_fault (said_from 1 (lines_of t))) (sym ends.splits))
+    ∙ ap (λ (t : Text). up_to_fault (said_from 1 (source_lines t))) (sym ends.splits))
 
 -- what was read of a text, as a source, says what the text says
 pub read_says : (text read rest source ahead : Text) → text ≡ read ++ rest → read ≡ source ++ ahead → IsReadWhole source ahead rest → said_in source ≡ said_in text
@@ -74,7 +74,7 @@ read_says text read rest source ahead input parts (inr all) =
     ∙ (append-nil (source ++ ahead) ∙ (ap (λ (t : Text). source ++ t) all.0 ∙ append-nil source))))))
 
 -- so texts that say the same make the same chips
-pub made_of_same : (source text : Text) (chip : List NodeState) → said_in source ≡ said_in text → IsMade source chip → IsMade text chip
+pub made_of_same : (source text : Text) (chip : List NodeState) → said_in source ≡ said_in text → IsChipOfSource source chip → IsChipOfSource text chip
 made_of_same source text chip same made = record {
   named = subst (λ (said : List Said). All (HasPlain chip) (bodies_in (map (λ (one : Said). one.text) said))) same made.named;
   others = subst (λ (said : List Said). (n : ℕ) → All (λ words. yxx_in (slice_index_or words 0 []) ≢ Some n) (bodies_in (map (λ (one : Said). one.text) said)) → node_at chip n ≡ node_at default_chip n) same made.others;

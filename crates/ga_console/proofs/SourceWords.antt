@@ -1,18 +1,20 @@
 -- The words of a source that is written, node by node.
-use Rattle.std.specs.Prelude.{◌==◌, not, codes, nat_le, nat_lt}
+use Rattle.std.specs.Prelude.{◌==◌, not, codes}
 use Rattle.std.proofs.Common.{◌≡◌, ◌∙◌, ℕ, ◌+◌, ◌*◌, ◌/◌, ◌%◌, ◌-◌, ◌<◌, ◌≤◌, Bool, true, false, List, [], ◌∷◌, ◌++◌, length, map, Some, refl, arith, ap, sym, inl, inr}
 use Rattle.std.specs.List.{list_all}
 use Rattle.std.proofs.lemmas.List.{append-nil}
 use Rattle.std.proofs.lemmas.List.Folds.{list_all-append}
-use Rattle.std.proofs.lemmas.Bool.{and_parts, and_from, cond-true, cond-false, le-leb, lt-ltb, ne_eqb, cases_Bool}
+use Rattle.std.proofs.lemmas.Bool.{and_parts, and_from, cond-true, cond-false, ne_eqb, cases_Bool}
 use Rattle.ga_grid.specs.Grid.{yxx_of, node_of}
 use Rattle.ga_node.specs.Record.{NodeState}
 use Rattle.ga_image.specs.Lines.{Text}
 use Rattle.ga_image.specs.Spelling.{decimal3_of}
-use Rattle.ga_source.specs.Saying.{Said, parted, is_word, lines_of, said_from, up_to_fault, said_in}
-use Rattle.ga_grid.specs.Names.{decimal_digit, node_number}
+use Rattle.ga_source.specs.Saying.{Said, parted, is_word, source_lines, said_from, up_to_fault, said_in}
+use Rattle.ga_grid.specs.Names.{node_number}
 use Rattle.ga_source.specs.Plain.{words_in, is_node, body_in, bodies_in, yxx_in}
 use Rattle.ga_console.specs.kept.Disassembling.{Word, Says, number_word, register_words, address_words, cell_words, next_of, cells_words, next_behind, usual_p, registers_words, memory_words, holds_words, node_words, named_words, source_words}
+use Rattle.ga_image.proofs.Numbers.{decimal_read as digit_back}
+use Rattle.ga_image.proofs.Accepted.{node_of_yxx as number_back}
 
 -- ---- all that a text says
 
@@ -23,14 +25,14 @@ whole_all (one ∷ said) whole =
     let parts = and_parts (is_word one) (list_all is_word said) whole in
     ap (λ (rest : List Said). one ∷ rest) (cond-true (is_word one) (up_to_fault (said ++ [])) [] parts.0 ∙ whole_all said parts.1)
 
-nothing_behind : (next : ℕ) → said_from next (lines_of []) ≡ []
+nothing_behind : (next : ℕ) → said_from next (source_lines []) ≡ []
 unfolding parted said_from
 nothing_behind next = refl
 
-all_said : (text : Text) (said : List Said) (next : ℕ) → said_from 1 (lines_of (text ++ [])) ≡ said ++ said_from next (lines_of []) → list_all is_word said ≡ true → said_in text ≡ said
+all_said : (text : Text) (said : List Said) (next : ℕ) → said_from 1 (source_lines (text ++ [])) ≡ said ++ said_from next (source_lines []) → list_all is_word said ≡ true → said_in text ≡ said
 unfolding said_in
 all_said text said next e whole =
-    ap (λ (t : Text). up_to_fault (said_from 1 (lines_of t))) (sym (append-nil text))
+    ap (λ (t : Text). up_to_fault (said_from 1 (source_lines t))) (sym (append-nil text))
     ∙ (ap up_to_fault (e ∙ ap (λ (l : List Said). said ++ l) (nothing_behind next)) ∙ whole_all said whole)
 
 pub says_whole : (text : Text) (words : List Word) → Says text words → list_all is_word (said_in text) ≡ true
@@ -45,7 +47,7 @@ says_words text words says = let a = says.says 1 [] in ap (map (λ (one : Said).
 abbrev HasNoNode : List Word → Type 0
 HasNoNode words = list_all (λ word. not (is_node word)) words ≡ true
 
-not_true : (b : Bool) → not b ≡ true → b ≡ false
+pub not_true : (b : Bool) → not b ≡ true → b ≡ false
 not_true true e = sym e
 not_true false e = refl
 
@@ -145,20 +147,6 @@ all_bodies n (node ∷ nodes) within =
     ∙ ap (λ (l : List (List Word)). body_of n (node_words n node) ++ l) (all_bodies (n + 1) nodes (omega arith))
 
 -- ---- the names of nodes
-
-digit_back : (d : ℕ) → d < 10 → decimal_digit (48 + d) ≡ Some d
-digit_back d small =
-    let one : nat_le 48 (48 + d) ≡ true = le-leb 48 (48 + d) (omega arith) in
-    let two : nat_le (48 + d) 57 ≡ true = le-leb (48 + d) 57 (omega arith) in
-    let less : 48 + d - 48 ≡ d = omega arith in
-    rw (one, two, less) refl
-
-number_back : (n : ℕ) → n < 144 → node_of (yxx_of n) ≡ Some n
-number_back n within =
-    let one : nat_lt (yxx_of n / 100) 8 ≡ true = lt-ltb (yxx_of n / 100) 8 (omega arith) in
-    let two : nat_lt (yxx_of n % 100) 18 ≡ true = lt-ltb (yxx_of n % 100) 18 (omega arith) in
-    let e : 18 * (yxx_of n / 100) + yxx_of n % 100 ≡ n = omega arith in
-    rw (one, two) (ap Some e)
 
 pub name_back : (n : ℕ) → n < 144 → yxx_in (decimal3_of (yxx_of n)) ≡ Some n
 unfolding node_number

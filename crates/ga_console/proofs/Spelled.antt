@@ -6,7 +6,7 @@ use Rattle.std.proofs.lemmas.Slice.Eq.{bytes_eq-Decides}
 use Rattle.ga_grid.specs.declared.node_id.NodeId.{NodeId}
 use Rattle.ga_console.specs.declared.command.Command.{Command}
 use Rattle.ga_console.specs.declared.command.Command.TheVariants.{Step, Back, Rewind, Node, Memory, Trace, Why, Count, Dump, Quit}
-use Rattle.ga_console.specs.Texts.{name_of}
+use Rattle.ga_console.specs.Texts.{name_of_node}
 use Rattle.ga_console.specs.Commands.{IsNumber, SpellsAddress, SpellsCommand}
 use Rattle.ga_image.specs.Digits.{byte_in}
 use Rattle.ga_console.specs.Parsing.{cut, node_in, number_in}
@@ -16,7 +16,7 @@ use Rattle.ga_console.proofs.Taking.{first_step, mapped, node_name, name_node, n
 
 -- ---- what is read is spelled so
 
-step_spelled : (text : List ℕ) (step : NodeId × ℕ) → step_in text ≡ Some step → IsNumber step.1 × (text ≡ name_of step.0 ++ 32 ∷ decimal step.1)
+step_spelled : (text : List ℕ) (step : NodeId × ℕ) → step_in text ≡ Some step → IsNumber step.1 × (text ≡ name_of_node step.0 ++ 32 ∷ decimal step.1)
 unfolding step_in
 step_spelled text step e =
     let (parts, whole, rest) = first_step (cut text) _ step e in
@@ -24,15 +24,15 @@ step_spelled text step e =
     let (k, digits, made) = first_step (number_in parts.1) _ step numbered in
     let same : (node, k) ≡ step = cc in
     let (is, text_is) = number_decimal parts.1 k digits in
-    let P : NodeId × ℕ → Type 0 = λ s. IsNumber s.1 × (text ≡ name_of s.0 ++ 32 ∷ decimal s.1) in
-    subst P same (is, cut_joined text parts whole ∙ ap (λ (t : List ℕ). t ++ 32 ∷ parts.1) (node_name parts.0 node name) ∙ ap (λ (t : List ℕ). name_of node ++ 32 ∷ t) text_is)
+    let P : NodeId × ℕ → Type 0 = λ s. IsNumber s.1 × (text ≡ name_of_node s.0 ++ 32 ∷ decimal s.1) in
+    subst P same (is, cut_joined text parts whole ∙ ap (λ (t : List ℕ). t ++ 32 ∷ parts.1) (node_name parts.0 node name) ∙ ap (λ (t : List ℕ). name_of_node node ++ 32 ∷ t) text_is)
 
 -- the name is this one, and the command that comes with these arguments
 Named : List ℕ → List ℕ → List ℕ → Option Command → Command → Type 0
 Named name word text found c = name ≡ word → found ≡ Some c → SpellsCommand c (name ++ 32 ∷ text)
 
 node_spelled : (word text : List ℕ) (f : NodeId → Command) (name : List ℕ) (c : Command)
-    → ((node : NodeId) (line : List ℕ) → line ≡ word ++ 32 ∷ name_of node → SpellsCommand (f node) line) → Named name word text (option_map f (node_in text)) c
+    → ((node : NodeId) (line : List ℕ) → line ≡ word ++ 32 ∷ name_of_node node → SpellsCommand (f node) line) → Named name word text (option_map f (node_in text)) c
 unfolding Named
 node_spelled word text f name c spells is e =
     let (node, found, same) = mapped (node_in text) f c e in
@@ -81,7 +81,7 @@ why_spelled text name c is e =
           ∙ ap (λ (t : List ℕ). codes "why" ++ 32 ∷ t) (
           cut_joined text first whole
           ∙ ap (λ (t : List ℕ). t ++ 32 ∷ first.1) (node_name first.0 from from_found)
-          ∙ ap (λ (t : List ℕ). name_of from ++ 32 ∷ t) (
+          ∙ ap (λ (t : List ℕ). name_of_node from ++ 32 ∷ t) (
           cut_joined first.1 second rest
           ∙ ap (λ (t : List ℕ). t ++ 32 ∷ second.1) k_text
           ∙ ap (λ (t : List ℕ). decimal k ++ 32 ∷ t) to_text
@@ -128,21 +128,21 @@ alone_spelled line c e =
 
 -- ---- what is spelled is read so
 
-step_read : (node : NodeId) (k : ℕ) → IsNumber k → step_in (name_of node ++ 32 ∷ decimal k) ≡ Some (node, k)
+step_read : (node : NodeId) (k : ℕ) → IsNumber k → step_in (name_of_node node ++ 32 ∷ decimal k) ≡ Some (node, k)
 unfolding step_in
-step_read node k small = rw (word_cut (name_of node) (decimal k) (name_word node), name_node node, decimal_number k small) refl
+step_read node k small = rw (word_cut (name_of_node node) (decimal k) (name_word node), name_node node, decimal_number k small) refl
 
-memory_read : (node : NodeId) (address : ℕ) (word : List ℕ) → SpellsAddress address word → memory_in (name_of node ++ 32 ∷ word) ≡ Some (Memory node address)
+memory_read : (node : NodeId) (address : ℕ) (word : List ℕ) → SpellsAddress address word → memory_in (name_of_node node ++ 32 ∷ word) ≡ Some (Memory node address)
 unfolding memory_in
-memory_read node address word is = rw (word_cut (name_of node) word (name_word node), name_node node, address_byte word address is) refl
+memory_read node address word is = rw (word_cut (name_of_node node) word (name_word node), name_node node, address_byte word address is) refl
 
 why_read : (from : NodeId) (k : ℕ) (to : NodeId) (j : ℕ) → IsNumber k → IsNumber j
-    → why_in (name_of from ++ 32 ∷ (decimal k ++ 32 ∷ (name_of to ++ 32 ∷ decimal j))) ≡ Some (Why from k to j)
+    → why_in (name_of_node from ++ 32 ∷ (decimal k ++ 32 ∷ (name_of_node to ++ 32 ∷ decimal j))) ≡ Some (Why from k to j)
 unfolding why_in
 why_read from k to j k_small j_small =
-    let rest : List ℕ = name_of to ++ 32 ∷ decimal j in
+    let rest : List ℕ = name_of_node to ++ 32 ∷ decimal j in
     rw (
-      word_cut (name_of from) (decimal k ++ 32 ∷ rest) (name_word from),
+      word_cut (name_of_node from) (decimal k ++ 32 ∷ rest) (name_word from),
       word_cut (decimal k) rest (decimal_word k k_small),
       name_node from,
       decimal_number k k_small,

@@ -16,10 +16,11 @@ use Rattle.ga_image.specs.Digits.{byte_in}
 use Rattle.ga_ports.specs.Steps.{◌>>=◌}
 use Rattle.ga_image.specs.Spelling.{decimal3_of, hex2_of}
 use Rattle.ga_image.proofs.Numbers.{cell_spelled, cell_read, node_spelled, node_read}
-use Rattle.ga_console.specs.Texts.{name_of}
+use Rattle.ga_console.specs.Texts.{name_of_node}
 use Rattle.ga_console.specs.Commands.{IsNumber, SpellsAddress}
 use Rattle.ga_console.specs.Parsing.{node_in, fitting, with_digit, with_digits, number_in}
 use Rattle.ga_console.proofs.Cuts.{IsWord}
+use Rattle.ga_image.proofs.Accepted.{node_of_yxx as back_to}
 
 -- the first step gave something
 pub first_step : {A B : Type 0} (o : Option A) (f : A → Option B) (y : B) → (o >>= f) ≡ Some y → (x : A) × (o ≡ Some x) × (f x ≡ Some y)
@@ -45,18 +46,11 @@ named yxx node e =
     let number : node.number ≡ 18 * (yxx / 100) + yxx % 100 = rw (← same) (omega arith) in
     rw number (omega arith)
 
-pub node_name : (word : List ℕ) (node : NodeId) → node_in word ≡ Some node → word ≡ name_of node
+pub node_name : (word : List ℕ) (node : NodeId) → node_in word ≡ Some node → word ≡ name_of_node node
 unfolding node_in
 node_name word node e =
     let (yxx, digits, at) = first_step (node_number word) _ node e in
     (node_spelled word yxx digits).1 ∙ ap decimal3_of (sym (named yxx node at))
-
-back_to : (n : ℕ) → n < 144 → node_of (yxx_of n) ≡ Some n
-back_to n small =
-    let row : yxx_of n / 100 ≡ n / 18 = omega arith in
-    let column : yxx_of n % 100 ≡ n % 18 = omega arith in
-    let whole : 18 * (n / 18) + n % 18 ≡ n = omega arith in
-    grind (arith, nat_tests)
 
 -- the node of a row and a column
 pub numbered : (row column : ℕ) → row < 8 → column < 18 → node_of (100 * row + column) ≡ Some (18 * row + column)
@@ -65,13 +59,13 @@ numbered row column r c =
     let below : (100 * row + column) % 100 ≡ column = omega arith in
     grind (arith, nat_tests)
 
-pub name_node : (node : NodeId) → node_in (name_of node) ≡ Some node
+pub name_node : (node : NodeId) → node_in (name_of_node node) ≡ Some node
 unfolding node_in
 name_node node =
     let small : node.number < 144 = node.in_range in
     rw (node_read (yxx_of node.number) (omega arith), back_to node.number small) (ap Some (node_id-number node))
 
-pub name_word : (node : NodeId) → IsWord (name_of node)
+pub name_word : (node : NodeId) → IsWord (name_of_node node)
 name_word node = (omega arith, (omega arith, (omega arith, tt)))
 
 -- ---- numbers

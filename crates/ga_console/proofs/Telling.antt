@@ -1,21 +1,19 @@
 -- Texts that say words, line by line.
 use Rattle.std.specs.Prelude.{◌-◌, ◌==◌, not, codes, bytes_eq, filter, slice_index, take, drop, if◌then◌else◌, suc}
-use Rattle.std.proofs.Common.{◌≡◌, ◌∙◌, ℕ, ◌+◌, ◌/◌, ◌%◌, ◌<◌, ◌≤◌, Bool, true, false, ◌&&◌, ltb, List, [], ◌∷◌, ◌++◌, length, map, refl, arith, ap, sym, inl, inr, append_assoc, length-append}
+use Rattle.std.proofs.Common.{◌≡◌, ◌∙◌, ℕ, ◌+◌, ◌/◌, ◌%◌, ◌<◌, ◌≤◌, Bool, true, false, ◌&&◌, List, [], ◌∷◌, ◌++◌, length, map, refl, arith, ap, sym, inl, inr, append_assoc, length-append}
 use Rattle.std.specs.List.{list_all}
 use Rattle.std.proofs.lemmas.List.{map-append}
 use Rattle.std.proofs.lemmas.List.Folds.{list_all-append}
 use Rattle.std.proofs.lemmas.Slice.Eq.{bytes_eq-Decides}
-use Rattle.std.proofs.lemmas.Bool.{cases_Bool, and_parts, and_from, cond-false, le-ltb, ltb-true, lt-ltb, ne_eqb, false≢true}
+use Rattle.std.proofs.lemmas.Bool.{cases_Bool, and_parts, and_from, cond-false, ltb-true, lt-ltb, ne_eqb, false≢true}
 use Rattle.ga_image.specs.Lines.{Text}
 use Rattle.ga_image.specs.Spelling.{decimal3_of}
-use Rattle.ga_source.specs.Saying.{with_byte, parted, is_feed, is_blank, lines_of, has_bytes, words_of, longest, order_mark, without_return, bare, Said, a_word, is_word, spoken, said_by, next_line, said_from}
+use Rattle.ga_source.specs.Saying.{onto_first_part, parted, is_feed, is_blank, source_lines, has_bytes, source_words, order_mark, without_return, bare, Said, a_word, is_word, spoken, said_by, next_line, said_from}
 use Rattle.ga_console.specs.kept.Disassembling.{Word, Says, IsOrdinary, IsUnmarked, is_inner, is_shown}
+use Rattle.ga_console.proofs.SourceWords.{not_true}
+use Rattle.ga_source.proofs.Scanning.{short_line}
 
 -- ---- parts of texts
-
-not_true : (b : Bool) → not b ≡ true → b ≡ false
-not_true true e = sym e
-not_true false e = refl
 
 -- what stands behind a part
 pub part_behind : (ends : ℕ → Bool) (part : List ℕ) (byte : ℕ) (rest : List ℕ) → list_all (λ b. not (ends b)) part ≡ true → ends byte ≡ true → parted ends (part ++ byte ∷ rest) ≡ part ∷ parted ends rest
@@ -23,7 +21,7 @@ unfolding parted
 part_behind ends [] byte rest inner end = rw end refl
 part_behind ends (b ∷ part) byte rest inner end =
     let parts = and_parts (not (ends b)) (list_all (λ b. not (ends b)) part) inner in
-    rw (not_true (ends b) parts.0) (ap (with_byte b) (part_behind ends part byte rest parts.1 end))
+    rw (not_true (ends b) parts.0) (ap (onto_first_part b) (part_behind ends part byte rest parts.1 end))
 
 -- the last part
 pub part_last : (ends : ℕ → Bool) (byte : ℕ) (part : List ℕ) → list_all (λ b. not (ends b)) (byte ∷ part) ≡ true → parted ends (byte ∷ part) ≡ (byte ∷ part) ∷ []
@@ -31,7 +29,7 @@ unfolding parted
 part_last ends byte [] inner = rw (not_true (ends byte) (and_parts (not (ends byte)) true inner).0) refl
 part_last ends byte (b ∷ part) inner =
     let parts = and_parts (not (ends byte)) (list_all (λ b. not (ends b)) (b ∷ part)) inner in
-    rw (not_true (ends byte) parts.0) (ap (with_byte byte) (part_last ends b part parts.1))
+    rw (not_true (ends byte) parts.0) (ap (onto_first_part byte) (part_last ends b part parts.1))
 
 -- ---- words of a line
 
@@ -66,16 +64,16 @@ no_bytes : false ≡ true → ⊥
 no_bytes e = false≢true e
 
 -- a word with others behind it
-pub word_first : (line : ℕ) (word rest : List ℕ) → IsOrdinary word → spoken line false (words_of (word ++ 32 ∷ rest)) ≡ a_word line word ∷ spoken line false (words_of rest)
+pub word_first : (line : ℕ) (word rest : List ℕ) → IsOrdinary word → spoken line false (source_words (word ++ 32 ∷ rest)) ≡ a_word line word ∷ spoken line false (source_words rest)
 unfolding spoken
 word_first line [] rest is = absurd (no_bytes is.bytes)
 word_first line (b ∷ word) rest is =
     ap (λ (parts : List (List ℕ)). spoken line false (filter has_bytes parts)) (part_behind is_blank (b ∷ word) 32 rest (no_blank (b ∷ word) is.shown) refl)
     ∙ (cond-false (bytes_eq (b ∷ word) (codes "\\")) [] _ is.no_remark
-    ∙ cond-false (bytes_eq (b ∷ word) (codes "(")) (spoken line true (words_of rest)) _ is.no_opening)
+    ∙ cond-false (bytes_eq (b ∷ word) (codes "(")) (spoken line true (source_words rest)) _ is.no_opening)
 
 -- the last word
-pub word_last : (line : ℕ) (word : List ℕ) → IsOrdinary word → spoken line false (words_of word) ≡ a_word line word ∷ []
+pub word_last : (line : ℕ) (word : List ℕ) → IsOrdinary word → spoken line false (source_words word) ≡ a_word line word ∷ []
 unfolding spoken
 word_last line [] is = absurd (no_bytes is.bytes)
 word_last line (b ∷ word) is =
@@ -84,7 +82,7 @@ word_last line (b ∷ word) is =
     ∙ cond-false (bytes_eq (b ∷ word) (codes "(")) (spoken line true []) _ is.no_opening)
 
 -- a comment
-pub remark_last : (line : ℕ) (rest : List ℕ) → spoken line false (words_of (92 ∷ 32 ∷ rest)) ≡ []
+pub remark_last : (line : ℕ) (rest : List ℕ) → spoken line false (source_words (92 ∷ 32 ∷ rest)) ≡ []
 unfolding spoken parted
 remark_last line rest = refl
 
@@ -139,16 +137,13 @@ own_line line text start inner =
     ap without_return (cond-false (line == 1 && bytes_eq (take 3 text) order_mark) (drop 3 text) text (and_none (line == 1) (bytes_eq (take 3 text) order_mark) (no_mark text start)))
     ∙ cond-false (slice_index text (length text - 1) == 13) (take (length text - 1) text) text (no_return text inner)
 
-pub line_first : (line : ℕ) (text rest : Text) → IsUnmarked text → list_all is_inner text ≡ true → bytes_eq text (codes "end") ≡ false → said_from line (lines_of ((text ++ 10 ∷ []) ++ rest)) ≡ said_by line text ++ said_from (next_line line) (lines_of rest)
+pub line_first : (line : ℕ) (text rest : Text) → IsUnmarked text → list_all is_inner text ≡ true → bytes_eq text (codes "end") ≡ false → said_from line (source_lines ((text ++ 10 ∷ []) ++ rest)) ≡ said_by line text ++ said_from (next_line line) (source_lines rest)
 unfolding said_from
 line_first line text rest start inner other =
-    ap (λ (t : Text). said_from line (lines_of t)) (append_assoc text (10 ∷ []) rest)
+    ap (λ (t : Text). said_from line (source_lines t)) (append_assoc text (10 ∷ []) rest)
     ∙ (ap (said_from line) (part_behind is_feed text 10 rest (weaker is_inner (λ b. not (is_feed b)) text inner_no_feed inner) refl)
-    ∙ (ap (λ (own : List ℕ). if bytes_eq own (codes "end") then [] else said_by line own ++ said_from (next_line line) (lines_of rest)) (own_line line text start inner)
-    ∙ cond-false (bytes_eq text (codes "end")) [] (said_by line text ++ said_from (next_line line) (lines_of rest)) other))
-
-short_line : (line : ℕ) (text : List ℕ) → length text ≤ 200 → said_by line text ≡ spoken line false (words_of text)
-short_line line text short = cond-false (ltb longest (length text)) _ (spoken line false (words_of text)) (le-ltb longest (length text) short)
+    ∙ (ap (λ (own : List ℕ). if bytes_eq own (codes "end") then [] else said_by line own ++ said_from (next_line line) (source_lines rest)) (own_line line text start inner)
+    ∙ cond-false (bytes_eq text (codes "end")) [] (said_by line text ++ said_from (next_line line) (source_lines rest)) other))
 
 -- lines are none yet
 pub says_nothing : Says [] []
@@ -165,8 +160,8 @@ says_both first second words more one two = record {
       let b = two.says a.1 rest in (
         a.0 ++ b.0,
         b.1,
-        ap (λ (text : Text). said_from line (lines_of text)) (append_assoc first second rest)
-            ∙ (a.2 ∙ (ap (λ (l : List Said). a.0 ++ l) b.2 ∙ sym (append_assoc a.0 b.0 (said_from b.1 (lines_of rest))))),
+        ap (λ (text : Text). said_from line (source_lines text)) (append_assoc first second rest)
+            ∙ (a.2 ∙ (ap (λ (l : List Said). a.0 ++ l) b.2 ∙ sym (append_assoc a.0 b.0 (said_from b.1 (source_lines rest))))),
         map-append (λ (said : Said). said.text) a.0 b.0 ∙ (ap (λ (l : List Word). l ++ map (λ (said : Said). said.text) b.0) a.3 ∙ ap (λ (l : List Word). words ++ l) b.3),
         list_all-append is_word a.0 b.0 ∙ and_from (list_all is_word a.0) (list_all is_word b.0) a.4 b.4,
       );
@@ -178,12 +173,12 @@ all_words line [] = (refl, refl)
 all_words line (word ∷ words) = let more = all_words line words in (ap (λ (l : List Word). word ∷ l) more.0, more.1)
 
 -- one line
-pub says_line : (text : Text) (words : List Word) → IsUnmarked text → list_all is_inner text ≡ true → length text ≤ 200 → bytes_eq text (codes "end") ≡ false → (words ≡ [] → ⊥) → ((line : ℕ) → spoken line false (words_of text) ≡ map (a_word line) words) → Says (text ++ 10 ∷ []) words
+pub says_line : (text : Text) (words : List Word) → IsUnmarked text → list_all is_inner text ≡ true → length text ≤ 200 → bytes_eq text (codes "end") ≡ false → (words ≡ [] → ⊥) → ((line : ℕ) → spoken line false (source_words text) ≡ map (a_word line) words) → Says (text ++ 10 ∷ []) words
 says_line text words start inner short other some says = record {
   says = λ line rest. (
     map (a_word line) words,
     next_line line,
-    line_first line text rest start inner other ∙ ap (λ (l : List Said). l ++ said_from (next_line line) (lines_of rest)) (short_line line text short ∙ says line),
+    line_first line text rest start inner other ∙ ap (λ (l : List Said). l ++ said_from (next_line line) (source_lines rest)) (short_line line text short ∙ says line),
     (all_words line words).0,
     (all_words line words).1,
   );

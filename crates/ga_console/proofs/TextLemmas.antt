@@ -6,17 +6,17 @@ use Rattle.std.proofs.lemmas.List.Elements.{recursion_from_All}
 use Rattle.ga_image.specs.Lines.{lines_of, with_byte}
 use Rattle.ga_grid.specs.Grid.{yxx_of}
 use Rattle.ga_grid.specs.declared.node_id.NodeId.{NodeId}
-use Rattle.ga_console.specs.Texts.{name_of}
+use Rattle.ga_console.specs.Texts.{name_of_node}
 use Rattle.ga_console.specs.kept.Texts.{two_digits}
-use Rattle.ga_console.specs.Lines.{is_feed, HasNoFeed, ended, text_of, onto_first, ended_lines}
+use Rattle.ga_console.specs.Lines.{ends_line, HasNoFeed, ended, text_of, onto_first, ended_lines}
 
 -- no line feed, byte by byte
 NoFeed : List ℕ → Type 0
-NoFeed bytes = AllByRecursion (λ b. is_feed b ≡ false) bytes
+NoFeed bytes = AllByRecursion (λ b. ends_line b ≡ false) bytes
 
 by_byte : (bytes : List ℕ) → HasNoFeed bytes → NoFeed bytes
 unfolding NoFeed
-by_byte bytes h = recursion_from_All (λ b. is_feed b ≡ false) bytes h
+by_byte bytes h = recursion_from_All (λ b. ends_line b ≡ false) bytes h
 
 otherwise : {A : Type 0} (b : Bool) (x y : A) → b ≡ false → cond b x y ≡ y
 otherwise b x y e = rw e refl
@@ -24,22 +24,22 @@ otherwise b x y e = rw e refl
 lines_at : (line more : List ℕ) → NoFeed line → lines_of (line ++ 10 ∷ more) ≡ line ∷ lines_of more
 unfolding NoFeed
 lines_at [] more h = refl
-lines_at (b ∷ line) more h = otherwise (is_feed b) _ _ h.0 ∙ ap (with_byte b) (lines_at line more h.1)
+lines_at (b ∷ line) more h = otherwise (ends_line b) _ _ h.0 ∙ ap (with_byte b) (lines_at line more h.1)
 
 ended_at : (line more : List ℕ) → NoFeed line → ended_lines (line ++ 10 ∷ more) ≡ line ∷ ended_lines more
 unfolding NoFeed
 ended_at [] more h = refl
-ended_at (b ∷ line) more h = otherwise (is_feed b) _ _ h.0 ∙ ap (onto_first b) (ended_at line more h.1)
+ended_at (b ∷ line) more h = otherwise (ends_line b) _ _ h.0 ∙ ap (onto_first b) (ended_at line more h.1)
 
 ended_by_byte : (bytes : List ℕ) → NoFeed bytes → ended_lines bytes ≡ []
 unfolding NoFeed
 ended_by_byte [] h = refl
-ended_by_byte (b ∷ bytes) h = otherwise (is_feed b) _ _ h.0 ∙ ap (onto_first b) (ended_by_byte bytes h.1)
+ended_by_byte (b ∷ bytes) h = otherwise (ends_line b) _ _ h.0 ∙ ap (onto_first b) (ended_by_byte bytes h.1)
 
 last_by_byte : (b : ℕ) (bytes : List ℕ) → NoFeed (b ∷ bytes) → lines_of (b ∷ bytes) ≡ (b ∷ bytes) ∷ []
 unfolding NoFeed
-last_by_byte b [] h = otherwise (is_feed b) _ _ h.0
-last_by_byte b (x ∷ bytes) h = otherwise (is_feed b) _ _ h.0 ∙ ap (with_byte b) (last_by_byte x bytes h.1)
+last_by_byte b [] h = otherwise (ends_line b) _ _ h.0
+last_by_byte b (x ∷ bytes) h = otherwise (ends_line b) _ _ h.0 ∙ ap (with_byte b) (last_by_byte x bytes h.1)
 
 pub lines_front : (lines : List (List ℕ)) (tail : List ℕ) → AllByRecursion HasNoFeed lines → lines_of (text_of lines ++ tail) ≡ lines ++ lines_of tail
 lines_front [] tail h = refl
@@ -81,13 +81,13 @@ pub more_lines : (text : List ℕ) → MoreLines text
 more_lines [] = record { more = []; same = refl }
 more_lines (b ∷ text) =
     let later = more_lines text in
-    let found = more_by_byte b (is_feed b) (lines_of text) (ended_lines text) later.more later.same in
+    let found = more_by_byte b (ends_line b) (lines_of text) (ended_lines text) later.more later.same in
     record { more = found.0; same = found.1 }
 
 -- ---- a node's name
 
 -- its row, and two digits of its column
-pub name_spelled : (node : NodeId) → (48 + node.number / 18) ∷ two_digits (node.number % 18) ≡ name_of node
+pub name_spelled : (node : NodeId) → (48 + node.number / 18) ∷ two_digits (node.number % 18) ≡ name_of_node node
 name_spelled node =
     let small : node.number < 144 = node.in_range in
     let row : yxx_of node.number / 100 ≡ node.number / 18 = omega arith in

@@ -25,7 +25,7 @@ abbrev pub calls_by : ℕ → ℕ → List Call
 calls_by worker count = replicate count (Step (node_id worker))
 
 -- The calls of all workers, in the order in which they had the lock, lead the machine from the load to this lab.
-pub record IsRace (load : List NodeRecord) (limit workers calls : ℕ) (lab : State) : Type 0 where
+pub record IsRaceOfWorkers (load : List NodeRecord) (limit workers calls : ℕ) (lab : State) : Type 0 where
   pub log : List Entry
   pub legal : IsLegal (first load limit) log lab
   pub by_worker : (w : ℕ) → w < workers → calls_of w log ≡ calls_by w calls
@@ -41,7 +41,7 @@ pub record IsReport (limit workers calls : ℕ) (image text : Text) : Type 0 whe
   pub chip : List NodeState
   pub lab : State
   pub accepted : IsImage (lines_of image) chip
-  pub race : IsRace (records_of chip) limit workers calls lab
+  pub race : IsRaceOfWorkers (records_of chip) limit workers calls lab
   pub told : text ≡ report_text (workers * calls) lab.made (length lab.kept)
 
 -- the text is no image, and this tells its first fault

@@ -85,7 +85,7 @@ abbrev pub Does : State → Command → Text → State → Type 0
 Does s asked answer new = ((answer, new) ≡ reply s asked) ⊎ (Grows s asked × (answer ≡ refusal_text fault.Memory) × (new ≡ s))
 
 -- The answer to a line: it is too long, or spells a command, or spells none.
-pub data Answer (s : State) (line : Line) (answer : Text) (new : State) : Type 0 where
-  long : longest < length line → answer ≡ no_long → new ≡ s → Answer s line answer new
-  command : (c : Command) → length line ≤ longest → SpellsCommand c line → Does s c answer new → Answer s line answer new
-  syntax : length line ≤ longest → ((c : Command) → ¬ SpellsCommand c line) → answer ≡ no_syntax → new ≡ s → Answer s line answer new
+pub data LineAnswer (s : State) (line : Line) (answer : Text) (new : State) : Type 0 where
+  long : longest < length line → answer ≡ no_long → new ≡ s → LineAnswer s line answer new
+  command : (c : Command) → length line ≤ longest → SpellsCommand c line → Does s c answer new → LineAnswer s line answer new
+  syntax : length line ≤ longest → ((c : Command) → ¬ SpellsCommand c line) → answer ≡ no_syntax → new ≡ s → LineAnswer s line answer new

@@ -15,7 +15,7 @@ use Rattle.ga_lab.specs.Machine.{State, first}
 use Rattle.ga_console.specs.Texts.{image_fault_text}
 use Rattle.ga_console.specs.Turns.{Answering}
 use Rattle.ga_console.specs.Session.{Serves, Written}
-use Rattle.ga_console.specs.Replies.{Answer}
+use Rattle.ga_console.specs.Replies.{LineAnswer}
 use Rattle.ga_console.specs.declared.commands.Ending.{Ending}
 use Rattle.ga_console.specs.declared.commands.Ending.TheVariants.{Ended, Quit, Past, ReadFailed}
 use Rattle.ga_console.specs.declared.output.WriteFailed.{WriteFailed}
@@ -82,7 +82,7 @@ RunsBy A begin limit read rest text NotFinished = ⊥
 
 -- The debugger's session.
 abbrev pub Runs : ℕ → Bytes → Bytes → Text → Status → Type 0
-Runs limit read rest text status = RunsBy Answer (λ s. s) limit read rest text status
+Runs limit read rest text status = RunsBy LineAnswer (λ s. s) limit read rest text status
 
 -- a refusal was written whole, or that failed
 abbrev pub Refuses : ImageFault → Text → Status → Type 0

@@ -12,12 +12,12 @@ use Rattle.ga_source.specs.declared.item.Program.{Program}
 use Rattle.ga_source.specs.declared.program.Assembled.{Assembled}
 use Rattle.ga_source.specs.declared.scan.Token.{Token}
 use Rattle.ga_source.specs.Saying.{all_in, all_said}
-use Rattle.ga_source.specs.Mending.{numbered, mended, IsAssembledOf}
+use Rattle.ga_source.specs.Mending.{with_numbers, mended, IsAssembledOf}
 use Rattle.ga_source.specs.Programs.{IsAssembled}
 use Rattle.ga_source.specs.Plain.{AreRead}
 use Rattle.ga_source.specs.Asks.{AreAsked}
-use Rattle.ga_source.specs.Made.{IsMade}
-use Rattle.ga_source.specs.Sound.{IsSound}
+use Rattle.ga_source.specs.Made.{IsChipOfSource}
+use Rattle.ga_source.specs.Sound.{IsSoundSource}
 use Rattle.ga_console.specs.Input.{block_size}
 use Rattle.ga_console.specs.Image.{EndsAtEnd, HasNoEnd}
 use Rattle.ga_console.specs.Output.{Begins}
@@ -35,7 +35,7 @@ pub record IsAssembly (source text : Text) : Type 0 where
   pub read : AreRead source programs
   pub asked : AreAsked source programs
   pub assembled : IsAssembled chip programs
-  pub made : IsMade source chip
+  pub made : IsChipOfSource source chip
   pub told : text ≡ printed (records_of chip)
   pub back : Describes (lines_of text) (records_of chip)
 
@@ -60,7 +60,7 @@ pub record IsMendedBy (source : Text) (faults : List Fault) : Type 0 where
   pub words : List Token
   pub all : Assembled
   pub said : all_said words ≡ all_in source
-  pub assembled : IsAssembledOf (mended (numbered 1 words) faults) all
+  pub assembled : IsAssembledOf (mended (with_numbers 1 words) faults) all
 
 -- the source has a fault; there is a chip without the words at fault, unless too many are
 abbrev pub IsFaulty : Text → Type 0
@@ -83,8 +83,8 @@ pub record IsLoadedAs (node made : NodeState) : Type 0 where
 
 -- Only want of memory keeps the text from being assembled, and the chip that it makes has the memories, A, B and P of this one.
 pub record IsSourceOf (chip : List NodeState) (text : Text) : Type 0 where
-  pub sound : IsSound text
-  pub same : (made : List NodeState) → IsMade text made → (n : ℕ) → n < 144 → IsLoadedAs (node_at chip n) (node_at made n)
+  pub sound : IsSoundSource text
+  pub same : (made : List NodeState) → IsChipOfSource text made → (n : ℕ) → n < 144 → IsLoadedAs (node_at chip n) (node_at made n)
 
 -- the text is an image, and its source makes the same
 abbrev pub IsAccepted : Text → Text → Type 0

@@ -22,8 +22,8 @@ use Rattle.ga_lab.specs.declared.fault.LabFault.{LabFault}
 use Rattle.ga_lab.specs.declared.fault.LabFault.TheVariants.{Waiting, Stopped, Full, Memory, Empty, NoStep, Spent}
 
 -- a node's name: three decimal digits, of its row and its column
-abbrev pub name_of : NodeId → Text
-name_of node = decimal3_of (yxx_of node.number)
+abbrev pub name_of_node : NodeId → Text
+name_of_node node = decimal3_of (yxx_of node.number)
 
 -- ---- events
 
@@ -35,7 +35,7 @@ kind_text (kind.Stop number) = codes " stop " ++ decimal number
 
 -- a step of a node
 abbrev pub step_text : NodeId → ℕ → Text
-step_text node step = name_of node ++ codes " " ++ decimal step
+step_text node step = name_of_node node ++ codes " " ++ decimal step
 
 -- a node's own event, or a word that went from its writer to its reader
 abbrev pub made_text : Made → Text
@@ -54,7 +54,7 @@ counts_text kept made limit = codes "kept " ++ decimal kept ++ codes " made " ++
 
 -- what stands before the texts of a node's steps
 abbrev pub trace_text : NodeId → ℕ → Text
-trace_text node count = codes "trace " ++ name_of node ++ codes " " ++ decimal count ++ codes "\n"
+trace_text node count = codes "trace " ++ name_of_node node ++ codes " " ++ decimal count ++ codes "\n"
 
 -- what stands before the texts of a chain's events
 abbrev pub chain_text : ℕ → Text
@@ -104,11 +104,11 @@ stacks_text node = codes " d" ++ words_text node.d ++ codes " r" ++ words_text n
 
 abbrev pub node_text : NodeId → NodeRecord → Text
 node_text node at =
-    codes "node " ++ name_of node ++ codes " " ++ state_text at.wait at.stop ++ registers_text at ++ flags_text at ++ stacks_text at ++ codes "\n"
+    codes "node " ++ name_of_node node ++ codes " " ++ state_text at.wait at.stop ++ registers_text at ++ flags_text at ++ stacks_text at ++ codes "\n"
 
 -- the word at an address of a node's memory
 abbrev pub memory_text : NodeId → ℕ → ℕ → Text
-memory_text node address word = codes "mem " ++ name_of node ++ codes " " ++ hex2_of address ++ codes " " ++ hex6_of word ++ codes "\n"
+memory_text node address word = codes "mem " ++ name_of_node node ++ codes " " ++ hex2_of address ++ codes " " ++ hex6_of word ++ codes "\n"
 
 -- ---- refusals
 

@@ -1,6 +1,6 @@
 //! A line that was read whole, found where it stands.
 ghost use Rattle.std.specs.Prelude.{◌≡◌, ◌+◌, ◌*◌, [], ◌∷◌, ◌++◌, IfSome, codes};
-ghost use Rattle.ga_console.specs.Texts.{name_of};
+ghost use Rattle.ga_console.specs.Texts.{name_of_node};
 ghost use Rattle.ga_console.specs.kept.Ahead.{IsLineAhead, StandsAhead};
 
 use super::command::{Command, command_of};
@@ -41,7 +41,7 @@ pub(crate) fn word_of(first: u8, second: u8, third: u8, fourth: u8) -> u64
 /// The node whose name and a line feed these bytes are. The weighted digits guess it, and its name decides.
 #[inline(always)]
 fn node_ahead(row: u8, tens: u8, ones: u8, feed: u8) -> Option<NodeId>
-    ensures { IfSome result (λ node. (name_of node ++ codes "\n") ≡ (row ∷ tens ∷ ones ∷ feed ∷ [])) }
+    ensures { IfSome result (λ node. (name_of_node node ++ codes "\n") ≡ (row ∷ tens ∷ ones ∷ feed ∷ [])) }
 {
     let word = word_of(row, tens, ones, feed);
     let guess = ((word + NO_DIGITS) * WEIGHTS / 0x100_0000 % 0x100) as u8;

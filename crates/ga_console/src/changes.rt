@@ -3,7 +3,7 @@ ghost use Rattle.ga_console.specs.kept.Output.{Says};
 ghost use Rattle.ga_console.specs.Replies.{Does};
 ghost use Rattle.ga_console.specs.declared.command.Command.TheVariants.{Step, Back, Rewind};
 
-use super::event::refusal;
+use super::event::refusal_text;
 use super::output::{Output, WriteFailed};
 use ga_grid::NodeId;
 use ga_lab::Lab;
@@ -22,7 +22,7 @@ pub fn step<W: Write>(
 {
     match lab.step_inlined(node) {
         Ok(made) => { output.say_made(writer, made) }
-        Err(fault) => output.say(writer, refusal(fault)),
+        Err(fault) => output.say(writer, refusal_text(fault)),
     }
 }
 
@@ -33,7 +33,7 @@ pub fn back<W: Write>(lab: &mut Lab, output: &mut Output, writer: &mut W) -> Res
 {
     match lab.undo() {
         Ok(()) => { output.say_removed(writer, 1, lab.counts().kept) }
-        Err(fault) => output.say(writer, refusal(fault)),
+        Err(fault) => output.say(writer, refusal_text(fault)),
     }
 }
 
@@ -50,6 +50,6 @@ pub fn rewind<W: Write>(
 {
     match lab.rewind(node, step) {
         Ok(removed) => { output.say_removed(writer, removed, lab.counts().kept) }
-        Err(fault) => output.say(writer, refusal(fault)),
+        Err(fault) => output.say(writer, refusal_text(fault)),
     }
 }

@@ -141,19 +141,19 @@ fn with_arguments(name: &[u8], arguments: &[u8]) -> Option<Command>
 fn step_command(arguments: &[u8]) -> Option<Command>
     ensures { result ≡ option_map Step (node_in arguments.now) }
 {
-    Some(Command::Step(node_of(arguments)?))
+    Some(Command::Step(node_in(arguments)?))
 }
 
 fn node_command(arguments: &[u8]) -> Option<Command>
     ensures { result ≡ option_map Node (node_in arguments.now) }
 {
-    Some(Command::Node(node_of(arguments)?))
+    Some(Command::Node(node_in(arguments)?))
 }
 
 fn trace_command(arguments: &[u8]) -> Option<Command>
     ensures { result ≡ option_map Trace (node_in arguments.now) }
 {
-    Some(Command::Trace(node_of(arguments)?))
+    Some(Command::Trace(node_in(arguments)?))
 }
 
 #[tactic(auto, unfolding(crate::specs::kept::Parsing::rewind_in))]
@@ -169,7 +169,7 @@ fn memory_of(arguments: &[u8]) -> Option<Command>
     ensures { result ≡ memory_in arguments.now }
 {
     let (node, address) = cut(arguments)?;
-    Some(Command::Memory(node_of(node)?, byte_of(address)?))
+    Some(Command::Memory(node_in(node)?, byte_of(address)?))
 }
 
 #[tactic(auto, unfolding(crate::specs::kept::Parsing::why_in))]
@@ -178,8 +178,8 @@ fn why_of(arguments: &[u8]) -> Option<Command>
 {
     let (from, rest) = cut(arguments)?;
     let (from_step, rest) = cut(rest)?;
-    let from = node_of(from)?;
-    let from_step = number_of(from_step)?;
+    let from = node_in(from)?;
+    let from_step = number_in(from_step)?;
     let (to, to_step) = step_of(rest)?;
     Some(Command::Why {
         from,
@@ -195,7 +195,7 @@ fn step_of(text: &[u8]) -> Option<(NodeId, u32)>
     ensures { result ≡ step_in text.now }
 {
     let (node, step) = cut(text)?;
-    Some((node_of(node)?, number_of(step)?))
+    Some((node_in(node)?, number_in(step)?))
 }
 
 /// The text before the first space, and the text behind it.
@@ -212,7 +212,7 @@ pub fn cut(text: &[u8]) -> Option<(&[u8], &[u8])>
 
 /// The node that is named by three decimal digits: its row, and two of its column.
 #[tactic(auto, unfolding(crate::specs::Parsing::node_in, ga_grid::specs::Names::node_number))]
-pub fn node_of(word: &[u8]) -> Option<NodeId>
+pub fn node_in(word: &[u8]) -> Option<NodeId>
     ensures { result ≡ node_in word.now }
 {
     match word {
@@ -247,7 +247,7 @@ fn node_at(row: u32, column: u32) -> Option<NodeId>
 }
 
 /// A decimal number below 2^32 without leading zeros.
-pub fn number_of(word: &[u8]) -> Option<u32>
+pub fn number_in(word: &[u8]) -> Option<u32>
     ensures { result ≡ number_in word.now }
 {
     let (first, rest) = word.split_first()?;

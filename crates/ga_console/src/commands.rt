@@ -7,7 +7,7 @@ ghost use Rattle.ga_console.specs.Session.{Serves, Written};
 
 use super::ahead::{Ahead, ahead_of};
 use super::input::Input;
-use super::lines::{Line, LineEnd, read_line};
+use super::lines::{LineBuffer, LineEnd, read_line};
 use super::output::{Output, WriteFailed};
 use super::responder::{Responder, Turn};
 use std::alloc::Global;
@@ -69,7 +69,7 @@ fn answer_lines<S: Responder, R: Read, W: Write>(
         × Serves S.answers (input_limit - input.old.taken) session.old read rest text session.new result
         × IsSaidOrCut result (W.contents writer.new) before (said ++ text) output.new }
 {
-    let mut line = Line::new();
+    let mut line = LineBuffer::new();
     'lines: loop {
         let text = input.unread();
         match ahead_of(text) {

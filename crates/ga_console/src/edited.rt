@@ -1,7 +1,7 @@
 //! What editors write into a text, where it has no place.
 
 use super::faults::tell;
-use super::text::{Text, push_text};
+use super::text::{TextBuffer, push_text};
 use std::io::Write;
 
 /// What an editor wrote into a text where it has no place.
@@ -67,7 +67,7 @@ fn hides_lines(text: &[u8]) -> bool {
 
 /// Tells what an editor wrote into a text.
 pub fn tell_edited<E: Write>(errors: &mut E, edited: Option<Edited>) {
-    let mut text = Text::new();
+    let mut text = TextBuffer::new();
     match edited {
         Some(Edited::Mark) => push_text(
             &mut text,

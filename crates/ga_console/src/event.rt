@@ -180,7 +180,7 @@ pub fn push_chain<const ROOM: usize>(out: &mut ArrayVec<u8, ROOM>, count: usize)
 }
 
 /// The text of a refused call.
-pub fn refusal(fault: LabFault) -> &'static [u8]
+pub fn refusal_text(fault: LabFault) -> &'static [u8]
     ensures text { result.now ≡ refusal_text fault }
     ensures len { length result.now ≤ LINE_ROOM }
 {

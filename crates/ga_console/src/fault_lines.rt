@@ -2,7 +2,7 @@
 
 use super::faults::push_fault;
 use ga_notes::Lines;
-use ga_source::{Cause, Fault, Token};
+use ga_source::{Fault, SourceCause, Token};
 use std::alloc::AllocError;
 
 /// The words of a source by their numbers, and its faults in the order of their words.
@@ -112,11 +112,11 @@ fn line_of(words: &[Token<'_>], number: u32) -> u32 {
 /// A fault that is told of the number of a word, told of its line.
 pub(crate) fn on_line<'s>(words: &[Token<'_>], fault: Fault<'s>) -> Fault<'s> {
     let own = line_of(words, fault.line);
-    if let Cause::CellTwice { cell, line } = fault.cause {
+    if let SourceCause::CellTwice { cell, line } = fault.cause {
         let line = line_of(words, line);
         return Fault {
             line: own,
-            cause: Cause::CellTwice { cell, line },
+            cause: SourceCause::CellTwice { cell, line },
         };
     }
     Fault {

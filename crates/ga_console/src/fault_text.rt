@@ -2,11 +2,11 @@
 ghost use Rattle.std.specs.Prelude.{◌≡◌};
 ghost use Rattle.ga_console.specs.Texts.{image_fault_text};
 
-use super::text::{Text, push_number, push_text};
+use super::text::{TextBuffer, push_number, push_text};
 use ga_image::ImageFault;
 
 /// Puts the text of a refused image.
-pub fn put_fault(out: &mut Text, fault: ImageFault)
+pub fn put_fault(out: &mut TextBuffer, fault: ImageFault)
     ensures { out.new.items ≡ image_fault_text fault }
 {
     out.clear();

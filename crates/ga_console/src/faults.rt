@@ -5,11 +5,11 @@ ghost use Rattle.ga_node.specs.State.{IsPlace};
 ghost use Rattle.ga_console.specs.kept.Texts.{shown_byte, shown, unknown_text};
 
 use super::output::write_all;
-use super::text::{Text, push_byte, push_number, push_text};
+use super::text::{TextBuffer, push_byte, push_number, push_text};
 use arrayvec::ArrayVec;
 use ga_grid::{Chip, NODES, NodeId};
 use ga_node::{Node, Place};
-use ga_source::{Cause, Fault, Store};
+use ga_source::{Fault, SourceCause, Store};
 use std::alloc::AllocError;
 use std::io::Write;
 
@@ -25,7 +25,7 @@ type FaultText = ArrayVec<u8, FAULT_ROOM>;
 /// Tells the fault of a source.
 pub fn tell_fault<E: Write>(errors: &mut E, fault: Fault<'_>) {
     match fault.cause {
-        Cause::Memory => tell_memory(errors),
+        SourceCause::Memory => tell_memory(errors),
         _ => tell(errors, fault_text(fault).as_slice()),
     }
 }
@@ -34,7 +34,7 @@ pub fn tell_fault<E: Write>(errors: &mut E, fault: Fault<'_>) {
 fn fault_text(fault: Fault<'_>) -> FaultText {
     let mut text = FaultText::new();
     match fault.cause {
-        Cause::Unknown(word) => put_unknown(&mut text, fault.line, word),
+        SourceCause::Unknown(word) => put_unknown(&mut text, fault.line, word),
         cause => {
             let _ = write!(text, "ga144: line {}: {}\n", fault.line, cause);
         }
@@ -117,7 +117,7 @@ pub fn tell_long<E: Write>(errors: &mut E) {
 
 /// Warns of a store over code.
 pub fn tell_store<E: Write>(errors: &mut E, store: Store) {
-    let mut text = Text::new();
+    let mut text = TextBuffer::new();
     let Store {
         line,
         address,
@@ -136,7 +136,7 @@ pub(crate) fn tell_unsaid<E: Write>(errors: &mut E, chip: &Chip) {
     let fresh = Node::new(0);
     for number in 0..NODES as u8 {
         let id = NodeId::new(number);
-        let mut text = Text::new();
+        let mut text = TextBuffer::new();
         let _ = write!(text, "ga144: node {:03}: not in source:", id.yxx());
         let begun = text.len();
         push_unsaid(&mut text, chip.node(id), &fresh);
@@ -148,7 +148,7 @@ pub(crate) fn tell_unsaid<E: Write>(errors: &mut E, chip: &Chip) {
 }
 
 /// Adds the names of the fields that aren't as at load, beside the memories, P, A and B.
-fn push_unsaid(text: &mut Text, node: &Node, fresh: &Node) {
+fn push_unsaid(text: &mut TextBuffer, node: &Node, fresh: &Node) {
     push_if(text, b" i", differs(node, fresh, Place::I));
     push_if(text, b" io", differs(node, fresh, Place::Io));
     push_if(text, b" carry", differs(node, fresh, Place::Carry));
@@ -159,7 +159,7 @@ fn push_unsaid(text: &mut Text, node: &Node, fresh: &Node) {
     push_if(text, b" stop", differs(node, fresh, Place::Stop));
 }
 
-fn push_if(text: &mut Text, name: &[u8], is_so: bool) {
+fn push_if(text: &mut TextBuffer, name: &[u8], is_so: bool) {
     if is_so {
         let _fits = text.try_extend_from_slice(name);
     }

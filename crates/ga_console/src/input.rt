@@ -6,7 +6,7 @@ ghost use Rattle.ga_console.specs.kept.Input.{Fills, HasFilled, TakesPart};
 ghost use Rattle.ga_console.specs.Lines.{HasNoFeed};
 ghost use Rattle.ga_console.specs.kept.Image.{with_feed};
 
-use super::lines::{Line, keep};
+use super::lines::{LineBuffer, keep};
 use std::alloc::AllocError;
 use std::io::Read;
 use std::marker::Model;
@@ -117,7 +117,7 @@ impl Input {
     }
 
     /// Takes what was read, up to a line feed, and keeps it as far as a line goes. True where a line feed was taken.
-    pub(crate) fn take_line(&mut self, line: &mut Line) -> bool
+    pub(crate) fn take_line(&mut self, line: &mut LineBuffer) -> bool
         ensures takes { (part : Bytes) × TakesPart self.old part self.new result
             × (line.new.items ≡ take 201 (line.old.items ++ part)) }
         ensures within { IsWithin self.new }

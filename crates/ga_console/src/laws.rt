@@ -12,23 +12,23 @@ ghost use Rattle.ga_console.specs.Reached.{Reaches};
 ghost use Rattle.ga_console.specs.Run.{Opens};
 ghost use Rattle.ga_console.specs.Source.{IsAssembly, IsLoadedAs, IsAccepted, Assembles};
 ghost use Rattle.ga_console.specs.declared.run.Status.TheVariants.{Done};
-ghost use Rattle.ga_source.specs.Made.{IsMade};
+ghost use Rattle.ga_source.specs.Made.{IsChipOfSource};
 
-use ga_lab::laws::stays_steady;
+use ga_lab::laws::machine_stays_steady;
 
 /// In each chip to which a session comes, each node's wait fits its slot and its stop: so its dump is an image.
 pub fn stays_fit()
     ensures { (image : Bytes) (limit : ℕ) (machine last : State) (lines : List Line) →
         Opens image limit machine → Reaches machine lines last → AreSteady (chip_of last) }
 {
-    stays_steady();
+    machine_stays_steady();
 }
 
 /// The chip that is assembled of the source of an image has the memories, A, B and P of the image's chip; so has that of the image
 /// which is written of this source, and that of the image which `asm` writes where this source is its input, of which it may read a
 /// part.
 pub fn source_keeps_the_chip()
-    ensures made { (image text : Text) (made : List NodeState) → IsAccepted image text → IsMade text made →
+    ensures made { (image text : Text) (made : List NodeState) → IsAccepted image text → IsChipOfSource text made →
         (chip : List NodeState) × IsImage (lines_of image) chip × ((n : ℕ) → n < 144 → IsLoadedAs (node_at chip n) (node_at made n)) }
     ensures written { (image text again : Text) → IsAccepted image text → IsAssembly text again →
         (chip made : List NodeState) × IsImage (lines_of image) chip × Describes (lines_of again) (records_of made) × ((n : ℕ) → n < 144 → IsLoadedAs (node_at chip n) (node_at made n)) }

@@ -32,11 +32,11 @@ mod text;
 mod whole;
 
 pub use assembling::{assemble_source, tell_stores};
-pub use command::{Command, command_of, cut, node_of, number_of};
+pub use command::{Command, command_of, cut, node_in, number_in};
 pub use commands::{Ending, serve};
 pub use disassembly::disassemble;
 pub use edited::{Edited, edited_image, edited_source, tell_edited};
-pub use event::{push_made, refusal};
+pub use event::{push_made, refusal_text};
 pub use faults::{tell_fault, tell_long, tell_memory};
 pub use image::{ImageEnd, read_image};
 pub use input::Input;
@@ -47,6 +47,6 @@ pub use responder::{Responder, Turn};
 pub use run::{Status, open_image, refuse, session, session_with, status_of};
 pub use settings::{LineFault, Settings, arguments};
 pub use text::{
-    BYTE_ROOM, LINE_ROOM, NODE_ROOM, NUMBER_ROOM, STEP_ROOM, Text, WORD_ROOM, push_byte,
+    BYTE_ROOM, LINE_ROOM, NODE_ROOM, NUMBER_ROOM, STEP_ROOM, TextBuffer, WORD_ROOM, push_byte,
     push_digit, push_node, push_number, push_spaced, push_step, push_text, push_word,
 };

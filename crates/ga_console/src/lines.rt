@@ -11,7 +11,7 @@ use arrayvec::ArrayVec;
 use std::io::{Read, Write};
 
 /// A line, or the first 201 bytes of one that is too long.
-pub type Line = ArrayVec<u8, 201>;
+pub type LineBuffer = ArrayVec<u8, 201>;
 
 /// How a line ended.
 #[derive(Clone, Copy, PartialEq, Eq)]
@@ -35,7 +35,7 @@ pub fn read_line<R: Read, W: Write>(
     reader: &mut R,
     output: &mut Output,
     writer: &mut W,
-    line: &mut Line,
+    line: &mut LineBuffer,
 ) -> Result<LineEnd, WriteFailed>
     requires { IsWithin input.old }
     ensures reads { (left : Bytes) → R.remaining reader.old ≡ Some left →
@@ -62,7 +62,7 @@ pub fn read_line<R: Read, W: Write>(
 }
 
 /// Adds bytes to a line, as far as there is room.
-pub fn keep(line: &mut Line, bytes: &[u8])
+pub fn keep(line: &mut LineBuffer, bytes: &[u8])
     ensures { line.new.items ≡ take 201 (line.old.items ++ bytes.now) }
 {
     let count = line.remaining_capacity().min(bytes.len());

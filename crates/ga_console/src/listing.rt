@@ -18,7 +18,8 @@ use ga_node::Place;
 use ga_ports::{Target, advance_p, classify};
 use ga_slots::Op;
 use ga_source::{
-    Assembled, Fault, Group, Item, Program, Request, Token, Value, assemble_behind_faults, words_of,
+    Assembled, Fault, Group, Item, Operand, Program, Request, Token, assemble_behind_faults,
+    source_words,
 };
 use std::alloc::{AllocError, Global};
 use std::io::{Read, Write};
@@ -115,7 +116,7 @@ struct Listed<'s> {
 fn listing_of(alloc: Global, source: &[u8]) -> Result<Listed<'_>, Fault<'_>>
     ensures { IfOk result (λ listed. IsListed source.now listed.fault) }
 {
-    let words = words_of(alloc, source)?;
+    let words = source_words(alloc, source)?;
     let all = words.as_slice();
     let mended = assemble_behind_faults(alloc, all)?;
     let fault = first_of(all, mended.faults.as_slice());
@@ -312,13 +313,13 @@ fn push_item(text: &mut Vec<u8>, program: &Program<'_>, item: Item) -> Result<()
 }
 
 /// Adds a number in decimal and hexadecimal digits, or a label's name behind an apostrophe.
-fn push_value(text: &mut Vec<u8>, program: &Program<'_>, value: Value) -> Result<(), AllocError> {
+fn push_value(text: &mut Vec<u8>, program: &Program<'_>, value: Operand) -> Result<(), AllocError> {
     match value {
-        Value::Number(number) => {
+        Operand::Number(number) => {
             text.extend_from_slice(b"0x")?;
             push_hex(text, number, 5)
         }
-        Value::Label(label) => {
+        Operand::Label(label) => {
             text.push(b'\'')?;
             push_target(text, program, label)
         }

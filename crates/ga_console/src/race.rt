@@ -2,12 +2,12 @@
 ghost use Rattle.std.specs.Prelude.{◌≡◌, ◌<◌, ◌≤◌, ◌*◌, ◌++◌, ℕ, map, length, Some, IfOk, IfSome, All, vec_len, slice_get};
 ghost use Rattle.ga_image.specs.Lines.{Bytes};
 ghost use Rattle.ga_grid.specs.Chip.{records_of};
-ghost use Rattle.ga_console.specs.Race.{calls_by, report_text, IsRace, Reports};
+ghost use Rattle.ga_console.specs.Race.{calls_by, report_text, IsRaceOfWorkers, Reports};
 ghost use Rattle.ga_console.specs.kept.Race.{Races, Writes};
 
 use super::output::{WriteFailed, write_all};
 use super::run::{Status, refuse};
-use super::text::{Text, push_number, push_text};
+use super::text::{TextBuffer, push_number, push_text};
 use super::whole::{WholeRead, read_whole};
 use ga_grid::{Chip, NodeId};
 use ga_image::{ImageCause, parse};
@@ -84,7 +84,7 @@ fn race_on<T: Threads + Wait + Sync>(
 ) -> Option<Closed>
     requires { (1 ≤ workers) × (workers ≤ 16) }
     ensures { IfSome result (λ closed. (length closed.log.items ≡ workers * calls)
-        × IsRace (records_of chip) limit workers calls closed.lab) }
+        × IsRaceOfWorkers (records_of chip) limit workers calls closed.lab) }
 {
     let Ok(lists) = lists_of(alloc, workers, calls) else {
         return None;
@@ -130,7 +130,7 @@ fn report<W: Write>(writer: &mut W, closed: &Closed) -> Status
         (text : Bytes) × (W.contents writer.new ≡ Some (before ++ text))
         × Writes (report_text (length closed.now.log.items) closed.now.lab.made (length closed.now.lab.kept)) text result }
 {
-    let mut text = Text::new();
+    let mut text = TextBuffer::new();
     put_report(&mut text, closed);
     match write_all(writer, text.as_slice()) {
         Ok(()) => Status::Done,
@@ -139,7 +139,7 @@ fn report<W: Write>(writer: &mut W, closed: &Closed) -> Status
 }
 
 /// Puts the three lines of a race.
-fn put_report(out: &mut Text, closed: &Closed)
+fn put_report(out: &mut TextBuffer, closed: &Closed)
     ensures { out.new.items
         ≡ report_text (length closed.now.log.items) closed.now.lab.made (length closed.now.lab.kept) }
 {

@@ -5,7 +5,7 @@ ghost use Rattle.ga_console.specs.Texts.{made_text, chain_text};
 ghost use Rattle.ga_console.specs.Replies.{Does, steps_text};
 ghost use Rattle.ga_console.specs.declared.command.Command.TheVariants.{Node, Memory, Trace, Why, Count, Dump};
 
-use super::event::refusal;
+use super::event::refusal_text;
 use super::output::{Output, WriteFailed};
 use ga_grid::NodeId;
 use ga_image::print;
@@ -60,7 +60,7 @@ pub fn trace<W: Write>(
 {
     match lab.history(node) {
         Ok(steps) => say_steps(node, steps.as_slice(), output, writer),
-        Err(fault) => output.say(writer, refusal(fault)),
+        Err(fault) => output.say(writer, refusal_text(fault)),
     }
 }
 
@@ -95,7 +95,7 @@ pub fn why<W: Write>(
     match lab.explain(from, to) {
         Ok(None) => output.say(writer, b"independent\n"),
         Ok(Some(chain)) => say_chain(chain.as_slice(), output, writer),
-        Err(fault) => output.say(writer, refusal(fault)),
+        Err(fault) => output.say(writer, refusal_text(fault)),
     }
 }
 
@@ -127,6 +127,6 @@ pub fn dump<W: Write>(
 {
     match print(alloc, lab.chip()) {
         Ok(image) => output.say_blocks(writer, image.as_slice()),
-        Err(_) => output.say(writer, refusal(LabFault::Memory)),
+        Err(_) => output.say(writer, refusal_text(LabFault::Memory)),
     }
 }

@@ -1,6 +1,6 @@
 //! The answer to a line.
 ghost use Rattle.ga_console.specs.kept.Output.{Says};
-ghost use Rattle.ga_console.specs.Replies.{Answer, Does};
+ghost use Rattle.ga_console.specs.Replies.{LineAnswer, Does};
 ghost use Rattle.ga_console.specs.kept.Turns.{Turns};
 
 use super::changes::{back, rewind, step};
@@ -24,7 +24,7 @@ pub fn answer<W: Write>(
     output: &mut Output,
     writer: &mut W,
 ) -> Result<Turn, WriteFailed>
-    ensures { Says result (Turns Answer lab.old line.now lab.new result)
+    ensures { Says result (Turns LineAnswer lab.old line.now lab.new result)
         (W.contents writer.old) output.old (W.contents writer.new) output.new }
 {
     if line.len() > LINE_LIMIT {

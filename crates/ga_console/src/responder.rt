@@ -63,9 +63,9 @@ pub trait Responder: Drop {
 }
 
 impl Responder for Lab {
-    ghost use Rattle.ga_console.specs.Replies.{Answer};
+    ghost use Rattle.ga_console.specs.Replies.{LineAnswer};
 
-    ghost answers = { Answer };
+    ghost answers = { LineAnswer };
 
     ghost begin = { λ s. s };
 

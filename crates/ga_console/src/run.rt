@@ -12,7 +12,7 @@ use super::image::{ImageEnd, read_image};
 use super::input::Input;
 use super::output::{Output, WriteFailed, write_all};
 use super::responder::Responder;
-use super::text::Text;
+use super::text::TextBuffer;
 use ga_image::{ImageCause, ImageFault, parse};
 use ga_lab::Lab;
 use std::alloc::Global;
@@ -135,7 +135,7 @@ pub fn refuse<W: Write>(writer: &mut W, fault: ImageFault) -> Status
     ensures { (before : Bytes) → W.contents writer.old ≡ Some before →
         (text : Bytes) × (W.contents writer.new ≡ Some (before ++ text)) × Refuses fault text result }
 {
-    let mut text = Text::new();
+    let mut text = TextBuffer::new();
     put_fault(&mut text, fault);
     match write_all(writer, text.as_slice()) {
         Ok(()) => Status::ImageRefused,

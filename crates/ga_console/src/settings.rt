@@ -2,7 +2,7 @@
 ghost use Rattle.std.specs.Prelude.{IfOk};
 ghost use Rattle.ga_console.specs.Settings.{AreInRange, Within};
 
-use super::command::{node_of, number_of};
+use super::command::{node_in, number_in};
 use clap::builder::ValueParser;
 use clap::{Arg, ArgAction, ArgMatches, Command, value_parser};
 use ga_grid::NodeId;
@@ -478,7 +478,7 @@ fn step(
     let [node, number] = words else {
         return Err(LineFault::Memory);
     };
-    match (node_of(node.as_bytes()), number_of(number.as_bytes())) {
+    match (node_in(node.as_bytes()), number_in(number.as_bytes())) {
         (Some(node), Some(number)) => Ok(Some((node, number))),
         _ => Err(no_step(alloc, name, node, number)),
     }

@@ -4,7 +4,7 @@ ghost use Rattle.ga_grid.specs.declared.node_id.NodeId.{NodeId};
 ghost use Rattle.arrayvec.specs.ArrayVec.{array_vec_len};
 ghost use Rattle.ga_word.specs.Word.{hex6_of};
 ghost use Rattle.ga_image.specs.Spelling.{decimal3_of, hex2_of};
-ghost use Rattle.ga_console.specs.Texts.{name_of, step_text};
+ghost use Rattle.ga_console.specs.Texts.{name_of_node, step_text};
 ghost use Rattle.ga_console.specs.kept.Texts.{two_digits, four_digits};
 
 use arrayvec::ArrayVec;
@@ -29,7 +29,7 @@ pub const BYTE_ROOM: usize = b"ff".len();
 pub const STEP_ROOM: usize = NODE_ROOM + 1 + NUMBER_ROOM;
 
 /// The text of a line.
-pub type Text = ArrayVec<u8, LINE_ROOM>;
+pub type TextBuffer = ArrayVec<u8, LINE_ROOM>;
 
 /// Adds a text.
 #[inline]
@@ -145,7 +145,7 @@ pub fn push_digit<const ROOM: usize>(out: &mut ArrayVec<u8, ROOM>, number: u8)
 /// Adds a node's name.
 pub fn push_node<const ROOM: usize>(out: &mut ArrayVec<u8, ROOM>, node: NodeId)
     requires { array_vec_len out.old + NODE_ROOM ≤ ROOM }
-    ensures text { out.new.items ≡ out.old.items ++ name_of node }
+    ensures text { out.new.items ≡ out.old.items ++ name_of_node node }
     ensures len { array_vec_len out.new ≡ array_vec_len out.old + NODE_ROOM }
 {
     push_text(out, &name_digits(node));
@@ -154,7 +154,7 @@ pub fn push_node<const ROOM: usize>(out: &mut ArrayVec<u8, ROOM>, node: NodeId)
 /// The digits of a node's name: one of its row, and two of its column.
 #[inline(always)]
 fn name_digits(node: NodeId) -> [u8; NODE_ROOM]
-    ensures { result ≡ name_of node }
+    ensures { result ≡ name_of_node node }
 {
     let [row, tens, ones, _] = name_spaced(node);
     [row, tens, ones]
@@ -163,7 +163,7 @@ fn name_digits(node: NodeId) -> [u8; NODE_ROOM]
 /// A node's name and a space.
 #[inline(always)]
 fn name_spaced(node: NodeId) -> [u8; 4]
-    ensures { result ≡ name_of node ++ codes " " }
+    ensures { result ≡ name_of_node node ++ codes " " }
 {
     name_numbered(node.index() as u8)
 }
@@ -171,7 +171,7 @@ fn name_spaced(node: NodeId) -> [u8; 4]
 /// The name of the node with this number and a space, or four zeros where there is no such node.
 #[inline(always)]
 pub(crate) fn name_numbered(number: u8) -> [u8; 4]
-    ensures named { (node : NodeId) → node.number ≡ number → result ≡ name_of node ++ codes " " }
+    ensures named { (node : NodeId) → node.number ≡ number → result ≡ name_of_node node ++ codes " " }
     ensures none { 144 ≤ number → result ≡ (0 ∷ 0 ∷ 0 ∷ 0 ∷ []) }
 {
     let at = 4 * number as usize;
@@ -182,7 +182,7 @@ pub(crate) fn name_numbered(number: u8) -> [u8; 4]
 #[inline(always)]
 pub(crate) fn push_node_spaced<const ROOM: usize>(out: &mut ArrayVec<u8, ROOM>, node: NodeId)
     requires { array_vec_len out.old + NODE_ROOM + 1 ≤ ROOM }
-    ensures text { out.new.items ≡ out.old.items ++ (name_of node ++ codes " ") }
+    ensures text { out.new.items ≡ out.old.items ++ (name_of_node node ++ codes " ") }
     ensures len { array_vec_len out.new ≡ array_vec_len out.old + NODE_ROOM + 1 }
 {
     push_text(out, &name_spaced(node));

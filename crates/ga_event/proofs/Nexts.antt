@@ -22,7 +22,7 @@ use Rattle.ga_event.specs.declared.event.Event.TheVariants.{Own, Pass}
 use Rattle.ga_event.specs.Apply.{writes_to, reads_from, is_number, unmatched, refusal_of}
 use Rattle.ga_event.specs.Next.{pass_to, pass_from, pass_over, or_else, first_over, first_pass, or_waiting, next_by, next}
 
-neighbour_of-within : (n m : ℕ) (side : Side) → n < 144 → neighbour_of n side ≡ Some m → m < 144
+pub neighbour_of-within : (n m : ℕ) (side : Side) → n < 144 → neighbour_of n side ≡ Some m → m < 144
 neighbour_of-within n m Right l h = grind arith
 neighbour_of-within n m Down l h = grind arith
 neighbour_of-within n m Left l h = grind arith

@@ -42,3 +42,7 @@ mades_after before (x ∷ xs) n =
 
 abbrev pub mades_of : List (Cause × Told) → ℕ → List Made
 mades_of kept n = mades_after [] kept n
+
+-- the events alone
+abbrev pub events_in : List Cause → List Event
+events_in causes = map (λ (cause : Cause). cause.event) causes

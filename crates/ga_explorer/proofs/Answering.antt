@@ -9,9 +9,9 @@ use Rattle.ga_lab.specs.declared.fault.LabFault.TheVariants.{Memory}
 use Rattle.ga_console.specs.Texts.{refusal_text}
 use Rattle.ga_search.specs.Effects.{effects_of}
 use Rattle.ga_search.specs.Stuck.{AreStuck}
-use Rattle.ga_search.specs.Freed.{IsWithin}
+use Rattle.ga_search.specs.Freed.{IsSubset}
 use Rattle.ga_search.specs.Idle.{MarksIdle}
-use Rattle.ga_search.specs.declared.effects.Effect.{Effect}
+use Rattle.ga_search.specs.declared.effects.RollbackEffect.{RollbackEffect}
 use Rattle.ga_search.specs.declared.races.Race.{Race}
 use Rattle.ga_search.specs.Races.{races_asked, has_looks, first_ready}
 use Rattle.std.specs.List.{All}
@@ -22,7 +22,7 @@ use Rattle.ga_explorer.specs.Texts.{effects_text, effects_answer}
 use Rattle.ga_explorer.specs.Waiting.{all_waiting, stuck_text, all_rings, idle_text}
 use Rattle.ga_explorer.specs.Answers.{TellsEffects, TellsWho}
 
-pub effects_found : (s : State) (node : NodeId) (step events : ℕ) (nodes : List Effect) (text : List ℕ) → rewind_answer s node.number step ≡ Ok events
+pub effects_found : (s : State) (node : NodeId) (step events : ℕ) (nodes : List RollbackEffect) (text : List ℕ) → rewind_answer s node.number step ≡ Ok events
     → nodes ≡ effects_of s node.number step → text ≡ effects_text events nodes → TellsEffects s node step text
 effects_found s node step events nodes text answer is t =
     inl (t ∙ ap (effects_text events) is ∙ ap (λ (r : Result ℕ LabFault). effects_answer (effects_of s node.number step) r) (sym answer))
@@ -35,7 +35,7 @@ effects_refused s node step why text (inl answer) t =
 effects_refused s node step why text (inr wanting) t = inr (wanting.1, t ∙ ap refusal_text wanting.0)
 
 pub who_told : (s : State) (chip : List NodeRecord) (marks idle : ℕ → Bool) (first second third last : List ℕ) → chip ≡ chip_of s → AreStuck chip marks
-    → ((others : ℕ → Bool) → AreStuck chip others → IsWithin others marks) → MarksIdle s idle → first ≡ all_waiting chip idle
+    → ((others : ℕ → Bool) → AreStuck chip others → IsSubset others marks) → MarksIdle s idle → first ≡ all_waiting chip idle
     → second ≡ stuck_text marks idle → third ≡ all_rings chip marks → last ≡ idle_text idle → TellsWho s (first ++ second ++ third ++ last)
 who_told s chip marks idle first second third last e stuck greatest silent f g h i = record {
   marks = marks;

@@ -3,26 +3,26 @@ use Rattle.std.proofs.Common.{◌≡◌, ℕ, ◌+◌, ◌<◌, ◌≤◌, ◌++
 use Rattle.std.specs.Prelude.{map}
 use Rattle.std.specs.Cmp.Lexicographic.{pointwise}
 use Rattle.std.proofs.lemmas.List.{drop_more, drop_all}
-use Rattle.ga_explorer.specs.Forms.{form_in, place_from, near_form_in, is_near, is_upper, row_text, rows_text}
+use Rattle.ga_explorer.specs.Forms.{form_of_command, place_from, near_form_in, is_near, is_upper, form_row_text, form_rows_text}
 use Rattle.ga_explorer.specs.kept.Forms.{entry_of}
 use Rattle.ga_explorer.specs.declared.commands.Row.{Row}
 
 named : (word : List ℕ) (rows : List Row) (i : ℕ) (d : Row) → i < length rows → (b : Bool) → b ≡ pointwise nat_eq (get_or rows i d).name.now word
-    → form_in word (map entry_of (drop i rows)) ≡ (if b then Some (get_or rows i d).form.now else form_in word (map entry_of (drop (i + 1) rows)))
-unfolding form_in
+    → form_of_command word (map entry_of (drop i rows)) ≡ (if b then Some (get_or rows i d).form.now else form_of_command word (map entry_of (drop (i + 1) rows)))
+unfolding form_of_command
 named word rows i d within b e =
-    ap (λ z. form_in word (map entry_of z)) (drop_more rows i d within)
-    ∙ ap (λ (z : Bool). if z then Some (get_or rows i d).form.now else form_in word (map entry_of (drop (i + 1) rows))) (sym e)
+    ap (λ z. form_of_command word (map entry_of z)) (drop_more rows i d within)
+    ∙ ap (λ (z : Bool). if z then Some (get_or rows i d).form.now else form_of_command word (map entry_of (drop (i + 1) rows))) (sym e)
 
 pub named_here : (word : List ℕ) (rows : List Row) (i : ℕ) (d : Row) → i < length rows → (b : Bool) → b ≡ true → b ≡ pointwise nat_eq (get_or rows i d).name.now word
-    → Some (get_or rows i d).form.now ≡ form_in word (map entry_of (drop i rows))
+    → Some (get_or rows i d).form.now ≡ form_of_command word (map entry_of (drop i rows))
 named_here word rows i d within b is e =
-    sym (named word rows i d within b e ∙ ap (λ (z : Bool). if z then Some (get_or rows i d).form.now else form_in word (map entry_of (drop (i + 1) rows))) is)
+    sym (named word rows i d within b e ∙ ap (λ (z : Bool). if z then Some (get_or rows i d).form.now else form_of_command word (map entry_of (drop (i + 1) rows))) is)
 
 pub named_behind : (word : List ℕ) (rows : List Row) (i : ℕ) (d : Row) → i < length rows → (b : Bool) → b ≡ false → b ≡ pointwise nat_eq (get_or rows i d).name.now word
-    → form_in word (map entry_of (drop (i + 1) rows)) ≡ form_in word (map entry_of (drop i rows))
+    → form_of_command word (map entry_of (drop (i + 1) rows)) ≡ form_of_command word (map entry_of (drop i rows))
 named_behind word rows i d within b is e =
-    sym (named word rows i d within b e ∙ ap (λ (z : Bool). if z then Some (get_or rows i d).form.now else form_in word (map entry_of (drop (i + 1) rows))) is)
+    sym (named word rows i d within b e ∙ ap (λ (z : Bool). if z then Some (get_or rows i d).form.now else form_of_command word (map entry_of (drop (i + 1) rows))) is)
 
 near : (word : List ℕ) (rows : List Row) (i : ℕ) (d : Row) → i < length rows → (b : Bool) → b ≡ is_near word (get_or rows i d).name.now
     → near_form_in word (map entry_of (drop i rows)) ≡ (if b then Some (get_or rows i d).form.now else near_form_in word (map entry_of (drop (i + 1) rows)))
@@ -46,11 +46,11 @@ unfolding is_upper
 upper_at word i d within = ap is_upper (drop_more word i d within)
 
 pub next_row : (rows : List Row) (i : ℕ) (d : Row) → i < length rows
-    → rows_text (map entry_of (drop i rows)) ≡ row_text (entry_of (get_or rows i d)) ++ rows_text (map entry_of (drop (i + 1) rows))
-next_row rows i d within = ap (λ z. rows_text (map entry_of z)) (drop_more rows i d within)
+    → form_rows_text (map entry_of (drop i rows)) ≡ form_row_text (entry_of (get_or rows i d)) ++ form_rows_text (map entry_of (drop (i + 1) rows))
+next_row rows i d within = ap (λ z. form_rows_text (map entry_of z)) (drop_more rows i d within)
 
-pub no_row : (rows : List Row) (i : ℕ) → length rows ≤ i → rows_text (map entry_of (drop i rows)) ≡ []
-no_row rows i past = ap (λ z. rows_text (map entry_of z)) (drop_all i rows past)
+pub no_row : (rows : List Row) (i : ℕ) → length rows ≤ i → form_rows_text (map entry_of (drop i rows)) ≡ []
+no_row rows i past = ap (λ z. form_rows_text (map entry_of z)) (drop_all i rows past)
 
 placed : (word : List ℕ) (rows : List Row) (i : ℕ) (d : Row) → i < length rows → (b : Bool) → b ≡ pointwise nat_eq (get_or rows i d).name.now word
     → place_from word i (map entry_of (drop i rows)) ≡ (if b then Some i else place_from word (i + 1) (map entry_of (drop (i + 1) rows)))

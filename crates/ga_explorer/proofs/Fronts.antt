@@ -7,7 +7,7 @@ use Rattle.ga_console.specs.Image.{HasNoEnd}
 use Rattle.ga_console.specs.Run.{IsReadAlone, IsFault}
 use Rattle.ga_console.specs.declared.run.Status.{Status}
 use Rattle.ga_explorer.specs.Tails.{Exploring}
-use Rattle.ga_explorer.specs.Opening.{begins_as_image, Opens, IsFront, IsRefusedImage, IsBegun}
+use Rattle.ga_explorer.specs.Opening.{begins_as_image, OpensExploring, IsFront, IsRefusedImage, IsBegun}
 use Rattle.ga_explorer.specs.Opening.Unbegun.{image_refused, source_refused}
 use Rattle.ga_explorer.specs.kept.Opening.{IsOpened}
 use Rattle.ga_explorer.specs.declared.opening.Unopened.TheVariants.{Image, Source}
@@ -30,7 +30,7 @@ begun_after limit left text input rest written (Err status) split whole taken fr
 not_both : (text : List ℕ) → begins_as_image text ≡ true → begins_as_image text ≡ false → ⊥
 not_both text is other = cc
 
-too_long : (limit : ℕ) (text : List ℕ) (begun : Exploring) → length text ≡ input_limit → begins_as_image text ≡ true → Opens text limit begun → ⊥
+too_long : (limit : ℕ) (text : List ℕ) (begun : Exploring) → length text ≡ input_limit → begins_as_image text ≡ true → OpensExploring text limit begun → ⊥
 too_long limit text begun full is (inl opens) =
     let short : length text < 16777216 = short_image text opens.1.0 opens.1.1 in omega arith
 too_long limit text begun full is (inr opens) = not_both text is opens.0

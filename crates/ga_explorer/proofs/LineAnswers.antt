@@ -3,7 +3,7 @@ use Rattle.std.specs.Prelude.{Option}
 use Rattle.std.proofs.Common.{◌≡◌, ◌≢◌, ◌≤◌, inl, inr, refl, ℕ, List, take, length, Some, None, sym, ap, ◌∙◌, subst, arith, rules, length-take, Result, Ok, Err}
 use Rattle.std.specs.Result.{IsErr}
 use Rattle.std.proofs.lemmas.List.{take_all}
-use Rattle.ga_console.specs.Replies.{Answer}
+use Rattle.ga_console.specs.Replies.{LineAnswer}
 use Rattle.ga_console.specs.kept.Turns.{Turns, AnswersLine}
 use Rattle.ga_console.specs.Turns.{quit_line}
 use Rattle.ga_console.specs.Commands.{SpellsCommand}
@@ -20,7 +20,7 @@ use Rattle.ga_explorer.specs.kept.Exploring.{exploring}
 use Rattle.ga_explorer.specs.Answers.{Explores, Explored, AnswersOther, IsOfDebugger}
 use Rattle.ga_explorer.specs.Forms.{no_command}
 use Rattle.ga_explorer.specs.Answers.Explores.{explored, debugged}
-use Rattle.ga_explorer.specs.declared.request.Request.{Request}
+use Rattle.ga_explorer.specs.declared.request.ExplorerCommand.{ExplorerCommand}
 use Rattle.ga_explorer.proofs.Apart.{debugger_alone}
 
 whole : (line part : List ℕ) → line ≡ take 201 part → length line ≤ 200 → part ≡ line
@@ -29,10 +29,10 @@ whole line part e h = sym (e ∙ take_all 201 part (omega (arith, ap length e, l
 short : (line part : List ℕ) → line ≡ take 201 part → length part ≤ 200 → length line ≤ 200
 short line part e h = omega (arith, ap length e, length-take 201 part)
 
-none_some : (asked : Request) → None ≡ Some asked → ⊥
+none_some : (asked : ExplorerCommand) → None ≡ Some asked → ⊥
 none_some asked e = absurd cc
 
-not_quit : (notes : Option Notes) (line : List ℕ) (asked : Request) → request_in notes line ≡ Some asked → line ≢ quit_line
+not_quit : (notes : Option Notes) (line : List ℕ) (asked : ExplorerCommand) → request_in notes line ≡ Some asked → line ≢ quit_line
 not_quit notes line asked found = λ q. none_some asked (sym (debugger_alone notes Quit line q) ∙ found)
 
 -- a line of which the first bytes are of the debugger is itself
@@ -40,12 +40,12 @@ of_debugger : (line part : List ℕ) → line ≡ take 201 part → IsOfDebugger
 of_debugger line part e (inl long) = inl (omega (arith, long, ap length e, length-take 201 part))
 of_debugger line part e (inr here) = let P : List ℕ → Type 0 = IsOfDebugger in subst P (sym (whole line part e here.0)) (inr here)
 
-other_line : (s : State) (line answer : List ℕ) (new : State) → IsOfDebugger line → AnswersLine Answer s line answer new → AnswersLine AnswersOther s line answer new
+other_line : (s : State) (line answer : List ℕ) (new : State) → IsOfDebugger line → AnswersLine LineAnswer s line answer new → AnswersLine AnswersOther s line answer new
 other_line s line answer new of done = λ part kept.
     let answered = done part kept in (inl (of_debugger line part kept of, answered.0), answered.1)
 
 pub other_turn : (s : State) (line : List ℕ) (new : State) (result : Result Turn WriteFailed) (answer : List ℕ) → IsOfDebugger line
-    → Turns Answer s line new result answer → Turns AnswersOther s line new result answer
+    → Turns LineAnswer s line new result answer → Turns AnswersOther s line new result answer
 other_turn s line new (Ok turn.Answered) answer of done = other_line s line answer new of done
 other_turn s line new (Ok turn.Quit) answer of done = done
 other_turn s line new (Err failed) answer of done = other_line s line answer new of done
@@ -64,7 +64,7 @@ unread_err s line (Ok turn) answer is h = absurd (search rules)
 unread_err s line (Err why) answer is h = h
 
 -- it spells a command of exploring
-pub explored_line : (s : Exploring) (line : List ℕ) (asked : Request) (answer : List ℕ) (new : Exploring) → length line ≤ 200 → request_in s.notes line ≡ Some asked
+pub explored_line : (s : Exploring) (line : List ℕ) (asked : ExplorerCommand) (answer : List ℕ) (new : Exploring) → length line ≤ 200 → request_in s.notes line ≡ Some asked
     → Explored s asked answer new → AnswersLine Explores s line answer new
 explored_line s line asked answer new fits found done = λ part kept.
     let same : part ≡ line = whole line part kept fits in

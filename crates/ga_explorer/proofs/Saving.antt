@@ -16,7 +16,7 @@ use Rattle.ga_lab.specs.declared.fault.LabFault.{LabFault}
 use Rattle.ga_search.proofs.WordCounts.{kept_told}
 use Rattle.ga_console.specs.Replies.{reply, step_reply}
 use Rattle.ga_console.specs.declared.command.Command.TheVariants.{Step}
-use Rattle.ga_explorer.specs.Saved.{step_line, saved_line, saved_lines, ended, saved_text, Leads}
+use Rattle.ga_explorer.specs.Saved.{step_line, saved_line, saved_lines, with_feed, saved_text, Leads}
 use Rattle.ga_explorer.specs.kept.Saved.{actor_in, line_at, cause_line}
 use Rattle.ga_explorer.proofs.Saying.{no_lines}
 
@@ -25,19 +25,19 @@ same_Some x y h = cc
 
 -- the line of an event, and those behind it
 next_of : (events : List Event) (i : ℕ)
-    → flat_map ended (drop i (map saved_line events)) ≡ line_at (slice_get events i) ++ flat_map ended (drop (i + 1) (map saved_line events))
+    → flat_map with_feed (drop i (map saved_line events)) ≡ line_at (slice_get events i) ++ flat_map with_feed (drop (i + 1) (map saved_line events))
 next_of [] zero = refl
-next_of [] (suc i) = sym (ap (flat_map ended) (drop_all {X = List ℕ} (suc i + 1) [] (omega arith)))
+next_of [] (suc i) = sym (ap (flat_map with_feed) (drop_all {X = List ℕ} (suc i + 1) [] (omega arith)))
 next_of (e ∷ es) zero = refl
 next_of (e ∷ es) (suc i) =
-    next_of es i ∙ ap (λ (z : ℕ). line_at (slice_get es i) ++ flat_map ended (drop z (map saved_line (e ∷ es)))) (let q : suc (i + 1) ≡ suc i + 1 = omega arith in q)
+    next_of es i ∙ ap (λ (z : ℕ). line_at (slice_get es i) ++ flat_map with_feed (drop z (map saved_line (e ∷ es)))) (let q : suc (i + 1) ≡ suc i + 1 = omega arith in q)
 
 pub next_saved : (s : State) (i : ℕ) (text : List ℕ) → text ≡ line_at (slice_get s.kept i)
-    → flat_map ended (drop i (saved_lines s)) ≡ text ++ flat_map ended (drop (i + 1) (saved_lines s))
-next_saved s i text e = next_of s.kept i ∙ ap (λ (z : List ℕ). z ++ flat_map ended (drop (i + 1) (saved_lines s))) (sym e)
+    → flat_map with_feed (drop i (saved_lines s)) ≡ text ++ flat_map with_feed (drop (i + 1) (saved_lines s))
+next_saved s i text e = next_of s.kept i ∙ ap (λ (z : List ℕ). z ++ flat_map with_feed (drop (i + 1) (saved_lines s))) (sym e)
 
-pub all_saved : (s : State) (i : ℕ) → length s.kept ≤ i → flat_map ended (drop i (saved_lines s)) ≡ []
-all_saved s i past = no_lines ended (saved_lines s) i (let q : length (map saved_line s.kept) ≡ length s.kept = length-map s.kept saved_line in omega arith)
+pub all_saved : (s : State) (i : ℕ) → length s.kept ≤ i → flat_map with_feed (drop i (saved_lines s)) ≡ []
+all_saved s i past = no_lines with_feed (saved_lines s) i (let q : length (map saved_line s.kept) ≡ length s.kept = length-map s.kept saved_line in omega arith)
 
 -- what is told at a place is told of the event there
 pub record ToldOf (events : List Event) (i : ℕ) (m : Made) : Type 0 where
@@ -65,10 +65,10 @@ told_of told i m h = go (slice_get told i) refl h
     go (Some x) is k = record { here = x.0.event; is = event_at told i x is; actor = actor_is (events_told (take i told)) x.0.event x.1 m k }
 
 pub saved_at : (s : State) (i : ℕ) (m : Made) (n : NodeId) → IsSome (replay s.load s.kept) → Some m ≡ made_in (told_of_kept s) i → n ≡ actor_in m
-    → ended (step_line n) ≡ line_at (slice_get s.kept i)
+    → with_feed (step_line n) ≡ line_at (slice_get s.kept i)
 saved_at s i m n some h actor =
     let t : ToldOf (events_told (told_of_kept s)) i m = told_of (told_of_kept s) i m h in
-    ap (λ z. ended (step_line z)) (actor ∙ sym t.actor)
+    ap (λ z. with_feed (step_line z)) (actor ∙ sym t.actor)
     ∙ ap line_at (sym t.is) ∙ ap (λ z. line_at (slice_get z i)) (kept_told s some)
 
 none_of : (events : List Event) (i : ℕ) → length events ≤ i → slice_get events i ≡ None
@@ -96,10 +96,10 @@ lines_lead s (e ∷ es) = (
 )
 
 -- the lines of a list of events are those that are told of them
-lines_listed : (told : List (Cause × Told)) → flat_map cause_line (map (λ (x : Cause × Told). x.0) told) ≡ flat_map ended (map saved_line (events_told told))
+lines_listed : (told : List (Cause × Told)) → flat_map cause_line (map (λ (x : Cause × Told). x.0) told) ≡ flat_map with_feed (map saved_line (events_told told))
 lines_listed [] = refl
-lines_listed (x ∷ xs) = ap (λ (z : List ℕ). ended (saved_line x.0.event) ++ z) (lines_listed xs)
+lines_listed (x ∷ xs) = ap (λ (z : List ℕ). with_feed (saved_line x.0.event) ++ z) (lines_listed xs)
 
 pub listed_saved : (s : State) (causes : List Cause) → IsSome (replay s.load s.kept) → causes ≡ causes_of s → flat_map cause_line causes ≡ saved_text s
 listed_saved s causes some h =
-    ap (flat_map cause_line) h ∙ lines_listed (told_of_kept s) ∙ ap (λ z. flat_map ended (map saved_line z)) (kept_told s some)
+    ap (flat_map cause_line) h ∙ lines_listed (told_of_kept s) ∙ ap (λ z. flat_map with_feed (map saved_line z)) (kept_told s some)

@@ -12,7 +12,7 @@ use Rattle.ga_origin.specs.Origins.{origin_of}
 use Rattle.ga_origin.specs.Rows.{row_at, made_row, AreRows}
 use Rattle.ga_origin.proofs.First.{first_told}
 use Rattle.ga_explorer.specs.kept.Trees.{is_first}
-use Rattle.ga_explorer.specs.Trees.{blanks, rows_by, rows_text, more_text, most_rows, TellsTree}
+use Rattle.ga_explorer.specs.Trees.{blanks, rows_by, tree_rows_text, more_text, most_rows, TellsTree}
 
 -- the first row tells whether the step asked for made the value
 by_first : (s : State) (step : ℕ) (value : Value) (rows : List Row) → slice_get rows 0 ≡ Some (made_row s (row_at 0 value)) → is_first step rows ≡ ((origin_of s value).step == step)
@@ -33,7 +33,7 @@ tree_told notes s node step value rows told is_whole first last are most cut sam
   told = are;
   most = most;
   cut = cut;
-  text = ap (λ z. z ++ last) (f ∙ ap (λ z. rows_by notes s node step (is_first step z) z) same ∙ ap (λ (b : Bool). rows_by notes s node step b rows) (made_by s step value rows is_whole are cut)) ∙ ap (λ z. rows_text notes s node step value rows ++ z) l;
+  text = ap (λ z. z ++ last) (f ∙ ap (λ z. rows_by notes s node step (is_first step z) z) same ∙ ap (λ (b : Bool). rows_by notes s node step b rows) (made_by s step value rows is_whole are cut)) ∙ ap (λ z. tree_rows_text notes s node step value rows ++ z) l;
 }
 
 -- ---- blanks, two more at a time

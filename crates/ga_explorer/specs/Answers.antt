@@ -6,22 +6,22 @@ use Rattle.ga_lab.specs.Machine.{State, chip_of, rewind_answer}
 use Rattle.ga_lab.specs.declared.fault.LabFault.TheVariants.{Memory}
 use Rattle.ga_search.specs.Effects.{effects_of}
 use Rattle.ga_search.specs.Stuck.{AreStuck}
-use Rattle.ga_search.specs.Freed.{IsWithin}
+use Rattle.ga_search.specs.Freed.{IsSubset}
 use Rattle.ga_search.specs.Idle.{MarksIdle}
-use Rattle.ga_search.specs.Conditions.{asked_of}
-use Rattle.ga_search.specs.Running.{running, after, AreMade, HasEnded}
+use Rattle.ga_search.specs.Conditions.{conditions_asked}
+use Rattle.ga_search.specs.Running.{running, after_events, AreMade, HasEnded}
 use Rattle.ga_search.specs.declared.schedule.Schedule.{Schedule}
 use Rattle.ga_search.specs.declared.condition.Condition.{Condition}
 use Rattle.ga_search.specs.declared.running.End.{End}
 use Rattle.ga_console.specs.Texts.{refusal_text}
-use Rattle.ga_console.specs.Replies.{Answer}
+use Rattle.ga_console.specs.Replies.{LineAnswer}
 use Rattle.ga_console.specs.Commands.{SpellsCommand}
 use Rattle.ga_console.specs.declared.command.Command.{Command}
 use Rattle.ga_explorer.specs.Which.{step_meant}
 use Rattle.ga_explorer.specs.Reading.{request_in}
 use Rattle.ga_explorer.specs.Tails.{Exploring}
-use Rattle.ga_explorer.specs.Texts.{run_text, effects_answer, words_text, chip_text}
-use Rattle.ga_explorer.specs.Forms.{rows, rows_text, command_text, no_command}
+use Rattle.ga_explorer.specs.Texts.{run_text, effects_answer, link_words_text, chip_text}
+use Rattle.ga_explorer.specs.Forms.{rows, form_rows_text, command_text, no_command}
 use Rattle.ga_explorer.specs.Waiting.{who_text}
 use Rattle.ga_explorer.specs.Saved.{saved_text}
 use Rattle.ga_explorer.specs.Writing.{writes_text}
@@ -29,8 +29,8 @@ use Rattle.ga_explorer.specs.Around.{around_text}
 use Rattle.ga_explorer.specs.Trees.{TellsWhence}
 use Rattle.ga_explorer.specs.Because.{because_text}
 use Rattle.ga_explorer.specs.Races.{TellsRaces}
-use Rattle.ga_explorer.specs.declared.request.Request.{Request}
-use Rattle.ga_explorer.specs.declared.request.Request.TheVariants.{Run, Effects, Words, Writes, At, Whence, Because, Races, Who, Chip, Save, Help, HelpOf}
+use Rattle.ga_explorer.specs.declared.request.ExplorerCommand.{ExplorerCommand}
+use Rattle.ga_explorer.specs.declared.request.ExplorerCommand.TheVariants.{Run, Effects, Words, Writes, At, Whence, Because, Races, Who, Chip, Save, Help, HelpOf}
 
 -- Events were made in the order of the schedule, at most so many, up to the first after which one of the conditions holds: the text
 -- says how many and why no more, and the machine is the one after them.
@@ -40,7 +40,7 @@ pub record IsRun (s : State) (schedule : Schedule) (most : ℕ) (until : List Co
   pub made : AreMade (running s schedule) events
   pub within : events ≤ most
   pub ended : HasEnded (running s schedule) most until events end
-  pub state : new ≡ (after (running s schedule) events).state
+  pub state : new ≡ (after_events (running s schedule) events).state
   pub text : answer ≡ run_text (length until) events end
 
 -- It is told what a rollback would take, or memory is wanting where one could be made.
@@ -54,16 +54,16 @@ TellsEffects s node step answer =
 pub record TellsWho (s : State) (answer : Text) : Type 0 where
   pub marks : ℕ → Bool
   pub stuck : AreStuck (chip_of s) marks
-  pub greatest : (others : ℕ → Bool) → AreStuck (chip_of s) others → IsWithin others marks
+  pub greatest : (others : ℕ → Bool) → AreStuck (chip_of s) others → IsSubset others marks
   pub idle : ℕ → Bool
   pub silent : MarksIdle s idle
   pub text : answer ≡ who_text (chip_of s) marks idle
 
 -- what is answered to a command of exploring, and what is explored then
-abbrev pub Explored : Exploring → Request → Text → Exploring → Type 0
-Explored e (Run schedule most until) answer new = IsRun e.lab schedule most (asked_of until) answer new.lab × (new.notes ≡ e.notes)
+abbrev pub Explored : Exploring → ExplorerCommand → Text → Exploring → Type 0
+Explored e (Run schedule most until) answer new = IsRun e.lab schedule most (conditions_asked until) answer new.lab × (new.notes ≡ e.notes)
 Explored e (Effects node which) answer new = TellsEffects e.lab node (step_meant e.lab node which) answer × (new ≡ e)
-Explored e (Words from to) answer new = (answer ≡ words_text e.lab from to) × (new ≡ e)
+Explored e (Words from to) answer new = (answer ≡ link_words_text e.lab from to) × (new ≡ e)
 Explored e (Writes node address) answer new = (answer ≡ writes_text e.lab node address) × (new ≡ e)
 Explored e (At node which around) answer new = (answer ≡ around_text e.notes e.lab node (step_meant e.lab node which) around) × (new ≡ e)
 Explored e (Whence node which) answer new = TellsWhence e.notes e.lab node (step_meant e.lab node which) answer × (new ≡ e)
@@ -72,7 +72,7 @@ Explored e (Races only) answer new = TellsRaces e.lab only answer × (new ≡ e)
 Explored e Who answer new = TellsWho e.lab answer × (new ≡ e)
 Explored e Chip answer new = (answer ≡ chip_text e.lab) × (new ≡ e)
 Explored e Save answer new = (answer ≡ saved_text e.lab) × (new ≡ e)
-Explored e Help answer new = (answer ≡ rows_text rows) × (new ≡ e)
+Explored e Help answer new = (answer ≡ form_rows_text rows) × (new ≡ e)
 Explored e (HelpOf place) answer new = (answer ≡ command_text place) × (new ≡ e)
 
 -- the line is too long, or spells a command of the debugger
@@ -86,9 +86,9 @@ IsNoCommand line = (length line ≤ longest) × ((c : Command) → ¬ SpellsComm
 -- The answer to a line that spells no command of exploring: that of the debugger; or what to write in its place, where it spells none
 -- of the debugger either.
 abbrev pub AnswersOther : State → Line → Text → State → Type 0
-AnswersOther s line answer new = (IsOfDebugger line × Answer s line answer new) ⊎ (IsNoCommand line × (answer ≡ no_command line) × (new ≡ s))
+AnswersOther s line answer new = (IsOfDebugger line × LineAnswer s line answer new) ⊎ (IsNoCommand line × (answer ≡ no_command line) × (new ≡ s))
 
 -- The answer to a line: it spells a command of exploring, or is answered as one that spells none.
 pub data Explores (e : Exploring) (line answer : Text) (new : Exploring) : Type 0 where
-  explored : (asked : Request) → length line ≤ longest → request_in e.notes line ≡ Some asked → Explored e asked answer new → Explores e line answer new
+  explored : (asked : ExplorerCommand) → length line ≤ longest → request_in e.notes line ≡ Some asked → Explored e asked answer new → Explores e line answer new
   debugged : (length line ≤ longest → request_in e.notes line ≡ None) → AnswersOther e.lab line answer new.lab → new.notes ≡ e.notes → Explores e line answer new

@@ -14,7 +14,7 @@ use Rattle.ga_console.specs.Texts.{step_text, register_text, refusal_text}
 use Rattle.ga_notes.specs.declared.notes.Notes.{Notes}
 use Rattle.ga_explorer.specs.Deeds.{deed_text}
 use Rattle.ga_explorer.specs.Tails.{step_tail}
-use Rattle.ga_explorer.specs.Trees.{part_name, row_text}
+use Rattle.ga_explorer.specs.Trees.{part_name, tree_row_text}
 
 -- the register that a step of the node's own tested, with its word; a word that was passed is told already
 abbrev pub tested_text : Made → Part → ℕ → Text
@@ -29,7 +29,7 @@ decided_text node decision =
 -- its line, and below it that of where the value was made, as `whence` tells it
 abbrev pub decision_text : Option Notes → State → NodeId → Decision → Text
 decision_text notes s node decision =
-    decided_text node decision ++ (step_tail notes s node decision.step ++ row_text notes s 1 (row_at 0 decision.source))
+    decided_text node decision ++ (step_tail notes s node decision.step ++ tree_row_text notes s 1 (row_at 0 decision.source))
 
 -- the newest such step, and those before it
 abbrev pub from_newest : Option Notes → State → NodeId → (ℕ → Text) → Option Decision → Text

@@ -8,17 +8,17 @@ use Rattle.ga_console.specs.Parsing.{cut}
 
 -- a command: the word that a line of it begins with, how it is spelled, what `help` says behind that, and what `help` of this command says
 -- besides
-pub record Entry : Type 0 where
+pub record CommandForm : Type 0 where
   pub name : Text
   pub form : Text
   pub does : Text
   pub more : Text
 
-abbrev pub entry : Text → Text → Text → Text → Entry
+abbrev pub entry : Text → Text → Text → Text → CommandForm
 entry name form does more = record { name = name; form = form; does = does; more = more }
 
 -- the commands, in the order of `help`
-unfoldable pub rows : List Entry
+unfoldable pub rows : List CommandForm
 rows =
     entry (codes "run") (codes "run [greedy|random SEED] [N] [until COND]") (codes "\n                      make up to N events, in rounds or in this order\nCOND: pass NNN MMM = W, pass NNN MMM J, step NNN K, stop, stop NNN, wait NNN,\n      mem NNN HH = W, p NNN X, reach NNN X, change NNN HH [= W], COND or COND\nX: an address, a label, line N\n") (codes "answers: reached M EVENT, made M, quiet M or full M: how many events, and why no more\nexample: run 1000 until stop or reach 001 000012\n")
     ∷ entry (codes "chip") (codes "chip") (codes "                  what each node does\n") (codes "answers: rows 7 to 0 of nodes: . made no step, * runs, x stopped, @ waits for code, ? reads, ! writes\nexample: chip\n")
@@ -46,25 +46,25 @@ rows =
 
 -- ---- `help`
 
-abbrev pub row_text : Entry → Text
-row_text row = row.form ++ row.does
+abbrev pub form_row_text : CommandForm → Text
+form_row_text row = row.form ++ row.does
 
-abbrev pub rows_text : List Entry → Text
-rows_text all = flat_map row_text all
+abbrev pub form_rows_text : List CommandForm → Text
+form_rows_text all = flat_map form_row_text all
 
 -- the place of the command of this name among some that follow so many
-unfoldable pub place_from : Line → ℕ → List Entry → Option ℕ
+unfoldable pub place_from : Line → ℕ → List CommandForm → Option ℕ
 place_from word before [] = None
 place_from word before (row ∷ more) = if pointwise nat_eq row.name word then Some before else place_from word (before + 1) more
 
-abbrev pub place_in : Line → Option ℕ
-place_in word = place_from word 0 rows
+abbrev pub place_of_form : Line → Option ℕ
+place_of_form word = place_from word 0 rows
 
 -- what is told of one of them
-abbrev pub about_text : Entry → Text
-about_text row = row_text row ++ row.more
+abbrev pub about_text : CommandForm → Text
+about_text row = form_row_text row ++ row.more
 
-abbrev pub about_found : Option Entry → Text
+abbrev pub about_found : Option CommandForm → Text
 about_found None = []
 about_found (Some row) = about_text row
 
@@ -89,12 +89,12 @@ is_near (first ∷ rest) (letter ∷ more) =
     else pointwise nat_eq rest more || (pointwise nat_eq rest (letter ∷ more) || (pointwise nat_eq (first ∷ rest) more || are_exchanged (first ∷ rest) (letter ∷ more)))
 
 -- the form of the command of this name
-unfoldable pub form_in : Line → List Entry → Option Text
-form_in word [] = None
-form_in word (row ∷ more) = if pointwise nat_eq row.name word then Some row.form else form_in word more
+unfoldable pub form_of_command : Line → List CommandForm → Option Text
+form_of_command word [] = None
+form_of_command word (row ∷ more) = if pointwise nat_eq row.name word then Some row.form else form_of_command word more
 
 -- the form of the first command that has nearly this name
-unfoldable pub near_form_in : Line → List Entry → Option Text
+unfoldable pub near_form_in : Line → List CommandForm → Option Text
 near_form_in word [] = None
 near_form_in word (row ∷ more) = if is_near word row.name then Some row.form else near_form_in word more
 
@@ -103,12 +103,12 @@ form_or None other = other
 form_or (Some form) other = form
 
 abbrev pub form_for : Line → Text
-form_for word = form_or (form_in word rows) (form_or (near_form_in word rows) (codes "help"))
+form_for word = form_or (form_of_command word rows) (form_or (near_form_in word rows) (codes "help"))
 
 -- the word with which a line begins
-abbrev pub front_of : Option (Line × Line) → Line → Line
-front_of None line = line
-front_of (Some parts) line = parts.0
+abbrev pub first_word : Option (Line × Line) → Line → Line
+first_word None line = line
+first_word (Some parts) line = parts.0
 
 -- the byte order mark of UTF-8 stands before it
 abbrev pub is_mark : Line → Bool
@@ -118,8 +118,8 @@ abbrev pub is_return : Line → Bool
 is_return line = ends_with nat_eq line (13 ∷ [])
 
 -- a blank or a tab stands at an end
-abbrev pub is_blank : Line → Bool
-is_blank line = starts_with nat_eq line (32 ∷ []) || (starts_with nat_eq line (9 ∷ []) || (ends_with nat_eq line (32 ∷ []) || ends_with nat_eq line (9 ∷ [])))
+abbrev pub has_blank_end : Line → Bool
+has_blank_end line = starts_with nat_eq line (32 ∷ []) || (starts_with nat_eq line (9 ∷ []) || (ends_with nat_eq line (32 ∷ []) || ends_with nat_eq line (9 ∷ [])))
 
 -- A letter is in upper case.
 unfoldable pub is_upper : Line → Bool
@@ -131,9 +131,9 @@ abbrev pub cure : Line → Text
 cure line =
     if is_mark line then codes "a byte order mark stands before the command; leave it out"
     else if is_return line then codes "a carriage return ends the line; end it with a line feed alone"
-    else if is_blank line then codes "a blank stands at an end of the line; leave it out"
-    else if is_upper (front_of (cut line) line) then codes "the command is in upper case; write it in lower case"
-    else form_for (front_of (cut line) line)
+    else if has_blank_end line then codes "a blank stands at an end of the line; leave it out"
+    else if is_upper (first_word (cut line) line) then codes "the command is in upper case; write it in lower case"
+    else form_for (first_word (cut line) line)
 
 abbrev pub no_command : Line → Text
 no_command line = codes "no 31 syntax: " ++ cure line ++ codes "\n"

@@ -11,7 +11,7 @@ use Rattle.ga_source.specs.Programs.{IsAssembled}
 use Rattle.ga_source.specs.Plain.{AreRead}
 use Rattle.ga_source.specs.Asks.{AreAsked}
 use Rattle.ga_source.specs.Groups.{HasGroups}
-use Rattle.ga_source.specs.Made.{IsMade}
+use Rattle.ga_source.specs.Made.{IsChipOfSource}
 use Rattle.ga_notes.specs.declared.notes.Notes.{Notes}
 use Rattle.ga_notes.specs.Source.{AreOfSource}
 use Rattle.ga_lab.specs.Machine.{first}
@@ -36,14 +36,14 @@ pub record OpensSource (source : Text) (limit : ℕ) (begun : Exploring) : Type 
   pub read : AreRead source programs
   pub asked : AreAsked source programs
   pub groups : All HasGroups programs
-  pub made : IsMade source chip
+  pub made : IsChipOfSource source chip
   pub load : begun.lab ≡ first (records_of chip) limit
   pub noted : begun.notes ≡ Some notes
   pub says : AreOfSource source programs notes
 
 -- the machine has the text's chip as its load; of an image there are no notes
-abbrev pub Opens : Text → ℕ → Exploring → Type 0
-Opens text limit begun = ((begins_as_image text ≡ true) × OpensImage text limit begun.lab × (begun.notes ≡ None))
+abbrev pub OpensExploring : Text → ℕ → Exploring → Type 0
+OpensExploring text limit begun = ((begins_as_image text ≡ true) × OpensImage text limit begun.lab × (begun.notes ≡ None))
     ⊎ ((begins_as_image text ≡ false) × OpensSource text limit begun)
 
 -- The text goes up to its first line `end`; or no such line was read, and nothing is left behind it.
@@ -74,5 +74,5 @@ pub data Unbegun (read rest : Bytes) (written : Text) (status : Status) : Type 0
 -- A text was taken of what was left to read, and a machine opened on it; or no session begins.
 abbrev pub IsBegun : ℕ → Bytes → Unread → Bytes → Text → Result Exploring Status → Type 0
 IsBegun limit left input rest written (Ok begun) = (written ≡ []) × (text : Text) × (left ≡ text ++ (input.bytes ++ rest))
-    × (input.taken ≡ length text) × IsFront text (input.bytes ++ rest) × Opens text limit begun
+    × (input.taken ≡ length text) × IsFront text (input.bytes ++ rest) × OpensExploring text limit begun
 IsBegun limit left input rest written (Err status) = (read : Bytes) × (left ≡ read ++ rest) × Unbegun read rest written status

@@ -11,14 +11,14 @@ use Rattle.ga_search.specs.declared.races.Race.{Race}
 use Rattle.ga_search.specs.declared.readings.Reading.{Reading}
 use Rattle.ga_search.specs.Readings.{back_of, IsTold}
 use Rattle.ga_search.specs.Races.{races_asked, has_looks, first_ready}
-use Rattle.ga_console.specs.Texts.{name_of, step_text, refusal_text}
+use Rattle.ga_console.specs.Texts.{name_of_node, step_text, refusal_text}
 
 -- the step and the word that it took, another that it could have taken, and the commands that make it take that
 abbrev pub race_text : Race → Text
 race_text race =
-    step_text race.reader race.step ++ codes " takes " ++ hex6_of race.word ++ codes " from " ++ name_of race.writer
-    ++ codes ", or " ++ hex6_of race.offered ++ codes " from " ++ name_of race.other
-    ++ codes ": rewind " ++ step_text race.reader race.step ++ codes ", step " ++ name_of race.other ++ codes "\n"
+    step_text race.reader race.step ++ codes " takes " ++ hex6_of race.word ++ codes " from " ++ name_of_node race.writer
+    ++ codes ", or " ++ hex6_of race.offered ++ codes " from " ++ name_of_node race.other
+    ++ codes ": rewind " ++ step_text race.reader race.step ++ codes ", step " ++ name_of_node race.other ++ codes "\n"
 
 -- how many lines of steps follow
 abbrev pub races_head : ℕ → Text
@@ -41,24 +41,24 @@ last_line only races true quiet = codes "looks are kept or come next: there may 
 last_line only races false quiet = order_line only races quiet
 
 -- on which side of a change a look would have read another word
-abbrev pub side_text : Bool → Text
-side_text true = codes " behind "
-side_text false = codes " before "
+abbrev pub before_or_behind : Bool → Text
+before_or_behind true = codes " behind "
+before_or_behind false = codes " before "
 
 -- a look and the word that it read, another that it could have read, and the commands that make it read that
 abbrev pub reading_text : Reading → Text
 reading_text reading =
     step_text reading.node reading.step ++ codes " reads " ++ hex6_of reading.word ++ codes ", or " ++ hex6_of reading.other
-    ++ side_text reading.early ++ step_text reading.neighbour reading.change
-    ++ codes ": rewind " ++ step_text (back_of reading).0 (back_of reading).1 ++ codes ", step " ++ name_of reading.node ++ codes "\n"
+    ++ before_or_behind reading.early ++ step_text reading.neighbour reading.change
+    ++ codes ": rewind " ++ step_text (back_of reading).0 (back_of reading).1 ++ codes ", step " ++ name_of_node reading.node ++ codes "\n"
 
 -- these, of so many lines
-abbrev pub lines_text : List Race → ℕ → Text
-lines_text races count = races_head count ++ flat_map race_text races
+abbrev pub race_lines_text : List Race → ℕ → Text
+race_lines_text races count = races_head count ++ flat_map race_text races
 
 abbrev pub listed_text : Option NodeId → List Race → List Reading → Bool → Bool → Text
 listed_text only races readings looks quiet =
-    lines_text races (length races + length readings) ++ (flat_map reading_text readings ++ last_line only races looks quiet)
+    race_lines_text races (length races + length readings) ++ (flat_map reading_text readings ++ last_line only races looks quiet)
 
 -- with these looks
 abbrev pub races_text : State → Option NodeId → List Reading → Text

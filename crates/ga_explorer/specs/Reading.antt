@@ -13,11 +13,11 @@ use Rattle.ga_search.specs.declared.condition.Condition.{Condition}
 use Rattle.ga_search.specs.declared.condition.Condition.TheVariants.{Never, Passes, PassesNumber, Steps, Stops, StopsAt, WaitsAt, Holds, ComesTo, Reaches, Writes as WritesTo}
 use Rattle.ga_notes.specs.declared.notes.Notes.{Notes}
 use Rattle.ga_notes.specs.Notes.{line_address, address_of}
-use Rattle.ga_explorer.specs.Forms.{place_in}
+use Rattle.ga_explorer.specs.Forms.{place_of_form}
 use Rattle.ga_explorer.specs.declared.which.Which.{Which}
 use Rattle.ga_explorer.specs.Which.{which_in}
-use Rattle.ga_explorer.specs.declared.request.Request.{Request}
-use Rattle.ga_explorer.specs.declared.request.Request.TheVariants.{Run, Effects, Words, Writes, At, Whence, Because, Races, Who, Chip, Save, Help, HelpOf}
+use Rattle.ga_explorer.specs.declared.request.ExplorerCommand.{ExplorerCommand}
+use Rattle.ga_explorer.specs.declared.request.ExplorerCommand.TheVariants.{Run, Effects, Words, Writes, At, Whence, Because, Races, Who, Chip, Save, Help, HelpOf}
 
 -- how many events are made at most where no number is given
 abbrev pub most_events : ℕ
@@ -30,23 +30,23 @@ abbrev pub in_word : ℕ → Option ℕ
 in_word n = if nat_lt n (2 ^ 18) then Some n else None
 
 -- a word of six hexadecimal digits, in either case
-unfoldable pub word_in : Line → Option ℕ
-word_in (a ∷ b ∷ c ∷ d ∷ e ∷ f ∷ []) = do
+unfoldable pub hex_word_in : Line → Option ℕ
+hex_word_in (a ∷ b ∷ c ∷ d ∷ e ∷ f ∷ []) = do
   high ← byte_in (a ∷ b ∷ [])
   middle ← byte_in (c ∷ d ∷ [])
   low ← byte_in (e ∷ f ∷ [])
   in_word (65536 * high + 256 * middle + low)
-word_in _ = None
+hex_word_in _ = None
 
 -- `= W`
 unfoldable pub equal_in : Line → Option ℕ
 equal_in text = do
   parts ← cut text
-  if pointwise nat_eq parts.0 (codes "=") then word_in parts.1 else None
+  if pointwise nat_eq parts.0 (codes "=") then hex_word_in parts.1 else None
 
 -- `NNN K`
-unfoldable pub steps_in : Line → Option Condition
-steps_in text = do
+unfoldable pub steps_condition : Line → Option Condition
+steps_condition text = do
   parts ← cut text
   node ← node_in parts.0
   step ← number_in parts.1
@@ -94,8 +94,8 @@ begun_in None node line = None
 begun_in (Some notes) node line = line_address notes.notes.items node line
 
 -- `line N`
-unfoldable pub line_in : Option Notes → NodeId → Line → Line → Option ℕ
-line_in notes node name text =
+unfoldable pub cell_of_line : Option Notes → NodeId → Line → Line → Option ℕ
+cell_of_line notes node name text =
     if pointwise nat_eq name (codes "line") then (do
       line ← number_in text
       begun_in notes node line)
@@ -103,29 +103,29 @@ line_in notes node name text =
 
 abbrev pub noted_cut : Option Notes → NodeId → Option (Line × Line) → Line → Option ℕ
 noted_cut notes node None text = label_in notes node text
-noted_cut notes node (Some parts) text = line_in notes node parts.0 parts.1
+noted_cut notes node (Some parts) text = cell_of_line notes node parts.0 parts.1
 
 -- a label, or `line N`
 abbrev pub noted_in : Option Notes → NodeId → Line → Option ℕ
 noted_in notes node text = noted_cut notes node (cut text) text
 
 -- an address, or else a label or a line
-abbrev pub address_in : Option Notes → NodeId → Line → Option ℕ
-address_in notes node text = word_or (word_in text) (noted_in notes node text)
+abbrev pub address_or_label : Option Notes → NodeId → Line → Option ℕ
+address_or_label notes node text = word_or (hex_word_in text) (noted_in notes node text)
 
 -- `NNN X`
 unfoldable pub comes_in : Option Notes → Line → Option Condition
 comes_in notes text = do
   parts ← cut text
   node ← node_in parts.0
-  address ← address_in notes node parts.1
+  address ← address_or_label notes node parts.1
   Some (ComesTo node address)
 
 unfoldable pub reaches_in : Option Notes → Line → Option Condition
 reaches_in notes text = do
   parts ← cut text
   node ← node_in parts.0
-  address ← address_in notes node parts.1
+  address ← address_or_label notes node parts.1
   Some (Reaches node address)
 
 -- `HH` or `HH = W` behind `NNN`
@@ -157,7 +157,7 @@ unfoldable pub named_condition : Option Notes → Line → Line → Option Condi
 named_condition notes name text =
     if pointwise nat_eq name (codes "stop") then option_map StopsAt (node_in text)
     else if pointwise nat_eq name (codes "wait") then option_map WaitsAt (node_in text)
-    else if pointwise nat_eq name (codes "step") then steps_in text
+    else if pointwise nat_eq name (codes "step") then steps_condition text
     else if pointwise nat_eq name (codes "pass") then passes_in text
     else if pointwise nat_eq name (codes "mem") then holds_in text
     else if pointwise nat_eq name (codes "p") then comes_in notes text
@@ -230,64 +230,64 @@ no_condition = replicate most_conditions Never
 
 -- ---- `run`
 
-abbrev pub run_until : Option Notes → Schedule → ℕ → Line → Option Request
+abbrev pub run_until : Option Notes → Schedule → ℕ → Line → Option ExplorerCommand
 run_until notes schedule most text = option_map (Run schedule most) (conditions_in notes text)
 
 -- `until COND or COND ..` behind a number
-unfoldable pub until_in : Option Notes → Schedule → ℕ → Line → Option Request
+unfoldable pub until_in : Option Notes → Schedule → ℕ → Line → Option ExplorerCommand
 until_in notes schedule most text = do
   parts ← cut text
   if pointwise nat_eq parts.0 (codes "until") then run_until notes schedule most parts.1 else None
 
 -- `until COND`, or a number and `until COND`
-unfoldable pub bounded_by : Option Notes → Schedule → Line → Line → Option Request
+unfoldable pub bounded_by : Option Notes → Schedule → Line → Line → Option ExplorerCommand
 bounded_by notes schedule name text =
     if pointwise nat_eq name (codes "until") then run_until notes schedule most_events text
     else (do
       most ← number_in name
       until_in notes schedule most text)
 
-abbrev pub bounded_cut : Option Notes → Option (Line × Line) → Schedule → Line → Option Request
+abbrev pub bounded_cut : Option Notes → Option (Line × Line) → Schedule → Line → Option ExplorerCommand
 bounded_cut notes None schedule text = option_map (λ most. Run schedule most no_condition) (number_in text)
 bounded_cut notes (Some parts) schedule text = bounded_by notes schedule parts.0 parts.1
 
 -- a number, `until COND`, or both
-abbrev pub bounded_in : Option Notes → Schedule → Line → Option Request
+abbrev pub bounded_in : Option Notes → Schedule → Line → Option ExplorerCommand
 bounded_in notes schedule text = bounded_cut notes (cut text) schedule text
 
-abbrev pub seeded_cut : Option Notes → Option (Line × Line) → Line → Option Request
+abbrev pub seeded_cut : Option Notes → Option (Line × Line) → Line → Option ExplorerCommand
 seeded_cut notes None text = option_map (λ seed. Run (at_random seed) most_events no_condition) (number_in text)
 seeded_cut notes (Some parts) text = do
   seed ← number_in parts.0
   bounded_in notes (at_random seed) parts.1
 
 -- a seed, and what bounds the run
-abbrev pub seeded_in : Option Notes → Line → Option Request
+abbrev pub seeded_in : Option Notes → Line → Option ExplorerCommand
 seeded_in notes text = seeded_cut notes (cut text) text
 
 -- an order of one word, or what bounds a run in rounds
-unfoldable pub lone_order : Option Notes → Line → Option Request
+unfoldable pub lone_order : Option Notes → Line → Option ExplorerCommand
 lone_order notes text = if pointwise nat_eq text (codes "greedy") then Some (Run greedily most_events no_condition) else bounded_in notes in_rounds text
 
 -- an order with what stands behind it, or what bounds a run in rounds
-unfoldable pub named_order : Option Notes → Line → Line → Line → Option Request
+unfoldable pub named_order : Option Notes → Line → Line → Line → Option ExplorerCommand
 named_order notes name rest text =
     if pointwise nat_eq name (codes "greedy") then bounded_in notes greedily rest
     else if pointwise nat_eq name (codes "random") then seeded_in notes rest
     else bounded_in notes in_rounds text
 
-abbrev pub run_by : Option Notes → Option (Line × Line) → Line → Option Request
+abbrev pub run_by : Option Notes → Option (Line × Line) → Line → Option ExplorerCommand
 run_by notes None text = lone_order notes text
 run_by notes (Some parts) text = named_order notes parts.0 parts.1 text
 
 -- what stands behind `run`
-abbrev pub run_in : Option Notes → Line → Option Request
+abbrev pub run_in : Option Notes → Line → Option ExplorerCommand
 run_in notes text = run_by notes (cut text) text
 
 -- ---- `effects`, `words`, `writes`, `at`, `whence`, `because`, `races` and `help`
 
 -- `NNN K`
-unfoldable pub effects_in : Line → Option Request
+unfoldable pub effects_in : Line → Option ExplorerCommand
 effects_in text = do
   parts ← cut text
   node ← node_in parts.0
@@ -295,15 +295,15 @@ effects_in text = do
   Some (Effects node which)
 
 -- `NNN MMM`
-unfoldable pub words_in : Line → Option Request
-words_in text = do
+unfoldable pub words_request : Line → Option ExplorerCommand
+words_request text = do
   parts ← cut text
   from ← node_in parts.0
   to ← node_in parts.1
   Some (Words from to)
 
 -- `NNN HH`
-unfoldable pub writes_in : Line → Option Request
+unfoldable pub writes_in : Line → Option ExplorerCommand
 writes_in text = do
   parts ← cut text
   node ← node_in parts.0
@@ -317,70 +317,70 @@ few_steps = 3
 abbrev pub most_steps : ℕ
 most_steps = 99
 
-abbrev pub steps_around : NodeId → Which → ℕ → Option Request
+abbrev pub steps_around : NodeId → Which → ℕ → Option ExplorerCommand
 steps_around node which around = if nat_le around most_steps then Some (At node which around) else None
 
 -- `K` or `K N` behind a node
-abbrev pub around_cut : NodeId → Option (Line × Line) → Line → Option Request
+abbrev pub around_cut : NodeId → Option (Line × Line) → Line → Option ExplorerCommand
 around_cut node None text = option_map (λ which. At node which few_steps) (which_in text)
 around_cut node (Some parts) text = do
   which ← which_in parts.0
   around ← number_in parts.1
   steps_around node which around
 
-abbrev pub around_in : NodeId → Line → Option Request
+abbrev pub around_in : NodeId → Line → Option ExplorerCommand
 around_in node text = around_cut node (cut text) text
 
 -- `NNN K` or `NNN K N`
-unfoldable pub at_in : Line → Option Request
+unfoldable pub at_in : Line → Option ExplorerCommand
 at_in text = do
   parts ← cut text
   node ← node_in parts.0
   around_in node parts.1
 
 -- `NNN K`
-unfoldable pub whence_in : Line → Option Request
+unfoldable pub whence_in : Line → Option ExplorerCommand
 whence_in text = do
   parts ← cut text
   node ← node_in parts.0
   which ← which_in parts.1
   Some (Whence node which)
 
-abbrev pub decided_upto : NodeId → Which → ℕ → Option Request
+abbrev pub decided_upto : NodeId → Which → ℕ → Option ExplorerCommand
 decided_upto node which most = if nat_le most most_steps then Some (Because node which most) else None
 
 -- `K` or `K N` behind a node
-abbrev pub decided_cut : NodeId → Option (Line × Line) → Line → Option Request
+abbrev pub decided_cut : NodeId → Option (Line × Line) → Line → Option ExplorerCommand
 decided_cut node None text = option_map (λ which. Because node which few_steps) (which_in text)
 decided_cut node (Some parts) text = do
   which ← which_in parts.0
   most ← number_in parts.1
   decided_upto node which most
 
-abbrev pub decided_in : NodeId → Line → Option Request
+abbrev pub decided_in : NodeId → Line → Option ExplorerCommand
 decided_in node text = decided_cut node (cut text) text
 
 -- `NNN K` or `NNN K N`
-unfoldable pub because_in : Line → Option Request
+unfoldable pub because_in : Line → Option ExplorerCommand
 because_in text = do
   parts ← cut text
   node ← node_in parts.0
   decided_in node parts.1
 
 -- `NNN`
-unfoldable pub races_in : Line → Option Request
+unfoldable pub races_in : Line → Option ExplorerCommand
 races_in text = do
   node ← node_in text
   Some (Races (Some node))
 
 -- the name of a command
-abbrev pub help_in : Line → Option Request
-help_in text = option_map HelpOf (place_in text)
+abbrev pub help_in : Line → Option ExplorerCommand
+help_in text = option_map HelpOf (place_of_form text)
 
 -- ---- a line
 
 -- a command of one word
-unfoldable pub lone_request : Line → Option Request
+unfoldable pub lone_request : Line → Option ExplorerCommand
 lone_request name =
     if pointwise nat_eq name (codes "run") then Some (Run in_rounds most_events no_condition)
     else if pointwise nat_eq name (codes "who") then Some Who
@@ -391,11 +391,11 @@ lone_request name =
     else None
 
 -- a command of a word and what stands behind it
-unfoldable pub named_request : Option Notes → Line → Line → Option Request
+unfoldable pub named_request : Option Notes → Line → Line → Option ExplorerCommand
 named_request notes name text =
     if pointwise nat_eq name (codes "run") then run_in notes text
     else if pointwise nat_eq name (codes "effects") then effects_in text
-    else if pointwise nat_eq name (codes "words") then words_in text
+    else if pointwise nat_eq name (codes "words") then words_request text
     else if pointwise nat_eq name (codes "writes") then writes_in text
     else if pointwise nat_eq name (codes "at") then at_in text
     else if pointwise nat_eq name (codes "whence") then whence_in text
@@ -404,10 +404,10 @@ named_request notes name text =
     else if pointwise nat_eq name (codes "help") then help_in text
     else None
 
-abbrev pub request_by : Option Notes → Option (Line × Line) → Line → Option Request
+abbrev pub request_by : Option Notes → Option (Line × Line) → Line → Option ExplorerCommand
 request_by notes None line = lone_request line
 request_by notes (Some parts) line = named_request notes parts.0 parts.1
 
 -- the command of exploring that a line spells, where it spells one
-abbrev pub request_in : Option Notes → Line → Option Request
+abbrev pub request_in : Option Notes → Line → Option ExplorerCommand
 request_in notes line = request_by notes (cut line) line

@@ -5,14 +5,14 @@ use Rattle.ga_grid.specs.declared.node_id.NodeId.{NodeId}
 use Rattle.ga_event.specs.declared.event.Event.{Event}
 use Rattle.ga_lab.specs.Machine.{State}
 use Rattle.ga_lab.specs.Forward.{actor_of}
-use Rattle.ga_console.specs.Texts.{name_of}
+use Rattle.ga_console.specs.Texts.{name_of_node}
 use Rattle.ga_console.specs.Commands.{spaced, SpellsCommand}
 use Rattle.ga_console.specs.Replies.{reply}
 use Rattle.ga_console.specs.declared.command.Command.{Command}
 
 -- a step of a node
 abbrev pub step_line : NodeId → Text
-step_line node = spaced (codes "step" ∷ name_of node ∷ [])
+step_line node = spaced (codes "step" ∷ name_of_node node ∷ [])
 
 -- one for each kept event: of its node, of a pass of the writer
 abbrev pub saved_line : Event → Text
@@ -22,11 +22,11 @@ abbrev pub saved_lines : State → List Line
 saved_lines s = map saved_line s.kept
 
 -- each ended by a line feed
-abbrev pub ended : Text → Text
-ended line = line ++ codes "\n"
+abbrev pub with_feed : Text → Text
+with_feed line = line ++ codes "\n"
 
 abbrev pub saved_text : State → Text
-saved_text s = flat_map ended (saved_lines s)
+saved_text s = flat_map with_feed (saved_lines s)
 
 -- These lines are commands of the debugger, and its replies to them lead from one machine to another where memory is never wanting.
 abbrev pub Leads : State → List Line → State → Type 0

@@ -10,22 +10,22 @@ use Rattle.ga_console.specs.declared.output.WriteFailed.{WriteFailed}
 use Rattle.ga_console.specs.declared.run.Status.{Status}
 use Rattle.ga_explorer.specs.Tails.{Exploring}
 use Rattle.ga_explorer.specs.Answers.{Explores}
-use Rattle.ga_explorer.specs.Opening.{Opens, IsFront, Unbegun}
+use Rattle.ga_explorer.specs.Opening.{OpensExploring, IsFront, Unbegun}
 
 -- The text, an image or source, was accepted, and the commands behind it were served to this ending.
-pub record Served (limit : ℕ) (read rest : Bytes) (written : Text) (ending : Result Ending WriteFailed) : Type 0 where
+pub record ServedExploring (limit : ℕ) (read rest : Bytes) (written : Text) (ending : Result Ending WriteFailed) : Type 0 where
   pub text : Text
   pub commands : Bytes
   pub begun : Exploring
   pub said : Text
   pub splits : read ≡ text ++ commands
   pub front : IsFront text (commands ++ rest)
-  pub opens : Opens text limit begun
+  pub opens : OpensExploring text limit begun
   pub last : Exploring
   pub serves : Serves Explores (input_limit - length text) begun commands rest said last ending
   pub out : Written ending (ready ++ said) written
 
 -- What a session may have written, where read was read of its input and rest is left of it, and its status.
-pub data Runs (limit : ℕ) (read rest : Bytes) (written : Text) (status : Status) : Type 0 where
-  served : (ending : Result Ending WriteFailed) → status ≡ status_of ending → Served limit read rest written ending → Runs limit read rest written status
-  unbegun : Unbegun read rest written status → Runs limit read rest written status
+pub data RunsExploring (limit : ℕ) (read rest : Bytes) (written : Text) (status : Status) : Type 0 where
+  served : (ending : Result Ending WriteFailed) → status ≡ status_of ending → ServedExploring limit read rest written ending → RunsExploring limit read rest written status
+  unbegun : Unbegun read rest written status → RunsExploring limit read rest written status

@@ -7,7 +7,7 @@ use Rattle.ga_lab.specs.Machine.{State}
 use Rattle.ga_flow.specs.declared.part.Part.{Part}
 use Rattle.ga_flow.specs.declared.part.Part.TheVariants as part
 use Rattle.ga_notes.specs.declared.notes.Notes.{Notes}
-use Rattle.ga_notes.specs.Notes.{text_of}
+use Rattle.ga_notes.specs.Notes.{first_note_text}
 use Rattle.ga_origin.specs.declared.value.Value.{Value}
 use Rattle.ga_origin.specs.Fetched.{fetched_cell}
 
@@ -19,7 +19,7 @@ pub record Exploring : Type 0 where
 -- what is said of a cell of a node; of an image nothing
 abbrev pub noted_text : Option Notes → NodeId → Option ℕ → Text
 noted_text None node cell = []
-noted_text (Some notes) node cell = text_of notes.notes.items node cell
+noted_text (Some notes) node cell = first_note_text notes.notes.items node cell
 
 -- and the end of the line
 abbrev pub tail_text : Option Notes → NodeId → Option ℕ → Text

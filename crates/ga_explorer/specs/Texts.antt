@@ -13,11 +13,11 @@ use Rattle.ga_lab.specs.declared.fault.LabFault.{LabFault}
 use Rattle.ga_lab.specs.declared.fault.LabFault.TheVariants.{Waiting, Stopped, Full, Memory, Empty, NoStep, Spent}
 use Rattle.ga_search.specs.Near.{are_linked}
 use Rattle.ga_search.specs.Words.{words_of, word_count}
-use Rattle.ga_search.specs.declared.effects.Effect.{Effect}
+use Rattle.ga_search.specs.declared.effects.RollbackEffect.{RollbackEffect}
 use Rattle.ga_search.specs.declared.words.Sent.{Sent}
 use Rattle.ga_search.specs.declared.running.End.{End}
 use Rattle.ga_search.specs.declared.running.End.TheVariants.{Reached, Made, Quiet, Refused}
-use Rattle.ga_console.specs.Texts.{made_text, name_of, step_text, refusal_text}
+use Rattle.ga_console.specs.Texts.{made_text, name_of_node, step_text, refusal_text}
 
 -- ---- `run`
 
@@ -86,18 +86,18 @@ chip_text s = rows_text s 8
 -- ---- `effects`
 
 -- what would go of a node: its first step that would, and how many would
-abbrev pub effect_text : Effect → Text
+abbrev pub effect_text : RollbackEffect → Text
 effect_text effect = step_text effect.node effect.first ++ codes " " ++ decimal effect.steps ++ codes "\n"
 
 -- how many events would go, and of how many nodes
 abbrev pub effects_head : ℕ → ℕ → Text
 effects_head events nodes = codes "effects " ++ decimal events ++ codes " " ++ decimal nodes ++ codes "\n"
 
-abbrev pub effects_text : ℕ → List Effect → Text
+abbrev pub effects_text : ℕ → List RollbackEffect → Text
 effects_text events effects = effects_head events (length effects) ++ flat_map effect_text effects
 
 -- by what `rewind` would answer
-abbrev pub effects_answer : List Effect → Result ℕ LabFault → Text
+abbrev pub effects_answer : List RollbackEffect → Result ℕ LabFault → Text
 effects_answer effects (Ok events) = effects_text events effects
 effects_answer effects (Err why) = refusal_text why
 
@@ -111,7 +111,7 @@ sent_text from to sent =
 
 -- the link, and how many words of it are kept
 abbrev pub words_head : NodeId → NodeId → ℕ → Text
-words_head from to count = codes "words " ++ name_of from ++ codes " " ++ name_of to ++ codes " " ++ decimal count ++ codes "\n"
+words_head from to count = codes "words " ++ name_of_node from ++ codes " " ++ name_of_node to ++ codes " " ++ decimal count ++ codes "\n"
 
 -- the nodes are no neighbours
 abbrev pub no_link : Text
@@ -121,5 +121,5 @@ no_link = codes "no 34 nolink\n"
 abbrev pub linked_text : State → NodeId → NodeId → Text
 linked_text s from to = words_head from to (word_count s from.number to.number) ++ flat_map (sent_text from to) (words_of s from.number to.number)
 
-abbrev pub words_text : State → NodeId → NodeId → Text
-words_text s from to = if are_linked from.number to.number then linked_text s from to else no_link
+abbrev pub link_words_text : State → NodeId → NodeId → Text
+link_words_text s from to = if are_linked from.number to.number then linked_text s from to else no_link

@@ -15,7 +15,7 @@ use Rattle.ga_origin.specs.declared.listing.Row.{Row}
 use Rattle.ga_origin.specs.Origins.{origin_of}
 use Rattle.ga_origin.specs.Rows.{row_at, AreRows}
 use Rattle.ga_origin.specs.Asked.{asked_of}
-use Rattle.ga_console.specs.Texts.{name_of, step_text, refusal_text}
+use Rattle.ga_console.specs.Texts.{name_of_node, step_text, refusal_text}
 use Rattle.ga_notes.specs.declared.notes.Notes.{Notes}
 use Rattle.ga_explorer.specs.Deeds.{deed_text}
 use Rattle.ga_explorer.specs.Tails.{step_tail, value_tail}
@@ -56,18 +56,18 @@ mark_text part.I = []
 mark_text at = codes " " ++ part_name at
 
 -- what a step did of which this is told
-abbrev pub told_text : Option Made → ℕ → Text
-told_text None n = []
-told_text (Some made) n = deed_text made n
+abbrev pub told_step_text : Option Made → ℕ → Text
+told_step_text None n = []
+told_step_text (Some made) n = deed_text made n
 
 -- the step of a node, with what it did
 abbrev pub did_text : State → NodeId → ℕ → Text
-did_text s node step = step_text node step ++ codes " " ++ told_text (slice_get (history_of s node.number) (step - 1)) node.number
+did_text s node step = step_text node step ++ codes " " ++ told_step_text (slice_get (history_of s node.number) (step - 1)) node.number
 
 -- a value: the step that made it, or that it was loaded
 abbrev pub value_text : State → Value → Text
 value_text s value =
-    if value.step == 0 then name_of value.node ++ codes " load " ++ part_name value.part
+    if value.step == 0 then name_of_node value.node ++ codes " load " ++ part_name value.part
     else did_text s value.node value.step ++ mark_text value.part
 
 -- two blanks for each level
@@ -76,8 +76,8 @@ blanks zero = []
 blanks (suc level) = codes "  " ++ blanks level
 
 -- a line, so many levels deeper than the row
-abbrev pub row_text : Option Notes → State → ℕ → Row → Text
-row_text notes s deeper row = blanks (row.depth + deeper) ++ (value_text s row.value ++ value_tail notes s row.value)
+abbrev pub tree_row_text : Option Notes → State → ℕ → Row → Text
+tree_row_text notes s deeper row = blanks (row.depth + deeper) ++ (value_text s row.value ++ value_tail notes s row.value)
 
 abbrev pub head_text : Option Notes → State → NodeId → ℕ → Text
 head_text notes s node step = did_text s node step ++ step_tail notes s node step
@@ -85,10 +85,10 @@ head_text notes s node step = did_text s node step ++ step_tail notes s node ste
 -- The step asked for is the first row where it made the value. Else it is told before the rows, which stand one level deeper.
 abbrev pub rows_by : Option Notes → State → NodeId → ℕ → Bool → List Row → Text
 rows_by notes s node step made rows =
-    if made then flat_map (row_text notes s 0) rows else head_text notes s node step ++ flat_map (row_text notes s 1) rows
+    if made then flat_map (tree_row_text notes s 0) rows else head_text notes s node step ++ flat_map (tree_row_text notes s 1) rows
 
-abbrev pub rows_text : Option Notes → State → NodeId → ℕ → Value → List Row → Text
-rows_text notes s node step value rows = rows_by notes s node step ((origin_of s value).step == step) rows
+abbrev pub tree_rows_text : Option Notes → State → NodeId → ℕ → Value → List Row → Text
+tree_rows_text notes s node step value rows = rows_by notes s node step ((origin_of s value).step == step) rows
 
 -- where these are not all
 abbrev pub more_text : Bool → Text
@@ -102,7 +102,7 @@ pub record TellsTree (notes : Option Notes) (s : State) (node : NodeId) (step : 
   pub told : AreRows s [] (row_at 0 value ∷ []) rows is_whole
   pub most : length rows ≤ most_rows
   pub cut : is_whole ≡ false → length rows ≡ most_rows
-  pub text : answer ≡ rows_text notes s node step value rows ++ more_text is_whole
+  pub text : answer ≡ tree_rows_text notes s node step value rows ++ more_text is_whole
 
 -- what is told of a step for which this value is asked; the step alone where it made none
 abbrev pub TellsAsked : Option Notes → State → NodeId → ℕ → Option Value → Text → Type 0

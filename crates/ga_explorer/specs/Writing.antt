@@ -6,12 +6,12 @@ use Rattle.ga_grid.specs.declared.node_id.NodeId.{NodeId}
 use Rattle.ga_event.specs.Told.{steps_of}
 use Rattle.ga_lab.specs.Machine.{State}
 use Rattle.ga_origin.specs.Writes.{written_at}
-use Rattle.ga_origin.specs.declared.writes.Written.{Written}
+use Rattle.ga_origin.specs.declared.writes.CellWrite.{CellWrite}
 use Rattle.ga_console.specs.Texts.{step_text}
 use Rattle.ga_explorer.specs.Deeds.{deed_text}
 
 -- a step that wrote: its number, the opcode's name, and the word
-abbrev pub written_text : NodeId → Option Written → Text
+abbrev pub written_text : NodeId → Option CellWrite → Text
 written_text node None = []
 written_text node (Some written) =
     step_text node written.step ++ codes " " ++ deed_text written.made node.number ++ codes " " ++ hex6_of written.word ++ codes "\n"

@@ -18,7 +18,7 @@ use crate::deed_text::push_deed;
 use crate::tail_text::say_walk_tail;
 use arrayvec::ArrayVec;
 use ga_console::{
-    Output, Text, WORD_ROOM, WriteFailed, push_spaced, push_step, push_text, refusal,
+    Output, TextBuffer, WORD_ROOM, WriteFailed, push_spaced, push_step, push_text, refusal_text,
 };
 use ga_grid::NodeId;
 use ga_lab::{Lab, LabFault, Made, Walk};
@@ -54,7 +54,7 @@ pub(crate) fn say_around<W: Write>(
         let last = step.saturating_add(around).min(lab.steps(node));
         say_places(lab, notes, node, first, last, output, writer)
     } else {
-        output.say(writer, refusal(LabFault::NoStep))
+        output.say(writer, refusal_text(LabFault::NoStep))
     }
 }
 
@@ -104,7 +104,7 @@ fn say_place<W: Write>(
 }
 
 /// What is told of the step at a place, right behind which a walk stands.
-fn place_line(lab: &Lab, node: NodeId, place: u32, walk: &Walk<'_>) -> Text
+fn place_line(lab: &Lab, node: NodeId, place: u32, walk: &Walk<'_>) -> TextBuffer
     requires place { place < steps_of node.number lab.now.kept }
     requires walk { walk.now ≡ standing lab.now node (place + 1) }
     ensures { result.items ≡ passed_text node (place + 1) (slice_get (history_of lab.now node.number) place) (node_after lab.now node.number (place + 1)) }
@@ -118,7 +118,7 @@ fn place_line(lab: &Lab, node: NodeId, place: u32, walk: &Walk<'_>) -> Text
 }
 
 /// A step: its number, what it did, and the registers behind it.
-fn step_line(node: NodeId, step: u32, made: Made, behind: &Node) -> Text
+fn step_line(node: NodeId, step: u32, made: Made, behind: &Node) -> TextBuffer
     ensures { result.items ≡ passed_text node step (Some made) (record_of behind.now) }
 {
     let mut out = ArrayVec::new();
@@ -131,7 +131,7 @@ fn step_line(node: NodeId, step: u32, made: Made, behind: &Node) -> Text
 
 /// Adds T, S, R, A, B and P.
 #[tactic(auto, unfolding(ga_node::specs::Record::record_of))]
-fn push_behind(out: &mut Text, node: &Node)
+fn push_behind(out: &mut TextBuffer, node: &Node)
     requires { array_vec_len out.old + BEHIND_ROOM ≤ 256 }
     ensures text { out.new.items ≡ out.old.items ++ behind_text (record_of node.now) }
     ensures len { array_vec_len out.new ≡ array_vec_len out.old + BEHIND_ROOM }
@@ -145,7 +145,7 @@ fn push_behind(out: &mut Text, node: &Node)
 }
 
 /// Adds a register: its name, and its value as a word.
-fn push_register(out: &mut Text, name: &[u8; 1], value: u32)
+fn push_register(out: &mut TextBuffer, name: &[u8; 1], value: u32)
     requires small { value < 2 ^ 18 }
     requires room { array_vec_len out.old + REGISTER_ROOM ≤ 256 }
     ensures text { out.new.items ≡ out.old.items ++ register_text name.now value }
@@ -156,7 +156,7 @@ fn push_register(out: &mut Text, name: &[u8; 1], value: u32)
 }
 
 /// Adds a space, and a value of at most 18 bits as a word.
-fn push_value(out: &mut Text, value: u32)
+fn push_value(out: &mut TextBuffer, value: u32)
     requires small { value < 2 ^ 18 }
     requires room { array_vec_len out.old + 1 + WORD_ROOM ≤ 256 }
     ensures text { out.new.items ≡ out.old.items ++ (codes " " ++ hex6_of value) }

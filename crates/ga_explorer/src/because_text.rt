@@ -16,7 +16,7 @@ use crate::tail_text::say_step_tail;
 use crate::whence_text::say_row;
 use arrayvec::ArrayVec;
 use ga_console::{
-    Output, Text, WORD_ROOM, WriteFailed, push_spaced, push_step, push_text, refusal,
+    Output, TextBuffer, WORD_ROOM, WriteFailed, push_spaced, push_step, push_text, refusal_text,
 };
 use ga_flow::Part;
 use ga_grid::NodeId;
@@ -50,7 +50,7 @@ pub(crate) fn say_because<W: Write>(
         let near = lab.walk(node, step);
         say_decisions(lab, notes, &near, node, most, output, writer)
     } else {
-        output.say(writer, refusal(LabFault::NoStep))
+        output.say(writer, refusal_text(LabFault::NoStep))
     }
 }
 
@@ -105,7 +105,7 @@ fn say_decision<W: Write>(
 }
 
 /// A step, what it did and what it tested.
-fn decided_line(node: NodeId, decision: Decision) -> Text
+fn decided_line(node: NodeId, decision: Decision) -> TextBuffer
     ensures { result.items ≡ decided_text node decision }
 {
     let mut out = ArrayVec::new();
@@ -119,7 +119,7 @@ fn decided_line(node: NodeId, decision: Decision) -> Text
 }
 
 /// Adds a register that was tested, and its word.
-fn push_tested(out: &mut Text, part: Part, word: Word18)
+fn push_tested(out: &mut TextBuffer, part: Part, word: Word18)
     requires { array_vec_len out.old + TESTED_ROOM ≤ 256 }
     ensures { out.new.items ≡ out.old.items ++ register_text (part_name part) word }
 {

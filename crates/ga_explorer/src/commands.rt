@@ -1,7 +1,7 @@
 //! The commands of a session of exploring with their forms, and what `help` tells of them.
 
 ghost use Rattle.std.specs.Prelude.{◌≡◌, map, option_copied, slice_get};
-ghost use Rattle.ga_explorer.specs.Forms.{rows, place_from, place_in};
+ghost use Rattle.ga_explorer.specs.Forms.{rows, place_from, place_of_form};
 ghost use Rattle.ga_explorer.specs.kept.Forms.{entry_of};
 
 /// A command of a session of exploring.
@@ -175,7 +175,7 @@ fn place_among(rows: &'static [Row], word: &[u8]) -> Option<usize>
 
 /// The place of the command of this name.
 pub(crate) fn place_of(word: &[u8]) -> Option<usize>
-    ensures { result ≡ place_in word.now }
+    ensures { result ≡ place_of_form word.now }
 {
     place_among(rows(), word)
 }

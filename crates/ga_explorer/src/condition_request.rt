@@ -1,9 +1,9 @@
 //! Conditions, as lines spell them.
 
 ghost use Rattle.std.specs.Prelude.{◌≡◌};
-ghost use Rattle.ga_explorer.specs.Reading.{condition_in, lone_condition, named_condition, steps_in, passes_in, passed_in, holds_in, comes_in, reaches_in, writes_to_in, written_in, address_in, noted_in, line_in, begun_in, label_in, equal_in, word_in};
+ghost use Rattle.ga_explorer.specs.Reading.{condition_in, lone_condition, named_condition, steps_condition, passes_in, passed_in, holds_in, comes_in, reaches_in, writes_to_in, written_in, address_or_label, noted_in, cell_of_line, begun_in, label_in, equal_in, hex_word_in};
 
-use ga_console::{cut, node_of, number_of};
+use ga_console::{cut, node_in, number_in};
 use ga_grid::NodeId;
 use ga_image::byte_of;
 use ga_notes::Notes;
@@ -35,9 +35,9 @@ fn named_condition(notes: &Option<Notes>, name: &[u8], rest: &[u8]) -> Option<Co
     ensures { result ≡ named_condition notes.now name.now rest.now }
 {
     if name == b"stop".as_slice() {
-        Some(Condition::StopsAt(node_of(rest)?))
+        Some(Condition::StopsAt(node_in(rest)?))
     } else if name == b"wait".as_slice() {
-        Some(Condition::WaitsAt(node_of(rest)?))
+        Some(Condition::WaitsAt(node_in(rest)?))
     } else if name == b"step".as_slice() {
         steps_of(rest)
     } else if name == b"pass".as_slice() {
@@ -58,12 +58,12 @@ fn named_condition(notes: &Option<Notes>, name: &[u8], rest: &[u8]) -> Option<Co
 /// `NNN K`
 #[tactic(auto, unfolding(crate::specs::Reading::steps_in))]
 fn steps_of(text: &[u8]) -> Option<Condition>
-    ensures { result ≡ steps_in text.now }
+    ensures { result ≡ steps_condition text.now }
 {
     let (node, step) = cut(text)?;
     Some(Condition::Steps {
-        node: node_of(node)?,
-        step: number_of(step)?,
+        node: node_in(node)?,
+        step: number_in(step)?,
     })
 }
 
@@ -74,7 +74,7 @@ fn passes_of(text: &[u8]) -> Option<Condition>
 {
     let (writer, rest) = cut(text)?;
     let (reader, rest) = cut(rest)?;
-    passed_of(node_of(writer)?, node_of(reader)?, rest)
+    passed_of(node_in(writer)?, node_in(reader)?, rest)
 }
 
 /// `= W` or `J`
@@ -90,7 +90,7 @@ fn passed_of(writer: NodeId, reader: NodeId, text: &[u8]) -> Option<Condition>
         None => Some(Condition::PassesNumber {
             writer,
             reader,
-            number: number_of(text)?,
+            number: number_in(text)?,
         }),
     }
 }
@@ -103,7 +103,7 @@ fn holds_of(text: &[u8]) -> Option<Condition>
     let (node, rest) = cut(text)?;
     let (address, rest) = cut(rest)?;
     Some(Condition::Holds {
-        node: node_of(node)?,
+        node: node_in(node)?,
         address: byte_of(address)?,
         word: equal_of(rest)?,
     })
@@ -115,7 +115,7 @@ fn comes_of(notes: &Option<Notes>, text: &[u8]) -> Option<Condition>
     ensures { result ≡ comes_in notes.now text.now }
 {
     let (node, address) = cut(text)?;
-    let node = node_of(node)?;
+    let node = node_in(node)?;
     let address = address_of(notes, node, address)?;
     Some(Condition::ComesTo { node, address })
 }
@@ -126,7 +126,7 @@ fn reaches_of(notes: &Option<Notes>, text: &[u8]) -> Option<Condition>
     ensures { result ≡ reaches_in notes.now text.now }
 {
     let (node, address) = cut(text)?;
-    let node = node_of(node)?;
+    let node = node_in(node)?;
     let address = address_of(notes, node, address)?;
     Some(Condition::Reaches { node, address })
 }
@@ -137,7 +137,7 @@ fn changes_of(text: &[u8]) -> Option<Condition>
     ensures { result ≡ writes_to_in text.now }
 {
     let (node, rest) = cut(text)?;
-    written_of(node_of(node)?, rest)
+    written_of(node_in(node)?, rest)
 }
 
 /// `HH` or `HH = W`
@@ -167,7 +167,7 @@ fn written_of(node: NodeId, text: &[u8]) -> Option<Condition>
 
 /// An address, or else a label of the node or `line N`, which only source gives.
 fn address_of(notes: &Option<Notes>, node: NodeId, text: &[u8]) -> Option<u32>
-    ensures { result ≡ address_in notes.now node text.now }
+    ensures { result ≡ address_or_label notes.now node text.now }
 {
     match word_of(text) {
         Some(word) => Some(word.get()),
@@ -188,10 +188,10 @@ fn noted_of(notes: &Option<Notes>, node: NodeId, text: &[u8]) -> Option<u32>
 /// `line N`: the address of the first instruction word of the node that this line begins.
 #[tactic(auto, unfolding(crate::specs::Reading::line_in))]
 fn line_of(notes: &Option<Notes>, node: NodeId, name: &[u8], line: &[u8]) -> Option<u32>
-    ensures { result ≡ line_in notes.now node name.now line.now }
+    ensures { result ≡ cell_of_line notes.now node name.now line.now }
 {
     match name {
-        b"line" => begun_by(notes, node, number_of(line)?),
+        b"line" => begun_by(notes, node, number_in(line)?),
         _ => None,
     }
 }
@@ -231,7 +231,7 @@ fn equal_of(text: &[u8]) -> Option<Word18>
 /// A word of six hexadecimal digits, in either case.
 #[tactic(auto, unfolding(crate::specs::Reading::word_in))]
 fn word_of(text: &[u8]) -> Option<Word18>
-    ensures { result ≡ word_in text.now }
+    ensures { result ≡ hex_word_in text.now }
 {
     match text {
         [a, b, c, d, e, f] => {

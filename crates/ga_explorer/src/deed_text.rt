@@ -6,7 +6,7 @@ ghost use Rattle.ga_slots.specs.Codes.{name_of, op_of};
 ghost use Rattle.ga_explorer.specs.Deeds.{deed_text, kind_name, pass_text};
 
 use ga_console::{
-    NUMBER_ROOM, STEP_ROOM, Text, WORD_ROOM, push_number, push_step, push_text, push_word,
+    NUMBER_ROOM, STEP_ROOM, TextBuffer, WORD_ROOM, push_number, push_step, push_text, push_word,
 };
 use ga_grid::NodeId;
 use ga_lab::Made;
@@ -25,7 +25,7 @@ pub(crate) const DEED_ROOM: usize = b"takes  from ".len() + WORD_ROOM + STEP_ROO
 
 /// Adds what a step of a node did: the opcode's name, what came in its place, or the word that was passed and the step at the other
 /// end.
-pub(crate) fn push_deed(out: &mut Text, made: Made, node: NodeId)
+pub(crate) fn push_deed(out: &mut TextBuffer, made: Made, node: NodeId)
     requires { array_vec_len out.old + DEED_ROOM ≤ 256 }
     ensures text { out.new.items ≡ out.old.items ++ deed_text made node.number }
     ensures len { array_vec_len out.new ≤ array_vec_len out.old + DEED_ROOM }
@@ -49,7 +49,7 @@ pub(crate) fn push_deed(out: &mut Text, made: Made, node: NodeId)
 }
 
 /// Adds which way a word went, the word, and the step at the other end.
-fn push_pass(out: &mut Text, way: &[u8], word: Word18, end: &[u8], other: NodeId, step: u32)
+fn push_pass(out: &mut TextBuffer, way: &[u8], word: Word18, end: &[u8], other: NodeId, step: u32)
     requires { array_vec_len out.old + length way.now + length end.now + WORD_ROOM + STEP_ROOM ≤ 256 }
     ensures text { out.new.items ≡ out.old.items ++ pass_text way.now word end.now other step }
     ensures len { array_vec_len out.new ≤ array_vec_len out.old + length way.now + length end.now + WORD_ROOM + STEP_ROOM }
@@ -61,7 +61,7 @@ fn push_pass(out: &mut Text, way: &[u8], word: Word18, end: &[u8], other: NodeId
 }
 
 /// Adds what an event of a node's own was.
-fn push_kind(out: &mut Text, kind: Kind)
+fn push_kind(out: &mut TextBuffer, kind: Kind)
     requires { array_vec_len out.old + KIND_ROOM ≤ 256 }
     ensures text { out.new.items ≡ out.old.items ++ kind_name kind }
     ensures len { array_vec_len out.new ≤ array_vec_len out.old + KIND_ROOM }

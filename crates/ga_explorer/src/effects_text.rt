@@ -8,10 +8,12 @@ ghost use Rattle.ga_explorer.specs.Texts.{effect_text, effects_head, effects_tex
 ghost use Rattle.ga_explorer.specs.Answers.{TellsEffects};
 
 use arrayvec::ArrayVec;
-use ga_console::{Output, Text, WriteFailed, push_number, push_step, push_text, refusal};
+use ga_console::{
+    Output, TextBuffer, WriteFailed, push_number, push_step, push_text, refusal_text,
+};
 use ga_grid::NodeId;
 use ga_lab::Lab;
-use ga_search::{Effect, Effects, find_effects};
+use ga_search::{Effects, RollbackEffect, find_effects};
 use std::alloc::Global;
 use std::io::Write;
 
@@ -33,7 +35,7 @@ pub(crate) fn say_effects<W: Write>(
 {
     match find_effects(alloc, lab, node, step) {
         Ok(effects) => say_found(&effects, output, writer),
-        Err(fault) => output.say(writer, refusal(fault)),
+        Err(fault) => output.say(writer, refusal_text(fault)),
     }
 }
 
@@ -51,7 +53,7 @@ fn say_found<W: Write>(
 
 fn say_nodes<W: Write>(
     events: u32,
-    nodes: &[Effect],
+    nodes: &[RollbackEffect],
     output: &mut Output,
     writer: &mut W,
 ) -> Result<(), WriteFailed>
@@ -67,7 +69,7 @@ fn say_nodes<W: Write>(
 
 /// Says what would go of a node.
 fn say_effect<W: Write>(
-    effect: Effect,
+    effect: RollbackEffect,
     output: &mut Output,
     writer: &mut W,
 ) -> Result<(), WriteFailed>
@@ -78,7 +80,7 @@ fn say_effect<W: Write>(
 }
 
 /// How many events would go, and of how many nodes.
-fn head_line(events: u32, nodes: usize) -> Text
+fn head_line(events: u32, nodes: usize) -> TextBuffer
     ensures { result.items ≡ effects_head events nodes }
 {
     let mut out = ArrayVec::new();
@@ -91,7 +93,7 @@ fn head_line(events: u32, nodes: usize) -> Text
 }
 
 /// What would go of a node.
-fn effect_line(effect: Effect) -> Text
+fn effect_line(effect: RollbackEffect) -> TextBuffer
     ensures { result.items ≡ effect_text effect }
 {
     let mut out = ArrayVec::new();

@@ -13,7 +13,7 @@ use crate::chip_text::glance;
 use crate::effects_text::say_effects;
 use crate::forms::{say_command, say_help, say_no_command};
 use crate::races_text::say_races;
-use crate::request::{Request, request_of};
+use crate::request::{ExplorerCommand, request_of};
 use crate::run_text::ran_text;
 use crate::saved_text::say_saved;
 use crate::whence_text::say_whence;
@@ -24,7 +24,7 @@ use ga_console::{Command, Output, Responder, Turn, WriteFailed, command_of};
 use ga_image::LINE_LIMIT;
 use ga_lab::Lab;
 use ga_notes::Notes;
-use ga_search::{asked_of, run};
+use ga_search::{conditions_asked, run_schedule};
 use std::alloc::Global;
 use std::io::Write;
 use std::marker::Model;
@@ -111,7 +111,7 @@ impl Responder for Explorer {
 }
 
 /// The command of exploring that a line spells, where it is not too long.
-fn asked_by(notes: &Option<Notes>, line: &[u8]) -> Option<Request>
+fn asked_by(notes: &Option<Notes>, line: &[u8]) -> Option<ExplorerCommand>
     ensures some { IfSome result (λ asked. (length line.now ≤ LINE_LIMIT) × (request_in notes.now line.now ≡ Some asked)) }
     ensures none { IfNone result (length line.now ≤ LINE_LIMIT → request_in notes.now line.now ≡ None) }
 {
@@ -159,7 +159,7 @@ fn explored<W: Write>(
     alloc: Global,
     lab: &mut Lab,
     notes: &Option<Notes>,
-    asked: Request,
+    asked: ExplorerCommand,
     output: &mut Output,
     writer: &mut W,
 ) -> Result<(), WriteFailed>
@@ -167,22 +167,22 @@ fn explored<W: Write>(
         (W.contents writer.old) output.old (W.contents writer.new) output.new }
 {
     match asked {
-        Request::Run {
+        ExplorerCommand::Run {
             schedule,
             most,
             until,
         } => {
-            let watched = asked_of(&until);
-            let ran = run(lab, schedule, u64::from(most), watched);
+            let watched = conditions_asked(&until);
+            let ran = run_schedule(lab, schedule, u64::from(most), watched);
             output.say_blocks(writer, ran_text(&ran, watched.len()).as_slice())
         }
-        Request::Effects { node, which } => {
+        ExplorerCommand::Effects { node, which } => {
             let step = which.meant(lab, node);
             say_effects(alloc, lab, node, step, output, writer)
         }
-        Request::Words { from, to } => say_words(lab, from, to, output, writer),
-        Request::Writes { node, address } => say_writes(lab, node, address, output, writer),
-        Request::At {
+        ExplorerCommand::Words { from, to } => say_words(lab, from, to, output, writer),
+        ExplorerCommand::Writes { node, address } => say_writes(lab, node, address, output, writer),
+        ExplorerCommand::At {
             node,
             which,
             around,
@@ -190,19 +190,19 @@ fn explored<W: Write>(
             let step = which.meant(lab, node);
             say_around(lab, notes, node, step, around, output, writer)
         }
-        Request::Whence { node, which } => {
+        ExplorerCommand::Whence { node, which } => {
             let step = which.meant(lab, node);
             say_whence(alloc, lab, notes, node, step, output, writer)
         }
-        Request::Because { node, which, most } => {
+        ExplorerCommand::Because { node, which, most } => {
             let step = which.meant(lab, node);
             say_because(lab, notes, node, step, most, output, writer)
         }
-        Request::Races { only } => say_races(alloc, lab, only, output, writer),
-        Request::Who => say_who(lab, output, writer),
-        Request::Chip => output.say_blocks(writer, glance(lab).as_slice()),
-        Request::Save => say_saved(lab, output, writer),
-        Request::Help => say_help(output, writer),
-        Request::HelpOf(place) => say_command(place, output, writer),
+        ExplorerCommand::Races { only } => say_races(alloc, lab, only, output, writer),
+        ExplorerCommand::Who => say_who(lab, output, writer),
+        ExplorerCommand::Chip => output.say_blocks(writer, glance(lab).as_slice()),
+        ExplorerCommand::Save => say_saved(lab, output, writer),
+        ExplorerCommand::Help => say_help(output, writer),
+        ExplorerCommand::HelpOf(place) => say_command(place, output, writer),
     }
 }

@@ -4,7 +4,7 @@ ghost use Rattle.std.specs.Prelude.{◌≡◌, ◌++◌, codes, map, option_map}
 ghost use Rattle.ga_image.specs.Lines.{Bytes};
 ghost use Rattle.ga_console.specs.Output.{IsSaid, IsSaidOrCut};
 ghost use Rattle.ga_console.specs.kept.Output.{Says};
-ghost use Rattle.ga_explorer.specs.Forms.{rows, row_text, rows_text, about_text, command_text, form_in, near_form_in, form_for, is_near, are_exchanged, is_mark, is_return, is_blank, is_upper, cure, no_command};
+ghost use Rattle.ga_explorer.specs.Forms.{rows, form_row_text, form_rows_text, about_text, command_text, form_of_command, near_form_in, form_for, is_near, are_exchanged, is_mark, is_return, has_blank_end, is_upper, cure, no_command};
 ghost use Rattle.ga_explorer.specs.kept.Forms.{entry_of};
 
 use crate::commands::{Row, row_in, rows};
@@ -16,14 +16,14 @@ use std::io::Write;
 /// # Errors
 /// A write failed.
 pub(crate) fn say_help<W: Write>(output: &mut Output, writer: &mut W) -> Result<(), WriteFailed>
-    ensures { Says result (λ text. text ≡ rows_text rows)
+    ensures { Says result (λ text. text ≡ form_rows_text rows)
         (W.contents writer.old) output.old (W.contents writer.new) output.new }
 {
     say_rows(rows(), output, writer)
 }
 
 fn say_rows<W: Write>(rows: &[Row], output: &mut Output, writer: &mut W) -> Result<(), WriteFailed>
-    ensures { Says result (λ text. text ≡ rows_text (map entry_of rows.now))
+    ensures { Says result (λ text. text ≡ form_rows_text (map entry_of rows.now))
         (W.contents writer.old) output.old (W.contents writer.new) output.new }
 {
     'rows: for row in rows {
@@ -34,7 +34,7 @@ fn say_rows<W: Write>(rows: &[Row], output: &mut Output, writer: &mut W) -> Resu
 
 fn say_row<W: Write>(row: &Row, output: &mut Output, writer: &mut W) -> Result<(), WriteFailed>
     ensures { (before said : Bytes) → IsSaid (W.contents writer.old) before said output.old →
-        IsSaidOrCut result (W.contents writer.new) before (said ++ row_text (entry_of row.now)) output.new }
+        IsSaidOrCut result (W.contents writer.new) before (said ++ form_row_text (entry_of row.now)) output.new }
 {
     output.say_blocks(writer, row.form)?;
     output.say_blocks(writer, row.does)
@@ -128,7 +128,7 @@ fn is_return(line: &[u8]) -> bool
 
 /// Whether a blank or a tab stands at an end of a line.
 fn is_blank(line: &[u8]) -> bool
-    ensures { result ≡ is_blank line.now }
+    ensures { result ≡ has_blank_end line.now }
 {
     line.starts_with(b" ".as_slice())
         || line.starts_with(b"\t".as_slice())
@@ -163,7 +163,7 @@ fn form_for(word: &[u8]) -> &'static [u8]
 
 /// The form of the command of this name.
 fn form_in(rows: &'static [Row], word: &[u8]) -> Option<&'static [u8]>
-    ensures { option_map (λ form. form.now) result ≡ form_in word.now (map entry_of rows.now) }
+    ensures { option_map (λ form. form.now) result ≡ form_of_command word.now (map entry_of rows.now) }
 {
     'rows: for row in rows {
         if row.name == word {

@@ -33,6 +33,6 @@ mod writes_text;
 pub use beginning::begin;
 pub use explorer::Explorer;
 pub use front::{close, is_cut_off};
-pub use request::Request;
+pub use request::ExplorerCommand;
 pub use session::explore;
 pub use which::Which;

@@ -1,6 +1,6 @@
 //! What a session of exploring begins on: an image, or source.
 ghost use Rattle.std.specs.Prelude.{◌≡◌, IfOk, IfErr, IfSome};
-ghost use Rattle.ga_explorer.specs.Opening.{begins_as_image, Opens, OpensSource};
+ghost use Rattle.ga_explorer.specs.Opening.{begins_as_image, OpensExploring, OpensSource};
 ghost use Rattle.ga_explorer.specs.kept.Opening.{IsUnopened};
 
 use crate::explorer::Explorer;
@@ -41,7 +41,7 @@ pub(crate) fn open_text<E: Write>(
     text: Vec<u8>,
     limit: u32,
 ) -> Result<Explorer, Unopened>
-    ensures ok { IfOk result (λ begun. Opens text.items limit begun) }
+    ensures ok { IfOk result (λ begun. OpensExploring text.items limit begun) }
     ensures err { IfErr result (λ why. IsUnopened text.items why) }
 {
     if is_image(text.as_slice()) {

@@ -4,14 +4,14 @@ ghost use Rattle.std.specs.Prelude.{◌≡◌, ◌+◌, ◌≤◌, ◌++◌};
 ghost use Rattle.arrayvec.specs.ArrayVec.{array_vec_len};
 ghost use Rattle.ga_explorer.specs.Trees.{data_name, return_name, part_name, mark_text};
 
-use ga_console::{NUMBER_ROOM, Text, push_byte, push_number, push_text};
+use ga_console::{NUMBER_ROOM, TextBuffer, push_byte, push_number, push_text};
 use ga_flow::Part;
 
 /// The most bytes of a part's name.
 pub(crate) const PART_ROOM: usize = b"d".len() + NUMBER_ROOM;
 
 /// Adds the name of a part: of a cell its address.
-pub(crate) fn push_part(out: &mut Text, part: Part)
+pub(crate) fn push_part(out: &mut TextBuffer, part: Part)
     requires { array_vec_len out.old + PART_ROOM ≤ 256 }
     ensures text { out.new.items ≡ out.old.items ++ part_name part }
     ensures len { array_vec_len out.new ≤ array_vec_len out.old + PART_ROOM }
@@ -35,7 +35,7 @@ pub(crate) fn push_part(out: &mut Text, part: Part)
 }
 
 /// Adds the name of a word of the data stack.
-fn push_data(out: &mut Text, k: u8)
+fn push_data(out: &mut TextBuffer, k: u8)
     requires { array_vec_len out.old + PART_ROOM ≤ 256 }
     ensures text { out.new.items ≡ out.old.items ++ data_name k }
     ensures len { array_vec_len out.new ≤ array_vec_len out.old + PART_ROOM }
@@ -51,7 +51,7 @@ fn push_data(out: &mut Text, k: u8)
 }
 
 /// Adds the name of a word of the return stack.
-fn push_return(out: &mut Text, k: u8)
+fn push_return(out: &mut TextBuffer, k: u8)
     requires { array_vec_len out.old + PART_ROOM ≤ 256 }
     ensures text { out.new.items ≡ out.old.items ++ return_name k }
     ensures len { array_vec_len out.new ≤ array_vec_len out.old + PART_ROOM }
@@ -63,7 +63,7 @@ fn push_return(out: &mut Text, k: u8)
 }
 
 /// Adds the name of the part in which a step left what it made, but for T, the instruction word and a cell.
-pub(crate) fn push_mark(out: &mut Text, part: Part)
+pub(crate) fn push_mark(out: &mut TextBuffer, part: Part)
     requires { array_vec_len out.old + 1 + PART_ROOM ≤ 256 }
     ensures text { out.new.items ≡ out.old.items ++ mark_text part }
     ensures len { array_vec_len out.new ≤ array_vec_len out.old + 1 + PART_ROOM }

@@ -5,11 +5,12 @@ ghost use Rattle.ga_image.specs.Lines.{Bytes};
 ghost use Rattle.ga_console.specs.Output.{IsSaid, IsSaidOrCut};
 ghost use Rattle.ga_console.specs.kept.Output.{Says};
 ghost use Rattle.ga_search.specs.Readings.{back_of};
-ghost use Rattle.ga_explorer.specs.Races.{race_text, reading_text, side_text, races_head, lines_text, last_line, listed_text, TellsRaces};
+ghost use Rattle.ga_explorer.specs.Races.{race_text, reading_text, before_or_behind, races_head, race_lines_text, last_line, listed_text, TellsRaces};
 
 use arrayvec::ArrayVec;
 use ga_console::{
-    Output, Text, WriteFailed, push_node, push_number, push_step, push_text, push_word, refusal,
+    Output, TextBuffer, WriteFailed, push_node, push_number, push_step, push_text, push_word,
+    refusal_text,
 };
 use ga_grid::NodeId;
 use ga_lab::Lab;
@@ -35,7 +36,7 @@ pub(crate) fn say_races<W: Write>(
 {
     match find_races(alloc, lab, only) {
         Ok(races) => say_found(only, &races, output, writer),
-        Err(fault) => output.say(writer, refusal(fault)),
+        Err(fault) => output.say(writer, refusal_text(fault)),
     }
 }
 
@@ -64,7 +65,7 @@ fn say_list<W: Write>(
     output: &mut Output,
     writer: &mut W,
 ) -> Result<(), WriteFailed>
-    ensures { Says result (λ text. text ≡ lines_text races.now count)
+    ensures { Says result (λ text. text ≡ race_lines_text races.now count)
         (W.contents writer.old) output.old (W.contents writer.new) output.new }
 {
     output.say_blocks(writer, head_line(count).as_slice())?;
@@ -111,7 +112,7 @@ fn say_race<W: Write>(race: Race, output: &mut Output, writer: &mut W) -> Result
 }
 
 /// How many lines of steps follow.
-fn head_line(count: u64) -> Text
+fn head_line(count: u64) -> TextBuffer
     ensures { result.items ≡ races_head count }
 {
     let mut out = ArrayVec::new();
@@ -123,7 +124,7 @@ fn head_line(count: u64) -> Text
 
 /// A look with the word that it read, another that it could have read, the change before or behind which it would have, and the
 /// commands that make it read that.
-fn reading_line(reading: Reading) -> Text
+fn reading_line(reading: Reading) -> TextBuffer
     ensures { result.items ≡ reading_text reading }
 {
     let (node, step) = back_of(&reading);
@@ -145,7 +146,7 @@ fn reading_line(reading: Reading) -> Text
 
 /// On which side of the change a look would have read the other word.
 fn side_of(early: bool) -> &'static [u8]
-    ensures text { result.now ≡ side_text early }
+    ensures text { result.now ≡ before_or_behind early }
     ensures len { length result.now ≤ 8 }
 {
     if early { b" behind " } else { b" before " }
@@ -163,7 +164,7 @@ fn back_of(reading: &Reading) -> (NodeId, u32)
 }
 
 /// A step with its word, another that it could have taken, and the commands that make it take that.
-fn race_line(race: Race) -> Text
+fn race_line(race: Race) -> TextBuffer
     ensures { result.items ≡ race_text race }
 {
     let mut out = ArrayVec::new();

@@ -1,13 +1,13 @@
 //! The commands of exploring, as lines spell them.
 
 ghost use Rattle.std.specs.Prelude.{◌≡◌};
-ghost use Rattle.ga_explorer.specs.Reading.{request_in, lone_request, named_request, effects_in, words_in, writes_in, at_in, around_in, whence_in, because_in, decided_in, races_in, help_in};
+ghost use Rattle.ga_explorer.specs.Reading.{request_in, lone_request, named_request, effects_in, words_request, writes_in, at_in, around_in, whence_in, because_in, decided_in, races_in, help_in};
 
 use crate::commands::place_of;
 use crate::conditions_request::{Conditions, no_condition};
 use crate::run_request::run_of;
 use crate::which::Which;
-use ga_console::{cut, node_of, number_of};
+use ga_console::{cut, node_in, number_in};
 use ga_grid::NodeId;
 use ga_image::byte_of;
 use ga_notes::Notes;
@@ -23,7 +23,7 @@ const MOST_STEPS: u32 = 99;
 
 /// A command of exploring.
 #[derive(Clone, Copy, PartialEq, Eq)]
-pub enum Request {
+pub enum ExplorerCommand {
     /// `run`: makes events in the order of a schedule, at most so many, up to one after which a condition holds.
     Run {
         schedule: Schedule,
@@ -79,7 +79,7 @@ pub enum Request {
 }
 
 /// The command of exploring that a line spells, or none.
-pub fn request_of(notes: &Option<Notes>, line: &[u8]) -> Option<Request>
+pub fn request_of(notes: &Option<Notes>, line: &[u8]) -> Option<ExplorerCommand>
     ensures { result ≡ request_in notes.now line.now }
 {
     match cut(line) {
@@ -90,27 +90,27 @@ pub fn request_of(notes: &Option<Notes>, line: &[u8]) -> Option<Request>
 
 /// The command that is spelled by one word.
 #[tactic(auto, unfolding(crate::specs::Reading::lone_request))]
-fn lone_request(name: &[u8]) -> Option<Request>
+fn lone_request(name: &[u8]) -> Option<ExplorerCommand>
     ensures { result ≡ lone_request name.now }
 {
     match name {
-        b"run" => Some(Request::Run {
+        b"run" => Some(ExplorerCommand::Run {
             schedule: Schedule::in_rounds(),
             most: MOST_EVENTS,
             until: no_condition(),
         }),
-        b"who" => Some(Request::Who),
-        b"races" => Some(Request::Races { only: None }),
-        b"chip" => Some(Request::Chip),
-        b"save" => Some(Request::Save),
-        b"help" => Some(Request::Help),
+        b"who" => Some(ExplorerCommand::Who),
+        b"races" => Some(ExplorerCommand::Races { only: None }),
+        b"chip" => Some(ExplorerCommand::Chip),
+        b"save" => Some(ExplorerCommand::Save),
+        b"help" => Some(ExplorerCommand::Help),
         _ => None,
     }
 }
 
 /// The command that is spelled by a word and what follows the space behind it.
 #[tactic(auto, unfolding(crate::specs::Reading::named_request))]
-fn named_request(notes: &Option<Notes>, name: &[u8], arguments: &[u8]) -> Option<Request>
+fn named_request(notes: &Option<Notes>, name: &[u8], arguments: &[u8]) -> Option<ExplorerCommand>
     ensures { result ≡ named_request notes.now name.now arguments.now }
 {
     if name == b"run".as_slice() {
@@ -138,59 +138,59 @@ fn named_request(notes: &Option<Notes>, name: &[u8], arguments: &[u8]) -> Option
 
 /// `NNN K`
 #[tactic(auto, unfolding(crate::specs::Reading::effects_in))]
-fn effects_of(text: &[u8]) -> Option<Request>
+fn effects_of(text: &[u8]) -> Option<ExplorerCommand>
     ensures { result ≡ effects_in text.now }
 {
     let (node, step) = cut(text)?;
-    Some(Request::Effects {
-        node: node_of(node)?,
+    Some(ExplorerCommand::Effects {
+        node: node_in(node)?,
         which: Which::spelled(step)?,
     })
 }
 
 /// `NNN MMM`
 #[tactic(auto, unfolding(crate::specs::Reading::words_in))]
-fn words_of(text: &[u8]) -> Option<Request>
-    ensures { result ≡ words_in text.now }
+fn words_of(text: &[u8]) -> Option<ExplorerCommand>
+    ensures { result ≡ words_request text.now }
 {
     let (from, to) = cut(text)?;
-    Some(Request::Words {
-        from: node_of(from)?,
-        to: node_of(to)?,
+    Some(ExplorerCommand::Words {
+        from: node_in(from)?,
+        to: node_in(to)?,
     })
 }
 
 /// `NNN HH`
 #[tactic(auto, unfolding(crate::specs::Reading::writes_in))]
-fn writes_of(text: &[u8]) -> Option<Request>
+fn writes_of(text: &[u8]) -> Option<ExplorerCommand>
     ensures { result ≡ writes_in text.now }
 {
     let (node, address) = cut(text)?;
-    Some(Request::Writes {
-        node: node_of(node)?,
+    Some(ExplorerCommand::Writes {
+        node: node_in(node)?,
         address: byte_of(address)?,
     })
 }
 
 /// `NNN K` or `NNN K N`
 #[tactic(auto, unfolding(crate::specs::Reading::at_in))]
-fn at_of(text: &[u8]) -> Option<Request>
+fn at_of(text: &[u8]) -> Option<ExplorerCommand>
     ensures { result ≡ at_in text.now }
 {
     let (node, rest) = cut(text)?;
-    around_of(node_of(node)?, rest)
+    around_of(node_in(node)?, rest)
 }
 
 /// `K` or `K N` behind a node
-fn around_of(node: NodeId, text: &[u8]) -> Option<Request>
+fn around_of(node: NodeId, text: &[u8]) -> Option<ExplorerCommand>
     ensures { result ≡ around_in node text.now }
 {
     match cut(text) {
         Some((step, around)) => {
             let which = Which::spelled(step)?;
-            let around = number_of(around)?;
+            let around = number_in(around)?;
             if around <= MOST_STEPS {
-                Some(Request::At {
+                Some(ExplorerCommand::At {
                     node,
                     which,
                     around,
@@ -199,7 +199,7 @@ fn around_of(node: NodeId, text: &[u8]) -> Option<Request>
                 None
             }
         }
-        None => Some(Request::At {
+        None => Some(ExplorerCommand::At {
             node,
             which: Which::spelled(text)?,
             around: FEW_STEPS,
@@ -209,40 +209,40 @@ fn around_of(node: NodeId, text: &[u8]) -> Option<Request>
 
 /// `NNN K`
 #[tactic(auto, unfolding(crate::specs::Reading::whence_in))]
-fn whence_of(text: &[u8]) -> Option<Request>
+fn whence_of(text: &[u8]) -> Option<ExplorerCommand>
     ensures { result ≡ whence_in text.now }
 {
     let (node, step) = cut(text)?;
-    Some(Request::Whence {
-        node: node_of(node)?,
+    Some(ExplorerCommand::Whence {
+        node: node_in(node)?,
         which: Which::spelled(step)?,
     })
 }
 
 /// `NNN K` or `NNN K N`
 #[tactic(auto, unfolding(crate::specs::Reading::because_in))]
-fn because_of(text: &[u8]) -> Option<Request>
+fn because_of(text: &[u8]) -> Option<ExplorerCommand>
     ensures { result ≡ because_in text.now }
 {
     let (node, rest) = cut(text)?;
-    decided_of(node_of(node)?, rest)
+    decided_of(node_in(node)?, rest)
 }
 
 /// `K` or `K N` behind a node
-fn decided_of(node: NodeId, text: &[u8]) -> Option<Request>
+fn decided_of(node: NodeId, text: &[u8]) -> Option<ExplorerCommand>
     ensures { result ≡ decided_in node text.now }
 {
     match cut(text) {
         Some((step, most)) => {
             let which = Which::spelled(step)?;
-            let most = number_of(most)?;
+            let most = number_in(most)?;
             if most <= MOST_STEPS {
-                Some(Request::Because { node, which, most })
+                Some(ExplorerCommand::Because { node, which, most })
             } else {
                 None
             }
         }
-        None => Some(Request::Because {
+        None => Some(ExplorerCommand::Because {
             node,
             which: Which::spelled(text)?,
             most: FEW_STEPS,
@@ -252,17 +252,17 @@ fn decided_of(node: NodeId, text: &[u8]) -> Option<Request>
 
 /// `NNN`
 #[tactic(auto, unfolding(crate::specs::Reading::races_in))]
-fn races_of(text: &[u8]) -> Option<Request>
+fn races_of(text: &[u8]) -> Option<ExplorerCommand>
     ensures { result ≡ races_in text.now }
 {
-    Some(Request::Races {
-        only: Some(node_of(text)?),
+    Some(ExplorerCommand::Races {
+        only: Some(node_in(text)?),
     })
 }
 
 /// A command's name
-fn help_of(text: &[u8]) -> Option<Request>
+fn help_of(text: &[u8]) -> Option<ExplorerCommand>
     ensures { result ≡ help_in text.now }
 {
-    Some(Request::HelpOf(place_of(text)?))
+    Some(ExplorerCommand::HelpOf(place_of(text)?))
 }

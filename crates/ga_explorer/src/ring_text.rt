@@ -3,7 +3,7 @@
 ghost use Rattle.std.specs.Prelude.{◌≡◌, ◌++◌, ◌+◌, ◌≤◌, [], Some};
 ghost use Rattle.ga_image.specs.Lines.{Bytes};
 ghost use Rattle.arrayvec.specs.ArrayVec.{array_vec_len};
-ghost use Rattle.ga_grid.specs.Grid.{number_in};
+ghost use Rattle.ga_grid.specs.Grid.{number_where_any};
 ghost use Rattle.ga_grid.specs.Chip.{records_of};
 ghost use Rattle.ga_causal.specs.Dependence.{is_marked};
 ghost use Rattle.ga_console.specs.Output.{IsSaid, IsSaidOrCut};
@@ -91,7 +91,7 @@ fn ring_from(chip: &Chip, first: NodeId) -> RingLine
 
 /// The neighbour that a node awaits, where it awaits no other.
 fn sole_awaited(chip: &Chip, node: NodeId) -> Option<NodeId>
-    ensures { number_in result ≡ sole_awaited (records_of chip.now) node.number }
+    ensures { number_where_any result ≡ sole_awaited (records_of chip.now) node.number }
 {
     let right = awaited_at(chip, node, Side::Right);
     let down = awaited_at(chip, node, Side::Down);
@@ -107,7 +107,7 @@ fn sole(
     left: Option<NodeId>,
     up: Option<NodeId>,
 ) -> Option<NodeId>
-    ensures { number_in result ≡ sole (number_in right) (number_in down) (number_in left) (number_in up) }
+    ensures { number_where_any result ≡ sole (number_where_any right) (number_where_any down) (number_where_any left) (number_where_any up) }
 {
     match (right, down, left, up) {
         (Some(node), None, None, None) => Some(node),
@@ -120,7 +120,7 @@ fn sole(
 
 /// The neighbour on a side, where the node awaits it.
 fn awaited_at(chip: &Chip, node: NodeId, side: Side) -> Option<NodeId>
-    ensures { number_in result ≡ awaited_at (records_of chip.now) node.number side }
+    ensures { number_where_any result ≡ awaited_at (records_of chip.now) node.number side }
 {
     if awaits(&chip.node(node).wait(), side) {
         neighbour(node, side)

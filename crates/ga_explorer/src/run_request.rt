@@ -4,13 +4,13 @@ ghost use Rattle.std.specs.Prelude.{◌≡◌};
 ghost use Rattle.ga_explorer.specs.Reading.{run_in, lone_order, named_order, seeded_in, bounded_in, bounded_by, until_in, run_until};
 
 use crate::conditions_request::{conditions_of, no_condition};
-use crate::request::{MOST_EVENTS, Request};
-use ga_console::{cut, number_of};
+use crate::request::{ExplorerCommand, MOST_EVENTS};
+use ga_console::{cut, number_in};
 use ga_notes::Notes;
 use ga_search::Schedule;
 
 /// What stands behind `run` and a space.
-pub(crate) fn run_of(notes: &Option<Notes>, text: &[u8]) -> Option<Request>
+pub(crate) fn run_of(notes: &Option<Notes>, text: &[u8]) -> Option<ExplorerCommand>
     ensures { result ≡ run_in notes.now text.now }
 {
     match cut(text) {
@@ -21,11 +21,11 @@ pub(crate) fn run_of(notes: &Option<Notes>, text: &[u8]) -> Option<Request>
 
 /// An order of one word, or what bounds a run in rounds.
 #[tactic(auto, unfolding(crate::specs::Reading::lone_order))]
-fn lone_order(notes: &Option<Notes>, text: &[u8]) -> Option<Request>
+fn lone_order(notes: &Option<Notes>, text: &[u8]) -> Option<ExplorerCommand>
     ensures { result ≡ lone_order notes.now text.now }
 {
     if text == b"greedy".as_slice() {
-        Some(Request::Run {
+        Some(ExplorerCommand::Run {
             schedule: Schedule::greedily(),
             most: MOST_EVENTS,
             until: no_condition(),
@@ -37,7 +37,12 @@ fn lone_order(notes: &Option<Notes>, text: &[u8]) -> Option<Request>
 
 /// An order with what stands behind it, or what bounds a run in rounds.
 #[tactic(auto, unfolding(crate::specs::Reading::named_order))]
-fn named_order(notes: &Option<Notes>, name: &[u8], rest: &[u8], text: &[u8]) -> Option<Request>
+fn named_order(
+    notes: &Option<Notes>,
+    name: &[u8],
+    rest: &[u8],
+    text: &[u8],
+) -> Option<ExplorerCommand>
     ensures { result ≡ named_order notes.now name.now rest.now text.now }
 {
     if name == b"greedy".as_slice() {
@@ -50,17 +55,17 @@ fn named_order(notes: &Option<Notes>, name: &[u8], rest: &[u8], text: &[u8]) -> 
 }
 
 /// A seed, and what bounds the run.
-fn seeded_of(notes: &Option<Notes>, text: &[u8]) -> Option<Request>
+fn seeded_of(notes: &Option<Notes>, text: &[u8]) -> Option<ExplorerCommand>
     ensures { result ≡ seeded_in notes.now text.now }
 {
     match cut(text) {
         Some((seed, rest)) => {
-            let seed = number_of(seed)?;
+            let seed = number_in(seed)?;
             bounded_of(notes, Schedule::at_random(u64::from(seed)), rest)
         }
         None => {
-            let seed = number_of(text)?;
-            Some(Request::Run {
+            let seed = number_in(text)?;
+            Some(ExplorerCommand::Run {
                 schedule: Schedule::at_random(u64::from(seed)),
                 most: MOST_EVENTS,
                 until: no_condition(),
@@ -70,14 +75,14 @@ fn seeded_of(notes: &Option<Notes>, text: &[u8]) -> Option<Request>
 }
 
 /// A number, `until` and conditions, or both.
-fn bounded_of(notes: &Option<Notes>, schedule: Schedule, text: &[u8]) -> Option<Request>
+fn bounded_of(notes: &Option<Notes>, schedule: Schedule, text: &[u8]) -> Option<ExplorerCommand>
     ensures { result ≡ bounded_in notes.now schedule text.now }
 {
     match cut(text) {
         Some((name, rest)) => bounded_by(notes, schedule, name, rest),
-        None => Some(Request::Run {
+        None => Some(ExplorerCommand::Run {
             schedule,
-            most: number_of(text)?,
+            most: number_in(text)?,
             until: no_condition(),
         }),
     }
@@ -90,18 +95,23 @@ fn bounded_by(
     schedule: Schedule,
     name: &[u8],
     rest: &[u8],
-) -> Option<Request>
+) -> Option<ExplorerCommand>
     ensures { result ≡ bounded_by notes.now schedule name.now rest.now }
 {
     match name {
         b"until" => run_until(notes, schedule, MOST_EVENTS, rest),
-        _ => until_of(notes, schedule, number_of(name)?, rest),
+        _ => until_of(notes, schedule, number_in(name)?, rest),
     }
 }
 
 /// `until` and conditions.
 #[tactic(auto, unfolding(crate::specs::Reading::until_in))]
-fn until_of(notes: &Option<Notes>, schedule: Schedule, most: u32, text: &[u8]) -> Option<Request>
+fn until_of(
+    notes: &Option<Notes>,
+    schedule: Schedule,
+    most: u32,
+    text: &[u8],
+) -> Option<ExplorerCommand>
     ensures { result ≡ until_in notes.now schedule most text.now }
 {
     let (name, rest) = cut(text)?;
@@ -111,10 +121,15 @@ fn until_of(notes: &Option<Notes>, schedule: Schedule, most: u32, text: &[u8]) -
     }
 }
 
-fn run_until(notes: &Option<Notes>, schedule: Schedule, most: u32, text: &[u8]) -> Option<Request>
+fn run_until(
+    notes: &Option<Notes>,
+    schedule: Schedule,
+    most: u32,
+    text: &[u8],
+) -> Option<ExplorerCommand>
     ensures { result ≡ run_until notes.now schedule most text.now }
 {
-    Some(Request::Run {
+    Some(ExplorerCommand::Run {
         schedule,
         most,
         until: conditions_of(notes, text)?,

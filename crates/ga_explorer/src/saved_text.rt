@@ -6,11 +6,11 @@ ghost use Rattle.ga_image.specs.Lines.{Bytes};
 ghost use Rattle.ga_lab.specs.Forward.{actor_of};
 ghost use Rattle.ga_console.specs.Output.{IsSaid, IsSaidOrCut};
 ghost use Rattle.ga_console.specs.kept.Output.{Says};
-ghost use Rattle.ga_explorer.specs.Saved.{step_line, ended, saved_text};
+ghost use Rattle.ga_explorer.specs.Saved.{step_line, with_feed, saved_text};
 ghost use Rattle.ga_explorer.specs.kept.Saved.{actor_in, line_at, cause_line};
 
 use arrayvec::ArrayVec;
-use ga_console::{Output, Text, WriteFailed, push_node, push_text};
+use ga_console::{Output, TextBuffer, WriteFailed, push_node, push_text};
 use ga_event::{Cause, Event};
 use ga_grid::NodeId;
 use ga_lab::{Lab, Made};
@@ -55,7 +55,7 @@ fn say_listed<W: Write>(
 /// Says the line of an event.
 fn say_event<W: Write>(event: Event, output: &mut Output, writer: &mut W) -> Result<(), WriteFailed>
     ensures { (before said : Bytes) → IsSaid (W.contents writer.old) before said output.old →
-        IsSaidOrCut result (W.contents writer.new) before (said ++ ended (step_line (actor_of event))) output.new }
+        IsSaidOrCut result (W.contents writer.new) before (said ++ with_feed (step_line (actor_of event))) output.new }
 {
     output.say_blocks(writer, step_line(actor_of(event)).as_slice())
 }
@@ -110,8 +110,8 @@ fn actor(made: &Made) -> NodeId
 }
 
 /// `step NNN`
-fn step_line(node: NodeId) -> Text
-    ensures { result.items ≡ ended (step_line node) }
+fn step_line(node: NodeId) -> TextBuffer
+    ensures { result.items ≡ with_feed (step_line node) }
 {
     let mut out = ArrayVec::new();
     push_text(&mut out, b"step ");

@@ -1,7 +1,7 @@
 //! A whole session of exploring.
 ghost use Rattle.std.specs.Prelude.{◌≡◌, ◌++◌, Some};
 ghost use Rattle.ga_image.specs.Lines.{Bytes};
-ghost use Rattle.ga_explorer.specs.Session.{Runs};
+ghost use Rattle.ga_explorer.specs.Session.{RunsExploring};
 
 use crate::beginning::begin;
 use ga_console::{Input, Output, Status, serve, status_of};
@@ -22,7 +22,7 @@ pub fn explore<R: Read, W: Write, E: Write>(
     ensures { (left before : Bytes) →
         R.remaining reader.old ≡ Some left → W.contents writer.old ≡ Some before →
         (read rest text : Bytes) × (left ≡ read ++ rest) × (R.remaining reader.new ≡ Some rest)
-        × (W.contents writer.new ≡ Some (before ++ text)) × Runs limit read rest text result }
+        × (W.contents writer.new ≡ Some (before ++ text)) × RunsExploring limit read rest text result }
 {
     let mut input = Input::new();
     match begin(alloc, &mut input, reader, writer, errors, limit) {

@@ -8,14 +8,16 @@ ghost use Rattle.ga_lab.specs.Machine.{stands, standing};
 ghost use Rattle.ga_event.specs.Told.{steps_of};
 ghost use Rattle.ga_console.specs.Output.{IsSaid, IsSaidOrCut};
 ghost use Rattle.ga_console.specs.kept.Output.{Says};
-ghost use Rattle.ga_explorer.specs.Trees.{blanks, row_text, rows_by, value_text, did_text, head_text, more_text, TellsAsked, TellsWhence};
+ghost use Rattle.ga_explorer.specs.Trees.{blanks, tree_row_text, rows_by, value_text, did_text, head_text, more_text, TellsAsked, TellsWhence};
 ghost use Rattle.ga_explorer.specs.kept.Trees.{is_first};
 
 use crate::deed_text::{DEED_ROOM, push_deed};
 use crate::part_text::{push_mark, push_part};
 use crate::tail_text::{say_value_tail, say_walk_tail};
 use arrayvec::ArrayVec;
-use ga_console::{Output, STEP_ROOM, Text, WriteFailed, push_node, push_step, push_text, refusal};
+use ga_console::{
+    Output, STEP_ROOM, TextBuffer, WriteFailed, push_node, push_step, push_text, refusal_text,
+};
 use ga_grid::NodeId;
 use ga_lab::{Lab, LabFault, Walk};
 use ga_notes::Notes;
@@ -47,7 +49,7 @@ pub(crate) fn say_whence<W: Write>(
         (W.contents writer.old) output.old (W.contents writer.new) output.new }
 {
     if !lab.stands((node, step)) {
-        return output.say(writer, refusal(LabFault::NoStep));
+        return output.say(writer, refusal_text(LabFault::NoStep));
     }
     let near = lab.walk(node, step);
     match asked_behind(lab, &near, node) {
@@ -78,7 +80,7 @@ fn say_asked<W: Write>(
             say_rows(lab, notes, near, node, rows, output, writer)?;
             output.say_blocks(writer, more(listing.is_whole))
         }
-        Err(_) => output.say(writer, refusal(LabFault::Memory)),
+        Err(_) => output.say(writer, refusal_text(LabFault::Memory)),
     }
 }
 
@@ -149,7 +151,7 @@ fn say_lines<W: Write>(
     writer: &mut W,
 ) -> Result<(), WriteFailed>
     requires { near.now ≡ standing lab.now at near.now.step }
-    ensures { Says result (λ text. text ≡ flat_map (row_text notes.now lab.now deeper) rows.now)
+    ensures { Says result (λ text. text ≡ flat_map (tree_row_text notes.now lab.now deeper) rows.now)
         (W.contents writer.old) output.old (W.contents writer.new) output.new }
 {
     'rows: for row in rows {
@@ -171,7 +173,7 @@ pub(crate) fn say_row<W: Write>(
 ) -> Result<(), WriteFailed>
     requires { near.now ≡ standing lab.now at near.now.step }
     ensures { (before said : Bytes) → IsSaid (W.contents writer.old) before said output.old →
-        IsSaidOrCut result (W.contents writer.new) before (said ++ row_text notes.now lab.now deeper row) output.new }
+        IsSaidOrCut result (W.contents writer.new) before (said ++ tree_row_text notes.now lab.now deeper row) output.new }
 {
     say_blanks(u64::from(row.depth) + u64::from(deeper), output, writer)?;
     output.say_blocks(writer, value_line(lab, row.value).as_slice())?;
@@ -192,7 +194,7 @@ fn say_blanks<W: Write>(levels: u64, output: &mut Output, writer: &mut W) -> Res
 }
 
 /// A step of a node, with what it did.
-fn head_line(lab: &Lab, node: NodeId, step: u32) -> Text
+fn head_line(lab: &Lab, node: NodeId, step: u32) -> TextBuffer
     ensures { result.items ≡ did_text lab.now node step }
 {
     let mut out = ArrayVec::new();
@@ -201,7 +203,7 @@ fn head_line(lab: &Lab, node: NodeId, step: u32) -> Text
 }
 
 /// The step that made a value, or that it was loaded.
-fn value_line(lab: &Lab, value: Value) -> Text
+fn value_line(lab: &Lab, value: Value) -> TextBuffer
     ensures { result.items ≡ value_text lab.now value }
 {
     let mut out = ArrayVec::new();
@@ -217,7 +219,7 @@ fn value_line(lab: &Lab, value: Value) -> Text
 }
 
 /// Adds a step of a node, with what it did.
-fn push_did(out: &mut Text, lab: &Lab, node: NodeId, step: u32)
+fn push_did(out: &mut TextBuffer, lab: &Lab, node: NodeId, step: u32)
     requires { array_vec_len out.old + DID_ROOM ≤ 256 }
     ensures text { out.new.items ≡ out.old.items ++ did_text lab.now node step }
     ensures len { array_vec_len out.new ≤ array_vec_len out.old + DID_ROOM }

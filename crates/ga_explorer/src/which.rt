@@ -3,7 +3,7 @@
 ghost use Rattle.std.specs.Prelude.{◌≡◌};
 ghost use Rattle.ga_explorer.specs.Which.{which_in, step_meant};
 
-use ga_console::number_of;
+use ga_console::number_in;
 use ga_grid::NodeId;
 use ga_lab::Lab;
 
@@ -24,7 +24,7 @@ impl Which {
         if word == b"last".as_slice() {
             Some(Which::Last)
         } else {
-            Some(Which::Number(number_of(word)?))
+            Some(Which::Number(number_in(word)?))
         }
     }
 

@@ -3,7 +3,7 @@
 ghost use Rattle.std.specs.Prelude.{◌≡◌, ◌++◌, ◌+◌, ◌≤◌, ◌&&◌, not, if◌then◌else◌, length};
 ghost use Rattle.ga_image.specs.Lines.{Bytes};
 ghost use Rattle.arrayvec.specs.ArrayVec.{array_vec_len};
-ghost use Rattle.ga_grid.specs.Grid.{number_in};
+ghost use Rattle.ga_grid.specs.Grid.{number_where_any};
 ghost use Rattle.ga_grid.specs.Chip.{records_of};
 ghost use Rattle.ga_causal.specs.Dependence.{is_marked};
 ghost use Rattle.ga_console.specs.Output.{IsSaid, IsSaidOrCut};
@@ -13,7 +13,7 @@ ghost use Rattle.ga_explorer.specs.Answers.{TellsWho};
 
 use super::ring_text::say_rings;
 use arrayvec::ArrayVec;
-use ga_console::{NUMBER_ROOM, Output, Text, WriteFailed, push_node, push_number, push_text};
+use ga_console::{NUMBER_ROOM, Output, TextBuffer, WriteFailed, push_node, push_number, push_text};
 use ga_grid::{Chip, NodeId, neighbour};
 use ga_lab::Lab;
 use ga_node::{Node, Wait};
@@ -99,7 +99,7 @@ fn say_node<W: Write>(
 }
 
 /// The line of a node that waits, where it is not idle.
-fn busy_line(chip: &Chip, idle: &[bool; 144], node: NodeId) -> Text
+fn busy_line(chip: &Chip, idle: &[bool; 144], node: NodeId) -> TextBuffer
     ensures { result.items ≡ busy_text (records_of chip.now) (is_marked idle.now) node.number }
 {
     if idle[node.index()] {
@@ -110,7 +110,7 @@ fn busy_line(chip: &Chip, idle: &[bool; 144], node: NodeId) -> Text
 }
 
 /// The line of a node that waits: what it does, and of each neighbour that it awaits the side, the name and what that one does.
-fn waiting_line(chip: &Chip, node: NodeId) -> Text
+fn waiting_line(chip: &Chip, node: NodeId) -> TextBuffer
     ensures { result.items ≡ waiting_text (records_of chip.now) node.number }
 {
     match chip.node(node).wait() {
@@ -121,7 +121,7 @@ fn waiting_line(chip: &Chip, node: NodeId) -> Text
     }
 }
 
-fn awaiting_line(chip: &Chip, node: NodeId) -> Text
+fn awaiting_line(chip: &Chip, node: NodeId) -> TextBuffer
     ensures { result.items ≡ awaiting_text (records_of chip.now) node.number }
 {
     let mut out = ArrayVec::new();
@@ -137,7 +137,7 @@ fn awaiting_line(chip: &Chip, node: NodeId) -> Text
 }
 
 /// Adds what a node does.
-fn push_does(out: &mut Text, chip: &Chip, node: NodeId)
+fn push_does(out: &mut TextBuffer, chip: &Chip, node: NodeId)
     requires { array_vec_len out.old + DOING_ROOM ≤ 256 }
     ensures text { out.new.items ≡ out.old.items ++ does_text (records_of chip.now) node.number }
     ensures len { array_vec_len out.new ≤ array_vec_len out.old + DOING_ROOM }
@@ -146,7 +146,7 @@ fn push_does(out: &mut Text, chip: &Chip, node: NodeId)
     push_doing(out, at.wait(), at.stop());
 }
 
-fn push_doing(out: &mut Text, wait: Wait, stop: u8)
+fn push_doing(out: &mut TextBuffer, wait: Wait, stop: u8)
     requires { array_vec_len out.old + DOING_ROOM ≤ 256 }
     ensures text { out.new.items ≡ out.old.items ++ doing_word wait stop }
     ensures len { array_vec_len out.new ≤ array_vec_len out.old + DOING_ROOM }
@@ -167,7 +167,7 @@ fn push_doing(out: &mut Text, wait: Wait, stop: u8)
 }
 
 /// Adds the neighbour on a side, where the node awaits it.
-fn push_awaited(out: &mut Text, chip: &Chip, node: NodeId, side: Side, letter: u8)
+fn push_awaited(out: &mut TextBuffer, chip: &Chip, node: NodeId, side: Side, letter: u8)
     requires { array_vec_len out.old + BESIDE_ROOM ≤ 256 }
     ensures text { out.new.items ≡ out.old.items ++ awaited_text (records_of chip.now) node.number side letter }
     ensures len { array_vec_len out.new ≤ array_vec_len out.old + BESIDE_ROOM }
@@ -178,9 +178,9 @@ fn push_awaited(out: &mut Text, chip: &Chip, node: NodeId, side: Side, letter: u
 }
 
 /// Adds a neighbour, where there is one.
-fn push_beside(out: &mut Text, chip: &Chip, beside: Option<NodeId>, letter: u8)
+fn push_beside(out: &mut TextBuffer, chip: &Chip, beside: Option<NodeId>, letter: u8)
     requires { array_vec_len out.old + BESIDE_ROOM ≤ 256 }
-    ensures text { out.new.items ≡ out.old.items ++ beside_text (records_of chip.now) (number_in beside) letter }
+    ensures text { out.new.items ≡ out.old.items ++ beside_text (records_of chip.now) (number_where_any beside) letter }
     ensures len { array_vec_len out.new ≤ array_vec_len out.old + BESIDE_ROOM }
 {
     if let Some(other) = beside {
@@ -302,14 +302,14 @@ fn one_if(holds: bool) -> u8
 }
 
 /// The last line: how many nodes are idle, where some are.
-fn idle_line(idle: &[bool; 144]) -> Text
+fn idle_line(idle: &[bool; 144]) -> TextBuffer
     ensures { result.items ≡ idle_text (is_marked idle.now) }
 {
     line_of_count(idle_count(idle))
 }
 
 /// The line of so many idle nodes.
-fn line_of_count(idle: u8) -> Text
+fn line_of_count(idle: u8) -> TextBuffer
     ensures { result.items ≡ idle_line idle }
 {
     let mut out = ArrayVec::new();

@@ -4,11 +4,11 @@ ghost use Rattle.std.specs.Prelude.{◌≡◌, ◌++◌};
 ghost use Rattle.ga_image.specs.Lines.{Bytes};
 ghost use Rattle.ga_console.specs.Output.{IsSaid, IsSaidOrCut};
 ghost use Rattle.ga_console.specs.kept.Output.{Says};
-ghost use Rattle.ga_explorer.specs.Texts.{sent_text, words_head, linked_text, words_text};
+ghost use Rattle.ga_explorer.specs.Texts.{sent_text, words_head, linked_text, link_words_text};
 
 use arrayvec::ArrayVec;
 use ga_console::{
-    Output, Text, WriteFailed, push_node, push_number, push_spaced, push_step, push_text,
+    Output, TextBuffer, WriteFailed, push_node, push_number, push_spaced, push_step, push_text,
 };
 use ga_grid::NodeId;
 use ga_lab::Lab;
@@ -26,7 +26,7 @@ pub(crate) fn say_words<W: Write>(
     output: &mut Output,
     writer: &mut W,
 ) -> Result<(), WriteFailed>
-    ensures { Says result (λ text. text ≡ words_text lab.now from to)
+    ensures { Says result (λ text. text ≡ link_words_text lab.now from to)
         (W.contents writer.old) output.old (W.contents writer.new) output.new }
 {
     if are_linked(from, to) {
@@ -74,7 +74,7 @@ fn say_sent<W: Write>(
 }
 
 /// The link, and how many words of it are kept.
-fn head_line(from: NodeId, to: NodeId, count: u32) -> Text
+fn head_line(from: NodeId, to: NodeId, count: u32) -> TextBuffer
     ensures { result.items ≡ words_head from to count }
 {
     let mut out = ArrayVec::new();
@@ -89,7 +89,7 @@ fn head_line(from: NodeId, to: NodeId, count: u32) -> Text
 }
 
 /// A word: its number, the steps of both ends and itself.
-fn sent_line(from: NodeId, to: NodeId, sent: &Sent) -> Text
+fn sent_line(from: NodeId, to: NodeId, sent: &Sent) -> TextBuffer
     ensures { result.items ≡ sent_text from to sent.now }
 {
     let mut out = ArrayVec::new();

@@ -7,10 +7,10 @@ ghost use Rattle.ga_explorer.specs.Writing.{written_text, cell_writes, writes_te
 
 use crate::deed_text::push_deed;
 use arrayvec::ArrayVec;
-use ga_console::{Output, Text, WriteFailed, push_spaced, push_step, push_text};
+use ga_console::{Output, TextBuffer, WriteFailed, push_spaced, push_step, push_text};
 use ga_grid::NodeId;
 use ga_lab::Lab;
-use ga_origin::{CellWrites, Written};
+use ga_origin::{CellWrite, CellWrites};
 use std::io::Write;
 
 /// `writes NNN HH`: tells the steps of a node that wrote at an address of its memory, the newest first. Takes no memory.
@@ -54,10 +54,10 @@ fn say_cell<W: Write>(
 }
 
 /// A step that wrote: its number, the opcode's name, and the word.
-fn written_line(node: NodeId, written: Written) -> Text
+fn written_line(node: NodeId, written: CellWrite) -> TextBuffer
     ensures { result.items ≡ written_text node (Some written) }
 {
-    let Written { step, made, word } = written;
+    let CellWrite { step, made, word } = written;
     let mut out = ArrayVec::new();
     push_step(&mut out, node, step);
     push_text(&mut out, b" ");

@@ -6,7 +6,7 @@ use Rattle.ga_ports.specs.Address.{classified}
 use Rattle.ga_node.specs.Record.{NodeRecord}
 use Rattle.ga_node.specs.Table.{due_of}
 use Rattle.ga_flow.specs.declared.choice.Choice.TheVariants.{Test, At}
-use Rattle.ga_flow.specs.Flow.{choice, chosen_by, AreAlike, Agree}
+use Rattle.ga_flow.specs.Flow.{choice, chosen_by, DecideAlike, AgreeAtParts}
 use Rattle.ga_flow.specs.declared.part.Part.TheVariants.{I as OfI, Slot as OfSlot}
 use Rattle.ga_node.specs.declared.due.Due.{Due}
 use Rattle.ga_node.specs.declared.due.Due.TheVariants as due
@@ -18,7 +18,7 @@ module _ (n m : NodeRecord) where
       by_slot : ℕ → ℕ → Due
       by_slot i slot = cond (slot == 4) due.Fetch (due.Run (opcode i slot))
 
-  chosen : (d : Due) → Agree 0 n 0 m (chosen_by d) → choice d n ≡ choice d m
+  chosen : (d : Due) → AgreeAtParts 0 n 0 m (chosen_by d) → choice d n ≡ choice d m
   chosen due.Fetch agree = ap (λ p. At (classified p)) agree.0
   chosen (due.Run op.Unext) agree = ap (λ v. Test (v == 0)) agree.0
   chosen (due.Run op.Next) agree = ap (λ v. Test (v == 0)) agree.0
@@ -53,7 +53,7 @@ module _ (n m : NodeRecord) where
   chosen (due.Run op.BStore) agree = refl
   chosen (due.Run op.AStore) agree = refl
 
-  pub alike : Agree 0 n 0 m (OfI ∷ OfSlot ∷ []) → Agree 0 n 0 m (chosen_by (due_of n)) → AreAlike n m
+  pub alike : AgreeAtParts 0 n 0 m (OfI ∷ OfSlot ∷ []) → AgreeAtParts 0 n 0 m (chosen_by (due_of n)) → DecideAlike n m
   alike word by = record {
     due = due_same word.0 word.1.0;
     choice = chosen (due_of n) by ∙ ap (λ d. choice d m) (due_same word.0 word.1.0);

@@ -12,8 +12,8 @@ use Rattle.ga_node.specs.Record.{NodeRecord, HasSizes}
 use Rattle.ga_node.specs.Io.{io_word}
 use Rattle.ga_node.specs.Changes.{Change, after_changes}
 use Rattle.ga_node.specs.Changes as change
-use Rattle.ga_node.specs.Table.{t, r, posts, halts, found, stored, followed, named, effect, is_extended, due_of, done_by, own_event, own, sent, taken, taking}
-use Rattle.ga_flow.specs.Flow.{Flow, Same, From, Move, top, second, top_return, part_of, IsPart, moved_all, from, read_moves, write_moves, moves, moves_by, take_moves, own_flow, send_flow, take_flow, choice, target_of, holds, AreAlike, Comes}
+use Rattle.ga_node.specs.Table.{t, r, posts, halts, found, stored, followed, with_kind, effect, is_extended, due_of, done_by, own_event, own, sent, taken, taking}
+use Rattle.ga_flow.specs.Flow.{Flow, Same, From, Move, top, second, top_return, part_of, IsPart, moved_all, from, read_moves, write_moves, moves, moves_by, take_moves, own_flow, send_flow, take_flow, choice, target_of, test_holds, DecideAlike, Comes}
 use Rattle.ga_flow.specs.declared.part.Part.{Part}
 use Rattle.ga_flow.specs.declared.part.Part.TheVariants.{Ram as OfRam, Rom as OfRom, A as OfA, P as OfP, I as OfI, Carry as OfCarry, Slot as OfSlot, Outside}
 use Rattle.ga_flow.specs.Flow as move
@@ -78,11 +78,11 @@ module _ (seen other : Seen) (n m : NodeRecord) where
 
   read_row : (a b : Target) (reader : Reader) (k : Kind) (mvs : Flow → List Move) (xs ys : ℕ → List Change) → a ≡ b
       → ((flow : Flow) (x y : ℕ) → Source flow x y → Rows (mvs flow) (xs x) (ys y))
-      → IsRow (read_moves a mvs) (named k (followed (found a reader seen n) xs)) (named k (followed (found b reader other m) ys))
+      → IsRow (read_moves a mvs) (with_kind k (followed (found a reader seen n) xs)) (with_kind k (followed (found b reader other m) ys))
   unfolding found followed
-  read_row a b reader k mvs xs ys e rows = subst (λ b. IsRow (read_moves a mvs) (named k (followed (found a reader seen n) xs)) (named k (followed (found b reader other m) ys))) e (same a)
+  read_row a b reader k mvs xs ys e rows = subst (λ b. IsRow (read_moves a mvs) (with_kind k (followed (found a reader seen n) xs)) (with_kind k (followed (found b reader other m) ys))) e (same a)
     where
-      same : (a : Target) → IsRow (read_moves a mvs) (named k (followed (found a reader seen n) xs)) (named k (followed (found a reader other m) ys))
+      same : (a : Target) → IsRow (read_moves a mvs) (with_kind k (followed (found a reader seen n) xs)) (with_kind k (followed (found a reader other m) ys))
       same (Ram cell) = (refl, rows (Same (OfRam cell)) _ _ (refl, refl))
       same (Rom cell) = (refl, rows (Same (OfRom cell)) _ _ (refl, refl))
       same Io = (refl, rows (Same Outside) _ _ (refl, refl))
@@ -90,30 +90,30 @@ module _ (seen other : Seen) (n m : NodeRecord) where
       same Bad = (refl, then set_stop none)
 
   write_row : (a b : Target) (k : Kind) (mvs : List Move) (xs ys : List Change) → a ≡ b → Rows mvs xs ys
-      → IsRow (write_moves a mvs) (named k (followed (stored a n) (λ changes. changes ++ xs))) (named k (followed (stored b m) (λ changes. changes ++ ys)))
+      → IsRow (write_moves a mvs) (with_kind k (followed (stored a n) (λ changes. changes ++ xs))) (with_kind k (followed (stored b m) (λ changes. changes ++ ys)))
   unfolding stored followed
-  write_row a b k mvs xs ys e rows = subst (λ b. IsRow (write_moves a mvs) (named k (followed (stored a n) (λ changes. changes ++ xs))) (named k (followed (stored b m) (λ changes. changes ++ ys)))) e (same a)
+  write_row a b k mvs xs ys e rows = subst (λ b. IsRow (write_moves a mvs) (with_kind k (followed (stored a n) (λ changes. changes ++ xs))) (with_kind k (followed (stored b m) (λ changes. changes ++ ys)))) e (same a)
     where
       ended : (single : Bool) (sides : ℕ) → IsRow (cond single (move.SetWait ∷ []) (move.SetStop ∷ [])) (cond single (posts_to sides) (halts 1)) (cond single (posts_to sides) (halts 1))
       ended true sides = (refl, then set_wait none)
       ended false sides = (refl, then set_stop none)
 
-      same : (a : Target) → IsRow (write_moves a mvs) (named k (followed (stored a n) (λ changes. changes ++ xs))) (named k (followed (stored a m) (λ changes. changes ++ ys)))
+      same : (a : Target) → IsRow (write_moves a mvs) (with_kind k (followed (stored a n) (λ changes. changes ++ xs))) (with_kind k (followed (stored a m) (λ changes. changes ++ ys)))
       same (Ram cell) = (refl, then (set_ram (refl, refl)) rows)
       same (Rom cell) = (refl, rows)
       same Io = (refl, then (set_io (refl, refl)) rows)
       same (Ports sides) = ended (is_single sides) sides
       same Bad = (refl, then set_stop none)
 
-  effect_row : (op : Op) → choice (due.Run op) n ≡ choice (due.Run op) m → (k : Kind) → IsRow (moves op n) (named k (effect op seen n)) (named k (effect op other m))
+  effect_row : (op : Op) → choice (due.Run op) n ≡ choice (due.Run op) m → (k : Kind) → IsRow (moves op n) (with_kind k (effect op seen n)) (with_kind k (effect op other m))
   effect_row op.Return e k = (refl, then (set_p (from_one (λ v. v % 2 ^ 10) top_return)) (then pop_return skips))
   effect_row op.Execute e k = (refl, then (set_p (from_one (λ v. v % 2 ^ 10) top_return)) (then (set_top_return (refl, refl)) skips))
   effect_row op.Jump e k = (refl, jump_row)
   effect_row op.Call e k = (refl, then (push_return (refl, refl)) jump_row)
-  effect_row op.Unext e k = (refl, either (r n == 0) (r m == 0) _ _ _ _ _ _ (ap holds e) (then pop_return goes_on) (then (set_top_return (from_one (λ v. v - 1) top_return)) (then start_again none)))
-  effect_row op.Next e k = (refl, either (r n == 0) (r m == 0) _ _ _ _ _ _ (ap holds e) (then pop_return skips) (then (set_top_return (from_one (λ v. v - 1) top_return)) jump_row))
-  effect_row op.If e k = (refl, either (t n == 0) (t m == 0) _ _ _ _ _ _ (ap holds e) jump_row skips)
-  effect_row op.MinusIf e k = (refl, either (t n / 2 ^ 17 == 0) (t m / 2 ^ 17 == 0) _ _ _ _ _ _ (ap holds e) jump_row skips)
+  effect_row op.Unext e k = (refl, either (r n == 0) (r m == 0) _ _ _ _ _ _ (ap test_holds e) (then pop_return goes_on) (then (set_top_return (from_one (λ v. v - 1) top_return)) (then start_again none)))
+  effect_row op.Next e k = (refl, either (r n == 0) (r m == 0) _ _ _ _ _ _ (ap test_holds e) (then pop_return skips) (then (set_top_return (from_one (λ v. v - 1) top_return)) jump_row))
+  effect_row op.If e k = (refl, either (t n == 0) (t m == 0) _ _ _ _ _ _ (ap test_holds e) jump_row skips)
+  effect_row op.MinusIf e k = (refl, either (t n / 2 ^ 17 == 0) (t m / 2 ^ 17 == 0) _ _ _ _ _ _ (ap test_holds e) jump_row skips)
   effect_row op.FetchP e k = read_row (classified n.p) (classified m.p) Stack k _ _ _ (ap target_of e) (λ flow x y comes. then (push_data comes) (then (set_p (from_one advanced OfP)) goes_on))
   effect_row op.FetchPlus e k = read_row (classified n.a) (classified m.a) Stack k _ _ _ (ap target_of e) (λ flow x y comes. then (push_data comes) (then (set_a (from_one advanced OfA)) goes_on))
   effect_row op.FetchB e k = read_row (classified n.b) (classified m.b) Stack k _ _ _ (ap target_of e) (λ flow x y comes. then (push_data comes) goes_on)
@@ -129,7 +129,7 @@ module _ (seen other : Seen) (n m : NodeRecord) where
   effect_row op.Invert e k = (refl, then (set_top (from_one (λ v. 0x3ffff - v) top)) goes_on)
   effect_row op.Plus e k = (
     refl,
-    either (is_extended n) (is_extended m) _ _ _ _ _ _ (ap holds e)
+    either (is_extended n) (is_extended m) _ _ _ _ _ _ (ap test_holds e)
         (then (set_carry (from_three (λ t s c. carry_value (nat_le words (t + s + c))) top second OfCarry)) (then (pop_to (from_three (λ t s c. (t + s + c) % words) top second OfCarry)) goes_on))
         (then (pop_to (from_two (λ t s. (t + s) % words) top second)) goes_on),
   )
@@ -149,21 +149,21 @@ module _ (seen other : Seen) (n m : NodeRecord) where
   due_row due.Fetch e = read_row (classified n.p) (classified m.p) Instruction kind.Fetch _ _ _ (ap target_of e) (λ flow x y comes. then (set_i comes) (then (set_p (from_one advanced OfP)) (then start_again none)))
   due_row (due.Run op) e = effect_row op e (kind.Run (code_of op))
 
-  own_row : AreAlike n m → IsRow (moves_by (due_of n) n) (own_event seen n) (own_event other m)
+  own_row : DecideAlike n m → IsRow (moves_by (due_of n) n) (own_event seen n) (own_event other m)
   unfolding own_event
   own_row alike =
       subst (λ d. IsRow (moves_by (due_of n) n) (done_by (due_of n) seen n) (done_by d other m)) alike.due
       (due_row (due_of n) (alike.choice ∙ ap (λ d. choice d m) (sym alike.due)))
 
-  pub own_flows : AreAlike n m → HasSizes n → HasSizes m → (part : Part) → IsPart part → Source (own_flow n part) (part_of (io_word seen) (own seen n).1 part) (part_of (io_word other) (own other m).1 part)
+  pub own_flows : DecideAlike n m → HasSizes n → HasSizes m → (part : Part) → IsPart part → Source (own_flow n part) (part_of (io_word seen) (own seen n).1 part) (part_of (io_word other) (own other m).1 part)
   unfolding own own_flow
   own_flows alike = comes_after (io_word seen) n (io_word other) m (own_row alike).1
 
-  pub own_sizes : AreAlike n m → HasSizes n → HasSizes m → HasSizes (own seen n).1 × HasSizes (own other m).1
+  pub own_sizes : DecideAlike n m → HasSizes n → HasSizes m → HasSizes (own seen n).1 × HasSizes (own other m).1
   unfolding own
   own_sizes alike = sizes_after (io_word seen) n (io_word other) m (own_row alike).1
 
-  pub own_kinds : AreAlike n m → (own seen n).0 ≡ (own other m).0
+  pub own_kinds : DecideAlike n m → (own seen n).0 ≡ (own other m).0
   unfolding own
   own_kinds alike = (own_row alike).0
 

@@ -14,7 +14,7 @@ use Rattle.ga_node.specs.declared.wait.Wait.TheVariants as wait
 use Rattle.ga_flow.specs.declared.choice.Choice.{Choice}
 use Rattle.ga_flow.specs.declared.part.Part.{Part}
 use Rattle.ga_flow.specs.declared.part.Part.TheVariants.{Data, Return, Ram, Rom, A, B, P, I, Io, Carry, Slot, Wait as WaitPart, Stop, Outside}
-use Rattle.ga_flow.specs.Flow.{Flow, Same, From, Flows, Move, PushData, PopData, SetTop, PopTo, PushReturn, PopReturn, SetTopReturn, SetP, SetA, SetB, SetI, SetIo, SetCarry, SetRam, GoOn, Skip, StartAgain, SetWait, SetStop, is_same, with_flow, pushed_data, popped_data, pushed_return, popped_return, by, moved, moved_all, top, top_return, choice, target_of, holds, read_moves, write_moves, moves_where, moves_by, send_moves, take_moves, flow_where, own_flow, send_flow, take_flow}
+use Rattle.ga_flow.specs.Flow.{Flow, Same, From, Flows, Move, PushData, PopData, SetTop, PopTo, PushReturn, PopReturn, SetTopReturn, SetP, SetA, SetB, SetI, SetIo, SetCarry, SetRam, GoOn, Skip, StartAgain, SetWait, SetStop, is_same, with_flow, pushed_data, data_flows_popped, pushed_return, return_flows_popped, by, moved, moved_all, top, top_return, choice, target_of, test_holds, read_moves, write_moves, moves_where, moves_by, send_moves, take_moves, flow_where, own_flow, send_flow, take_flow}
 use Rattle.ga_flow.specs.kept.Following.{Trace, At, Found, set_at, push_data, pop_data, push_return, pop_return, before, before_all, settled, read_before, write_before}
 
 -- the flow of what stands there
@@ -47,7 +47,7 @@ push_data_back flow f (At Stop) = refl
 push_data_back flow f (At Outside) = refl
 push_data_back flow f (Found found) = refl
 
-pop_data_back : (f : Flows) (trace : Trace) → resolved f (pop_data trace) ≡ resolved (popped_data f) trace
+pop_data_back : (f : Flows) (trace : Trace) → resolved f (pop_data trace) ≡ resolved (data_flows_popped f) trace
 pop_data_back f (At (Data k)) = by_test f (k == 9) (At (Data 2)) (At (Data (k + 1)))
 pop_data_back f (At (Return k)) = refl
 pop_data_back f (At (Ram k)) = refl
@@ -81,7 +81,7 @@ push_return_back flow f (At Stop) = refl
 push_return_back flow f (At Outside) = refl
 push_return_back flow f (Found found) = refl
 
-pop_return_back : (f : Flows) (trace : Trace) → resolved f (pop_return trace) ≡ resolved (popped_return f) trace
+pop_return_back : (f : Flows) (trace : Trace) → resolved f (pop_return trace) ≡ resolved (return_flows_popped f) trace
 pop_return_back f (At (Data k)) = refl
 pop_return_back f (At (Return k)) = by_test f (k == 8) (At (Return 1)) (At (Return (k + 1)))
 pop_return_back f (At (Ram k)) = refl
@@ -103,7 +103,7 @@ move_back : (move : Move) (f : Flows) (trace : Trace) → f Slot ≡ Same Slot �
 move_back (PushData flow) f trace slot = push_data_back flow f trace
 move_back PopData f trace slot = pop_data_back f trace
 move_back (SetTop flow) f trace slot = set_back top flow f trace
-move_back (PopTo flow) f trace slot = pop_data_back f (set_at top flow trace) ∙ set_back top flow (popped_data f) trace
+move_back (PopTo flow) f trace slot = pop_data_back f (set_at top flow trace) ∙ set_back top flow (data_flows_popped f) trace
 move_back (PushReturn flow) f trace slot = push_return_back flow f trace
 move_back PopReturn f trace slot = pop_return_back f trace
 move_back (SetTopReturn flow) f trace slot = set_back top_return flow f trace
@@ -192,10 +192,10 @@ op_last op.Return c = (tt, (tt, tt))
 op_last op.Execute c = (tt, (tt, tt))
 op_last op.Jump c = (tt, tt)
 op_last op.Call c = (tt, (tt, tt))
-op_last op.Unext c = either_last (holds c) _ _ (tt, tt) (tt, tt)
-op_last op.Next c = either_last (holds c) _ _ (tt, tt) (tt, (tt, tt))
-op_last op.If c = either_last (holds c) _ _ (tt, tt) tt
-op_last op.MinusIf c = either_last (holds c) _ _ (tt, tt) tt
+op_last op.Unext c = either_last (test_holds c) _ _ (tt, tt) (tt, tt)
+op_last op.Next c = either_last (test_holds c) _ _ (tt, tt) (tt, (tt, tt))
+op_last op.If c = either_last (test_holds c) _ _ (tt, tt) tt
+op_last op.MinusIf c = either_last (test_holds c) _ _ (tt, tt) tt
 op_last op.FetchP c = read_last (target_of c) _ (λ flow. (tt, (tt, tt)))
 op_last op.FetchPlus c = read_last (target_of c) _ (λ flow. (tt, (tt, tt)))
 op_last op.FetchB c = read_last (target_of c) _ (λ flow. (tt, tt))
@@ -208,7 +208,7 @@ op_last op.MultiplyStep c = (tt, (tt, tt))
 op_last op.TwoStar c = (tt, tt)
 op_last op.TwoSlash c = (tt, tt)
 op_last op.Invert c = (tt, tt)
-op_last op.Plus c = either_last (holds c) _ _ (tt, (tt, tt)) (tt, tt)
+op_last op.Plus c = either_last (test_holds c) _ _ (tt, (tt, tt)) (tt, tt)
 op_last op.And c = (tt, tt)
 op_last op.Or c = (tt, tt)
 op_last op.Drop c = (tt, tt)

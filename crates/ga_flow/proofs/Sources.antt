@@ -10,7 +10,7 @@ use Rattle.ga_node.specs.Io.{io_word}
 use Rattle.ga_node.specs.Table.{t, own, sent, taken}
 use Rattle.ga_flow.specs.declared.part.Part.{Part}
 use Rattle.ga_flow.specs.declared.part.Part.TheVariants.{Data as OfD, Return as OfR, Ram as OfRam, Rom as OfRom, A as OfA, B as OfB, P as OfP, I as OfI, Io as OfIo, Carry as OfCarry, Slot as OfSlot, Wait as OfWait, Stop as OfStop, Outside}
-use Rattle.ga_flow.specs.Flow.{Flow, Same, From, top, part_of, IsPart, own_flow, send_flow, take_flow, Agree, Comes}
+use Rattle.ga_flow.specs.Flow.{Flow, Same, From, top, part_of, IsPart, own_flow, send_flow, take_flow, AgreeAtParts, Comes}
 use Rattle.ga_flow.proofs.Flowing.{own_flows, own_sizes, sent_flows, sent_sizes, taken_flows, taken_sizes}
 use Rattle.ga_grid.specs.Chip.{record_at, nowhere}
 use Rattle.ga_event.specs.declared.event.Event.{Event}
@@ -87,7 +87,7 @@ module _ (first second : List NodeRecord) where
     part_same stands came OfWait same = stands OfWait same
     part_same stands came OfStop same = stands OfStop same
 
-    all_same : Stands node a b → (SameAt first second outside → word ≡ other) → (parts : List Part) → SameAt first second (sources_of_all node outside parts) → Agree word a other b parts
+    all_same : Stands node a b → (SameAt first second outside → word ≡ other) → (parts : List Part) → SameAt first second (sources_of_all node outside parts) → AgreeAtParts word a other b parts
     all_same stands came [] same = tt
     all_same stands came (part ∷ rest) same = (
       part_same stands came part (first_of (sources_in node outside part) (sources_of_all node outside rest) same),

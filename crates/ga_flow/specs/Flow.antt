@@ -125,17 +125,17 @@ abbrev pub pushed_data : Flow → Flows → Flows
 pushed_data flow f (OfD k) = if k == 0 then flow else f (OfD (k - 1))
 pushed_data flow f part = f part
 
-abbrev pub popped_data : Flows → Flows
-popped_data f (OfD k) = if k == 9 then f (OfD 2) else f (OfD (k + 1))
-popped_data f part = f part
+abbrev pub data_flows_popped : Flows → Flows
+data_flows_popped f (OfD k) = if k == 9 then f (OfD 2) else f (OfD (k + 1))
+data_flows_popped f part = f part
 
 abbrev pub pushed_return : Flow → Flows → Flows
 pushed_return flow f (OfR k) = if k == 0 then flow else f (OfR (k - 1))
 pushed_return flow f part = f part
 
-abbrev pub popped_return : Flows → Flows
-popped_return f (OfR k) = if k == 8 then f (OfR 1) else f (OfR (k + 1))
-popped_return f part = f part
+abbrev pub return_flows_popped : Flows → Flows
+return_flows_popped f (OfR k) = if k == 8 then f (OfR 1) else f (OfR (k + 1))
+return_flows_popped f part = f part
 
 -- computed from a value that comes from there
 abbrev pub by : Flow → Flow
@@ -144,11 +144,11 @@ by (From parts) = From parts
 
 abbrev pub moved : Move → Flows → Flows
 moved (PushData flow) f = pushed_data flow f
-moved PopData f = popped_data f
+moved PopData f = data_flows_popped f
 moved (SetTop flow) f = with_flow top flow f
-moved (PopTo flow) f = with_flow top flow (popped_data f)
+moved (PopTo flow) f = with_flow top flow (data_flows_popped f)
 moved (PushReturn flow) f = pushed_return flow f
-moved PopReturn f = popped_return f
+moved PopReturn f = return_flows_popped f
 moved (SetTopReturn flow) f = with_flow top_return flow f
 moved (SetP flow) f = with_flow OfP flow f
 moved (SetA flow) f = with_flow OfA flow f
@@ -210,9 +210,9 @@ abbrev pub target_of : Choice → Target
 target_of (At target) = target
 target_of _ = Bad
 
-abbrev pub holds : Choice → Bool
-holds (Test held) = held
-holds _ = false
+abbrev pub test_holds : Choice → Bool
+test_holds (Test held) = held
+test_holds _ = false
 
 -- ---- the table
 
@@ -263,10 +263,10 @@ moves_where (due.Run Return) c = SetP (from top_return) ∷ PopReturn ∷ Skip �
 moves_where (due.Run Execute) c = execute_moves
 moves_where (due.Run Jump) c = jump_moves
 moves_where (due.Run Call) c = PushReturn (Same OfP) ∷ jump_moves
-moves_where (due.Run Unext) c = if holds c then PopReturn ∷ GoOn ∷ [] else SetTopReturn (from top_return) ∷ StartAgain ∷ []
-moves_where (due.Run Next) c = if holds c then PopReturn ∷ Skip ∷ [] else SetTopReturn (from top_return) ∷ jump_moves
-moves_where (due.Run If) c = if holds c then jump_moves else Skip ∷ []
-moves_where (due.Run MinusIf) c = if holds c then jump_moves else Skip ∷ []
+moves_where (due.Run Unext) c = if test_holds c then PopReturn ∷ GoOn ∷ [] else SetTopReturn (from top_return) ∷ StartAgain ∷ []
+moves_where (due.Run Next) c = if test_holds c then PopReturn ∷ Skip ∷ [] else SetTopReturn (from top_return) ∷ jump_moves
+moves_where (due.Run If) c = if test_holds c then jump_moves else Skip ∷ []
+moves_where (due.Run MinusIf) c = if test_holds c then jump_moves else Skip ∷ []
 moves_where (due.Run FetchP) c = read_moves (target_of c) (λ word. PushData word ∷ SetP (from OfP) ∷ GoOn ∷ [])
 moves_where (due.Run FetchPlus) c = read_moves (target_of c) (λ word. PushData word ∷ SetA (from OfA) ∷ GoOn ∷ [])
 moves_where (due.Run FetchB) c = read_moves (target_of c) (λ word. PushData word ∷ GoOn ∷ [])
@@ -279,7 +279,7 @@ moves_where (due.Run MultiplyStep) c = multiply_moves
 moves_where (due.Run TwoStar) c = SetTop (from top) ∷ GoOn ∷ []
 moves_where (due.Run TwoSlash) c = SetTop (from top) ∷ GoOn ∷ []
 moves_where (due.Run Invert) c = SetTop (from top) ∷ GoOn ∷ []
-moves_where (due.Run Plus) c = add_moves (holds c)
+moves_where (due.Run Plus) c = add_moves (test_holds c)
 moves_where (due.Run And) c = PopTo from_t_and_s ∷ GoOn ∷ []
 moves_where (due.Run Or) c = PopTo from_t_and_s ∷ GoOn ∷ []
 moves_where (due.Run Drop) c = PopData ∷ GoOn ∷ []
@@ -327,16 +327,16 @@ take_flow wait = moved_all (take_moves wait) Same
 -- ---- two runs
 
 -- the same is decided in both nodes
-pub record AreAlike (n m : NodeRecord) : Type 0 where
+pub record DecideAlike (n m : NodeRecord) : Type 0 where
   pub due : due_of n ≡ due_of m
   pub choice : choice (due_of n) n ≡ choice (due_of m) m
 
 -- the same stands in both at these parts, where these words come from outside
-abbrev pub Agree : ℕ → NodeRecord → ℕ → NodeRecord → List Part → Type 0
-Agree word n other m [] = Unit {0}
-Agree word n other m (part ∷ rest) = (part_of word n part ≡ part_of other m part) × Agree word n other m rest
+abbrev pub AgreeAtParts : ℕ → NodeRecord → ℕ → NodeRecord → List Part → Type 0
+AgreeAtParts word n other m [] = Unit {0}
+AgreeAtParts word n other m (part ∷ rest) = (part_of word n part ≡ part_of other m part) × AgreeAtParts word n other m rest
 
 -- Two values come from there, in two nodes before an event: each is that of a part, or they are the same where the nodes agree.
 abbrev pub Comes : ℕ → NodeRecord → ℕ → NodeRecord → Flow → ℕ → ℕ → Type 0
 Comes word n other m (Same part) x y = (x ≡ part_of word n part) × (y ≡ part_of other m part)
-Comes word n other m (From parts) x y = Agree word n other m parts → x ≡ y
+Comes word n other m (From parts) x y = AgreeAtParts word n other m parts → x ≡ y

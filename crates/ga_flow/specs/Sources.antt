@@ -4,7 +4,7 @@ use Rattle.ga_node.specs.Record.{NodeRecord, HasSizes}
 use Rattle.ga_node.specs.Io.{io_word}
 use Rattle.ga_flow.specs.declared.part.Part.{Part}
 use Rattle.ga_flow.specs.declared.part.Part.TheVariants.{Outside}
-use Rattle.ga_flow.specs.Flow.{Flow, Same, From, top, part_of, own_flow, send_flow, take_flow, AreAlike}
+use Rattle.ga_flow.specs.Flow.{Flow, Same, From, top, part_of, own_flow, send_flow, take_flow, DecideAlike}
 use Rattle.ga_grid.specs.Chip.{record_at}
 use Rattle.ga_event.specs.declared.event.Event.{Event}
 use Rattle.ga_event.specs.declared.event.Event.TheVariants.{Own, Pass}
@@ -55,7 +55,7 @@ sources_after_all chip (e ∷ es) sources = sources_after_all (after chip e).0 e
 -- the same is decided by the event on both chips, and its node sees the same
 abbrev pub AlikeIn : List NodeRecord → List NodeRecord → Event → Type 0
 AlikeIn c d (Own node) =
-    AreAlike (record_at c node.number) (record_at d node.number) × (io_word (seen_from c node.number) ≡ io_word (seen_from d node.number))
+    DecideAlike (record_at c node.number) (record_at d node.number) × (io_word (seen_from c node.number) ≡ io_word (seen_from d node.number))
 AlikeIn c d (Pass writer reader side) =
     (writer.number ≢ reader.number) × ((record_at c reader.number).wait ≡ (record_at d reader.number).wait)
 

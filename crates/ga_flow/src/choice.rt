@@ -16,7 +16,7 @@ pub enum Choice {
 impl Choice {
     ghost use Rattle.std.specs.Prelude.{◌≡◌};
     ghost use Rattle.ga_ports.specs.Address.{IsTarget};
-    ghost use Rattle.ga_flow.specs.Flow.{target_of, holds};
+    ghost use Rattle.ga_flow.specs.Flow.{target_of, test_holds};
 
     /// What the address names; nothing where there is none.
     pub(crate) fn target(self) -> Target
@@ -32,7 +32,7 @@ impl Choice {
 
     /// Whether the test held.
     pub(crate) fn holds(self) -> bool
-        ensures { result ≡ holds self }
+        ensures { result ≡ test_holds self }
     {
         match self {
             Choice::Test(held) => held,

@@ -4,7 +4,7 @@ use Rattle.std.specs.Prelude.{option_map}
 use Rattle.std.proofs.Math.Bridge.{le_prop}
 use Rattle.std.proofs.Math.Nat.{mod-eq_of_lt}
 use Rattle.ga_grid.specs.declared.node_id.NodeId.{NodeId}
-use Rattle.ga_grid.specs.Grid.{number_in, node_id}
+use Rattle.ga_grid.specs.Grid.{number_where_any, node_id}
 
 abbrev node : (n : ℕ) → n < 144 → NodeId
 node n l = record { number = n; in_range = l }
@@ -20,9 +20,9 @@ pub node_id-number : (a : NodeId) → node_id a.number ≡ a
 node_id-number a = NodeId-same (node_id a.number) a (mod-eq_of_lt a.in_range)
 
 -- a node that is known by its number
-pub node_id-number_in : (found : Option NodeId) → option_map node_id (number_in found) ≡ found
+pub node_id-number_in : (found : Option NodeId) → option_map node_id (number_where_any found) ≡ found
 node_id-number_in None = refl
 node_id-number_in (Some a) = ap Some (node_id-number a)
 
-pub from_number_in : (found : Option NodeId) (number : Option ℕ) → number_in found ≡ number → found ≡ option_map node_id number
+pub from_number_in : (found : Option NodeId) (number : Option ℕ) → number_where_any found ≡ number → found ≡ option_map node_id number
 from_number_in found number e = sym (node_id-number_in found) ∙ ap (λ z. option_map node_id z) e

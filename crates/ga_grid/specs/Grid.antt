@@ -38,9 +38,9 @@ neighbour_of n Down = option_map (λ row. 18 * row + column_of n) (next_place (r
 neighbour_of n Up = option_map (λ row. 18 * row + column_of n) (next_place (row_of n) 8 (not (is_even (row_of n))))
 
 -- the number of a node where there is one
-abbrev pub number_in : Option NodeId → Option ℕ
-number_in None = None
-number_in (Some node) = Some node.number
+abbrev pub number_where_any : Option NodeId → Option ℕ
+number_where_any None = None
+number_where_any (Some node) = Some node.number
 
 -- the node of a number; from 144 on they begin again
 abbrev pub node_id : ℕ → NodeId

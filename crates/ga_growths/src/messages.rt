@@ -5,7 +5,7 @@
 //! in what is to be written.
 
 use crate::outcome::Outcome;
-use ga_protocol::{Inbox, Next, Outbox, Request, RequestError, read_request};
+use ga_protocol::{ClientRequest, Inbox, Next, Outbox, RequestError, read_request};
 use serde_json::Value;
 use std::alloc::{AllocError, Global};
 
@@ -57,7 +57,7 @@ enum Way {
 }
 
 /// Answers in each way.
-fn answered(alloc: Global, request: &Request, outbox: &mut Outbox) -> Outcome {
+fn answered(alloc: Global, request: &ClientRequest, outbox: &mut Outbox) -> Outcome {
     let ways = [
         Way::Respond,
         Way::Acknowledge,
@@ -73,7 +73,7 @@ fn answered(alloc: Global, request: &Request, outbox: &mut Outbox) -> Outcome {
 }
 
 /// Answers in one way. What is refused adds nothing, and is asked for again.
-fn sent(alloc: Global, request: &Request, outbox: &mut Outbox, way: Way) -> Outcome {
+fn sent(alloc: Global, request: &ClientRequest, outbox: &mut Outbox, way: Way) -> Outcome {
     let before = outbox.bytes().len();
     if sent_once(alloc, request, outbox, way).is_ok() {
         return Outcome::Answered;
@@ -89,7 +89,7 @@ fn sent(alloc: Global, request: &Request, outbox: &mut Outbox, way: Way) -> Outc
 
 fn sent_once(
     alloc: Global,
-    request: &Request,
+    request: &ClientRequest,
     outbox: &mut Outbox,
     way: Way,
 ) -> Result<(), AllocError> {

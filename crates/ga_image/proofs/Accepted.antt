@@ -13,9 +13,9 @@ use Rattle.ga_image.specs.Progress.{Progress}
 use Rattle.ga_image.specs.Progress as stage
 use Rattle.ga_image.specs.Spelling.{Node, End}
 use Rattle.ga_image.specs.Fields.{writes, repeats, number_of}
-use Rattle.ga_image.specs.Held.{runs, held_after, is_unsteady}
-use Rattle.ga_image.specs.Grammar.{header, Block, field_line_form, block_forms, all_writes, Fits, IsFieldLine, IsBlock, written, loaded, IsImage}
-use Rattle.ga_image.specs.Reading.{reading, fault_of, later_fault, node_fault, after_line, after_form, with_writes, with_write, with_block, node_in, start, nothing_given}
+use Rattle.ga_image.specs.Held.{held_at_load, held_after, is_unsteady}
+use Rattle.ga_image.specs.Grammar.{header, Block, field_line_form, block_forms, all_writes, Fits, IsFieldLine, IsBlock, chip_with_words, loaded, IsImage}
+use Rattle.ga_image.specs.Reading.{reading, fault_of, later_fault, node_fault, after_line, after_form, with_writes, with_write, with_block, node_of_stage, start, nothing_given}
 use Rattle.ga_image.proofs.Spellings.{forms_read}
 use Rattle.ga_image.proofs.Flags.{seen_twice, AreBelow, AreFree, apart_once, all_free, or_false}
 use Rattle.ga_image.proofs.Meanings.{reads, reading_forms, fields_read, marked}
@@ -56,7 +56,7 @@ fields_below [] each = tt
 fields_below (field_line ∷ field_lines) each = below-append (writes field_line.0 field_line.1) (all_writes field_lines) (field_below field_line.0 field_line.1 each.0.0) (fields_below field_lines each.1)
 
 -- what words come to that are written one after the other
-pub all_written : (progress : Progress) (ws : List (Field × ℕ)) → with_writes progress ws ≡ record progress { given = marked progress.given ws; held = held_after progress.held ws; chip = written (node_in progress.stage) progress.chip ws }
+pub all_written : (progress : Progress) (ws : List (Field × ℕ)) → with_writes progress ws ≡ record progress { given = marked progress.given ws; held = held_after progress.held ws; chip = chip_with_words (node_of_stage progress.stage) progress.chip ws }
 all_written progress [] = refl
 all_written progress (w ∷ ws) = all_written (with_write progress w) ws
 
@@ -90,13 +90,13 @@ blocks_read [] progress line ready size each once = rw (end_passes progress read
 blocks_read (block ∷ blocks) progress line ready size each once =
     let parts = or_false (get_or progress.blocks block.node false) _ once in
     let none = node_passes progress block.node ready each.0.node parts.0 in
-    let begun : Progress = record progress { stage = stage.Block block.node; blocks = set progress.blocks block.node true; given = nothing_given; held = runs } in
+    let begun : Progress = record progress { stage = stage.Block block.node; blocks = set progress.blocks block.node true; given = nothing_given; held = held_at_load } in
     let is : after_form progress (Some (Node (yxx_of block.node))) ≡ begun = ap (with_block progress) (node_of_yxx block.node each.0.node) in
     let below = fields_below block.field_lines each.0.field_lines in
     let free : repeats nothing_given (all_writes block.field_lines) ≡ false =
     repeats_numbers nothing_given (all_writes block.field_lines)
     ∙ apart_once nothing_given (numbers (all_writes block.field_lines)) below (all_free 156 _) each.0.apart in
-    let done : Progress = record begun { given = marked nothing_given (all_writes block.field_lines); held = held_after runs (all_writes block.field_lines); chip = written block.node progress.chip (all_writes block.field_lines) } in
+    let done : Progress = record begun { given = marked nothing_given (all_writes block.field_lines); held = held_after held_at_load (all_writes block.field_lines); chip = chip_with_words block.node progress.chip (all_writes block.field_lines) } in
     let after = all_written begun (all_writes block.field_lines) in
     let field_lines = fields_read block.field_lines begun block.node (line + 1) (flat_map block_forms blocks ++ End ∷ []) refl each.0.field_lines free in
     let rest = blocks_read blocks done (line + 1 + length block.field_lines) (inr (block.node, refl, each.0.steady)) (length-set progress.blocks block.node true ∙ size) each.1 parts.1 in

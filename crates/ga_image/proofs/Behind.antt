@@ -14,7 +14,7 @@ use Rattle.ga_image.specs.declared.held.Held.{Held}
 use Rattle.ga_image.specs.kept.Fields.{HasCell}
 use Rattle.ga_image.specs.Fields.{writes, number_of, goes_past}
 use Rattle.ga_image.specs.Spelling.{Form, Node, Words, End, Spells}
-use Rattle.ga_image.specs.Held.{runs, held_after}
+use Rattle.ga_image.specs.Held.{held_at_load, held_after}
 use Rattle.ga_image.specs.Grammar.{header, format_of, all_writes}
 use Rattle.ga_image.specs.Progress.{Progress, Stage}
 use Rattle.ga_image.specs.Progress as stage
@@ -25,7 +25,7 @@ use Rattle.ga_image.proofs.Flags.{none_flagged}
 use Rattle.ga_image.proofs.Meanings.{marked, in_memory, line_later, past_later, short_past}
 use Rattle.ga_image.proofs.Found.{not_short, neither, some_form, node_ok, field_ok, yxx_of_node, held-append, header_named}
 use Rattle.ga_image.proofs.Accepted.{all_written}
-use Rattle.ga_image.proofs.Room.{length-marked, past_start}
+use Rattle.ga_image.proofs.Room.{length-marked, past_start, known}
 use Rattle.ga_image.proofs.Standing.{IsAfter, StandsAt, later, one_form, node_no_words, node_no_end, end_no_words, header_formless}
 use Rattle.ga_image.proofs.LineCauses.{each_has_cell, in_block}
 
@@ -253,7 +253,7 @@ in_node y n m k first second same =
 
 after_node : (progress : Progress) (before : List (List ℕ)) (line : List ℕ) (y n : ℕ) → IsAfter progress before → Spells line (Node y) → progress.stage ≢ stage.Header
     → is_misplaced progress.stage (Some (Node y)) ≡ false → node_of y ≡ Some n
-    → IsAfter (record progress { stage = stage.Block n; blocks = set progress.blocks n true; given = nothing_given; held = runs }) (before ++ line ∷ [])
+    → IsAfter (record progress { stage = stage.Block n; blocks = set progress.blocks n true; given = nothing_given; held = held_at_load }) (before ++ line ∷ [])
 after_node progress before line y n after spelled behind placed is =
     let within : n < length progress.blocks = let small = (yxx_of_node y n is).1 in omega (arith, after.sized.blocks) in
     record {
@@ -311,7 +311,7 @@ after_words progress before line node field words after spelled is inside =
           let was = after.held n at in (
             was.0 ++ (field, words) ∷ [],
             lines_more before line was.0 field words was.1 spelled,
-            ap (λ h. held_after h ws) was.2 ∙ held_more runs was.0 field words,
+            ap (λ h. held_after h ws) was.2 ∙ held_more held_at_load was.0 field words,
           );
       blocks = blocks_kept progress before line after (λ yxx begins. no_node (yxx, begins));
       given = λ other e g cell.
@@ -343,12 +343,6 @@ after_form_of progress before line (Words field words) after spelled behind none
     let placed = (neither (is_misplaced progress.stage (Some (Words field words))) _ _ none).0 in
     let block = in_block progress.stage field words placed in
     after_words progress before line block.0 field words after spelled block.1 (in_memory field (length words) (field_ok progress field words none).0.0)
-
-known : (st : Stage) → (st ≡ stage.Header) ⊎ (st ≢ stage.Header)
-known stage.Header = inl refl
-known stage.Open = inr (λ e. cc)
-known (stage.Block node) = inr (λ e. cc)
-known stage.Ended = inr (λ e. cc)
 
 header_line : (st : Stage) (progress : Progress) (line : List ℕ) → st ≡ stage.Header → line_fault st progress line ≡ None → line ≡ header (format_of line)
 header_line stage.Header progress line is none = header_named line (accepted (is_header line) none) where

@@ -10,7 +10,7 @@ use Rattle.ga_image.specs.declared.field.Format.TheVariants.{One, Two}
 use Rattle.ga_image.specs.declared.held.Held.{Held}
 use Rattle.ga_image.specs.Spelling.{Form, Node, Words, End, Spells}
 use Rattle.ga_image.specs.Lines.{longest}
-use Rattle.ga_image.specs.Grammar.{header, names}
+use Rattle.ga_image.specs.Grammar.{header, is_header_of}
 use Rattle.ga_image.specs.Progress.{Progress, Stage}
 use Rattle.ga_image.specs.Progress as stage
 use Rattle.ga_image.specs.Reading.{fault_of, line_fault, later_fault, form_fault, is_misplaced, ends_unsteady, form_in, is_header}
@@ -76,8 +76,8 @@ later_tells progress before line after behind =
     subst Q (sym f.1) (form_tells progress before line f.0 after (kept_spelled progress.format line f.0 f.1).0 (ap (is_misplaced progress.stage) (sym f.1) ∙ placed))))
 
 no_header : (line : List ℕ) (format : Format) → is_header line ≡ false → line ≢ header format
-no_header line One other is = let parts = or_false (names line One) (names line Two) other in not_from_Decides (names line One) (bytes_eq-Decides line (header One)) parts.0 is
-no_header line Two other is = let parts = or_false (names line One) (names line Two) other in not_from_Decides (names line Two) (bytes_eq-Decides line (header Two)) parts.1 is
+no_header line One other is = let parts = or_false (is_header_of line One) (is_header_of line Two) other in not_from_Decides (is_header_of line One) (bytes_eq-Decides line (header One)) parts.0 is
+no_header line Two other is = let parts = or_false (is_header_of line One) (is_header_of line Two) other in not_from_Decides (is_header_of line Two) (bytes_eq-Decides line (header Two)) parts.1 is
 
 header_tells : (before : List (List ℕ)) (line : List ℕ) (b : Bool) → is_header line ≡ b → before ≡ [] → Tells before line after_long (cond b None (Some cause.Header))
 header_tells before line false is first = inl (refl, (first, λ format. no_header line format is))

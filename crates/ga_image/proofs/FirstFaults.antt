@@ -10,7 +10,7 @@ use Rattle.ga_image.specs.Progress.{Progress, Stage}
 use Rattle.ga_image.specs.Progress as stage
 use Rattle.ga_image.specs.Reading.{reading, refused, at_end, fault_of, after_line, start, Gives}
 use Rattle.ga_image.specs.Fault.{no_memory}
-use Rattle.ga_image.specs.FirstFault.{OneOf, IsEnd, causes, IsFirstCause, HasNone, AreFaultless, IsAtLine, IsAtEnd, IsFirstFault}
+use Rattle.ga_image.specs.FirstFault.{OneOf, IsEnd, causes, IsFirstCause, HasNone, AreFaultless, IsAtLine, IsEndMissing, IsFirstFault}
 use Rattle.ga_image.proofs.Standing.{Tells, IsAfter, StandsAt}
 use Rattle.ga_image.proofs.Causes.{fault_tells}
 use Rattle.ga_image.proofs.Behind.{after_one, after_none}
@@ -139,7 +139,7 @@ first_refused_at texts fault at =
     let here = read_fault on.0 (length at.before + 1) at.line at.after fault (the_fault at.before at.line _ fault.cause (fault_tells on.0 at.before at.line on.1) at.cause) at.number in
     ap (reading start 1) at.parts ∙ on.2 ∙ here
 
-first_refused_end : (texts : List (List ℕ)) (fault : ImageFault) → IsAtEnd texts fault → reading start 1 texts ≡ Err fault
+first_refused_end : (texts : List (List ℕ)) (fault : ImageFault) → IsEndMissing texts fault → reading start 1 texts ≡ Err fault
 first_refused_end texts fault end =
     let on = read_on texts [] start [] after_none end.faultless in
     ap (reading start 1) (sym (append-nil texts)) ∙ on.2 ∙ read_end on.0 texts fault on.1 end.unended end.cause end.number

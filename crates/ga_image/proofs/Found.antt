@@ -15,13 +15,13 @@ use Rattle.ga_image.specs.declared.fault.ImageFault.{ImageFault}
 use Rattle.ga_image.specs.declared.fault.ImageCause.{ImageCause}
 use Rattle.ga_image.specs.declared.fault.ImageCause.TheVariants as cause
 use Rattle.ga_image.specs.Lines.{longest}
-use Rattle.ga_image.specs.Grammar.{with_word, header, names, format_of, Block, field_line_form, block_forms, all_writes, Fits, IsFieldLine, IsBlock, written, loaded, IsImage}
+use Rattle.ga_image.specs.Grammar.{with_word, header, is_header_of, format_of, Block, field_line_form, block_forms, all_writes, Fits, IsFieldLine, IsBlock, chip_with_words, loaded, IsImage}
 use Rattle.ga_image.specs.Progress.{Progress, Stage}
 use Rattle.ga_image.specs.Progress as stage
 use Rattle.ga_image.specs.Spelling.{Form, Node, Words, End}
-use Rattle.ga_image.specs.Held.{runs, with_held, held_after, is_unsteady}
+use Rattle.ga_image.specs.Held.{held_at_load, with_held, held_after, is_unsteady}
 use Rattle.ga_image.specs.Fields.{writes, repeats, goes_past, is_too_great, greatest}
-use Rattle.ga_image.specs.Reading.{node_in, reading, refused, at_end, fault_of, line_fault, later_fault, node_fault, words_fault, is_misplaced, ends_unsteady, form_in, after_line, after_form, with_block, start, nothing_given, is_header, has_block}
+use Rattle.ga_image.specs.Reading.{node_of_stage, reading, refused, at_end, fault_of, line_fault, later_fault, node_fault, words_fault, is_misplaced, ends_unsteady, form_in, after_line, after_form, with_block, start, nothing_given, is_header, has_block}
 use Rattle.ga_image.proofs.Spellings.{forms_spelled}
 use Rattle.ga_image.proofs.Flags.{seen_twice, AreBelow, once_apart, or_false}
 use Rattle.ga_image.proofs.Meanings.{reads, marked, repeats-append, line_later, past_later, still_later, short_past, same_format}
@@ -74,7 +74,7 @@ forms_of (text ∷ lines) progress format line chip later is e =
     let fault : later_fault progress (Some meaning.0) ≡ None = ap (later_fault progress) (sym meaning.1) ∙ none in
     (meaning.0 ∷ rest.0, both _ _ _ _ (ap (λ g. form_in g text) (sym is) ∙ meaning.1) rest.1, goes_on _ line _ fault ∙ rest.2)
 
-named : (found : Option ℕ) → is_none found ≡ false → (n : ℕ) × (found ≡ Some n)
+pub named : (found : Option ℕ) → is_none found ≡ false → (n : ℕ) × (found ≡ Some n)
 named None e = cc
 named (Some n) e = (n, refl)
 
@@ -126,7 +126,7 @@ choice : (b : Bool) (x n : ℕ) → cond b (Some x) None ≡ Some n → (b ≡ t
 choice true x n e = let same : x ≡ n = cc in (refl, same)
 choice false x n e = cc
 
-sizes : (x y : Bool) → (x && y) ≡ true → (x ≡ true) × (y ≡ true)
+pub sizes : (x y : Bool) → (x && y) ≡ true → (x ≡ true) × (y ≡ true)
 sizes true y e = (refl, e)
 sizes false y e = cc
 
@@ -157,7 +157,7 @@ record Rest (progress : Progress) (forms : List Form) (chip : List NodeState) : 
   once : repeats progress.given (all_writes field_lines) ≡ false
   each : AllByRecursion IsBlock blocks
   apart : seen_twice progress.blocks (map (λ b. b.node) blocks) ≡ false
-  describes : chip ≡ loaded (written (node_in progress.stage) progress.chip (all_writes field_lines)) blocks
+  describes : chip ≡ loaded (chip_with_words (node_of_stage progress.stage) progress.chip (all_writes field_lines)) blocks
 
 cut : (progress : Progress) (line : ℕ) (chip : List NodeState) → IsOpened progress → at_end progress.stage progress.chip line ≡ Ok chip → ⊥
 cut progress line chip (inl is) e = let never : at_end stage.Open progress.chip line ≡ Ok chip = subst (λ (s : Stage). at_end s progress.chip line ≡ Ok chip) is e in cc
@@ -175,7 +175,7 @@ field_in_block progress field words (inl is) none =
     let never : true ≡ false = ap (λ s. is_misplaced s (Some (Words field words))) (sym is) ∙ at in
     cc
 
-written-append : (node : ℕ) (chip : List NodeState) (xs ys : List (Field × ℕ)) → written node chip (xs ++ ys) ≡ written node (written node chip xs) ys
+written-append : (node : ℕ) (chip : List NodeState) (xs ys : List (Field × ℕ)) → chip_with_words node chip (xs ++ ys) ≡ chip_with_words node (chip_with_words node chip xs) ys
 written-append node chip [] ys = refl
 written-append node chip (x ∷ xs) ys = written-append node (with_word chip node x) xs ys
 
@@ -213,7 +213,7 @@ rest_of (Node y ∷ forms) progress line chip ready e =
     let parts = passed (later_fault progress (Some (Node y))) line (reads (after_form progress (Some (Node y))) (line + 1) forms) chip e in
     let ok = node_ok progress y parts.0 in
     let at = yxx_of_node y ok.0 ok.1 in
-    let begun : Progress = record progress { stage = stage.Block ok.0; blocks = set progress.blocks ok.0 true; given = nothing_given; held = runs } in
+    let begun : Progress = record progress { stage = stage.Block ok.0; blocks = set progress.blocks ok.0 true; given = nothing_given; held = held_at_load } in
     let tests = neither (is_misplaced progress.stage (Some (Node y))) cause.Line _ parts.0 in
     let stood = neither (ends_unsteady progress.stage progress.held (Some (Node y))) cause.State _ tests.1 in
     let is : after_form progress (Some (Node y)) ≡ begun = ap (with_block progress) ok.1 in
@@ -236,7 +236,7 @@ rest_of (Words field words ∷ forms) progress line chip ready e =
     let parts = passed (later_fault progress (Some (Words field words))) line (reads (after_form progress (Some (Words field words))) (line + 1) forms) chip e in
     let block = field_in_block progress field words ready parts.0 in
     let ok = field_ok progress field words parts.0 in
-    let filled : Progress = record progress { given = marked progress.given (writes field words); held = held_after progress.held (writes field words); chip = written (node_in progress.stage) progress.chip (writes field words) } in
+    let filled : Progress = record progress { given = marked progress.given (writes field words); held = held_after progress.held (writes field words); chip = chip_with_words (node_of_stage progress.stage) progress.chip (writes field words) } in
     let is : after_form progress (Some (Words field words)) ≡ filled = all_written progress (writes field words) in
     let rest = rest_of forms filled (line + 1) chip (inr block) (ap (λ f. reads f (line + 1) forms) (sym is) ∙ parts.1) in
     record {
@@ -249,7 +249,7 @@ rest_of (Words field words ∷ forms) progress line chip ready e =
       once = repeats-append progress.given (writes field words) (all_writes rest.field_lines) ∙ rw ok.1 rest.once;
       each = rest.each;
       apart = rest.apart;
-      describes = rest.describes ∙ ap (λ c. loaded c rest.blocks) (sym (written-append (node_in progress.stage) progress.chip (writes field words) (all_writes rest.field_lines)));
+      describes = rest.describes ∙ ap (λ c. loaded c rest.blocks) (sym (written-append (node_of_stage progress.stage) progress.chip (writes field words) (all_writes rest.field_lines)));
     }
 
 none_else : (b : Bool) (c : ImageCause) → cond b None (Some c) ≡ None → b ≡ true
@@ -263,7 +263,7 @@ one_of_two false c e = inr (refl, e)
 -- a header is that of the format that it names
 pub header_of : (text : List ℕ) → is_header text ≡ true → (text ≡ header One) × (format_of text ≡ One) ⊎ (text ≡ header Two) × (format_of text ≡ Two)
 header_of text e =
-    elim (one_of_two (names text One) (names text Two) e) [
+    elim (one_of_two (is_header_of text One) (is_header_of text Two) e) [
       | inl one ↦ inl ((bytes_eq-Decides text (header One)).0 one, rw one refl)
       | inr two ↦ inr ((bytes_eq-Decides text (header Two)).0 two.1, rw two.0 refl)
     ]
@@ -308,6 +308,6 @@ image_found (text ∷ lines) chip e =
       each = rest.each;
       apart = (once_apart from.blocks (map (λ b. b.node) rest.blocks) below rest.apart).1;
       describes = rest.describes
-          ∙ ap (λ fs. loaded (written (node_in from.stage) from.chip (all_writes fs)) rest.blocks) none
+          ∙ ap (λ fs. loaded (chip_with_words (node_of_stage from.stage) from.chip (all_writes fs)) rest.blocks) none
           ∙ ap (λ c. loaded c rest.blocks) ready.2;
     }

@@ -20,7 +20,7 @@ use Rattle.ga_image.specs.FirstFault.{OneOf, BeginsBlockOf, WasGiven, NamesNoNod
 use Rattle.ga_image.proofs.Short.{count_spelled}
 use Rattle.ga_image.proofs.Flags.{AreFree, AreBelow, apart_once, once_apart, or_false}
 use Rattle.ga_image.proofs.Meanings.{in_memory}
-use Rattle.ga_image.proofs.Found.{within}
+use Rattle.ga_image.proofs.Found.{within, named as known}
 use Rattle.ga_image.proofs.Accepted.{numbers, repeats_numbers, field_below}
 use Rattle.ga_image.proofs.Writes.{has_cell, next_fits}
 use Rattle.ga_image.proofs.Standing.{Tells, after_word, after_place, after_node, after_state, tested, passed_over, one_form, node_no_words, IsAfter}
@@ -37,10 +37,6 @@ no_node before line y spelled = (
   λ names. let same : Node y ≡ Node names.0 = one_form line _ _ spelled names.1 in
       let number : y ≡ names.0 = cc in (is_missing (node_of y)).1 (ap node_of number ∙ names.2),
 )
-
-known : (found : Option ℕ) → is_none found ≡ false → (n : ℕ) × (found ≡ Some n)
-known None e = cc
-known (Some n) e = (n, refl)
 
 repeated_node : (progress : Progress) (before : List (List ℕ)) (line : List ℕ) (y n : ℕ) → IsAfter progress before → Spells line (Node y) → node_of y ≡ Some n
     → Decides (has_block progress (node_of y)) (RepeatsNode before line ⊎ RepeatsField before line)

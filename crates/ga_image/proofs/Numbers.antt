@@ -169,7 +169,7 @@ decimal_of c v e =
       | inr none ↦ absurd (let never : None ≡ Some v = none in cc)
     ]
 
-decimal_read : (v : ℕ) → v < 10 → decimal_digit (48 + v) ≡ Some v
+pub decimal_read : (v : ℕ) → v < 10 → decimal_digit (48 + v) ≡ Some v
 decimal_read v small = grind (arith, nat_tests)
 
 triple_stepped : (u v w : Option ℕ) (n : ℕ) → (u >>= λ a. v >>= λ b. w >>= λ c. Some (100 * a + 10 * b + c)) ≡ Some n

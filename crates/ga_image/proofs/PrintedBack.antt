@@ -23,12 +23,12 @@ use Rattle.ga_image.specs.declared.field.Field.{Field}
 use Rattle.ga_image.specs.declared.field.Field.TheVariants.{A, B, P, I, Io, Carry, Slot, Wait, Stop, Data, Return, Ram, Rom}
 use Rattle.ga_image.specs.declared.field.Format.TheVariants.{Two}
 use Rattle.ga_image.specs.Fields.{writes, number_of}
-use Rattle.ga_image.specs.Held.{runs, held_after, is_unsteady}
+use Rattle.ga_image.specs.Held.{held_at_load, held_after, is_unsteady}
 use Rattle.ga_image.specs.Lines.{lines_of}
 use Rattle.ga_image.specs.Spelling.{Node, End}
-use Rattle.ga_image.specs.Grammar.{header, Block, field_line_form, block_forms, all_writes, IsFieldLine, IsBlock, with_field, with_word, written, loaded, IsImage}
-use Rattle.ga_image.specs.Printing.{line_text, line_unless, word_unless, row_at, memory_lines, register_lines, state_lines, lines_beside, lines_at, block_unless, blocks_from, forms_of, printed}
-use Rattle.ga_image.specs.ReadBack.{HasSides, IsSound, AreSound, Describes}
+use Rattle.ga_image.specs.Grammar.{header, Block, field_line_form, block_forms, all_writes, IsFieldLine, IsBlock, with_field, with_word, chip_with_words, loaded, IsImage}
+use Rattle.ga_image.specs.Printing.{line_text, line_unless, word_unless, row_of_words, memory_lines, register_lines, state_lines, lines_beside, lines_at, block_unless, blocks_from, forms_of, printed}
+use Rattle.ga_image.specs.ReadBack.{HasSides, IsSoundRecord, AreSound, Describes}
 use Rattle.ga_grid.specs.Steady.{AreSteady}
 use Rattle.ga_image.proofs.Found.{held-append}
 use Rattle.ga_image.proofs.PrintedLines.{IsPrintable, forms_printed, no_feed_lines, no_feed_header, lines_again}
@@ -82,7 +82,7 @@ lines_held {first = first} {middle = middle} {last = last} {xs = xs} {ys = ys} p
 
 memory_held : (held : Held) (field : ℕ → Field) (memory : List ℕ) → ((cell : ℕ) → IsPlain (field cell)) → Holds held (memory_lines field memory) held
 memory_held held field memory plain =
-    let row : (cell : ℕ) → Holds held (line_unless 0 (field cell) (row_at memory cell)) held = λ cell. plain_unless held 0 (field cell) (row_at memory cell) (plain cell) in
+    let row : (cell : ℕ) → Holds held (line_unless 0 (field cell) (row_of_words memory cell)) held = λ cell. plain_unless held 0 (field cell) (row_of_words memory cell) (plain cell) in
     lines_held (row 0)
     (lines_held (row 8)
     (lines_held (row 16)
@@ -93,26 +93,26 @@ memory_held held field memory plain =
     (lines_held (row 56) (record { holds = refl }))))))))
 
 -- what the lines of a node say of its wait, stop and slot
-lines_hold : (p : ℕ) (node : NodeRecord) → held_after runs (all_writes (lines_beside (fresh_record p) node)) ≡ record { wait = wait_code node.wait; stop = node.stop; slot = node.slot }
+lines_hold : (p : ℕ) (node : NodeRecord) → held_after held_at_load (all_writes (lines_beside (fresh_record p) node)) ≡ record { wait = wait_code node.wait; stop = node.stop; slot = node.slot }
 lines_hold p node =
     let fresh = fresh_record p in
     let slot_only : Held = record { wait = 0; stop = 0; slot = node.slot } in
     let waiting : Held = record { wait = wait_code node.wait; stop = 0; slot = node.slot } in
     let last : Held = record { wait = wait_code node.wait; stop = node.stop; slot = node.slot } in
-    let registers : Holds runs (register_lines fresh node) runs =
-    lines_held (plain_unless runs fresh.a A (node.a ∷ []) tt)
-    (lines_held (plain_unless runs fresh.b B (node.b ∷ []) tt)
-    (lines_held (plain_unless runs fresh.p P (node.p ∷ []) tt)
-    (lines_held (plain_unless runs fresh.i I (node.i ∷ []) tt)
-    (plain_unless runs fresh.io Io (node.io ∷ []) tt)))) in
-    let state : Holds runs (state_lines fresh node) last =
-    lines_held (plain_unless runs (from_bool fresh.carry) Carry (from_bool node.carry ∷ []) tt)
+    let registers : Holds held_at_load (register_lines fresh node) held_at_load =
+    lines_held (plain_unless held_at_load fresh.a A (node.a ∷ []) tt)
+    (lines_held (plain_unless held_at_load fresh.b B (node.b ∷ []) tt)
+    (lines_held (plain_unless held_at_load fresh.p P (node.p ∷ []) tt)
+    (lines_held (plain_unless held_at_load fresh.i I (node.i ∷ []) tt)
+    (plain_unless held_at_load fresh.io Io (node.io ∷ []) tt)))) in
+    let state : Holds held_at_load (state_lines fresh node) last =
+    lines_held (plain_unless held_at_load (from_bool fresh.carry) Carry (from_bool node.carry ∷ []) tt)
     (lines_held (word_held (λ n. record { wait = 0; stop = 0; slot = n }) 4 Slot node.slot refl)
     (lines_held (plain_unless slot_only 0x15555 (Data 0) node.d tt)
     (lines_held (plain_unless slot_only 0x15555 (Return 0) node.r tt)
     (lines_held (word_held (λ n. record { wait = n; stop = 0; slot = node.slot }) 0 Wait (wait_code node.wait) refl)
     (word_held (λ n. record { wait = wait_code node.wait; stop = n; slot = node.slot }) 0 Stop node.stop refl))))) in
-    let all : Holds runs (lines_beside fresh node) last =
+    let all : Holds held_at_load (lines_beside fresh node) last =
     lines_held registers
     (lines_held state
     (lines_held (memory_held last Ram node.ram (λ _. tt))
@@ -133,7 +133,7 @@ steady_held (Write Up) slot stop sides fits = let no : (slot == 4) ≡ false = n
 
 -- a node that can be printed
 abbrev IsWhole : NodeRecord → Type 0
-IsWhole node = IsSound node × IsSteady node
+IsWhole node = IsSoundRecord node × IsSteady node
 
 good_lines : (lines : List (Field × List ℕ)) → AllByRecursion IsGood lines → AllByRecursion IsFieldLine lines
 good_lines [] each = tt
@@ -150,7 +150,7 @@ block_good n node small is = either (lines_beside (fresh_record (load_p_of n)) n
           node = small;
           field_lines = subst (AllByRecursion IsFieldLine) same (good_lines _ (lines_good p node is.0));
           apart = subst (λ (ls : List (Field × List ℕ)). IsDistinct nat_eq (map (λ w. number_of w.0) (all_writes ls))) same (lines_apart p node is.0);
-          steady = ap (λ (ls : List (Field × List ℕ)). is_unsteady (held_after runs (all_writes ls))) (sym same) ∙ ap is_unsteady (lines_hold p node) ∙ steady_held node.wait node.slot node.stop is.0.state.wait is.1;
+          steady = ap (λ (ls : List (Field × List ℕ)). is_unsteady (held_after held_at_load (all_writes ls))) (sym same) ∙ ap is_unsteady (lines_hold p node) ∙ steady_held node.wait node.slot node.stop is.0.state.wait is.1;
         },
         tt,
       )
@@ -223,7 +223,7 @@ lines_printed nodes = lines_again (header Two ∷ map line_text (forms_of nodes)
 
 -- ---- the chip that they describe
 
-pub written_given : (n : ℕ) (chip : List NodeState) (ws : List (Field × ℕ)) → n < length chip → written n chip ws ≡ with_node chip n (given (node_at chip n) ws)
+pub written_given : (n : ℕ) (chip : List NodeState) (ws : List (Field × ℕ)) → n < length chip → chip_with_words n chip ws ≡ with_node chip n (given (node_at chip n) ws)
 unfolding with_word
 written_given n chip [] small = sym (set-get_or chip n nowhere)
 written_given n chip (w ∷ ws) small =
@@ -235,7 +235,7 @@ written_given n chip (w ∷ ws) small =
 
 loaded_append : (chip : List NodeState) (xs ys : List Block) → loaded chip (xs ++ ys) ≡ loaded (loaded chip xs) ys
 loaded_append chip [] ys = refl
-loaded_append chip (x ∷ xs) ys = loaded_append (written x.node chip (all_writes x.field_lines)) xs ys
+loaded_append chip (x ∷ xs) ys = loaded_append (chip_with_words x.node chip (all_writes x.field_lines)) xs ys
 
 block_loaded : (n : ℕ) (chip : List NodeState) (lines : List (Field × List ℕ)) → n < length chip → loaded chip (block_unless n lines) ≡ with_node chip n (given (node_at chip n) (all_writes lines))
 block_loaded n chip [] small = sym (set-get_or chip n nowhere)
@@ -270,7 +270,7 @@ nodes_loaded n (node ∷ nodes) chip size fits fresh each =
 
 -- ---- the law
 
-whole_from : (nodes : List NodeRecord) → AllByRecursion IsSound nodes → ((n : ℕ) → n < length nodes → IsSteady (record_at nodes n)) → AllByRecursion IsWhole nodes
+whole_from : (nodes : List NodeRecord) → AllByRecursion IsSoundRecord nodes → ((n : ℕ) → n < length nodes → IsSteady (record_at nodes n)) → AllByRecursion IsWhole nodes
 whole_from [] sound steady = tt
 whole_from (node ∷ nodes) sound steady = ((sound.0, steady 0 (omega arith)), whole_from nodes sound.1 (λ n small. steady (suc n) (omega arith)))
 

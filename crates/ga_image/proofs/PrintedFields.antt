@@ -17,8 +17,8 @@ use Rattle.ga_image.specs.declared.field.Field.{Field}
 use Rattle.ga_image.specs.declared.field.Field.TheVariants.{A, B, P, I, Io, Carry, Slot, Wait, Stop, Data, Return, Ram, Rom}
 use Rattle.ga_image.specs.Fields.{writes, number_of}
 use Rattle.ga_image.specs.Grammar.{all_writes, IsFieldLine}
-use Rattle.ga_image.specs.Printing.{AreWords, line_unless, row_at, memory_lines, register_lines, state_lines, lines_beside}
-use Rattle.ga_image.specs.ReadBack.{IsSound, HasSides}
+use Rattle.ga_image.specs.Printing.{AreWords, line_unless, row_of_words, memory_lines, register_lines, state_lines, lines_beside}
+use Rattle.ga_image.specs.ReadBack.{IsSoundRecord, HasSides}
 use Rattle.ga_image.proofs.PrintedLines.{IsLine, AreSix}
 
 -- ---- each line
@@ -95,28 +95,28 @@ carry_fits : (carry : Bool) → from_bool carry ≤ 1
 carry_fits true = omega arith
 carry_fits false = omega arith
 
-row_size : (memory : List ℕ) (cell : ℕ) → length memory ≡ 64 → cell ≤ 56 → length (row_at memory cell) ≡ 8
+row_size : (memory : List ℕ) (cell : ℕ) → length memory ≡ 64 → cell ≤ 56 → length (row_of_words memory cell) ≡ 8
 row_size memory cell size small = length-take-le 8 (drop cell memory) (omega (arith, length-drop cell memory))
 
-row_small : (memory : List ℕ) (cell : ℕ) → AreWords memory → AreWords (row_at memory cell)
+row_small : (memory : List ℕ) (cell : ℕ) → AreWords memory → AreWords (row_of_words memory cell)
 row_small memory cell small = small_take 8 (drop cell memory) (small_drop cell memory small)
 
-ram_good : (memory : List ℕ) (cell : ℕ) → AreWords memory → length memory ≡ 64 → cell ≤ 56 → IsGood (Ram cell, row_at memory cell)
+ram_good : (memory : List ℕ) (cell : ℕ) → AreWords memory → length memory ≡ 64 → cell ≤ 56 → IsGood (Ram cell, row_of_words memory cell)
 ram_good memory cell small size low =
     let count = row_size memory cell size low in
     let words = row_small memory cell small in
-    (((omega arith, omega arith, omega arith), small_six (row_at memory cell) words), (omega arith, small_greatest (row_at memory cell) words))
+    (((omega arith, omega arith, omega arith), small_six (row_of_words memory cell) words), (omega arith, small_greatest (row_of_words memory cell) words))
 
-rom_good : (memory : List ℕ) (cell : ℕ) → AreWords memory → length memory ≡ 64 → cell ≤ 56 → IsGood (Rom cell, row_at memory cell)
+rom_good : (memory : List ℕ) (cell : ℕ) → AreWords memory → length memory ≡ 64 → cell ≤ 56 → IsGood (Rom cell, row_of_words memory cell)
 rom_good memory cell small size low =
     let count = row_size memory cell size low in
     let words = row_small memory cell small in
-    (((omega arith, omega arith, omega arith), small_six (row_at memory cell) words), (omega arith, small_greatest (row_at memory cell) words))
+    (((omega arith, omega arith, omega arith), small_six (row_of_words memory cell) words), (omega arith, small_greatest (row_of_words memory cell) words))
 
 -- what holds of each row holds of each line of a memory
-rows_each : (Q : Field × List ℕ → Type 0) (field : ℕ → Field) (memory : List ℕ) → ((cell : ℕ) → cell ≤ 56 → Q (field cell, row_at memory cell)) → Each Q (memory_lines field memory)
+rows_each : (Q : Field × List ℕ → Type 0) (field : ℕ → Field) (memory : List ℕ) → ((cell : ℕ) → cell ≤ 56 → Q (field cell, row_of_words memory cell)) → Each Q (memory_lines field memory)
 rows_each Q field memory holds =
-    let at : (cell : ℕ) → cell ≤ 56 → Each Q (line_unless 0 (field cell) (row_at memory cell)) = λ cell low. each_unless Q 0 (field cell) (row_at memory cell) (λ _. holds cell low) in
+    let at : (cell : ℕ) → cell ≤ 56 → Each Q (line_unless 0 (field cell) (row_of_words memory cell)) = λ cell low. each_unless Q 0 (field cell) (row_of_words memory cell) (λ _. holds cell low) in
     each_append Q (at 0 (omega arith))
     (each_append Q (at 8 (omega arith))
     (each_append Q (at 16 (omega arith))
@@ -126,7 +126,7 @@ rows_each Q field memory holds =
     (each_append Q (at 48 (omega arith))
     (each_append Q (at 56 (omega arith)) (each_none Q))))))))
 
-registers_good : (fresh node : NodeRecord) → IsSound node → Each IsGood (register_lines fresh node)
+registers_good : (fresh node : NodeRecord) → IsSoundRecord node → Each IsGood (register_lines fresh node)
 registers_good fresh node is =
     each_append IsGood (each_unless IsGood fresh.a A (node.a ∷ []) (λ _. let h = is.registers.a in ((refl, (omega arith, tt)), (tt, (omega arith, tt)))))
     (each_append IsGood (each_unless IsGood fresh.b B (node.b ∷ []) (λ _. let h = is.registers.b in ((refl, (omega arith, tt)), (tt, (omega arith, tt)))))
@@ -134,7 +134,7 @@ registers_good fresh node is =
     (each_append IsGood (each_unless IsGood fresh.i I (node.i ∷ []) (λ _. let h = is.registers.i in ((refl, (omega arith, tt)), (tt, (omega arith, tt)))))
     (each_unless IsGood fresh.io Io (node.io ∷ []) (λ _. let h = is.registers.io in ((refl, (omega arith, tt)), (tt, (omega arith, tt))))))))
 
-state_good : (p : ℕ) (node : NodeRecord) → IsSound node → Each IsGood (state_lines (fresh_record p) node)
+state_good : (p : ℕ) (node : NodeRecord) → IsSoundRecord node → Each IsGood (state_lines (fresh_record p) node)
 state_good p node is =
     each_append IsGood (each_unless IsGood 0 Carry (from_bool node.carry ∷ []) (λ _. ((from_bool node.carry, refl, carry_fits node.carry), (tt, (carry_fits node.carry, tt)))))
     (each_append IsGood (each_unless IsGood 4 Slot (node.slot ∷ []) (λ _. ((node.slot, refl, is.state.slot), (tt, (is.state.slot, tt)))))
@@ -144,7 +144,7 @@ state_good p node is =
     (each_unless IsGood 0 Stop (node.stop ∷ []) (λ some. let other = other_word 0 node.stop some in let h = is.state.stop in ((node.stop, refl, (omega arith, is.state.stop)), (tt, (is.state.stop, tt)))))))))
 
 -- each line of a node can be printed and read
-pub lines_good : (p : ℕ) (node : NodeRecord) → IsSound node → AllByRecursion IsGood (lines_beside (fresh_record p) node)
+pub lines_good : (p : ℕ) (node : NodeRecord) → IsSoundRecord node → AllByRecursion IsGood (lines_beside (fresh_record p) node)
 lines_good p node is =
     let good =
     each_append IsGood (registers_good (fresh_record p) node is)
@@ -246,13 +246,13 @@ rom_climbs k (w ∷ words) last few =
     (omega arith, climbs_lower (92 + (k + 1)) (rank (92 + k) + 1) (numbers_from (Rom (k + 1)) words) (92 + last) (omega arith) (rom_climbs (k + 1) words last (omega arith)))
 
 -- rows that climb make a memory that climbs
-rows_climb : (base : ℕ) (field : ℕ → Field) (memory : List ℕ) → ((cell : ℕ) → cell ≤ 56 → Climbs (base + cell) (numbers_from (field cell) (row_at memory cell)) (base + (cell + 8)))
+rows_climb : (base : ℕ) (field : ℕ → Field) (memory : List ℕ) → ((cell : ℕ) → cell ≤ 56 → Climbs (base + cell) (numbers_from (field cell) (row_of_words memory cell)) (base + (cell + 8)))
     → DoClimb base (memory_lines field memory) (base + 64)
 rows_climb base field memory climbs =
-    let at : (cell : ℕ) → cell ≤ 56 → DoClimb (base + cell) (line_unless 0 (field cell) (row_at memory cell)) (base + (cell + 8)) =
-    λ cell low. unless_climbs (base + cell) 0 (field cell) (row_at memory cell) (base + (cell + 8)) (omega arith) (climbs cell low) in
-    let row : (cell : ℕ) → cell ≤ 56 → DoClimb (base + cell) (line_unless 0 (field cell) (row_at memory cell)) (base + (cell + 8)) = at in
-    let first : DoClimb base (line_unless 0 (field 0) (row_at memory 0)) (base + 8) = unless_climbs base 0 (field 0) (row_at memory 0) (base + 8) (omega arith) (climbs_lower (base + 0) base (numbers_from (field 0) (row_at memory 0)) (base + 8) (omega arith) (climbs 0 (omega arith))) in
+    let at : (cell : ℕ) → cell ≤ 56 → DoClimb (base + cell) (line_unless 0 (field cell) (row_of_words memory cell)) (base + (cell + 8)) =
+    λ cell low. unless_climbs (base + cell) 0 (field cell) (row_of_words memory cell) (base + (cell + 8)) (omega arith) (climbs cell low) in
+    let row : (cell : ℕ) → cell ≤ 56 → DoClimb (base + cell) (line_unless 0 (field cell) (row_of_words memory cell)) (base + (cell + 8)) = at in
+    let first : DoClimb base (line_unless 0 (field 0) (row_of_words memory 0)) (base + 8) = unless_climbs base 0 (field 0) (row_of_words memory 0) (base + 8) (omega arith) (climbs_lower (base + 0) base (numbers_from (field 0) (row_of_words memory 0)) (base + 8) (omega arith) (climbs 0 (omega arith))) in
     let none : DoClimb (base + 64) [] (base + 64) = record { climb = omega arith } in
     lines_climb first
     (lines_climb (row 8 (omega arith))
@@ -271,7 +271,7 @@ registers_climb fresh node =
     (lines_climb (unless_climbs 3 fresh.i I (node.i ∷ []) 4 (omega arith) (omega arith, omega arith))
     (unless_climbs 4 fresh.io Io (node.io ∷ []) 5 (omega arith) (omega arith, omega arith)))))
 
-state_climbs : (p : ℕ) (node : NodeRecord) → IsSound node → DoClimb 5 (state_lines (fresh_record p) node) 28
+state_climbs : (p : ℕ) (node : NodeRecord) → IsSoundRecord node → DoClimb 5 (state_lines (fresh_record p) node) 28
 state_climbs p node is =
     lines_climb (unless_climbs 5 0 Carry (from_bool node.carry ∷ []) 6 (omega arith) (omega arith, omega arith))
     (lines_climb (unless_climbs 6 4 Slot (node.slot ∷ []) 7 (omega arith) (omega arith, omega arith))
@@ -281,11 +281,11 @@ state_climbs p node is =
     (unless_climbs 27 0 Stop (node.stop ∷ []) 28 (omega arith) (omega arith, omega arith))))))
 
 -- no field of a node is given twice
-pub lines_apart : (p : ℕ) (node : NodeRecord) → IsSound node → IsDistinct nat_eq (numbers_in (lines_beside (fresh_record p) node))
+pub lines_apart : (p : ℕ) (node : NodeRecord) → IsSoundRecord node → IsDistinct nat_eq (numbers_in (lines_beside (fresh_record p) node))
 lines_apart p node is =
     let climbing : DoClimb 0 (lines_beside (fresh_record p) node) 156 =
     lines_climb (registers_climb (fresh_record p) node)
     (lines_climb (state_climbs p node is)
-    (lines_climb (rows_climb 28 Ram node.ram (λ cell low. ram_climbs cell (row_at node.ram cell) (cell + 8) (let size = row_size node.ram cell is.ram.1 low in omega arith)))
-    (rows_climb 92 Rom node.rom (λ cell low. rom_climbs cell (row_at node.rom cell) (cell + 8) (let size = row_size node.rom cell is.rom.1 low in omega arith))))) in
+    (lines_climb (rows_climb 28 Ram node.ram (λ cell low. ram_climbs cell (row_of_words node.ram cell) (cell + 8) (let size = row_size node.ram cell is.ram.1 low in omega arith)))
+    (rows_climb 92 Rom node.rom (λ cell low. rom_climbs cell (row_of_words node.rom cell) (cell + 8) (let size = row_size node.rom cell is.rom.1 low in omega arith))))) in
     climbs_apart 0 (numbers_in (lines_beside (fresh_record p) node)) 156 climbing.climb

@@ -6,7 +6,7 @@ use Rattle.std.proofs.lemmas.Bool.Decides.{nat_tests}
 use Rattle.std.proofs.lemmas.List.{take_all, take_more}
 use Rattle.std.proofs.Math.Seq.{take-add}
 use Rattle.ga_node.specs.Waits.{wait_of, IsWaitCode}
-use Rattle.ga_image.specs.Printing.{AreWords, row_at}
+use Rattle.ga_image.specs.Printing.{AreWords, row_of_words}
 use Rattle.ga_image.specs.ReadBack.{HasSides, HoldsWords}
 use Rattle.ga_image.proofs.PrintedFields.{all_append}
 
@@ -36,11 +36,11 @@ pub holds_words : (size : ℕ) (found words : List ℕ) → found ≡ words → 
 holds_words size found words same each count = (subst AreWords same each, ap length (sym same) ∙ count)
 
 -- one row more
-pub rows_words : (memory : List ℕ) (number : ℕ) → AreWords (take (8 * number) memory) → AreWords (row_at memory (8 * number)) → AreWords (take (8 * (number + 1)) memory)
+pub rows_words : (memory : List ℕ) (number : ℕ) → AreWords (take (8 * number) memory) → AreWords (row_of_words memory (8 * number)) → AreWords (take (8 * (number + 1)) memory)
 rows_words memory number before row =
     let next : 8 * (number + 1) ≡ 8 * number + 8 = omega arith in
-    let longer : take (8 * (number + 1)) memory ≡ take (8 * number) memory ++ row_at memory (8 * number) = ap (λ (n : ℕ). take n memory) next ∙ take-add (8 * number) 8 memory in
-    subst AreWords (sym longer) (all_append (λ word. word < 2 ^ 18) (take (8 * number) memory) (row_at memory (8 * number)) before row)
+    let longer : take (8 * (number + 1)) memory ≡ take (8 * number) memory ++ row_of_words memory (8 * number) = ap (λ (n : ℕ). take n memory) next ∙ take-add (8 * number) 8 memory in
+    subst AreWords (sym longer) (all_append (λ word. word < 2 ^ 18) (take (8 * number) memory) (row_of_words memory (8 * number)) before row)
 
 -- all rows
 pub memory_words : (memory : List ℕ) (number : ℕ) → 8 ≤ number → length memory ≡ 64 → AreWords (take (8 * number) memory) → HoldsWords 64 memory

@@ -18,9 +18,10 @@ use Rattle.ga_image.specs.declared.field.Field.{Field}
 use Rattle.ga_image.specs.declared.field.Field.TheVariants.{A, B, P, I, Io, Carry, Slot, Wait, Stop, Data, Return, Ram, Rom}
 use Rattle.ga_image.specs.Fields.{writes}
 use Rattle.ga_image.specs.Grammar.{all_writes, with_field}
-use Rattle.ga_image.specs.Printing.{line_unless, word_unless, row_at, memory_lines, register_lines, state_lines, lines_beside}
-use Rattle.ga_image.specs.ReadBack.{IsSound, HasSides}
+use Rattle.ga_image.specs.Printing.{line_unless, word_unless, row_of_words, memory_lines, register_lines, state_lines, lines_beside}
+use Rattle.ga_image.specs.ReadBack.{IsSoundRecord, HasSides}
 use Rattle.ga_image.proofs.PrintedFields.{other_word}
+use Rattle.ga_image.proofs.Found.{sizes as both_true}
 
 -- a node with what is given, one word after the other
 abbrev pub given : NodeState → List (Field × ℕ) → NodeState
@@ -52,10 +53,6 @@ unless_given before after at_load field words none some = record { gives = eithe
   either : (b : Bool) → list_all (λ word. word == at_load) words ≡ b → given before (all_writes (cond b [] ((field, words) ∷ []))) ≡ after
   either true is = none is
   either false is = ap (given before) (append-nil (writes field words)) ∙ some is
-
-both_true : (x y : Bool) → (x && y) ≡ true → (x ≡ true) × (y ≡ true)
-both_true true y e = (refl, e)
-both_true false y e = cc
 
 pub same_word : (word at_load : ℕ) → list_all (λ w. w == at_load) (word ∷ []) ≡ true → word ≡ at_load
 same_word word at_load is = eqb-true word at_load (both_true (word == at_load) true is).0
@@ -168,17 +165,17 @@ cells_given state field is front (old ∷ olds) back (word ∷ words) cell size 
     ∙ cells_given state field is longer olds back words (cell + 1) (omega (arith, length-append front (word ∷ []))) (omega arith)
     ∙ ap state (append_assoc front (word ∷ []) (words ++ back))
 
-take_row : (memory : List ℕ) (cell : ℕ) → take (cell + 8) memory ≡ take cell memory ++ row_at memory cell
+take_row : (memory : List ℕ) (cell : ℕ) → take (cell + 8) memory ≡ take cell memory ++ row_of_words memory cell
 take_row memory cell =
     sym (take-append-drop cell (take (cell + 8) memory))
     ∙ ap (λ xs. xs ++ drop cell (take (cell + 8) memory)) (take-take cell (cell + 8) memory (omega arith))
     ∙ ap (λ xs. take cell memory ++ xs) (drop-take cell 8 memory)
 
 row_given : (state : List ℕ → NodeState) (field : ℕ → Field) → IsMemory state field → (memory : List ℕ) (cell left : ℕ) → length memory ≡ 64 → cell + 8 + left ≡ 64
-    → Gives (state (take cell memory ++ replicate (8 + left) 0)) (line_unless 0 (field cell) (row_at memory cell)) (state (take (cell + 8) memory ++ replicate left 0))
+    → Gives (state (take cell memory ++ replicate (8 + left) 0)) (line_unless 0 (field cell) (row_of_words memory cell)) (state (take (cell + 8) memory ++ replicate left 0))
 row_given state field is memory cell left size fits =
     let front = take cell memory in
-    let row = row_at memory cell in
+    let row = row_of_words memory cell in
     let count : length row ≡ 8 = length-take-le 8 (drop cell memory) (omega (arith, length-drop cell memory)) in
     let split : front ++ replicate (8 + left) 0 ≡ front ++ (replicate 8 0 ++ replicate left 0) = ap (λ xs. front ++ xs) (sym (replicate-append-replicate 8 left 0)) in
     let after : front ++ (row ++ replicate left 0) ≡ take (cell + 8) memory ++ replicate left 0 = sym (append_assoc front row (replicate left 0)) ∙ ap (λ xs. xs ++ replicate left 0) (sym (take_row memory cell)) in
@@ -191,7 +188,7 @@ row_given state field is memory cell left size fits =
 pub memory_given : (state : List ℕ → NodeState) (field : ℕ → Field) → IsMemory state field → (memory : List ℕ) → length memory ≡ 64 → Gives (state (replicate 64 0)) (memory_lines field memory) (state memory)
 memory_given state field is memory size =
     let at : ℕ → ℕ → NodeState = λ cell left. state (take cell memory ++ replicate left 0) in
-    let row : (cell left : ℕ) → cell + 8 + left ≡ 64 → Gives (at cell (8 + left)) (line_unless 0 (field cell) (row_at memory cell)) (at (cell + 8) left) = λ cell left fits. row_given state field is memory cell left size fits in
+    let row : (cell left : ℕ) → cell + 8 + left ≡ 64 → Gives (at cell (8 + left)) (line_unless 0 (field cell) (row_of_words memory cell)) (at (cell + 8) left) = λ cell left fits. row_given state field is memory cell left size fits in
     let end : at 64 0 ≡ state memory = ap state (append-nil (take 64 memory) ∙ take_all 64 memory (omega arith)) in
     let none : Gives (at 64 0) [] (state memory) = record { gives = end } in
     lines_given (row 0 56 (omega arith))
@@ -220,7 +217,7 @@ registers_given p node =
     (lines_given (word_given (λ i. at node.a node.b node.p i fresh_word) 0 I node.i refl)
     (word_given (λ io. at node.a node.b node.p node.i io) fresh_word Io node.io refl))))
 
-state_given : (p a b q i io : ℕ) (ram rom : List ℕ) (node : NodeRecord) → IsSound node → IsSteady node
+state_given : (p a b q i io : ℕ) (ram rom : List ℕ) (node : NodeRecord) → IsSoundRecord node → IsSteady node
     → Gives (held (fresh_ring 2) (fresh_ring 1) ram rom a b q i io false 4 Nothing 0) (state_lines (fresh_record p) node) (held (ring_of 2 node.d) (ring_of 1 node.r) ram rom a b q i io node.carry node.slot node.wait node.stop)
 state_given p a b q i io ram rom node is steady =
     let at : Ring → Ring → Bool → ℕ → NodeWait → ℕ → NodeState = λ d r carry slot wait stop. held d r ram rom a b q i io carry slot wait stop in
@@ -255,7 +252,7 @@ state_given p a b q i io ram rom node is steady =
     (unless_given s5 s6 0 Stop (node.stop ∷ []) none some)))))
 
 -- the node at load with the lines of another is that other, its stacks with their newest cells at 0
-pub node_given : (p : ℕ) (node : NodeRecord) → IsSound node → IsSteady node → given (fresh_node p) (all_writes (lines_beside (fresh_record p) node)) ≡ made_of node
+pub node_given : (p : ℕ) (node : NodeRecord) → IsSoundRecord node → IsSteady node → given (fresh_node p) (all_writes (lines_beside (fresh_record p) node)) ≡ made_of node
 node_given p node is steady =
     let zeros : List ℕ = replicate 64 0 in
     let at : List ℕ → List ℕ → NodeState = λ ram rom. held (ring_of 2 node.d) (ring_of 1 node.r) ram rom node.a node.b node.p node.i node.io node.carry node.slot node.wait node.stop in

@@ -19,7 +19,7 @@ use Rattle.ga_grid.proofs.Chips.{record_at-records_of, node_at-with_node_same, n
 use Rattle.ga_image.specs.declared.held.Held.{Held}
 use Rattle.ga_image.specs.declared.field.Field.{Field}
 use Rattle.ga_image.specs.declared.field.Field.TheVariants.{A, B, P, I, Io, Carry, Slot, Wait, Stop, Data, Return, Ram, Rom}
-use Rattle.ga_image.specs.Held.{runs, with_held, with_code, held_after, is_unsteady}
+use Rattle.ga_image.specs.Held.{held_at_load, with_held, with_code, held_after, is_unsteady}
 use Rattle.ga_image.specs.Grammar.{Block, IsBlock, all_writes, with_field, loaded, IsImage}
 use Rattle.ga_grid.specs.Steady.{AreSteady}
 use Rattle.ga_image.proofs.PrintedStates.{given}
@@ -101,13 +101,13 @@ Steady chip = (n : ℕ) → n < 144 → FitsWait (node_at chip n).wait (node_at 
 
 -- the nodes of these blocks are as a block finds them
 abbrev AreUntouched : List NodeState → List Block → Type 0
-AreUntouched chip blocks = AllByRecursion (λ block. IsTied (node_at chip block.node) runs) blocks
+AreUntouched chip blocks = AllByRecursion (λ block. IsTied (node_at chip block.node) held_at_load) blocks
 
 still_untouched : (chip : List NodeState) (n : ℕ) (node : NodeState) (blocks : List Block) → AllByRecursion (λ m. nat_eq n m ≡ false) (map (λ block. block.node) blocks) → AreUntouched chip blocks → AreUntouched (with_node chip n node) blocks
 still_untouched chip n node [] other untouched = tt
 still_untouched chip n node (block ∷ blocks) other untouched =
     let apart : block.node ≢ n = λ e. eqb-false n block.node other.0 (sym e) in
-    (subst (λ (at : NodeState). IsTied at runs) (sym (node_at-with_node_other chip n block.node node apart)) untouched.0, still_untouched chip n node blocks other.1 untouched.1)
+    (subst (λ (at : NodeState). IsTied at held_at_load) (sym (node_at-with_node_other chip n block.node node apart)) untouched.0, still_untouched chip n node blocks other.1 untouched.1)
 
 loaded_steady : (blocks : List Block) (chip : List NodeState) → length chip ≡ 144 → AllByRecursion IsBlock blocks → IsDistinct nat_eq (map (λ block. block.node) blocks) → AreUntouched chip blocks → Steady chip → Steady (loaded chip blocks)
 loaded_steady [] chip size each apart untouched steady = steady
@@ -117,7 +117,7 @@ loaded_steady (block ∷ blocks) chip size each apart untouched steady =
     let small : k < length chip = let h = each.0.node in omega arith in
     let node = given (node_at chip k) ws in
     let next = with_node chip k node in
-    let here : FitsWait node.wait node.slot node.stop = held_fits node (held_after runs ws) (words_tied (node_at chip k) runs ws untouched.0) each.0.steady in
+    let here : FitsWait node.wait node.slot node.stop = held_fits node (held_after held_at_load ws) (words_tied (node_at chip k) held_at_load ws untouched.0) each.0.steady in
     let still : Steady next = λ n below. elim (eqb_tells n k) [
       | inl same ↦ subst (λ (at : NodeState). FitsWait at.wait at.slot at.stop) (sym (ap (node_at next) same.1 ∙ node_at-with_node_same chip k node small)) here
       | inr other ↦ subst (λ (at : NodeState). FitsWait at.wait at.slot at.stop) (sym (node_at-with_node_other chip k n node other.1)) (steady n below)
@@ -126,14 +126,14 @@ loaded_steady (block ∷ blocks) chip size each apart untouched steady =
     subst (λ (c : List NodeState). Steady (loaded c blocks)) (sym (written_given k chip ws small))
     (loaded_steady blocks next (length-with_node chip k node ∙ size) each.1 (IsDistinct-tail nat_eq k (map (λ block. block.node) blocks) apart) (still_untouched chip k node blocks heads untouched.1) still)
 
-fresh_tied : (p : ℕ) → IsTied (fresh_node p) runs
+fresh_tied : (p : ℕ) → IsTied (fresh_node p) held_at_load
 unfolding fresh_node
 fresh_tied p = record { slot = refl; wait = inl refl; stop = inl refl }
 
 all_untouched : (blocks : List Block) → AllByRecursion IsBlock blocks → AreUntouched default_chip blocks
 all_untouched [] each = tt
 all_untouched (block ∷ blocks) each =
-    (subst (λ (at : NodeState). IsTied at runs) (sym (node_at-default_chip block.node each.0.node)) (fresh_tied (load_p_of block.node)), all_untouched blocks each.1)
+    (subst (λ (at : NodeState). IsTied at held_at_load) (sym (node_at-default_chip block.node each.0.node)) (fresh_tied (load_p_of block.node)), all_untouched blocks each.1)
 
 fresh_steady : (p : ℕ) → FitsWait (fresh_node p).wait (fresh_node p).slot (fresh_node p).stop
 unfolding fresh_node

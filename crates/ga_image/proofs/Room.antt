@@ -4,7 +4,7 @@ use Rattle.ga_image.specs.declared.field.Field.{Field}
 use Rattle.ga_image.specs.Progress.{Progress, Stage}
 use Rattle.ga_image.specs.Progress as stage
 use Rattle.ga_image.specs.Spelling.{Form, Node, Words, End}
-use Rattle.ga_image.specs.Held.{runs}
+use Rattle.ga_image.specs.Held.{held_at_load}
 use Rattle.ga_image.specs.Fields.{writes, next_field, number_of}
 use Rattle.ga_image.specs.Grammar.{format_of}
 use Rattle.ga_image.specs.Reading.{form_in, fault_of, after_line, after_form, later_fault, with_block, start, nothing_given, is_misplaced}
@@ -84,7 +84,7 @@ form_less progress (Node y) sized later some none =
     let one = unended progress.stage (Node y) later (neither (is_misplaced progress.stage (Some (Node y))) _ _ none).0 in
     let ok = node_ok progress y none in
     let at = yxx_of_node y ok.0 ok.1 in
-    let begun : Progress = record progress { stage = stage.Block ok.0; blocks = set progress.blocks ok.0 true; given = nothing_given; held = runs } in
+    let begun : Progress = record progress { stage = stage.Block ok.0; blocks = set progress.blocks ok.0 true; given = nothing_given; held = held_at_load } in
     let less : free (set progress.blocks ok.0 true) < free progress.blocks = one_less progress.blocks ok.0 (omega (arith, at.1, sized.blocks)) ok.2 in
     let P : Progress → Type 0 = IsLess progress in
     subst P (ap (with_block progress) (sym ok.1)) (omega arith, record { blocks = length-set progress.blocks ok.0 true ∙ sized.blocks; given = refl })
@@ -95,7 +95,7 @@ form_less progress (Words field words) sized later some none =
     let P : Progress → Type 0 = IsLess progress in
     subst P (sym (all_written progress (writes field words))) (omega arith, record { blocks = sized.blocks; given = length-marked progress.given (writes field words) ∙ sized.given })
 
-known : (s : Stage) → (s ≡ stage.Header) ⊎ (s ≢ stage.Header)
+pub known : (s : Stage) → (s ≡ stage.Header) ⊎ (s ≢ stage.Header)
 known stage.Header = inl refl
 known stage.Open = inr (λ e. cc)
 known (stage.Block node) = inr (λ e. cc)

@@ -5,7 +5,7 @@ use Rattle.std.proofs.Common.{◌≡◌, ℕ, ◌<◌, ◌≤◌, List, [], ◌�
 use Rattle.std.proofs.lemmas.Bool.Decides.{nat_tests}
 use Rattle.ga_word.specs.Word.{read6_of}
 use Rattle.ga_ports.specs.Steps.{◌>>=◌}
-use Rattle.ga_image.specs.Forms.{spaced_words, words, few}
+use Rattle.ga_image.specs.Forms.{spaced_words, words_in_row, few}
 
 -- what the words of a text behind those seen so far come to
 unfoldable pub words_after : List ℕ → List ℕ → Option (List ℕ)
@@ -101,6 +101,6 @@ unfolding words_after spaced_words
 all_words seen some few = rw (append_nothing seen) (grind (arith, nat_tests))
 
 -- before the first word
-pub from_start : (text : List ℕ) → words_after [] text ≡ words text
-unfolding words_after words
+pub from_start : (text : List ℕ) → words_after [] text ≡ words_in_row text
+unfolding words_after words_in_row
 from_start text = refl

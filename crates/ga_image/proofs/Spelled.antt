@@ -19,7 +19,7 @@ use Rattle.ga_grid.specs.Names.{node_number}
 use Rattle.ga_ports.specs.Letters.{set_number}
 use Rattle.ga_image.specs.Digits.{byte_in}
 use Rattle.ga_image.specs.Spelling.{Form, Node, Words, End, hex2_of, words_text, set_text, wait_text, field_name, numbers_of, code_text, HasCount, SpellsWords, IsCode, SpellsCode, SpellsField, Spells}
-use Rattle.ga_image.specs.Forms.{form, spaced_words, few, words, word_form, cells_form, stack_form, digit_form, set_form, side_form, wait_form, node_form, wide_form, state_form, begins}
+use Rattle.ga_image.specs.Forms.{form, spaced_words, few, words_in_row, word_form, cells_form, stack_form, digit_form, set_form, side_form, wait_form, node_form, wide_form, state_form, begins}
 use Rattle.ga_image.proofs.Numbers.{word_spelled, word_read, cell_spelled, node_spelled, set_spelled, between}
 
 -- the first step gave something
@@ -108,16 +108,16 @@ few_is found ws e =
     rw (← same) (refl, grind (arith, nat_tests), grind (arith, nat_tests))
 
 -- 1 to 16 words that are read are spelled so
-row_spelled : (text ws : List ℕ) → words text ≡ Some ws → AreSix ws × (str_to_ascii_lowercase text ≡ words_text ws) × (1 ≤ length ws) × (length ws ≤ 16)
-unfolding words
+row_spelled : (text ws : List ℕ) → words_in_row text ≡ Some ws → AreSix ws × (str_to_ascii_lowercase text ≡ words_text ws) × (1 ≤ length ws) × (length ws ≤ 16)
+unfolding words_in_row
 row_spelled text ws e =
     let (found, spaced, few) = first_step (spaced_words text) few ws e in
     let (same, some, most) = few_is found ws few in
     let (six, digits) = words_spelled text ws (spaced ∙ ap (λ (xs : List ℕ). Some xs) same) in
     (six, digits, some, most)
 
-pub row_read : (text ws : List ℕ) → AreSix ws → str_to_ascii_lowercase text ≡ words_text ws → 1 ≤ length ws → length ws ≤ 16 → words text ≡ Some ws
-unfolding words
+pub row_read : (text ws : List ℕ) → AreSix ws → str_to_ascii_lowercase text ≡ words_text ws → 1 ≤ length ws → length ws ≤ 16 → words_in_row text ≡ Some ws
+unfolding words_in_row
 row_read text ws six digits some most = rw (words_read text ws six digits) (grind (arith, nat_tests))
 
 six_spelled : (text : List ℕ) (n : ℕ) → read6_of text ≡ Some n → (n < 2 ^ 24) × (str_to_ascii_lowercase text ≡ hex6_of n)
@@ -161,7 +161,7 @@ cells_parts [] field f e = cc
 cells_parts (x ∷ []) field f e = cc
 cells_parts (x ∷ y ∷ text) field f e =
     let (cell, digits, more) = first_step (byte_in (x ∷ y ∷ [])) _ f e in
-    let (ws, row, made) = first_step (words text) _ f more in
+    let (ws, row, made) = first_step (words_in_row text) _ f more in
     let same : Words (field cell) ws ≡ f = cc in
     let (small, front) = cell_spelled x y cell digits in
     let (six, back, some, most) = row_spelled text ws row in
@@ -186,7 +186,7 @@ stack_spelled : (text : List ℕ) (field : Field) (count : ℕ) (f : Form) → (
     → stack_form field count (drop 1 text) ≡ Some f → ((words : List ℕ) → SpellsWords text field words → SpellsField text field words) → Spells text f
 unfolding stack_form
 stack_spelled text field count f plain counted is e wide =
-    let (ws, row, made) = first_step (words (drop 1 text)) _ f e in
+    let (ws, row, made) = first_step (words_in_row (drop 1 text)) _ f e in
     let (test, same) = guarded (length ws == count) (Words field ws) f made in
     let (six, lower, some, most) = row_spelled (drop 1 text) ws row in
     subst (Spells text) same (wide ws (record {

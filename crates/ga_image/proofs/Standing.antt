@@ -12,7 +12,7 @@ use Rattle.ga_image.specs.kept.Fields.{HasCell}
 use Rattle.ga_image.specs.Fields.{number_of}
 use Rattle.ga_image.specs.Spelling.{Form, Node, Words, End, Spells}
 use Rattle.ga_image.specs.Forms.{form, state_form, wide_form}
-use Rattle.ga_image.specs.Held.{runs, held_after, is_unsteady}
+use Rattle.ga_image.specs.Held.{held_at_load, held_after, is_unsteady}
 use Rattle.ga_image.specs.Grammar.{header, all_writes}
 use Rattle.ga_image.specs.Progress.{Progress, Stage}
 use Rattle.ga_image.specs.Progress as stage
@@ -103,7 +103,7 @@ pub record IsAfter (progress : Progress) (before : List (List ℕ)) : Type 0 whe
   pub stands : StandsAt progress.stage before
   pub sized : IsSized progress
   pub format : before ≢ [] → progress.format ≡ format_in before
-  pub held : (node : ℕ) → progress.stage ≡ stage.Block node → (field_lines : List (Field × List ℕ)) × GivesLines before field_lines × (progress.held ≡ held_after runs (all_writes field_lines))
+  pub held : (node : ℕ) → progress.stage ≡ stage.Block node → (field_lines : List (Field × List ℕ)) × GivesLines before field_lines × (progress.held ≡ held_after held_at_load (all_writes field_lines))
   pub blocks : (yxx n : ℕ) → node_of yxx ≡ Some n → Decides (get_or progress.blocks n false) (OneOf (BeginsBlockOf yxx) before)
   pub given : (node : ℕ) → progress.stage ≡ stage.Block node → (field : Field) → HasCell field → Decides (get_or progress.given (number_of field) false) (WasGiven before field)
 
@@ -199,7 +199,7 @@ block_unsteady progress before line node after is ends =
       λ e. (ends, (held.0, held.1, ap is_unsteady (sym held.2) ∙ e)),
       λ unsteady.
           let same : unsteady.1.0 ≡ held.0 = lines_same before unsteady.1.0 held.0 unsteady.1.1 held.1 in
-          ap is_unsteady held.2 ∙ ap (λ fs. is_unsteady (held_after runs (all_writes fs))) (sym same) ∙ unsteady.1.2,
+          ap is_unsteady held.2 ∙ ap (λ fs. is_unsteady (held_after held_at_load (all_writes fs))) (sym same) ∙ unsteady.1.2,
     )
 
 -- before the first block

@@ -10,7 +10,7 @@ use Rattle.ga_image.specs.declared.field.Field.{Field}
 use Rattle.ga_image.specs.declared.field.Format.{Format}
 use Rattle.ga_image.specs.declared.field.Format.TheVariants.{One}
 use Rattle.ga_image.specs.Fields.{writes, greatest}
-use Rattle.ga_image.specs.Held.{runs, held_after, is_unsteady}
+use Rattle.ga_image.specs.Held.{held_at_load, held_after, is_unsteady}
 use Rattle.ga_image.specs.Lines.{Line, longest}
 use Rattle.ga_image.specs.Spelling.{Form, Node, Words, End, Spells, SpellsIn}
 use Rattle.ga_image.specs.Grammar.{header, format_of, field_line_form, all_writes, Fits}
@@ -90,7 +90,7 @@ EndsUnsteady before line =
     (BeginsBlock line ⊎ IsEnd line)
     × ((field_lines : List (Field × List ℕ))
     × GivesLines before field_lines
-    × (is_unsteady (held_after runs (all_writes field_lines)) ≡ true))
+    × (is_unsteady (held_after held_at_load (all_writes field_lines)) ≡ true))
 
 -- it begins the block of no node of the grid
 abbrev pub NamesNoNode : Line → Type 0
@@ -157,7 +157,7 @@ pub record IsAtLine (texts : List Line) (fault : ImageFault) : Type 0 where
   pub number : fault.line ≡ length before + 1
 
 -- No line has a cause, and none is `end`.
-pub record IsAtEnd (texts : List Line) (fault : ImageFault) : Type 0 where
+pub record IsEndMissing (texts : List Line) (fault : ImageFault) : Type 0 where
   pub faultless : AreFaultless [] texts
   pub unended : ¬ OneOf IsEnd texts
   pub cause : fault.cause ≡ cause.Truncated
@@ -165,4 +165,4 @@ pub record IsAtEnd (texts : List Line) (fault : ImageFault) : Type 0 where
 
 -- the first fault of a text, by its lines
 abbrev pub IsFirstFault : List Line → ImageFault → Type 0
-IsFirstFault texts fault = IsAtLine texts fault ⊎ IsAtEnd texts fault
+IsFirstFault texts fault = IsAtLine texts fault ⊎ IsEndMissing texts fault

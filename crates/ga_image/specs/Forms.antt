@@ -28,8 +28,8 @@ abbrev pub few : List ℕ → Option (List ℕ)
 few words = if nat_le 1 (length words) && nat_le (length words) 16 then Some words else None
 
 -- a row of words
-unfoldable pub words : Text → Option (List ℕ)
-words text = do
+unfoldable pub words_in_row : Text → Option (List ℕ)
+words_in_row text = do
   found ← spaced_words text
   few found
 
@@ -43,14 +43,14 @@ word_form field text = do
 unfoldable pub cells_form : (ℕ → Field) → Text → Option Form
 cells_form field (x ∷ y ∷ text) = do
   cell ← byte_in (x ∷ y ∷ [])
-  found ← words text
+  found ← words_in_row text
   Some (Words (field cell) found)
 cells_form field _ = None
 
 -- a stack and all its words
 unfoldable pub stack_form : Field → ℕ → Text → Option Form
 stack_form field count text = do
-  found ← words text
+  found ← words_in_row text
   if length found == count then Some (Words field found) else None
 
 -- a field and a number from the least to the most, of one decimal digit

@@ -15,7 +15,7 @@ use Rattle.ga_image.specs.declared.field.Format.TheVariants.{One, Two}
 use Rattle.ga_node.specs.declared.wait.Wait.TheVariants.{Nothing}
 use Rattle.ga_node.specs.Waits.{wait_of}
 use Rattle.ga_image.specs.Fields.{field_place, writes, greatest, number_of}
-use Rattle.ga_image.specs.Held.{runs, held_after, is_unsteady}
+use Rattle.ga_image.specs.Held.{held_at_load, held_after, is_unsteady}
 use Rattle.ga_image.specs.Spelling.{Form, Node, Words, End, SpellsIn}
 
 -- the first line, which names the format
@@ -24,12 +24,12 @@ header One = codes "ga144 1"
 header Two = codes "ga144 2"
 
 -- a line is the header of this format
-abbrev pub names : Line → Format → Bool
-names text format = pointwise nat_eq text (header format)
+abbrev pub is_header_of : Line → Format → Bool
+is_header_of text format = pointwise nat_eq text (header format)
 
 -- the format of a header
 abbrev pub format_of : Line → Format
-format_of text = if names text One then One else Two
+format_of text = if is_header_of text One then One else Two
 
 -- a block: its node, and its field lines, each with a field and the words for it and for those after it
 pub record Block : Type 0 where
@@ -67,7 +67,7 @@ pub record IsBlock (block : Block) : Type 0 where
   -- no field is given twice
   pub apart : IsDistinct nat_eq (map (λ w. number_of w.0) (all_writes block.field_lines))
   -- its wait, stop and slot can stand together
-  pub steady : is_unsteady (held_after runs (all_writes block.field_lines)) ≡ false
+  pub steady : is_unsteady (held_after held_at_load (all_writes block.field_lines)) ≡ false
 
 -- A node with another word in a field. A node that waits isn't stopped, and one that is stopped doesn't wait.
 abbrev pub with_field : NodeState → Field → ℕ → NodeState
@@ -80,14 +80,14 @@ unfoldable pub with_word : List NodeState → ℕ → Field × ℕ → List Node
 with_word chip node w = with_node chip node (with_field (node_at chip node) w.0 w.1)
 
 -- a chip with what a block gives, one word after the other
-abbrev pub written : ℕ → List NodeState → List (Field × ℕ) → List NodeState
-written node chip [] = chip
-written node chip (w ∷ ws) = written node (with_word chip node w) ws
+abbrev pub chip_with_words : ℕ → List NodeState → List (Field × ℕ) → List NodeState
+chip_with_words node chip [] = chip
+chip_with_words node chip (w ∷ ws) = chip_with_words node (with_word chip node w) ws
 
 -- a chip with what blocks give, one block after the other
 abbrev pub loaded : List NodeState → List Block → List NodeState
 loaded chip [] = chip
-loaded chip (block ∷ blocks) = loaded (written block.node chip (all_writes block.field_lines)) blocks
+loaded chip (block ∷ blocks) = loaded (chip_with_words block.node chip (all_writes block.field_lines)) blocks
 
 -- lines of the format spell these forms, one each
 abbrev pub Spell : Format → List Line → List Form → Type 0

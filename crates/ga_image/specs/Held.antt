@@ -6,8 +6,8 @@ use Rattle.ga_image.specs.declared.field.Field.{Field}
 use Rattle.ga_image.specs.declared.field.Field.TheVariants.{Wait, Stop, Slot}
 
 -- at load a node neither waits nor is stopped, and a fetch is due
-abbrev pub runs : Held
-runs = record { wait = 0; stop = 0; slot = 4 }
+abbrev pub held_at_load : Held
+held_at_load = record { wait = 0; stop = 0; slot = 4 }
 
 -- with a word for a field
 abbrev pub with_code : Held → Field → ℕ → Held

@@ -51,12 +51,12 @@ word_unless at_load field word = line_unless at_load field (word ∷ [])
 abbrev pub row_cells : List ℕ
 row_cells = 0 ∷ 8 ∷ 16 ∷ 24 ∷ 32 ∷ 40 ∷ 48 ∷ 56 ∷ []
 
-abbrev pub row_at : List ℕ → ℕ → List ℕ
-row_at memory cell = take 8 (drop cell memory)
+abbrev pub row_of_words : List ℕ → ℕ → List ℕ
+row_of_words memory cell = take 8 (drop cell memory)
 
 -- the lines of the rows of a memory, whose cells are these fields and hold 0 at load
 abbrev pub memory_lines : (ℕ → Field) → List ℕ → List (Field × List ℕ)
-memory_lines field memory = flat_map (λ cell. line_unless 0 (field cell) (row_at memory cell)) row_cells
+memory_lines field memory = flat_map (λ cell. line_unless 0 (field cell) (row_of_words memory cell)) row_cells
 
 -- the lines of the registers that hold words
 abbrev pub register_lines : NodeRecord → NodeRecord → List (Field × List ℕ)

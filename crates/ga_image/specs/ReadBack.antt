@@ -37,7 +37,7 @@ pub record HasSoundState (node : NodeRecord) : Type 0 where
   pub stop : node.stop ≤ 3
 
 -- sizes and ranges of all that a node holds
-pub record IsSound (node : NodeRecord) : Type 0 where
+pub record IsSoundRecord (node : NodeRecord) : Type 0 where
   pub registers : HasSoundRegisters node
   pub state : HasSoundState node
   pub ram : HoldsWords 64 node.ram
@@ -46,7 +46,7 @@ pub record IsSound (node : NodeRecord) : Type 0 where
 -- each of 144 nodes is sound
 pub record AreSound (nodes : List NodeRecord) : Type 0 where
   pub size : length nodes ≡ 144
-  pub each : AllByRecursion IsSound nodes
+  pub each : AllByRecursion IsSoundRecord nodes
 
 -- the lines are an image of a chip with these records
 abbrev pub Describes : List Line → List NodeRecord → Type 0

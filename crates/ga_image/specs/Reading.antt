@@ -10,12 +10,12 @@ use Rattle.ga_image.specs.declared.field.Field.{Field}
 use Rattle.ga_image.specs.declared.field.Format.{Format}
 use Rattle.ga_image.specs.declared.field.Format.TheVariants.{One, Two}
 use Rattle.ga_image.specs.declared.held.Held.{Held}
-use Rattle.ga_image.specs.Held.{runs, with_held, is_unsteady}
+use Rattle.ga_image.specs.Held.{held_at_load, with_held, is_unsteady}
 use Rattle.ga_image.specs.Fields.{field_count, has_field, number_of, writes, goes_past, is_too_great, repeats}
 use Rattle.ga_image.specs.Spelling.{Form, Node, Words, End}
 use Rattle.ga_image.specs.Forms.{form}
 use Rattle.ga_image.specs.Lines.{Line, longest}
-use Rattle.ga_image.specs.Grammar.{names, format_of, with_word}
+use Rattle.ga_image.specs.Grammar.{is_header_of, format_of, with_word}
 use Rattle.ga_image.specs.Progress.{Stage, Header, Open, Block, Ended, Progress}
 use Rattle.ga_image.specs.Fault.{no_memory}
 
@@ -30,13 +30,13 @@ start = record {
   stage = Header;
   blocks = replicate 144 false;
   given = nothing_given;
-  held = runs;
+  held = held_at_load;
   chip = default_chip;
 }
 
 -- the first line is a header
 abbrev pub is_header : Line → Bool
-is_header text = names text One || names text Two
+is_header text = is_header_of text One || is_header_of text Two
 
 -- the form of a line, if the format has it
 abbrev pub kept_in : Format → Option Form → Option Form
@@ -108,16 +108,16 @@ unfoldable pub fault_of : Progress → Line → Option ImageCause
 fault_of progress text = if nat_lt longest (length text) then Some cause.Long else line_fault progress.stage progress text
 
 -- the node whose block it is
-abbrev pub node_in : Stage → ℕ
-node_in (Block node) = node
-node_in _ = 0
+abbrev pub node_of_stage : Stage → ℕ
+node_of_stage (Block node) = node
+node_of_stage _ = 0
 
 -- a word of the block is written
 abbrev pub with_write : Progress → Field × ℕ → Progress
 with_write progress w = record progress {
   given = slice_set progress.given (number_of w.0) true;
   held = with_held progress.held w;
-  chip = with_word progress.chip (node_in progress.stage) w;
+  chip = with_word progress.chip (node_of_stage progress.stage) w;
 }
 
 -- words, one after the other
@@ -131,7 +131,7 @@ with_block progress (Some node) = record progress {
   stage = Block node;
   blocks = slice_set progress.blocks node true;
   given = nothing_given;
-  held = runs;
+  held = held_at_load;
 }
 with_block progress None = progress
 

@@ -1,7 +1,7 @@
 //! What a block says of its node's wait, stop and slot.
 
 ghost use Rattle.std.specs.Prelude.{◌≡◌};
-ghost use Rattle.ga_image.specs.Held.{runs, with_code, is_unsteady};
+ghost use Rattle.ga_image.specs.Held.{held_at_load, with_code, is_unsteady};
 
 use super::field::Field;
 
@@ -19,7 +19,7 @@ pub(crate) struct Held {
 impl Held {
     /// A node at load neither waits nor is stopped, and a fetch is due.
     pub(crate) fn runs() -> Held
-        ensures { result ≡ runs }
+        ensures { result ≡ held_at_load }
     {
         Held {
             wait: 0,

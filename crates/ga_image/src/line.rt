@@ -4,7 +4,7 @@ ghost use Rattle.std.specs.Prelude.{◌≡◌, ◌≤◌, [], ◌∷◌};
 ghost use Rattle.ga_image.specs.Spelling.{Words};
 ghost use Rattle.std.specs.Option.{option_map};
 ghost use Rattle.ga_image.specs.kept.Forms.{form_of, field_in};
-ghost use Rattle.ga_image.specs.Forms.{words, word_form, cells_form, stack_form, digit_form, set_form, side_form, wait_form, node_form, wide_form, state_form, form};
+ghost use Rattle.ga_image.specs.Forms.{words_in_row, word_form, cells_form, stack_form, digit_form, set_form, side_form, wait_form, node_form, wide_form, state_form, form};
 
 use super::digits::byte_of;
 use super::field::{Bank, Field};
@@ -25,7 +25,7 @@ pub(crate) enum Line {
 
 /// Reads 1 to 16 numbers of six digits, each behind one space.
 fn read_words(text: &[u8]) -> Option<ArrayVec<u32, 16>>
-    ensures { option_map (λ found. found.items) result ≡ words text.now }
+    ensures { option_map (λ found. found.items) result ≡ words_in_row text.now }
 {
     let mut words = ArrayVec::new();
     let mut rest = text;

@@ -6,8 +6,8 @@ ghost use Rattle.ga_grid.specs.Chip.{records_of};
 ghost use Rattle.ga_grid.specs.Load.{load_p_of};
 ghost use Rattle.ga_grid.specs.Steady.{AreSteady};
 ghost use Rattle.ga_image.specs.kept.Printing.{fields_text, blocks_text, memory_in};
-ghost use Rattle.ga_image.specs.Printing.{register_lines, state_lines, memory_lines, row_at, lines_beside, block_unless, lines_at, printed, AreWords};
-ghost use Rattle.ga_image.specs.ReadBack.{HasSoundRegisters, HasSoundState, HoldsWords, IsSound, AreSound, Describes};
+ghost use Rattle.ga_image.specs.Printing.{register_lines, state_lines, memory_lines, row_of_words, lines_beside, block_unless, lines_at, printed, AreWords};
+ghost use Rattle.ga_image.specs.ReadBack.{HasSoundRegisters, HasSoundState, HoldsWords, IsSoundRecord, AreSound, Describes};
 ghost use Rattle.ga_image.specs.Lines.{lines_of};
 ghost use Rattle.ga_image.specs.Fault.{no_memory};
 ghost use Rattle.ga_image.specs.kept.Forms.{field_in};
@@ -91,7 +91,7 @@ fn whole_text(alloc: Global, chip: &Chip) -> Result<Vec<u8>, AllocError>
 /// Adds the block of a node, unless all that it holds is as at load.
 fn push_block(text: &mut Vec<u8>, node: NodeId, at: &Node) -> Result<(), AllocError>
     ensures text { OnOk result (text.new.items ≡ text.old.items ++ blocks_text (block_unless node.number (lines_at node.number (record_of at.now)))) }
-    ensures sound { OnOk result (IsSound (record_of at.now)) }
+    ensures sound { OnOk result (IsSoundRecord (record_of at.now)) }
 {
     let before = text.as_slice().len();
     text.extend_from_slice(b"node ")?;
@@ -109,7 +109,7 @@ fn push_block(text: &mut Vec<u8>, node: NodeId, at: &Node) -> Result<(), AllocEr
 /// Adds the field lines of a node.
 fn push_fields(text: &mut Vec<u8>, node: NodeId, at: &Node) -> Result<(), AllocError>
     ensures text { OnOk result (text.new.items ≡ text.old.items ++ fields_text (lines_at node.number (record_of at.now))) }
-    ensures sound { OnOk result (IsSound (record_of at.now)) }
+    ensures sound { OnOk result (IsSoundRecord (record_of at.now)) }
 {
     push_registers(text, node, at)?;
     push_state(text, at)?;
@@ -202,7 +202,7 @@ fn return_words(at: &Node) -> ArrayVec<u32, 16>
 /// The words of a memory from a cell on.
 fn row(at: &Node, bank: Bank, cell: u8) -> ArrayVec<u32, 16>
     requires { cell ≤ 56 }
-    ensures items { result.items ≡ row_at (memory_in bank (record_of at.now)) cell }
+    ensures items { result.items ≡ row_of_words (memory_in bank (record_of at.now)) cell }
     ensures size { length (memory_in bank (record_of at.now)) ≡ 64 }
     ensures words { AreWords result.items }
 {

@@ -15,7 +15,8 @@ use Rattle.ga_journal.specs.kept.Sound.{Keeps}
 use Rattle.ga_event.specs.Told.{steps_of}
 use Rattle.ga_journal.specs.Logs.{Stamped, Records}
 use Rattle.ga_journal.specs.kept.Cuts.{cut, older_causes, older_events, WalksBack, IsFirst, IsWalked}
-use Rattle.ga_journal.specs.Since.{events_in, IsSince}
+use Rattle.ga_journal.specs.Since.{IsSince}
+use Rattle.ga_event.specs.Told.{events_in}
 use Rattle.ga_event.specs.declared.made.Made.{Made}
 use Rattle.ga_journal.proofs.Cutting.{history-cut}
 use Rattle.ga_journal.proofs.Logs.{length-tellings, tellings}

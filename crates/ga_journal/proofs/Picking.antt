@@ -4,15 +4,13 @@ use Rattle.std.specs.Prelude.{slice_get, Some, None}
 use Rattle.ga_grid.specs.declared.node_id.NodeId.{NodeId}
 use Rattle.ga_journal.specs.Histories.{Past}
 use Rattle.ga_journal.specs.kept.Entries.{entry_made, entries_made}
+use Rattle.std.proofs.lemmas.Option.{none-some}
 
-none_some : {A : Type 0} {x : A} → None ≡ Some x → ⊥
-none_some h = cc
-
-same_Some : {A : Type 0} (x y : A) → Some x ≡ Some y → x ≡ y
+pub same_Some : {A : Type 0} (x y : A) → Some x ≡ Some y → x ≡ y
 same_Some x y h = cc
 
 picked : (node : NodeId) (i p : ℕ) (h : List Past) (e : Past) → slice_get h p ≡ Some e → slice_get (entries_made node i h) p ≡ Some (entry_made node (i + p) e.act)
-picked node i p [] e found = absurd (none_some found)
+picked node i p [] e found = absurd (none-some _ found)
 picked node i zero (x ∷ xs) e found =
     ap (λ (z : Past). Some (entry_made node i z.act)) (same_Some x e found)
     ∙ ap (λ z. Some (entry_made node z e.act)) (let q : i ≡ i + 0 = omega arith in q)

@@ -5,7 +5,7 @@ use Rattle.ga_event.specs.declared.event.Event.{Event}
 use Rattle.ga_event.specs.declared.event.Effect.{Effect}
 use Rattle.ga_event.specs.Undo.{IsApplied, told_of}
 use Rattle.ga_event.specs.declared.made.Made.{Made}
-use Rattle.ga_journal.specs.Histories.{Book, with_event}
+use Rattle.ga_journal.specs.Histories.{Book, book_with_event}
 use Rattle.ga_journal.specs.Events.{events_of}
 use Rattle.ga_event.specs.Told.{made_after}
 
@@ -15,5 +15,5 @@ pub record IsMade
     : Type 0 where
   pub effect : Effect
   pub applied : IsApplied chip e effect now
-  pub book : new ≡ with_event old e effect new.ready
+  pub book : new ≡ book_with_event old e effect new.ready
   pub told_is : made_after (events_of old) e (told_of effect) ≡ Some told

@@ -4,10 +4,7 @@ use Rattle.ga_event.specs.declared.event.Event.{Event}
 use Rattle.ga_event.specs.declared.event.Cause.{Cause}
 use Rattle.ga_event.specs.Touches.{touches}
 use Rattle.ga_event.specs.Told.{steps_of}
-
--- the events alone
-abbrev pub events_in : List Cause → List Event
-events_in causes = map (λ (cause : Cause). cause.event) causes
+use Rattle.ga_event.specs.Told.{events_in}
 
 -- These are the last events of a list: the k-th step of node n, and all that came after it. So many stand before them, and so
 -- many of those are steps of node m.

@@ -1,7 +1,7 @@
 //! A journal that is told as a list.
 
 use crate::fault::JournalFault;
-use crate::journal::{Backward, Journal};
+use crate::journal::{BackwardEvents, Journal};
 use crate::since::Since;
 use ga_event::{Cause, Event, Made};
 use ga_grid::NodeId;
@@ -21,7 +21,7 @@ impl Chronicle {
     ghost use Rattle.ga_journal.specs.Work.{no_work};
     ghost use Rattle.ga_journal.specs.Histories.{history};
     ghost use Rattle.ga_journal.specs.Walked.{walked, CanWalk, overwritten};
-    ghost use Rattle.ga_journal.specs.Events.{kept_of, causes_of, events_of};
+    ghost use Rattle.ga_journal.specs.Events.{kept_of, causes_in_book, events_of};
     ghost use Rattle.ga_event.specs.Told.{steps_of, mades_of, made_in};
     ghost use Rattle.ga_journal.specs.Since.{IsSince};
     ghost use Rattle.ga_journal.specs.Logs.{IsWhole};
@@ -101,7 +101,7 @@ impl Chronicle {
     }
 
     /// The kept events, none of which is told yet.
-    pub fn backward(&self) -> Backward<'_>
+    pub fn backward(&self) -> BackwardEvents<'_>
         requires { IsWhole self.now.journal.histories self.now.journal.made }
         ensures { result ≡ untold self.now.journal (length (kept_of self.now.journal)) }
     {
@@ -114,7 +114,7 @@ impl Chronicle {
     /// `Memory` alone.
     pub fn causes(&self) -> Result<Vec<Cause>, JournalFault>
         requires { IsWhole self.now.journal.histories self.now.journal.made }
-        ensures ok { IfOk result (λ list. list.items ≡ causes_of self.now.journal) }
+        ensures ok { IfOk result (λ list. list.items ≡ causes_in_book self.now.journal) }
         ensures err { IfErr result (λ fault. fault ≡ JournalFault.Memory) }
     {
         self.journal.causes()
@@ -129,7 +129,7 @@ impl Chronicle {
         requires whole { IsWhole self.now.journal.histories self.now.journal.made }
         requires counted { 0 < from.1 }
         requires stands { from.1 ≤ steps_of from.0.number (events_of self.now.journal) }
-        ensures ok { IfOk result (λ since. IsSince (causes_of self.now.journal) from.0.number from.1 other.number
+        ensures ok { IfOk result (λ since. IsSince (causes_in_book self.now.journal) from.0.number from.1 other.number
             since.causes.items since.before since.steps) }
         ensures short { IfOk result (λ since. since.before + length since.causes.items < 2 ^ 32) }
         ensures err { IfErr result (λ fault. fault ≡ JournalFault.Memory) }

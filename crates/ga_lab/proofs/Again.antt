@@ -1,5 +1,5 @@
 -- What a rollback took is made again by steps, where no look is among it.
-use Rattle.std.proofs.Common.{◌≡◌, ℕ, suc, ◌+◌, ◌^◌, ◌<◌, ◌≤◌, List, [], ◌∷◌, ◌++◌, length, map, Option, Some, None, refl, sym, ◌∙◌, ap, subst, arith, append_assoc, append-nil, length-append}
+use Rattle.std.proofs.Common.{◌≡◌, ℕ, ◌+◌, ◌^◌, ◌<◌, ◌≤◌, List, [], ◌∷◌, ◌++◌, length, map, Option, Some, None, refl, sym, ◌∙◌, ap, subst, arith, append_assoc, append-nil, length-append}
 use Rattle.std.specs.Prelude.{IsSome, not}
 use Rattle.std.proofs.lemmas.List.{length_push}
 use Rattle.std.proofs.lemmas.Option.{same_Some}
@@ -7,7 +7,8 @@ use Rattle.ga_node.specs.Record.{NodeRecord}
 use Rattle.ga_event.specs.declared.event.Event.{Event}
 use Rattle.ga_event.specs.declared.event.Cause.{Cause}
 use Rattle.ga_event.specs.Apply.{Told, apply, after, unless, run, replay}
-use Rattle.ga_causal.specs.Dependence.{events_in, NoneLooks, dependents, without, rest, place_of, rest_from}
+use Rattle.ga_causal.specs.Dependence.{NoneLooks, dependents, without, rest, place_of, rest_from}
+use Rattle.ga_event.specs.Told.{events_in}
 use Rattle.ga_causal.specs.Equivalence.{AreEquivalent}
 use Rattle.ga_causal.proofs.Runs.{first_of_run}
 use Rattle.ga_causal.proofs.Swaps.{replay_equivalent}
@@ -23,6 +24,7 @@ use Rattle.ga_lab.proofs.Forward.{Applied, applied, keeping, steps_at}
 use Rattle.ga_lab.proofs.Normal.{parted_alike, events_join}
 use Rattle.ga_lab.proofs.Reached.{runs_reached, some_reached, kept_reached}
 use Rattle.ga_lab.proofs.Reasoned.{replayed}
+use Rattle.ga_lab.proofs.Causal.{events_length as events_size}
 
 -- what can follow the first part of a list
 rest_some : (load c : List NodeRecord) (xs ys : List Event) (ts : List (Cause × Told)) → run load xs ≡ Some (c, ts) → IsSome (replay load (xs ++ ys)) → IsSome (replay c ys)
@@ -69,10 +71,6 @@ parted_again s n k left gone r room count e is =
     (ap (λ z. stepped_all (keeping s z s.made) (map actor_of gone)) is
     ∙ made_on s q.last left q.told gone s.made ran (rest_some s.load q.last left gone q.told ran some) (omega (arith, room, size)) count)
     e
-
-events_size : (cs : List Cause) → length (events_in cs) ≡ length cs
-events_size [] = refl
-events_size (c ∷ cs) = ap suc (events_size cs)
 
 pub remade : (s : State) (n k : ℕ) → IsReached s → NoneLooks (taken_from (causes_of s) (place_of (causes_of s) n k)) → s.made + length (taken_from (causes_of s) (place_of (causes_of s) n k)) < 2 ^ 64
     → Again s (stepped_all (rewound s n k) (map actor_of (events_in (taken_from (causes_of s) (place_of (causes_of s) n k)))))

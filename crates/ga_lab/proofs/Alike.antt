@@ -14,7 +14,8 @@ use Rattle.ga_event.specs.declared.event.Cause.{Cause}
 use Rattle.ga_event.specs.Touches.{touches as event_touches}
 use Rattle.ga_event.specs.Apply.{seen_from, run, replay}
 use Rattle.ga_event.specs.Next.{next}
-use Rattle.ga_causal.specs.Dependence.{events_in, rest, place_of, rest_from, rewound_list}
+use Rattle.ga_causal.specs.Dependence.{rest, place_of, rest_from, rewound_list}
+use Rattle.ga_event.specs.Told.{events_in}
 use Rattle.ga_causal.specs.Equivalence.{AreEquivalent, same, swapped, later, joined, account}
 use Rattle.ga_causal.proofs.Runs.{causes}
 use Rattle.ga_causal.proofs.Swaps.{replay_equivalent}
@@ -27,7 +28,7 @@ use Rattle.ga_event.specs.Told.{steps_of, mades_of}
 use Rattle.ga_lab.specs.declared.fault.LabFault.{LabFault}
 use Rattle.ga_lab.specs.declared.fault.LabFault.TheVariants.{Full, Spent}
 use Rattle.ga_lab.specs.Machine.{State, first, chip_of, told_by, causes_of, told_next, answer_to, with_event, step_answer, unless_refused, stepped, rest_answer, rewind_answer, rewound, history_of}
-use Rattle.ga_lab.specs.Calls.{Call, called_all, AreAlike}
+use Rattle.ga_lab.specs.Calls.{MachineCall, called_all, AreEquivalentStates}
 use Rattle.ga_lab.proofs.Stepping.{same_state}
 use Rattle.ga_lab.proofs.Told.{made_of, history_accounted}
 use Rattle.ga_lab.proofs.Called.{Runs, runs_of, with_kept, told_is, causes_is, first_runs, calls_load}
@@ -83,17 +84,17 @@ step_alike : (s : State) (ys : List Event) (n : NodeId) → AreEquivalent s.load
 step_alike s ys n h = ap (λ c. answer_to s (next c n)) (alike_chip s ys h) ∙ answer_alike s ys h (next (chip_of (with_kept s ys)) n)
 
 -- and leaves
-left_alike : (s : State) (ys : List Event) → AreEquivalent s.load s.kept ys → (o : Result Event NotReady) (a : Result Made LabFault) → AreAlike (unless_refused s a (with_event s o)) (unless_refused (with_kept s ys) a (with_event (with_kept s ys) o))
+left_alike : (s : State) (ys : List Event) → AreEquivalent s.load s.kept ys → (o : Result Event NotReady) (a : Result Made LabFault) → AreEquivalentStates (unless_refused s a (with_event s o)) (unless_refused (with_kept s ys) a (with_event (with_kept s ys) o))
 left_alike s ys h (Err why) (Ok told) = record { load = refl; limit = refl; made = refl; kept = h }
 left_alike s ys h (Err why) (Err fault) = record { load = refl; limit = refl; made = refl; kept = h }
 left_alike s ys h (Ok e) (Err fault) = record { load = refl; limit = refl; made = refl; kept = h }
 left_alike s ys h (Ok e) (Ok told) = record { load = refl; limit = refl; made = refl; kept = equivalent-append s.load s.kept ys (e ∷ []) h }
 
-stepped_alike : (s : State) (ys : List Event) (n : NodeId) → AreEquivalent s.load s.kept ys → AreAlike (stepped s n) (stepped (with_kept s ys) n)
+stepped_alike : (s : State) (ys : List Event) (n : NodeId) → AreEquivalent s.load s.kept ys → AreEquivalentStates (stepped s n) (stepped (with_kept s ys) n)
 stepped_alike s ys n h =
     let z = with_kept s ys in
-    subst (λ a. AreAlike (stepped s n) (unless_refused z a (with_event z (next (chip_of z) n)))) (step_alike s ys n h)
-    (subst (λ c. AreAlike (stepped s n) (unless_refused z (step_answer s n) (with_event z (next c n)))) (alike_chip s ys h)
+    subst (λ a. AreEquivalentStates (stepped s n) (unless_refused z a (with_event z (next (chip_of z) n)))) (step_alike s ys n h)
+    (subst (λ c. AreEquivalentStates (stepped s n) (unless_refused z (step_answer s n) (with_event z (next c n)))) (alike_chip s ys h)
     (left_alike s ys h (next (chip_of s) n) (step_answer s n)))
 
 -- what a rollback answers, and leaves
@@ -123,7 +124,7 @@ rewind_alike s ys n k some h =
     ∙ rest_alike (causes b.here.told) (causes b.there.told) n k (shuffled_by s.load b.here.last b.there.last s.kept ys b.here.told b.there.told b.here.run_is b.there.run_is h)
     ∙ sym (ap (λ z. rest_answer z (place_of z n k)) (causes_is (with_kept s ys) b.there))
 
-rewound_alike : (s : State) (ys : List Event) (n k : ℕ) → IsSome (replay s.load s.kept) → AreEquivalent s.load s.kept ys → AreAlike (rewound s n k) (rewound (with_kept s ys) n k)
+rewound_alike : (s : State) (ys : List Event) (n k : ℕ) → IsSome (replay s.load s.kept) → AreEquivalent s.load s.kept ys → AreEquivalentStates (rewound s n k) (rewound (with_kept s ys) n k)
 rewound_alike s ys n k some h =
     let b = both_run s ys some h in
     let e : AreEquivalent s.load (events_in (rewound_list (causes b.here.told) n k)) (events_in (rewound_list (causes b.there.told) n k)) =
@@ -137,13 +138,13 @@ rewound_alike s ys n k some h =
     }
 
 -- one machine is the other with an equivalent list
-pub alike_is : (s z : State) → AreAlike s z → with_kept s z.kept ≡ z
+pub alike_is : (s z : State) → AreEquivalentStates s z → with_kept s z.kept ≡ z
 alike_is s z a = same_state s.load z.load s.limit z.limit z.kept z.kept s.made z.made a.load a.limit refl a.made
 
-pub same_chip : (s z : State) → AreAlike s z → chip_of s ≡ chip_of z
+pub same_chip : (s z : State) → AreEquivalentStates s z → chip_of s ≡ chip_of z
 same_chip s z a = subst (λ x. chip_of s ≡ chip_of x) (alike_is s z a) (alike_chip s z.kept a.kept)
 
-pub same_history : (s z : State) (n : ℕ) → IsSome (replay s.load s.kept) → AreAlike s z → history_of s n ≡ history_of z n
+pub same_history : (s z : State) (n : ℕ) → IsSome (replay s.load s.kept) → AreEquivalentStates s z → history_of s n ≡ history_of z n
 same_history s z n some a = subst (λ x. history_of s n ≡ history_of x n) (alike_is s z a) (alike_history s z.kept some a.kept n)
 
 alike_account : (s : State) (ys : List Event) → IsSome (replay s.load s.kept) → AreEquivalent s.load s.kept ys → (n : ℕ) → account n (causes_of s) ≡ account n (causes_of (with_kept s ys))
@@ -153,15 +154,15 @@ alike_account s ys some h n =
     ∙ (same_accounts s.load b.here.last b.there.last s.kept ys b.here.told b.there.told b.here.run_is b.there.run_is).0 h n
     ∙ sym (ap (account n) (causes_is (with_kept s ys) b.there))
 
-pub same_account : (s z : State) (n : ℕ) → IsSome (replay s.load s.kept) → AreAlike s z → account n (causes_of s) ≡ account n (causes_of z)
+pub same_account : (s z : State) (n : ℕ) → IsSome (replay s.load s.kept) → AreEquivalentStates s z → account n (causes_of s) ≡ account n (causes_of z)
 same_account s z n some a = subst (λ x. account n (causes_of s) ≡ account n (causes_of x)) (alike_is s z a) (alike_account s z.kept some a.kept n)
 
-pub same_step : (s z : State) (n : NodeId) → AreAlike s z → (step_answer s n ≡ step_answer z n) × AreAlike (stepped s n) (stepped z n)
-same_step s z n a = subst (λ x. (step_answer s n ≡ step_answer x n) × AreAlike (stepped s n) (stepped x n)) (alike_is s z a) (step_alike s z.kept n a.kept, stepped_alike s z.kept n a.kept)
+pub same_step : (s z : State) (n : NodeId) → AreEquivalentStates s z → (step_answer s n ≡ step_answer z n) × AreEquivalentStates (stepped s n) (stepped z n)
+same_step s z n a = subst (λ x. (step_answer s n ≡ step_answer x n) × AreEquivalentStates (stepped s n) (stepped x n)) (alike_is s z a) (step_alike s z.kept n a.kept, stepped_alike s z.kept n a.kept)
 
-pub same_rewind : (s z : State) (n k : ℕ) → IsSome (replay s.load s.kept) → AreAlike s z → (rewind_answer s n k ≡ rewind_answer z n k) × AreAlike (rewound s n k) (rewound z n k)
+pub same_rewind : (s z : State) (n k : ℕ) → IsSome (replay s.load s.kept) → AreEquivalentStates s z → (rewind_answer s n k ≡ rewind_answer z n k) × AreEquivalentStates (rewound s n k) (rewound z n k)
 same_rewind s z n k some a =
-    subst (λ x. (rewind_answer s n k ≡ rewind_answer x n k) × AreAlike (rewound s n k) (rewound x n k)) (alike_is s z a)
+    subst (λ x. (rewind_answer s n k ≡ rewind_answer x n k) × AreEquivalentStates (rewound s n k) (rewound x n k)) (alike_is s z a)
     (rewind_alike s z.kept n k some a.kept, rewound_alike s z.kept n k some a.kept)
 
 -- Whatever led to two machines with one load, where each node has the same account, they keep the same but for the order.
@@ -180,7 +181,7 @@ kept_same s z load r q h =
           ∙ sym (ap (λ o. mades_of (told_by o) n) k.1) ∙ ap (λ c. mades_of (told_by (run c z.kept)) n) load,
     )
 
-pub consistent : (load : List NodeRecord) (limit bound : ℕ) (calls others : List Call)
+pub consistent : (load : List NodeRecord) (limit bound : ℕ) (calls others : List MachineCall)
     → ((n : ℕ) → account n (causes_of (called_all (first load limit) calls)) ≡ account n (causes_of (called_all (first load bound) others)))
     → KeepTheSame load (called_all (first load limit) calls) (called_all (first load bound) others)
 consistent load limit bound calls others h =

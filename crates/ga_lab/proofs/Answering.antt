@@ -1,6 +1,6 @@
 -- What a step answers is told of its event later.
 use Rattle.std.proofs.Common.{◌≡◌, ◌^◌, ◌-◌, List, [], ◌∷◌, ◌++◌, length, take, take_all, Some, Ok, Err, refl, sym, ◌∙◌, ap, arith, ⊎_elim}
-use Rattle.std.specs.Prelude.{Result, option_and_then, slice_get, IsSome, nat_le}
+use Rattle.std.specs.Prelude.{Result, option_and_then, IsSome, nat_le}
 use Rattle.std.proofs.lemmas.Bool.{cases_Bool, cond-true, cond-false}
 use Rattle.std.proofs.lemmas.List.{take-append-le}
 use Rattle.ga_node.specs.declared.kind.NotReady.{NotReady}
@@ -19,11 +19,7 @@ use Rattle.ga_event.proofs.Nexts.{next_can}
 use Rattle.ga_lab.proofs.Replays.{told_length}
 use Rattle.ga_lab.proofs.Called.{Runs, runs_of, chip_is, events_run}
 use Rattle.ga_lab.proofs.Stepping.{not_refused}
-
--- what is told of the last of a list
-get_last : (xs : List (Cause × Told)) (y : Cause × Told) → slice_get (xs ++ y ∷ []) (length xs) ≡ Some y
-get_last [] y = refl
-get_last (x ∷ xs) y = get_last xs y
+use Rattle.ga_journal.proofs.Recalling.{get_push as get_last}
 
 made_last : (xs : List (Cause × Told)) (y : Cause × Told) → made_in (xs ++ y ∷ []) (length xs) ≡ made_after (events_told xs) y.0.event y.1
 made_last xs y =
@@ -40,7 +36,7 @@ told_is s e told h = ⊎_elim
     (cases_Bool (nat_le (2 ^ 64 - 1) s.made)))
     (cases_Bool (nat_le s.limit (length s.kept)))
 
-told_after : (s : State) (e : Event) → made_after s.kept e (after (chip_of s) e).1 ≡ Some (told_next s e)
+pub told_after : (s : State) (e : Event) → made_after s.kept e (after (chip_of s) e).1 ≡ Some (told_next s e)
 told_after s (event.Own n) = refl
 told_after s (event.Pass w r side) = refl
 

@@ -13,7 +13,8 @@ use Rattle.ga_event.specs.Touches.{touches as event_touches}
 use Rattle.ga_event.specs.Apply.{Told, apply, after, unless, cause_of, run, replay}
 use Rattle.ga_event.specs.Next.{next}
 use Rattle.ga_event.proofs.Nexts.{next_can}
-use Rattle.ga_causal.specs.Dependence.{events_in, cause_touches, rest, rest_from, rewound_list}
+use Rattle.ga_causal.specs.Dependence.{cause_touches, rest, rest_from, rewound_list}
+use Rattle.ga_event.specs.Told.{events_in}
 use Rattle.ga_causal.specs.Steps.{touching}
 use Rattle.ga_causal.proofs.Runs.{causes, run_more, first_of_run}
 use Rattle.ga_causal.proofs.Consistent.{made_of}
@@ -25,7 +26,7 @@ use Rattle.ga_event.specs.Told.{steps_of, mades_of}
 use Rattle.ga_rollback.proofs.Replays.{run_snoc}
 use Rattle.ga_lab.specs.declared.fault.LabFault.{LabFault}
 use Rattle.ga_lab.specs.Machine.{State, first, chip_of, told_by, told_of_kept, causes_of, answer_to, with_event, unless_refused, stepped, undone, rewound, history_of}
-use Rattle.ga_lab.specs.Calls.{Call, step, undo, rewind, called, called_all}
+use Rattle.ga_lab.specs.Calls.{MachineCall, step, undo, rewind, called, called_all}
 
 -- a machine whose list runs
 pub record Runs (s : State) : Type 0 where
@@ -88,7 +89,7 @@ rewind_runs s n k r =
     let f = first_part_told s.load r.last s.kept r.told n k r.run_is in
     record { last = f.0; told = f.1; run_is = ap (λ z. run s.load (events_in (rewound_list z n k))) (causes_is s r) ∙ f.2 }
 
-pub call_runs : (s : State) (call : Call) → Runs s → Runs (called s call)
+pub call_runs : (s : State) (call : MachineCall) → Runs s → Runs (called s call)
 call_runs s (step n) r = step_runs s n r
 call_runs s undo r = undo_runs s r
 call_runs s (rewind n k) r = rewind_runs s n k r
@@ -99,23 +100,23 @@ step_load s (Err why) (Err fault) = refl
 step_load s (Ok e) (Ok told) = refl
 step_load s (Ok e) (Err fault) = refl
 
-pub call_load : (s : State) (call : Call) → (called s call).load ≡ s.load
+pub call_load : (s : State) (call : MachineCall) → (called s call).load ≡ s.load
 call_load s (step n) = step_load s (next (chip_of s) n) (answer_to s (next (chip_of s) n))
 call_load s undo = refl
 call_load s (rewind n k) = refl
 
-pub calls_run : (s : State) (calls : List Call) → Runs s → Runs (called_all s calls)
+pub calls_run : (s : State) (calls : List MachineCall) → Runs s → Runs (called_all s calls)
 calls_run s [] r = r
 calls_run s (call ∷ calls) r = calls_run (called s call) calls (call_runs s call r)
 
-pub calls_load : (s : State) (calls : List Call) → (called_all s calls).load ≡ s.load
+pub calls_load : (s : State) (calls : List MachineCall) → (called_all s calls).load ≡ s.load
 calls_load s [] = refl
 calls_load s (call ∷ calls) = calls_load (called s call) calls ∙ call_load s call
 
-pub first_runs : (load : List NodeRecord) (limit : ℕ) (calls : List Call) → Runs (called_all (first load limit) calls)
+pub first_runs : (load : List NodeRecord) (limit : ℕ) (calls : List MachineCall) → Runs (called_all (first load limit) calls)
 first_runs load limit calls = calls_run (first load limit) calls (record { last = load; told = []; run_is = refl })
 
-pub reached : (load : List NodeRecord) (limit : ℕ) (calls : List Call) → ((called_all (first load limit) calls).load ≡ load) × IsSome (replay (called_all (first load limit) calls).load (called_all (first load limit) calls).kept)
+pub reached : (load : List NodeRecord) (limit : ℕ) (calls : List MachineCall) → ((called_all (first load limit) calls).load ≡ load) × IsSome (replay (called_all (first load limit) calls).load (called_all (first load limit) calls).kept)
 reached load limit calls = (calls_load (first load limit) calls, runs_some _ (first_runs load limit calls))
 
 -- After a rollback the history of each node is the first part of what it was.

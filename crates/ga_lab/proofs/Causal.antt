@@ -11,13 +11,14 @@ use Rattle.ga_event.specs.declared.event.Cause.{Cause}
 use Rattle.ga_event.specs.Apply.{replay}
 use Rattle.ga_event.specs.Next.{next}
 use Rattle.ga_event.proofs.Nexts.{next_can}
-use Rattle.ga_causal.specs.Dependence.{events_in, dependents, without, rest, place_of, rest_from}
+use Rattle.ga_causal.specs.Dependence.{dependents, without, rest, place_of, rest_from}
+use Rattle.ga_event.specs.Told.{events_in}
 use Rattle.ga_causal.specs.Equivalence.{AreEquivalent}
 use Rattle.ga_event.specs.declared.made.Made.{Made}
 use Rattle.ga_lab.specs.declared.fault.LabFault.{LabFault}
 use Rattle.ga_lab.specs.declared.fault.LabFault.TheVariants.{Full, Spent}
 use Rattle.ga_lab.specs.Machine.{State, first, chip_of, causes_of, told_next, answer_to, with_event, unless_refused, stepped, undone, rewound}
-use Rattle.ga_lab.specs.Calls.{Call, step, undo, rewind, called, called_all}
+use Rattle.ga_lab.specs.Calls.{MachineCall, step, undo, rewind, called, called_all}
 use Rattle.ga_lab.specs.Forward.{actor_of}
 use Rattle.ga_lab.specs.Sequences.{AreCausal, back, chained, onward, either, TakesNoLook}
 use Rattle.ga_lab.proofs.Called.{Runs, runs_of, with_kept, call_runs, runs_some, call_load, first_runs}
@@ -59,7 +60,7 @@ one_step s n f count = go (next (chip_of s) n) refl
         (Rattle.ga_lab.proofs.Sequences.counted_answer s e count ∙ cond-false (nat_le s.limit (length s.kept)) (Err Full) (Ok (told_next s e)) room)))
         (cases_Bool (nat_le s.limit (length s.kept)))
 
-one_call : (s : State) (call : Call) (calls : List Call) → Fits s → s.made < 2 ^ 64 - 1 → length s.kept + length s.kept < 2 ^ 64 → TakesNoLook s (call ∷ calls) → AreCausal (load_of s) (steps_for s.kept ++ call ∷ []) (steps_for (called s call).kept)
+one_call : (s : State) (call : MachineCall) (calls : List MachineCall) → Fits s → s.made < 2 ^ 64 - 1 → length s.kept + length s.kept < 2 ^ 64 → TakesNoLook s (call ∷ calls) → AreCausal (load_of s) (steps_for s.kept ++ call ∷ []) (steps_for (called s call).kept)
 one_call s (step n) calls f count l none = one_step s n f count
 one_call s (rewind n k) calls f count l none = one_rewind s n k f l none.0
 one_call s undo calls f count l none = go s.kept refl
@@ -72,7 +73,7 @@ one_call s undo calls f count l none = go s.kept refl
         let l = Rattle.ga_lab.proofs.Normal.last_of x xs in
         subst (λ z. AreCausal (load_of s) (steps_for s.kept ++ undo ∷ []) (steps_for z)) (ap (λ (z : State). z.kept) (sym (undone_last s l.front l.event (is ∙ l.is)))) (one_undo s l.front l.event (is ∙ l.is) f)
 
-none_later : (s : State) (call : Call) (calls : List Call) → TakesNoLook s (call ∷ calls) → TakesNoLook (called s call) calls
+none_later : (s : State) (call : MachineCall) (calls : List MachineCall) → TakesNoLook s (call ∷ calls) → TakesNoLook (called s call) calls
 none_later s (step n) calls h = h
 none_later s undo calls h = h
 none_later s (rewind n k) calls h = h.1
@@ -94,7 +95,7 @@ shorter (false ∷ flags) [] = omega arith
 shorter (true ∷ flags) (x ∷ xs) = let a : length (without flags xs) ≤ length xs = shorter flags xs in let g : length (without flags xs) ≤ suc (length xs) = omega (arith, a) in g
 shorter (false ∷ flags) (x ∷ xs) = let a : length (without flags xs) ≤ length xs = shorter flags xs in let g : suc (length (without flags xs)) ≤ suc (length xs) = omega (arith, a) in g
 
-events_length : (cs : List Cause) → length (events_in cs) ≡ length cs
+pub events_length : (cs : List Cause) → length (events_in cs) ≡ length cs
 events_length [] = refl
 events_length (c ∷ cs) = ap suc (events_length cs)
 
@@ -125,7 +126,7 @@ rewound_within s n k some = go (place_of (causes_of s) n k)
         let c : length (rest (causes_of s) i) ≤ length (causes_of s) = shorter (dependents (causes_of s) i) (causes_of s) in
         omega (arith, a, b, c)
 
-call_within : (s : State) (call : Call) → IsSome (replay s.load s.kept) → Within s → Within (called s call)
+call_within : (s : State) (call : MachineCall) → IsSome (replay s.load s.kept) → Within s → Within (called s call)
 call_within s (step n) some w = step_within s (next (chip_of s) n) w
 call_within s undo some w =
     let a : length (take (length s.kept - 1) s.kept) ≤ length s.kept = take_less (length s.kept - 1) s.kept in
@@ -141,12 +142,12 @@ call_within s (rewind n k) some w =
     let c : length s.kept ≤ s.made = w.1 in
     (omega (arith, a, b), omega (arith, a, c))
 
-call_held : (s : State) (call : Call) → Held s → Held (called s call)
+call_held : (s : State) (call : MachineCall) → Held s → Held (called s call)
 call_held s call h =
     let w = call_within s call h.some (h.room, h.made) in
     record { some = runs_some (called s call) (call_runs s call (runs_of s h.some)); room = w.0; made = w.1 }
 
-calls_held : (s : State) (calls : List Call) → Held s → Held (called_all s calls)
+calls_held : (s : State) (calls : List MachineCall) → Held s → Held (called_all s calls)
 calls_held s [] h = h
 calls_held s (call ∷ calls) h = calls_held (called s call) calls (call_held s call h)
 
@@ -154,7 +155,7 @@ fits_of : (s : State) → Held s → s.made < 2 ^ 64 → Fits s
 fits_of s h l = let a : length s.kept ≤ s.made = h.made in record { some = h.some; room = h.room; count = omega (arith, a, l) }
 
 -- Calls from the load on are the steps for what they keep.
-normal : (s : State) (calls : List Call) → Held s → (s.made + length calls) + (s.made + length calls) < 2 ^ 64 → TakesNoLook s calls → AreCausal (load_of s) (steps_for s.kept ++ calls) (steps_for (ended s calls))
+normal : (s : State) (calls : List MachineCall) → Held s → (s.made + length calls) + (s.made + length calls) < 2 ^ 64 → TakesNoLook s calls → AreCausal (load_of s) (steps_for s.kept ++ calls) (steps_for (ended s calls))
 normal s [] h l none = subst (λ z. AreCausal (load_of s) z (steps_for s.kept)) (sym (append-nil (steps_for s.kept))) Rattle.ga_lab.specs.Sequences.itself
 normal s (call ∷ calls) h l none =
     let l2 : (s.made + suc (length calls)) + (s.made + suc (length calls)) < 2 ^ 64 = l in
@@ -188,12 +189,12 @@ first_held : (load : List NodeRecord) (limit : ℕ) → Held (first load limit)
 first_held load limit = record { some = refl; room = omega arith; made = omega arith }
 
 -- what calls leave fits
-pub kept_fits : (load : List NodeRecord) (limit : ℕ) (calls : List Call) → (length (called_all (first load limit) calls).kept ≤ (called_all (first load limit) calls).limit) × (length (called_all (first load limit) calls).kept ≤ (called_all (first load limit) calls).made)
+pub kept_fits : (load : List NodeRecord) (limit : ℕ) (calls : List MachineCall) → (length (called_all (first load limit) calls).kept ≤ (called_all (first load limit) calls).limit) × (length (called_all (first load limit) calls).kept ≤ (called_all (first load limit) calls).made)
 kept_fits load limit calls =
     let h : Held (called_all (first load limit) calls) = calls_held (first load limit) calls (first_held load limit) in
     (h.room, h.made)
 
-pub related : (load : List NodeRecord) (limit : ℕ) (calls others : List Call) → length calls + length calls < 2 ^ 64 → length others + length others < 2 ^ 64
+pub related : (load : List NodeRecord) (limit : ℕ) (calls others : List MachineCall) → length calls + length calls < 2 ^ 64 → length others + length others < 2 ^ 64
     → TakesNoLook (first load limit) calls → TakesNoLook (first load limit) others
     → AreEquivalent load (called_all (first load limit) calls).kept (called_all (first load limit) others).kept → AreCausal (first load limit) calls others
 related load limit calls others l k none blind e =

@@ -11,10 +11,11 @@ use Rattle.ga_event.specs.Touches.{meets}
 use Rattle.ga_event.specs.Apply.{Told, cause_of, run, replay}
 use Rattle.ga_event.specs.Agree.{Agree}
 use Rattle.ga_event.proofs.Locality.{Agree-sym}
-use Rattle.ga_causal.specs.Dependence.{events_in, cause_touches, dependents_after, without, rest, place_of, rest_from}
+use Rattle.ga_causal.specs.Dependence.{cause_touches, dependents_after, without, rest, place_of, rest_from}
+use Rattle.ga_event.specs.Told.{events_in}
 use Rattle.ga_causal.specs.Steps.{touching}
 use Rattle.ga_causal.proofs.Runs.{kept, run_more, FirstOf, first_of_run, keeps_of, Agree-marked, Same, same_of}
-use Rattle.ga_causal.proofs.Places.{touching_in}
+use Rattle.ga_causal.proofs.Places.{touching_in, touching-cons}
 use Rattle.ga_event.specs.Told.{steps_of}
 use Rattle.ga_lab.specs.Machine.{State, chip_of, told_by, causes_of, rewound}
 use Rattle.ga_lab.proofs.Called.{Runs, runs_of, chip_is}
@@ -22,9 +23,6 @@ use Rattle.ga_lab.proofs.Reasoned.{causes, replayed}
 
 one : Bool → ℕ
 one b = cond b 1 0
-
-touching-cons : (n : ℕ) (e : Cause) (es : List Cause) → touching n (e ∷ es) ≡ cond (cause_touches e n) 1 0 + touching n es
-touching-cons n e es = Rattle.std.proofs.lemmas.List.Sums.sum_by-cons (λ (x : Cause). cond (cause_touches x n) 1 0) e es
 
 -- leaving events out adds no step
 fewer : (n : ℕ) (flags : List Bool) (es : List Cause) → touching n (without flags es) ≤ touching n es

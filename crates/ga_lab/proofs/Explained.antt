@@ -18,17 +18,17 @@ use Rattle.ga_causal.proofs.Runs.{causes}
 use Rattle.ga_lab.specs.declared.fault.LabFault.{LabFault}
 use Rattle.ga_lab.specs.declared.fault.LabFault.TheVariants.{NoStep}
 use Rattle.ga_lab.specs.Machine.{State, causes_of, stands, rewound, why_between, why_answer}
-use Rattle.ga_lab.specs.Calls.{AreAlike}
+use Rattle.ga_lab.specs.Calls.{AreEquivalentStates}
 use Rattle.ga_lab.proofs.Alike.{Both, both_run, alike_is, equivalent_steps, same_rewind}
 use Rattle.ga_lab.proofs.Called.{with_kept, causes_is, runs_some}
 use Rattle.ga_lab.proofs.Reasoned.{replayed, takes_what_it_explains}
 use Rattle.ga_lab.proofs.Reasons.{no_cause, no_effect}
 
 -- a step stands in both or in neither
-stands_alike : (s z : State) (n k : ℕ) → AreAlike s z → stands s n k ≡ stands z n k
+stands_alike : (s z : State) (n k : ℕ) → AreEquivalentStates s z → stands s n k ≡ stands z n k
 stands_alike s z n k a = ap (λ (x : ℕ). nat_le 1 k && nat_le k x) (equivalent_steps n s.load s.kept z.kept a.kept)
 
-alike_runs : (s z : State) → IsSome (replay s.load s.kept) → AreAlike s z → IsSome (replay z.load z.kept)
+alike_runs : (s z : State) → IsSome (replay s.load s.kept) → AreEquivalentStates s z → IsSome (replay z.load z.kept)
 alike_runs s z some a =
     subst (λ (x : State). IsSome (replay x.load x.kept)) (alike_is s z a) (runs_some (with_kept s z.kept) ((both_run s z.kept some a.kept).there))
 
@@ -45,7 +45,7 @@ refuses s n k m j some h = ⊎_elim
 no_link : (answer : Result (Option (List Link)) LabFault) → answer ≡ Err NoStep → answer ≡ Ok None → ⊥
 no_link answer h k = let q : Err NoStep ≡ Ok None = sym h ∙ k in absurd (cc)
 
-pub same_none : (s z : State) (n k m j : ℕ) → IsSome (replay s.load s.kept) → AreAlike s z → (why_answer s n k m j ≡ Ok None) ↔ (why_answer z n k m j ≡ Ok None)
+pub same_none : (s z : State) (n k m j : ℕ) → IsSome (replay s.load s.kept) → AreEquivalentStates s z → (why_answer s n k m j ≡ Ok None) ↔ (why_answer z n k m j ≡ Ok None)
 same_none s z n k m j some a = ⊎_elim
     (λ t. let p = and_parts (stands s n k) (stands s m j) t in
     let x = takes_what_it_explains s n k m j some p.0 p.1 in
@@ -91,5 +91,5 @@ chain_alike s ys n k m j links some e h =
     (chain_again (causes b.here.told) (causes b.there.told) links
     (shuffled_by s.load b.here.last b.there.last s.kept ys b.here.told b.there.told b.here.run_is b.there.run_is e) c))
 
-pub same_chain : (s z : State) (n k m j : ℕ) (links : List Link) → IsSome (replay s.load s.kept) → AreAlike s z → why_answer s n k m j ≡ Ok (Some links) → Again (causes_of s) (causes_of z) links
+pub same_chain : (s z : State) (n k m j : ℕ) (links : List Link) → IsSome (replay s.load s.kept) → AreEquivalentStates s z → why_answer s n k m j ≡ Ok (Some links) → Again (causes_of s) (causes_of z) links
 same_chain s z n k m j links some a h = subst (λ (x : State). Again (causes_of s) (causes_of x) links) (alike_is s z a) (chain_alike s z.kept n k m j links some a.kept h)

@@ -4,7 +4,8 @@ use Rattle.std.specs.Prelude.{Result, is_some, slice_index, IfOk, IfErr}
 use Rattle.ga_node.specs.Record.{NodeState}
 use Rattle.ga_journal.specs.Histories.{Book}
 use Rattle.ga_event.specs.Told.{steps_of}
-use Rattle.ga_causal.specs.Dependence.{events_in, place_of, rewound_list}
+use Rattle.ga_causal.specs.Dependence.{place_of, rewound_list}
+use Rattle.ga_event.specs.Told.{events_in}
 use Rattle.ga_rollback.specs.Rewound.{WouldGo}
 use Rattle.ga_lab.specs.Machine.{State, causes_of, rewound, rewind_answer}
 use Rattle.ga_lab.specs.kept.Tied.{IsTied, state_of}

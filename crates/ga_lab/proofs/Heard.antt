@@ -22,7 +22,7 @@ use Rattle.ga_event.specs.declared.made.Made.{Made}
 use Rattle.ga_event.specs.declared.made.Made.TheVariants as made
 use Rattle.ga_event.specs.Told.{made_after, mades_after, mades_of}
 use Rattle.ga_lab.specs.Machine.{State, first, chip_of, history_of}
-use Rattle.ga_lab.specs.Calls.{Call, called_all}
+use Rattle.ga_lab.specs.Calls.{MachineCall, called_all}
 use Rattle.ga_lab.proofs.Called.{Runs, told_is, chip_is, first_runs, calls_load}
 
 -- the event of which this is told, but for the side of a pass, which shows in neither of its nodes
@@ -117,7 +117,7 @@ node_alike s z n r q load told words =
     ] in
     ap (λ c. record_at c n) (chip_is s r) ∙ last ∙ sym (ap (λ c. record_at c n) (chip_is z q))
 
-pub same_node : (load : List NodeRecord) (limit bound : ℕ) (calls others : List Call) (n : ℕ)
+pub same_node : (load : List NodeRecord) (limit bound : ℕ) (calls others : List MachineCall) (n : ℕ)
     → history_of (called_all (first load limit) calls) n ≡ history_of (called_all (first load bound) others) n
     → words_read n load (called_all (first load limit) calls).kept ≡ words_read n load (called_all (first load bound) others).kept
     → record_at (chip_of (called_all (first load limit) calls)) n ≡ record_at (chip_of (called_all (first load bound) others)) n
@@ -129,7 +129,7 @@ same_node load limit bound calls others n told words =
     node_alike s z n (first_runs load limit calls) (first_runs load bound others) (at ∙ sym to) told
     (ap (λ c. words_read n c s.kept) at ∙ words ∙ sym (ap (λ c. words_read n c z.kept) to))
 
-pub same_chip : (load : List NodeRecord) (limit bound : ℕ) (calls others : List Call)
+pub same_chip : (load : List NodeRecord) (limit bound : ℕ) (calls others : List MachineCall)
     → ((n : ℕ) → history_of (called_all (first load limit) calls) n ≡ history_of (called_all (first load bound) others) n)
     → ((n : ℕ) → words_read n load (called_all (first load limit) calls).kept ≡ words_read n load (called_all (first load bound) others).kept)
     → chip_of (called_all (first load limit) calls) ≡ chip_of (called_all (first load bound) others)

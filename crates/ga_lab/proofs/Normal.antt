@@ -6,12 +6,13 @@ use Rattle.ga_node.specs.Record.{NodeRecord}
 use Rattle.ga_event.specs.declared.event.Event.{Event}
 use Rattle.ga_event.specs.declared.event.Cause.{Cause}
 use Rattle.ga_event.specs.Apply.{Told, refusal_of, apply, after, unless, cause_of, replay}
-use Rattle.ga_causal.specs.Dependence.{events_in, dependents, without, rest, NoneLooks, place_of, rest_from}
+use Rattle.ga_causal.specs.Dependence.{dependents, without, rest, NoneLooks, place_of, rest_from}
+use Rattle.ga_event.specs.Told.{events_in}
 use Rattle.ga_causal.specs.Equivalence.{AreApart, AreEquivalent, same, swapped, later, joined}
 use Rattle.ga_causal.proofs.Swaps.{replay_equivalent}
 use Rattle.ga_causal.proofs.Taken.{taken_last}
 use Rattle.ga_lab.specs.Machine.{State, first, chip_of, causes_of, with_event, step_answer, stepped, rewound}
-use Rattle.ga_lab.specs.Calls.{Call, step, undo, rewind, called, called_all, AreAlike}
+use Rattle.ga_lab.specs.Calls.{MachineCall, step, undo, rewind, called, called_all, AreEquivalentStates}
 use Rattle.ga_lab.specs.Forward.{actor_of, stepped_all}
 use Rattle.ga_lab.specs.Sequences.{AllNamed, undos, AreCausal, itself, chained, before, more, onward, refused, cancelled, turned, rolled, taken_from}
 use Rattle.ga_lab.proofs.Alike.{equivalent_length, same_rewind}
@@ -21,7 +22,7 @@ use Rattle.ga_lab.proofs.Reasoned.{replayed}
 use Rattle.ga_lab.proofs.Sequences.{counting, called_append, ended, answered, step_made_is, runs_more, undone_last, equivalent_back}
 
 -- a step for each event
-abbrev pub steps_for : List Event → List Call
+abbrev pub steps_for : List Event → List MachineCall
 steps_for events = map (λ e. step (actor_of e)) events
 
 -- the machine with a list that steps alone made
@@ -47,7 +48,7 @@ steps_length [] = refl
 steps_length (e ∷ xs) = ap suc (steps_length xs)
 
 -- the same calls before both
-prefixed : (s : State) (ws xs ys : List Call) → AreCausal (called_all s ws) xs ys → AreCausal s (ws ++ xs) (ws ++ ys)
+prefixed : (s : State) (ws xs ys : List MachineCall) → AreCausal (called_all s ws) xs ys → AreCausal s (ws ++ xs) (ws ++ ys)
 prefixed s [] xs ys h = h
 prefixed s (call ∷ ws) xs ys h = before (prefixed (called s call) ws xs ys h)
 
@@ -128,11 +129,11 @@ pub reach : (s : State) → Fits s → called_all (load_of s) (steps_for s.kept)
 reach s f = steps_reach s s.kept f.some f.room f.count
 
 -- from the machine with the list on, a call is these
-pub behind : (s : State) (xs ys : List Call) → Fits s → AreCausal (at s s.kept) xs ys → AreCausal (load_of s) (steps_for s.kept ++ xs) (steps_for s.kept ++ ys)
+pub behind : (s : State) (xs ys : List MachineCall) → Fits s → AreCausal (at s s.kept) xs ys → AreCausal (load_of s) (steps_for s.kept ++ xs) (steps_for s.kept ++ ys)
 behind s xs ys f h = prefixed (load_of s) (steps_for s.kept) xs ys (subst (λ z. AreCausal z xs ys) (sym (reach s f)) h)
 
 -- a call that is refused
-pub one_refused : (s : State) (call : Call) → Fits s → called (at s s.kept) call ≡ at s s.kept → AreCausal (load_of s) (steps_for s.kept ++ call ∷ []) (steps_for s.kept)
+pub one_refused : (s : State) (call : MachineCall) → Fits s → called (at s s.kept) call ≡ at s s.kept → AreCausal (load_of s) (steps_for s.kept ++ call ∷ []) (steps_for s.kept)
 one_refused s call f q = subst (λ z. AreCausal (load_of s) (steps_for s.kept ++ call ∷ []) z) (append-nil (steps_for s.kept)) (behind s (call ∷ []) [] f (refused q))
 
 pub one_undo : (s : State) (xs : List Event) (e : Event) → s.kept ≡ xs ++ e ∷ [] → Fits s → AreCausal (load_of s) (steps_for s.kept ++ undo ∷ []) (steps_for xs)
@@ -149,7 +150,7 @@ one_undo s xs e is f =
     (behind (with_kept s xs) (step (actor_of e) ∷ undo ∷ []) [] g (cancelled {n = actor_of e} ok)))
 
 -- undos from a list on
-pub ends_at : (s : State) (ws : List Call) → Fits s → ended (load_of s) (steps_for s.kept ++ ws) ≡ ended (at s s.kept) ws
+pub ends_at : (s : State) (ws : List MachineCall) → Fits s → ended (load_of s) (steps_for s.kept ++ ws) ≡ ended (at s s.kept) ws
 ends_at s ws f = ap (λ (z : State). z.kept) (called_append (load_of s) (steps_for s.kept) ws) ∙ ap (λ (z : State). ended z ws) (reach s f)
 
 undo_all : (s : State) (xs ys : List Event) (m : ℕ) → length ys ≡ m → s.kept ≡ xs ++ ys → called_all s (undos m) ≡ with_kept s xs
@@ -207,10 +208,10 @@ events_join [] ys = refl
 events_join (x ∷ xs) ys = ap (λ z. x.event ∷ z) (events_join xs ys)
 
 -- from the list with what is taken at its end, the rollback is undos
-parted_undos : (s z : State) (n k : ℕ) (left gone : List Event) → IsSome (replay s.load s.kept) → AreAlike s z → z.kept ≡ left ++ gone → (rewound s n k).kept ≡ left → AreAlike (rewound z n k) (called_all z (undos (length gone)))
+parted_undos : (s z : State) (n k : ℕ) (left gone : List Event) → IsSome (replay s.load s.kept) → AreEquivalentStates s z → z.kept ≡ left ++ gone → (rewound s n k).kept ≡ left → AreEquivalentStates (rewound z n k) (called_all z (undos (length gone)))
 parted_undos s z n k left gone some a is q =
-    let b : AreAlike (rewound s n k) (rewound z n k) = (same_rewind s z n k some a).1 in
-    subst (λ x. AreAlike (rewound z n k) x) (sym (undo_all z left gone (length gone) refl is))
+    let b : AreEquivalentStates (rewound s n k) (rewound z n k) = (same_rewind s z n k some a).1 in
+    subst (λ x. AreEquivalentStates (rewound z n k) x) (sym (undo_all z left gone (length gone) refl is))
     (record {
       load = refl;
       limit = refl;
@@ -227,7 +228,7 @@ one_parted s n k left gone f l e q =
     let room : length s.kept ≤ s.limit = f.room in
     let count : length s.kept < 2 ^ 64 = f.count in
     let g : Fits (with_kept s ys) = record { some = subst IsSome (replay_equivalent s.load s.kept ys e) f.some; room = omega (arith, room, same_length); count = omega (arith, count, same_length) } in
-    let here : AreAlike (counting s (length ys)) (at s ys) = record { load = refl; limit = refl; made = refl; kept = e } in
+    let here : AreEquivalentStates (counting s (length ys)) (at s ys) = record { load = refl; limit = refl; made = refl; kept = e } in
     let undone_to : AreCausal (at s ys) (rewind n k ∷ []) (undos (length gone)) =
     rolled (length gone) (parted_undos (counting s (length ys)) (at s ys) n k left gone f.some here refl q) in
     let a : length (steps_for s.kept ++ rewind n k ∷ []) ≡ length s.kept + 1 = length_push (steps_for s.kept) (rewind n k) ∙ ap (λ (z : ℕ). z + 1) (steps_length s.kept) in

@@ -13,7 +13,7 @@ use Rattle.ga_grid.specs.Chip.{node_at, record_at}
 use Rattle.ga_event.specs.Told.{steps_of}
 use Rattle.ga_event.specs.Undo.{CanRestore}
 use Rattle.ga_journal.specs.Histories.{Past, Book, history}
-use Rattle.ga_journal.specs.Walked.{walked, CanWalk, over, among, before_entry, overwritten}
+use Rattle.ga_journal.specs.Walked.{walked, CanWalk, held_before, among, before_entry, overwritten}
 use Rattle.ga_journal.proofs.Overwritten.{overwritten_within}
 use Rattle.ga_journal.proofs.Walks.{walked_one, can_one}
 use Rattle.ga_lab.specs.Machine.{chip_of, earlier}
@@ -47,7 +47,7 @@ left_ram ram cell other old value later true is rest h = absurd (none-some old (
 left_ram ram cell other old value later false is rest h = get_or-set_other ram other cell old _ (eqb-false cell other is) ∙ rest h
 
 holds_old : (what place : Place) (old value : ℕ) (node : NodeState) (later : Option ℕ) → IsInRange place old → length node.ram ≡ 64
-    → (later ≡ Some value → Holds (record_of node) what value) → over what place old later ≡ Some value → Holds (record_of (with_value node place old)) what value
+    → (later ≡ Some value → Holds (record_of node) what value) → held_before what place old later ≡ Some value → Holds (record_of (with_value node place old)) what value
 unfolding record_of
 holds_old P P old value node later fit size rest h = same_some h
 holds_old P place old value node later fit size rest h = rest h
@@ -63,7 +63,7 @@ holds_old (Ram cell) place old value node later fit size rest h = rest h
 holds_old what place old value node later fit size rest h = tt
 
 holds_left : (what place : Place) (old value : ℕ) (node : NodeState) (later : Option ℕ)
-    → (later ≡ None → Holds (record_of node) what value) → over what place old later ≡ None → Holds (record_of (with_value node place old)) what value
+    → (later ≡ None → Holds (record_of node) what value) → held_before what place old later ≡ None → Holds (record_of (with_value node place old)) what value
 unfolding record_of
 holds_left P P old value node later rest h = absurd (none-some old (sym h))
 holds_left P place old value node later rest h = rest h
@@ -77,7 +77,7 @@ holds_left (Ram cell) (Ram other) old value node later rest h = left_ram node.ra
 holds_left (Ram cell) place old value node later rest h = rest h
 holds_left what place old value node later rest h = tt
 
-fits_old : (what place : Place) (old value : ℕ) (later : Option ℕ) → IsInRange place old → (later ≡ Some value → IsInRange what value) → over what place old later ≡ Some value → IsInRange what value
+fits_old : (what place : Place) (old value : ℕ) (later : Option ℕ) → IsInRange place old → (later ≡ Some value → IsInRange what value) → held_before what place old later ≡ Some value → IsInRange what value
 fits_old P P old value later fit rest h = subst (IsInRange P) (same_some h) fit
 fits_old A A old value later fit rest h = subst (IsInRange A) (same_some h) fit
 fits_old B B old value later fit rest h = subst (IsInRange B) (same_some h) fit

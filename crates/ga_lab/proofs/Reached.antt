@@ -8,7 +8,7 @@ use Rattle.ga_event.specs.Apply.{replay}
 use Rattle.ga_event.specs.Next.{next}
 use Rattle.ga_lab.specs.declared.fault.LabFault.TheVariants.{Full, Spent}
 use Rattle.ga_lab.specs.Machine.{State, first, chip_of, told_next, answer_to, with_event, unless_refused}
-use Rattle.ga_lab.specs.Calls.{Call, step, undo, rewind, called, called_all, IsReached}
+use Rattle.ga_lab.specs.Calls.{MachineCall, step, undo, rewind, called, called_all, IsReached}
 use Rattle.ga_lab.proofs.Called.{Runs, runs_some, first_runs}
 use Rattle.ga_lab.proofs.Causal.{less_of, kept_fits}
 
@@ -32,16 +32,16 @@ step_counts s (Ok e) l = two (nat_le s.limit (length s.kept)) (nat_le (2 ^ 64 - 
     two false true h = l
     two false false h = let m : s.made < 2 ^ 64 - 1 = h refl in let g : s.made + 1 < 2 ^ 64 = omega (arith, m) in g
 
-call_counts : (s : State) (call : Call) → s.made < 2 ^ 64 → (called s call).made < 2 ^ 64
+call_counts : (s : State) (call : MachineCall) → s.made < 2 ^ 64 → (called s call).made < 2 ^ 64
 call_counts s (step n) l = step_counts s (next (chip_of s) n) l
 call_counts s undo l = l
 call_counts s (rewind n k) l = l
 
-calls_count : (s : State) (calls : List Call) → s.made < 2 ^ 64 → (called_all s calls).made < 2 ^ 64
+calls_count : (s : State) (calls : List MachineCall) → s.made < 2 ^ 64 → (called_all s calls).made < 2 ^ 64
 calls_count s [] l = l
 calls_count s (call ∷ calls) l = calls_count (called s call) calls (call_counts s call l)
 
-pub made_below : (load : List NodeRecord) (limit : ℕ) (calls : List Call) → (called_all (first load limit) calls).made < 2 ^ 64
+pub made_below : (load : List NodeRecord) (limit : ℕ) (calls : List MachineCall) → (called_all (first load limit) calls).made < 2 ^ 64
 made_below load limit calls = calls_count (first load limit) calls (omega arith)
 
 pub count_reached : (s : State) → IsReached s → length s.kept < 2 ^ 64
@@ -52,6 +52,6 @@ count_reached s h = subst (λ z. length z.kept < 2 ^ 64) h.is (
     )
 
 -- what is kept fits the limit and the count
-pub fits : (load : List NodeRecord) (limit : ℕ) (calls : List Call) → (length (called_all (first load limit) calls).kept ≤ (called_all (first load limit) calls).limit)
+pub fits : (load : List NodeRecord) (limit : ℕ) (calls : List MachineCall) → (length (called_all (first load limit) calls).kept ≤ (called_all (first load limit) calls).limit)
     × (length (called_all (first load limit) calls).kept ≤ (called_all (first load limit) calls).made) × ((called_all (first load limit) calls).made < 2 ^ 64)
 fits load limit calls = let k = kept_fits load limit calls in (k.0, k.1, made_below load limit calls)

@@ -5,7 +5,8 @@ use Rattle.std.proofs.lemmas.Bool.{cases_Bool, cond-true, cond-false, both_ways}
 use Rattle.ga_event.specs.declared.event.Cause.{Cause}
 use Rattle.ga_event.specs.Apply.{Told, run, replay}
 use Rattle.ga_causal.specs.declared.chain.Link.{Link}
-use Rattle.ga_causal.specs.Dependence.{events_in, DependsOn, dependents, without, rest, place_of, rest_from, rewound_list}
+use Rattle.ga_causal.specs.Dependence.{DependsOn, dependents, without, rest, place_of, rest_from, rewound_list}
+use Rattle.ga_event.specs.Told.{events_in}
 use Rattle.ga_causal.specs.Chains.{chain_of, links_to}
 use Rattle.ga_causal.proofs.Rollbacks.{rewound_twice}
 use Rattle.ga_event.specs.declared.event.Event.{Event}

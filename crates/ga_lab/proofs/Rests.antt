@@ -2,7 +2,8 @@
 use Rattle.std.proofs.Common.{◌≡◌, ℕ, refl, ap, ◌∙◌}
 use Rattle.std.specs.Prelude.{List, Some}
 use Rattle.ga_event.specs.declared.event.Cause.{Cause}
-use Rattle.ga_causal.specs.Dependence.{events_in, dependents, rest, IsRest, place_of, rest_from}
+use Rattle.ga_causal.specs.Dependence.{dependents, rest, IsRest, place_of, rest_from}
+use Rattle.ga_event.specs.Told.{events_in}
 use Rattle.ga_causal.proofs.Exact.{dependents_exact, length-dependents}
 use Rattle.ga_causal.proofs.Places.{place_step}
 use Rattle.ga_lab.specs.Machine.{State, causes_of, rewound}

@@ -19,9 +19,9 @@ use Rattle.ga_rollback.proofs.Replays.{run_snoc}
 use Rattle.ga_lab.specs.declared.fault.LabFault.{LabFault}
 use Rattle.ga_lab.specs.declared.fault.LabFault.TheVariants.{Full, Spent}
 use Rattle.ga_lab.specs.Machine.{State, chip_of, told_next, answer_to, with_event, step_answer, unless_refused, stepped, undone}
-use Rattle.ga_lab.specs.Calls.{Call, step, undo, rewind, called, called_all, AreAlike}
+use Rattle.ga_lab.specs.Calls.{MachineCall, step, undo, rewind, called, called_all, AreEquivalentStates}
 use Rattle.ga_lab.specs.Forward.{actor_of}
-use Rattle.ga_lab.specs.Sequences.{AllNamed, HasRoom, AreCausal, itself, back, chained, before, more, onward, refused, either, cancelled, turned, rolled}
+use Rattle.ga_lab.specs.Sequences.{AllNamed, CanCountAll, AreCausal, itself, back, chained, before, more, onward, refused, either, cancelled, turned, rolled}
 use Rattle.ga_lab.proofs.Alike.{same_step, same_rewind}
 use Rattle.ga_lab.proofs.Called.{Runs, with_kept, chip_is, call_runs, calls_run, runs_some, call_load, calls_load}
 use Rattle.ga_lab.proofs.Forward.{made_is_next}
@@ -69,7 +69,7 @@ step_counted s m n l k = go (next (chip_of s) n)
         (subst (λ (z : Result Made LabFault). Counted (unless_refused s (cond (nat_le s.limit (length s.kept)) (Err Full) (Ok (told_next s e))) (with_event s (Ok e))) (unless_refused (counting s m) z (with_event (counting s m) (Ok e))) (m + 1)) (sym (counted_answer (counting s m) e k))
         (two e (nat_le s.limit (length s.kept)) (told_next s e) (told_next (counting s m) e)))
 
-call_counted : (s : State) (m : ℕ) (call : Call) → s.made < 2 ^ 64 - 1 → m < 2 ^ 64 - 1 → Counted (called s call) (called (counting s m) call) (m + 1)
+call_counted : (s : State) (m : ℕ) (call : MachineCall) → s.made < 2 ^ 64 - 1 → m < 2 ^ 64 - 1 → Counted (called s call) (called (counting s m) call) (m + 1)
 call_counted s m (step n) l k = step_counted s m n l k
 call_counted s m undo l k = record { made = m; least = omega arith; is = refl }
 call_counted s m (rewind n j) l k = record { made = m; least = omega arith; is = refl }
@@ -80,19 +80,19 @@ step_made s (Err why) (Err fault) = omega arith
 step_made s (Ok e) (Ok told) = omega arith
 step_made s (Ok e) (Err fault) = omega arith
 
-pub call_made : (s : State) (call : Call) → (called s call).made ≤ s.made + 1
+pub call_made : (s : State) (call : MachineCall) → (called s call).made ≤ s.made + 1
 call_made s (step n) = step_made s (next (chip_of s) n) (answer_to s (next (chip_of s) n))
 call_made s undo = omega arith
 call_made s (rewind n k) = omega arith
 
-pub calls_made : (s : State) (calls : List Call) → (called_all s calls).made ≤ s.made + length calls
+pub calls_made : (s : State) (calls : List MachineCall) → (called_all s calls).made ≤ s.made + length calls
 calls_made s [] = omega arith
 calls_made s (call ∷ calls) =
     let a : (called_all (called s call) calls).made ≤ (called s call).made + length calls = calls_made (called s call) calls in
     let b : (called s call).made ≤ s.made + 1 = call_made s call in
     let g : (called_all (called s call) calls).made ≤ s.made + suc (length calls) = omega (arith, a, b) in g
 
-pub calls_counted : (s : State) (m : ℕ) (calls : List Call) → s.made + length calls < 2 ^ 64 → m + length calls < 2 ^ 64 → (called_all (counting s m) calls).kept ≡ (called_all s calls).kept
+pub calls_counted : (s : State) (m : ℕ) (calls : List MachineCall) → s.made + length calls < 2 ^ 64 → m + length calls < 2 ^ 64 → (called_all (counting s m) calls).kept ≡ (called_all s calls).kept
 calls_counted s m [] l k = refl
 calls_counted s m (call ∷ calls) l k =
     let l2 : s.made + suc (length calls) < 2 ^ 64 = l in
@@ -108,42 +108,42 @@ step_limit s (Err why) (Err fault) = refl
 step_limit s (Ok e) (Ok told) = refl
 step_limit s (Ok e) (Err fault) = refl
 
-pub call_limit : (s : State) (call : Call) → (called s call).limit ≡ s.limit
+pub call_limit : (s : State) (call : MachineCall) → (called s call).limit ≡ s.limit
 call_limit s (step n) = step_limit s (next (chip_of s) n) (answer_to s (next (chip_of s) n))
 call_limit s undo = refl
 call_limit s (rewind n k) = refl
 
-pub calls_limit : (s : State) (calls : List Call) → (called_all s calls).limit ≡ s.limit
+pub calls_limit : (s : State) (calls : List MachineCall) → (called_all s calls).limit ≡ s.limit
 calls_limit s [] = refl
 calls_limit s (call ∷ calls) = calls_limit (called s call) calls ∙ call_limit s call
 
-pub called_append : (s : State) (xs ys : List Call) → called_all s (xs ++ ys) ≡ called_all (called_all s xs) ys
+pub called_append : (s : State) (xs ys : List MachineCall) → called_all s (xs ++ ys) ≡ called_all (called_all s xs) ys
 called_append s [] ys = refl
 called_append s (call ∷ xs) ys = called_append (called s call) xs ys
 
 -- calls that name what they take back, after two machines that are alike
-alike_calls : (s z : State) (calls : List Call) → AllNamed calls → Runs s → AreAlike s z → AreAlike (called_all s calls) (called_all z calls)
+alike_calls : (s z : State) (calls : List MachineCall) → AllNamed calls → Runs s → AreEquivalentStates s z → AreEquivalentStates (called_all s calls) (called_all z calls)
 alike_calls s z [] named r a = a
 alike_calls s z (step n ∷ calls) named r a = alike_calls (stepped s n) (stepped z n) calls named (call_runs s (step n) r) ((same_step s z n a).1)
 alike_calls s z (undo ∷ calls) named r a = absurd named
 alike_calls s z (rewind n k ∷ calls) named r a = alike_calls (called s (rewind n k)) (called z (rewind n k)) calls named (call_runs s (rewind n k) r) ((same_rewind s z n k (runs_some s r) a).1)
 
-abbrev pub ended : State → List Call → List Event
+abbrev pub ended : State → List MachineCall → List Event
 ended s calls = (called_all s calls).kept
 
-length_joined : (s : State) (xs zs : List Call) → HasRoom s (xs ++ zs) → (called_all s xs).made + length zs < 2 ^ 64
+length_joined : (s : State) (xs zs : List MachineCall) → CanCountAll s (xs ++ zs) → (called_all s xs).made + length zs < 2 ^ 64
 length_joined s xs zs l =
     let a : (called_all s xs).made ≤ s.made + length xs = calls_made s xs in
     let b : length (xs ++ zs) ≡ length xs + length zs = Rattle.std.proofs.Common.length-append xs zs in
     omega (arith, l, a, b)
 
 -- two ends with as much made, and then the same calls
-ends_more : (s : State) (xs ys zs : List Call) → AllNamed zs → HasRoom s (xs ++ zs) → HasRoom s (ys ++ zs) → Runs s → AreEquivalent s.load (ended s xs) (ended s ys) → AreEquivalent s.load (ended s (xs ++ zs)) (ended s (ys ++ zs))
+ends_more : (s : State) (xs ys zs : List MachineCall) → AllNamed zs → CanCountAll s (xs ++ zs) → CanCountAll s (ys ++ zs) → Runs s → AreEquivalent s.load (ended s xs) (ended s ys) → AreEquivalent s.load (ended s (xs ++ zs)) (ended s (ys ++ zs))
 ends_more s xs ys zs named l k r h =
     let a : State = called_all s xs in
     let b : State = called_all s ys in
     let la : a.load ≡ s.load = calls_load s xs in
-    let alike : AreAlike a (counting b a.made) = record {
+    let alike : AreEquivalentStates a (counting b a.made) = record {
       load = la ∙ sym (calls_load s ys);
       limit = calls_limit s xs ∙ sym (calls_limit s ys);
       made = refl;
@@ -155,7 +155,7 @@ ends_more s xs ys zs named l k r h =
     (subst (λ c. AreEquivalent c (called_all a zs).kept (called_all (counting b a.made) zs).kept) (calls_load a zs ∙ la) e))
 
 -- two ends with the same list, and then any calls
-ends_onward : (s : State) (xs ys zs : List Call) → ended s xs ≡ ended s ys → HasRoom s (xs ++ zs) → HasRoom s (ys ++ zs) → ended s (xs ++ zs) ≡ ended s (ys ++ zs)
+ends_onward : (s : State) (xs ys zs : List MachineCall) → ended s xs ≡ ended s ys → CanCountAll s (xs ++ zs) → CanCountAll s (ys ++ zs) → ended s (xs ++ zs) ≡ ended s (ys ++ zs)
 ends_onward s xs ys zs h l k =
     let a : State = called_all s xs in
     let b : State = called_all s ys in
@@ -236,7 +236,7 @@ ends_cancelled s n ok = go (next (chip_of s) n) ok
     go (Err why) k = absurd (cc)
     go (Ok e) k = two e (answer_to s (Ok e)) k
 
-pub sound : (s : State) (xs ys : List Call) → AreCausal s xs ys → Runs s → AreEquivalent s.load (ended s xs) (ended s ys)
+pub sound : (s : State) (xs ys : List MachineCall) → AreCausal s xs ys → Runs s → AreEquivalent s.load (ended s xs) (ended s ys)
 sound s xs ys itself r = same
 sound s xs ys (back h) r = equivalent-sym s.load (ended s ys) (ended s xs) (sound s ys xs h r)
 sound s xs ys (chained {ys = zs} h k) r = joined (sound s xs zs h r) (sound s zs ys k r)

@@ -28,7 +28,7 @@ use Rattle.ga_event.specs.declared.made.Made.{Made}
 use Rattle.ga_event.specs.declared.made.Made.TheVariants as made
 use Rattle.ga_event.specs.Told.{mades_of}
 use Rattle.ga_lab.specs.Machine.{State, first, chip_of, causes_of, history_of}
-use Rattle.ga_lab.specs.Calls.{Call, called_all}
+use Rattle.ga_lab.specs.Calls.{MachineCall, called_all}
 use Rattle.ga_lab.proofs.Told.{made_of, history_accounted}
 use Rattle.ga_lab.proofs.Called.{Runs, told_is, causes_is, first_runs, calls_load}
 use Rattle.ga_lab.proofs.Alike.{consistent}
@@ -194,7 +194,7 @@ account_told_back s n r none =
     ∙ ap (map (λ x. x.0)) (sym (told_back (account_told n r.told) (some_tellable (λ x. cause_touches x.0.0 n) (told_after (λ i. 0) r.told) all)))
     ∙ ap (λ z. map (λ x. x.0) (map decoded z)) (sym (ap (λ z. mades_of z n) (told_is s r) ∙ history_accounted r.told n))
 
-pub traces_tell : (load : List NodeRecord) (limit bound : ℕ) (calls others : List Call)
+pub traces_tell : (load : List NodeRecord) (limit bound : ℕ) (calls others : List MachineCall)
     → NoneLooks (causes_of (called_all (first load limit) calls))
     → ((n : ℕ) → history_of (called_all (first load limit) calls) n ≡ history_of (called_all (first load bound) others) n)
     → AreEquivalent load (called_all (first load limit) calls).kept (called_all (first load bound) others).kept × (chip_of (called_all (first load limit) calls) ≡ chip_of (called_all (first load bound) others))

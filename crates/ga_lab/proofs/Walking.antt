@@ -2,7 +2,6 @@
 use Rattle.std.proofs.Common.{◌≡◌, ℕ, zero, suc, ◌≤◌, List, [], ◌∷◌, ◌++◌, length, take, drop, refl, sym, ◌∙◌, ap, subst, arith}
 use Rattle.std.proofs.lemmas.List.{take-append-drop}
 use Rattle.ga_node.specs.Record.{NodeState}
-use Rattle.ga_node.specs.State.{restored}
 use Rattle.ga_event.specs.Undo.{CanRestore}
 use Rattle.ga_event.specs.Told.{steps_of}
 use Rattle.ga_journal.specs.Histories.{Past, Book, history}
@@ -11,10 +10,7 @@ use Rattle.ga_journal.proofs.Logs.{steps_log}
 use Rattle.ga_lab.specs.kept.Tied.{IsTied, state_of}
 use Rattle.ga_lab.proofs.Stepping.{whole_of}
 use Rattle.ga_lab.proofs.Peeking.{kept_steps}
-
-walked-append : (now : NodeState) (older newer : List Past) → walked now (older ++ newer) ≡ walked (walked now newer) older
-walked-append now [] newer = refl
-walked-append now (x ∷ xs) newer = ap (λ (z : NodeState). restored z x.saved) (walked-append now xs newer)
+use Rattle.ga_rollback.proofs.Link.{walked-append}
 
 can-append : (now : NodeState) (older newer : List Past) → CanWalk now (older ++ newer) → CanWalk (walked now newer) older
 can-append now [] newer can = tt

@@ -4,29 +4,29 @@ use Rattle.ga_grid.specs.declared.node_id.NodeId.{NodeId}
 use Rattle.ga_causal.specs.Equivalence.{AreEquivalent}
 use Rattle.ga_lab.specs.Machine.{State, first, stepped, undone, rewound}
 
-pub data Call : Type 0 where
-  step : NodeId → Call
-  undo : Call
-  rewind : ℕ → ℕ → Call
+pub data MachineCall : Type 0 where
+  step : NodeId → MachineCall
+  undo : MachineCall
+  rewind : ℕ → ℕ → MachineCall
 
 -- the machine after a call
-abbrev pub called : State → Call → State
+abbrev pub called : State → MachineCall → State
 called s (step n) = stepped s n
 called s undo = undone s
 called s (rewind n k) = rewound s n k
 
 -- and after these, one after another
-abbrev pub called_all : State → List Call → State
+abbrev pub called_all : State → List MachineCall → State
 called_all s [] = s
 called_all s (call ∷ calls) = called_all (called s call) calls
 
 -- calls lead to the machine from its load
 pub record IsReached (s : State) : Type 0 where
-  pub calls : List Call
+  pub calls : List MachineCall
   pub is : called_all (first s.load s.limit) calls ≡ s
 
 -- one keeps what the other keeps, but for the order of independent events
-pub record AreAlike (s z : State) : Type 0 where
+pub record AreEquivalentStates (s z : State) : Type 0 where
   pub load : s.load ≡ z.load
   pub limit : s.limit ≡ z.limit
   pub made : s.made ≡ z.made

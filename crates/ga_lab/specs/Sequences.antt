@@ -10,54 +10,54 @@ use Rattle.ga_event.specs.declared.event.Cause.{Cause}
 use Rattle.ga_event.specs.Apply.{refusal_of, cause_of}
 use Rattle.ga_causal.specs.Dependence.{dependents, without, NoneLooks, place_of}
 use Rattle.ga_causal.specs.Equivalence.{AreApart}
-use Rattle.ga_lab.specs.Calls.{Call, step, undo, rewind, called, called_all, AreAlike}
+use Rattle.ga_lab.specs.Calls.{MachineCall, step, undo, rewind, called, called_all, AreEquivalentStates}
 use Rattle.ga_lab.specs.Forward.{actor_of}
 use Rattle.ga_lab.specs.Machine.{State, chip_of, causes_of, step_answer}
 
 -- no call is an undo
-abbrev pub AllNamed : List Call → Type 0
+abbrev pub AllNamed : List MachineCall → Type 0
 AllNamed [] = Unit {0}
 AllNamed (step n ∷ calls) = AllNamed calls
 AllNamed (undo ∷ calls) = ⊥
 AllNamed (rewind n k ∷ calls) = AllNamed calls
 
 -- so many undos
-abbrev pub undos : ℕ → List Call
+abbrev pub undos : ℕ → List MachineCall
 undos zero = []
 undos (suc most) = undo ∷ undos most
 
 -- more events can be counted than there are calls
-abbrev pub HasRoom : State → List Call → Type 0
-HasRoom s calls = s.made + length calls < 2 ^ 64
+abbrev pub CanCountAll : State → List MachineCall → Type 0
+CanCountAll s calls = s.made + length calls < 2 ^ 64
 
 -- the event can be made
-abbrev pub CanBe : State → Event → Type 0
-CanBe s event = refusal_of (chip_of s) event ≡ None
+abbrev pub CanBeMade : State → Event → Type 0
+CanBeMade s event = refusal_of (chip_of s) event ≡ None
 
 -- From a machine on, the one sequence is made from the other by these rules.
-pub data AreCausal : State → List Call → List Call → Type 0 where
-  itself : {s : State} {xs : List Call} → AreCausal s xs xs
-  back : {s : State} {xs ys : List Call} → AreCausal s xs ys → AreCausal s ys xs
-  chained : {s : State} {xs ys zs : List Call} → AreCausal s xs ys → AreCausal s ys zs → AreCausal s xs zs
+pub data AreCausal : State → List MachineCall → List MachineCall → Type 0 where
+  itself : {s : State} {xs : List MachineCall} → AreCausal s xs xs
+  back : {s : State} {xs ys : List MachineCall} → AreCausal s xs ys → AreCausal s ys xs
+  chained : {s : State} {xs ys zs : List MachineCall} → AreCausal s xs ys → AreCausal s ys zs → AreCausal s xs zs
   -- the same call before both
-  before : {s : State} {call : Call} {xs ys : List Call} → AreCausal (called s call) xs ys → AreCausal s (call ∷ xs) (call ∷ ys)
+  before : {s : State} {call : MachineCall} {xs ys : List MachineCall} → AreCausal (called s call) xs ys → AreCausal s (call ∷ xs) (call ∷ ys)
   -- the same calls after both
-  more : {s : State} (xs ys zs : List Call) → AllNamed zs → HasRoom s (xs ++ zs) → HasRoom s (ys ++ zs)
+  more : {s : State} (xs ys zs : List MachineCall) → AllNamed zs → CanCountAll s (xs ++ zs) → CanCountAll s (ys ++ zs)
       → AreCausal s xs ys → AreCausal s (xs ++ zs) (ys ++ zs)
-  onward : {s : State} (xs ys zs : List Call) → (called_all s xs).kept ≡ (called_all s ys).kept
-      → HasRoom s (xs ++ zs) → HasRoom s (ys ++ zs) → AreCausal s xs ys → AreCausal s (xs ++ zs) (ys ++ zs)
+  onward : {s : State} (xs ys zs : List MachineCall) → (called_all s xs).kept ≡ (called_all s ys).kept
+      → CanCountAll s (xs ++ zs) → CanCountAll s (ys ++ zs) → AreCausal s xs ys → AreCausal s (xs ++ zs) (ys ++ zs)
   -- a refused call is nothing
-  refused : {s : State} {call : Call} → called s call ≡ s → AreCausal s (call ∷ []) []
+  refused : {s : State} {call : MachineCall} → called s call ≡ s → AreCausal s (call ∷ []) []
   -- a pass is made by a step of either of its nodes
   either : {s : State} {n m : NodeId} → called s (step n) ≡ called s (step m) → AreCausal s (step n ∷ []) (step m ∷ [])
   -- a step and its undo are nothing
   cancelled : {s : State} {n : NodeId} → IsOk (step_answer s n) → AreCausal s (step n ∷ undo ∷ []) []
   -- two independent steps swap
-  turned : {s : State} {e f : Event} → length s.kept + 1 < s.limit → s.made + 1 < 2 ^ 64 - 1 → CanBe s e → CanBe s f
+  turned : {s : State} {e f : Event} → length s.kept + 1 < s.limit → s.made + 1 < 2 ^ 64 - 1 → CanBeMade s e → CanBeMade s f
       → AreApart (cause_of (chip_of s) e) (cause_of (chip_of s) f)
       → AreCausal s (step (actor_of e) ∷ step (actor_of f) ∷ []) (step (actor_of f) ∷ step (actor_of e) ∷ [])
   -- a rollback is undos, where these lead to the same but for the order of independent events
-  rolled : {s : State} {n k : ℕ} (most : ℕ) → AreAlike (called s (rewind n k)) (called_all s (undos most))
+  rolled : {s : State} {n k : ℕ} (most : ℕ) → AreEquivalentStates (called s (rewind n k)) (called_all s (undos most))
       → AreCausal s (rewind n k ∷ []) (undos most)
 
 -- the events that a rollback to the step at this place takes
@@ -66,7 +66,7 @@ taken_from events None = []
 taken_from events (Some place) = without (map not (dependents events place)) events
 
 -- no rollback among the calls takes a look
-abbrev pub TakesNoLook : State → List Call → Type 0
+abbrev pub TakesNoLook : State → List MachineCall → Type 0
 TakesNoLook s [] = Unit {0}
 TakesNoLook s (step n ∷ calls) = TakesNoLook (called s (step n)) calls
 TakesNoLook s (undo ∷ calls) = TakesNoLook (called s undo) calls

@@ -14,20 +14,21 @@ ghost use Rattle.ga_lab.specs.Machine.{State, first, chip_of, told_of_kept, caus
 ghost use Rattle.ga_lab.specs.Forward.{actor_of, stepped_all};
 ghost use Rattle.ga_grid.specs.Chip.{record_at};
 ghost use Rattle.ga_node.specs.Record.{NodeRecord};
-ghost use Rattle.ga_lab.specs.Calls.{Call, called_all, IsReached, AreAlike};
+ghost use Rattle.ga_lab.specs.Calls.{MachineCall, called_all, IsReached, AreEquivalentStates};
 ghost use Rattle.ga_lab.specs.Sequences.{AreCausal, TakesNoLook, taken_from};
 ghost use Rattle.ga_causal.specs.Equivalence.{AreEquivalent, account};
 ghost use Rattle.ga_causal.specs.Words.{words_read};
-ghost use Rattle.ga_causal.specs.Dependence.{events_in, NoneLooks, place_of};
+ghost use Rattle.ga_causal.specs.Dependence.{NoneLooks, place_of};
+ghost use Rattle.ga_event.specs.Told.{events_in};
 ghost use Rattle.ga_causal.specs.declared.chain.Link.{Link};
 ghost use Rattle.ga_causal.specs.Chains.{IsChain};
-ghost use Rattle.ga_causal.specs.Steps.{named};
+ghost use Rattle.ga_causal.specs.Steps.{links_by_events};
 
 use ga_event::laws;
 
 /// Where each node of the load has a wait that fits its slot and its stop, so has each node of the machine's chip, whatever is
 /// kept.
-pub fn stays_steady()
+pub fn machine_stays_steady()
     ensures { (s : State) → AreSteady s.load → AreSteady (chip_of s) }
 {
     laws::stays_steady();
@@ -41,14 +42,14 @@ pub fn told_later()
 
 /// Whatever is called, the kept events can be replayed from the load.
 pub fn reached()
-    ensures { (load : List NodeRecord) (limit : ℕ) (calls : List Call) →
+    ensures { (load : List NodeRecord) (limit : ℕ) (calls : List MachineCall) →
         let s = called_all (first load limit) calls in
         (s.load ≡ load) × IsSome (replay s.load s.kept) }
 {}
 
 /// Whatever is called, no more events are kept than the limit, nor than were made, and fewer than 2^64 were made.
 pub fn kept_fits()
-    ensures { (load : List NodeRecord) (limit : ℕ) (calls : List Call) →
+    ensures { (load : List NodeRecord) (limit : ℕ) (calls : List MachineCall) →
         let s = called_all (first load limit) calls in
         (length s.kept ≤ s.limit) × (length s.kept ≤ s.made) × (s.made < 2 ^ 64) }
 {}
@@ -70,7 +71,7 @@ pub fn undone_rewound()
 /// one load, if each node has the same account in both, then they keep the same events but for the order of independent ones, their
 /// chips are the same, and so is each history. `order_unseen` says the other direction.
 pub fn same_accounts()
-    ensures { (load : List NodeRecord) (limit bound : ℕ) (calls others : List Call) →
+    ensures { (load : List NodeRecord) (limit bound : ℕ) (calls others : List MachineCall) →
         let s = called_all (first load limit) calls in
         let z = called_all (first load bound) others in
         ((n : ℕ) → account n (causes_of s) ≡ account n (causes_of z)) →
@@ -83,9 +84,9 @@ pub fn same_accounts()
 /// look, since what a neighbour did after the look stays, and then the rollback is no undos (`examples/look_again`). It goes over as
 /// many steps and undos again, which have to be counted: so less than half of 2^64 calls.
 pub fn causal_calls()
-    ensures ends { (s : State) (calls others : List Call) → IsReached s → AreCausal s calls others →
+    ensures ends { (s : State) (calls others : List MachineCall) → IsReached s → AreCausal s calls others →
         AreEquivalent s.load (called_all s calls).kept (called_all s others).kept }
-    ensures related { (load : List NodeRecord) (limit : ℕ) (calls others : List Call) →
+    ensures related { (load : List NodeRecord) (limit : ℕ) (calls others : List MachineCall) →
         length calls + length calls < 2 ^ 64 → length others + length others < 2 ^ 64 →
         TakesNoLook (first load limit) calls → TakesNoLook (first load limit) others →
         AreEquivalent load (called_all (first load limit) calls).kept (called_all (first load limit) others).kept →
@@ -95,14 +96,14 @@ pub fn causal_calls()
 /// The order of independent events shows in no chip, in no account or history, and in no answer to a step or a rollback, nor later.
 /// (An undo shows it: it drops the newest event.)
 pub fn order_unseen()
-    ensures chip { (s z : State) → AreAlike s z → chip_of s ≡ chip_of z }
-    ensures account { (s z : State) (n : ℕ) → IsReached s → AreAlike s z →
+    ensures chip { (s z : State) → AreEquivalentStates s z → chip_of s ≡ chip_of z }
+    ensures account { (s z : State) (n : ℕ) → IsReached s → AreEquivalentStates s z →
         account n (causes_of s) ≡ account n (causes_of z) }
-    ensures history { (s z : State) (n : ℕ) → IsReached s → AreAlike s z → history_of s n ≡ history_of z n }
-    ensures step { (s z : State) (n : NodeId) → AreAlike s z →
-        (step_answer s n ≡ step_answer z n) × AreAlike (stepped s n) (stepped z n) }
-    ensures rollback { (s z : State) (n k : ℕ) → IsReached s → AreAlike s z →
-        (rewind_answer s n k ≡ rewind_answer z n k) × AreAlike (rewound s n k) (rewound z n k) }
+    ensures history { (s z : State) (n : ℕ) → IsReached s → AreEquivalentStates s z → history_of s n ≡ history_of z n }
+    ensures step { (s z : State) (n : NodeId) → AreEquivalentStates s z →
+        (step_answer s n ≡ step_answer z n) × AreEquivalentStates (stepped s n) (stepped z n) }
+    ensures rollback { (s z : State) (n k : ℕ) → IsReached s → AreEquivalentStates s z →
+        (rewind_answer s n k ≡ rewind_answer z n k) × AreEquivalentStates (rewound s n k) (rewound z n k) }
 {}
 
 /// `why` finds a chain in both of two machines that differ by the order of independent events, or in neither, and each chain that it
@@ -110,18 +111,18 @@ pub fn order_unseen()
 /// need not be the one that is told there: where several of the events on which a step depends directly lead back to the first, the
 /// one that was made first is told.)
 pub fn why_unseen()
-    ensures none { (s z : State) (n k m j : ℕ) → IsReached s → AreAlike s z →
+    ensures none { (s z : State) (n k m j : ℕ) → IsReached s → AreEquivalentStates s z →
         ((why_answer s n k m j ≡ Ok None) ↔ (why_answer z n k m j ≡ Ok None)) }
-    ensures chain { (s z : State) (n k m j : ℕ) (links : List Link) → IsReached s → AreAlike s z →
+    ensures chain { (s z : State) (n k m j : ℕ) (links : List Link) → IsReached s → AreEquivalentStates s z →
         why_answer s n k m j ≡ Ok (Some links) →
-        (chain : List Link) × IsChain (causes_of z) chain × (named (causes_of s) links ≡ named (causes_of z) chain) }
+        (chain : List Link) × IsChain (causes_of z) chain × (links_by_events (causes_of s) links ≡ links_by_events (causes_of z) chain) }
 {}
 
 /// Where no kept event of one of two machines looks, the histories of the nodes, which are what `trace` prints, tell the kept events
 /// but for the order of independent ones, and with them the chip: another with the same histories has no look either. (Where one
 /// looks they don't: it reads another word where a neighbour made a step before it, and is told alike.)
 pub fn traces_tell()
-    ensures { (load : List NodeRecord) (limit bound : ℕ) (calls others : List Call) →
+    ensures { (load : List NodeRecord) (limit bound : ℕ) (calls others : List MachineCall) →
         let s = called_all (first load limit) calls in
         let z = called_all (first load bound) others in
         NoneLooks (causes_of s) → ((n : ℕ) → history_of s n ≡ history_of z n) →
@@ -134,12 +135,12 @@ pub fn traces_tell()
 /// looks differ, or were not told, may differ (`traces_tell`). The order of the kept events isn't told: a look may have read a word
 /// before or after a step of a neighbour that shows no wait, and a rollback of that step takes it or leaves it.
 pub fn words_tell()
-    ensures node { (load : List NodeRecord) (limit bound : ℕ) (calls others : List Call) (n : ℕ) →
+    ensures node { (load : List NodeRecord) (limit bound : ℕ) (calls others : List MachineCall) (n : ℕ) →
         let s = called_all (first load limit) calls in
         let z = called_all (first load bound) others in
         history_of s n ≡ history_of z n → words_read n load s.kept ≡ words_read n load z.kept →
         record_at (chip_of s) n ≡ record_at (chip_of z) n }
-    ensures chip { (load : List NodeRecord) (limit bound : ℕ) (calls others : List Call) →
+    ensures chip { (load : List NodeRecord) (limit bound : ℕ) (calls others : List MachineCall) →
         let s = called_all (first load limit) calls in
         let z = called_all (first load bound) others in
         ((n : ℕ) → history_of s n ≡ history_of z n) → ((n : ℕ) → words_read n load s.kept ≡ words_read n load z.kept) →

@@ -18,7 +18,7 @@ use Rattle.ga_node.specs.declared.kind.Kind.TheVariants as kind
 use Rattle.ga_node.specs.Io.{io_word}
 use Rattle.ga_node.specs.Record.{NodeRecord, HasSizes}
 use Rattle.ga_node.specs.Changes.{Change, after_changes}
-use Rattle.ga_node.specs.Table.{Access, Plain, Reads, Writes, named, found, followed, carried_out, does, fetches, reads_io_in, reads_io, due_of, done_by, own_event, own, is_io, looks_by, looks}
+use Rattle.ga_node.specs.Table.{Access, Plain, Reads, Writes, with_kind, found, followed, carried_out, does, fetches, reads_io_in, reads_io, due_of, done_by, own_event, own, is_io, looks_by, looks}
 
 found_blind : (target : Target) (reader : Reader) (seen other : Seen) (n : NodeRecord) → is_io target ≡ false → found target reader seen n ≡ found target reader other n
 unfolding found
@@ -34,8 +34,8 @@ access_blind reader (Reads address more) seen other n blind = ap (λ found. foll
 access_blind reader (Writes address more) seen other n blind = refl
 
 done_blind : (due : Due) (seen other : Seen) (n : NodeRecord) → looks_by due n ≡ false → done_by due seen n ≡ done_by due other n
-done_blind due.Fetch seen other n blind = ap (named kind.Fetch) (access_blind Instruction (fetches n) seen other n blind)
-done_blind (due.Run op) seen other n blind = ap (named (kind.Run (code_of op))) (access_blind Stack (does op n) seen other n blind)
+done_blind due.Fetch seen other n blind = ap (with_kind kind.Fetch) (access_blind Instruction (fetches n) seen other n blind)
+done_blind (due.Run op) seen other n blind = ap (with_kind (kind.Run (code_of op))) (access_blind Stack (does op n) seen other n blind)
 
 pub event_blind : (seen other : Seen) (n : NodeRecord) → looks n ≡ false → own_event seen n ≡ own_event other n
 unfolding own_event looks
@@ -101,7 +101,7 @@ op_tells op.AStore n sizes = tt
 
 read_tells : (target : Target) (reader : Reader) (more : ℕ → List Change) (k : Kind) (seen other : Seen) (n : NodeRecord) → is_io target ≡ true
     → ((word else_word : ℕ) → after_changes (more word) n ≡ after_changes (more else_word) n → word ≡ else_word)
-    → after_changes (named k (followed (found target reader seen n) more)).1 n ≡ after_changes (named k (followed (found target reader other n) more)).1 n → io_word seen ≡ io_word other
+    → after_changes (with_kind k (followed (found target reader seen n) more)).1 n ≡ after_changes (with_kind k (followed (found target reader other n) more)).1 n → io_word seen ≡ io_word other
 unfolding found followed
 read_tells (Ram k) reader more kind seen other n look tells same = cc
 read_tells (Rom k) reader more kind seen other n look tells same = cc
@@ -110,7 +110,7 @@ read_tells (Ports sides) reader more kind seen other n look tells same = cc
 read_tells Bad reader more kind seen other n look tells same = cc
 
 access_tells : (reader : Reader) (access : Access) (k : Kind) (seen other : Seen) (n : NodeRecord) → reads_io_in access ≡ true → IsTelling access n
-    → after_changes (named k (carried_out reader access seen n)).1 n ≡ after_changes (named k (carried_out reader access other n)).1 n → io_word seen ≡ io_word other
+    → after_changes (with_kind k (carried_out reader access seen n)).1 n ≡ after_changes (with_kind k (carried_out reader access other n)).1 n → io_word seen ≡ io_word other
 access_tells reader (Plain changes) kind seen other n look tells same = cc
 access_tells reader (Reads address more) kind seen other n look tells same = read_tells (classified address) reader more kind seen other n look tells same
 access_tells reader (Writes address more) kind seen other n look tells same = cc

@@ -7,9 +7,9 @@ use Rattle.ga_ports.specs.declared.address.Target.TheVariants.{Ram, Rom, Io, Por
 use Rattle.ga_node.specs.Record.{NodeState, NodeRecord, record_of}
 use Rattle.ga_node.specs.State.{restored, AreFit}
 use Rattle.ga_node.specs.Changes.{Change, SetRam, SetIo, after_changes}
-use Rattle.ga_node.specs.Saving.{written, IsOnce, Overwrites}
+use Rattle.ga_node.specs.Saving.{written_places, IsOnce, Overwrites}
 use Rattle.ga_node.specs.kept.Saving.{IsMade, IsDone, IsEnded, Saves}
-use Rattle.ga_node.specs.Table.{t, stored, followed, named, fetched, effect, due_of, done_by, own_event, own}
+use Rattle.ga_node.specs.Table.{t, stored, followed, with_kind, fetched, effect, due_of, done_by, own_event, own}
 use Rattle.ga_node.specs.kept.Table.{kind_of}
 use Rattle.ga_node.specs.declared.place.Place.{Place}
 use Rattle.ga_node.specs.declared.seen.Seen.{Seen}
@@ -36,7 +36,7 @@ done_followed outcome more given old new saved is whole = subst (λ o. IsDone (f
 pub done_stored : (target : Target) (n : NodeRecord) (more : List Change) (old mid new : NodeState) (first saved : List (Place × ℕ))
     → IsDone (stored target n) old mid first → Saves more mid first new saved → record_of new ≡ after_changes more (record_of mid)
     → ((k w : ℕ) → AreBeside (SetRam k w ∷ []) more) → ((w : ℕ) → AreBeside (SetIo w ∷ []) more) → AreBeside [] more
-    → ((k w : ℕ) → IsOnce (written (SetRam k w ∷ more) old)) → ((w : ℕ) → IsOnce (written (SetIo w ∷ more) old)) → IsOnce (written more old)
+    → ((k w : ℕ) → IsOnce (written_places (SetRam k w ∷ more) old)) → ((w : ℕ) → IsOnce (written_places (SetIo w ∷ more) old)) → IsOnce (written_places more old)
     → IsDone (followed (stored target n) (λ changes. changes ++ more)) old new saved
 unfolding stored followed
 done_stored (Ram k) n more old mid new first saved done saves later ram io rom once_ram once_io once =
@@ -54,18 +54,18 @@ pub record IsNamed (kind : Kind) (event : Kind × List Change) (old new : NodeSt
   pub whole : IsMade event.1 old new saved
 
 pub is_named : (kind : Kind) (outcome : Result (List Change) (Kind × List Change)) (done : Result (Unit {0}) Kind) (old new : NodeState) (saved : List (Place × ℕ))
-    → OnOk done (IsDone outcome old new saved) → IfErr done (λ other. IsEnded outcome other old new saved) → IsNamed (kind_of kind done) (named kind outcome) old new saved
+    → OnOk done (IsDone outcome old new saved) → IfErr done (λ other. IsEnded outcome other old new saved) → IsNamed (kind_of kind done) (with_kind kind outcome) old new saved
 is_named kind (Ok changes) (Ok done) old new saved ok err = record { is = refl; whole = ok }
 is_named kind (Err event) (Ok done) old new saved ok err = absurd ok
 is_named kind (Ok changes) (Err other) old new saved ok err = absurd err
 is_named kind (Err event) (Err other) old new saved ok err = record { is = sym err.0; whole = err.1 }
 
-pub own_fetched : (seen : Seen) (n : NodeRecord) → n.slot ≡ 4 → own_event seen n ≡ named kind.Fetch (fetched seen n)
+pub own_fetched : (seen : Seen) (n : NodeRecord) → n.slot ≡ 4 → own_event seen n ≡ with_kind kind.Fetch (fetched seen n)
 unfolding own_event
 own_fetched seen n is =
     ap (λ (b : Bool). done_by (cond b due.Fetch (due.Run (opcode n.i n.slot))) seen n) (eq-eqb n.slot 4 is)
 
-pub own_ran : (seen : Seen) (n : NodeRecord) → n.slot ≢ 4 → own_event seen n ≡ named (kind.Run (code_of (opcode n.i n.slot))) (effect (opcode n.i n.slot) seen n)
+pub own_ran : (seen : Seen) (n : NodeRecord) → n.slot ≢ 4 → own_event seen n ≡ with_kind (kind.Run (code_of (opcode n.i n.slot))) (effect (opcode n.i n.slot) seen n)
 unfolding own_event
 own_ran seen n other =
     ap (λ (b : Bool). done_by (cond b due.Fetch (due.Run (opcode n.i n.slot))) seen n) (ne_eqb n.slot 4 other)

@@ -11,7 +11,7 @@ use Rattle.ga_ports.specs.declared.address.Target.{Target}
 use Rattle.ga_ports.specs.declared.address.Target.TheVariants.{Ram, Rom, Io, Ports, Bad}
 use Rattle.ga_node.specs.Record.{NodeRecord}
 use Rattle.ga_node.specs.Changes.{Change, PushData, PopData, SetTop, PopTo, PushReturn, PopReturn, SetTopReturn, SetP, SetA, SetB, SetI, SetIo, SetCarry, SetRam, GoOn, Skip, StartAgain, SetWait, SetStop, changed, after_changes}
-use Rattle.ga_node.specs.Table.{t, r, found, stored, followed, effect, fetched, named, posts, halts, is_extended, own_event, own, refused_by, refusal, sent, taken, taking}
+use Rattle.ga_node.specs.Table.{t, r, found, stored, followed, effect, fetched, with_kind, posts, halts, is_extended, own_event, own, refused_by, refusal, sent, taken, taking}
 use Rattle.ga_node.specs.Steady.{FitsWait, IsSteady}
 use Rattle.ga_node.specs.declared.seen.Seen.{Seen}
 use Rattle.ga_node.specs.declared.wait.Wait.{Wait}
@@ -138,7 +138,7 @@ effect_lands op.BStore seen n other = (tt, (tt, (tt, tt)))
 effect_lands op.AStore seen n other = (tt, (tt, (tt, tt)))
 
 named_steady : (n : NodeRecord) (kind : Kind) (outcome : Result (List Change) (Kind × List Change)) → n.wait ≡ wait.Nothing → n.stop ≡ 0 → Lands n.slot outcome
-    → IsSteady (after_changes (named kind outcome).1 n)
+    → IsSteady (after_changes (with_kind kind outcome).1 n)
 named_steady n kind (Ok changes) idle going plain = steady_without (after_changes changes n) (after_plain changes n plain ∙ idle)
 named_steady n kind (Err event) idle going (inl (w, is, fits)) = subst (λ changes. IsSteady (after_changes changes n)) (sym is) (subst (λ stop. FitsWait w n.slot stop) (sym going) fits)
 named_steady n kind (Err event) idle going (inr (code, is)) =

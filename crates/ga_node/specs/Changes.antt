@@ -33,7 +33,7 @@ pub data Change : Type 0 where
   SetWait : Wait → Change
   SetStop : ℕ → Change
 
--- the node after_changes a change
+-- the node after a change
 abbrev pub changed : Change → NodeRecord → NodeRecord
 changed (PushData word) n = record n { d = pushed word n.d }
 changed PopData n = record n { d = popped_data n.d }
@@ -55,7 +55,7 @@ changed StartAgain n = record n { slot = 0 }
 changed (SetWait wait) n = record n { wait = wait }
 changed (SetStop code) n = record n { stop = code }
 
--- the node after_changes some changes, the first of them first
+-- the node after some changes, the first of them first
 abbrev pub after_changes : List Change → NodeRecord → NodeRecord
 after_changes [] n = n
 after_changes (change ∷ rest) n = after_changes rest (changed change n)

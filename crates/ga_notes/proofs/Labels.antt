@@ -6,7 +6,7 @@ use Rattle.std.proofs.lemmas.List.{at_drop_more, at_drop_all}
 use Rattle.ga_source.specs.declared.item.Asked.{Asked}
 use Rattle.ga_source.specs.declared.item.Program.{Program}
 use Rattle.ga_source.specs.declared.item.Request.TheVariants.{Mark}
-use Rattle.ga_notes.specs.Source.{label_cell, marked_by, last_marked, nearest, label_before}
+use Rattle.ga_notes.specs.Source.{label_cell, marked_by, last_marked, nearest_found, label_before}
 use Rattle.ga_notes.specs.kept.Marking.{label_at, IsMarked}
 
 -- ---- first choices
@@ -61,39 +61,39 @@ one_marked program labels label at cell is within = elim (cases_eq cell at) [
 -- ---- the nearest one
 
 -- none is at a place
-pub nearest_less : (found : ℕ → Option ℕ) (first k : ℕ) → 0 < k → found (first + k) ≡ None → nearest found first (k - 1) ≡ nearest found first k
-unfolding nearest
+pub nearest_less : (found : ℕ → Option ℕ) (first k : ℕ) → 0 < k → found (first + k) ≡ None → nearest_found found first (k - 1) ≡ nearest_found found first k
+unfolding nearest_found
 nearest_less found first zero some none = absurd (omega arith)
 nearest_less found first (suc k) some none =
     let e : suc k - 1 ≡ k = omega arith in
-    ap (nearest found first) e ∙ sym (ap (λ (one : Option ℕ). option_or one (nearest found first k)) none)
+    ap (nearest_found found first) e ∙ sym (ap (λ (one : Option ℕ). option_or one (nearest_found found first k)) none)
 
 -- one is
 or_here : (one other : Option ℕ) → is_some one ≡ true → one ≡ option_or one other
 or_here None other some = absurd (true≢false (sym some))
 or_here (Some x) other some = refl
 
-pub nearest_here : (found : ℕ → Option ℕ) (first k : ℕ) → is_some (found (first + k)) ≡ true → found (first + k) ≡ nearest found first k
-unfolding nearest
+pub nearest_here : (found : ℕ → Option ℕ) (first k : ℕ) → is_some (found (first + k)) ≡ true → found (first + k) ≡ nearest_found found first k
+unfolding nearest_found
 nearest_here found first zero some = ap found (add-zero first)
-nearest_here found first (suc k) some = or_here (found (first + suc k)) (nearest found first k) some
+nearest_here found first (suc k) some = or_here (found (first + suc k)) (nearest_found found first k) some
 
 -- none is left
-pub nearest_last : (found : ℕ → Option ℕ) (first k : ℕ) → k ≤ 0 → found (first + k) ≡ nearest found first k
-unfolding nearest
+pub nearest_last : (found : ℕ → Option ℕ) (first k : ℕ) → k ≤ 0 → found (first + k) ≡ nearest_found found first k
+unfolding nearest_found
 nearest_last found first zero last = ap found (add-zero first)
 nearest_last found first (suc k) last = absurd (omega arith)
 
 -- two that are the same
-pub nearest_same : (f g : ℕ → Option ℕ) (first k : ℕ) → ((j : ℕ) → j ≤ first + k → f j ≡ g j) → nearest f first k ≡ nearest g first k
-unfolding nearest
+pub nearest_same : (f g : ℕ → Option ℕ) (first k : ℕ) → ((j : ℕ) → j ≤ first + k → f j ≡ g j) → nearest_found f first k ≡ nearest_found g first k
+unfolding nearest_found
 nearest_same f g first zero same = same first (omega arith)
 nearest_same f g first (suc k) same =
-    ap (λ (one : Option ℕ). option_or one (nearest f first k)) (same (first + suc k) (omega arith))
+    ap (λ (one : Option ℕ). option_or one (nearest_found f first k)) (same (first + suc k) (omega arith))
     ∙ ap (option_or (g (first + suc k))) (nearest_same f g first k (λ j below. same j (omega arith)))
 
 -- where labels are noted, the one at or before a cell
-pub found_before : (program : Program) (labels : List (Option ℕ)) (first behind cell : ℕ) → cell < 192 → IsMarked program labels → first ≡ cell / 64 * 64 → label_at labels (first + behind) ≡ nearest (label_at labels) first behind → nearest (label_at labels) first behind ≡ nearest (label_at labels) first (cell % 64) → label_at labels (first + behind) ≡ label_before program cell
+pub found_before : (program : Program) (labels : List (Option ℕ)) (first behind cell : ℕ) → cell < 192 → IsMarked program labels → first ≡ cell / 64 * 64 → label_at labels (first + behind) ≡ nearest_found (label_at labels) first behind → nearest_found (label_at labels) first behind ≡ nearest_found (label_at labels) first (cell % 64) → label_at labels (first + behind) ≡ label_before program cell
 found_before program labels first behind cell within marked e here same =
-    here ∙ (same ∙ (ap (λ (from : ℕ). nearest (label_at labels) from (cell % 64)) e
+    here ∙ (same ∙ (ap (λ (from : ℕ). nearest_found (label_at labels) from (cell % 64)) e
     ∙ nearest_same (label_at labels) (λ one. last_marked program one program.asked.items) (cell / 64 * 64) (cell % 64) (λ j below. marked.last j (omega arith))))

@@ -2,20 +2,20 @@
 use Rattle.std.proofs.Common.{◌≡◌, ◌∙◌, ℕ, zero, suc, ◌+◌, ◌-◌, ◌<◌, ◌≤◌, false, List, [], ◌∷◌, length, get_or, drop, arith, ap, sym, refl, drop-drop, get_or-drop}
 use Rattle.std.specs.Str.{IsTrimAscii}
 use Rattle.std.proofs.lemmas.Str.Ascii.{trim_ascii_is}
-use Rattle.ga_source.specs.Saying.{parted, is_feed, lines_of, unmarked}
+use Rattle.ga_source.specs.Saying.{parted, is_feed, source_lines, unmarked}
 use Rattle.ga_source.proofs.Scanning.{no_end}
 use Rattle.ga_notes.specs.Source.{without_front, trimmed, line_in}
 
 -- ---- the first line
 
 -- a text without a line feed is its only line
-pub only_line : (text : List ℕ) → ((k : ℕ) → k < length text → is_feed (get_or text k 0) ≡ false) → text ≡ get_or (lines_of text) 0 []
+pub only_line : (text : List ℕ) → ((k : ℕ) → k < length text → is_feed (get_or text k 0) ≡ false) → text ≡ get_or (source_lines text) 0 []
 unfolding parted
 only_line [] none = refl
 only_line (b ∷ text) none = sym (ap (λ (lines : List (List ℕ)). get_or lines 0 []) (no_end is_feed (b ∷ text) (omega arith) none))
 
 -- and no line stands behind it
-pub none_behind : (text : List ℕ) → ((k : ℕ) → k < length text → is_feed (get_or text k 0) ≡ false) → lines_of [] ≡ drop 1 (lines_of text)
+pub none_behind : (text : List ℕ) → ((k : ℕ) → k < length text → is_feed (get_or text k 0) ≡ false) → source_lines [] ≡ drop 1 (source_lines text)
 unfolding parted
 none_behind [] none = refl
 none_behind (b ∷ text) none = sym (ap (λ (lines : List (List ℕ)). drop 1 lines) (no_end is_feed (b ∷ text) (omega arith) none))
@@ -35,12 +35,12 @@ further lines before wanted order =
     drop-drop (wanted - before) before lines ∙ ap (λ (n : ℕ). drop n lines) e
 
 -- behind no lines no line is left
-no_more : (left : ℕ) → lines_of [] ≡ drop left (lines_of [])
+no_more : (left : ℕ) → source_lines [] ≡ drop left (source_lines [])
 unfolding parted
 no_more zero = refl
 no_more (suc left) = refl
 
-pub none_left : (text : List ℕ) (left : ℕ) → length text ≡ 0 → lines_of text ≡ drop left (lines_of text)
+pub none_left : (text : List ℕ) (left : ℕ) → length text ≡ 0 → source_lines text ≡ drop left (source_lines text)
 unfolding parted
 none_left [] left none = no_more left
 none_left (b ∷ text) left none = absurd (omega arith)
@@ -48,10 +48,10 @@ none_left (b ∷ text) left none = absurd (omega arith)
 -- ---- a line by its number
 
 -- the first line behind some, without white space at its ends
-pub line_found : (source rest first bare found : List ℕ) (before line : ℕ) → before ≡ line - 1 → lines_of rest ≡ drop before (lines_of source) → first ≡ get_or (lines_of rest) 0 [] → bare ≡ unmarked line first → IsTrimAscii bare found → found ≡ line_in source line
+pub line_found : (source rest first bare found : List ℕ) (before line : ℕ) → before ≡ line - 1 → source_lines rest ≡ drop before (source_lines source) → first ≡ get_or (source_lines rest) 0 [] → bare ≡ unmarked line first → IsTrimAscii bare found → found ≡ line_in source line
 line_found source rest first bare found before line e behind is own trims =
     let at : before + 0 ≡ line - 1 = omega arith in
-    let same : first ≡ get_or (lines_of source) (line - 1) [] =
+    let same : first ≡ get_or (source_lines source) (line - 1) [] =
     is ∙ (ap (λ (lines : List (List ℕ)). get_or lines 0 []) behind
-    ∙ (get_or-drop before (lines_of source) 0 [] ∙ ap (λ (n : ℕ). get_or (lines_of source) n []) at)) in
+    ∙ (get_or-drop before (source_lines source) 0 [] ∙ ap (λ (n : ℕ). get_or (source_lines source) n []) at)) in
     trim_ascii_is bare found (without_front bare) refl trims ∙ ap trimmed (own ∙ ap (unmarked line) same)

@@ -6,25 +6,25 @@ use Rattle.ga_notes.specs.declared.notes.Note.{Note}
 use Rattle.ga_notes.specs.declared.notes.Name.{Name}
 
 -- the note is of this cell of the node
-abbrev pub is_of : NodeId → ℕ → Note → Bool
-is_of node cell note = note.node.number == node.number && note.cell == cell
+abbrev pub is_note_of : NodeId → ℕ → Note → Bool
+is_note_of node cell note = note.node.number == node.number && note.cell == cell
 
 -- the note is of an instruction word of the node that this line begins
 abbrev pub is_begun : NodeId → ℕ → Note → Bool
 is_begun node line note = note.is_code && note.node.number == node.number && note.line == line
 
 -- the name is one that the node has
-abbrev pub is_named : NodeId → List ℕ → Name → Bool
-is_named node text name = name.node.number == node.number && bytes_eq name.text.items text
+abbrev pub is_node_name : NodeId → List ℕ → Name → Bool
+is_node_name node text name = name.node.number == node.number && bytes_eq name.text.items text
 
 abbrev pub text_in : Option Note → List ℕ
 text_in (Some note) = note.text.items
 text_in None = []
 
 -- what the first note of a cell says
-abbrev pub text_of : List Note → NodeId → Option ℕ → List ℕ
-text_of notes node (Some cell) = text_in (option_and_then (slice_get notes) (position (is_of node cell) notes))
-text_of notes node None = []
+abbrev pub first_note_text : List Note → NodeId → Option ℕ → List ℕ
+first_note_text notes node (Some cell) = text_in (option_and_then (slice_get notes) (position (is_note_of node cell) notes))
+first_note_text notes node None = []
 
 -- the address of the first instruction word that a line begins
 abbrev pub line_address : List Note → NodeId → ℕ → Option ℕ
@@ -36,4 +36,4 @@ address_in found = option_map (λ (name : Name). name.address) found
 
 -- the address of the first such name
 abbrev pub address_of : List Name → NodeId → List ℕ → Option ℕ
-address_of names node text = address_in (option_and_then (slice_get names) (position (is_named node text) names))
+address_of names node text = address_in (option_and_then (slice_get names) (position (is_node_name node text) names))

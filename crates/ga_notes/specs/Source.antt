@@ -17,8 +17,8 @@ use Rattle.ga_source.specs.declared.item.Request.TheVariants.{Mark}
 use Rattle.ga_source.specs.declared.item.Asked.{Asked}
 use Rattle.ga_source.specs.declared.item.Group.{Group}
 use Rattle.ga_source.specs.declared.item.Program.{Program}
-use Rattle.ga_source.specs.Saying.{lines_of, unmarked, has_bytes}
-use Rattle.ga_source.specs.Reading.{is_same, p_behind}
+use Rattle.ga_source.specs.Saying.{source_lines, unmarked, has_bytes}
+use Rattle.ga_source.specs.Reading.{are_both, p_behind}
 use Rattle.ga_notes.specs.declared.notes.Note.{Note}
 use Rattle.ga_notes.specs.declared.notes.Name.{Name}
 use Rattle.ga_notes.specs.declared.notes.Notes.{Notes}
@@ -60,24 +60,24 @@ cell_in (Ram k) = Some k
 cell_in (Rom k) = Some (128 + k)
 cell_in _ = None
 
-abbrev pub cell_at : ℕ → Option ℕ
-cell_at address = cell_in (classified address)
+abbrev pub cell_of_address : ℕ → Option ℕ
+cell_of_address address = cell_in (classified address)
 
 -- the name of a label by its number, empty where it has none
 abbrev pub name_in : Option Label → List ℕ
 name_in (Some label) = label.name.now
 name_in None = []
 
-abbrev pub name_of : Program → ℕ → List ℕ
-name_of program label = name_in (slice_get program.names.items label)
+abbrev pub label_name : Program → ℕ → List ℕ
+label_name program label = name_in (slice_get program.names.items label)
 
 -- the cell of a label that has a name
 abbrev pub label_cell : Program → ℕ → Option ℕ
-label_cell program label = if has_bytes (name_of program label) then option_and_then cell_at (slice_index_or program.labels.items label None) else None
+label_cell program label = if has_bytes (label_name program label) then option_and_then cell_of_address (slice_index_or program.labels.items label None) else None
 
 -- the label that a request marks in the cell, where that has a name
 abbrev pub marked_by : Program → ℕ → Request → Option ℕ
-marked_by program cell (Mark label) = if is_same (label_cell program label) (Some cell) then Some label else None
+marked_by program cell (Mark label) = if are_both (label_cell program label) (Some cell) then Some label else None
 marked_by program cell _ = None
 
 -- the one that requests mark last in the cell
@@ -86,13 +86,13 @@ last_marked program cell [] = None
 last_marked program cell (asked ∷ rest) = option_or (last_marked program cell rest) (marked_by program cell asked.request)
 
 -- what is found at the nearest place, from `first + k` back to `first`
-unfoldable pub nearest : (ℕ → Option ℕ) → ℕ → ℕ → Option ℕ
-nearest found first zero = found first
-nearest found first (suc k) = option_or (found (first + suc k)) (nearest found first k)
+unfoldable pub nearest_found : (ℕ → Option ℕ) → ℕ → ℕ → Option ℕ
+nearest_found found first zero = found first
+nearest_found found first (suc k) = option_or (found (first + suc k)) (nearest_found found first k)
 
 -- the label that stands last at or before a cell, in the same memory
 abbrev pub label_before : Program → ℕ → Option ℕ
-label_before program cell = nearest (λ one. last_marked program one program.asked.items) (cell / 64 * 64) (cell % 64)
+label_before program cell = nearest_found (λ one. last_marked program one program.asked.items) (cell / 64 * 64) (cell % 64)
 
 -- ---- the line of a cell
 
@@ -108,7 +108,7 @@ trimmed text = without_back (without_front text)
 
 -- A line of the source by its number from 1 on, empty where there is none. (A carriage return at its end is white space.)
 abbrev pub line_in : List ℕ → ℕ → List ℕ
-line_in source line = trimmed (unmarked line (slice_index_or (lines_of source) (line - 1) []))
+line_in source line = trimmed (unmarked line (slice_index_or (source_lines source) (line - 1) []))
 
 -- ---- notes
 
@@ -130,7 +130,7 @@ address_text address = hex_digit address 2 ∷ hex_digit address 1 ∷ hex_digit
 
 -- the name of a label behind a blank
 abbrev pub label_text : Program → Option ℕ → List ℕ
-label_text program (Some label) = codes " " ++ name_of program label
+label_text program (Some label) = codes " " ++ label_name program label
 label_text program None = []
 
 -- ` \ `, the address, the label, the line's number and the line
@@ -146,7 +146,7 @@ note_at source program is_code line address None = []
 
 -- the note of the cell at an address, where it names one
 abbrev pub noted_at : List ℕ → Program → Bool → ℕ → ℕ → List Noted
-noted_at source program is_code address line = note_at source program is_code line address (cell_at address)
+noted_at source program is_code address line = note_at source program is_code line address (cell_of_address address)
 
 -- the items are those of an instruction word, and no cell of data
 abbrev pub is_code : List Item → Bool

@@ -2,7 +2,7 @@
 
 ghost use Rattle.std.specs.Prelude.{◌≡◌, ◌<◌, ℕ, None, length, replicate, IfSome};
 ghost use Rattle.std.specs.Option.{option_or};
-ghost use Rattle.ga_notes.specs.Source.{cell_at, name_of as name_by, label_cell as label_cell_of, marked_by, label_before};
+ghost use Rattle.ga_notes.specs.Source.{cell_of_address, label_name as name_by, label_cell as label_cell_of, marked_by, label_before};
 ghost use Rattle.ga_source.specs.declared.item.Program.{Program as AProgram};
 ghost use Rattle.ga_notes.specs.kept.Marking.{label_at, IsMarked};
 
@@ -90,7 +90,7 @@ pub(crate) fn name_of<'s>(program: &Program<'s>, label: usize) -> &'s [u8]
 
 /// The cell that an address names: 0 to 63 of RAM, 128 to 191 of ROM.
 pub(crate) fn cell_of(address: u32) -> Option<u8>
-    ensures cell { result ≡ cell_at address }
+    ensures cell { result ≡ cell_of_address address }
     ensures in_range { IfSome result (λ cell. cell < 192) }
 {
     match classify(address) {

@@ -1,7 +1,7 @@
 //! The lines of a source.
 
 ghost use Rattle.std.specs.Prelude.{◌≡◌, [], drop, slice_index_or};
-ghost use Rattle.ga_source.specs.Saying.{lines_of};
+ghost use Rattle.ga_source.specs.Saying.{source_lines};
 ghost use Rattle.ga_notes.specs.Source.{line_in};
 
 use ga_source::unmarked;
@@ -18,13 +18,13 @@ pub struct Lines<'s> {
 
 impl<'s> Model for Lines<'s> {
     ghost use Rattle.std.specs.Prelude.{◌≡◌, ℕ, List, drop};
-    ghost use Rattle.ga_source.specs.Saying.{lines_of};
+    ghost use Rattle.ga_source.specs.Saying.{source_lines};
 
     ghost Value = { List ℕ };
 
     ghost view = { λ l. l.source.now };
 
-    ghost invariant = { λ l. lines_of l.rest.now ≡ drop l.before (lines_of l.source.now) };
+    ghost invariant = { λ l. source_lines l.rest.now ≡ drop l.before (source_lines l.source.now) };
 }
 
 impl<'s> Lines<'s> {
@@ -55,8 +55,8 @@ impl<'s> Lines<'s> {
 
 /// The first line, and what stands behind it.
 fn first_line(text: &[u8]) -> (&[u8], &[u8])
-    ensures line { result.0.now ≡ slice_index_or (lines_of text.now) 0 [] }
-    ensures rest { lines_of result.1.now ≡ drop 1 (lines_of text.now) }
+    ensures line { result.0.now ≡ slice_index_or (source_lines text.now) 0 [] }
+    ensures rest { source_lines result.1.now ≡ drop 1 (source_lines text.now) }
 {
     for (i, byte) in text.iter().enumerate() {
         if *byte == b'\n' {
@@ -68,8 +68,8 @@ fn first_line(text: &[u8]) -> (&[u8], &[u8])
 
 /// What stands behind the first `wanted` lines of a source, where a rest stands behind the first `before`.
 fn behind<'s>(source: &'s [u8], before: u32, rest: &'s [u8], wanted: u32) -> &'s [u8]
-    requires { lines_of rest.now ≡ drop before (lines_of source.now) }
-    ensures { lines_of result.now ≡ drop wanted (lines_of source.now) }
+    requires { source_lines rest.now ≡ drop before (source_lines source.now) }
+    ensures { source_lines result.now ≡ drop wanted (source_lines source.now) }
 {
     if wanted < before {
         behind_lines(source, wanted)
@@ -80,7 +80,7 @@ fn behind<'s>(source: &'s [u8], before: u32, rest: &'s [u8], wanted: u32) -> &'s
 
 /// What stands behind so many lines.
 fn behind_lines(text: &[u8], count: u32) -> &[u8]
-    ensures { lines_of result.now ≡ drop count (lines_of text.now) }
+    ensures { source_lines result.now ≡ drop count (source_lines text.now) }
 {
     let mut rest = text;
     let mut left = count;

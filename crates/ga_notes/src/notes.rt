@@ -1,7 +1,7 @@
 //! Notes of cells, and the names of addresses.
 
 ghost use Rattle.std.specs.Prelude.{◌≡◌, position};
-ghost use Rattle.ga_notes.specs.Notes.{is_of, is_begun, is_named};
+ghost use Rattle.ga_notes.specs.Notes.{is_note_of, is_begun, is_node_name};
 
 use ga_grid::NodeId;
 use std::alloc::Global;
@@ -40,7 +40,7 @@ pub struct Notes {
 
 impl Notes {
     ghost use Rattle.std.specs.Prelude.{◌≡◌, []};
-    ghost use Rattle.ga_notes.specs.Notes.{text_of, line_address, address_of};
+    ghost use Rattle.ga_notes.specs.Notes.{first_note_text, line_address, address_of};
 
     /// Those of an image: none.
     pub fn none(alloc: Global) -> Self
@@ -60,7 +60,7 @@ impl Notes {
 
     /// What is said of a cell of a node: nothing where there is no cell, or where the source doesn't give it.
     pub fn text_of(&self, node: NodeId, cell: Option<u8>) -> &[u8]
-        ensures { result.now ≡ text_of self.now.notes.items node cell }
+        ensures { result.now ≡ first_note_text self.now.notes.items node cell }
     {
         let Some(cell) = cell else {
             return &[];
@@ -99,14 +99,14 @@ impl Notes {
 
 /// Whether a note is of this cell.
 fn is_of(note: &Note, node: NodeId, cell: u8) -> bool
-    ensures { result ≡ is_of node cell note.now }
+    ensures { result ≡ is_note_of node cell note.now }
 {
     note.node == node && note.cell == cell
 }
 
 /// Where the first note of a cell stands.
 fn note_place(notes: &[Note], node: NodeId, cell: u8) -> Option<usize>
-    ensures { result ≡ position (is_of node cell) notes.now }
+    ensures { result ≡ position (is_note_of node cell) notes.now }
 {
     notes.iter().position(|note| is_of(note, node, cell))
 }
@@ -127,14 +127,14 @@ fn begun_place(notes: &[Note], node: NodeId, line: u32) -> Option<usize>
 
 /// Whether a name is this one of the node.
 fn is_named(name: &Name, node: NodeId, text: &[u8]) -> bool
-    ensures { result ≡ is_named node text.now name.now }
+    ensures { result ≡ is_node_name node text.now name.now }
 {
     name.node == node && name.text.as_slice() == text
 }
 
 /// Where the first such name stands.
 fn name_place(names: &[Name], node: NodeId, text: &[u8]) -> Option<usize>
-    ensures { result ≡ position (is_named node text.now) names.now }
+    ensures { result ≡ position (is_node_name node text.now) names.now }
 {
     names.iter().position(|name| is_named(name, node, text))
 }

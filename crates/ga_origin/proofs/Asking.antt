@@ -10,7 +10,7 @@ use Rattle.ga_lab.specs.Machine.{State, history_of}
 use Rattle.ga_origin.specs.declared.asked.Asked.{Asked}
 use Rattle.ga_origin.specs.declared.asked.Asked.TheVariants.{Behind, Before, Nothing}
 use Rattle.ga_origin.specs.declared.value.Value.{Value}
-use Rattle.ga_origin.specs.Origins.{node_after, value_at}
+use Rattle.ga_origin.specs.Origins.{node_after, value_of_step}
 use Rattle.ga_origin.specs.Asked.{told_asked, value_asked, asked_of}
 
 pub asked_here : (s : State) (node : NodeId) (step k : ℕ) (told : Made) (before : NodeRecord) (asked : Asked) (value : Option Value) → suc k ≡ step
@@ -25,10 +25,10 @@ asked_here s node step k told before asked value is tells stood means e =
 -- it stood in the node, behind the step or before it
 at_or_before : (node : NodeId) (k : ℕ) (asked : Asked) (value : Value) → value_asked node k asked ≡ Some value → (value.node ≡ node) × (value.step ≤ suc k)
 at_or_before node k (Behind at) value e =
-    let is = same_Some (value_at node (suc k) at) value e in
+    let is = same_Some (value_of_step node (suc k) at) value e in
     (sym (ap (λ (z : Value). z.node) is), let t : suc k ≡ value.step = ap (λ (z : Value). z.step) is in omega (arith, t))
 at_or_before node k (Before at) value e =
-    let is = same_Some (value_at node k at) value e in
+    let is = same_Some (value_of_step node k at) value e in
     (sym (ap (λ (z : Value). z.node) is), let t : k ≡ value.step = ap (λ (z : Value). z.step) is in omega (arith, t))
 at_or_before node k Nothing value e = absurd (cc)
 

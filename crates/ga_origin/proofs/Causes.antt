@@ -16,8 +16,8 @@ use Rattle.ga_flow.specs.declared.part.Part.TheVariants.{Data, Return, Ram, Rom,
 use Rattle.ga_flow.specs.Flow.{Flow, Same, From, top}
 use Rattle.ga_origin.specs.declared.value.Value.{Value}
 use Rattle.ga_origin.specs.declared.listing.Row.{Row}
-use Rattle.ga_origin.specs.Origins.{flow_at, moved_at, told_part, value_at, origin_from, origin_of}
-use Rattle.ga_origin.specs.Rows.{sender_in, sources_by, sources_from, sources_of, row_at, made_row, below, AreRows, all, again, next, cut}
+use Rattle.ga_origin.specs.Origins.{flow_at, moved_at, told_part, value_of_step, origin_from, origin_of}
+use Rattle.ga_origin.specs.Rows.{sender_in, source_values, sources_from, sources_of, row_at, made_row, below, AreRows, all, again, next, cut}
 use Rattle.ga_origin.specs.Causes.{IsCause, IsNamedFor}
 use Rattle.ga_origin.proofs.Telling.{IsOne, sent_is}
 
@@ -57,7 +57,7 @@ made_before s node zero at = (refl, omega arith)
 made_before s node (suc k) at = go (moved_at s node.number k at) (made_before s node k)
   where
     go : (o : Option Part) → ((from : Part) → ((origin_from s node k from).node ≡ node) × ((origin_from s node k from).step ≤ k))
-        → let value : Value = unwrap_or (option_map (origin_from s node k) o) (value_at node (suc k) (told_part (flow_at s node.number k at) at)) in (value.node ≡ node) × (value.step ≤ suc k)
+        → let value : Value = unwrap_or (option_map (origin_from s node k) o) (value_of_step node (suc k) (told_part (flow_at s node.number k at) at)) in (value.node ≡ node) × (value.step ≤ suc k)
     go None before = (refl, omega arith)
     go (Some from) before = let b = before from in (b.0, omega (arith, b.1))
 
@@ -66,11 +66,11 @@ named_origin s asked value named =
     let before = made_before s value.node value.step value.part in earlier s asked value (origin_of s value) before.0 before.1 named
 
 -- what it came from: parts of the node, and T of the writer
-named_parts : (s : State) (asked value : Value) (k : ℕ) → k ≤ value.step → IsNamedFor s asked value → (parts : List Part) → All (IsNamedFor s asked) (map (value_at value.node k) parts)
+named_parts : (s : State) (asked value : Value) (k : ℕ) → k ≤ value.step → IsNamedFor s asked value → (parts : List Part) → All (IsNamedFor s asked) (map (value_of_step value.node k) parts)
 named_parts s asked value k less named [] = All-nil (IsNamedFor s asked)
 named_parts s asked value k less named (at ∷ rest) =
-    All-cons (IsNamedFor s asked) (value_at value.node k at) (map (value_at value.node k) rest)
-    (earlier s asked value (value_at value.node k at) refl less named)
+    All-cons (IsNamedFor s asked) (value_of_step value.node k at) (map (value_of_step value.node k) rest)
+    (earlier s asked value (value_of_step value.node k at) refl less named)
     (named_parts s asked value k less named rest)
 
 pub named_sender : (s : State) (asked value : Value) (k : ℕ) → value.step ≡ suc k → IsNamedFor s asked value
@@ -78,18 +78,18 @@ pub named_sender : (s : State) (asked value : Value) (k : ℕ) → value.step �
 named_sender s asked value k is named None h = All-nil (IsNamedFor s asked)
 named_sender s asked value k is named (Some (made.Own node step kind)) h = All-nil (IsNamedFor s asked)
 named_sender s asked value k is named (Some (made.Pass w i r j word)) h =
-    All-cons (IsNamedFor s asked) (value_at w (i - 1) top) [] (at_writer (sent_is s value.node.number k w r i j word h) named) (All-nil (IsNamedFor s asked))
+    All-cons (IsNamedFor s asked) (value_of_step w (i - 1) top) [] (at_writer (sent_is s value.node.number k w r i j word h) named) (All-nil (IsNamedFor s asked))
   where
-    at_writer : IsOne s value.node.number k w.number i → IsNamedFor s asked value → IsNamedFor s asked (value_at w (i - 1) top)
+    at_writer : IsOne s value.node.number k w.number i → IsNamedFor s asked value → IsNamedFor s asked (value_of_step w (i - 1) top)
     at_writer one (inl none) = absurd (omega (arith, is, none))
     at_writer one (inr cause) =
         let q = one.number in
         let same : one.place ≡ cause.cause = (let a : Some one.place ≡ Some cause.cause = sym one.own ∙ ap (place_of (causes_of s) value.node.number) (sym is) ∙ cause.cause_place in cc) in
-        earlier s asked (value_at w i top) (value_at w (i - 1) top) refl (omega (arith, q))
+        earlier s asked (value_of_step w i top) (value_of_step w (i - 1) top) refl (omega (arith, q))
         (inr (record { cause = one.place; effect = cause.effect; cause_place = one.writers; effect_place = cause.effect_place; depends = subst (λ (z : ℕ). DependsOn (causes_of s) z cause.effect) (sym same) cause.depends }))
 
 named_by : (s : State) (asked value : Value) (k : ℕ) → value.step ≡ suc k → IsNamedFor s asked value → (told : Option Made) → slice_get (history_of s value.node.number) k ≡ told
-    → (flow : Flow) → All (IsNamedFor s asked) (sources_by value.node k told flow)
+    → (flow : Flow) → All (IsNamedFor s asked) (source_values value.node k told flow)
 named_by s asked value k is named told h (Same Outside) = named_sender s asked value k is named told h
 named_by s asked value k is named told h (Same (Data at)) = named_parts s asked value k (omega (arith, is)) named (Data at ∷ [])
 named_by s asked value k is named told h (Same (Return at)) = named_parts s asked value k (omega (arith, is)) named (Return at ∷ [])

@@ -9,7 +9,7 @@ use Rattle.ga_flow.specs.Flow.{kind_of, index_of, is_same}
 use Rattle.ga_origin.specs.declared.value.Value.{Value}
 use Rattle.ga_origin.specs.declared.listing.Row.{Row}
 use Rattle.ga_origin.specs.Origins.{origin_of}
-use Rattle.ga_origin.specs.Rows.{is_one, is_named, sources_of, row_at, made_row, below, IsToldIn, AreRows, all, again, next, cut}
+use Rattle.ga_origin.specs.Rows.{is_one, has_value, sources_of, row_at, made_row, below, IsToldIn, AreRows, all, again, next, cut}
 
 both_true : (a b : Bool) → a ≡ true → b ≡ true → (a && b) ≡ true
 both_true true b p q = q
@@ -33,17 +33,17 @@ right_true true b p = refl
 right_true false b p = p
 
 -- what was told among some rows was among more, and so was a row in their middle
-named_more : (rows more : List Row) (value : Value) → is_named rows value ≡ true → is_named (rows ++ more) value ≡ true
+named_more : (rows more : List Row) (value : Value) → has_value rows value ≡ true → has_value (rows ++ more) value ≡ true
 named_more rows more value is =
-    list_any-append (λ (row : Row). is_one row.value value) rows more ∙ left_true (is_named rows value) (is_named more value) is
+    list_any-append (λ (row : Row). is_one row.value value) rows more ∙ left_true (has_value rows value) (has_value more value) is
 
-named_middle : (rows more : List Row) (row : Row) → is_named (rows ++ row ∷ more) row.value ≡ true
+named_middle : (rows more : List Row) (row : Row) → has_value (rows ++ row ∷ more) row.value ≡ true
 named_middle rows more row =
     list_any-append (λ (x : Row). is_one x.value row.value) rows (row ∷ more)
-    ∙ right_true (is_named rows row.value) (is_named (row ∷ more) row.value)
-    (list_any-append (λ (x : Row). is_one x.value row.value) (row ∷ []) more ∙ left_true (is_named (row ∷ []) row.value) (is_named more row.value) (only row))
+    ∙ right_true (has_value rows row.value) (has_value (row ∷ more) row.value)
+    (list_any-append (λ (x : Row). is_one x.value row.value) (row ∷ []) more ∙ left_true (has_value (row ∷ []) row.value) (has_value more row.value) (only row))
   where
-    only : (row : Row) → is_named (row ∷ []) row.value ≡ true
+    only : (row : Row) → has_value (row ∷ []) row.value ≡ true
     only row = left_true (is_one row.value row.value) false (one_itself row.value)
 
 -- both halves of a list

@@ -8,7 +8,7 @@ use Rattle.ga_ports.specs.declared.address.Target.{Target}
 use Rattle.ga_ports.specs.declared.address.Target.TheVariants as target
 use Rattle.ga_node.specs.Record.{NodeRecord}
 use Rattle.ga_node.specs.Changes.{Change}
-use Rattle.ga_node.specs.Table.{Access, Plain, Reads, Writes, found, stored, followed, carried_out, does, fetches, due_of, posts, halts, named, done_by, own_event, own}
+use Rattle.ga_node.specs.Table.{Access, Plain, Reads, Writes, found, stored, followed, carried_out, does, fetches, due_of, posts, halts, with_kind, done_by, own_event, own}
 use Rattle.ga_node.specs.declared.kind.Kind.{Kind}
 use Rattle.ga_node.specs.declared.kind.Kind.TheVariants as kind
 use Rattle.ga_node.specs.declared.seen.Seen.{Seen}
@@ -35,7 +35,7 @@ is_done kind.Wait = false
 is_done (kind.Stop code) = false
 
 read_done : (ran did : Kind) (at : Target) (reader : Reader) (seen : Seen) (n : NodeRecord) (more : ℕ → List Change) → is_done did ≡ true
-    → (named ran (followed (found at reader seen n) more)).0 ≡ did → ran ≡ did
+    → (with_kind ran (followed (found at reader seen n) more)).0 ≡ did → ran ≡ did
 unfolding is_done found followed
 read_done ran did (target.Ram c) reader seen n more done h = h
 read_done ran did (target.Rom c) reader seen n more done h = h
@@ -44,7 +44,7 @@ read_done ran did (target.Ports sides) reader seen n more done h = absurd (cc)
 read_done ran did target.Bad reader seen n more done h = absurd (cc)
 
 write_done : (ran did : Kind) (at : Target) (n : NodeRecord) (more : List Change) → is_done did ≡ true
-    → (named ran (followed (stored at n) (λ changes. changes ++ more))).0 ≡ did → ran ≡ did
+    → (with_kind ran (followed (stored at n) (λ changes. changes ++ more))).0 ≡ did → ran ≡ did
 unfolding is_done stored followed
 write_done ran did (target.Ram c) n more done h = h
 write_done ran did (target.Rom c) n more done h = h
@@ -56,7 +56,7 @@ write_done ran did (target.Ports sides) n more done h = absurd (at_port (is_sing
     at_port false g = cc
 write_done ran did target.Bad n more done h = absurd (cc)
 
-all_done : (ran did : Kind) (reader : Reader) (access : Access) (seen : Seen) (n : NodeRecord) → is_done did ≡ true → (named ran (carried_out reader access seen n)).0 ≡ did → ran ≡ did
+all_done : (ran did : Kind) (reader : Reader) (access : Access) (seen : Seen) (n : NodeRecord) → is_done did ≡ true → (with_kind ran (carried_out reader access seen n)).0 ≡ did → ran ≡ did
 all_done ran did reader (Plain changes) seen n done h = h
 all_done ran did reader (Reads address more) seen n done h = read_done ran did (classified address) reader seen n more done h
 all_done ran did reader (Writes address more) seen n done h = write_done ran did (classified address) n more done h

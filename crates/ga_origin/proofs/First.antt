@@ -5,12 +5,12 @@ use Rattle.ga_lab.specs.Machine.{State}
 use Rattle.ga_origin.specs.declared.value.Value.{Value}
 use Rattle.ga_origin.specs.declared.listing.Row.{Row}
 use Rattle.ga_origin.specs.Origins.{origin_of}
-use Rattle.ga_origin.specs.Rows.{is_named, row_at, made_row, AreRows, all, again, next, cut}
+use Rattle.ga_origin.specs.Rows.{has_value, row_at, made_row, AreRows, all, again, next, cut}
 
 -- where the next value wasn't told, and a listing that is cut has some row
 FirstIs : State → List Row → List Row → List Row → Bool → Type 0
 FirstIs s named [] rows whole = Unit {0}
-FirstIs s named (row ∷ todo) rows whole = is_named named (origin_of s row.value) ≡ false → (whole ≡ false → 0 < length rows) → slice_get rows 0 ≡ Some (made_row s row)
+FirstIs s named (row ∷ todo) rows whole = has_value named (origin_of s row.value) ≡ false → (whole ≡ false → 0 < length rows) → slice_get rows 0 ≡ Some (made_row s row)
 
 first_is : (s : State) (named todo rows : List Row) (whole : Bool) → AreRows s named todo rows whole → FirstIs s named todo rows whole
 unfolding FirstIs

@@ -9,7 +9,7 @@ use Rattle.ga_ports.specs.declared.address.Target.{Target}
 use Rattle.ga_ports.specs.declared.address.Target.TheVariants as target
 use Rattle.ga_node.specs.Record.{NodeRecord}
 use Rattle.ga_node.specs.Changes.{Change}
-use Rattle.ga_node.specs.Table.{t, r, is_extended, due_of, stored, followed, named, done_by, own_event, own}
+use Rattle.ga_node.specs.Table.{t, r, is_extended, due_of, stored, followed, with_kind, done_by, own_event, own}
 use Rattle.ga_node.specs.declared.kind.Kind.{Kind}
 use Rattle.ga_node.specs.declared.kind.Kind.TheVariants as kind
 use Rattle.ga_node.specs.declared.seen.Seen.{Seen}
@@ -24,7 +24,7 @@ use Rattle.ga_lab.specs.Machine.{State, history_of}
 use Rattle.ga_flow.specs.declared.part.Part.TheVariants.{Ram, P, A}
 use Rattle.ga_flow.specs.Flow.{Flow, Same, Move, PushData, SetP, SetA, SetI, GoOn, StartAgain, from, read_moves, write_moves, moves, moves_by, moved_all, own_flow, send_flow, take_flow}
 use Rattle.ga_origin.specs.Origins.{node_after, flow_told, flow_at}
-use Rattle.ga_origin.specs.Writes.{is_written, written, written_at}
+use Rattle.ga_origin.specs.Writes.{is_written, cell_write, written_at}
 use Rattle.ga_origin.specs.kept.Stores.{is_store, ran_store}
 use Rattle.ga_origin.proofs.Ran.{WasNext, ran_so}
 
@@ -45,7 +45,7 @@ by_read k target.Bad more rest = refl
 
 -- a store that came to write left another kind
 by_write : (code k : ℕ) (target : Target) (n : NodeRecord) (more : List Change) (rest : List Move) → (code / 4 == 3) ≡ true
-    → is_store (named (kind.Run code) (followed (stored target n) (λ changes. changes ++ more))).0 ≡ false → Keep k (write_moves target rest)
+    → is_store (with_kind (kind.Run code) (followed (stored target n) (λ changes. changes ++ more))).0 ≡ false → Keep k (write_moves target rest)
 unfolding stored followed
 by_write code k (target.Ram c) n more rest first second = absurd (cc)
 by_write code k (target.Rom c) n more rest first second = absurd (cc)
@@ -121,4 +121,4 @@ pub none_written : (s : State) (n cell k : ℕ) (told : Option Made) → told �
 none_written s n cell k told tells is =
     let none : ran_store (slice_get (history_of s n) k) ≡ false = ap ran_store (sym tells) ∙ is in
     let same : flow_at s n k (Ram cell) ≡ Same (Ram cell) = told_keeps (slice_get (history_of s n) k) (node_after s n k) n cell (λ m step kind at. ran_so s n k step m kind at) none in
-    ap (λ (b : Bool). cond b (option_map (written (k + 1) (slice_index (node_after s n (k + 1)).ram cell)) (slice_get (history_of s n) k)) None) (sym (ap is_written same))
+    ap (λ (b : Bool). cond b (option_map (cell_write (k + 1) (slice_index (node_after s n (k + 1)).ram cell)) (slice_get (history_of s n) k)) None) (sym (ap is_written same))

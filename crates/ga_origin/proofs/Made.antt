@@ -16,7 +16,8 @@ use Rattle.ga_flow.specs.declared.part.Part.TheVariants.{Data, Return, Ram, Rom,
 use Rattle.ga_flow.specs.Flow.{Flow, Same, IsPart}
 use Rattle.ga_flow.specs.Following.{IsSource}
 use Rattle.ga_origin.specs.declared.value.Value.{Value}
-use Rattle.ga_origin.specs.Origins.{place_after, node_after, told_flow, flow_told, flow_at, moved_from, moved_at, told_part, value_at, origin_from, origin_of}
+use Rattle.ga_origin.specs.Origins.{place_after, node_after, told_flow, flow_told, flow_at, moved_from, moved_at, told_part, value_of_step, origin_from, origin_of}
+use Rattle.std.proofs.lemmas.Option.{none-some}
 
 steps-cons : (n : ℕ) (e : Event) (es : List Event) → steps_of n (e ∷ es) ≡ cond (touches e n) 1 0 + steps_of n es
 steps-cons n e es = sum_by-cons (λ (x : Event). cond (touches x n) 1 0) e es
@@ -45,12 +46,9 @@ none_past [] (suc i) l = refl
 none_past (x ∷ xs) zero l = absurd (omega arith)
 none_past (x ∷ xs) (suc i) l = none_past xs i (omega (arith, l))
 
-none_some : {A : Type 0} {x : A} → None ≡ Some x → ⊥
-none_some h = cc
-
 pub some_within : (list : List Made) (i : ℕ) → i < length list → None ≡ slice_get list i → ⊥
 some_within [] i l h = omega (arith, l)
-some_within (x ∷ xs) zero l h = none_some h
+some_within (x ∷ xs) zero l h = none-some _ h
 some_within (x ∷ xs) (suc i) l h = some_within xs i (omega (arith, l)) h
 
 -- a part of a node is a source
@@ -82,10 +80,10 @@ flow_within s n k at told before flow is node e =
 
 -- a step that moved the value, and one that made it
 pub moved_on : (s : State) (node : NodeId) (k : ℕ) (at from : Part) → moved_at s node.number k at ≡ Some from → origin_from s node (suc k) at ≡ origin_from s node k from
-moved_on s node k at from e = ap (λ o. unwrap_or (option_map (origin_from s node k) o) (value_at node (suc k) (told_part (flow_at s node.number k at) at))) e
+moved_on s node k at from e = ap (λ o. unwrap_or (option_map (origin_from s node k) o) (value_of_step node (suc k) (told_part (flow_at s node.number k at) at))) e
 
-pub made_there : (s : State) (node : NodeId) (k : ℕ) (at : Part) → moved_at s node.number k at ≡ None → origin_from s node (suc k) at ≡ value_at node (suc k) (told_part (flow_at s node.number k at) at)
-made_there s node k at e = ap (λ o. unwrap_or (option_map (origin_from s node k) o) (value_at node (suc k) (told_part (flow_at s node.number k at) at))) e
+pub made_there : (s : State) (node : NodeId) (k : ℕ) (at : Part) → moved_at s node.number k at ≡ None → origin_from s node (suc k) at ≡ value_of_step node (suc k) (told_part (flow_at s node.number k at) at)
+made_there s node k at e = ap (λ o. unwrap_or (option_map (origin_from s node k) o) (value_of_step node (suc k) (told_part (flow_at s node.number k at) at))) e
 
 pub moved_so : (s : State) (n k : ℕ) (at : Part) (flow : Flow) (o : Option Part) → flow ≡ flow_at s n k at → o ≡ moved_from flow at → moved_at s n k at ≡ o
 moved_so s n k at flow o is e = ap (λ (z : Flow). moved_from z at) (sym is) ∙ sym e
@@ -96,10 +94,10 @@ pub back_on : (s : State) (node : NodeId) (step k : ℕ) (at from : Part) (value
 back_on s node step k at from value is moved same = sym (moved_on s node k at from (sym moved)) ∙ ap (λ (z : ℕ). origin_from s node z at) is ∙ same
 
 pub back_end : (s : State) (node : NodeId) (step k : ℕ) (at told : Part) (flow : Flow) (value : Value) → suc k ≡ step → flow ≡ flow_at s node.number k at → None ≡ moved_at s node.number k at
-    → told ≡ told_part flow at → origin_from s node step at ≡ value → value_at node step told ≡ value
+    → told ≡ told_part flow at → origin_from s node step at ≡ value → value_of_step node step told ≡ value
 back_end s node step k at told flow value is e moved part same =
-    ap (λ (z : ℕ). value_at node z told) (sym is)
-    ∙ ap (value_at node (suc k)) (part ∙ ap (λ (z : Flow). told_part z at) e)
+    ap (λ (z : ℕ). value_of_step node z told) (sym is)
+    ∙ ap (value_of_step node (suc k)) (part ∙ ap (λ (z : Flow). told_part z at) e)
     ∙ sym (made_there s node k at (sym moved))
     ∙ ap (λ (z : ℕ). origin_from s node z at) is ∙ same
 

@@ -21,7 +21,7 @@ use Rattle.ga_flow.specs.Flow.{Same, Move, PopData, SetA, SetWait, SetStop, GoOn
 use Rattle.ga_origin.specs.declared.registers.Registers.{Registers}
 use Rattle.std.specs.Prelude.{option_map, slice_index}
 use Rattle.ga_origin.specs.Origins.{node_after, flow_told, flow_at, moved_from, moved_at}
-use Rattle.ga_origin.specs.Writes.{is_written, written, written_at}
+use Rattle.ga_origin.specs.Writes.{is_written, cell_write, written_at}
 use Rattle.ga_origin.specs.kept.Moving.{stored_at, misses_at, misses}
 use Rattle.ga_origin.proofs.Dues.{due_told}
 
@@ -114,5 +114,5 @@ misses_stays s n k at None before tells a b h = absurd (false_true h)
 pub misses_writes : (s : State) (n k cell : ℕ) (told : Option Made) (before : Registers) → told ≡ slice_get (history_of s n) k
     → (node_after s n k).a ≡ before.a → (node_after s n k).b ≡ before.b → misses told before (Ram cell) ≡ true → None ≡ written_at s n cell k
 misses_writes s n k cell told before tells a b h =
-    ap (λ (z : Bool). cond z (option_map (written (k + 1) (slice_index (node_after s n (k + 1)).ram cell)) (slice_get (history_of s n) k)) None)
+    ap (λ (z : Bool). cond z (option_map (cell_write (k + 1) (slice_index (node_after s n (k + 1)).ram cell)) (slice_get (history_of s n) k)) None)
     (sym (ap is_written (misses_flow s n k cell told before tells a b h)))

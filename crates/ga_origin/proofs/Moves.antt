@@ -8,7 +8,7 @@ use Rattle.ga_ports.specs.declared.address.Target.{Target}
 use Rattle.ga_ports.specs.declared.address.Target.TheVariants as target
 use Rattle.ga_node.specs.Record.{NodeRecord}
 use Rattle.ga_node.specs.Changes.{Change}
-use Rattle.ga_node.specs.Table.{t, r, is_extended, due_of, found, stored, followed, posts, halts, named, done_by, own_event, own}
+use Rattle.ga_node.specs.Table.{t, r, is_extended, due_of, found, stored, followed, posts, halts, with_kind, done_by, own_event, own}
 use Rattle.ga_node.specs.declared.kind.Kind.{Kind}
 use Rattle.ga_node.specs.declared.kind.Kind.TheVariants as kind
 use Rattle.ga_node.specs.declared.seen.Seen.{Seen}
@@ -29,6 +29,7 @@ use Rattle.ga_origin.specs.Origins.{node_after, flow_told, moved_from, moved_at,
 use Rattle.ga_origin.specs.kept.Moving.{by_op, by_fetch, by_pause, by_kind, moved_by}
 use Rattle.ga_origin.proofs.Made.{back_on}
 use Rattle.ga_origin.proofs.Ran.{WasNext, ran_so}
+use Rattle.std.proofs.lemmas.Option.{none-some}
 
 -- with these moves the value came from there
 abbrev Moved : List Move → Part → Part → Type 0
@@ -44,9 +45,6 @@ by_place : (test : Bool) (first others : Option Part) (flow other : Flow) (at st
 by_place true first others flow other at start above below h = above h
 by_place false first others flow other at start above below h = below h
 
-none_some : {A : Type 0} {x : A} → None ≡ Some x → ⊥
-none_some h = cc
-
 -- a stack that is popped
 up_data : (test : Bool) (k next : ℕ) (start : Part) → Some (cond test (Data 2) (Data next)) ≡ Some start → moved_from (cond test (Same (Data 2)) (Same (Data next))) (Data k) ≡ Some start
 up_data true k next start h = h
@@ -58,16 +56,16 @@ up_return false k next start h = h
 
 -- a wait and a stop
 waits : (at start : Part) → by_pause at ≡ Some start → Moved (SetWait ∷ []) at start
-waits Wait start h = absurd (none_some h)
+waits Wait start h = absurd (none-some _ h)
 waits at start h = cc
 
 stops : (at start : Part) → by_pause at ≡ Some start → Moved (SetStop ∷ []) at start
-stops Stop start h = absurd (none_some h)
+stops Stop start h = absurd (none-some _ h)
 stops at start h = cc
 
 -- a read that gave a word
 by_read : (ran : Kind) (target : Target) (reader : Reader) (seen : Seen) (n : NodeRecord) (at start : Part) (changes : ℕ → List Change) (more : Flow → List Move)
-    → ((word : Flow) → by_kind ran at ≡ Some start → Moved (more word) at start) → by_kind (named ran (followed (found target reader seen n) changes)).0 at ≡ Some start → Moved (read_moves target more) at start
+    → ((word : Flow) → by_kind ran at ≡ Some start → Moved (more word) at start) → by_kind (with_kind ran (followed (found target reader seen n) changes)).0 at ≡ Some start → Moved (read_moves target more) at start
 unfolding found followed
 by_read ran (target.Ram c) reader seen n at start changes more gave h = gave (Same (Ram c)) h
 by_read ran (target.Rom c) reader seen n at start changes more gave h = gave (Same (Rom c)) h
@@ -76,15 +74,15 @@ by_read ran (target.Ports sides) reader seen n at start changes more gave h = wa
 by_read ran target.Bad reader seen n at start changes more gave h = stops at start h
 
 fetch_p : (word : Flow) (at start : Part) → by_op op.FetchP at ≡ Some start → Moved (PushData word ∷ SetP (from P) ∷ GoOn ∷ []) at start
-fetch_p word (Data k) start h = by_place (k == 0) _ _ _ _ (Data k) start (λ g. absurd (none_some g)) (λ g. g) h
+fetch_p word (Data k) start h = by_place (k == 0) _ _ _ _ (Data k) start (λ g. absurd (none-some _ g)) (λ g. g) h
 fetch_p word at start h = cc
 
 fetch_plus : (word : Flow) (at start : Part) → by_op op.FetchPlus at ≡ Some start → Moved (PushData word ∷ SetA (from A) ∷ GoOn ∷ []) at start
-fetch_plus word (Data k) start h = by_place (k == 0) _ _ _ _ (Data k) start (λ g. absurd (none_some g)) (λ g. g) h
+fetch_plus word (Data k) start h = by_place (k == 0) _ _ _ _ (Data k) start (λ g. absurd (none-some _ g)) (λ g. g) h
 fetch_plus word at start h = cc
 
 fetch_b : (word : Flow) (at start : Part) → by_op op.FetchB at ≡ Some start → Moved (PushData word ∷ GoOn ∷ []) at start
-fetch_b word (Data k) start h = by_place (k == 0) _ _ _ _ (Data k) start (λ g. absurd (none_some g)) (λ g. g) h
+fetch_b word (Data k) start h = by_place (k == 0) _ _ _ _ (Data k) start (λ g. absurd (none-some _ g)) (λ g. g) h
 fetch_b word at start h = cc
 
 -- a write that was made: in RAM, in ROM or in `io`
@@ -94,7 +92,7 @@ record Wrote (rest : List Move) (at start : Part) : Type 0 where
   in_io : Moved (SetIo (Same top) ∷ rest) at start
 
 by_write : (ran : Kind) (target : Target) (n : NodeRecord) (at start : Part) (more : List Change) (rest : List Move)
-    → (by_kind ran at ≡ Some start → Wrote rest at start) → by_kind (named ran (followed (stored target n) (λ changes. changes ++ more))).0 at ≡ Some start → Moved (write_moves target rest) at start
+    → (by_kind ran at ≡ Some start → Wrote rest at start) → by_kind (with_kind ran (followed (stored target n) (λ changes. changes ++ more))).0 at ≡ Some start → Moved (write_moves target rest) at start
 unfolding stored followed
 by_write ran (target.Ram c) n at start more rest wrote h = (wrote h).in_ram c
 by_write ran (target.Rom c) n at start more rest wrote h = (wrote h).in_rom
@@ -124,7 +122,7 @@ op_moves op.Return seen n (Data k) start h = h
 op_moves op.Return seen n (Return k) start h = up_return (k == 8) k (k + 1) start h
 op_moves op.Return seen n at start h = cc
 op_moves op.Execute seen n (Data k) start h = h
-op_moves op.Execute seen n (Return k) start h = by_place (k == 0) _ _ _ _ (Return k) start (λ g. absurd (none_some g)) (λ g. g) h
+op_moves op.Execute seen n (Return k) start h = by_place (k == 0) _ _ _ _ (Return k) start (λ g. absurd (none-some _ g)) (λ g. g) h
 op_moves op.Execute seen n at start h = cc
 op_moves op.Jump seen n (Data k) start h = h
 op_moves op.Jump seen n at start h = cc
@@ -147,19 +145,19 @@ op_moves op.StoreP seen n at start h = by_write (kind.Run 12) (classified n.p) n
 op_moves op.StorePlus seen n at start h = by_write (kind.Run 13) (classified n.a) n at start _ _ (λ g. store_plus at start g) h
 op_moves op.StoreB seen n at start h = by_write (kind.Run 14) (classified n.b) n at start _ _ (λ g. store_b at start g) h
 op_moves op.Store seen n at start h = by_write (kind.Run 15) (classified n.a) n at start _ _ (λ g. store_b at start g) h
-op_moves op.MultiplyStep seen n (Data k) start h = by_place (k == 0) _ _ _ _ (Data k) start (λ g. absurd (none_some g)) (λ g. g) h
+op_moves op.MultiplyStep seen n (Data k) start h = by_place (k == 0) _ _ _ _ (Data k) start (λ g. absurd (none-some _ g)) (λ g. g) h
 op_moves op.MultiplyStep seen n at start h = cc
-op_moves op.TwoStar seen n (Data k) start h = by_place (k == 0) _ _ _ _ (Data k) start (λ g. absurd (none_some g)) (λ g. g) h
+op_moves op.TwoStar seen n (Data k) start h = by_place (k == 0) _ _ _ _ (Data k) start (λ g. absurd (none-some _ g)) (λ g. g) h
 op_moves op.TwoStar seen n at start h = cc
-op_moves op.TwoSlash seen n (Data k) start h = by_place (k == 0) _ _ _ _ (Data k) start (λ g. absurd (none_some g)) (λ g. g) h
+op_moves op.TwoSlash seen n (Data k) start h = by_place (k == 0) _ _ _ _ (Data k) start (λ g. absurd (none-some _ g)) (λ g. g) h
 op_moves op.TwoSlash seen n at start h = cc
-op_moves op.Invert seen n (Data k) start h = by_place (k == 0) _ _ _ _ (Data k) start (λ g. absurd (none_some g)) (λ g. g) h
+op_moves op.Invert seen n (Data k) start h = by_place (k == 0) _ _ _ _ (Data k) start (λ g. absurd (none-some _ g)) (λ g. g) h
 op_moves op.Invert seen n at start h = cc
-op_moves op.Plus seen n (Data k) start h = by_test (is_extended n) _ _ (Data k) start (by_place (k == 0) _ _ _ _ (Data k) start (λ g. absurd (none_some g)) (λ g. up_data (k == 9) k (k + 1) start g) h) (by_place (k == 0) _ _ _ _ (Data k) start (λ g. absurd (none_some g)) (λ g. up_data (k == 9) k (k + 1) start g) h)
+op_moves op.Plus seen n (Data k) start h = by_test (is_extended n) _ _ (Data k) start (by_place (k == 0) _ _ _ _ (Data k) start (λ g. absurd (none-some _ g)) (λ g. up_data (k == 9) k (k + 1) start g) h) (by_place (k == 0) _ _ _ _ (Data k) start (λ g. absurd (none-some _ g)) (λ g. up_data (k == 9) k (k + 1) start g) h)
 op_moves op.Plus seen n at start h = by_test (is_extended n) _ _ at start (cc) (cc)
-op_moves op.And seen n (Data k) start h = by_place (k == 0) _ _ _ _ (Data k) start (λ g. absurd (none_some g)) (λ g. up_data (k == 9) k (k + 1) start g) h
+op_moves op.And seen n (Data k) start h = by_place (k == 0) _ _ _ _ (Data k) start (λ g. absurd (none-some _ g)) (λ g. up_data (k == 9) k (k + 1) start g) h
 op_moves op.And seen n at start h = cc
-op_moves op.Or seen n (Data k) start h = by_place (k == 0) _ _ _ _ (Data k) start (λ g. absurd (none_some g)) (λ g. up_data (k == 9) k (k + 1) start g) h
+op_moves op.Or seen n (Data k) start h = by_place (k == 0) _ _ _ _ (Data k) start (λ g. absurd (none-some _ g)) (λ g. up_data (k == 9) k (k + 1) start g) h
 op_moves op.Or seen n at start h = cc
 op_moves op.Drop seen n (Data k) start h = up_data (k == 9) k (k + 1) start h
 op_moves op.Drop seen n at start h = cc

@@ -23,6 +23,7 @@ use Rattle.ga_event.specs.Told.{made_after, mades_after}
 use Rattle.ga_event.proofs.Locality.{apply_keeps}
 use Rattle.ga_lab.specs.Machine.{State, told_by, history_of}
 use Rattle.ga_origin.specs.Origins.{place_after, node_after}
+use Rattle.std.proofs.lemmas.Option.{none-some}
 
 abbrev Ended : Type 0
 Ended = List NodeRecord × List (Cause × Told)
@@ -71,12 +72,9 @@ none_first : (es : List Event) (n : ℕ) → place_after es n zero ≡ zero
 none_first [] n = refl
 none_first (e ∷ es) n = refl
 
-none_some : {A : Type 0} {x : A} → None ≡ Some x → ⊥
-none_some h = cc
-
-empty_some : (i : ℕ) (x : Made) → slice_get [] i ≡ Some x → ⊥
-empty_some zero x h = none_some h
-empty_some (suc i) x h = none_some h
+pub empty_some : (i : ℕ) (x : Made) → slice_get [] i ≡ Some x → ⊥
+empty_some zero x h = none-some _ h
+empty_some (suc i) x h = none-some _ h
 
 -- a node that held this made an event of this kind, and then held that, on a chip of all nodes
 record Went (nodes : ℕ) (before behind : NodeRecord) (kind : Kind) : Type 0 where
@@ -193,7 +191,7 @@ pub whole_machine : (s : State) (chip : List NodeRecord) → replay s.load s.kep
 whole_machine s chip leads size = go (run s.load s.kept) refl leads
   where
     go : (o : Option Ended) → run s.load s.kept ≡ o → option_map (λ (z : Ended). z.0) o ≡ Some chip → length s.load ≡ 144
-    go None is h = absurd (none_some h)
+    go None is h = absurd (none-some _ h)
     go (Some done) is h = sym (length_run s.load s.kept done is) ∙ ap length (same_Some _ _ h) ∙ size
 
 -- the next event of a node that held this was of this kind

@@ -8,7 +8,7 @@ use Rattle.ga_ports.specs.declared.address.Target.{Target}
 use Rattle.ga_ports.specs.declared.address.Target.TheVariants as target
 use Rattle.ga_node.specs.Record.{NodeRecord}
 use Rattle.ga_node.specs.Changes.{Change, SetA, SetB, SetRam, SetIo, SetWait, SetStop, changed, after_changes}
-use Rattle.ga_node.specs.Table.{t, r, is_extended, due_of, found, stored, followed, posts, halts, awaited, named, done_by, own_event, own}
+use Rattle.ga_node.specs.Table.{t, r, is_extended, due_of, found, stored, followed, posts, halts, awaited, with_kind, done_by, own_event, own}
 use Rattle.ga_node.specs.declared.kind.Kind.{Kind}
 use Rattle.ga_node.specs.declared.kind.Kind.TheVariants as kind
 use Rattle.ga_node.specs.declared.seen.Seen.{Seen}
@@ -62,7 +62,7 @@ by_test kept true some others n first second = spared kept n some first
 by_test kept false some others n first second = spared kept n others second
 
 by_read : (kept : Kept) (ran : Kind) (target : Target) (reader : Reader) (seen : Seen) (n : NodeRecord) (more : ℕ → List Change)
-    → ((word : ℕ) → rests_by kept ran ≡ true → Spare (more word) kept) → RestBy kept (named ran (followed (found target reader seen n) more)) n
+    → ((word : ℕ) → rests_by kept ran ≡ true → Spare (more word) kept) → RestBy kept (with_kind ran (followed (found target reader seen n) more)) n
 unfolding found followed
 by_read kept ran (target.Ram c) reader seen n more gave h = spared kept n _ (gave _ h)
 by_read kept ran (target.Rom c) reader seen n more gave h = spared kept n _ (gave _ h)
@@ -72,7 +72,7 @@ by_read kept ran target.Bad reader seen n more gave h = spared kept n (SetStop 2
 
 by_write : (kept : Kept) (ran : Kind) (target : Target) (n : NodeRecord) (more : List Change)
     → ((cell : ℕ) → rests_by kept ran ≡ true → Spares (SetRam cell (t n)) kept) → (rests_by kept ran ≡ true → Spare more kept)
-    → RestBy kept (named ran (followed (stored target n) (λ changes. changes ++ more))) n
+    → RestBy kept (with_kind ran (followed (stored target n) (λ changes. changes ++ more))) n
 unfolding stored followed
 by_write kept ran (target.Ram c) n more ram rest h = spared kept n (SetRam c (t n) ∷ more) (ram c h, rest h)
 by_write kept ran (target.Rom c) n more ram rest h = spared kept n more (rest h)

@@ -14,8 +14,8 @@ use Rattle.ga_flow.specs.Flow.{Flow, Same, From, IsPart, top}
 use Rattle.ga_flow.specs.Following.{AreParts, AreSources}
 use Rattle.ga_origin.specs.declared.value.Value.{Value}
 use Rattle.ga_origin.specs.declared.listing.Row.{Row}
-use Rattle.ga_origin.specs.Origins.{flow_at, value_at}
-use Rattle.ga_origin.specs.Rows.{sender_in, sources_by, sources_from, row_at, below}
+use Rattle.ga_origin.specs.Origins.{flow_at, value_of_step}
+use Rattle.ga_origin.specs.Rows.{sender_in, source_values, sources_from, row_at, below}
 use Rattle.ga_origin.specs.kept.Open.{IsOpen}
 
 pub no_parts : (xs : List Part) → (0 < length xs → ⊥) → xs ≡ []
@@ -47,26 +47,26 @@ pub below_load : (s : State) (row : Row) → row.value.step ≡ 0 → below s ro
 below_load s row is = ap (λ (k : ℕ). map (row_at (row.depth + 1)) (sources_from s row.value.node k row.value.part)) is
 
 pub below_made : (s : State) (row : Row) (k : ℕ) (told : Option Made) (flow : Flow) → suc k ≡ row.value.step → told ≡ slice_get (history_of s row.value.node.number) k → flow ≡ flow_at s row.value.node.number k row.value.part
-    → map (row_at (row.depth + 1)) (sources_by row.value.node k told flow) ≡ below s row
+    → map (row_at (row.depth + 1)) (source_values row.value.node k told flow) ≡ below s row
 below_made s row k told flow is told_is flow_is =
-    ap (λ (z : Flow). map (row_at (row.depth + 1)) (sources_by row.value.node k told z)) flow_is
-    ∙ ap (λ (z : Option Made). map (row_at (row.depth + 1)) (sources_by row.value.node k z (flow_at s row.value.node.number k row.value.part))) told_is
+    ap (λ (z : Flow). map (row_at (row.depth + 1)) (source_values row.value.node k told z)) flow_is
+    ∙ ap (λ (z : Option Made). map (row_at (row.depth + 1)) (source_values row.value.node k z (flow_at s row.value.node.number k row.value.part))) told_is
     ∙ ap (λ (z : ℕ). map (row_at (row.depth + 1)) (sources_from s row.value.node z row.value.part)) is
 
 -- each stands in a part
 abbrev stands_in : Value → Type 0
 stands_in value = IsPart value.part
 
-parts_stand : (node : NodeId) (k : ℕ) (parts : List Part) → AreParts parts → All stands_in (map (value_at node k) parts)
+parts_stand : (node : NodeId) (k : ℕ) (parts : List Part) → AreParts parts → All stands_in (map (value_of_step node k) parts)
 parts_stand node k [] are = All-nil stands_in
-parts_stand node k (at ∷ rest) are = All-cons stands_in (value_at node k at) (map (value_at node k) rest) are.0 (parts_stand node k rest are.1)
+parts_stand node k (at ∷ rest) are = All-cons stands_in (value_of_step node k at) (map (value_of_step node k) rest) are.0 (parts_stand node k rest are.1)
 
 sender_stands : (told : Option Made) → All stands_in (option_to_list (sender_in told))
 sender_stands None = All-nil stands_in
 sender_stands (Some (made.Own node step kind)) = All-nil stands_in
-sender_stands (Some (made.Pass w i r j word)) = All-cons stands_in (value_at w (i - 1) top) [] (omega arith) (All-nil stands_in)
+sender_stands (Some (made.Pass w i r j word)) = All-cons stands_in (value_of_step w (i - 1) top) [] (omega arith) (All-nil stands_in)
 
-sources_stand : (node : NodeId) (k : ℕ) (told : Option Made) (flow : Flow) → AreSources flow → All stands_in (sources_by node k told flow)
+sources_stand : (node : NodeId) (k : ℕ) (told : Option Made) (flow : Flow) → AreSources flow → All stands_in (source_values node k told flow)
 sources_stand node k told (Same Outside) is = sender_stands told
 sources_stand node k told (Same (Data at)) is = parts_stand node k (Data at ∷ []) (is, tt)
 sources_stand node k told (Same (Return at)) is = parts_stand node k (Return at ∷ []) (is, tt)
@@ -89,7 +89,7 @@ rows_open depth values stand = All-map (IsOpen depth) (row_at depth) values (All
 pub below_open : (s : State) (row : Row) (k : ℕ) (told : Option Made) (flow : Flow) → suc k ≡ row.value.step → told ≡ slice_get (history_of s row.value.node.number) k → flow ≡ flow_at s row.value.node.number k row.value.part
     → AreSources flow → All (IsOpen (row.depth + 1)) (below s row)
 below_open s row k told flow is told_is flow_is are =
-    subst (All (IsOpen (row.depth + 1))) (below_made s row k told flow is told_is flow_is) (rows_open (row.depth + 1) (sources_by row.value.node k told flow) (sources_stand row.value.node k told flow are))
+    subst (All (IsOpen (row.depth + 1))) (below_made s row k told flow is told_is flow_is) (rows_open (row.depth + 1) (source_values row.value.node k told flow) (sources_stand row.value.node k told flow are))
 
 pub load_open : (s : State) (row : Row) → row.value.step ≡ 0 → All (IsOpen (row.depth + 1)) (below s row)
 load_open s row is = subst (All (IsOpen (row.depth + 1))) (sym (below_load s row is)) (All-nil (IsOpen (row.depth + 1)))

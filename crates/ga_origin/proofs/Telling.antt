@@ -19,6 +19,7 @@ use Rattle.ga_event.specs.Told.{causes_told, steps_of, made_after, mades_after}
 use Rattle.ga_causal.specs.Dependence.{cause_touches, place_of}
 use Rattle.ga_causal.proofs.Refusals.{place-first, place-touched, place-other}
 use Rattle.ga_lab.specs.Machine.{State, told_by, told_of_kept, causes_of, history_of}
+use Rattle.ga_origin.proofs.Ran.{empty_some}
 
 -- what is told of an event is of its kind
 is_fit : Event → Told → Bool
@@ -99,13 +100,6 @@ later before c cs n k j w i sent on = go (cause_touches c w) refl (one_more befo
       own = on sent.place sent.own;
       writers = own_past c cs w sent.steps sent.place is sent.writers;
     }
-
-none_some : {A : Type 0} {x : A} → None ≡ Some x → ⊥
-none_some h = cc
-
-empty_some : (i : ℕ) (x : Made) → slice_get [] i ≡ Some x → ⊥
-empty_some zero x h = none_some h
-empty_some (suc i) x h = none_some h
 
 touches_writer : (w r : ℕ) → ((w == w) || ((r == w) || false)) ≡ true
 touches_writer w r = ap (λ b. b || ((r == w) || false)) (eq-eqb w w refl)

@@ -9,14 +9,14 @@ use Rattle.ga_lab.specs.Machine.{State}
 use Rattle.ga_origin.specs.declared.value.Value.{Value}
 use Rattle.ga_origin.specs.declared.listing.Row.{Row}
 use Rattle.ga_origin.specs.Origins.{origin_of}
-use Rattle.ga_origin.specs.Rows.{is_named, made_row, below, row_at, AreRows, all, again, next, cut}
+use Rattle.ga_origin.specs.Rows.{has_value, made_row, below, row_at, AreRows, all, again, next, cut}
 use Rattle.ga_origin.specs.kept.Open.{IsOpen}
 
 -- with these rows told and those still to come, what comes makes the rows of the first whole
 abbrev pub Tells : State → Row → List Row → List Row → Type 0
 Tells s first named todo = (later : List Row) (whole : Bool) → AreRows s named todo later whole → AreRows s [] (first ∷ []) (named ++ later) whole
 
-told_next : (s : State) (first : Row) (named todo : List Row) (row : Row) → is_named named (origin_of s row.value) ≡ false
+told_next : (s : State) (first : Row) (named todo : List Row) (row : Row) → has_value named (origin_of s row.value) ≡ false
     → Tells s first named (row ∷ todo) → Tells s first (named ++ made_row s row ∷ []) (below s (made_row s row) ++ todo)
 told_next s first named todo row is tells later whole rows =
     subst (λ z. AreRows s [] (first ∷ []) z whole) (sym (append_assoc named (made_row s row ∷ []) later)) (tells (made_row s row ∷ later) whole (next row is rows))
@@ -25,26 +25,26 @@ told_next s first named todo row is tells later whole rows =
 pub top_first : (todo left : List Row) (row : Row) → todo ≡ left ++ row ∷ [] → reverse todo ≡ row ∷ reverse left
 top_first todo left row is = ap reverse is ∙ reverse-append left (row ∷ [])
 
-pub told_again : (s : State) (first : Row) (named todo left : List Row) (row : Row) (value : Value) → todo ≡ left ++ row ∷ [] → value ≡ origin_of s row.value → is_named named value ≡ true
+pub told_again : (s : State) (first : Row) (named todo left : List Row) (row : Row) (value : Value) → todo ≡ left ++ row ∷ [] → value ≡ origin_of s row.value → has_value named value ≡ true
     → Tells s first named (reverse todo) → Tells s first named (reverse left)
 told_again s first named todo left row value is e named_is tells later whole rows =
-    subst (Tells s first named) (top_first todo left row is) tells later whole (again row (ap (is_named named) (sym e) ∙ named_is) rows)
+    subst (Tells s first named) (top_first todo left row is) tells later whole (again row (ap (has_value named) (sym e) ∙ named_is) rows)
 
-pub told_on : (s : State) (first : Row) (named grown todo left more : List Row) (row : Row) (value : Value) → todo ≡ left ++ row ∷ [] → value ≡ origin_of s row.value → is_named named value ≡ false
+pub told_on : (s : State) (first : Row) (named grown todo left more : List Row) (row : Row) (value : Value) → todo ≡ left ++ row ∷ [] → value ≡ origin_of s row.value → has_value named value ≡ false
     → grown ≡ named ++ row_at row.depth value ∷ [] → reverse more ≡ below s (row_at row.depth value) ++ reverse left
     → Tells s first named (reverse todo) → Tells s first grown (reverse more)
 told_on s first named grown todo left more row value is e named_is rows below_is tells =
     let tells_top : Tells s first named (row ∷ reverse left) = subst (Tells s first named) (top_first todo left row is) tells in
-    let on : Tells s first (named ++ made_row s row ∷ []) (below s (made_row s row) ++ reverse left) = told_next s first named (reverse left) row (ap (is_named named) (sym e) ∙ named_is) tells_top in
+    let on : Tells s first (named ++ made_row s row ∷ []) (below s (made_row s row) ++ reverse left) = told_next s first named (reverse left) row (ap (has_value named) (sym e) ∙ named_is) tells_top in
     let here : Tells s first (named ++ row_at row.depth value ∷ []) (below s (row_at row.depth value) ++ reverse left) =
     subst (λ (z : Value). Tells s first (named ++ row_at row.depth z ∷ []) (below s (row_at row.depth z) ++ reverse left)) (sym e) on in
     subst (λ z. Tells s first z (reverse more)) (sym rows) (subst (Tells s first (named ++ row_at row.depth value ∷ [])) (sym below_is) here)
 
-pub told_cut : (s : State) (first : Row) (named todo left : List Row) (row : Row) (value : Value) → todo ≡ left ++ row ∷ [] → value ≡ origin_of s row.value → is_named named value ≡ false
+pub told_cut : (s : State) (first : Row) (named todo left : List Row) (row : Row) (value : Value) → todo ≡ left ++ row ∷ [] → value ≡ origin_of s row.value → has_value named value ≡ false
     → Tells s first named (reverse todo) → AreRows s [] (first ∷ []) named false
 told_cut s first named todo left row value is e named_is tells =
     subst (λ z. AreRows s [] (first ∷ []) z false) (append-nil named)
-    (subst (Tells s first named) (top_first todo left row is) tells [] false (cut row (ap (is_named named) (sym e) ∙ named_is)))
+    (subst (Tells s first named) (top_first todo left row is) tells [] false (cut row (ap (has_value named) (sym e) ∙ named_is)))
 
 pub no_items : (xs : List Row) (n : ℕ) → n ≡ length xs → (0 < n → ⊥) → xs ≡ []
 no_items [] n long none = refl

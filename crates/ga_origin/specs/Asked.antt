@@ -24,7 +24,7 @@ use Rattle.ga_flow.specs.Flow.{top, top_return}
 use Rattle.ga_origin.specs.declared.asked.Asked.{Asked}
 use Rattle.ga_origin.specs.declared.asked.Asked.TheVariants.{Behind, Before, Nothing}
 use Rattle.ga_origin.specs.declared.value.Value.{Value}
-use Rattle.ga_origin.specs.Origins.{value_at, node_after}
+use Rattle.ga_origin.specs.Origins.{value_of_step, node_after}
 
 -- A read leaves its word there. In the place of one at a port or at no address comes a wait or a stop, decided by the address.
 abbrev pub read_asked : Part → Part → Target → Asked
@@ -96,8 +96,8 @@ told_asked (made.Pass writer i reader j word) before n = if n == reader.number t
 
 -- the value that is meant, of the step behind so many of a node
 abbrev pub value_asked : NodeId → ℕ → Asked → Option Value
-value_asked node k (Behind at) = Some (value_at node (suc k) at)
-value_asked node k (Before at) = Some (value_at node k at)
+value_asked node k (Behind at) = Some (value_of_step node (suc k) at)
+value_asked node k (Before at) = Some (value_of_step node k at)
 value_asked node k Nothing = None
 
 abbrev pub place_asked : State → NodeId → ℕ → Option Value

@@ -16,7 +16,7 @@ use Rattle.ga_flow.specs.declared.part.Part.TheVariants as part
 use Rattle.ga_flow.specs.Flow.{Flow, Same, From, top, top_return, part_of}
 use Rattle.ga_origin.specs.declared.value.Value.{Value}
 use Rattle.ga_origin.specs.declared.deciding.Decision.{Decision}
-use Rattle.ga_origin.specs.Origins.{value_at, node_after, flow_at, origin_of}
+use Rattle.ga_origin.specs.Origins.{value_of_step, node_after, flow_at, origin_of}
 use Rattle.ga_origin.specs.Rows.{sender_in}
 
 -- the part before it that an opcode tests, or that it makes P of
@@ -74,7 +74,7 @@ kind_tested s node k (kind.Stop number) = None
 
 -- the value by which the step was decided, of which this is told
 abbrev pub tested_at : State → NodeId → ℕ → Made → Option Value
-tested_at s node k (made.Own other step kind) = option_map (value_at node k) (kind_tested s node k kind)
+tested_at s node k (made.Own other step kind) = option_map (value_of_step node k) (kind_tested s node k kind)
 tested_at s node k (made.Pass writer i reader j word) = code_at s node.number k
 
 -- the word that stood there, or that was passed

@@ -6,19 +6,19 @@ use Rattle.ga_ports.specs.declared.address.Target.TheVariants.{Ram, Rom}
 use Rattle.ga_grid.specs.declared.node_id.NodeId.{NodeId}
 use Rattle.ga_lab.specs.Machine.{State}
 use Rattle.ga_flow.specs.declared.part.Part.TheVariants as part
-use Rattle.ga_origin.specs.Origins.{node_after, value_at, origin_of}
+use Rattle.ga_origin.specs.Origins.{node_after, value_of_step, origin_of}
 
 -- the cell's address: of RAM from 0 on, of ROM from 128 on
-abbrev pub cell_of : Target → Option ℕ
-cell_of (Ram k) = Some k
-cell_of (Rom k) = Some (128 + k)
-cell_of _ = None
+abbrev pub cell_of_target : Target → Option ℕ
+cell_of_target (Ram k) = Some k
+cell_of_target (Rom k) = Some (128 + k)
+cell_of_target _ = None
 
 -- the cell that P named before the fetch with this number; none where the word was loaded
 abbrev pub fetched_by : State → ℕ → ℕ → Option ℕ
 fetched_by s n zero = None
-fetched_by s n (suc k) = cell_of (classified (node_after s n k).p)
+fetched_by s n (suc k) = cell_of_target (classified (node_after s n k).p)
 
 -- A step belongs to the word that stands in I behind it.
 abbrev pub fetched_cell : State → NodeId → ℕ → Option ℕ
-fetched_cell s node step = fetched_by s node.number (origin_of s (value_at node step part.I)).step
+fetched_cell s node step = fetched_by s node.number (origin_of s (value_of_step node step part.I)).step

@@ -38,13 +38,13 @@ abbrev pub flow_at : State → ℕ → ℕ → Part → Flow
 flow_at s n k at = flow_told (slice_get (history_of s n) k) (node_after s n k) n at
 
 -- a cell of memory; and a value goes to one from elsewhere, or from one
-abbrev pub is_cell : Part → Bool
-is_cell (part.Ram k) = true
-is_cell (part.Rom k) = true
-is_cell _ = false
+abbrev pub is_memory_part : Part → Bool
+is_memory_part (part.Ram k) = true
+is_memory_part (part.Rom k) = true
+is_memory_part _ = false
 
 abbrev pub crosses : Part → Part → Bool
-crosses from to = if is_cell from then not (is_cell to) else is_cell to
+crosses from to = if is_memory_part from then not (is_memory_part to) else is_memory_part to
 
 -- the part from which a value was moved to this one by a step that is passed over: it stays the value that it was, and neither comes
 -- from outside nor was read from memory or stored there
@@ -64,18 +64,18 @@ told_part flow part.Carry = if is_of_three flow then top else part.Carry
 told_part flow at = at
 
 -- the value that a step made, or one at load
-abbrev pub value_at : NodeId → ℕ → Part → Value
-value_at node step at = record { node = node; step = step; part = at }
+abbrev pub value_of_step : NodeId → ℕ → Part → Value
+value_of_step node step at = record { node = node; step = step; part = at }
 
 abbrev pub moved_at : State → ℕ → ℕ → Part → Option Part
 moved_at s n k at = moved_from (flow_at s n k at) at
 
 -- where the value of a part was made that stands there after so many steps of the node
 abbrev pub origin_from : State → NodeId → ℕ → Part → Value
-origin_from s node zero at = value_at node 0 at
+origin_from s node zero at = value_of_step node 0 at
 origin_from s node (suc k) at =
     unwrap_or (option_map (origin_from s node k) (moved_at s node.number k at))
-    (value_at node (suc k) (told_part (flow_at s node.number k at) at))
+    (value_of_step node (suc k) (told_part (flow_at s node.number k at) at))
 
 abbrev pub origin_of : State → Value → Value
 origin_of s value = origin_from s value.node value.step value.part

@@ -10,32 +10,32 @@ use Rattle.ga_flow.specs.declared.part.Part.TheVariants as part
 use Rattle.ga_flow.specs.Flow.{Flow, Same, From, top, is_same}
 use Rattle.ga_origin.specs.declared.value.Value.{Value}
 use Rattle.ga_origin.specs.declared.listing.Row.{Row}
-use Rattle.ga_origin.specs.Origins.{value_at, flow_at, origin_of}
+use Rattle.ga_origin.specs.Origins.{value_of_step, flow_at, origin_of}
 
 -- two values are one, and a value was told
 abbrev pub is_one : Value → Value → Bool
 is_one value other = (value.node.number == other.node.number) && ((value.step == other.step) && is_same value.part other.part)
 
-abbrev pub is_named : List Row → Value → Bool
-is_named rows value = list_any (λ (row : Row). is_one row.value value) rows
+abbrev pub has_value : List Row → Value → Bool
+has_value rows value = list_any (λ (row : Row). is_one row.value value) rows
 
 -- what a word came from that an event carried: T of the writer before
 abbrev pub sender_in : Option Made → Option Value
-sender_in (Some (made.Pass writer i reader j word)) = Some (value_at writer (i - 1) top)
+sender_in (Some (made.Pass writer i reader j word)) = Some (value_of_step writer (i - 1) top)
 sender_in (Some (made.Own node step kind)) = None
 sender_in None = None
 
 -- the values from which one comes that a step of a node made, the one behind so many, of which this is told: over a link, or in the
 -- node before. What a read of `io` shows comes from none.
-abbrev pub sources_by : NodeId → ℕ → Option Made → Flow → List Value
-sources_by node k told (Same part.Outside) = option_to_list (sender_in told)
-sources_by node k told (Same from) = value_at node k from ∷ []
-sources_by node k told (From parts) = map (value_at node k) parts
+abbrev pub source_values : NodeId → ℕ → Option Made → Flow → List Value
+source_values node k told (Same part.Outside) = option_to_list (sender_in told)
+source_values node k told (Same from) = value_of_step node k from ∷ []
+source_values node k told (From parts) = map (value_of_step node k) parts
 
 -- the same of a value that was made so; one at load comes from none
 abbrev pub sources_from : State → NodeId → ℕ → Part → List Value
 sources_from s node zero at = []
-sources_from s node (suc k) at = sources_by node k (slice_get (history_of s node.number) k) (flow_at s node.number k at)
+sources_from s node (suc k) at = source_values node k (slice_get (history_of s node.number) k) (flow_at s node.number k at)
 
 abbrev pub sources_of : State → Value → List Value
 sources_of s value = sources_from s value.node value.step value.part
@@ -52,15 +52,15 @@ below s row = map (row_at (row.depth + 1)) (sources_of s row.value)
 
 -- the step that made a value is among the rows
 abbrev pub IsToldIn : State → List Row → Value → Type 0
-IsToldIn s rows value = is_named rows (origin_of s value) ≡ true
+IsToldIn s rows value = has_value rows (origin_of s value) ≡ true
 
 -- With these rows told already, and the values still to be told, the one next to come first, these rows come; all, or cut somewhere.
 -- Each value is told as the step that made it, unless that was told before, and then what the step read comes, one deeper.
 pub data AreRows (s : State) : List Row → List Row → List Row → Bool → Type 0 where
   all : {named : List Row} → AreRows s named [] [] true
-  again : {named todo rows : List Row} {whole : Bool} (row : Row) → is_named named (origin_of s row.value) ≡ true
+  again : {named todo rows : List Row} {whole : Bool} (row : Row) → has_value named (origin_of s row.value) ≡ true
       → AreRows s named todo rows whole → AreRows s named (row ∷ todo) rows whole
-  next : {named todo rows : List Row} {whole : Bool} (row : Row) → is_named named (origin_of s row.value) ≡ false
+  next : {named todo rows : List Row} {whole : Bool} (row : Row) → has_value named (origin_of s row.value) ≡ false
       → AreRows s (named ++ made_row s row ∷ []) (below s (made_row s row) ++ todo) rows whole
       → AreRows s named (row ∷ todo) (made_row s row ∷ rows) whole
-  cut : {named todo : List Row} (row : Row) → is_named named (origin_of s row.value) ≡ false → AreRows s named (row ∷ todo) [] false
+  cut : {named todo : List Row} (row : Row) → has_value named (origin_of s row.value) ≡ false → AreRows s named (row ∷ todo) [] false

@@ -7,31 +7,31 @@ use Rattle.ga_grid.specs.declared.node_id.NodeId.{NodeId}
 use Rattle.ga_lab.specs.Machine.{State, history_of}
 use Rattle.ga_flow.specs.declared.part.Part.TheVariants as part
 use Rattle.ga_flow.specs.Flow.{Flow, Same, From}
-use Rattle.ga_origin.specs.declared.writes.Written.{Written}
-use Rattle.ga_origin.specs.Origins.{is_cell, node_after, flow_at}
+use Rattle.ga_origin.specs.declared.writes.CellWrite.{CellWrite}
+use Rattle.ga_origin.specs.Origins.{is_memory_part, node_after, flow_at}
 
 -- the word in a cell comes from elsewhere: a cell that is not written keeps its own
 abbrev pub is_written : Flow → Bool
-is_written (Same from) = not (is_cell from)
+is_written (Same from) = not (is_memory_part from)
 is_written (From parts) = true
 
-abbrev pub written : ℕ → ℕ → Made → Written
-written step word made = record { step = step; made = made; word = word }
+abbrev pub cell_write : ℕ → ℕ → Made → CellWrite
+cell_write step word made = record { step = step; made = made; word = word }
 
 -- the step behind so many of a node, where it wrote the cell, with the word that stood there behind it
-abbrev pub written_at : State → ℕ → ℕ → ℕ → Option Written
+abbrev pub written_at : State → ℕ → ℕ → ℕ → Option CellWrite
 written_at s n cell k =
     if is_written (flow_at s n k (part.Ram cell))
-    then option_map (written (k + 1) (slice_index (node_after s n (k + 1)).ram cell)) (slice_get (history_of s n) k)
+    then option_map (cell_write (k + 1) (slice_index (node_after s n (k + 1)).ram cell)) (slice_get (history_of s n) k)
     else None
 
 -- what the first names, or else the second
-abbrev pub either : Option Written → Option Written → Option Written
+abbrev pub either : Option CellWrite → Option CellWrite → Option CellWrite
 either (Some written) other = Some written
 either None other = other
 
 -- the newest of so many steps of a node that wrote the cell
-abbrev pub newest_written : State → ℕ → ℕ → ℕ → Option Written
+abbrev pub newest_written : State → ℕ → ℕ → ℕ → Option CellWrite
 newest_written s n cell zero = None
 newest_written s n cell (suc k) = either (written_at s n cell k) (newest_written s n cell k)
 

@@ -6,7 +6,7 @@ ghost use Rattle.ga_ports.specs.Address.{classified};
 ghost use Rattle.ga_node.specs.Record.{record_of};
 ghost use Rattle.ga_lab.specs.Machine.{standing};
 ghost use Rattle.ga_origin.specs.Origins.{node_after};
-ghost use Rattle.ga_origin.specs.Fetched.{cell_of, fetched_cell};
+ghost use Rattle.ga_origin.specs.Fetched.{cell_of_target, fetched_cell};
 
 use crate::known::p_at;
 use crate::origin::{kept_step, origin_behind, trail_near};
@@ -20,7 +20,7 @@ use ga_ports::{Target, classify};
 
 /// The cell that an address names.
 fn cell_of(address: u32) -> Option<u8>
-    ensures { result ≡ cell_of (classified address) }
+    ensures { result ≡ cell_of_target (classified address) }
 {
     match classify(address) {
         Target::Ram(cell) => Some(cell),

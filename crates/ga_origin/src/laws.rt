@@ -7,7 +7,7 @@ ghost use Rattle.ga_lab.specs.Machine.{State, causes_of};
 ghost use Rattle.ga_flow.specs.Flow.{top};
 ghost use Rattle.ga_origin.specs.declared.value.Value.{Value};
 ghost use Rattle.ga_origin.specs.declared.listing.Row.{Row};
-ghost use Rattle.ga_origin.specs.Origins.{value_at};
+ghost use Rattle.ga_origin.specs.Origins.{value_of_step};
 ghost use Rattle.ga_origin.specs.Asked.{asked_of};
 ghost use Rattle.ga_origin.specs.Rows.{row_at, sources_of, IsToldIn, AreRows};
 ghost use Rattle.ga_origin.specs.Causes.{IsCause, IsNamedFor};
@@ -34,7 +34,7 @@ pub fn whole_listings_miss_nothing()
 pub fn asked_steps_are_causes()
     ensures { (s : State) (node : NodeId) (step place : ℕ) (value : Value) (rows : List Row) (whole : Bool) →
         place_of (causes_of s) node.number step ≡ Some place → asked_of s node step ≡ Some value →
-        AreRows s [] (row_at 0 value ∷ []) rows whole → All (λ (row : Row). IsNamedFor s (value_at node step top) row.value) rows }
+        AreRows s [] (row_at 0 value ∷ []) rows whole → All (λ (row : Row). IsNamedFor s (value_of_step node step top) row.value) rows }
 {}
 
 /// Each step that a value decided is a cause of every later step of its node, so that `why` leads from it there; and so is the step
@@ -42,8 +42,8 @@ pub fn asked_steps_are_causes()
 pub fn deciding_steps_are_causes()
     ensures step { (s : State) (node : NodeId) (step k place : ℕ) (decision : Decision) →
         place_of (causes_of s) node.number step ≡ Some place → k < step → decided_at s node k ≡ Some decision →
-        IsCause s (value_at node decision.step top) (value_at node step top) }
+        IsCause s (value_of_step node decision.step top) (value_of_step node step top) }
     ensures source { (s : State) (node : NodeId) (step k place : ℕ) (decision : Decision) →
         place_of (causes_of s) node.number step ≡ Some place → k < step → decided_at s node k ≡ Some decision →
-        IsNamedFor s (value_at node step top) decision.source }
+        IsNamedFor s (value_of_step node step top) decision.source }
 {}

@@ -21,4 +21,4 @@ pub use fetched::fetched_near;
 pub use listing::{Listing, Row, whence, whence_near};
 pub use origin::origin_of;
 pub use value::Value;
-pub use writes::{CellWrites, Written};
+pub use writes::{CellWrite, CellWrites};

@@ -4,8 +4,8 @@ ghost use Rattle.std.specs.Prelude.{◌≡◌, ◌⊎◌, ◌↔◌, ◌<◌, �
 ghost use Rattle.ga_event.specs.Told.{steps_of};
 ghost use Rattle.ga_lab.specs.Machine.{standing};
 ghost use Rattle.ga_flow.specs.Flow.{IsPart, Same};
-ghost use Rattle.ga_origin.specs.Origins.{value_at};
-ghost use Rattle.ga_origin.specs.Rows.{is_named, row_at, sender_in, sources_by, below, AreRows};
+ghost use Rattle.ga_origin.specs.Origins.{value_of_step};
+ghost use Rattle.ga_origin.specs.Rows.{has_value, row_at, sender_in, source_values, below, AreRows};
 ghost use Rattle.ga_origin.specs.kept.Open.{IsOpen};
 
 use crate::origin::{Origin, flow_by_trail, origin_near};
@@ -38,7 +38,7 @@ pub struct Listing {
 
 // Whether the value is among those that were told.
 fn is_named(rows: &[Row], value: Value) -> bool
-    ensures { result ≡ is_named rows.now value }
+    ensures { result ≡ has_value rows.now value }
 {
     rows.iter().any(|row| row.value.is_same(value))
 }
@@ -67,7 +67,7 @@ pub(crate) fn sender_in(made: Option<Made>) -> Option<Value>
 
 // The value from which one was moved or read, by the part where it stood before.
 fn source_in(node: NodeId, step: u32, told: Option<Made>, from: Part) -> Option<Value>
-    ensures { option_to_list result ≡ sources_by node step told (Same from) }
+    ensures { option_to_list result ≡ source_values node step told (Same from) }
 {
     match from {
         Part::Outside => sender_in(told),
@@ -102,7 +102,7 @@ fn push_parts(
     parts: ArrayVec<Part, 3>,
 ) -> Result<(), AllocError>
     ensures ok { OnOk result
-        (reverse todo.new.items ≡ map (row_at depth) (map (value_at node step) parts.items) ++ reverse todo.old.items) }
+        (reverse todo.new.items ≡ map (row_at depth) (map (value_of_step node step) parts.items) ++ reverse todo.old.items) }
     ensures few { OnOk result (length todo.new.items ≤ length todo.old.items + 3) }
 {
     let count = parts.len();

@@ -7,7 +7,7 @@ ghost use Rattle.ga_event.specs.Told.{steps_of};
 ghost use Rattle.ga_lab.specs.Machine.{history_of, standing};
 ghost use Rattle.ga_flow.specs.Flow.{IsPart};
 ghost use Rattle.ga_flow.specs.Following.{flow_of, AreSources};
-ghost use Rattle.ga_origin.specs.Origins.{is_cell, crosses, moved_from, is_of_three, told_part, told_flow, flow_at, origin_from, origin_of};
+ghost use Rattle.ga_origin.specs.Origins.{is_memory_part, crosses, moved_from, is_of_three, told_part, told_flow, flow_at, origin_from, origin_of};
 ghost use Rattle.ga_origin.specs.kept.Moving.{moved_by};
 
 use crate::known::known_flow;
@@ -22,7 +22,7 @@ use ga_node::Node;
 
 // Whether the part is a cell of memory.
 pub(crate) fn is_cell(part: Part) -> bool
-    ensures { result ≡ is_cell part }
+    ensures { result ≡ is_memory_part part }
 {
     match part {
         Part::Ram(_) => true,

@@ -25,7 +25,7 @@ use std::marker::Model;
 
 /// A step that wrote a cell, and the word that stood there behind it.
 #[derive(Clone, Copy, PartialEq, Eq, Debug)]
-pub struct Written {
+pub struct CellWrite {
     /// The number of the step.
     pub step: u32,
     /// What is told of the step.
@@ -208,7 +208,7 @@ impl<'l> CellWrites<'l> {
 
     /// Goes back over the newest step that wrote the cell, and tells of it; none where no step did. Takes no memory, and time by how many
     /// steps it goes back over.
-    pub fn next(&mut self) -> Option<Written>
+    pub fn next(&mut self) -> Option<CellWrite>
         ensures value { result ≡ newest_written self.old.machine self.old.node.number self.old.cell self.old.step }
         ensures step { IfSome result (λ written. self.new.step + 1 ≡ written.step) }
         ensures same { self.new ≡ search self.old.machine self.old.node self.old.cell self.new.step }
@@ -241,7 +241,7 @@ impl<'l> CellWrites<'l> {
     }
 
     // Goes back over one step, and tells of it where it wrote the cell.
-    fn back(&mut self) -> Option<Written>
+    fn back(&mut self) -> Option<CellWrite>
         requires { 0 < self.old.step }
         ensures value { result ≡ written_at self.old.machine self.old.node.number self.old.cell self.new.step }
         ensures step { self.new.step + 1 ≡ self.old.step }
@@ -268,6 +268,6 @@ impl<'l> CellWrites<'l> {
         }
         let made = told?;
         let word = Word18::truncated(word);
-        Some(Written { step, made, word })
+        Some(CellWrite { step, made, word })
     }
 }

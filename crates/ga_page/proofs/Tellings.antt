@@ -2,13 +2,13 @@
 use Rattle.std.proofs.Common.{◌≡◌, ◌++◌, ℕ, List, length, take, Ok, ◌⊎◌, inl, inr, subst}
 use Rattle.ga_lab.specs.Machine.{State}
 use Rattle.ga_explorer.specs.Tails.{Exploring}
-use Rattle.ga_picture.specs.Following.{Reaches}
+use Rattle.ga_picture.specs.Following.{FollowsTo}
 use Rattle.ga_page.specs.kept.Makers.{makers_of}
 
 pub kept_told : (limit result : ℕ) (input old new read rest text : List ℕ) (seen : State) (last : Exploring)
-    → input ≡ read ++ rest → Reaches limit read rest text (Ok last) → seen ≡ last.lab
+    → input ≡ read ++ rest → FollowsTo limit read rest text (Ok last) → seen ≡ last.lab
     → (result ≡ 0) ⊎ ((nodes : List ℕ) × (nodes ≡ makers_of seen) × (result ≡ length nodes) × (take result new ≡ take (length old) nodes))
-    → (result ≡ 0) ⊎ ((read rest text : List ℕ) × (last : Exploring) × (input ≡ read ++ rest) × Reaches limit read rest text (Ok last)
+    → (result ≡ 0) ⊎ ((read rest text : List ℕ) × (last : Exploring) × (input ≡ read ++ rest) × FollowsTo limit read rest text (Ok last)
     × (nodes : List ℕ) × (nodes ≡ makers_of last.lab) × (result ≡ length nodes) × (take result new ≡ take (length old) nodes))
 kept_told limit result input old new read rest text seen last splits reached same (inl none) = inl none
 kept_told limit result input old new read rest text seen last splits reached same (inr told) =

@@ -3,7 +3,7 @@
 ghost use Rattle.std.specs.Prelude.{◌≡◌, ◌++◌, ◌⊎◌, ℕ, List, Ok, IfSome, length, map, take};
 ghost use Rattle.ga_image.specs.Lines.{Bytes};
 ghost use Rattle.ga_explorer.specs.Tails.{Exploring};
-ghost use Rattle.ga_picture.specs.Following.{Reaches};
+ghost use Rattle.ga_picture.specs.Following.{FollowsTo};
 ghost use Rattle.ga_page.specs.kept.Makers.{maker_of, makers_of};
 
 use crate::buffer::put_front;
@@ -18,7 +18,7 @@ use std::alloc::Global;
 #[unsafe(no_mangle)]
 pub extern "C" fn ga_kept(alloc: Global, input: &[u8], output: &mut [u8], limit: u32) -> usize
     ensures { (result ≡ 0) ⊎ ((read rest text : Bytes) × (last : Exploring) × (input.now ≡ read ++ rest)
-        × Reaches limit read rest text (Ok last) × (nodes : List ℕ) × (nodes ≡ makers_of last.lab)
+        × FollowsTo limit read rest text (Ok last) × (nodes : List ℕ) × (nodes ≡ makers_of last.lab)
         × (result ≡ length nodes) × (take result output.new ≡ take (length output.old) nodes)) }
 {
     let mut reader = input;

@@ -10,6 +10,7 @@ use Rattle.ga_causal.specs.Equivalence.{sees}
 use Rattle.ga_causal.proofs.Exact.{rule_meets, meets_rule}
 use Rattle.ga_causal.proofs.Flags.{none_marked}
 use Rattle.ga_picture.proofs.Flags.{any_of_one, any_at}
+use Rattle.ga_causal.proofs.Oldest.{DependsOn-order as ordered}
 
 -- the first link of a chain of dependence
 pub record First (es : List Cause) (i j : ℕ) : Type 0 where
@@ -27,10 +28,6 @@ first_link es i j (through {middle} d s) = ⊎_elim
 pub joined : (es : List Cause) (i m j : ℕ) → IsDirect es i m → DependsOn es m j → DependsOn es i j
 joined es i m j s itself = through {middle = i} itself s
 joined es i m j s (through {middle} d t) = through {middle = middle} (joined es i m middle s d) t
-
-pub ordered : (es : List Cause) (i j : ℕ) → DependsOn es i j → i ≤ j
-ordered es i j itself = omega arith
-ordered es i j (through {middle} d s) = omega (arith, ordered es i middle d, s.before)
 
 -- an event from a place on, on which the last depends, sees the node
 pub record IsWanted (es : List Cause) (last at n : ℕ) : Type 0 where

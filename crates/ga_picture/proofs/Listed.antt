@@ -6,7 +6,7 @@ use Rattle.std.proofs.lemmas.List.FromFn.{get_or-map-range_with_len, length-map-
 use Rattle.ga_causal.specs.Dependence.{event_at, is_a_pass}
 use Rattle.ga_event.specs.declared.event.Cause.{Cause}
 use Rattle.ga_picture.specs.declared.shade.Shade.{Shade}
-use Rattle.ga_picture.specs.declared.item.Item.{Item}
+use Rattle.ga_picture.specs.declared.item.PictureItem.{PictureItem}
 use Rattle.ga_picture.specs.declared.view.View.{View}
 use Rattle.ga_picture.specs.Items.{Known, item_of, item_at, items_of}
 use Rattle.ga_picture.specs.Runs.{IsSimple}
@@ -35,7 +35,7 @@ item_same view e f s t plain simple named asked silent still p q r u v =
     ∙ ap (λ (z : Bool). item_of view f t z named silent) r ∙ ap (λ (z : Bool). item_of view f t simple z silent) u
     ∙ ap (λ (z : Bool). item_of view f t simple asked z) v
 
-pub items_drawn : (events : List Cause) (ready idle : ℕ → Bool) (view : View) (shades list : List Shade) (cause rewind : Option ℕ) (from to : ℕ) (items : List Item)
+pub items_drawn : (events : List Cause) (ready idle : ℕ → Bool) (view : View) (shades list : List Shade) (cause rewind : Option ℕ) (from to : ℕ) (items : List PictureItem)
     → AreShades events cause rewind shades → list ≡ shades → cause ≡ place_for events view.cause → rewind ≡ place_for events view.rewind
     → from ≡ start_in events view → to ≡ end_in events view → items ≡ items_of (known_by events list ready idle cause rewind) view from to
     → AreItemsOf events ready idle view items
@@ -49,15 +49,15 @@ items_drawn events ready idle view shades list cause rewind from to items a l p 
       ∙ ap (λ (z : ℕ). items_of (known_of events ready idle view shades) view (start_in events view) z) t;
 }
 
-pub drawn_few : (events : List Cause) (ready idle : ℕ → Bool) (view : View) (items : List Item) → AreItemsOf events ready idle view items → length items ≤ length events
+pub drawn_few : (events : List Cause) (ready idle : ℕ → Bool) (view : View) (items : List PictureItem) → AreItemsOf events ready idle view items → length items ≤ length events
 drawn_few events ready idle view items a =
     let known = known_of events ready idle view a.shades in
     let size : length items ≡ end_in events view - start_in events view =
-    ap (λ (z : List Item). length z) a.are ∙ length-map-range_with_len (item_at known view) (start_in events view) (end_in events view - start_in events view) in
+    ap (λ (z : List PictureItem). length z) a.are ∙ length-map-range_with_len (item_at known view) (start_in events view) (end_in events view - start_in events view) in
     let within : end_in events view ≤ length events = omega arith in
     omega arith
 
-pub drawn_simple : (events : List Cause) (ready idle : ℕ → Bool) (view : View) (items : List Item) → AreItemsOf events ready idle view items → All IsSimple items
+pub drawn_simple : (events : List Cause) (ready idle : ℕ → Bool) (view : View) (items : List PictureItem) → AreItemsOf events ready idle view items → All IsSimple items
 drawn_simple events ready idle view items a =
-    subst (λ (z : List Item). All IsSimple z) (sym a.are)
+    subst (λ (z : List PictureItem). All IsSimple z) (sym a.are)
     (items_simple (known_of events ready idle view a.shades) view (start_in events view) (end_in events view))

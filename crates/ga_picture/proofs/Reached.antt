@@ -9,13 +9,13 @@ use Rattle.ga_console.specs.declared.commands.Ending.{Ending}
 use Rattle.ga_console.specs.declared.output.WriteFailed.{WriteFailed}
 use Rattle.ga_console.specs.declared.run.Status.{Status}
 use Rattle.ga_console.specs.declared.run.Status.TheVariants.{Done}
-use Rattle.ga_explorer.specs.Opening.{Opens, IsFront}
-use Rattle.ga_picture.specs.Following.{Hears, Follows, Followed, Reaches}
+use Rattle.ga_explorer.specs.Opening.{OpensExploring, IsFront}
+use Rattle.ga_picture.specs.Following.{Hears, Follows, Followed, FollowsTo}
 use Rattle.ga_picture.specs.Following.Unreached.{broken, short}
 use Rattle.ga_picture.specs.kept.Following.{Goes}
 
 followed_in : (A : Answering Exploring) (limit : ℕ) (text commands rest said written : List ℕ) (machine last : Exploring) (ending : Result Ending WriteFailed) → IsFront text (commands ++ rest)
-    → Opens text limit machine → Serves A (input_limit - length text) machine commands rest said last ending → Written ending said written
+    → OpensExploring text limit machine → Serves A (input_limit - length text) machine commands rest said last ending → Written ending said written
     → Followed A limit (text ++ commands) rest written last ending
 followed_in A limit text commands rest said written machine last ending front opens serves out = record {
   text = text;
@@ -35,8 +35,8 @@ written_none (Ok done) e = refl
 written_none (Err failed) e = cc
 
 -- behind a text on which a machine was opened
-pub reaches_after : (limit : ℕ) (text commands rest written : List ℕ) (machine : Exploring) (result : Result Exploring Status) → IsFront text (commands ++ rest) → Opens text limit machine
-    → Goes (input_limit - length text) machine commands rest written result → Reaches limit (text ++ commands) rest written result
+pub reaches_after : (limit : ℕ) (text commands rest written : List ℕ) (machine : Exploring) (result : Result Exploring Status) → IsFront text (commands ++ rest) → OpensExploring text limit machine
+    → Goes (input_limit - length text) machine commands rest written result → FollowsTo limit (text ++ commands) rest written result
 reaches_after limit text commands rest written machine (Ok last) front opens g =
     (g.0, g.1, g.2, followed_in Follows limit text commands rest [] [] machine last g.1 front opens g.3 (written_none g.1 g.2))
 reaches_after limit text commands rest written machine (Err status) front opens (last, ending, inl g) =

@@ -4,10 +4,10 @@ use Rattle.std.proofs.lemmas.Bool.{cases_Bool, both_ways}
 use Rattle.ga_event.specs.declared.event.Cause.{Cause}
 use Rattle.ga_picture.specs.declared.shade.Shade.{Shade}
 use Rattle.ga_picture.specs.declared.shade.Shade.TheVariants.{Black, Grey, Red}
-use Rattle.ga_picture.specs.Drawing.{Goes, Leads, IsShade}
+use Rattle.ga_picture.specs.Drawing.{Goes, DependsOnPlace, IsShade}
 use Rattle.ga_picture.proofs.Lined.{none_at, get_pushed}
 
-pub is_shade : (es : List Cause) (cause rewind : Option ℕ) (place : ℕ) (goes leads : Bool) (s : Shade) → IsTrue goes ↔ Goes es rewind place → IsTrue leads ↔ Leads es cause place
+pub is_shade : (es : List Cause) (cause rewind : Option ℕ) (place : ℕ) (goes leads : Bool) (s : Shade) → IsTrue goes ↔ Goes es rewind place → IsTrue leads ↔ DependsOnPlace es cause place
     → (goes ≡ true → s ≡ Red) → (goes ≡ false → leads ≡ true → s ≡ Black) → (goes ≡ false → leads ≡ false → s ≡ Grey) → IsShade es cause rewind place s
 is_shade es cause rewind place goes leads s g l red black grey = ⊎_elim
     (λ t. subst (λ z. IsShade es cause rewind place z) (sym (red t)) (g.0 t))

@@ -9,7 +9,7 @@ use Rattle.ga_event.specs.declared.event.Event.TheVariants.{Own, Pass}
 use Rattle.ga_event.specs.declared.event.Cause.{Cause}
 use Rattle.ga_event.specs.Touches.{nodes_of}
 use Rattle.ga_causal.specs.Dependence.{cause_touches}
-use Rattle.ga_picture.specs.declared.item.Item.{Item}
+use Rattle.ga_picture.specs.declared.item.PictureItem.{PictureItem}
 use Rattle.ga_picture.specs.Runs.{at_place}
 use Rattle.ga_picture.specs.Drawing.{IsTouched}
 
@@ -26,40 +26,40 @@ reader_touches e w r side is =
     (or_right (w.number == r.number) ((r.number == r.number) || false) (or_left (r.number == r.number) false (eq-eqb r.number r.number refl)))
 
 -- what holds of the flags once the events up to a place are looked at
-pub record AreUsed (items : List Item) (place : ℕ) (marks : ℕ → Bool) : Type 0 where
+pub record AreUsed (items : List PictureItem) (place : ℕ) (marks : ℕ → Bool) : Type 0 where
   pub needed : (n : ℕ) → marks n ≡ true → IsTouched items n
   pub all : (n at : ℕ) → at < place → (at_place items at).out ≡ false → cause_touches (at_place items at).cause n ≡ true → marks n ≡ true
 
-pub used_none : (items : List Item) (marks : ℕ → Bool) → ((n : ℕ) → marks n ≡ false) → AreUsed items 0 marks
+pub used_none : (items : List PictureItem) (marks : ℕ → Bool) → ((n : ℕ) → marks n ≡ false) → AreUsed items 0 marks
 used_none items marks f = record {
   needed = λ n t. absurd (both_ways (marks n) (f n) t);
   all = λ n at l o t. absurd (omega (arith, l));
 }
 
-pub used_more : (items : List Item) (place : ℕ) (marks more : ℕ → Bool) (item : Item) → place < length items → AreUsed items place marks → at_place items place ≡ item
+pub used_more : (items : List PictureItem) (place : ℕ) (marks more : ℕ → Bool) (item : PictureItem) → place < length items → AreUsed items place marks → at_place items place ≡ item
     → item.out ≡ false → ((n : ℕ) → more n ≡ (marks n || cause_touches item.cause n)) → AreUsed items (place + 1) more
 used_more items place marks more item l u here o m = record {
   needed = λ n t. ⊎_elim (λ s. u.needed n s)
       (λ s. record {
         place = place;
         within = l;
-        drawn = ap (λ (z : Item). z.out) here ∙ o;
-        touched = subst (λ (z : Item). cause_touches z.cause n ≡ true) (sym here) s;
+        drawn = ap (λ (z : PictureItem). z.out) here ∙ o;
+        touched = subst (λ (z : PictureItem). cause_touches z.cause n ≡ true) (sym here) s;
       })
       (or_cases (marks n) (cause_touches item.cause n) (sym (m n) ∙ t));
   all = λ n at k s t. m n ∙ elim (cases_eq at place) [
-    | inl q ↦ or_right (marks n) (cause_touches item.cause n) (subst (λ (z : Item). cause_touches z.cause n ≡ true) (ap (at_place items) q ∙ here) t)
+    | inl q ↦ or_right (marks n) (cause_touches item.cause n) (subst (λ (z : PictureItem). cause_touches z.cause n ≡ true) (ap (at_place items) q ∙ here) t)
     | inr ne ↦ or_left (marks n) (cause_touches item.cause n) (u.all n at (omega (arith, k, ne)) s t)
   ];
 }
 
 -- an event that is left out
-pub used_same : (items : List Item) (place : ℕ) (marks : ℕ → Bool) (item : Item) → AreUsed items place marks → at_place items place ≡ item → item.out ≡ true
+pub used_same : (items : List PictureItem) (place : ℕ) (marks : ℕ → Bool) (item : PictureItem) → AreUsed items place marks → at_place items place ≡ item → item.out ≡ true
     → AreUsed items (place + 1) marks
 used_same items place marks item u here o = record {
   needed = u.needed;
   all = λ n at k s t. elim (cases_eq at place) [
-    | inl q ↦ absurd (both_ways (at_place items at).out s (ap (λ (z : Item). z.out) (ap (at_place items) q ∙ here) ∙ o))
+    | inl q ↦ absurd (both_ways (at_place items at).out s (ap (λ (z : PictureItem). z.out) (ap (at_place items) q ∙ here) ∙ o))
     | inr ne ↦ u.all n at (omega (arith, k, ne)) s t
   ];
 }

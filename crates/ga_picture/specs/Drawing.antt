@@ -10,9 +10,9 @@ use Rattle.ga_picture.specs.declared.shade.Shade.{Shade}
 use Rattle.ga_picture.specs.declared.shade.Shade.TheVariants.{Black, Grey, Red}
 use Rattle.ga_picture.specs.declared.placing.Shape.{Shape}
 use Rattle.ga_picture.specs.declared.placing.Shape.TheVariants.{Mark, Arrow}
-use Rattle.ga_picture.specs.declared.placing.Row.{Row}
+use Rattle.ga_picture.specs.declared.placing.PictureRow.{PictureRow}
 use Rattle.ga_picture.specs.declared.placing.Drawing.{Drawing}
-use Rattle.ga_picture.specs.declared.item.Item.{Item}
+use Rattle.ga_picture.specs.declared.item.PictureItem.{PictureItem}
 use Rattle.ga_picture.specs.Runs.{at_place, steps_at, rows_in}
 
 -- a rollback of the step takes the event at the place; without such a step none goes
@@ -21,15 +21,15 @@ Goes events None place = ⊥
 Goes events (Some step) place = DependsOn events step place
 
 -- the step depends on the event at the place; without such a step all are as good
-abbrev pub Leads : List Cause → Option ℕ → ℕ → Type 0
-Leads events None place = Unit {0}
-Leads events (Some step) place = DependsOn events place step
+abbrev pub DependsOnPlace : List Cause → Option ℕ → ℕ → Type 0
+DependsOnPlace events None place = Unit {0}
+DependsOnPlace events (Some step) place = DependsOn events place step
 
 -- the colour of the event at a place, where the causes of one step were asked for, and what a rollback of another takes
 abbrev pub IsShade : List Cause → Option ℕ → Option ℕ → ℕ → Shade → Type 0
 IsShade events cause rewind place Red = Goes events rewind place
-IsShade events cause rewind place Black = (¬ Goes events rewind place) × Leads events cause place
-IsShade events cause rewind place Grey = (¬ Goes events rewind place) × (¬ Leads events cause place)
+IsShade events cause rewind place Black = (¬ Goes events rewind place) × DependsOnPlace events cause place
+IsShade events cause rewind place Grey = (¬ Goes events rewind place) × (¬ DependsOnPlace events cause place)
 
 -- one colour for each event
 pub record AreShades (events : List Cause) (cause rewind : Option ℕ) (shades : List Shade) : Type 0 where
@@ -67,26 +67,26 @@ shade_of (Mark line look steps shade) = shade
 shade_of (Arrow from to shade) = shade
 
 -- how many events it stands for
-abbrev pub steps_of : Shape → ℕ
-steps_of (Mark line look steps shade) = steps
-steps_of (Arrow from to shade) = 1
+abbrev pub steps_drawn : Shape → ℕ
+steps_drawn (Mark line look steps shade) = steps
+steps_drawn (Arrow from to shade) = 1
 
 -- an event that isn't left out touches the node
-pub record IsTouched (items : List Item) (node : ℕ) : Type 0 where
+pub record IsTouched (items : List PictureItem) (node : ℕ) : Type 0 where
   pub place : ℕ
   pub within : place < length items
   pub drawn : (at_place items place).out ≡ false
   pub touched : cause_touches (at_place items place).cause node ≡ true
 
 -- a row shows its event, in its colour, and with it the run that begins with it
-pub record IsRow (items : List Item) (fold : ℕ) (lines : List NodeId) (row : Row) : Type 0 where
+pub record IsRow (items : List PictureItem) (fold : ℕ) (lines : List NodeId) (row : PictureRow) : Type 0 where
   pub shape : IsShape (at_place items row.place).cause lines row.shape
   pub shaded : shade_of row.shape ≡ (at_place items row.place).shade
-  pub steps : steps_of row.shape ≡ steps_at items fold row.place
+  pub steps : steps_drawn row.shape ≡ steps_at items fold row.place
 
 -- The picture of some events: a row for each that isn't left out, in their order, but one for each run that is drawn together; each on
 -- the lines of its nodes. There are lines for the nodes that these events touch and for no others, by their numbers.
-pub record IsDrawing (items : List Item) (fold : ℕ) (drawing : Drawing) : Type 0 where
+pub record IsDrawing (items : List PictureItem) (fold : ℕ) (drawing : Drawing) : Type 0 where
   pub places : map (λ row. row.place) drawing.rows.items ≡ rows_in items fold
   pub drawn : All (IsRow items fold drawing.lines.items) drawing.rows.items
   pub needed : (line : ℕ) (node : NodeId) → slice_get drawing.lines.items line ≡ Some node → IsTouched items node.number

@@ -15,7 +15,7 @@ use Rattle.ga_console.specs.declared.output.WriteFailed.{WriteFailed}
 use Rattle.ga_console.specs.declared.run.Status.{Status}
 use Rattle.ga_console.specs.declared.run.Status.TheVariants.{Done, ImageRefused, StreamFault, NotFinished}
 use Rattle.ga_explorer.specs.Answers.{Explores}
-use Rattle.ga_explorer.specs.Opening.{Opens, IsFront, Unbegun}
+use Rattle.ga_explorer.specs.Opening.{OpensExploring, IsFront, Unbegun}
 
 -- the answer tells that memory was wanting: to a command, or to an event of a run
 abbrev pub IsShort : Text → Type 0
@@ -37,7 +37,7 @@ pub record Followed (A : Answering Exploring) (limit : ℕ) (read rest : Bytes) 
   pub said : Text
   pub splits : read ≡ text ++ commands
   pub front : IsFront text (commands ++ rest)
-  pub opens : Opens text limit machine
+  pub opens : OpensExploring text limit machine
   pub serves : Serves A (input_limit - length text) machine commands rest said last ending
   pub out : Written ending said written
 
@@ -58,7 +58,7 @@ pub data Unreached (limit : ℕ) (read rest : Bytes) (text : Text) (status : Sta
       → Declines Memory text status → Unreached limit read rest text status
 
 -- Where the input was followed to its end, or to `quit`, nothing is written, and the machine is the one behind all lines.
-abbrev pub Reaches : ℕ → Bytes → Bytes → Text → Result Exploring Status → Type 0
-Reaches limit read rest text (Ok last) =
+abbrev pub FollowsTo : ℕ → Bytes → Bytes → Text → Result Exploring Status → Type 0
+FollowsTo limit read rest text (Ok last) =
     (text ≡ []) × (ending : Result Ending WriteFailed) × (status_of ending ≡ Done) × Followed Follows limit read rest [] last ending
-Reaches limit read rest text (Err status) = Unreached limit read rest text status
+FollowsTo limit read rest text (Err status) = Unreached limit read rest text status

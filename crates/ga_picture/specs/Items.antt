@@ -10,7 +10,7 @@ use Rattle.ga_causal.specs.Dependence.{cause_touches, event_at, is_a_pass}
 use Rattle.ga_picture.specs.declared.shade.Shade.{Shade}
 use Rattle.ga_picture.specs.declared.shade.Shade.TheVariants.{Black, Grey, Red}
 use Rattle.ga_picture.specs.declared.view.View.{View}
-use Rattle.ga_picture.specs.declared.item.Item.{Item}
+use Rattle.ga_picture.specs.declared.item.PictureItem.{PictureItem}
 
 -- the node that makes an event, of a pass the writer
 abbrev pub actor : Event → ℕ
@@ -30,14 +30,14 @@ abbrev pub is_plain_at : (ℕ → Bool) → List Cause → ℕ → Bool
 is_plain_at ready events place = is_plain (runs_on ready (drop (place + 1) events)) (event_at events place)
 
 -- one of the steps that are asked for
-abbrev pub is_named : Option ℕ → Option ℕ → ℕ → Bool
-is_named cause rewind place = is_number cause place || is_number rewind place
+abbrev pub is_asked_step : Option ℕ → Option ℕ → ℕ → Bool
+is_asked_step cause rewind place = is_number cause place || is_number rewind place
 
 -- the colour is that of what is asked for
-abbrev pub is_asked : View → Shade → Bool
-is_asked view Red = true
-is_asked view Black = is_some view.cause
-is_asked view Grey = false
+abbrev pub is_asked_shade : View → Shade → Bool
+is_asked_shade view Red = true
+is_asked_shade view Black = is_some view.cause
+is_asked_shade view Grey = false
 
 -- what isn't asked for is left out
 abbrev pub is_narrow : View → Bool
@@ -45,10 +45,10 @@ is_narrow view = view.only && (is_some view.cause || is_some view.rewind)
 
 -- an event of an idle node, or where nothing else is wanted any event, that isn't asked for
 abbrev pub is_left_out : View → Bool → Shade → Bool
-is_left_out view idle shade = (not view.all && (idle && not (is_asked view shade))) || (is_narrow view && not (is_asked view shade))
+is_left_out view idle shade = (not view.all && (idle && not (is_asked_shade view shade))) || (is_narrow view && not (is_asked_shade view shade))
 
 -- an event of a colour, which is plain, one of the steps that are asked for, or of an idle node
-abbrev pub item_of : View → Cause → Shade → Bool → Bool → Bool → Item
+abbrev pub item_of : View → Cause → Shade → Bool → Bool → Bool → PictureItem
 item_of view e shade plain named idle =
     let out = is_left_out view idle shade in record { cause = e; shade = shade; plain = plain && (not named && not out); out = out }
 
@@ -63,11 +63,11 @@ pub record Known : Type 0 where
   pub rewind : Option ℕ
 
 -- the event at a place, and those from one place on and up to another
-abbrev pub item_at : Known → View → ℕ → Item
+abbrev pub item_at : Known → View → ℕ → PictureItem
 item_at known view place =
     let e = event_at known.events place in
-    item_of view e (slice_index_or known.shades place Black) (is_plain_at known.ready known.events place) (is_named known.cause known.rewind place)
+    item_of view e (slice_index_or known.shades place Black) (is_plain_at known.ready known.events place) (is_asked_step known.cause known.rewind place)
     (known.idle (actor e.event))
 
-abbrev pub items_of : Known → View → ℕ → ℕ → List Item
+abbrev pub items_of : Known → View → ℕ → ℕ → List PictureItem
 items_of known view from to = map (item_at known view) (range_with_len from (to - from))

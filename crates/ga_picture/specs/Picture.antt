@@ -13,7 +13,7 @@ use Rattle.ga_search.specs.declared.readings.Reading.{Reading}
 use Rattle.ga_search.specs.Races.{races_asked}
 use Rattle.ga_search.specs.Readings.{IsTold}
 use Rattle.ga_picture.specs.declared.view.View.{View}
-use Rattle.ga_picture.specs.declared.placing.Row.{Row}
+use Rattle.ga_picture.specs.declared.placing.PictureRow.{PictureRow}
 use Rattle.ga_picture.specs.declared.placing.Drawing.{Drawing}
 use Rattle.ga_picture.specs.declared.race_marks.RaceMark.{RaceMark}
 use Rattle.ga_picture.specs.declared.shade.Shade.{Shade}
@@ -69,7 +69,7 @@ pub record IsPicture (s : State) (view : View) (drawing : Drawing) : Type 0 wher
   pub drawn : IsPictureOf (causes_of s) ready idle view drawing
 
 -- where they are asked for, the marks of the passes and looks that `races` tells
-pub record AreRaceMarks (s : State) (view : View) (rows : List Row) (marks : List RaceMark) : Type 0 where
+pub record AreRaceMarks (s : State) (view : View) (rows : List PictureRow) (marks : List RaceMark) : Type 0 where
   pub readings : List Reading
   pub told : All (IsTold s None) readings
   pub are : marks ≡ (if view.races then marks_of (causes_of s) (start_in (causes_of s) view) rows (races_asked s None) readings else [])

@@ -1,6 +1,6 @@
 -- The text of a picture, as far as it is said of what it consists (docs/REFERENCE.md, "Pictures"; this project's own).
 use Rattle.std.specs.Prelude.{◌≡◌, ℕ, List, [], ◌∷◌, ◌++◌, map, codes}
-use Rattle.ga_picture.specs.declared.placing.Row.{Row}
+use Rattle.ga_picture.specs.declared.placing.PictureRow.{PictureRow}
 use Rattle.ga_picture.specs.declared.race_marks.RaceMark.{RaceMark}
 use Rattle.ga_picture.specs.declared.shade.Shade.{Shade}
 use Rattle.ga_picture.specs.declared.shade.Shade.TheVariants.{Black, Grey, Red}
@@ -27,14 +27,14 @@ AreGroups [] text = text ≡ []
 AreGroups (class ∷ classes) text = (group : List ℕ) × (more : List ℕ) × IsGroup class group × AreGroups classes more × (text ≡ group ++ more)
 
 -- those of rows, and those of marks
-abbrev pub classes_in : List Row → List (List ℕ)
-classes_in rows = map (λ (row : Row). class_of (shade_of row.shape)) rows
+abbrev pub classes_in : List PictureRow → List (List ℕ)
+classes_in rows = map (λ (row : PictureRow). class_of (shade_of row.shape)) rows
 
 abbrev pub race_classes : List RaceMark → List (List ℕ)
 race_classes marks = map (λ (mark : RaceMark). race_class) marks
 
 -- a head, the groups of the rows, those of the marks, and a foot
-pub record IsSvg (rows : List Row) (marks : List RaceMark) (text : List ℕ) : Type 0 where
+pub record IsSvg (rows : List PictureRow) (marks : List RaceMark) (text : List ℕ) : Type 0 where
   pub head : List ℕ
   pub groups : List ℕ
   pub races : List ℕ

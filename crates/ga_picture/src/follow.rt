@@ -2,11 +2,11 @@
 ghost use Rattle.std.specs.Prelude.{◌≡◌, ◌-◌, ◌++◌, Some};
 ghost use Rattle.ga_image.specs.Lines.{Bytes};
 ghost use Rattle.ga_console.specs.Input.{IsWithin, input_limit};
-ghost use Rattle.ga_picture.specs.Following.{Reaches, Declines};
+ghost use Rattle.ga_picture.specs.Following.{FollowsTo, Declines};
 ghost use Rattle.ga_picture.specs.kept.Following.{Goes, Ends};
 
 use super::silent::Silent;
-use ga_console::{Input, Output, Status, refusal, serve, status_of, write_all};
+use ga_console::{Input, Output, Status, refusal_text, serve, status_of, write_all};
 use ga_explorer::{Explorer, begin};
 use ga_lab::LabFault;
 use std::alloc::Global;
@@ -29,7 +29,7 @@ pub fn follow_session<R: Read, W: Write, E: Write>(
     ensures { (left before : Bytes) →
         R.remaining reader.old ≡ Some left → W.contents writer.old ≡ Some before →
         (read rest text : Bytes) × (left ≡ read ++ rest) × (R.remaining reader.new ≡ Some rest)
-        × (W.contents writer.new ≡ Some (before ++ text)) × Reaches limit read rest text result }
+        × (W.contents writer.new ≡ Some (before ++ text)) × FollowsTo limit read rest text result }
 {
     let mut input = Input::new();
     match begin(alloc, &mut input, reader, writer, errors, limit) {
@@ -82,7 +82,7 @@ pub(crate) fn decline<W: Write>(writer: &mut W, fault: LabFault) -> Status
     ensures { (before : Bytes) → W.contents writer.old ≡ Some before →
         (text : Bytes) × (W.contents writer.new ≡ Some (before ++ text)) × Declines fault text result }
 {
-    match write_all(writer, refusal(fault)) {
+    match write_all(writer, refusal_text(fault)) {
         Ok(()) => Status::ImageRefused,
         Err(_) => Status::StreamFault,
     }

@@ -3,7 +3,7 @@
 ghost use Rattle.std.specs.Prelude.{◌≡◌, ◌≤◌, ◌<◌, ◌&&◌, ◌||◌, not, ℕ, Bool, false, length, is_some, slice_index_or, IfOk};
 ghost use Rattle.ga_event.specs.Apply.{is_number};
 ghost use Rattle.ga_causal.specs.Dependence.{is_marked};
-ghost use Rattle.ga_picture.specs.Items.{actor, is_plain_at, is_named, is_asked, is_narrow, is_left_out, item_of, items_of};
+ghost use Rattle.ga_picture.specs.Items.{actor, is_plain_at, is_asked_step, is_asked_shade, is_narrow, is_left_out, item_of, items_of};
 ghost use Rattle.ga_picture.specs.kept.Items.{known_in};
 
 use crate::shade::Shade;
@@ -15,7 +15,7 @@ use std::alloc::Global;
 
 /// A kept event as a picture takes it.
 #[derive(Clone, Copy, PartialEq, Eq)]
-pub struct Item {
+pub struct PictureItem {
     /// The event, and whether it looks.
     pub cause: Cause,
     /// Its colour.
@@ -48,7 +48,7 @@ pub(crate) fn items(
     view: View,
     from: usize,
     to: usize,
-) -> Result<Vec<Item>, Memory>
+) -> Result<Vec<PictureItem>, Memory>
     requires order { from ≤ to }
     requires within { to ≤ length facts.events.now }
     requires shades { length facts.shades.now ≡ length facts.events.now }
@@ -71,11 +71,18 @@ pub(crate) fn items(
 }
 
 /// An event of a colour, which is plain, one of the steps that are asked for, or of an idle node.
-fn item_of(view: View, cause: Cause, shade: Shade, plain: bool, named: bool, idle: bool) -> Item
+fn item_of(
+    view: View,
+    cause: Cause,
+    shade: Shade,
+    plain: bool,
+    named: bool,
+    idle: bool,
+) -> PictureItem
     ensures { result ≡ item_of view cause shade plain named idle }
 {
     let out = is_left_out(view, idle, shade);
-    Item {
+    PictureItem {
         cause,
         shade,
         plain: plain && (!named && !out),
@@ -93,7 +100,7 @@ fn is_left_out(view: View, idle: bool, shade: Shade) -> bool
 
 /// Whether one of the steps that are asked for is at this place.
 fn is_named(cause: Option<u32>, rewind: Option<u32>, place: usize) -> bool
-    ensures { result ≡ is_named cause rewind place }
+    ensures { result ≡ is_asked_step cause rewind place }
 {
     is_at(cause, place) || is_at(rewind, place)
 }
@@ -124,7 +131,7 @@ fn is_narrow(view: View) -> bool
 
 /// Whether the colour is that of what is asked for.
 fn is_asked(view: View, shade: Shade) -> bool
-    ensures { result ≡ is_asked view shade }
+    ensures { result ≡ is_asked_shade view shade }
 {
     match shade {
         Shade::Red => true,

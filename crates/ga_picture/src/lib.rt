@@ -24,8 +24,8 @@ mod view;
 
 pub use before::grounds;
 pub use follow::follow_session;
-pub use item::Item;
-pub use placing::{Drawing, Row, Shape, layout};
+pub use item::PictureItem;
+pub use placing::{Drawing, PictureRow, Shape, layout};
 pub use race_marks::{Otherwise, RaceMark};
 pub use run::draw_session;
 pub use shade::{Shade, shades};

@@ -3,11 +3,11 @@
 ghost use Rattle.std.specs.Prelude.{◌==◌, ◌&&◌, ◌||◌, not, ◌≡◌, ◌<◌, ◌^◌, ℕ, true, false, List, length, slice_index, IfOk, ◌+◌};
 ghost use Rattle.std.specs.List.{All};
 ghost use Rattle.ga_grid.specs.declared.node_id.NodeId.{NodeId};
-ghost use Rattle.ga_picture.specs.Drawing.{IsDrawing, IsShape, IsLineOf, shade_of, steps_of};
+ghost use Rattle.ga_picture.specs.Drawing.{IsDrawing, IsShape, IsLineOf, shade_of, steps_drawn};
 ghost use Rattle.ga_picture.specs.Runs.{drawn_with, IsSimple};
 ghost use Rattle.ga_causal.specs.Dependence.{cause_touches, is_a_pass};
 
-use crate::item::{Item, actor};
+use crate::item::{PictureItem, actor};
 use crate::lines::{Lines, lines_of};
 use crate::runs::{Runs, runs_behind};
 use crate::shade::Shade;
@@ -50,7 +50,7 @@ impl Shape {
 
 /// What is drawn at one height.
 #[derive(Clone, Copy, PartialEq, Eq)]
-pub struct Row {
+pub struct PictureRow {
     /// The place of its event among those that are looked at, of many the first.
     pub place: u32,
     /// What is drawn.
@@ -63,12 +63,12 @@ pub struct Drawing {
     /// The nodes that have lines, from left to right.
     pub lines: Vec<NodeId>,
     /// What is drawn, from top to bottom.
-    pub rows: Vec<Row>,
+    pub rows: Vec<PictureRow>,
 }
 
 /// Lays the events out that are not left out: each has a row, but a run of at least so many events of a node has one together, where
 /// its first stands. 0 stands for no such number.
-pub fn layout(alloc: Global, items: &[Item], fold: u32) -> Result<Drawing, Memory>
+pub fn layout(alloc: Global, items: &[PictureItem], fold: u32) -> Result<Drawing, Memory>
     requires few { length items.now < 2 ^ 32 }
     requires simple { All IsSimple items.now }
     ensures { IfOk result (λ drawing. IsDrawing items.now fold drawing) }
@@ -82,7 +82,7 @@ pub fn layout(alloc: Global, items: &[Item], fold: u32) -> Result<Drawing, Memor
         let before = runs.count(actor(item.cause.event), item.shade);
         let steps = drawn_with(&item, before, behind[place], fold);
         if has_row(&item, steps, before) {
-            rows.push(Row {
+            rows.push(PictureRow {
                 place: place as u32,
                 shape: shape_of(&item, steps, &columns),
             })?;
@@ -93,14 +93,14 @@ pub fn layout(alloc: Global, items: &[Item], fold: u32) -> Result<Drawing, Memor
 }
 
 /// Whether an event has a row, which is drawn together with so many, and has so many of its run before it.
-fn has_row(item: &Item, steps: u32, before: u32) -> bool
+fn has_row(item: &PictureItem, steps: u32, before: u32) -> bool
     ensures { result ≡ (not item.now.out && ((steps == 1) || (before == 0))) }
 {
     !item.out && (steps == 1 || before == 0)
 }
 
 /// How many events are drawn together with this one, which has so many of its run before and behind it.
-fn drawn_with(item: &Item, before: u32, behind: u32, fold: u32) -> u32
+fn drawn_with(item: &PictureItem, before: u32, behind: u32, fold: u32) -> u32
     requires { before + behind + 1 < 2 ^ 32 }
     ensures { result ≡ drawn_with item.now before behind fold }
 {
@@ -113,12 +113,12 @@ fn drawn_with(item: &Item, before: u32, behind: u32, fold: u32) -> u32
 }
 
 /// What is drawn of an event, or of a run that it begins.
-fn shape_of(item: &Item, steps: u32, columns: &[u8; 144]) -> Shape
+fn shape_of(item: &PictureItem, steps: u32, columns: &[u8; 144]) -> Shape
     ensures drawn { (lines : List NodeId) →
         ((n : ℕ) → cause_touches item.now.cause n ≡ true → IsLineOf lines (slice_index columns.now n) n) → IsShape item.now.cause lines result }
     ensures shaded { shade_of result ≡ item.now.shade }
-    ensures steps { is_a_pass item.now.cause.event ≡ false → steps_of result ≡ steps }
-    ensures one { is_a_pass item.now.cause.event ≡ true → steps_of result ≡ 1 }
+    ensures steps { is_a_pass item.now.cause.event ≡ false → steps_drawn result ≡ steps }
+    ensures one { is_a_pass item.now.cause.event ≡ true → steps_drawn result ≡ 1 }
 {
     match item.cause.event {
         Event::Own(node) => Shape::Mark {

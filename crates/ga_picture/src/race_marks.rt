@@ -1,9 +1,9 @@
 //! Marks of the steps that could have come out otherwise.
 
 ghost use Rattle.std.specs.Prelude.{◌≡◌, ◌+◌, ◌==◌, ◌++◌, ◌<◌, ◌^◌, length, flat_map, IfOk, OnOk};
-ghost use Rattle.ga_picture.specs.RaceMarks.{step_of, row_from, mark_at, mark_of, marks_of, marks_of_passes, marks_of_looks};
+ghost use Rattle.ga_picture.specs.RaceMarks.{step_of, row_from, mark_at, mark_of_race, marks_of, marks_of_passes, marks_of_looks};
 
-use crate::placing::Row;
+use crate::placing::PictureRow;
 use ga_causal::{Cause, Memory, place_of};
 use ga_grid::NodeId;
 use ga_search::{Race, Reading};
@@ -32,7 +32,7 @@ pub struct RaceMark {
 pub(crate) struct Shown<'k> {
     pub(crate) events: &'k [Cause],
     pub(crate) start: u32,
-    pub(crate) rows: &'k [Row],
+    pub(crate) rows: &'k [PictureRow],
 }
 
 /// A mark for each of these passes and looks whose event has a row.
@@ -83,7 +83,7 @@ fn add_looks(
 fn add(marks: &mut Vec<RaceMark>, shown: Shown<'_>, what: Otherwise) -> Result<(), Memory>
     requires { length shown.events.now < 2 ^ 32 }
     ensures { OnOk result (marks.new.items ≡ marks.old.items
-        ++ mark_of shown.entry.events.now shown.entry.start shown.entry.rows.now what) }
+        ++ mark_of_race shown.entry.events.now shown.entry.start shown.entry.rows.now what) }
 {
     let (node, step) = step_of(&what);
     match place_of(shown.events, node, step) {
@@ -113,7 +113,7 @@ fn step_of(what: &Otherwise) -> (NodeId, u32)
 }
 
 /// The index of the row of the event at a place, where it has one.
-fn row_of(rows: &[Row], start: u32, place: u32) -> Option<usize>
+fn row_of(rows: &[PictureRow], start: u32, place: u32) -> Option<usize>
     ensures { result ≡ row_from rows.now start place 0 }
 {
     'rows: for at in 0..rows.len() {
@@ -126,7 +126,7 @@ fn row_of(rows: &[Row], start: u32, place: u32) -> Option<usize>
 }
 
 /// Whether a row is that of the event at a place.
-fn is_at(row: Row, start: u32, place: u32) -> bool
+fn is_at(row: PictureRow, start: u32, place: u32) -> bool
     ensures { result ≡ (row.place + start == place) }
 {
     u64::from(row.place) + u64::from(start) == u64::from(place)

@@ -1,6 +1,6 @@
 //! What stands in the group of a step that could have come out otherwise.
 
-use crate::placing::{Drawing, Row, Shape};
+use crate::placing::{Drawing, PictureRow, Shape};
 use crate::race_marks::{Otherwise, RaceMark};
 use crate::text::{x_of, y_of};
 use ga_grid::NodeId;
@@ -47,7 +47,7 @@ fn push_label(text: &mut String, at: (u32, u64), what: &Otherwise) -> Result<(),
 }
 
 /// Where the node of such a step stands from the left: a pass is the reader's.
-fn line_of(row: &Row) -> u32 {
+fn line_of(row: &PictureRow) -> u32 {
     match row.shape {
         Shape::Mark { line, .. } => x_of(line),
         Shape::Arrow { to, .. } => x_of(to),

@@ -4,10 +4,10 @@ ghost use Rattle.std.specs.Prelude.{◌≡◌, ◌≤◌, ◌<◌, ◌+◌, ◌^
 ghost use Rattle.std.specs.List.{All};
 ghost use Rattle.ga_causal.specs.Equivalence.{sees};
 ghost use Rattle.ga_picture.specs.declared.shade.Shade.{Shade};
-ghost use Rattle.ga_picture.specs.Runs.{run_with, behind_at, is_same, IsSimple};
+ghost use Rattle.ga_picture.specs.Runs.{run_with, behind_at, is_same_run, IsSimple};
 ghost use Rattle.ga_picture.specs.kept.Runs.{count_in, HasNodes, AreWithin};
 
-use crate::item::{Item, actor};
+use crate::item::{PictureItem, actor};
 use crate::shade::Shade;
 use ga_causal::{Memory, Nodes};
 use ga_grid::{NODES, NodeId};
@@ -45,7 +45,7 @@ impl Runs {
     }
 
     /// Goes past an event: it is one more of its run, or ends the runs of the nodes that it touches or looks at.
-    pub(crate) fn pass(&mut self, item: &Item)
+    pub(crate) fn pass(&mut self, item: &PictureItem)
         requires sizes { HasNodes self.old }
         requires few { AreWithin self.old 4294967294 }
         requires simple { IsSimple item.now }
@@ -74,7 +74,7 @@ impl Runs {
     }
 
     /// Ends the runs of the nodes that an event touches or looks at.
-    fn end(&mut self, item: &Item)
+    fn end(&mut self, item: &PictureItem)
         requires { HasNodes self.old }
         ensures sizes { HasNodes self.new }
         ensures counts { (n : ℕ) → n < 144 →
@@ -94,7 +94,7 @@ impl Runs {
 
 /// Whether two colours are one.
 fn is_same(one: Shade, other: Shade) -> bool
-    ensures { result ≡ is_same one other }
+    ensures { result ≡ is_same_run one other }
 {
     match (one, other) {
         (Shade::Black, Shade::Black) => true,
@@ -105,7 +105,7 @@ fn is_same(one: Shade, other: Shade) -> bool
 }
 
 /// Of each event, how many events of its run come behind it.
-pub(crate) fn runs_behind(alloc: Global, items: &[Item]) -> Result<Vec<u32>, Memory>
+pub(crate) fn runs_behind(alloc: Global, items: &[PictureItem]) -> Result<Vec<u32>, Memory>
     requires few { length items.now < 2 ^ 32 }
     requires simple { All IsSimple items.now }
     ensures size { IfOk result (λ counts. length counts.items ≡ length items.now) }

@@ -1,7 +1,7 @@
 //! The colours of the events.
 
 ghost use Rattle.std.specs.Prelude.{◌≡◌, ◌↔◌, ◌<◌, ◌≤◌, ℕ, Bool, true, false, List, length, Option, Some, IfOk, IfSome, IsTrue, slice_get, slice_index_or};
-ghost use Rattle.ga_picture.specs.Drawing.{AreShades, IsShade, Goes, Leads};
+ghost use Rattle.ga_picture.specs.Drawing.{AreShades, IsShade, Goes, DependsOnPlace};
 
 use crate::before::grounds;
 use ga_causal::{Cause, Memory, closure};
@@ -44,7 +44,7 @@ fn leading(alloc: Global, events: &[Cause], cause: Option<u32>) -> Result<Vec<bo
     requires { IfSome cause (λ place. place < length events.now) }
     ensures size { IfOk result (λ flags. length flags.items ≡ length events.now) }
     ensures exact { IfOk result (λ flags.
-        (j : ℕ) → j < length events.now → (IsTrue (slice_index_or flags.items j false) ↔ Leads events.now cause j)) }
+        (j : ℕ) → j < length events.now → (IsTrue (slice_index_or flags.items j false) ↔ DependsOnPlace events.now cause j)) }
 {
     match cause {
         Some(place) => grounds(alloc, events, place),

@@ -10,8 +10,8 @@ ghost use Rattle.ga_search.specs.Readings.{IsTold};
 ghost use Rattle.ga_picture.specs.Picture.{IsPicture, IsPictureOf, IsPictureText, AreRaceMarks, is_ready, all_stand, stands_for, place_for};
 ghost use Rattle.ga_picture.specs.kept.Items.{AreItemsOf};
 
-use crate::item::{Facts, Item, items};
-use crate::placing::{Drawing, Row, layout};
+use crate::item::{Facts, PictureItem, items};
+use crate::placing::{Drawing, PictureRow, layout};
 use crate::plain::plain_events;
 use crate::race_marks::{RaceMark, Shown, marks_of};
 use crate::reports::reports;
@@ -155,7 +155,7 @@ fn written(lab: &mut Lab, view: View) -> Result<String, Memory>
 }
 
 /// The marks of the steps that could have come out otherwise, where they are asked for.
-fn race_marks(lab: &mut Lab, rows: &[Row], view: View) -> Result<Vec<RaceMark>, Memory>
+fn race_marks(lab: &mut Lab, rows: &[PictureRow], view: View) -> Result<Vec<RaceMark>, Memory>
     ensures ok { IfOk result (λ marks. AreRaceMarks lab.old view rows.now marks.items) }
     ensures same { lab.new ≡ lab.old }
 {
@@ -212,7 +212,7 @@ fn items_of(
     idle: &[bool; 144],
     ready: [bool; 144],
     view: View,
-) -> Result<Vec<Item>, Memory>
+) -> Result<Vec<PictureItem>, Memory>
     requires { length events.now < 2 ^ 32 }
     ensures { IfOk result (λ items. AreItemsOf events.now (is_marked ready) (is_marked idle.now) view items.items) }
 {

@@ -6,7 +6,7 @@ use Rattle.std.proofs.Math.Seq.{take-add}
 use Rattle.std.specs.List.{All}
 use Rattle.ga_protocol.specs.declared.framing.Front.TheVariants.{Message, Part, Wrong}
 use Rattle.ga_protocol.specs.declared.broken.Broken.TheVariants.{NoDigit, TooLong, ManyDigits, HeaderEnd}
-use Rattle.ga_protocol.specs.Framing.{content_limit, digit_limit, field, header_end, header, IsDigit, value_from, IsLength, BeginsOne, BeginsNone, Agree, Finds}
+use Rattle.ga_protocol.specs.Framing.{content_limit, digit_limit, field, header_end, header_part, IsDigit, value_from, IsLength, BeginsOne, BeginsNone, OneBeginsOther, Finds}
 use Rattle.ga_protocol.proofs.Digits.{right_of, no_digit_first, run, grows, value_more}
 
 -- ---- two beginnings of one text agree
@@ -14,14 +14,14 @@ use Rattle.ga_protocol.proofs.Digits.{right_of, no_digit_first, run, grows, valu
 at_most : (n : ℕ) (xs r : List ℕ) → n ≤ length xs → take n xs ≡ take n (xs ++ r)
 at_most n xs r le = sym (take-append-le n xs r le)
 
-pub agrees : (xs ys r s : List ℕ) → xs ++ r ≡ ys ++ s → Agree xs ys
+pub agrees : (xs ys r s : List ℕ) → xs ++ r ≡ ys ++ s → OneBeginsOther xs ys
 agrees xs ys r s e =
     at_most (min (length xs) (length ys)) xs r (omega arith)
     ∙ ap (take (min (length xs) (length ys))) e
     ∙ take-append-le (min (length xs) (length ys)) ys s (omega arith)
 
 -- where the first is no longer, it is that much of the second
-pub front_is : (xs ys : List ℕ) → length xs ≤ length ys → Agree xs ys → xs ++ drop (length xs) ys ≡ ys
+pub front_is : (xs ys : List ℕ) → length xs ≤ length ys → OneBeginsOther xs ys → xs ++ drop (length xs) ys ≡ ys
 front_is xs ys le h =
     let m : min (length xs) (length ys) ≡ length xs = omega arith in
     let t : take (length xs) xs ≡ take (length xs) ys = subst (λ n. take n xs ≡ take n ys) m h in
@@ -34,14 +34,14 @@ parts : (f d r g b c m s : List ℕ) → ((f ++ d) ++ r) ++ m ≡ (((f ++ g) ++ 
 parts f d r g b c m s e = append_cancel_left f (d ++ (r ++ m)) (g ++ (b ++ (c ++ s))) (simp append_assoc at e)
 
 -- where digits were read, those of a message go on with them
-continued : (digits rest content text more after gs : List ℕ) → All IsDigit digits → All IsDigit gs → text ≡ header gs ++ content →
+continued : (digits rest content text more after gs : List ℕ) → All IsDigit digits → All IsDigit gs → text ≡ header_part gs ++ content →
     (field ++ digits ++ rest) ++ more ≡ text ++ after →
     (es : List ℕ) × (gs ≡ digits ++ es) × (rest ++ more ≡ es ++ (header_end ++ (content ++ after)))
 continued digits rest content text more after gs all every is e =
     run digits gs (rest ++ more) (10 ∷ (13 ∷ (10 ∷ (content ++ after)))) all every
     (parts field digits rest gs header_end content more after (e ∙ ap (λ z. z ++ after) is))
 
-pub no_field : (bytes : List ℕ) → (Agree bytes field → ⊥) → BeginsNone bytes
+pub no_field : (bytes : List ℕ) → (OneBeginsOther bytes field → ⊥) → BeginsNone bytes
 no_field bytes differ = λ content text more after m e.
     differ (agrees bytes field more (m.0 ++ header_end ++ content ++ after)
     (e ∙ ap (λ z. z ++ after) m.2 ∙ simp append_assoc))
@@ -64,7 +64,7 @@ many_digits digits rest all past = λ content text more after m e.
 
 -- where something else stands behind digits, a message has no further ones
 no_more : (digits : List ℕ) (byte : ℕ) (rest content text more after gs : List ℕ) → All IsDigit digits → (IsDigit byte → ⊥) → All IsDigit gs →
-    text ≡ header gs ++ content → (field ++ digits ++ (byte ∷ rest)) ++ more ≡ text ++ after →
+    text ≡ header_part gs ++ content → (field ++ digits ++ (byte ∷ rest)) ++ more ≡ text ++ after →
     (gs ≡ digits) × ((byte ∷ rest) ++ more ≡ header_end ++ (content ++ after))
 no_more digits byte rest content text more after gs all not_one every is e =
     let r = continued digits (byte ∷ rest) content text more after gs all every is e in
@@ -79,7 +79,7 @@ no_digit byte rest not_one = λ content text more after m e.
     let some : 1 ≤ length m.0 = m.1.0 in
     omega arith
 
-pub no_end : (digits : List ℕ) (byte : ℕ) (rest : List ℕ) → All IsDigit digits → (IsDigit byte → ⊥) → (Agree (byte ∷ rest) header_end → ⊥) →
+pub no_end : (digits : List ℕ) (byte : ℕ) (rest : List ℕ) → All IsDigit digits → (IsDigit byte → ⊥) → (OneBeginsOther (byte ∷ rest) header_end → ⊥) →
     BeginsNone (field ++ digits ++ (byte ∷ rest))
 no_end digits byte rest all not_one differ = λ content text more after m e.
     let r = no_more digits byte rest content text more after m.0 all not_one m.1.2 m.2 e in
@@ -90,7 +90,7 @@ no_end digits byte rest all not_one differ = λ content text more after m e.
 pub zeros : (n : ℕ) → length {A = ℕ} (replicate n 0) ≡ n
 zeros n = length-replicate n 0
 
-empty : (bytes more : List ℕ) → 1 ≤ length more → bytes ++ more ≡ header (48 ∷ []) → BeginsOne bytes
+empty : (bytes more : List ℕ) → 1 ≤ length more → bytes ++ more ≡ header_part (48 ∷ []) → BeginsOne bytes
 empty bytes more some is = (
   [],
   more,
@@ -98,7 +98,7 @@ empty bytes more some is = (
   (
     48 ∷ [],
     (omega arith, omega arith, (λ k d lt. elim_one k d lt), refl, omega arith),
-    is ∙ sym (append-nil (header (48 ∷ []))),
+    is ∙ sym (append-nil (header_part (48 ∷ []))),
   ),
 )
   where
@@ -106,7 +106,7 @@ empty bytes more some is = (
     elim_one zero d lt = (omega arith, omega arith)
     elim_one (suc k) d lt = absurd (omega arith)
 
-pub part_of_field : (bytes : List ℕ) → length bytes < 16 → Agree bytes field → BeginsOne bytes
+pub part_of_field : (bytes : List ℕ) → length bytes < 16 → OneBeginsOther bytes field → BeginsOne bytes
 part_of_field bytes short h =
     let is : bytes ++ drop (length bytes) field ≡ field = front_is bytes field (omega arith) h in
     let long : length (drop (length bytes) field ++ (48 ∷ header_end)) ≡ 16 - length bytes + 5 = length-append (drop (length bytes) field) (48 ∷ header_end) ∙ ap (λ n. n + 5) (length-drop (length bytes) field) in
@@ -118,7 +118,7 @@ part_of_value = empty field (48 ∷ header_end) (omega arith) refl
 
 -- the bytes of a message's header so far, and of its content part so far
 begun : (bytes digits content more : List ℕ) (n : ℕ) → IsLength digits n → length content + length more ≡ n → (rest : List ℕ) → 1 ≤ length (rest ++ more) →
-    bytes ++ rest ≡ header digits ++ content → BeginsOne bytes
+    bytes ++ rest ≡ header_part digits ++ content → BeginsOne bytes
 begun bytes digits content more n is l rest some e =
     let long : length (content ++ more) ≡ n = length-append content more ∙ l in (
       content ++ more,
@@ -127,38 +127,38 @@ begun bytes digits content more n is l rest some e =
       (
         digits,
         subst (IsLength digits) (sym long) is,
-        sym (append_assoc bytes rest more) ∙ ap (λ z. z ++ more) e ∙ append_assoc (header digits) content more,
+        sym (append_assoc bytes rest more) ∙ ap (λ z. z ++ more) e ∙ append_assoc (header_part digits) content more,
       ),
     )
 
 -- digits, and less than the end of the header
-pub part_of_end : (digits rest : List ℕ) (n : ℕ) → IsLength digits n → length rest < 4 → Agree rest header_end → BeginsOne (field ++ digits ++ rest)
+pub part_of_end : (digits rest : List ℕ) (n : ℕ) → IsLength digits n → length rest < 4 → OneBeginsOther rest header_end → BeginsOne (field ++ digits ++ rest)
 part_of_end digits rest n is short h =
     let e : rest ++ drop (length rest) header_end ≡ header_end = front_is rest header_end (omega arith) h in
     let long : length (drop (length rest) header_end ++ replicate n 0) ≡ 4 - length rest + n =
     length-append (drop (length rest) header_end) (replicate n 0) ∙ ap (λ z. z + length (replicate {A = ℕ} n 0)) (length-drop (length rest) header_end) ∙ ap (λ z. 4 - length rest + z) (zeros n) in
     begun (field ++ digits ++ rest) digits [] (replicate n 0) n is (omega (arith, zeros n)) (drop (length rest) header_end) (omega arith)
-    (append_assoc (field ++ digits) rest (drop (length rest) header_end) ∙ ap (λ z. (field ++ digits) ++ z) e ∙ sym (append-nil (header digits)))
+    (append_assoc (field ++ digits) rest (drop (length rest) header_end) ∙ ap (λ z. (field ++ digits) ++ z) e ∙ sym (append-nil (header_part digits)))
 
 -- a header part, and less than the content part
-pub part_of_content : (digits content : List ℕ) (n : ℕ) → IsLength digits n → length content < n → BeginsOne (header digits ++ content)
+pub part_of_content : (digits content : List ℕ) (n : ℕ) → IsLength digits n → length content < n → BeginsOne (header_part digits ++ content)
 part_of_content digits content n is short =
     let l : length content + length {A = ℕ} (replicate (n - length content) 0) ≡ n = omega (arith, zeros (n - length content)) in
-    begun (header digits ++ content) digits content (replicate (n - length content) 0) n is l [] (omega (arith, zeros (n - length content)))
-    (append-nil (header digits ++ content))
+    begun (header_part digits ++ content) digits content (replicate (n - length content) 0) n is l [] (omega (arith, zeros (n - length content)))
+    (append-nil (header_part digits ++ content))
 
 -- where the rest begins with the end of the header
-pub ended : (rest : List ℕ) → 4 ≤ length rest → Agree rest header_end → rest ≡ header_end ++ drop 4 rest
+pub ended : (rest : List ℕ) → 4 ≤ length rest → OneBeginsOther rest header_end → rest ≡ header_end ++ drop 4 rest
 ended rest long h =
     let m : min (length rest) 4 ≡ 4 = omega arith in
     let t : take 4 rest ≡ header_end = subst (λ n. take n rest ≡ take n header_end) m h in
     sym (take-append-drop 4 rest) ∙ ap (λ z. z ++ drop 4 rest) t
 
-in_header : (digits rest : List ℕ) → 4 ≤ length rest → Agree rest header_end → header digits ++ drop 4 rest ≡ field ++ digits ++ rest
+in_header : (digits rest : List ℕ) → 4 ≤ length rest → OneBeginsOther rest header_end → header_part digits ++ drop 4 rest ≡ field ++ digits ++ rest
 in_header digits rest long h = append_assoc (field ++ digits) header_end (drop 4 rest) ∙ ap (λ z. (field ++ digits) ++ z) (sym (ended rest long h))
 
 -- digits, and what does not reach the end of the message
-pub part_behind : (digits rest : List ℕ) (n : ℕ) → IsLength digits n → length rest < 4 + n → Agree rest header_end → BeginsOne (field ++ digits ++ rest)
+pub part_behind : (digits rest : List ℕ) (n : ℕ) → IsLength digits n → length rest < 4 + n → OneBeginsOther rest header_end → BeginsOne (field ++ digits ++ rest)
 part_behind digits rest n is short h = elim (cases_lt (length rest) 4) as (λ w. BeginsOne (field ++ digits ++ rest)) [
   | inl before ↦ part_of_end digits rest n is before h
   | inr behind ↦
@@ -168,19 +168,19 @@ part_behind digits rest n is short h = elim (cases_lt (length rest) 4) as (λ w.
 
 -- ---- a message
 
-pub whole : (bytes digits rest : List ℕ) (n : ℕ) → bytes ≡ field ++ digits ++ rest → IsLength digits n → 4 + n ≤ length rest → Agree rest header_end →
+pub whole : (bytes digits rest : List ℕ) (n : ℕ) → bytes ≡ field ++ digits ++ rest → IsLength digits n → 4 + n ≤ length rest → OneBeginsOther rest header_end →
     Finds bytes (Message (16 + length digits + 4) (16 + length digits + 4 + n))
 whole bytes digits rest n e is long h =
-    let all : bytes ≡ header digits ++ drop 4 rest = e ∙ sym (in_header digits rest (omega arith) h) in
-    let front : length (header digits) ≡ 16 + length digits + 4 = length-append (field ++ digits) header_end ∙ ap (λ n. n + 4) (length-append field digits) in
+    let all : bytes ≡ header_part digits ++ drop 4 rest = e ∙ sym (in_header digits rest (omega arith) h) in
+    let front : length (header_part digits) ≡ 16 + length digits + 4 = length-append (field ++ digits) header_end ∙ ap (λ n. n + 4) (length-append field digits) in
     let l : length bytes ≡ 16 + length digits + length rest = ap length e ∙ length-append (field ++ digits) rest ∙ ap (λ n. n + length rest) (length-append field digits) in
-    let start : take (16 + length digits + 4) bytes ≡ header digits = ap (take (16 + length digits + 4)) all ∙ take_at (header digits) (drop 4 rest) (16 + length digits + 4) front in
-    let behind : drop (16 + length digits + 4) bytes ≡ drop 4 rest = ap (drop (16 + length digits + 4)) all ∙ drop_at (header digits) (drop 4 rest) (16 + length digits + 4) front in
+    let start : take (16 + length digits + 4) bytes ≡ header_part digits = ap (take (16 + length digits + 4)) all ∙ take_at (header_part digits) (drop 4 rest) (16 + length digits + 4) front in
+    let behind : drop (16 + length digits + 4) bytes ≡ drop 4 rest = ap (drop (16 + length digits + 4)) all ∙ drop_at (header_part digits) (drop 4 rest) (16 + length digits + 4) front in
     let content : drop (16 + length digits + 4) (take (16 + length digits + 4 + n) bytes) ≡ take n (drop 4 rest) = drop-take (16 + length digits + 4) n bytes ∙ ap (take n) behind in
     let size : length (take n (drop 4 rest)) ≡ n = omega (arith, length-take n (drop 4 rest), length-drop 4 rest) in
-    let text : take (16 + length digits + 4 + n) bytes ≡ header digits ++ drop (16 + length digits + 4) (take (16 + length digits + 4 + n) bytes) =
+    let text : take (16 + length digits + 4 + n) bytes ≡ header_part digits ++ drop (16 + length digits + 4) (take (16 + length digits + 4 + n) bytes) =
     take-add (16 + length digits + 4) n bytes ∙ ap (λ z. z ++ take n (drop (16 + length digits + 4) bytes)) start
-    ∙ ap (λ z. header digits ++ z) (ap (take n) behind ∙ sym content) in
+    ∙ ap (λ z. header_part digits ++ z) (ap (take n) behind ∙ sym content) in
     (omega arith, omega arith, (digits, subst (IsLength digits) (sym (ap length content ∙ size)) is, text))
 
 -- ---- what stands first where the field's name does
@@ -201,12 +201,12 @@ is_no_digit [] some not_one = absurd (omega arith)
 is_no_digit (byte ∷ rest) some not_one = (no_digit byte rest (not_one some), (byte, rest, (refl, λ k d lt. absurd (omega arith)), not_one some))
 
 pub is_no_end : (bytes digits rest : List ℕ) → bytes ≡ field ++ digits ++ rest → IsLength digits (value_from 0 digits) → (0 < length rest → IsDigit (get_or rest 0 0) → ⊥) →
-    (Agree rest header_end → ⊥) → Finds bytes (Wrong HeaderEnd)
+    (OneBeginsOther rest header_end → ⊥) → Finds bytes (Wrong HeaderEnd)
 is_no_end bytes digits [] e is not_one differ = absurd (differ refl)
 is_no_end bytes digits (byte ∷ rest) e is not_one differ =
     (subst BeginsNone (sym e) (no_end digits byte rest is.2 (not_one (omega arith)) differ), (digits, byte, rest, (e, is.2), is, not_one (omega arith), differ))
 
-pub is_part : (bytes digits rest : List ℕ) (n : ℕ) → bytes ≡ field ++ digits ++ rest → IsLength digits n → length rest < 4 + n → Agree rest header_end → Finds bytes Part
+pub is_part : (bytes digits rest : List ℕ) (n : ℕ) → bytes ≡ field ++ digits ++ rest → IsLength digits n → length rest < 4 + n → OneBeginsOther rest header_end → Finds bytes Part
 is_part bytes digits rest n e is short h = subst BeginsOne (sym e) (part_behind digits rest n is short h)
 
 pub is_name : (rest : List ℕ) → length rest ≡ 0 → Finds (field ++ rest) Part

@@ -5,7 +5,7 @@ use Rattle.std.proofs.lemmas.List.Elements.{All-append}
 use Rattle.std.proofs.lemmas.Fmt.{decimal_by_steps, length-decimal-le, decimal_nonempty}
 use Rattle.std.specs.List.{All}
 use Rattle.ga_protocol.specs.declared.framing.Front.TheVariants.{Message}
-use Rattle.ga_protocol.specs.Framing.{content_limit, field, header_end, header, IsDigit, value_from, IsLength, IsMessage, BeginsOne, BeginsNone, Finds, framed}
+use Rattle.ga_protocol.specs.Framing.{content_limit, field, header_end, header_part, IsDigit, value_from, IsLength, IsMessage, BeginsOne, BeginsNone, Finds, framed}
 use Rattle.ga_protocol.proofs.Digits.{right_of, no_digit_first, run, value_more}
 
 -- ---- one message
@@ -25,7 +25,7 @@ halves xs ys us vs l e = (
 pub both : (text other content inner after behind : List ℕ) → IsMessage content text → IsMessage inner other →
     text ++ after ≡ other ++ behind → (content ≡ inner) × (text ≡ other) × (after ≡ behind)
 both text other content inner after behind m k e =
-    let whole : (header m.0 ++ content) ++ after ≡ (header k.0 ++ inner) ++ behind = sym (ap (λ z. z ++ after) m.2) ∙ e ∙ ap (λ z. z ++ behind) k.2 in
+    let whole : (header_part m.0 ++ content) ++ after ≡ (header_part k.0 ++ inner) ++ behind = sym (ap (λ z. z ++ after) m.2) ∙ e ∙ ap (λ z. z ++ behind) k.2 in
     let cut : m.0 ++ (header_end ++ (content ++ after)) ≡ k.0 ++ (header_end ++ (inner ++ behind)) = parts field m.0 header_end content after k.0 inner behind whole in
     let r = run m.0 k.0 (header_end ++ (content ++ after)) (10 ∷ (13 ∷ (10 ∷ (inner ++ behind)))) m.1.2 k.1.2 cut in
     let none : r.0 ≡ [] = no_digit_first 13 r.0 (header_end ++ (inner ++ behind)) (10 ∷ (13 ∷ (10 ∷ (content ++ after)))) no_digit_return
@@ -34,7 +34,7 @@ both text other content inner after behind m k e =
     let rest : header_end ++ (content ++ after) ≡ header_end ++ (inner ++ behind) = r.2 ∙ ap (λ z. z ++ (header_end ++ (inner ++ behind))) none in
     let size : length content ≡ length inner = sym m.1.3 ∙ sym (ap (value_from 0) digits) ∙ k.1.3 in
     let h = halves content inner after behind size (append_cancel_left header_end (content ++ after) (inner ++ behind) rest) in
-    let same : header m.0 ++ content ≡ header k.0 ++ inner = ap (λ z. header z ++ content) (sym digits) ∙ ap (λ z. header k.0 ++ z) h.0 in
+    let same : header_part m.0 ++ content ≡ header_part k.0 ++ inner = ap (λ z. header_part z ++ content) (sym digits) ∙ ap (λ z. header_part k.0 ++ z) h.0 in
     (h.0, m.2 ∙ same ∙ sym k.2, h.1)
 
 pub once : (content text after : List ℕ) → IsMessage content text → BeginsOne (text ++ after) → ⊥

@@ -4,15 +4,15 @@ use Rattle.std.proofs.lemmas.List.{take-append-le, take-append-drop, take-take, 
 use Rattle.ga_protocol.specs.declared.broken.Broken.{Broken}
 use Rattle.ga_protocol.specs.declared.broken.Broken.TheVariants.{Field, NoDigit, TooLong, ManyDigits, HeaderEnd, Cut}
 use Rattle.ga_protocol.specs.declared.framing.Front.TheVariants.{Message, Wrong}
-use Rattle.ga_protocol.specs.Framing.{field, header_end, IsMessage, BeginsNone, Agree, Reads, Shows, Finds}
-use Rattle.ga_protocol.specs.Inbox.{Gives, IsBroken}
+use Rattle.ga_protocol.specs.Framing.{field, header_end, IsMessage, BeginsNone, OneBeginsOther, Reads, Shows, Finds}
+use Rattle.ga_protocol.specs.Inbox.{GivesNext, IsBroken}
 use Rattle.ga_protocol.specs.declared.inbox.Next.{Next}
 
 begins_none : (bytes left : List ℕ) → BeginsNone bytes → BeginsNone (bytes ++ left)
 begins_none bytes left h = λ content text more after m e. h content text (left ++ more) after m (sym (append_assoc bytes left more) ∙ e)
 
 -- what agrees with a longer text agrees with its beginning
-shorter : (xs left ys : List ℕ) → Agree (xs ++ left) ys → Agree xs ys
+shorter : (xs left ys : List ℕ) → OneBeginsOther (xs ++ left) ys → OneBeginsOther xs ys
 shorter xs left ys h =
     let l : length (xs ++ left) ≡ length xs + length left = length-append xs left in
     let within : min (length xs) (length ys) ≤ min (length (xs ++ left)) (length ys) = omega arith in
@@ -53,7 +53,7 @@ refused why all held rest bytes b a found =
     (a, subst (IsBroken why) (ap (λ z. z ++ rest) b ∙ sym a) (is_broken why bytes rest found.0 found.1))
 
 -- what comes where the reader has nothing left
-pub closed : (all held rest new left : List ℕ) (next : Next) → all ≡ held ++ rest → rest ≡ [] → new ≡ held → held ++ rest ≡ new ++ left → Gives new next new → Gives all next (new ++ left)
+pub closed : (all held rest new left : List ℕ) (next : Next) → all ≡ held ++ rest → rest ≡ [] → new ≡ held → held ++ rest ≡ new ++ left → GivesNext new next new → GivesNext all next (new ++ left)
 closed all held rest new left next a none same e given =
     let held_is : held ++ rest ≡ held = ap (λ z. held ++ z) none ∙ append-nil held in
     let l : length new + length left ≡ length held = sym (length-append new left) ∙ sym (ap length e) ∙ ap length held_is in
@@ -61,4 +61,4 @@ closed all held rest new left next a none same e given =
     let nothing : left ≡ [] = nil_from_length left (omega arith) in
     let stays : new ≡ new ++ left = sym (ap (λ z. new ++ z) nothing ∙ append-nil new) in
     let whole : new ≡ all = same ∙ sym held_is ∙ sym a in
-    subst (λ z. Gives all next z) stays (subst (λ z. Gives z next new) whole given)
+    subst (λ z. GivesNext all next z) stays (subst (λ z. GivesNext z next new) whole given)

@@ -23,8 +23,8 @@ abbrev pub header_end : List ℕ
 header_end = codes "\r\n\r\n"
 
 -- a header part whose field has this value
-abbrev pub header : List ℕ → List ℕ
-header digits = field ++ digits ++ header_end
+abbrev pub header_part : List ℕ → List ℕ
+header_part digits = field ++ digits ++ header_end
 
 abbrev pub IsDigit : ℕ → Type 0
 IsDigit byte = (48 ≤ byte) × (byte ≤ 57)
@@ -40,11 +40,11 @@ IsLength digits n = (1 ≤ length digits) × (length digits ≤ digit_limit) × 
 
 -- a text is the message with this content part
 abbrev pub IsMessage : List ℕ → List ℕ → Type 0
-IsMessage content text = (digits : List ℕ) × IsLength digits (length content) × (text ≡ header digits ++ content)
+IsMessage content text = (digits : List ℕ) × IsLength digits (length content) × (text ≡ header_part digits ++ content)
 
 -- the message with a content part, as it is written
 unfoldable pub framed : List ℕ → List ℕ
-framed content = header (decimal (length content)) ++ content
+framed content = header_part (decimal (length content)) ++ content
 
 -- bytes are the beginning of a message: more of them make it whole
 abbrev pub BeginsOne : List ℕ → Type 0
@@ -55,8 +55,8 @@ abbrev pub BeginsNone : List ℕ → Type 0
 BeginsNone bytes = (content text more after : List ℕ) → IsMessage content text → bytes ++ more ≡ text ++ after → ⊥
 
 -- one of two texts is the beginning of the other
-abbrev pub Agree : List ℕ → List ℕ → Type 0
-Agree xs ys = take (min (length xs) (length ys)) xs ≡ take (min (length xs) (length ys)) ys
+abbrev pub OneBeginsOther : List ℕ → List ℕ → Type 0
+OneBeginsOther xs ys = take (min (length xs) (length ys)) xs ≡ take (min (length xs) (length ys)) ys
 
 -- bytes are the field's name, digits, and what comes behind them
 abbrev pub Reads : List ℕ → List ℕ → List ℕ → Type 0
@@ -64,11 +64,11 @@ Reads bytes digits rest = (bytes ≡ field ++ digits ++ rest) × All IsDigit dig
 
 -- why no message stands first
 abbrev pub Shows : Broken → List ℕ → Type 0
-Shows Field bytes = Agree bytes field → ⊥
+Shows Field bytes = OneBeginsOther bytes field → ⊥
 Shows NoDigit bytes = (byte : ℕ) × (rest : List ℕ) × Reads bytes [] (byte ∷ rest) × (IsDigit byte → ⊥)
 Shows TooLong bytes = (digits rest : List ℕ) × Reads bytes digits rest × (length digits ≤ digit_limit + 1) × (content_limit < value_from 0 digits)
 Shows ManyDigits bytes = (digits rest : List ℕ) × Reads bytes digits rest × (length digits ≡ digit_limit + 1) × (value_from 0 digits ≤ content_limit)
-Shows HeaderEnd bytes = (digits : List ℕ) × (byte : ℕ) × (rest : List ℕ) × Reads bytes digits (byte ∷ rest) × IsLength digits (value_from 0 digits) × (IsDigit byte → ⊥) × (Agree (byte ∷ rest) header_end → ⊥)
+Shows HeaderEnd bytes = (digits : List ℕ) × (byte : ℕ) × (rest : List ℕ) × Reads bytes digits (byte ∷ rest) × IsLength digits (value_from 0 digits) × (IsDigit byte → ⊥) × (OneBeginsOther (byte ∷ rest) header_end → ⊥)
 Shows Cut bytes = ⊥
 
 -- what stands first in some bytes: a message, up to its end, with its content part from a place on; the beginning of one; or neither

@@ -12,8 +12,8 @@ IsBroken Cut all = (1 ≤ length all) × BeginsOne all
 IsBroken why all = BeginsNone all × Shows why all
 
 -- what comes next of an input, and what is left of it
-abbrev pub Gives : List ℕ → Next → List ℕ → Type 0
-Gives all (Message content) after = (text : List ℕ) × IsMessage content.items text × (all ≡ text ++ after)
-Gives all End after = (all ≡ []) × (after ≡ [])
-Gives all (Wrong why) after = (all ≡ after) × IsBroken why all
-Gives all Failed after = all ≡ after
+abbrev pub GivesNext : List ℕ → Next → List ℕ → Type 0
+GivesNext all (Message content) after = (text : List ℕ) × IsMessage content.items text × (all ≡ text ++ after)
+GivesNext all End after = (all ≡ []) × (after ≡ [])
+GivesNext all (Wrong why) after = (all ≡ after) × IsBroken why all
+GivesNext all Failed after = all ≡ after

@@ -27,28 +27,28 @@ unfoldable pub bare_event : ℕ → List ℕ → Data
 bare_event seq name = object (member (codes "event") (string name) (member (codes "seq") (number (unsigned seq)) (member (codes "type") (string (codes "event")) no_members)))
 
 -- the text of a member
-abbrev pub text_in : List ℕ → Data → Option (List ℕ)
-text_in name d = option_and_then as_str (get name d)
+abbrev pub member_text : List ℕ → Data → Option (List ℕ)
+member_text name d = option_and_then as_str (get name d)
 
 -- the number of a member
-abbrev pub number_in : List ℕ → Data → Option ℕ
-number_in name d = option_and_then as_u64 (option_and_then as_number (get name d))
+abbrev pub member_number : List ℕ → Data → Option ℕ
+member_number name d = option_and_then as_u64 (option_and_then as_number (get name d))
 
 abbrev pub IsTyped : Data → Type 0
-IsTyped d = text_in (codes "type") d ≡ Some (codes "request")
+IsTyped d = member_text (codes "type") d ≡ Some (codes "request")
 
 -- a value is the request with this number, command and arguments (null where it has none)
 abbrev pub IsRequest : Data → ℕ → List ℕ → Data → Type 0
-IsRequest d seq command arguments = IsTyped d × (number_in (codes "seq") d ≡ Some seq) × (text_in (codes "command") d ≡ Some command)
+IsRequest d seq command arguments = IsTyped d × (member_number (codes "seq") d ≡ Some seq) × (member_text (codes "command") d ≡ Some command)
     × (arguments ≡ unwrap_or (get (codes "arguments") d) null)
 
 -- why a value is no request
 abbrev pub IsNoRequest : Data → RequestError → Type 0
 IsNoRequest d Memory = Unit {0}
 IsNoRequest d Json = ⊥
-IsNoRequest d Kind = text_in (codes "type") d ≢ Some (codes "request")
-IsNoRequest d Seq = IsTyped d × (number_in (codes "seq") d ≡ None)
-IsNoRequest d Command = IsTyped d × (number_in (codes "seq") d ≢ None) × (text_in (codes "command") d ≡ None)
+IsNoRequest d Kind = member_text (codes "type") d ≢ Some (codes "request")
+IsNoRequest d Seq = IsTyped d × (member_number (codes "seq") d ≡ None)
+IsNoRequest d Command = IsTyped d × (member_number (codes "seq") d ≢ None) × (member_text (codes "command") d ≡ None)
 
 -- why a content part is no request
 abbrev pub HoldsNoRequest : List ℕ → RequestError → Type 0

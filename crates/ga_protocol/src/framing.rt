@@ -2,7 +2,7 @@
 
 ghost use Rattle.std.specs.Prelude.{◌≡◌, ◌≢◌, ◌≤◌, ◌<◌, ◌+◌, ◌++◌, ◌↔◌, [], length, take, drop, min, slice_index, IsTrue, IfSome, IfNone, OnOk, OnErr};
 ghost use Rattle.std.specs.List.{All};
-ghost use Rattle.ga_protocol.specs.Framing.{Agree, IsDigit, Finds, Reads, content_limit, digit_limit, field, framed, value_from};
+ghost use Rattle.ga_protocol.specs.Framing.{OneBeginsOther, IsDigit, Finds, Reads, content_limit, digit_limit, field, framed, value_from};
 
 use crate::broken::Broken;
 use std::alloc::{AllocError, Global};
@@ -32,7 +32,7 @@ pub enum Front {
 
 /// Whether one of two texts is the beginning of the other.
 fn agree(bytes: &[u8], text: &[u8]) -> bool
-    ensures { IsTrue result ↔ Agree bytes.now text.now }
+    ensures { IsTrue result ↔ OneBeginsOther bytes.now text.now }
 {
     let count = bytes.len().min(text.len());
     bytes[..count] == text[..count]

@@ -48,7 +48,7 @@ impl Model for Inbox {
 impl Inbox {
     ghost use Rattle.std.specs.Prelude.{◌≡◌, ◌≤◌, ◌+◌, ◌++◌, ℕ, List, [], length, take, drop, Some, Ok, IfOk, OnErr, IsTrue, is_ok, ◌↔◌, if◌then◌else◌};
     ghost use Rattle.ga_protocol.specs.Framing.{BeginsOne};
-    ghost use Rattle.ga_protocol.specs.Inbox.{Gives};
+    ghost use Rattle.ga_protocol.specs.Inbox.{GivesNext};
 
     /// An input of which nothing was read.
     pub fn new(alloc: Global) -> Self
@@ -109,7 +109,7 @@ impl Inbox {
     /// What comes where the input ended.
     fn ended(&self) -> Next
         requires { BeginsOne self.now }
-        ensures { Gives self.now result self.now }
+        ensures { GivesNext self.now result self.now }
     {
         if self.bytes.is_empty() {
             Next::End
@@ -125,7 +125,7 @@ impl Inbox {
     /// Memory was refused. Nothing is lost: a further call goes on.
     pub fn next<R: Read>(&mut self, reader: &mut R) -> Result<Next, AllocError>
         ensures next { (left : List ℕ) → R.remaining reader.old ≡ Some left → IfOk result (λ next.
-            (rest : List ℕ) × (R.remaining reader.new ≡ Some rest) × Gives (self.old ++ left) next (self.new ++ rest)) }
+            (rest : List ℕ) × (R.remaining reader.new ≡ Some rest) × GivesNext (self.old ++ left) next (self.new ++ rest)) }
         ensures refused { (left : List ℕ) → R.remaining reader.old ≡ Some left → OnErr result
             ((rest : List ℕ) × (R.remaining reader.new ≡ Some rest) × (self.old ++ left ≡ self.new ++ rest)) }
     {

@@ -12,4 +12,4 @@ pub use broken::Broken;
 pub use framing::{CONTENT_LIMIT, Front, front_of, push_frame};
 pub use inbox::{Inbox, Next};
 pub use outbox::Outbox;
-pub use request::{Request, RequestError, number_at, read_request, text_at};
+pub use request::{ClientRequest, RequestError, number_at, read_request, text_at};

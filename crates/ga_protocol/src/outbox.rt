@@ -5,7 +5,7 @@ ghost use Rattle.serde_json.specs.View.{view};
 ghost use Rattle.ga_protocol.specs.Messages.{response, bare_response, error_response, event as event_with, bare_event};
 
 use crate::framing::push_frame;
-use crate::request::Request;
+use crate::request::ClientRequest;
 use serde_json::{Value, json};
 use std::alloc::{AllocError, Global};
 use std::marker::Model;
@@ -19,9 +19,9 @@ pub struct Outbox {
 }
 
 impl Model for Outbox {
-    ghost use Rattle.ga_protocol.specs.Sent.{Sent};
+    ghost use Rattle.ga_protocol.specs.Sent.{SentMessages};
 
-    ghost Value = { Sent };
+    ghost Value = { SentMessages };
 
     ghost view = { λ o. record { bytes = o.bytes.items; seq = o.seq } };
 }
@@ -79,7 +79,7 @@ impl Outbox {
     ///
     /// # Errors
     /// Memory was refused; nothing is added.
-    pub fn respond(&mut self, request: &Request, body: Value) -> Result<(), AllocError>
+    pub fn respond(&mut self, request: &ClientRequest, body: Value) -> Result<(), AllocError>
         ensures sent { OnOk result (IsSent self.old (next_seq self.old.seq)
             (response (next_seq self.old.seq) request.now.seq (string_bytes request.now.command) (view body)) self.new) }
         ensures err { OnErr result (self.new ≡ self.old) }
@@ -93,7 +93,7 @@ impl Outbox {
     ///
     /// # Errors
     /// Memory was refused; nothing is added.
-    pub fn acknowledge(&mut self, request: &Request) -> Result<(), AllocError>
+    pub fn acknowledge(&mut self, request: &ClientRequest) -> Result<(), AllocError>
         ensures sent { OnOk result (IsSent self.old (next_seq self.old.seq)
             (bare_response (next_seq self.old.seq) request.now.seq (string_bytes request.now.command)) self.new) }
         ensures err { OnErr result (self.new ≡ self.old) }
@@ -107,7 +107,7 @@ impl Outbox {
     ///
     /// # Errors
     /// Memory was refused; nothing is added.
-    pub fn refuse(&mut self, request: &Request, why: &str) -> Result<(), AllocError>
+    pub fn refuse(&mut self, request: &ClientRequest, why: &str) -> Result<(), AllocError>
         ensures sent { OnOk result (IsSent self.old (next_seq self.old.seq)
             (error_response (next_seq self.old.seq) request.now.seq (string_bytes request.now.command) why.now) self.new) }
         ensures err { OnErr result (self.new ≡ self.old) }
@@ -147,7 +147,12 @@ impl Outbox {
 }
 
 #[tactic(auto, unfolding(crate::specs::Messages::response))]
-fn response_of(alloc: Global, seq: u64, request: &Request, body: Value) -> Result<Value, AllocError>
+fn response_of(
+    alloc: Global,
+    seq: u64,
+    request: &ClientRequest,
+    body: Value,
+) -> Result<Value, AllocError>
     ensures { IfOk result (λ v. view v ≡ response seq request.now.seq (string_bytes request.now.command) (view body)) }
 {
     json!(in alloc; {
@@ -161,7 +166,7 @@ fn response_of(alloc: Global, seq: u64, request: &Request, body: Value) -> Resul
 }
 
 #[tactic(auto, unfolding(crate::specs::Messages::bare_response))]
-fn bare_response_of(alloc: Global, seq: u64, request: &Request) -> Result<Value, AllocError>
+fn bare_response_of(alloc: Global, seq: u64, request: &ClientRequest) -> Result<Value, AllocError>
     ensures { IfOk result (λ v. view v ≡ bare_response seq request.now.seq (string_bytes request.now.command)) }
 {
     json!(in alloc; {
@@ -177,7 +182,7 @@ fn bare_response_of(alloc: Global, seq: u64, request: &Request) -> Result<Value,
 fn error_response_of(
     alloc: Global,
     seq: u64,
-    request: &Request,
+    request: &ClientRequest,
     why: &str,
 ) -> Result<Value, AllocError>
     ensures { IfOk result (λ v. view v ≡ error_response seq request.now.seq (string_bytes request.now.command) why.now) }

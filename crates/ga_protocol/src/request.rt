@@ -4,7 +4,7 @@ ghost use Rattle.std.specs.Prelude.{◌≡◌, ◌≢◌, codes, string_bytes, S
 ghost use Rattle.serde_json.specs.Data.{Data};
 ghost use Rattle.serde_json.specs.Read.{read};
 ghost use Rattle.serde_json.specs.View.{view};
-ghost use Rattle.ga_protocol.specs.Messages.{text_in, number_in, IsRequest, IsNoRequest, HoldsNoRequest};
+ghost use Rattle.ga_protocol.specs.Messages.{member_text, member_number, IsRequest, IsNoRequest, HoldsNoRequest};
 
 use serde_json::Value;
 use std::alloc::{AllocError, Global};
@@ -12,7 +12,7 @@ use thiserror::Error;
 
 /// A request of the client.
 #[derive(Drop)]
-pub struct Request {
+pub struct ClientRequest {
     /// Its number, by which it is answered.
     pub seq: u64,
     /// What is asked for.
@@ -56,7 +56,7 @@ impl From<AllocError> for RequestError {
 ///
 /// # Errors
 /// Why it is none.
-pub fn read_request(alloc: Global, content: &[u8]) -> Result<Request, RequestError>
+pub fn read_request(alloc: Global, content: &[u8]) -> Result<ClientRequest, RequestError>
     ensures ok { IfOk result (λ r. (d : Data) × IsUtf8 content.now × (read content.now ≡ Some d)
         × IsRequest d r.seq (string_bytes r.command) (view r.arguments)) }
     ensures err { IfErr result (λ why. HoldsNoRequest content.now why) }
@@ -74,7 +74,7 @@ pub fn read_request(alloc: Global, content: &[u8]) -> Result<Request, RequestErr
 }
 
 /// The request that a value is.
-fn request_of(alloc: Global, value: &Value) -> Result<Request, RequestError>
+fn request_of(alloc: Global, value: &Value) -> Result<ClientRequest, RequestError>
     ensures ok { IfOk result (λ r. IsRequest (view value.now) r.seq (string_bytes r.command) (view r.arguments)) }
     ensures err { IfErr result (λ why. IsNoRequest (view value.now) why) }
 {
@@ -95,7 +95,7 @@ fn request_of(alloc: Global, value: &Value) -> Result<Request, RequestError>
         Some(given) => given.clone()?,
         None => Value::Null,
     };
-    Ok(Request {
+    Ok(ClientRequest {
         seq,
         command,
         arguments,
@@ -104,14 +104,14 @@ fn request_of(alloc: Global, value: &Value) -> Result<Request, RequestError>
 
 /// The text of a member. Takes no memory.
 pub fn text_at<'v>(value: &'v Value, name: &str) -> Option<&'v str>
-    ensures { option_map (λ t. t.now) result ≡ text_in name.now (view value.now) }
+    ensures { option_map (λ t. t.now) result ≡ member_text name.now (view value.now) }
 {
     value.get(name).and_then(Value::as_str)
 }
 
 /// The number of a member, where it is a whole number from 0 on. Takes no memory.
 pub fn number_at(value: &Value, name: &str) -> Option<u64>
-    ensures { result ≡ number_in name.now (view value.now) }
+    ensures { result ≡ member_number name.now (view value.now) }
 {
     value.get(name).and_then(Value::as_u64)
 }

@@ -11,24 +11,24 @@ use Rattle.ga_event.specs.declared.event.Event.{Event}
 use Rattle.ga_event.specs.declared.event.Event.TheVariants.{Own, Pass}
 use Rattle.ga_event.specs.Touches.{nodes_of, touches}
 use Rattle.ga_event.specs.Apply.{is_number}
-use Rattle.ga_races.specs.declared.act.Act.{Act}
+use Rattle.ga_races.specs.declared.act.EventAccess.{EventAccess}
 use Rattle.ga_races.specs.declared.act.Sides.{Sides}
 use Rattle.ga_races.specs.declared.near.Near.{Near}
 use Rattle.ga_races.specs.HappensBefore.{Action, action_at, is_shown, are_bound, directly, AreNear}
-use Rattle.ga_races.specs.Acts.{leads_to, shown_by, action_in, actions_in, is_own_of, is_look_of, IsNearLook}
+use Rattle.ga_races.specs.Acts.{side_leads_to, shown_by, action_in, actions_in, is_own_of, is_look_of, IsNearLook}
 use Rattle.ga_races.specs.kept.Reached.{has_looked}
 use Rattle.ga_races.specs.kept.Asked.{IsMore, OfPair, OfLook, OfChange, OverSide, OverSides, AtPlace, BelowPlace, LooksAreMarked}
 use Rattle.ga_races.proofs.Reaching.{or4_cases, and_both, bound_by_node, bound_by_look, bound_by_change}
 
 -- ---- parts
 
-pub nothing : (acts : List Act) (asked : Near → Type 0) (xs : List Near) → ((z : Near) → asked z → IsNearLook acts z → ⊥) → IsMore acts asked xs xs
+pub nothing : (acts : List EventAccess) (asked : Near → Type 0) (xs : List Near) → ((z : Near) → asked z → IsNearLook acts z → ⊥) → IsMore acts asked xs xs
 nothing acts asked xs none = record { kept = λ z h. h; sound = λ z h. inl h; all = λ z a f. absurd (none z a f) }
 
-pub weaker : (acts : List Act) (p r : Near → Type 0) (a b : List Near) → IsMore acts p a b → ((z : Near) → r z → IsNearLook acts z → p z) → IsMore acts r a b
+pub weaker : (acts : List EventAccess) (p r : Near → Type 0) (a b : List Near) → IsMore acts p a b → ((z : Near) → r z → IsNearLook acts z → p z) → IsMore acts r a b
 weaker acts p r a b m asks = record { kept = m.kept; sound = m.sound; all = λ z x f. m.all z (asks z x f) f }
 
-pub chained : (acts : List Act) (p q r : Near → Type 0) (a b c : List Near) → IsMore acts p a b → IsMore acts q b c → ((z : Near) → r z → IsNearLook acts z → p z ⊎ q z) → IsMore acts r a c
+pub chained : (acts : List EventAccess) (p q r : Near → Type 0) (a b c : List Near) → IsMore acts p a b → IsMore acts q b c → ((z : Near) → r z → IsNearLook acts z → p z ⊎ q z) → IsMore acts r a c
 chained acts p q r a b c m n asks = record { kept = λ z h. n.kept z (m.kept z h); sound = λ z h. from z (n.sound z h); all = λ z x f. into z f (asks z x f) }
   where
     from : (z : Near) → Contains b z ⊎ IsNearLook acts z → Contains a z ⊎ IsNearLook acts z
@@ -82,10 +82,10 @@ second_near xs i j l (inr n) = n
 
 -- ---- changes before a look
 
-pub changes_first : (acts : List Act) (look place : ℕ) (xs : List Near) → look ≤ place → IsMore acts (OfLook look place) xs xs
+pub changes_first : (acts : List EventAccess) (look place : ℕ) (xs : List Near) → look ≤ place → IsMore acts (OfLook look place) xs xs
 changes_first acts look place xs l = nothing acts (OfLook look place) xs (λ z r f. let a : z.change < look = r.1 in let b : place ≤ z.change = r.2 in absurd (omega (arith, l, a, b)))
 
-pub changes_next : (acts : List Act) (look place next : ℕ) (a b c : List Near) → place ≤ next + 1 → IsMore acts (OfLook look place) a b → IsMore acts (OfPair look next) b c → IsMore acts (OfLook look next) a c
+pub changes_next : (acts : List EventAccess) (look place next : ℕ) (a b c : List Near) → place ≤ next + 1 → IsMore acts (OfLook look place) a b → IsMore acts (OfPair look next) b c → IsMore acts (OfLook look next) a c
 changes_next acts look place next a b c l m n = chained acts (OfLook look place) (OfPair look next) (OfLook look next) a b c m n (λ z r f. asks z r)
   where
     asks : (z : Near) → OfLook look next z → OfLook look place z ⊎ OfPair look next z
@@ -96,11 +96,11 @@ changes_next acts look place next a b c l m n = chained acts (OfLook look place)
           | inr more ↦ inr (r.0, omega (arith, more, k))
         ]
 
-pub changes_end : (acts : List Act) (look place : ℕ) (a b : List Near) → place ≤ 0 → IsMore acts (OfLook look place) a b → IsMore acts (OfLook look 0) a b
+pub changes_end : (acts : List EventAccess) (look place : ℕ) (a b : List Near) → place ≤ 0 → IsMore acts (OfLook look place) a b → IsMore acts (OfLook look 0) a b
 changes_end acts look place a b l m = weaker acts (OfLook look place) (OfLook look 0) a b m (λ z r f. (r.0, r.1, omega (arith, l)))
 
 -- the last look before it was shown what came before that
-pub changes_stop : (acts : List Act) (look place n : ℕ) (a b : List Near) → place < look → is_look_of (action_at (actions_in acts) place) n ≡ true → is_look_of (action_at (actions_in acts) look) n ≡ true
+pub changes_stop : (acts : List EventAccess) (look place n : ℕ) (a b : List Near) → place < look → is_look_of (action_at (actions_in acts) place) n ≡ true → is_look_of (action_at (actions_in acts) look) n ≡ true
     → IsMore acts (OfLook look place) a b → IsMore acts (OfLook look 0) a b
 changes_stop acts look place n a b l first second m = weaker acts (OfLook look place) (OfLook look 0) a b m asks
   where
@@ -119,7 +119,7 @@ changes_stop acts look place n a b l first second m = weaker acts (OfLook look p
 
 -- ---- the last look before a change
 
-module _ (acts : List Act) (change place n : ℕ) (l : place < change) (changes : (action_at (actions_in acts) change).changes n ≡ true)
+module _ (acts : List EventAccess) (change place n : ℕ) (l : place < change) (changes : (action_at (actions_in acts) change).changes n ≡ true)
     (none : (q : ℕ) → place < q → q < change → is_look_of (action_at (actions_in acts) q) n ≡ false) where
   near_of : (z : Near) → OfChange acts change n z → IsNearLook acts z → AreNear (actions_in acts) z.look change
   near_of z r f = first_near (actions_in acts) z.look change r.1 (subst (λ (k : ℕ). AreNear (actions_in acts) z.look k ⊎ AreNear (actions_in acts) k z.look) r.0 f.order)
@@ -157,16 +157,16 @@ module _ (acts : List Act) (change place n : ℕ) (l : place < change) (changes 
                 (near_of z r f)
           ]
 
-pub look_none : (acts : List Act) (change place n : ℕ) (a : List Near) → place ≤ 0 → ((q : ℕ) → place ≤ q → q < change → is_look_of (action_at (actions_in acts) q) n ≡ false) → IsMore acts (OfChange acts change n) a a
+pub look_none : (acts : List EventAccess) (change place n : ℕ) (a : List Near) → place ≤ 0 → ((q : ℕ) → place ≤ q → q < change → is_look_of (action_at (actions_in acts) q) n ≡ false) → IsMore acts (OfChange acts change n) a a
 look_none acts change place n a l none =
     nothing acts (OfChange acts change n) a (λ z r f. both_ways (is_look_of (action_at (actions_in acts) z.look) n) (none z.look (omega (arith, l)) r.1) r.2)
 
 -- ---- the looks that a change is shown to
 
-abbrev OverThree : List Act → ℕ → ℕ → Sides → Near → Type 0
+abbrev OverThree : List EventAccess → ℕ → ℕ → Sides → Near → Type 0
 OverThree acts change m sides z = (OverSide acts change m Right sides.right z ⊎ OverSide acts change m Down sides.down z) ⊎ OverSide acts change m Left sides.left z
 
-pub four_sides : (acts : List Act) (change m : ℕ) (sides : Sides) (a b c d e : List Near) → IsMore acts (OverSide acts change m Right sides.right) a b → IsMore acts (OverSide acts change m Down sides.down) b c
+pub four_sides : (acts : List EventAccess) (change m : ℕ) (sides : Sides) (a b c d e : List Near) → IsMore acts (OverSide acts change m Right sides.right) a b → IsMore acts (OverSide acts change m Down sides.down) b c
     → IsMore acts (OverSide acts change m Left sides.left) c d → IsMore acts (OverSide acts change m Up sides.up) d e → IsMore acts (OverSides acts change m sides) a e
 four_sides acts change m sides a b c d e r w l u =
     chained acts (OverThree acts change m sides) (OverSide acts change m Up sides.up) (OverSides acts change m sides) a d e
@@ -185,24 +185,24 @@ four_sides acts change m sides a b c d e r w l u =
 
 -- ---- what is near to a place
 
-change_here : (acts : List Act) (place : ℕ) (act : Act) (z : Near) (f : IsNearLook acts z) → action_in act ≡ action_at (actions_in acts) place → z.change ≡ place → shown_by act.cause.event act.first act.second f.node ≡ true
+change_here : (acts : List EventAccess) (place : ℕ) (act : EventAccess) (z : Near) (f : IsNearLook acts z) → action_in act ≡ action_at (actions_in acts) place → z.change ≡ place → shown_by act.cause.event act.first act.second f.node ≡ true
 change_here acts place act z f is at = ap (λ (a : Action). a.changes f.node) is ∙ subst (λ (k : ℕ). (action_at (actions_in acts) k).changes f.node ≡ true) at f.change
 
-pub changes_own : (acts : List Act) (place : ℕ) (act : Act) (node : NodeId) → action_in act ≡ action_at (actions_in acts) place → act.cause.event ≡ Own node
-    → (n : ℕ) → leads_to act.first node.number n ≡ true → (action_at (actions_in acts) place).changes n ≡ true
+pub changes_own : (acts : List EventAccess) (place : ℕ) (act : EventAccess) (node : NodeId) → action_in act ≡ action_at (actions_in acts) place → act.cause.event ≡ Own node
+    → (n : ℕ) → side_leads_to act.first node.number n ≡ true → (action_at (actions_in acts) place).changes n ≡ true
 changes_own acts place act node is own n h = sym (ap (λ (a : Action). a.changes n) is) ∙ ap (λ (e : Event). shown_by e act.first act.second n) own ∙ h
 
-pub changes_writer : (acts : List Act) (place : ℕ) (act : Act) (w r : NodeId) (side : Side) → action_in act ≡ action_at (actions_in acts) place → act.cause.event ≡ Pass w r side
-    → (n : ℕ) → leads_to act.first w.number n ≡ true → (action_at (actions_in acts) place).changes n ≡ true
+pub changes_writer : (acts : List EventAccess) (place : ℕ) (act : EventAccess) (w r : NodeId) (side : Side) → action_in act ≡ action_at (actions_in acts) place → act.cause.event ≡ Pass w r side
+    → (n : ℕ) → side_leads_to act.first w.number n ≡ true → (action_at (actions_in acts) place).changes n ≡ true
 changes_writer acts place act w r side is pass n h =
-    sym (ap (λ (a : Action). a.changes n) is) ∙ ap (λ (e : Event). shown_by e act.first act.second n) pass ∙ or_left (leads_to act.first w.number n) (leads_to act.second r.number n) h
+    sym (ap (λ (a : Action). a.changes n) is) ∙ ap (λ (e : Event). shown_by e act.first act.second n) pass ∙ or_left (side_leads_to act.first w.number n) (side_leads_to act.second r.number n) h
 
-pub changes_reader : (acts : List Act) (place : ℕ) (act : Act) (w r : NodeId) (side : Side) → action_in act ≡ action_at (actions_in acts) place → act.cause.event ≡ Pass w r side
-    → (n : ℕ) → leads_to act.second r.number n ≡ true → (action_at (actions_in acts) place).changes n ≡ true
+pub changes_reader : (acts : List EventAccess) (place : ℕ) (act : EventAccess) (w r : NodeId) (side : Side) → action_in act ≡ action_at (actions_in acts) place → act.cause.event ≡ Pass w r side
+    → (n : ℕ) → side_leads_to act.second r.number n ≡ true → (action_at (actions_in acts) place).changes n ≡ true
 changes_reader acts place act w r side is pass n h =
-    sym (ap (λ (a : Action). a.changes n) is) ∙ ap (λ (e : Event). shown_by e act.first act.second n) pass ∙ or_right (leads_to act.first w.number n) (leads_to act.second r.number n) h
+    sym (ap (λ (a : Action). a.changes n) is) ∙ ap (λ (e : Event). shown_by e act.first act.second n) pass ∙ or_right (side_leads_to act.first w.number n) (side_leads_to act.second r.number n) h
 
-pub own_at : (acts : List Act) (place : ℕ) (act : Act) (node : NodeId) (a b c : List Near) → action_in act ≡ action_at (actions_in acts) place → act.cause.event ≡ Own node
+pub own_at : (acts : List EventAccess) (place : ℕ) (act : EventAccess) (node : NodeId) (a b c : List Near) → action_in act ≡ action_at (actions_in acts) place → act.cause.event ≡ Own node
     → IsMore acts (OfLook place 0) a b → IsMore acts (OverSides acts place node.number act.first) b c → IsMore acts (AtPlace place) a c
 own_at acts place act node a b c is own m n = chained acts (OfLook place 0) (OverSides acts place node.number act.first) (AtPlace place) a b c m n asks
   where
@@ -210,7 +210,7 @@ own_at acts place act node a b c is own m n = chained acts (OfLook place 0) (Ove
     asks z (inl x) f = inl (x.0, x.1, omega arith)
     asks z (inr x) f = inr (f.node, (x.0, x.1, f.look), sym (ap (λ (e : Event). shown_by e act.first act.second f.node) own) ∙ change_here acts place act z f is x.0)
 
-pub pass_at : (acts : List Act) (place : ℕ) (act : Act) (w r : NodeId) (side : Side) (a b c : List Near) → action_in act ≡ action_at (actions_in acts) place → act.cause.event ≡ Pass w r side
+pub pass_at : (acts : List EventAccess) (place : ℕ) (act : EventAccess) (w r : NodeId) (side : Side) (a b c : List Near) → action_in act ≡ action_at (actions_in acts) place → act.cause.event ≡ Pass w r side
     → IsMore acts (OverSides acts place w.number act.first) a b → IsMore acts (OverSides acts place r.number act.second) b c → IsMore acts (AtPlace place) a c
 pass_at acts place act w r side a b c is pass m n = chained acts (OverSides acts place w.number act.first) (OverSides acts place r.number act.second) (AtPlace place) a b c m n asks
   where
@@ -221,14 +221,14 @@ pass_at acts place act w r side a b c is pass m n = chained acts (OverSides acts
 
     asks : (z : Near) → AtPlace place z → IsNearLook acts z → OverSides acts place w.number act.first z ⊎ OverSides acts place r.number act.second z
     asks z (inl x) f = absurd (no_look z x.0 f)
-    asks z (inr x) f = elim (or_cases (leads_to act.first w.number f.node) (leads_to act.second r.number f.node) (sym (ap (λ (e : Event). shown_by e act.first act.second f.node) pass) ∙ change_here acts place act z f is x.0)) [
+    asks z (inr x) f = elim (or_cases (side_leads_to act.first w.number f.node) (side_leads_to act.second r.number f.node) (sym (ap (λ (e : Event). shown_by e act.first act.second f.node) pass) ∙ change_here acts place act z f is x.0)) [
       | inl h ↦ inl (f.node, (x.0, x.1, f.look), h)
       | inr h ↦ inr (f.node, (x.0, x.1, f.look), h)
     ]
 
 -- ---- the whole list
 
-pub place_next : (acts : List Act) (place : ℕ) (a b c : List Near) → IsMore acts (BelowPlace place) a b → IsMore acts (AtPlace place) b c → IsMore acts (BelowPlace (place + 1)) a c
+pub place_next : (acts : List EventAccess) (place : ℕ) (a b c : List Near) → IsMore acts (BelowPlace place) a b → IsMore acts (AtPlace place) b c → IsMore acts (BelowPlace (place + 1)) a c
 place_next acts place a b c m n = chained acts (BelowPlace place) (AtPlace place) (BelowPlace (place + 1)) a b c m n asks
   where
     apart : (z : Near) → AreNear (actions_in acts) z.look z.change ⊎ AreNear (actions_in acts) z.change z.look → z.look ≡ z.change → ⊥
@@ -250,10 +250,10 @@ place_next acts place a b c m n = chained acts (BelowPlace place) (AtPlace place
           ]
         ]
 
-pub none_first : (acts : List Act) (xs : List Near) → IsMore acts (BelowPlace 0) xs xs
+pub none_first : (acts : List EventAccess) (xs : List Near) → IsMore acts (BelowPlace 0) xs xs
 none_first acts xs = nothing acts (BelowPlace 0) xs (λ z r f. let a : z.look < 0 = r.0 in absurd (omega (arith, a)))
 
-pub marks_next : (acts : List Act) (place : ℕ) (act : Act) (old new : ℕ → Bool) → action_in act ≡ action_at (actions_in acts) place → ((n : ℕ) → new n ≡ (old n || has_looked (action_in act) n))
+pub marks_next : (acts : List EventAccess) (place : ℕ) (act : EventAccess) (old new : ℕ → Bool) → action_in act ≡ action_at (actions_in acts) place → ((n : ℕ) → new n ≡ (old n || has_looked (action_in act) n))
     → LooksAreMarked acts place old → LooksAreMarked acts (place + 1) new
 marks_next acts place act old new is more marked q n l look = elim (cases_lt q place) [
   | inl k ↦ more n ∙ or_left (old n) (has_looked (action_in act) n) (marked q n k look)
@@ -263,7 +263,7 @@ marks_next acts place act old new is more marked q n l look = elim (cases_lt q p
       more n ∙ or_right (old n) (has_looked (action_in act) n) (and_both act.cause.look (touches act.cause.event n) p.0 (own_touches act.cause.event n p.1)))
 ]
 
-pub all_found : (acts : List Act) (place : ℕ) (xs : List Near) → length acts ≤ place → IsMore acts (BelowPlace place) [] xs → (z : Near) → (Contains xs z → IsNearLook acts z) × (IsNearLook acts z → Contains xs z)
+pub all_found : (acts : List EventAccess) (place : ℕ) (xs : List Near) → length acts ≤ place → IsMore acts (BelowPlace place) [] xs → (z : Near) → (Contains xs z → IsNearLook acts z) × (IsNearLook acts z → Contains xs z)
 all_found acts place xs l m z = (λ h. from (m.sound z h), λ f. m.all z (within f.order) f)
   where
     from : Contains [] z ⊎ IsNearLook acts z → IsNearLook acts z

@@ -17,7 +17,8 @@ use Rattle.ga_event.specs.Touches.{nodes_of, touches, meets}
 use Rattle.ga_event.specs.Apply.{Told, writes_to, seen_from, after, is_look, cause_of, run, replay}
 use Rattle.ga_event.specs.Told.{steps_of}
 use Rattle.ga_event.proofs.Locality.{touched_free, Agree-sym}
-use Rattle.ga_causal.specs.Dependence.{events_in, cause_touches, marked, rest, rest_from, rewound_list, NoneLooks}
+use Rattle.ga_causal.specs.Dependence.{cause_touches, marked, rest, rest_from, rewound_list, NoneLooks}
+use Rattle.ga_event.specs.Told.{events_in}
 use Rattle.ga_causal.specs.Equivalence.{sees, AreApart, AreEquivalent}
 use Rattle.ga_causal.specs.Equivalence as equivalence
 use Rattle.ga_causal.specs.Steps.{touching}

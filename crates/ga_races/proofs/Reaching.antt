@@ -10,10 +10,10 @@ use Rattle.ga_event.specs.declared.event.Event.TheVariants.{Own, Pass}
 use Rattle.ga_event.specs.Touches.{nodes_of, touches}
 use Rattle.ga_event.specs.Apply.{is_number}
 use Rattle.ga_causal.specs.kept.Firsts.{any_of}
-use Rattle.ga_races.specs.declared.act.Act.{Act}
+use Rattle.ga_races.specs.declared.act.EventAccess.{EventAccess}
 use Rattle.ga_races.specs.declared.act.Sides.{Sides}
 use Rattle.ga_races.specs.HappensBefore.{Action, no_action, action_at, is_shown, are_bound, IsBound, HappensBefore, directly, through}
-use Rattle.ga_races.specs.Acts.{leads_to, shown_by, action_in, actions_in}
+use Rattle.ga_races.specs.Acts.{side_leads_to, shown_by, action_in, actions_in}
 use Rattle.ga_races.specs.kept.Marked.{shows_marked}
 use Rattle.ga_races.specs.kept.Reached.{has_touched, has_shown, has_looked, is_shown_to, is_met, IsOnward, AreMarked, AreReached}
 use Rattle.ga_races.proofs.Frees.{any_at}
@@ -45,20 +45,20 @@ over_all : (marks : ℕ → Bool) (has : Bool) (o : Option ℕ) (n : ℕ) → (h
 over_all marks has None n h mark = absurd (both_ways false refl ((and_parts has false h).1))
 over_all marks has (Some k) n h mark = let p = and_parts has (k == n) h in and_both has (marks k) p.0 (ap marks (eqb-true k n p.1) ∙ mark)
 
-beside_some : (marks : ℕ → Bool) (s : Sides) (m : ℕ) → shows_marked marks s m ≡ true → (n : ℕ) × (leads_to s m n ≡ true) × (marks n ≡ true)
+beside_some : (marks : ℕ → Bool) (s : Sides) (m : ℕ) → shows_marked marks s m ≡ true → (n : ℕ) × (side_leads_to s m n ≡ true) × (marks n ≡ true)
 beside_some marks s m h =
     go (or4_cases (s.right && any_of marks (neighbour_of m Right)) (s.down && any_of marks (neighbour_of m Down)) (s.left && any_of marks (neighbour_of m Left)) (s.up && any_of marks (neighbour_of m Up)) h)
   where
-    at : (n : ℕ) → ((s.right && is_number (neighbour_of m Right) n) ≡ true) ⊎ (((s.down && is_number (neighbour_of m Down) n) ≡ true) ⊎ (((s.left && is_number (neighbour_of m Left) n) ≡ true) ⊎ ((s.up && is_number (neighbour_of m Up) n) ≡ true))) → leads_to s m n ≡ true
+    at : (n : ℕ) → ((s.right && is_number (neighbour_of m Right) n) ≡ true) ⊎ (((s.down && is_number (neighbour_of m Down) n) ≡ true) ⊎ (((s.left && is_number (neighbour_of m Left) n) ≡ true) ⊎ ((s.up && is_number (neighbour_of m Up) n) ≡ true))) → side_leads_to s m n ≡ true
     at n = or4_from (s.right && is_number (neighbour_of m Right) n) (s.down && is_number (neighbour_of m Down) n) (s.left && is_number (neighbour_of m Left) n) (s.up && is_number (neighbour_of m Up) n)
 
-    go : ((s.right && any_of marks (neighbour_of m Right)) ≡ true) ⊎ (((s.down && any_of marks (neighbour_of m Down)) ≡ true) ⊎ (((s.left && any_of marks (neighbour_of m Left)) ≡ true) ⊎ ((s.up && any_of marks (neighbour_of m Up)) ≡ true))) → (n : ℕ) × (leads_to s m n ≡ true) × (marks n ≡ true)
+    go : ((s.right && any_of marks (neighbour_of m Right)) ≡ true) ⊎ (((s.down && any_of marks (neighbour_of m Down)) ≡ true) ⊎ (((s.left && any_of marks (neighbour_of m Left)) ≡ true) ⊎ ((s.up && any_of marks (neighbour_of m Up)) ≡ true))) → (n : ℕ) × (side_leads_to s m n ≡ true) × (marks n ≡ true)
     go (inl a) = let p = over_some marks s.right (neighbour_of m Right) a in (p.0, at p.0 (inl p.1), p.2)
     go (inr (inl a)) = let p = over_some marks s.down (neighbour_of m Down) a in (p.0, at p.0 (inr (inl p.1)), p.2)
     go (inr (inr (inl a))) = let p = over_some marks s.left (neighbour_of m Left) a in (p.0, at p.0 (inr (inr (inl p.1))), p.2)
     go (inr (inr (inr a))) = let p = over_some marks s.up (neighbour_of m Up) a in (p.0, at p.0 (inr (inr (inr p.1))), p.2)
 
-beside_all : (marks : ℕ → Bool) (s : Sides) (m n : ℕ) → leads_to s m n ≡ true → marks n ≡ true → shows_marked marks s m ≡ true
+beside_all : (marks : ℕ → Bool) (s : Sides) (m n : ℕ) → side_leads_to s m n ≡ true → marks n ≡ true → shows_marked marks s m ≡ true
 beside_all marks s m n h mark =
     from (go (or4_cases (s.right && is_number (neighbour_of m Right) n) (s.down && is_number (neighbour_of m Down) n) (s.left && is_number (neighbour_of m Left) n) (s.up && is_number (neighbour_of m Up) n) h))
   where
@@ -75,13 +75,13 @@ beside_all marks s m n h mark =
 shown_some : (marks : ℕ → Bool) (e : Event) (f s : Sides) → is_shown_to marks e f s ≡ true → (n : ℕ) × (shown_by e f s n ≡ true) × (marks n ≡ true)
 shown_some marks (Own m) f s h = beside_some marks f m.number h
 shown_some marks (Pass w r side) f s h = elim (or_cases (shows_marked marks f w.number) (shows_marked marks s r.number) h) [
-  | inl a ↦ (let p = beside_some marks f w.number a in (p.0, or_left (leads_to f w.number p.0) (leads_to s r.number p.0) p.1, p.2))
-  | inr a ↦ (let p = beside_some marks s r.number a in (p.0, or_right (leads_to f w.number p.0) (leads_to s r.number p.0) p.1, p.2))
+  | inl a ↦ (let p = beside_some marks f w.number a in (p.0, or_left (side_leads_to f w.number p.0) (side_leads_to s r.number p.0) p.1, p.2))
+  | inr a ↦ (let p = beside_some marks s r.number a in (p.0, or_right (side_leads_to f w.number p.0) (side_leads_to s r.number p.0) p.1, p.2))
 ]
 
 shown_all : (marks : ℕ → Bool) (e : Event) (f s : Sides) (n : ℕ) → shown_by e f s n ≡ true → marks n ≡ true → is_shown_to marks e f s ≡ true
 shown_all marks (Own m) f s n h mark = beside_all marks f m.number n h mark
-shown_all marks (Pass w r side) f s n h mark = elim (or_cases (leads_to f w.number n) (leads_to s r.number n) h) [
+shown_all marks (Pass w r side) f s n h mark = elim (or_cases (side_leads_to f w.number n) (side_leads_to s r.number n) h) [
   | inl a ↦ or_left (shows_marked marks f w.number) (shows_marked marks s r.number) (beside_all marks f w.number n a mark)
   | inr a ↦ or_right (shows_marked marks f w.number) (shows_marked marks s r.number) (beside_all marks s r.number n a mark)
 ]
@@ -106,7 +106,7 @@ bound_cases a b h = elim (or_cases (list_any (touches a.cause.event) (nodes_of b
   | inr p ↦ inr (or_cases (is_shown a b) (is_shown b a) p)
 ]
 
-module _ (xs : List Action) (first place : ℕ) (touched shown looked : ℕ → Bool) (act : Act) (before : first < place) (within : place < length xs) (is : action_at xs place ≡ action_in act)
+module _ (xs : List Action) (first place : ℕ) (touched shown looked : ℕ → Bool) (act : EventAccess) (before : first < place) (within : place < length xs) (is : action_at xs place ≡ action_in act)
     (t : AreMarked xs first place has_touched touched) (s : AreMarked xs first place has_shown shown) (l : AreMarked xs first place has_looked looked) where
   on : (m : ℕ) → m < place → IsOnward xs first m → are_bound (action_at xs m) (action_in act) ≡ true → HappensBefore xs first place
   on m k r b = go r (record { before = k; within = within; bound = ap (are_bound (action_at xs m)) is ∙ b })
@@ -197,10 +197,10 @@ none_between xs first later none m h (through {middle} k d) = sym (none middle d
 
 -- ---- the pass
 
-act_at : (acts : List Act) (i : ℕ) (x : Act) → i < length acts → x ≡ get_or acts i x → action_at (actions_in acts) i ≡ action_in x
+act_at : (acts : List EventAccess) (i : ℕ) (x : EventAccess) → i < length acts → x ≡ get_or acts i x → action_at (actions_in acts) i ≡ action_in x
 act_at acts i x l is = get_or-map action_in acts i x no_action l ∙ ap action_in (sym is)
 
-pub first_reached : (acts : List Act) (first later : ℕ) (t s l : ℕ → Bool) (act : Act) → first < later → later < length acts → act ≡ get_or acts first act
+pub first_reached : (acts : List EventAccess) (first later : ℕ) (t s l : ℕ → Bool) (act : EventAccess) → first < later → later < length acts → act ≡ get_or acts first act
     → ((n : ℕ) → t n ≡ has_touched (action_in act) n) → ((n : ℕ) → s n ≡ has_shown (action_in act) n) → ((n : ℕ) → l n ≡ has_looked (action_in act) n)
     → AreReached (actions_in acts) first later (first + 1) t s l
 first_reached acts first later t s l act before within is a b c = record {
@@ -216,7 +216,7 @@ first_reached acts first later t s l act before within is a b c = record {
     here : action_at xs first ≡ action_in act
     here = act_at acts first act (omega (arith, before, within)) is
 
-module _ (acts : List Act) (first later place : ℕ) (t s l : ℕ → Bool) (act end : Act) (met bound : Bool) (before : first < place) (order : place < later) (inside : later < length acts)
+module _ (acts : List EventAccess) (first later place : ℕ) (t s l : ℕ → Bool) (act end : EventAccess) (met bound : Bool) (before : first < place) (order : place < later) (inside : later < length acts)
     (act_is : act ≡ get_or acts place act) (end_is : end ≡ get_or acts later end) (inv : AreReached (actions_in acts) first later place t s l)
     (answer : met ≡ is_met t s l act) (bound_is : bound ≡ are_bound (action_in act) (action_in end)) where
   abbrev xs : List Action

@@ -32,7 +32,7 @@ runs_of (Fetch sides) stop h = absurd (cc)
 runs_of (Read sides) stop h = absurd (cc)
 runs_of (Write side) stop h = absurd (cc)
 
-matched_of : (b : Bool) → unmatched b ≡ None → b ≡ true
+pub matched_of : (b : Bool) → unmatched b ≡ None → b ≡ true
 matched_of true h = refl
 matched_of false h = absurd (cc)
 

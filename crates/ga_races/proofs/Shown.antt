@@ -15,14 +15,15 @@ use Rattle.ga_grid.proofs.Links.{neighbour_of-back}
 use Rattle.ga_event.specs.declared.event.Event.{Event}
 use Rattle.ga_event.specs.declared.event.Event.TheVariants.{Own, Pass}
 use Rattle.ga_event.specs.Apply.{shows, beside_in, seen_from, is_number, after}
-use Rattle.ga_races.specs.declared.act.Act.{Act}
+use Rattle.ga_races.specs.declared.act.EventAccess.{EventAccess}
 use Rattle.ga_races.specs.declared.act.Sides.{Sides}
 use Rattle.ga_races.specs.Orders.{CanBe}
 use Rattle.ga_races.specs.HappensBefore.{action_of}
-use Rattle.ga_races.specs.Acts.{leads_to, shown_by}
-use Rattle.ga_races.specs.kept.Changed.{shown_as, is_changed, HasSides}
+use Rattle.ga_races.specs.Acts.{side_leads_to, shown_by}
+use Rattle.ga_races.specs.kept.Changed.{shown_as, is_changed, HasChangedSides}
 use Rattle.ga_races.proofs.Frees.{stays}
 use Rattle.ga_races.proofs.Reaching.{or4_cases, or4_from}
+use Rattle.ga_races.proofs.Rivals.{number_of as number_is}
 
 -- ---- the bits of a side
 
@@ -178,10 +179,6 @@ alike true false f g = absurd (both_ways false refl (f refl))
 alike false true f g = absurd (both_ways false refl (g refl))
 alike false false f g = refl
 
-number_is : (o : Option ℕ) (n : ℕ) → is_number o n ≡ true → o ≡ Some n
-number_is None n h = absurd (both_ways false refl h)
-number_is (Some k) n h = ap Some (eqb-true k n h)
-
 is_number_of : (o : Option ℕ) (n : ℕ) → o ≡ Some n → is_number o n ≡ true
 is_number_of o n h = ap (λ (z : Option ℕ). is_number z n) h ∙ eq-eqb n n refl
 
@@ -289,17 +286,17 @@ or8 a b c d x y z w = alike ((a || (b || (c || d))) || (x || (y || (z || w)))) (
 four : (a b c d x y z w : Bool) → a ≡ x → b ≡ y → c ≡ z → d ≡ w → (a || (b || (c || d))) ≡ (x || (y || (z || w)))
 four a b c d x y z w p q r s = ap₂ (λ (i j : Bool). i || j) p (ap₂ (λ (i j : Bool). i || j) q (ap₂ (λ (i j : Bool). i || j) r s))
 
-sides_of : (e : Event) (c : List NodeRecord) (act : Act) (n : ℕ) → n < 144 → CanBe c e → HasSides c (after c e).0 act e → shown_by e act.first act.second n ≡ changed_some c (after c e).0 n
+sides_of : (e : Event) (c : List NodeRecord) (act : EventAccess) (n : ℕ) → n < 144 → CanBe c e → HasChangedSides c (after c e).0 act e → shown_by e act.first act.second n ≡ changed_some c (after c e).0 n
 unfolding changed_some
 sides_of (Own m) c act n l can has =
-    ap (λ (s : Sides). leads_to s m.number n) has
+    ap (λ (s : Sides). side_leads_to s m.number n) has
     ∙ four _ _ _ _ _ _ _ _ (own_side c n l m Right can) (own_side c n l m Down can) (own_side c n l m Left can) (own_side c n l m Up can)
 sides_of (Pass w r s) c act n l can has =
-    ap₂ (λ (x y : Sides). leads_to x w.number n || leads_to y r.number n) has.0 has.1
+    ap₂ (λ (x y : Sides). side_leads_to x w.number n || side_leads_to y r.number n) has.0 has.1
     ∙ or8 (of_node c (after c (Pass w r s)).0 w.number n Right) (of_node c (after c (Pass w r s)).0 w.number n Down) (of_node c (after c (Pass w r s)).0 w.number n Left) (of_node c (after c (Pass w r s)).0 w.number n Up) (of_node c (after c (Pass w r s)).0 r.number n Right) (of_node c (after c (Pass w r s)).0 r.number n Down) (of_node c (after c (Pass w r s)).0 r.number n Left) (of_node c (after c (Pass w r s)).0 r.number n Up)
     ∙ four _ _ _ _ _ _ _ _ (pass_side c n l w r s Right can) (pass_side c n l w r s Down can) (pass_side c n l w r s Left can) (pass_side c n l w r s Up can)
 
-pub act_changes : (c : List NodeRecord) (e : Event) (act : Act) (n : ℕ) → n < 144 → CanBe c e → act.cause.event ≡ e → HasSides c (after c e).0 act e
+pub act_changes : (c : List NodeRecord) (e : Event) (act : EventAccess) (n : ℕ) → n < 144 → CanBe c e → act.cause.event ≡ e → HasChangedSides c (after c e).0 act e
     → shown_by act.cause.event act.first act.second n ≡ (action_of c e).changes n
 act_changes c e act n l can is has =
     ap (λ (z : Event). shown_by z act.first act.second n) is ∙ sides_of e c act n l can has ∙ sym (changes_is c (after c e).0 n)

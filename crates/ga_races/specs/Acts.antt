@@ -6,26 +6,26 @@ use Rattle.ga_grid.specs.Grid.{neighbour_of}
 use Rattle.ga_event.specs.declared.event.Event.{Event}
 use Rattle.ga_event.specs.declared.event.Event.TheVariants.{Own, Pass}
 use Rattle.ga_event.specs.Apply.{is_number}
-use Rattle.ga_races.specs.declared.act.Act.{Act}
+use Rattle.ga_races.specs.declared.act.EventAccess.{EventAccess}
 use Rattle.ga_races.specs.declared.act.Sides.{Sides}
 use Rattle.ga_races.specs.declared.near.Near.{Near}
 use Rattle.ga_races.specs.HappensBefore.{Action, action_at, AreNear}
 
 -- one of the sides of the first node leads to the second
-abbrev pub leads_to : Sides → ℕ → ℕ → Bool
-leads_to sides m n =
+abbrev pub side_leads_to : Sides → ℕ → ℕ → Bool
+side_leads_to sides m n =
     (sides.right && is_number (neighbour_of m Right) n) || ((sides.down && is_number (neighbour_of m Down) n)
     || ((sides.left && is_number (neighbour_of m Left) n) || (sides.up && is_number (neighbour_of m Up) n)))
 
 -- the event, whose nodes change on these sides what they show, changes what is shown to the node
 abbrev pub shown_by : Event → Sides → Sides → ℕ → Bool
-shown_by (Own m) first second n = leads_to first m.number n
-shown_by (Pass w r side) first second n = leads_to first w.number n || leads_to second r.number n
+shown_by (Own m) first second n = side_leads_to first m.number n
+shown_by (Pass w r side) first second n = side_leads_to first w.number n || side_leads_to second r.number n
 
-abbrev pub action_in : Act → Action
+abbrev pub action_in : EventAccess → Action
 action_in act = record { cause = act.cause; changes = λ n. shown_by act.cause.event act.first act.second n }
 
-abbrev pub actions_in : List Act → List Action
+abbrev pub actions_in : List EventAccess → List Action
 actions_in acts = map action_in acts
 
 abbrev pub is_own_of : Event → ℕ → Bool
@@ -37,7 +37,7 @@ abbrev pub is_look_of : Action → ℕ → Bool
 is_look_of action n = action.cause.look && is_own_of action.cause.event n
 
 -- At the two places are a look of a node and a change of what is shown to it that are near, whichever of them stands first.
-pub record IsNearLook (acts : List Act) (near : Near) : Type 0 where
+pub record IsNearLook (acts : List EventAccess) (near : Near) : Type 0 where
   pub node : ℕ
   pub look : is_look_of (action_at (actions_in acts) near.look) node ≡ true
   pub change : (action_at (actions_in acts) near.change).changes node ≡ true

@@ -5,7 +5,7 @@ ghost use Rattle.std.specs.List.{list_any};
 ghost use Rattle.ga_grid.specs.Grid.{neighbour_of};
 ghost use Rattle.ga_event.specs.Apply.{is_number};
 ghost use Rattle.ga_causal.specs.Dependence.{cause_touches, cause_nodes};
-ghost use Rattle.ga_races.specs.Acts.{leads_to, action_in};
+ghost use Rattle.ga_races.specs.Acts.{side_leads_to, action_in};
 ghost use Rattle.ga_races.specs.HappensBefore.{are_bound, is_shown};
 
 use ga_event::{Cause, Event, touches};
@@ -27,7 +27,7 @@ pub struct Sides {
 
 /// An event as it was made: with whether it looked, and with the sides on which it changed what its nodes show there.
 #[derive(Clone, Copy, PartialEq, Eq, Debug)]
-pub struct Act {
+pub struct EventAccess {
     /// The event, with whether it looked.
     pub cause: Cause,
     /// The sides of its node; of a pass those of the writer.
@@ -49,7 +49,7 @@ fn leads_over(from: NodeId, side: Side, has: bool, to: NodeId) -> bool
 impl Sides {
     /// Whether one of them leads from the first node to the second.
     pub fn lead(&self, from: NodeId, to: NodeId) -> bool
-        ensures { result ≡ leads_to self.now from.number to.number }
+        ensures { result ≡ side_leads_to self.now from.number to.number }
     {
         leads_over(from, Side::Right, self.right, to)
             || leads_over(from, Side::Down, self.down, to)
@@ -58,7 +58,7 @@ impl Sides {
     }
 }
 
-impl Act {
+impl EventAccess {
     /// Whether it changed what is shown to the node.
     pub fn changes(&self, node: NodeId) -> bool
         ensures { result ≡ (action_in self.now).changes node.number }
@@ -94,21 +94,21 @@ impl Act {
     }
 
     // Whether it is a look, and the other changes what is shown to it.
-    fn is_shown(&self, other: &Act) -> bool
+    fn is_shown(&self, other: &EventAccess) -> bool
         ensures { result ≡ is_shown (action_in self.now) (action_in other.now) }
     {
         self.cause.look && other.changes_some(&self.cause)
     }
 
     /// Whether both keep their order in each order of a list in which they are neighbours.
-    pub fn is_bound(&self, other: &Act) -> bool
+    pub fn is_bound(&self, other: &EventAccess) -> bool
         ensures { result ≡ are_bound (action_in self.now) (action_in other.now) }
     {
         self.meets(&other.cause) || self.is_shown(other) || other.is_shown(self)
     }
 
     /// Whether both touch a common node.
-    pub fn is_beside(&self, other: &Act) -> bool
+    pub fn is_beside(&self, other: &EventAccess) -> bool
         ensures { result ≡ list_any (cause_touches self.now.cause) (cause_nodes other.now.cause) }
     {
         self.meets(&other.cause)

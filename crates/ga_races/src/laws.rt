@@ -10,7 +10,8 @@ ghost use Rattle.ga_event.specs.Touches.{touches};
 ghost use Rattle.ga_event.specs.declared.event.Cause.{Cause};
 ghost use Rattle.ga_event.specs.Apply.{Told, after, replay, run};
 ghost use Rattle.ga_event.specs.Told.{steps_of};
-ghost use Rattle.ga_causal.specs.Dependence.{events_in, rewound_list, NoneLooks};
+ghost use Rattle.ga_causal.specs.Dependence.{rewound_list, NoneLooks};
+ghost use Rattle.ga_event.specs.Told.{events_in};
 ghost use Rattle.ga_causal.specs.Equivalence.{AreEquivalent};
 ghost use Rattle.ga_causal.specs.Words.{account_read};
 ghost use Rattle.ga_races.specs.Exploring.{IsExplored};
@@ -62,7 +63,7 @@ pub fn one_end()
 /// Where no event of a list looks and the list ends without a next event, it has no race just where no rollback of a step of a
 /// node leaves a chip on which two neighbours wait to write to it while it waits for both: what `rewind` of a step leaves shows each
 /// race. (A race of two passes shows there also where the list doesn't end.)
-pub fn taken_back()
+pub fn race_free_by_rollbacks()
     ensures shows { (chip last : List NodeRecord) (events : List Event) (steps : List (Cause × Told)) (w x r : NodeId) (side other : Side) →
         run chip events ≡ Some (last, steps) → let causes = map (λ (s : Cause × Told). s.0) steps in
         NoneLooks causes → IsRace chip events (Pass w r side) (Pass x r other) → AreRivals (Pass w r side) (Pass x r other) →

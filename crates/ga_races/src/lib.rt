@@ -5,5 +5,5 @@ mod act;
 pub mod laws;
 mod near;
 
-pub use act::{Act, Sides};
+pub use act::{EventAccess, Sides};
 pub use near::{Near, find_near};

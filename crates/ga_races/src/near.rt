@@ -8,12 +8,12 @@ ghost use Rattle.ga_causal.specs.kept.Firsts.{any_of};
 ghost use Rattle.ga_event.specs.Apply.{is_number};
 ghost use Rattle.ga_races.specs.declared.near.Near.{Near};
 ghost use Rattle.ga_races.specs.HappensBefore.{action_at, HappensBefore, AreNear};
-ghost use Rattle.ga_races.specs.Acts.{leads_to, action_in, actions_in, is_own_of, is_look_of, IsNearLook};
+ghost use Rattle.ga_races.specs.Acts.{side_leads_to, action_in, actions_in, is_own_of, is_look_of, IsNearLook};
 ghost use Rattle.ga_races.specs.kept.Marked.{shows_marked};
 ghost use Rattle.ga_races.specs.kept.Reached.{has_touched, has_shown, has_looked, is_shown_to, is_met};
 ghost use Rattle.ga_races.specs.kept.Asked.{IsMore, OfPair, OfLook, OfChange, OverSide, OverSides, AtPlace, LooksAreMarked};
 
-use crate::act::{Act, Sides};
+use crate::act::{EventAccess, Sides};
 use ga_causal::Nodes;
 use ga_event::{Cause, Event};
 use ga_grid::{Memory, NodeId, neighbour};
@@ -72,7 +72,7 @@ fn mark_over(marks: &mut Nodes, node: NodeId, side: Side, has: bool)
 
 // Marks the neighbours on the sides.
 fn mark_beside(marks: &mut Nodes, node: NodeId, sides: &Sides)
-    ensures { (n : ℕ) → is_marked marks.new n ≡ (is_marked marks.old n || leads_to sides.now node.number n) }
+    ensures { (n : ℕ) → is_marked marks.new n ≡ (is_marked marks.old n || side_leads_to sides.now node.number n) }
 {
     mark_over(marks, node, Side::Right, sides.right);
     mark_over(marks, node, Side::Down, sides.down);
@@ -81,7 +81,7 @@ fn mark_beside(marks: &mut Nodes, node: NodeId, sides: &Sides)
 }
 
 // Marks the nodes to which an action changes what is shown.
-fn mark_shown(marks: &mut Nodes, act: &Act)
+fn mark_shown(marks: &mut Nodes, act: &EventAccess)
     ensures { (n : ℕ) → is_marked marks.new n ≡ (is_marked marks.old n || has_shown (action_in act.now) n) }
 {
     match act.cause.event {
@@ -94,7 +94,7 @@ fn mark_shown(marks: &mut Nodes, act: &Act)
 }
 
 // Marks the nodes of a look.
-fn mark_look(marks: &mut Nodes, act: &Act)
+fn mark_look(marks: &mut Nodes, act: &EventAccess)
     ensures { (n : ℕ) → is_marked marks.new n ≡ (is_marked marks.old n || has_looked (action_in act.now) n) }
 {
     if act.cause.look {
@@ -104,7 +104,7 @@ fn mark_look(marks: &mut Nodes, act: &Act)
 
 impl Reached {
     // Those of one action.
-    fn by(act: &Act) -> Self
+    fn by(act: &EventAccess) -> Self
         ensures touched { (n : ℕ) → is_marked result.touched n ≡ has_touched (action_in act.now) n }
         ensures shown { (n : ℕ) → is_marked result.shown n ≡ has_shown (action_in act.now) n }
         ensures looked { (n : ℕ) → is_marked result.looked n ≡ has_looked (action_in act.now) n }
@@ -119,7 +119,7 @@ impl Reached {
     }
 
     // Adds an action.
-    fn add(&mut self, act: &Act)
+    fn add(&mut self, act: &EventAccess)
         ensures touched { (n : ℕ) → is_marked self.new.touched n ≡ (is_marked self.old.touched n || has_touched (action_in act.now) n) }
         ensures shown { (n : ℕ) → is_marked self.new.shown n ≡ (is_marked self.old.shown n || has_shown (action_in act.now) n) }
         ensures looked { (n : ℕ) → is_marked self.new.looked n ≡ (is_marked self.old.looked n || has_looked (action_in act.now) n) }
@@ -130,7 +130,7 @@ impl Reached {
     }
 
     // Whether an action is bound to one of them. If so it is added.
-    fn take(&mut self, act: &Act) -> bool
+    fn take(&mut self, act: &EventAccess) -> bool
         ensures answer { result ≡ is_met (is_marked self.old.touched) (is_marked self.old.shown) (is_marked self.old.looked) act.now }
         ensures touched { (n : ℕ) → is_marked self.new.touched n ≡ (is_marked self.old.touched n || (result && has_touched (action_in act.now) n)) }
         ensures shown { (n : ℕ) → is_marked self.new.shown n ≡ (is_marked self.old.shown n || (result && has_shown (action_in act.now) n)) }
@@ -144,7 +144,7 @@ impl Reached {
     }
 
     // Whether an action is bound to one of them.
-    fn meets(&self, act: &Act) -> bool
+    fn meets(&self, act: &EventAccess) -> bool
         ensures { result ≡ is_met (is_marked self.now.touched) (is_marked self.now.shown) (is_marked self.now.looked) act.now }
     {
         self.touched.met_by(&act.cause)
@@ -153,7 +153,7 @@ impl Reached {
     }
 
     // Whether an action changes what is shown to a node that looked in them.
-    fn is_shown_by(&self, act: &Act) -> bool
+    fn is_shown_by(&self, act: &EventAccess) -> bool
         ensures { result ≡ is_shown_to (is_marked self.now.looked) act.now.cause.event act.now.first act.now.second }
     {
         match act.cause.event {
@@ -174,7 +174,7 @@ fn both(one: bool, other: bool) -> bool
 }
 
 // The action at a place.
-fn act_at(acts: &[Act], place: usize) -> Act
+fn act_at(acts: &[EventAccess], place: usize) -> EventAccess
     requires { place < length acts.now }
     ensures { action_in result ≡ action_at (actions_in acts.now) place }
 {
@@ -182,7 +182,7 @@ fn act_at(acts: &[Act], place: usize) -> Act
 }
 
 // Whether something happens between two actions of a list, by one pass over what stands between them.
-fn is_between(acts: &[Act], first: usize, later: usize) -> bool
+fn is_between(acts: &[EventAccess], first: usize, later: usize) -> bool
     requires order { first < later }
     requires within { later < length acts.now }
     ensures some { result ≡ true →
@@ -203,7 +203,7 @@ fn is_between(acts: &[Act], first: usize, later: usize) -> bool
 }
 
 // Whether two actions of a list touch no common node, are bound, and nothing happens between them.
-fn is_near(acts: &[Act], first: usize, later: usize) -> bool
+fn is_near(acts: &[EventAccess], first: usize, later: usize) -> bool
     requires order { first < later }
     requires within { later < length acts.now }
     ensures { (result ≡ true) ↔ AreNear (actions_in acts.now) first later }
@@ -217,7 +217,7 @@ fn is_near(acts: &[Act], first: usize, later: usize) -> bool
 }
 
 // The same of two that stand in any order.
-fn are_near(acts: &[Act], one: usize, other: usize) -> bool
+fn are_near(acts: &[EventAccess], one: usize, other: usize) -> bool
     requires one { one < length acts.now }
     requires other { other < length acts.now }
     requires apart { one ≢ other }
@@ -231,7 +231,7 @@ fn are_near(acts: &[Act], one: usize, other: usize) -> bool
 }
 
 // Whether it is a look of the node.
-fn is_look_of(acts: &[Act], place: usize, node: NodeId) -> bool
+fn is_look_of(acts: &[EventAccess], place: usize, node: NodeId) -> bool
     requires { place < length acts.now }
     ensures { result ≡ is_look_of (action_at (actions_in acts.now) place) node.number }
 {
@@ -243,7 +243,7 @@ fn is_look_of(acts: &[Act], place: usize, node: NodeId) -> bool
 }
 
 // Whether it changes what is shown to the node.
-fn changes(acts: &[Act], place: usize, node: NodeId) -> bool
+fn changes(acts: &[EventAccess], place: usize, node: NodeId) -> bool
     requires { place < length acts.now }
     ensures { result ≡ (action_at (actions_in acts.now) place).changes node.number }
 {
@@ -266,7 +266,7 @@ fn add(list: &mut Vec<Near>, look: usize, change: usize) -> Result<(), Memory>
 // The same of a look of a node and a change of what is shown to it, where they are near.
 fn add_near(
     list: &mut Vec<Near>,
-    acts: &[Act],
+    acts: &[EventAccess],
     look: usize,
     change: usize,
     node: NodeId,
@@ -288,7 +288,7 @@ fn add_near(
 // The same, where the second changes what is shown to the node.
 fn add_change(
     list: &mut Vec<Near>,
-    acts: &[Act],
+    acts: &[EventAccess],
     look: usize,
     change: usize,
     node: NodeId,
@@ -307,7 +307,12 @@ fn add_change(
 
 // Adds the changes before an event of the node that are near to it, if that looks. The last look before it was shown what came before
 // that.
-fn add_changes(list: &mut Vec<Near>, acts: &[Act], look: usize, node: NodeId) -> Result<(), Memory>
+fn add_changes(
+    list: &mut Vec<Near>,
+    acts: &[EventAccess],
+    look: usize,
+    node: NodeId,
+) -> Result<(), Memory>
     requires within { look < length acts.now }
     requires few { length acts.now < 2 ^ 32 }
     requires own { is_own_of (action_at (actions_in acts.now) look).cause.event node.number ≡ true }
@@ -328,7 +333,7 @@ fn add_changes(list: &mut Vec<Near>, acts: &[Act], look: usize, node: NodeId) ->
 }
 
 // Whether both touch a common node, and the first changes what is shown to another.
-fn hides(acts: &[Act], place: usize, change: usize, node: NodeId) -> bool
+fn hides(acts: &[EventAccess], place: usize, change: usize, node: NodeId) -> bool
     requires place { place < length acts.now }
     requires change { change < length acts.now }
     ensures { result ≡ ((action_at (actions_in acts.now) place).changes node.number
@@ -341,7 +346,12 @@ fn hides(acts: &[Act], place: usize, change: usize, node: NodeId) -> bool
 
 // Adds the last look of a node, where a change of what is shown to it is near to that. None is near behind which the neighbour
 // already changed this.
-fn add_look(list: &mut Vec<Near>, acts: &[Act], change: usize, node: NodeId) -> Result<(), Memory>
+fn add_look(
+    list: &mut Vec<Near>,
+    acts: &[EventAccess],
+    change: usize,
+    node: NodeId,
+) -> Result<(), Memory>
     requires within { change < length acts.now }
     requires few { length acts.now < 2 ^ 32 }
     requires changes { (action_at (actions_in acts.now) change).changes node.number ≡ true }
@@ -363,7 +373,7 @@ fn add_look(list: &mut Vec<Near>, acts: &[Act], change: usize, node: NodeId) -> 
 // The same of the neighbour on a side, if it is one of some, where it looked at all.
 fn add_look_over(
     list: &mut Vec<Near>,
-    acts: &[Act],
+    acts: &[EventAccess],
     change: usize,
     looked: &Nodes,
     over: (NodeId, Side, bool),
@@ -390,7 +400,7 @@ fn add_look_over(
 // The same of the neighbours on the sides.
 fn add_looks_beside(
     list: &mut Vec<Near>,
-    acts: &[Act],
+    acts: &[EventAccess],
     change: usize,
     looked: &Nodes,
     from: (NodeId, Sides),
@@ -398,7 +408,7 @@ fn add_looks_beside(
     requires within { change < length acts.now }
     requires few { length acts.now < 2 ^ 32 }
     requires looked { LooksAreMarked acts.now change (is_marked looked.now) }
-    requires changes { (n : ℕ) → leads_to from.1 from.0.number n ≡ true →
+    requires changes { (n : ℕ) → side_leads_to from.1 from.0.number n ≡ true →
         (action_at (actions_in acts.now) change).changes n ≡ true }
     ensures { OnOk result (IsMore acts.now (OverSides acts.now change from.0.number from.1) list.old.items list.new.items) }
 {
@@ -411,7 +421,12 @@ fn add_looks_beside(
 }
 
 // Adds what is near to an action before it.
-fn add_at(list: &mut Vec<Near>, acts: &[Act], place: usize, looked: &Nodes) -> Result<(), Memory>
+fn add_at(
+    list: &mut Vec<Near>,
+    acts: &[EventAccess],
+    place: usize,
+    looked: &Nodes,
+) -> Result<(), Memory>
     requires within { place < length acts.now }
     requires few { length acts.now < 2 ^ 32 }
     requires looked { LooksAreMarked acts.now place (is_marked looked.now) }
@@ -436,7 +451,7 @@ fn add_at(list: &mut Vec<Near>, acts: &[Act], place: usize, looked: &Nodes) -> R
 ///
 /// # Errors
 /// `Memory` alone.
-pub fn find_near(alloc: Global, acts: &[Act]) -> Result<Vec<Near>, Memory>
+pub fn find_near(alloc: Global, acts: &[EventAccess]) -> Result<Vec<Near>, Memory>
     requires few { length acts.now < 2 ^ 32 }
     ensures exact { IfOk result (λ list. (near : Near) → Contains list.items near ↔ IsNearLook acts.now near) }
 {

@@ -8,7 +8,7 @@ use Rattle.ga_event.specs.declared.event.Effect.{Effect}
 use Rattle.ga_event.specs.declared.event.Effect.TheVariants as effect
 use Rattle.ga_event.specs.Undo.{IsOfKind}
 use Rattle.ga_journal.specs.declared.entry.Act.TheVariants.{Own, Sent, Took}
-use Rattle.ga_journal.specs.Histories.{Past, past, deed, history, no_histories, pushed, appended}
+use Rattle.ga_journal.specs.Histories.{Past, past, deed, history, no_histories, with_entry, appended}
 use Rattle.ga_journal.specs.Logs.{Stamped, built, IsLog}
 use Rattle.ga_journal.specs.Marks.{is_counted}
 use Rattle.ga_journal.proofs.Logs.{history-no_histories, length-built}
@@ -47,7 +47,7 @@ counted_fewer (h ∷ hs) (k ∷ going) =
     omega arith
 
 -- by an entry more of a node
-counted_pushed : (hs : List (List Past)) (n : ℕ) (e : Past) → n < length hs → counted_of (pushed hs n e) ≡ counted_of hs + one_if (is_counted e.act)
+counted_pushed : (hs : List (List Past)) (n : ℕ) (e : Past) → n < length hs → counted_of (with_entry hs n e) ≡ counted_of hs + one_if (is_counted e.act)
 counted_pushed hs n e l =
     let a : counted_of (set hs n (history hs n ++ e ∷ [])) + counted_in (history hs n) ≡ counted_of hs + counted_in (history hs n ++ e ∷ []) = sum_by-set counted_in hs n (history hs n ++ e ∷ []) [] l in
     let b : counted_in (history hs n ++ e ∷ []) ≡ counted_in (history hs n) + counted_in (e ∷ []) = sum_by-append (λ (e : Past). cond (is_counted e.act) 1 0) (history hs n) (e ∷ []) in
@@ -62,8 +62,8 @@ counted_more hs s (event.Pass w r side) (effect.Pass word sent took) k size =
     let sent_to : Past = past s (Sent r side (length (history hs r.number)) word) sent in
     let taken_from : Past = past s (Took w side (length (history hs w.number)) word) took in
     let a = counted_pushed hs w.number sent_to (omega (arith, size, w.in_range)) in
-    let l : length (pushed hs w.number sent_to) ≡ length hs = length-set hs w.number (history hs w.number ++ sent_to ∷ []) in
-    let b = counted_pushed (pushed hs w.number sent_to) r.number taken_from (omega (arith, l, size, r.in_range)) in
+    let l : length (with_entry hs w.number sent_to) ≡ length hs = length-set hs w.number (history hs w.number ++ sent_to ∷ []) in
+    let b = counted_pushed (with_entry hs w.number sent_to) r.number taken_from (omega (arith, l, size, r.in_range)) in
     omega arith
 counted_more hs s (event.Own node) (effect.Pass word sent took) k size = absurd k
 counted_more hs s (event.Pass w r side) (effect.Own kind saved) k size = absurd k

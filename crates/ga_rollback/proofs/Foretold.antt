@@ -6,14 +6,15 @@ use Rattle.std.proofs.lemmas.List.{length-take-le, set_past}
 use Rattle.std.proofs.lemmas.List.Sums.{sum_by-set}
 use Rattle.ga_journal.specs.Work.{one_more}
 use Rattle.ga_journal.specs.Histories.{Past, Book, history}
-use Rattle.ga_journal.specs.Events.{kept_of, causes_of, events_of}
+use Rattle.ga_journal.specs.Events.{kept_of, causes_in_book, events_of}
 use Rattle.ga_event.specs.Told.{steps_of}
 use Rattle.ga_journal.specs.Logs.{Stamped, built, IsLog, IsWhole}
 use Rattle.ga_journal.specs.kept.Cuts.{older_causes}
 use Rattle.ga_journal.specs.Marks.{AreMarks, mark_of, going_of, waits, counted_at, raised, IsAtRest}
 use Rattle.ga_journal.specs.kept.Marks.{to_go}
 use Rattle.ga_journal.proofs.Logs.{steps_log, length-built}
-use Rattle.ga_causal.specs.Dependence.{events_in, rewound_list}
+use Rattle.ga_causal.specs.Dependence.{rewound_list}
+use Rattle.ga_event.specs.Told.{events_in}
 use Rattle.ga_causal.proofs.Places.{touching_in}
 use Rattle.ga_rollback.specs.Rolled.{left}
 use Rattle.ga_rollback.specs.Rewound.{WouldGo}
@@ -118,12 +119,12 @@ would_go old mid new n k events steps whole some there same marked saw raising n
     let cut : IsCut log mid n (k - 1) = is_cut old n (k - 1) mid log whole.records (omega (arith, some, there)) same marked saw in
     let stay : List Stamped = left log (gone (mark_of mid) log) in
     let step : suc (k - 1) ≡ k = omega (arith, some) in
-    let list : rewound_list (causes_of old) n k ≡ older_causes stay =
+    let list : rewound_list (causes_in_book old) n k ≡ older_causes stay =
     ap (λ z. rewound_list z n k) (causes_log log old whole.records) ∙ ap (rewound_list (older_causes log) n) (sym step) ∙ sym cut.events in
     let all : counted_staying new ≡ length log =
     ap counted_of (staying_none new.histories new.going none) ∙ ap (λ (b : Book). counted_of b.histories) raising.others ∙ ap counted_of cut.same ∙ counted_log log old.made order in
     let few : counted_staying mid ≡ length stay = counted_left log old mid n (k - 1) order marked.sound cut in
-    let long : length (rewound_list (causes_of old) n k) ≡ length stay = ap length list ∙ length_older stay in
+    let long : length (rewound_list (causes_in_book old) n k) ≡ length stay = ap length list ∙ length_older stay in
     let total : length (events_of old) ≡ length log = same_length old ∙ number_log log old whole.records in
     record {
       stands = (some, subst (λ z. k ≤ z) (steps_log old n whole) there);
@@ -134,7 +135,7 @@ would_go old mid new n k events steps whole some there same marked saw raising n
           let w : going_of mid m ≤ length (history mid.histories m) = marked.sound.within m in
           let h : length (history mid.histories m) ≡ length (history old.histories m) = ap (λ (z : Book). length (history z.histories m)) same in
           let i : length (history (built log) m) ≡ length (history mid.histories m) = ap (λ z. length (history z m)) (sym cut.same) in
-          let d : steps_of m (events_in (rewound_list (causes_of old) n k)) ≡ length (history (built stay) m) =
+          let d : steps_of m (events_in (rewound_list (causes_in_book old) n k)) ≡ length (history (built stay) m) =
           ap (λ z. steps_of m (events_in z)) list ∙ sym (touching_in m (older_causes stay)) ∙ sym (steps_older stay old.made m (left_log log (gone (mark_of mid) log) old.made order)) in
           let e : length (history (built stay) m) ≡ mark_of mid m =
           ap length (left_cut (mark_of mid) log old.made order cut.closed m) ∙ length-take-le (mark_of mid m) (history (built log) m) (omega arith) in

@@ -1,5 +1,5 @@
 -- How many looks there are, and how many of them stay.
-use Rattle.std.proofs.Common.{◌≡◌, ℕ, zero, suc, ◌+◌, ◌-◌, ◌<◌, ◌≤◌, Bool, true, false, cond, List, [], ◌∷◌, length, take, get_or, set, Some, None, refl, ◌∙◌, ap, arith}
+use Rattle.std.proofs.Common.{◌≡◌, ℕ, zero, suc, ◌+◌, ◌-◌, ◌<◌, ◌≤◌, Bool, true, false, cond, List, [], ◌∷◌, length, take, get_or, set, Some, refl, ◌∙◌, ap, arith}
 use Rattle.std.specs.Prelude.{slice_get}
 use Rattle.std.specs.List.{sum_by}
 use Rattle.std.proofs.lemmas.List.{take_all}
@@ -10,9 +10,7 @@ use Rattle.ga_journal.specs.Events.{has_looked_in}
 use Rattle.ga_journal.specs.Looks.{HasLook}
 use Rattle.ga_rollback.specs.Marked.{looks_in, looks_of}
 use Rattle.ga_rollback.specs.kept.Marked.{staying}
-
-none_some : {A : Type 0} {x : A} → None ≡ Some x → ⊥
-none_some h = cc
+use Rattle.std.proofs.lemmas.Option.{none-some}
 
 abbrev pub one_if : Bool → ℕ
 one_if b = cond b 1 0
@@ -34,7 +32,7 @@ looks_less (suc q) (suc k) (x ∷ h) l =
 
 pub looks_one : (q k : ℕ) (h : List Past) (e : Past) → slice_get h q ≡ Some e → has_looked_in e.act ≡ true → q < k → looks_in (take q h) + 1 ≤ looks_in (take k h)
 looks_one q zero h e found looked l = absurd (omega arith)
-looks_one q (suc k) [] e found looked l = absurd (none_some found)
+looks_one q (suc k) [] e found looked l = absurd (none-some _ found)
 looks_one zero (suc k) (x ∷ h) e found looked l =
     let a = looks-cons x (take k h) in
     let b : one_if (has_looked_in x.act) ≡ 1 = ap (λ (z : Past). one_if (has_looked_in z.act)) (same_Some x e found) ∙ ap (λ z. one_if z) looked in
@@ -67,7 +65,7 @@ some_in : (h : List Past) (p : ℕ) (e : Past) → slice_get h p ≡ Some e → 
 some_in h p e found looked = let a = looks_one p (p + 1) h e found looked (omega arith) in let b = looks_front (p + 1) h in omega arith
 
 pub some_looks : (hs : List (List Past)) (m : ℕ) → HasLook (history hs m) → 0 < looks_of hs
-some_looks [] m look = absurd (none_some look.2)
+some_looks [] m look = absurd (none-some _ look.2)
 some_looks (h ∷ hs) zero look = let a = some_in h look.0 look.1 look.2 look.3 in let b = sum_by-cons looks_in h hs in omega arith
 some_looks (h ∷ hs) (suc m) look = let a = some_looks hs m look in let b = sum_by-cons looks_in h hs in omega arith
 

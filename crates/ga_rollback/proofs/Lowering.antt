@@ -1,5 +1,5 @@
 -- Marks lowered.
-use Rattle.std.proofs.Common.{◌≡◌, ◌≢◌, ℕ, ◌+◌, ◌-◌, ◌<◌, ◌≤◌, Bool, true, false, cond, List, [], length, take, get_or, set, Some, None, refl, sym, ◌∙◌, ap, subst, arith, ⊎_elim, length-set, get_or-set_same, get_or-set_other}
+use Rattle.std.proofs.Common.{◌≡◌, ◌≢◌, ℕ, ◌+◌, ◌-◌, ◌<◌, ◌≤◌, Bool, true, false, cond, List, [], length, take, get_or, set, Some, refl, sym, ◌∙◌, ap, subst, arith, ⊎_elim, length-set, get_or-set_same, get_or-set_other}
 use Rattle.std.specs.List.{sum_by, count_by}
 use Rattle.std.specs.Prelude.{slice_get}
 use Rattle.std.proofs.lemmas.Bool.{cases_eq, cases_lt, cases_order, both_ways}
@@ -17,9 +17,7 @@ use Rattle.ga_journal.specs.Looks.{SawNoneToGo}
 use Rattle.ga_rollback.specs.kept.Marked.{stamp_at, IsDue, Start, Later, Other, Saw, IsMarked, staying, IsUnseen}
 use Rattle.ga_rollback.specs.Marked.{looks_in, looks_of}
 use Rattle.ga_rollback.proofs.Looks.{one_most, looks_less, looks_one, staying_set}
-
-none_some : {A : Type 0} {x : A} → None ≡ Some x → ⊥
-none_some h = cc
+use Rattle.std.proofs.lemmas.Option.{none-some}
 
 pub node_within : (hs : List (List Past)) (n k : ℕ) → k < length (history hs n) → n < length hs
 node_within hs n k l = ⊎_elim (λ q. q) (λ q. absurd (let j : length (history hs n) ≡ 0 = ap length (get_or_past hs n [] q) in omega arith)) (cases_lt n (length hs))
@@ -62,7 +60,7 @@ due_lowered book j q s m p e sound l (Saw i r side f looked beside there h befor
 
 -- a look names no other entry
 look_alone : (act : Act) (x : ℕ × ℕ) → has_looked_in act ≡ true → partner_of act ≡ Some x → ⊥
-look_alone (Own deed) x looked names = none_some names
+look_alone (Own deed) x looked names = none-some _ names
 look_alone (Sent to side at word) x looked names = both_ways false refl looked
 look_alone (Took from side at word) x looked names = both_ways false refl looked
 

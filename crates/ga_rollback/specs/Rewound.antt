@@ -4,9 +4,10 @@ use Rattle.std.specs.Prelude.{◌≡◌, ℕ, ◌+◌, ◌*◌, ◌<◌, ◌≤�
 use Rattle.ga_node.specs.Record.{NodeState}
 use Rattle.ga_grid.specs.Chip.{records_of}
 use Rattle.ga_event.specs.Apply.{replay}
-use Rattle.ga_causal.specs.Dependence.{events_in, rewound_list}
+use Rattle.ga_causal.specs.Dependence.{rewound_list}
+use Rattle.ga_event.specs.Told.{events_in}
 use Rattle.ga_journal.specs.Histories.{Book}
-use Rattle.ga_journal.specs.Events.{causes_of, events_of}
+use Rattle.ga_journal.specs.Events.{causes_in_book, events_of}
 use Rattle.ga_event.specs.Told.{steps_of}
 use Rattle.ga_journal.specs.Walked.{walked_chip}
 use Rattle.ga_journal.specs.Marks.{entries, IsAtRest}
@@ -18,7 +19,7 @@ use Rattle.ga_rollback.specs.Tied.{IsTied}
 -- new chip.
 pub record IsRolledBack (old : Book) (chip : List NodeState) (n k : ℕ) (new : Book) (now : List NodeState) (removed : ℕ) : Type 0 where
   pub stands : (0 < k) × (k ≤ steps_of n (events_of old))
-  pub left : causes_of new ≡ rewound_list (causes_of old) n k
+  pub left : causes_in_book new ≡ rewound_list (causes_in_book old) n k
   pub load : walked_chip now new.histories ≡ walked_chip chip old.histories
   pub replays : replay (records_of (walked_chip chip old.histories)) (events_of new) ≡ Some (records_of now)
   pub number : removed + length (events_of new) ≡ length (events_of old)
@@ -31,9 +32,9 @@ pub record IsRolledBack (old : Book) (chip : List NodeState) (n k : ℕ) (new : 
 -- are the events that do not depend on the step.
 pub record WouldGo (old : Book) (n k : ℕ) (events : ℕ) (steps : List ℕ) : Type 0 where
   pub stands : (0 < k) × (k ≤ steps_of n (events_of old))
-  pub number : events + length (rewound_list (causes_of old) n k) ≡ length (events_of old)
+  pub number : events + length (rewound_list (causes_in_book old) n k) ≡ length (events_of old)
   pub each : (m : ℕ)
-      → slice_index steps m + steps_of m (events_in (rewound_list (causes_of old) n k)) ≡ steps_of m (events_of old)
+      → slice_index steps m + steps_of m (events_in (rewound_list (causes_in_book old) n k)) ≡ steps_of m (events_of old)
 
 -- How much a rollback did, whatever else is kept: at most four searches in vain for each entry that it removed, and none where no
 -- kept entry was a look; beside them at least two ticks for each and two more, and at most four for each and one for each look

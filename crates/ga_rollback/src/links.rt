@@ -1,7 +1,7 @@
 //! Links between neighbours, by a table.
 
 ghost use Rattle.std.specs.Prelude.{◌≡◌, ◌<◌, true, Some, IfSome};
-ghost use Rattle.ga_grid.specs.Grid.{neighbour_of, number_in};
+ghost use Rattle.ga_grid.specs.Grid.{neighbour_of, number_where_any};
 ghost use Rattle.ga_rollback.specs.kept.Links.{is_link, place_of};
 
 use ga_grid::NodeId;
@@ -65,7 +65,7 @@ fn number_beside(node: NodeId, side: Side) -> u8
 /// The node at the other end of the link on this side, as [`ga_grid::neighbour`] tells, without working it out.
 #[inline(always)]
 pub(crate) fn node_beside(node: NodeId, side: Side) -> Option<NodeId>
-    ensures value { number_in result ≡ neighbour_of node.number side }
+    ensures value { number_where_any result ≡ neighbour_of node.number side }
     ensures back { IfSome result (λ other. neighbour_of other.number side ≡ Some node.number) }
 {
     let number = number_beside(node, side);

@@ -19,12 +19,12 @@ use Rattle.ga_event.specs.Touches.{touches}
 use Rattle.ga_event.specs.Apply.{Told, after, replay}
 use Rattle.ga_event.specs.Told.{steps_of}
 use Rattle.ga_causal.specs.Dependence.{no_cause, event_at}
-use Rattle.ga_races.specs.declared.act.Act.{Act}
+use Rattle.ga_races.specs.declared.act.EventAccess.{EventAccess}
 use Rattle.ga_races.specs.declared.act.Sides.{Sides}
 use Rattle.ga_races.specs.Orders.{CanBe}
 use Rattle.ga_races.specs.HappensBefore.{Action, no_action, action_of, actions, action_at, causes_in}
 use Rattle.ga_races.specs.Acts.{action_in, actions_in}
-use Rattle.ga_races.specs.kept.Changed.{changed_sides, HasSides, AreAlike}
+use Rattle.ga_races.specs.kept.Changed.{changed_sides, HasChangedSides, AreAlike}
 use Rattle.ga_races.proofs.Frees.{first_of, replay_more, stays, touches_own, touches_writer, touches_reader}
 use Rattle.ga_races.proofs.Exact.{replay_into}
 use Rattle.ga_races.proofs.Orders.{is_some_of}
@@ -137,7 +137,7 @@ side_is : (s : State) (p m code old count more : ℕ) (e : Event) (sides : Sides
 side_is s p m code old count more e sides made now behind is =
     is ∙ ap₂ changed_sides (sym now.wait) (sym behind.wait ∙ ap (λ (z : List NodeRecord). (record_at z m).wait) made.then)
 
-act_at : (s : State) (p : ℕ) (act : Act) (e : Event) → Made s p e → act.cause.event ≡ e → HasSides (chip_of (earlier s p)) (after (chip_of (earlier s p)) e).0 act e → IsActAt s p act
+act_at : (s : State) (p : ℕ) (act : EventAccess) (e : Event) → Made s p e → act.cause.event ≡ e → HasChangedSides (chip_of (earlier s p)) (after (chip_of (earlier s p)) e).0 act e → IsActAt s p act
 act_at s p act e made is has n l = act_changes (chip_of (earlier s p)) e act n l made.can is has ∙ ap (λ (a : Action). a.changes n) (sym made.action)
 
 -- ---- an own event
@@ -222,34 +222,34 @@ module _ (s : State) (last : List NodeRecord) (led : replay s.load s.kept ≡ So
 -- ---- the whole list
 
 -- from a place on the acts have what was changed
-abbrev pub AreActsFrom : State → ℕ → List Act → Type 0
+abbrev pub AreActsFrom : State → ℕ → List EventAccess → Type 0
 AreActsFrom s place acts = (i n : ℕ) → place ≤ i → i < length acts → n < 144 → (action_at (actions_in acts) i).changes n ≡ (action_at (actions s.load s.kept) i).changes n
 
-abbrev pub HaveCauses : List Act → List Cause → Type 0
+abbrev pub HaveCauses : List EventAccess → List Cause → Type 0
 HaveCauses acts causes = (i : ℕ) → i < length acts → (action_at (actions_in acts) i).cause ≡ event_at causes i
 
-pub plain_causes : (acts : List Act) (causes : List Cause) → causes_in (actions_in acts) ≡ causes → HaveCauses acts causes
+pub plain_causes : (acts : List EventAccess) (causes : List Cause) → causes_in (actions_in acts) ≡ causes → HaveCauses acts causes
 plain_causes acts causes is i l =
     let size : length (actions_in acts) ≡ length acts = length-map acts action_in in
     sym (cause_there (actions_in acts) i (omega (arith, l, size))) ∙ ap (λ (z : List Cause). event_at z i) is
 
-pub plain_size : (acts : List Act) (causes : List Cause) → causes_in (actions_in acts) ≡ causes → length acts ≡ length causes
+pub plain_size : (acts : List EventAccess) (causes : List Cause) → causes_in (actions_in acts) ≡ causes → length acts ≡ length causes
 plain_size acts causes is = sym (length-map acts action_in) ∙ sym (length-map (actions_in acts) (λ (a : Action). a.cause)) ∙ ap length is
 
-there : (acts : List Act) (i : ℕ) (d : Act) → i < length acts → action_at (actions_in acts) i ≡ action_in (get_or acts i d)
+there : (acts : List EventAccess) (i : ℕ) (d : EventAccess) → i < length acts → action_at (actions_in acts) i ≡ action_in (get_or acts i d)
 there acts i d l = get_or-map action_in acts i d no_action l
 
-set_here : (acts : List Act) (i : ℕ) (act : Act) → i < length acts → action_at (actions_in (set acts i act)) i ≡ action_in act
+set_here : (acts : List EventAccess) (i : ℕ) (act : EventAccess) → i < length acts → action_at (actions_in (set acts i act)) i ≡ action_in act
 set_here acts i act l =
     let size : length (set acts i act) ≡ length acts = length-set acts i act in
     there (set acts i act) i act (omega (arith, l, size)) ∙ ap action_in (get_or-set_same acts i act act l)
 
-set_there : (acts : List Act) (i j : ℕ) (act : Act) → j < length acts → j ≢ i → action_at (actions_in (set acts i act)) j ≡ action_at (actions_in acts) j
+set_there : (acts : List EventAccess) (i j : ℕ) (act : EventAccess) → j < length acts → j ≢ i → action_at (actions_in (set acts i act)) j ≡ action_at (actions_in acts) j
 set_there acts i j act l ne =
     let size : length (set acts i act) ≡ length acts = length-set acts i act in
     there (set acts i act) j act (omega (arith, l, size)) ∙ ap action_in (get_or-set_other acts i j act act ne) ∙ sym (there acts j act l)
 
-pub acts_next : (s : State) (place next : ℕ) (acts : List Act) (act : Act) → place ≤ next + 1 → next < length acts → IsActAt s next act → AreActsFrom s place acts → AreActsFrom s next (set acts next act)
+pub acts_next : (s : State) (place next : ℕ) (acts : List EventAccess) (act : EventAccess) → place ≤ next + 1 → next < length acts → IsActAt s next act → AreActsFrom s place acts → AreActsFrom s next (set acts next act)
 acts_next s place next acts act up l is made i n k m o =
     let size : length (set acts next act) ≡ length acts = length-set acts next act in
     elim (cases_eq i next) [
@@ -257,7 +257,7 @@ acts_next s place next acts act up l is made i n k m o =
       | inr ne ↦ ap (λ (a : Action). a.changes n) (set_there acts next i act (omega (arith, m, size)) ne) ∙ made i n (omega (arith, k, ne, up)) (omega (arith, m, size)) o
     ]
 
-pub causes_next : (next : ℕ) (acts : List Act) (act : Act) (causes : List Cause) → next < length acts → act.cause ≡ event_at causes next → HaveCauses acts causes → HaveCauses (set acts next act) causes
+pub causes_next : (next : ℕ) (acts : List EventAccess) (act : EventAccess) (causes : List Cause) → next < length acts → act.cause ≡ event_at causes next → HaveCauses acts causes → HaveCauses (set acts next act) causes
 causes_next next acts act causes l is have i m =
     let size : length (set acts next act) ≡ length acts = length-set acts next act in
     elim (cases_eq i next) [
@@ -265,7 +265,7 @@ causes_next next acts act causes l is have i m =
       | inr ne ↦ ap (λ (a : Action). a.cause) (set_there acts next i act (omega (arith, m, size)) ne) ∙ have i (omega (arith, m, size))
     ]
 
-pub all_alike : (s : State) (last : List NodeRecord) (place : ℕ) (acts : List Act) (causes : List Cause) → replay s.load s.kept ≡ Some last → causes ≡ causes_of s → length acts ≡ length causes → place ≤ 0 → HaveCauses acts causes → AreActsFrom s place acts
+pub all_alike : (s : State) (last : List NodeRecord) (place : ℕ) (acts : List EventAccess) (causes : List Cause) → replay s.load s.kept ≡ Some last → causes ≡ causes_of s → length acts ≡ length causes → place ≤ 0 → HaveCauses acts causes → AreActsFrom s place acts
     → AreAlike (actions_in acts) (actions s.load s.kept)
 all_alike s last place acts causes led all count low have made =
     let size : length (actions_in acts) ≡ length acts = length-map acts action_in in
@@ -330,7 +330,7 @@ stood_before s m waits steps nwaits nsteps behind before had step read count one
 
 -- ---- acts with no sides yet
 
-pub plain_more : (acts : List Act) (act : Act) (causes : List Cause) (i : ℕ) (cause : Cause) → i < length causes → cause ≡ get_or causes i cause → act.cause ≡ cause → causes_in (actions_in acts) ≡ take i causes
+pub plain_more : (acts : List EventAccess) (act : EventAccess) (causes : List Cause) (i : ℕ) (cause : Cause) → i < length causes → cause ≡ get_or causes i cause → act.cause ≡ cause → causes_in (actions_in acts) ≡ take i causes
     → causes_in (actions_in (acts ++ act ∷ [])) ≡ take (i + 1) causes
 plain_more acts act causes i cause l is q h =
     ap causes_in (map-append action_in acts (act ∷ [])) ∙ map-append (λ (a : Action). a.cause) (actions_in acts) (action_in act ∷ []) ∙ ap₂ (λ (xs : List Cause) (x : Cause). xs ++ x ∷ []) h (q ∙ is) ∙ sym (take_more causes i cause l)
@@ -344,5 +344,5 @@ whole_list s last causes place led all is =
     let many : length causes ≡ length (causes_of s) = ap length all in
     take_all place s.kept (omega (arith, long, many, is))
 
-pub none_made : (s : State) (acts : List Act) (place : ℕ) → length acts ≤ place → AreActsFrom s place acts
+pub none_made : (s : State) (acts : List EventAccess) (place : ℕ) → length acts ≤ place → AreActsFrom s place acts
 none_made s acts place l i n k m o = absurd (omega (arith, l, k, m))

@@ -20,7 +20,8 @@ use Rattle.ga_event.specs.Apply.{Told, Did, Carried, apply, after, unless, refus
 use Rattle.ga_event.specs.Agree.{Agree}
 use Rattle.ga_event.specs.Told.{steps_of, made_after, mades_after, mades_of}
 use Rattle.ga_event.proofs.Locality.{Agree-sym}
-use Rattle.ga_causal.specs.Dependence.{events_in, cause_touches, rest, rest_from, place_of}
+use Rattle.ga_causal.specs.Dependence.{cause_touches, rest, rest_from, place_of}
+use Rattle.ga_event.specs.Told.{events_in}
 use Rattle.ga_causal.proofs.Runs.{kept, causes, FirstOf, first_of_run, keeps_of}
 use Rattle.ga_causal.proofs.Swaps.{replay-cons}
 use Rattle.ga_lab.specs.Machine.{State, chip_of, causes_of, history_of, told_by, earlier, rewound, stands}
@@ -29,6 +30,7 @@ use Rattle.ga_lab.proofs.Reasons.{stands_place}
 use Rattle.ga_lab.proofs.Reasoned.{replayed}
 use Rattle.ga_races.specs.Orders.{CanBe}
 use Rattle.ga_search.proofs.Standing.{Ran, marked_ran, steps-cons, no_step}
+use Rattle.ga_lab.proofs.Stepping.{applied_after as after_of}
 
 -- this was told of such an event
 abbrev pub IsOf : Made → Event → Type 0
@@ -41,10 +43,6 @@ can_of c d e t h = go (refusal_of c e) refl h
     go : (o : Option NotReady) → refusal_of c e ≡ o → unless o (after c e) ≡ Some (d, t) → refusal_of c e ≡ None
     go None is k = is
     go (Some why) is k = absurd (cc)
-
-after_of : (c d : List NodeRecord) (e : Event) (t : Told) → apply c e ≡ Some (d, t) → (after c e).1 ≡ t
-after_of c d e t h =
-    ap (λ (z : List NodeRecord × Told). z.1) (same_Some (after c e) (d, t) (sym (ap (λ (o : Option NotReady). unless o (after c e)) (can_of c d e t h)) ∙ h))
 
 told_of : (before : List Event) (c d : List NodeRecord) (e : Event) (t : Told) → apply c e ≡ Some (d, t) → (m : Made) × (made_after before e t ≡ Some m) × IsOf m e
 told_of before c d (event.Own a) t h = (_, ap (λ (z : Told). made_after before (event.Own a) z) (sym (after_of c d (event.Own a) t h)), (a, refl))
@@ -162,7 +160,7 @@ found (Some i) h = (i, refl)
 pub stands_within : (s : State) (n k : ℕ) → 0 < k → k ≤ steps_of n s.kept → stands s n k ≡ true
 stands_within s n k first within = ap (λ (b : Bool). b && leb k (steps_of n s.kept)) (le-leb 1 k first) ∙ le-leb k (steps_of n s.kept) within
 
-chip_at : (o : Option (List NodeRecord)) (c : List NodeRecord) → o ≡ Some c → unwrap_or o [] ≡ c
+pub chip_at : (o : Option (List NodeRecord)) (c : List NodeRecord) → o ≡ Some c → unwrap_or o [] ≡ c
 chip_at o c h = ap (λ (z : Option (List NodeRecord)). unwrap_or z []) h
 
 pub record TakenBack (s : State) (n p : ℕ) : Type 0 where

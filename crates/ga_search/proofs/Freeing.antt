@@ -14,7 +14,8 @@ use Rattle.ga_event.specs.Apply.{writes_to, reads_from}
 use Rattle.ga_causal.specs.Dependence.{is_marked}
 use Rattle.ga_search.specs.Stuck.{AreStuck, awaits}
 use Rattle.ga_search.specs.kept.Freed.{frees, is_freed_on, is_freed, MarksHalted, IsSettled}
-use Rattle.ga_search.specs.Freed.{IsWithin}
+use Rattle.ga_search.specs.Freed.{IsSubset}
+use Rattle.ga_event.proofs.Nexts.{neighbour_of-within as neighbour_within}
 
 abbrev pub how_many : List Bool → ℕ
 how_many [] = 0
@@ -28,13 +29,6 @@ one_less (true ∷ fs) zero l h = refl
 one_less (false ∷ fs) zero l h = absurd (true≢false (sym h))
 one_less (true ∷ fs) (suc i) l h = ap suc (one_less fs i (omega arith) h)
 one_less (false ∷ fs) (suc i) l h = one_less fs i (omega arith) h
-
--- a neighbour is a node
-neighbour_within : (n m : ℕ) (side : Side) → n < 144 → neighbour_of n side ≡ Some m → m < 144
-neighbour_within n m Right l h = grind arith
-neighbour_within n m Down l h = grind arith
-neighbour_within n m Left l h = grind arith
-neighbour_within n m Up l h = grind arith
 
 -- no node of a stuck set is freed, where all of the set are marked
 unmarked : (m : Bool) (b : Bool) → m ≡ true → b ≡ false → (not m || b) ≡ false
@@ -57,7 +51,7 @@ not_freed_on : (chip : List NodeRecord) (marks others : ℕ → Bool) (n : ℕ) 
 not_freed_on chip marks others n side s w h =
     both (awaits (record_at chip n).wait side) (frees chip marks (record_at chip n).wait side (neighbour_of n side)) (λ a. not_freed_by chip marks others n side (neighbour_of n side) s w h refl a)
 
-pub not_freed : (chip : List NodeRecord) (marks others : ℕ → Bool) (n : ℕ) → n < 144 → AreStuck chip others → IsWithin others marks → others n ≡ true → is_freed chip marks n ≡ false
+pub not_freed : (chip : List NodeRecord) (marks others : ℕ → Bool) (n : ℕ) → n < 144 → AreStuck chip others → IsSubset others marks → others n ≡ true → is_freed chip marks n ≡ false
 unfolding is_freed
 not_freed chip marks others n at s w h =
     let near = λ (side : Side) (m : ℕ) (q : others m ≡ true) (e : neighbour_of n side ≡ Some m). w m (neighbour_within n m side at e) q in
@@ -71,7 +65,7 @@ not_freed chip marks others n at s w h =
     none_of p q v w = rw (p, q, v, w) refl
 
 -- a freed node is taken out, which is in no stuck set
-pub struck : (chip : List NodeRecord) (flags : List Bool) (at n : ℕ) (others : ℕ → Bool) → at ≡ n → is_freed chip (is_marked flags) n ≡ true → AreStuck chip others → IsWithin others (is_marked flags) → IsWithin others (is_marked (set flags at false))
+pub struck : (chip : List NodeRecord) (flags : List Bool) (at n : ℕ) (others : ℕ → Bool) → at ≡ n → is_freed chip (is_marked flags) n ≡ true → AreStuck chip others → IsSubset others (is_marked flags) → IsSubset others (is_marked (set flags at false))
 struck chip flags at n others e f s w = λ m l h. ⊎_elim
     (λ q. absurd (true≢false (sym f ∙ not_freed chip (is_marked flags) others n (let z : n < 144 = omega (arith, q, e, l) in z) s w (subst (λ (z : ℕ). others z ≡ true) (q ∙ e) h))))
     (λ ne. get_or-set_other flags at m false false ne ∙ w m l h)
@@ -124,7 +118,7 @@ met chip marks n m side h a near =
 refused : (o : Option NotReady) → is_some o ≡ true → o ≢ None
 refused o h e = true≢false (sym h ∙ ap is_some e)
 
-pub are_stuck : (chip : List NodeRecord) (halted flags : List Bool) → length flags ≡ 144 → MarksHalted chip (is_marked halted) → IsWithin (is_marked flags) (is_marked halted) → IsSettled chip (is_marked flags) → AreStuck chip (is_marked flags)
+pub are_stuck : (chip : List NodeRecord) (halted flags : List Bool) → length flags ≡ 144 → MarksHalted chip (is_marked halted) → IsSubset (is_marked flags) (is_marked halted) → IsSettled chip (is_marked flags) → AreStuck chip (is_marked flags)
 are_stuck chip halted flags size at_first within settled = record {
   halted = λ n h. let l : n < 144 = marked_within flags n size h in refused (refusal (record_at chip n)) (sym (at_first n l) ∙ within n l h);
   inside = λ n m side h a near. (met chip (is_marked flags) n m side (settled n h) a near).0;
@@ -138,7 +132,7 @@ some_reason : (o : Option NotReady) → o ≢ None → is_some o ≡ true
 some_reason None h = absurd (h refl)
 some_reason (Some why) h = refl
 
-pub halted_first : (chip : List NodeRecord) (halted : List Bool) (marks : ℕ → Bool) → MarksHalted chip (is_marked halted) → AreStuck chip marks → IsWithin marks (is_marked halted)
+pub halted_first : (chip : List NodeRecord) (halted : List Bool) (marks : ℕ → Bool) → MarksHalted chip (is_marked halted) → AreStuck chip marks → IsSubset marks (is_marked halted)
 halted_first chip halted marks at_first s = λ n l h. at_first n l ∙ some_reason (refusal (record_at chip n)) (s.halted n h)
 
 -- the first side on which a node is freed

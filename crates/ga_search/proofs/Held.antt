@@ -6,7 +6,7 @@ use Rattle.std.proofs.lemmas.Option.{same_Some}
 use Rattle.ga_event.specs.declared.made.Made.{Made}
 use Rattle.ga_lab.specs.Machine.{State}
 use Rattle.ga_search.specs.declared.condition.Condition.{Condition}
-use Rattle.ga_search.specs.Conditions.{holds, first_held, is_never, asked_of}
+use Rattle.ga_search.specs.Conditions.{holds, first_held, is_never, conditions_asked}
 
 -- where none of so many passes a test, nor the next one, none of one more does
 pub none_more : (test : Condition → Bool) (until : List Condition) (n : ℕ) (next : Condition) → slice_get until n ≡ Some next → test next ≡ false
@@ -46,17 +46,17 @@ none_held (c ∷ cs) m s h =
 abbrev pub AreAsked : List Condition → ℕ → Type 0
 AreAsked until n = (k : ℕ) (one : Condition) → slice_get until k ≡ Some one → k < n → is_never one ≡ false
 
-pub asked_before : (until : List Condition) (i : ℕ) (one : Condition) → slice_get until i ≡ Some one → AreAsked until i → is_never one ≡ true → take i until ≡ asked_of until
-unfolding asked_of
+pub asked_before : (until : List Condition) (i : ℕ) (one : Condition) → slice_get until i ≡ Some one → AreAsked until i → is_never one ≡ true → take i until ≡ conditions_asked until
+unfolding conditions_asked
 asked_before [] i one is before never = absurd (cc)
-asked_before (c ∷ cs) zero one is before never = sym (ap (λ (b : Bool). cond b [] (c ∷ asked_of cs)) (ap is_never (same_Some c one is) ∙ never))
+asked_before (c ∷ cs) zero one is before never = sym (ap (λ (b : Bool). cond b [] (c ∷ conditions_asked cs)) (ap is_never (same_Some c one is) ∙ never))
 asked_before (c ∷ cs) (suc i) one is before never =
     ap (λ z. c ∷ z) (asked_before cs i one is (λ k other at l. before (suc k) other at (omega arith)) never)
-    ∙ sym (ap (λ (b : Bool). cond b [] (c ∷ asked_of cs)) (before 0 c refl (omega arith)))
+    ∙ sym (ap (λ (b : Bool). cond b [] (c ∷ conditions_asked cs)) (before 0 c refl (omega arith)))
 
-pub all_asked : (until : List Condition) → AreAsked until (length until) → until ≡ asked_of until
-unfolding asked_of
+pub all_asked : (until : List Condition) → AreAsked until (length until) → until ≡ conditions_asked until
+unfolding conditions_asked
 all_asked [] before = refl
 all_asked (c ∷ cs) before =
     ap (λ z. c ∷ z) (all_asked cs (λ k other at l. before (suc k) other at (omega arith)))
-    ∙ sym (ap (λ (b : Bool). cond b [] (c ∷ asked_of cs)) (before 0 c refl (omega arith)))
+    ∙ sym (ap (λ (b : Bool). cond b [] (c ∷ conditions_asked cs)) (before 0 c refl (omega arith)))

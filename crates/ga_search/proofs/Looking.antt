@@ -23,6 +23,7 @@ use Rattle.ga_search.specs.kept.Numbers.{has}
 use Rattle.ga_search.specs.Ready.{can_go}
 use Rattle.ga_search.specs.kept.Ready.{IsRight, HoldsReady, StaysRight, IsRightAround, IsRefreshed}
 use Rattle.ga_search.proofs.Nexts.{near_or_same, runs_on}
+use Rattle.ga_journal.proofs.Parts.{two_touched as pass_touched}
 
 pub can_go_is : (chip : List NodeRecord) (node : NodeId) → can_go chip node.number ≡ is_ok (next chip node)
 can_go_is chip node =
@@ -75,12 +76,6 @@ near_right d ready n t (inr h) a = a.beside h.0 n h.1
 
 own_touched : (n : NodeId) (t : ℕ) → touches (event.Own n) t ≡ true → t ≡ n.number
 own_touched n t h = ⊎_elim (λ u. sym (eqb-true n.number t u)) (λ u. absurd (true≢false (sym u))) (or_cases (n.number == t) false h)
-
-pass_touched : (w r : NodeId) (side : Side) (t : ℕ) → touches (event.Pass w r side) t ≡ true → (t ≡ w.number) ⊎ (t ≡ r.number)
-pass_touched w r side t h = ⊎_elim
-    (λ u. inl (sym (eqb-true w.number t u)))
-    (λ v. inr (⊎_elim (λ u. sym (eqb-true r.number t u)) (λ u. absurd (true≢false (sym u))) (or_cases (r.number == t) false v)))
-    (or_cases (w.number == t) ((r.number == t) || false) h)
 
 marked : (c d : List NodeRecord) (e : Event) (old new : Numbers) → Agree (touches e) c d → HoldsReady c old → StaysRight d old new
     → ((t : ℕ) → touches e t ≡ true → IsRightAround d new t) → HoldsReady d new

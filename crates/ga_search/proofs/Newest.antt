@@ -16,7 +16,7 @@ use Rattle.ga_event.specs.declared.made.Made.{Made}
 use Rattle.ga_event.specs.declared.made.Made.TheVariants as made
 use Rattle.ga_lab.specs.Machine.{State, step_answer, stepped, told_of_kept}
 use Rattle.ga_lab.proofs.Answering.{told_later}
-use Rattle.ga_search.specs.Conditions.{is_of}
+use Rattle.ga_search.specs.Conditions.{is_step_of}
 use Rattle.ga_search.specs.kept.Counted.{newest_told}
 use Rattle.ga_search.proofs.WordCounts.{kept_told}
 use Rattle.ga_search.proofs.Stepping.{StepIs, step_is, stepped_is}
@@ -53,9 +53,9 @@ or_none false = refl
 
 abbrev is_of_told : ℕ → Option Made → Bool
 is_of_told n None = false
-is_of_told n (Some m) = is_of n m
+is_of_told n (Some m) = is_step_of n m
 
-of_made : (before : List Event) (e : Event) (what : Told) (m : Made) (n : ℕ) → made_after before e what ≡ Some m → touches e n ≡ is_of n m
+of_made : (before : List Event) (e : Event) (what : Told) (m : Made) (n : ℕ) → made_after before e what ≡ Some m → touches e n ≡ is_step_of n m
 of_made before (event.Own node) (Did kind) m n is = or_none (node.number == n) ∙ ap (is_of_told n) is
 of_made before (event.Own node) (Carried word) m n is = absurd (cc)
 of_made before (event.Pass w r side) (Did kind) m n is = absurd (cc)
@@ -65,7 +65,7 @@ of_made before (event.Pass w r side) (Carried word) m n is = ap (λ (b : Bool). 
 pub record EventAt (told : List (Cause × Told)) (place : ℕ) (m : Made) : Type 0 where
   pub event : Event
   pub is : slice_get (events_told told) place ≡ Some event
-  pub of : (n : ℕ) → touches event n ≡ is_of n m
+  pub of : (n : ℕ) → touches event n ≡ is_step_of n m
 
 pub event_at : (told : List (Cause × Told)) (place : ℕ) (m : Made) → made_in told place ≡ Some m → EventAt told place m
 event_at told place m is = go (slice_get told place) refl is
@@ -81,14 +81,14 @@ event_at told place m is = go (slice_get told place) refl is
 
 -- how many steps of a node come behind the event at a place
 pub steps_told : (s : State) (n place : ℕ) (m : Made) → IsSome (replay s.load s.kept) → made_in (told_of_kept s) place ≡ Some m
-    → steps_of n (take (place + 1) s.kept) ≡ steps_of n (take place s.kept) + one_if (is_of n m)
+    → steps_of n (take (place + 1) s.kept) ≡ steps_of n (take place s.kept) + one_if (is_step_of n m)
 steps_told s n place m some is =
     let e : EventAt (told_of_kept s) place m = event_at (told_of_kept s) place m is in
     steps_more n place s.kept e.event (ap (λ z. slice_get z place) (sym (kept_told s some)) ∙ e.is)
     ∙ ap (λ b. steps_of n (take place s.kept) + one_if b) (e.of n)
 
 -- and behind the newest one
-pub newest_steps : (s : State) (n : ℕ) (m : Made) → IsSome (replay s.load s.kept) → newest_told s ≡ Some m → is_of n m ≡ true
+pub newest_steps : (s : State) (n : ℕ) (m : Made) → IsSome (replay s.load s.kept) → newest_told s ≡ Some m → is_step_of n m ≡ true
     → steps_of n (take (length s.kept - 1) s.kept) + 1 ≡ steps_of n s.kept
 newest_steps s n m some is own =
     let e : EventAt (told_of_kept s) (length s.kept - 1) m = event_at (told_of_kept s) (length s.kept - 1) m is in
@@ -98,4 +98,4 @@ newest_steps s n m some is own =
 
 pub own_steps : (s : State) (of node : NodeId) (step : ℕ) (kind : Kind) (m : Made) → IsSome (replay s.load s.kept) → newest_told s ≡ Some m → m ≡ made.Own node step kind → (node.number == of.number) ≡ true
     → steps_of of.number (take (length s.kept - 1) s.kept) + 1 ≡ steps_of of.number s.kept
-own_steps s of node step kind m some is own at = newest_steps s of.number m some is (ap (is_of of.number) own ∙ at)
+own_steps s of node step kind m some is own at = newest_steps s of.number m some is (ap (is_step_of of.number) own ∙ at)

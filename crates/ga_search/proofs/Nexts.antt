@@ -1,5 +1,5 @@
 -- What the next event of a node hangs on.
-use Rattle.std.proofs.Common.{◌≡◌, ℕ, ◌<◌, ◌==◌, Bool, false, cond, List, [], ◌∷◌, ◌⊎◌, inl, inr, ⊎_elim, Some, None, refl, sym, ◌∙◌, ap, subst, arith, IfSome}
+use Rattle.std.proofs.Common.{◌≡◌, ℕ, ◌<◌, ◌==◌, Bool, false, cond, List, [], ◌∷◌, ◌⊎◌, inl, inr, ⊎_elim, Some, None, refl, sym, ◌∙◌, ap, subst, IfSome}
 use Rattle.std.specs.Prelude.{Option, option_map}
 use Rattle.std.proofs.lemmas.Bool.{cases_Bool, cases_eq, ne_eqb, or_from}
 use Rattle.std.proofs.lemmas.Option.{same_Some}
@@ -23,7 +23,8 @@ use Rattle.ga_event.specs.Next.{beside, pass_to, pass_from, pass_over, or_else, 
 use Rattle.ga_event.specs.Touches.{touches}
 use Rattle.ga_event.specs.Agree.{Agree}
 use Rattle.ga_event.proofs.Locality.{apply_keeps}
-use Rattle.ga_search.specs.Near.{IsNear}
+use Rattle.ga_search.specs.Near.{IsMarkedOrBeside}
+use Rattle.ga_event.proofs.Nexts.{neighbour_of-within as neighbour_within}
 
 abbrev wait_at : List NodeRecord → ℕ → Wait
 wait_at chip n = (record_at chip n).wait
@@ -69,14 +70,8 @@ next_same c d n s =
 
 -- A neighbour is marked, or waits for the same on both.
 
-neighbour_within : (n m : ℕ) (side : Side) → n < 144 → neighbour_of n side ≡ Some m → m < 144
-neighbour_within n m Right l h = grind arith
-neighbour_within n m Down l h = grind arith
-neighbour_within n m Left l h = grind arith
-neighbour_within n m Up l h = grind arith
-
 marked_beside : (marks : ℕ → Bool) (c d : List NodeRecord) (n : NodeId) (side : Side) (o : Option ℕ) → Agree marks c d → neighbour_of n.number side ≡ o
-    → IsNear marks n.number ⊎ ((m : NodeId) → option_map node_id o ≡ Some m → wait_at c m.number ≡ wait_at d m.number)
+    → IsMarkedOrBeside marks n.number ⊎ ((m : NodeId) → option_map node_id o ≡ Some m → wait_at c m.number ≡ wait_at d m.number)
 marked_beside marks c d n side None a is = inr (λ m h. absurd (cc))
 marked_beside marks c d n side (Some k) a is = ⊎_elim
     (λ t. inl (k, t, inr (side, neighbour_of-back n.number k side n.in_range is)))
@@ -84,14 +79,14 @@ marked_beside marks c d n side (Some k) a is = ⊎_elim
     (a.same m.number (ap marks (sym (ap (λ (z : NodeId). z.number) (same_Some (node_id k) m h)) ∙ mod-eq_of_lt (neighbour_within n.number k side n.in_range is)) ∙ f))))
     (cases_Bool (marks k))
 
-pub near_or_same : (marks : ℕ → Bool) (c d : List NodeRecord) (n : NodeId) → Agree marks c d → IsNear marks n.number ⊎ (next c n ≡ next d n)
+pub near_or_same : (marks : ℕ → Bool) (c d : List NodeRecord) (n : NodeId) → Agree marks c d → IsMarkedOrBeside marks n.number ⊎ (next c n ≡ next d n)
 near_or_same marks c d n a = ⊎_elim
     (λ t. inl (n.number, t, inl refl))
     (λ f. ⊎_elim inl (λ right. ⊎_elim inl (λ down. ⊎_elim inl (λ left. ⊎_elim inl (λ up. inr (next_same c d n (around f right down left up)))
     (side_of Up)) (side_of Left)) (side_of Down)) (side_of Right))
     (cases_Bool (marks n.number))
   where
-    side_of : (side : Side) → IsNear marks n.number ⊎ SameBeside c d n side
+    side_of : (side : Side) → IsMarkedOrBeside marks n.number ⊎ SameBeside c d n side
     side_of side = marked_beside marks c d n side (neighbour_of n.number side) a refl
 
     by_side : SameBeside c d n Right → SameBeside c d n Down → SameBeside c d n Left → SameBeside c d n Up → (side : Side) → SameBeside c d n side
@@ -107,10 +102,10 @@ near_or_same marks c d n a = ⊎_elim
       near = by_side right down left up;
     }
 
-pub changes_near : (c : List NodeRecord) (e : Event) → IfSome (apply c e) (λ done. (n : NodeId) → IsNear (touches e) n.number ⊎ (next c n ≡ next done.0 n))
+pub changes_near : (c : List NodeRecord) (e : Event) → IfSome (apply c e) (λ done. (n : NodeId) → IsMarkedOrBeside (touches e) n.number ⊎ (next c n ≡ next done.0 n))
 changes_near c e = go (apply c e) (apply_keeps c e)
   where
-    go : (o : Option (List NodeRecord × Told)) → IfSome o (λ done. Agree (touches e) c done.0) → IfSome o (λ done. (n : NodeId) → IsNear (touches e) n.number ⊎ (next c n ≡ next done.0 n))
+    go : (o : Option (List NodeRecord × Told)) → IfSome o (λ done. Agree (touches e) c done.0) → IfSome o (λ done. (n : NodeId) → IsMarkedOrBeside (touches e) n.number ⊎ (next c n ≡ next done.0 n))
     go None h = tt
     go (Some done) h = λ n. near_or_same (touches e) c done.0 n h
 

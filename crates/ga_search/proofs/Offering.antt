@@ -8,7 +8,8 @@ use Rattle.ga_grid.specs.declared.node_id.NodeId.{NodeId}
 use Rattle.ga_grid.specs.Chip.{record_at}
 use Rattle.ga_event.specs.declared.event.Event.TheVariants.{Pass}
 use Rattle.ga_event.specs.Apply.{writes_to, reads_from, replay}
-use Rattle.ga_causal.specs.Dependence.{events_in, rewound_list, NoneLooks}
+use Rattle.ga_causal.specs.Dependence.{rewound_list, NoneLooks}
+use Rattle.ga_event.specs.Told.{events_in}
 use Rattle.ga_causal.proofs.Runs.{causes}
 use Rattle.ga_lab.specs.Machine.{State, chip_of, causes_of, told_by, rewound}
 use Rattle.ga_lab.specs.Calls.{IsReached}

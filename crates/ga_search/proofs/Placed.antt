@@ -3,7 +3,7 @@ use Rattle.std.proofs.Common.{◌≡◌, ℕ, zero, suc, List, [], ◌∷◌, ta
 use Rattle.ga_event.specs.declared.event.Event.{Event}
 use Rattle.ga_event.specs.declared.event.Cause.{Cause}
 use Rattle.ga_event.specs.Told.{steps_of}
-use Rattle.ga_causal.specs.Dependence.{events_in}
+use Rattle.ga_event.specs.Told.{events_in}
 use Rattle.ga_causal.specs.Steps.{touching}
 use Rattle.ga_causal.proofs.Places.{touching_in}
 

@@ -13,7 +13,8 @@ use Rattle.ga_event.specs.Apply.{Told, apply, cause_of, run, replay}
 use Rattle.ga_event.specs.Agree.{Agree}
 use Rattle.ga_event.proofs.Locality.{Agree-sym}
 use Rattle.ga_event.specs.Told.{steps_of}
-use Rattle.ga_causal.specs.Dependence.{events_in, cause_touches, rest, place_of, rest_from}
+use Rattle.ga_causal.specs.Dependence.{cause_touches, rest, place_of, rest_from}
+use Rattle.ga_event.specs.Told.{events_in}
 use Rattle.ga_causal.proofs.Runs.{kept, causes, FirstOf, first_of_run, keeps_of, Agree-marked, same_of}
 use Rattle.ga_causal.proofs.Swaps.{replay-cons}
 use Rattle.ga_races.proofs.Blind.{no_touch}
@@ -153,7 +154,7 @@ stand_rest (e ∷ es) (suc i) c last ts m is =
 
 -- ---- in the machine
 
-take_first : (xs ys : List Event) → take (length xs) (xs ++ ys) ≡ xs
+pub take_first : (xs ys : List Event) → take (length xs) (xs ++ ys) ≡ xs
 take_first [] ys = refl
 take_first (x ∷ xs) ys = ap (λ (z : List Event). x ∷ z) (take_first xs ys)
 

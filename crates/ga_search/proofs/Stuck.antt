@@ -1,12 +1,11 @@
 -- Nodes that can never go on.
 use Rattle.std.proofs.Common.{◌≡◌, ℕ, ◌==◌, Bool, true, false, ◌&&◌, ◌||◌, List, [], ◌∷◌, Some, None, true≢false, refl, sym, ◌∙◌, ap, subst, IfSome}
 use Rattle.std.specs.Prelude.{Option, option_map, option_and_then}
-use Rattle.std.proofs.lemmas.Bool.{or_left, or_right, and_parts, ne_eqb, or_from, eqb-true}
+use Rattle.std.proofs.lemmas.Bool.{or_left, or_right, and_parts, ne_eqb, or_from}
 use Rattle.ga_ports.specs.declared.side.Side.{Side}
 use Rattle.ga_node.specs.Record.{NodeRecord}
 use Rattle.ga_node.specs.Table.{refusal}
 use Rattle.ga_node.specs.declared.kind.NotReady.{NotReady}
-use Rattle.ga_node.specs.declared.kind.NotReady.TheVariants.{Unmatched}
 use Rattle.ga_grid.specs.declared.node_id.NodeId.{NodeId}
 use Rattle.ga_grid.specs.Grid.{neighbour_of}
 use Rattle.ga_grid.specs.Chip.{record_at}
@@ -14,25 +13,18 @@ use Rattle.ga_grid.proofs.Links.{neighbour_of-back}
 use Rattle.ga_event.specs.declared.event.Event.{Event}
 use Rattle.ga_event.specs.declared.event.Event.TheVariants.{Own, Pass}
 use Rattle.ga_event.specs.declared.event.Cause.{Cause}
-use Rattle.ga_event.specs.Apply.{Told, cause_of, writes_to, reads_from, is_number, unmatched, refusal_of, unless, after, run, replay}
+use Rattle.ga_event.specs.Apply.{Told, cause_of, writes_to, reads_from, is_number, refusal_of, unless, after, run, replay}
 use Rattle.ga_event.specs.Touches.{touches}
 use Rattle.ga_event.specs.Agree.{Agree}
 use Rattle.ga_event.proofs.Locality.{apply_keeps}
 use Rattle.ga_search.specs.Stuck.{AreStuck}
+use Rattle.ga_races.proofs.Rivals.{matched_of as matched, number_of}
 
 -- the ends of a pass that can be
 record Open (chip : List NodeRecord) (w r : NodeId) (side : Side) : Type 0 where
   near : neighbour_of w.number side ≡ Some r.number
   writes : writes_to (record_at chip w.number).wait side ≡ true
   reads : reads_from (record_at chip r.number).wait side ≡ true
-
-number_of : (o : Option ℕ) (n : ℕ) → is_number o n ≡ true → o ≡ Some n
-number_of None n h = absurd (true≢false (sym h))
-number_of (Some m) n h = ap Some (eqb-true m n h)
-
-matched : (b : Bool) → unmatched b ≡ None → b ≡ true
-matched true h = refl
-matched false h = absurd (let q : Some Unmatched ≡ None = h in cc)
 
 opened : (chip : List NodeRecord) (w r : NodeId) (side : Side) → refusal_of chip (Pass w r side) ≡ None → Open chip w r side
 opened chip w r side can =

@@ -7,11 +7,11 @@ use Rattle.ga_grid.specs.declared.node_id.NodeId.{NodeId}
 use Rattle.ga_grid.proofs.NodeIds.{node_id-number}
 use Rattle.ga_event.specs.Told.{steps_of}
 use Rattle.ga_lab.specs.Machine.{State}
-use Rattle.ga_search.specs.declared.effects.Effect.{Effect}
+use Rattle.ga_search.specs.declared.effects.RollbackEffect.{RollbackEffect}
 use Rattle.ga_search.specs.Effects.{kept_steps, effect_on, effects_below}
 
 -- nothing is told of a node of which none would
-pub told_none : (left all : ℕ → ℕ) (m : ℕ) → left m ≡ all m → (items : List Effect) → items ≡ items ++ effect_on left all m
+pub told_none : (left all : ℕ → ℕ) (m : ℕ) → left m ≡ all m → (items : List RollbackEffect) → items ≡ items ++ effect_on left all m
 told_none left all m e items =
     sym (append-nil items) ∙ ap (λ z. items ++ z) (sym (cond-true (left m == all m) [] _ (eq-eqb (left m) (all m) e)))
 
@@ -32,13 +32,13 @@ told_some left all node steps first e some f =
     let a : first ≡ left node.number + 1 = omega (arith, e, f) in
     let b : steps ≡ all node.number - left node.number = omega (arith, e) in
     let same : node ≡ node_id node.number = sym (node_id-number node) in
-    ap (λ (z : NodeId). let r : List Effect = record { node = z; first = first; steps = steps } ∷ [] in r) same
-    ∙ ap (λ (z : ℕ). let r : List Effect = record { node = node_id node.number; first = z; steps = steps } ∷ [] in r) a
-    ∙ ap (λ (z : ℕ). let r : List Effect = record { node = node_id node.number; first = left node.number + 1; steps = z } ∷ [] in r) b
+    ap (λ (z : NodeId). let r : List RollbackEffect = record { node = z; first = first; steps = steps } ∷ [] in r) same
+    ∙ ap (λ (z : ℕ). let r : List RollbackEffect = record { node = node_id node.number; first = z; steps = steps } ∷ [] in r) a
+    ∙ ap (λ (z : ℕ). let r : List RollbackEffect = record { node = node_id node.number; first = left node.number + 1; steps = z } ∷ [] in r) b
     ∙ sym (cond-false (left node.number == all node.number) [] _ (ne_eqb (left node.number) (all node.number) ne))
 
 -- one node more is told
-pub effects_step : (left all : ℕ → ℕ) (m n : ℕ) (items new : List Effect) → n ≡ m → items ≡ effects_below left all m → new ≡ items ++ effect_on left all n → new ≡ effects_below left all (m + 1)
+pub effects_step : (left all : ℕ → ℕ) (m n : ℕ) (items new : List RollbackEffect) → n ≡ m → items ≡ effects_below left all m → new ≡ items ++ effect_on left all n → new ≡ effects_below left all (m + 1)
 effects_step left all m n items new e h g =
     g ∙ ap (λ z. z ++ effect_on left all n) h ∙ ap (λ (z : ℕ). effects_below left all m ++ effect_on left all z) e ∙ sym (effects_more left all m)
 

@@ -5,16 +5,14 @@ use Rattle.ga_event.specs.declared.made.Made.{Made}
 use Rattle.ga_event.specs.declared.made.Made.TheVariants as made
 use Rattle.ga_search.specs.declared.words.Sent.{Sent}
 use Rattle.ga_search.specs.Words.{carried_as, one_over, words_after}
-
-none_some : {A : Type 0} {x : A} → None ≡ Some x → ⊥
-none_some h = cc
+use Rattle.std.proofs.lemmas.Option.{none-some}
 
 same_Some : {A : Type 0} (x y : A) → Some x ≡ Some y → x ≡ y
 same_Some x y h = cc
 
 -- one event read, and none left
 pub read_on : (list : List Made) (i : ℕ) (told : Made) → Some told ≡ slice_get list i → drop i list ≡ told ∷ drop (i + 1) list
-read_on [] i told h = absurd (none_some (sym h))
+read_on [] i told h = absurd (none-some _ (sym h))
 read_on (x ∷ xs) zero told h = ap (λ (z : Made). z ∷ xs) (sym (same_Some told x h))
 read_on (x ∷ xs) (suc i) told h =
     read_on xs i told h ∙ ap (λ (z : ℕ). told ∷ drop z (x ∷ xs)) (let q : suc (i + 1) ≡ suc i + 1 = omega arith in q)
@@ -22,7 +20,7 @@ read_on (x ∷ xs) (suc i) told h =
 pub read_all : (list : List Made) (i : ℕ) → None ≡ slice_get list i → drop i list ≡ []
 read_all [] zero h = refl
 read_all [] (suc i) h = refl
-read_all (x ∷ xs) zero h = absurd (none_some h)
+read_all (x ∷ xs) zero h = absurd (none-some _ h)
 read_all (x ∷ xs) (suc i) h = read_all xs i h
 
 pub read_past : (list : List Made) (i : ℕ) → length list ≤ i → drop i list ≡ []

@@ -1,6 +1,6 @@
 -- A session of which no step is told as one that could have come out otherwise has no race.
 use Rattle.std.proofs.Common.{◌≡◌, ◌≢◌, ℕ, zero, suc, ◌+◌, ◌-◌, ◌<◌, ◌≤◌, ◌%◌, ◌==◌, cond, Bool, true, false, ◌||◌, ◌&&◌, ◌⊎◌, inl, inr, List, [], ◌∷◌, ◌++◌, Option, Some, None, IsSome, is_none, true≢false, Ok, eq-eqb, lt-ltb, refl, sym, ◌∙◌, ap, subst, arith}
-use Rattle.std.specs.Prelude.{unwrap_or, is_some}
+use Rattle.std.specs.Prelude.{is_some}
 use Rattle.std.specs.List.{slice_get}
 use Rattle.std.proofs.lemmas.Bool.{cases_Bool, cases_eq, cases_lt, or_cases, or_parts, and_parts, both_ways, eqb-true}
 use Rattle.std.proofs.lemmas.Option.{same_Some}
@@ -23,19 +23,20 @@ use Rattle.ga_event.specs.declared.made.Made.TheVariants as made
 use Rattle.ga_event.specs.Touches.{touches}
 use Rattle.ga_event.specs.Apply.{Told, writes_to, reads_from, is_number, unmatched, is_look, replay}
 use Rattle.ga_event.specs.Next.{next}
-use Rattle.ga_event.proofs.Nexts.{next_can}
+use Rattle.ga_event.proofs.Nexts.{next_can, neighbour_of-within as neighbour_small}
 use Rattle.ga_lab.proofs.Forward.{made_is_next}
 use Rattle.ga_event.specs.Told.{steps_of, mades_of}
-use Rattle.ga_causal.specs.Dependence.{events_in, rest, rest_from, place_of, rewound_list, NoneLooks}
+use Rattle.ga_causal.specs.Dependence.{rest, rest_from, place_of, rewound_list, NoneLooks}
+use Rattle.ga_event.specs.Told.{events_in}
 use Rattle.ga_causal.proofs.Runs.{causes}
 use Rattle.ga_lab.specs.Machine.{State, first, chip_of, causes_of, history_of, told_by, rewound, stands}
-use Rattle.ga_lab.specs.Calls.{Call, called_all}
+use Rattle.ga_lab.specs.Calls.{MachineCall, called_all}
 use Rattle.ga_lab.proofs.Called.{Runs, chip_is, told_is, runs_some, first_runs, calls_load}
 use Rattle.ga_lab.proofs.Reasons.{stands_place}
 use Rattle.ga_lab.proofs.Reasoned.{replayed}
 use Rattle.ga_races.specs.Orders.{CanBe, AreOrders, IsAtEnd, HasNoRace}
 use Rattle.ga_races.proofs.Orders.{beginning_within}
-use Rattle.ga_races.proofs.Rivals.{Open, open_of, one_side}
+use Rattle.ga_races.proofs.Rivals.{Open, open_of, one_side, one_way}
 use Rattle.ga_races.proofs.Blind.{IsBlind, NoneShowsWithin, none_races_within}
 use Rattle.ga_search.specs.Offered.{given, offered_by, offered}
 use Rattle.ga_search.specs.Races.{race_from, races_over, races_around, races_told, races_at, races_before, races_of, races_below, races_asked, has_look, looks_next, has_next_look, has_looks, first_ready, IsOther}
@@ -47,7 +48,7 @@ use Rattle.std.proofs.lemmas.List.Elements.{All-nil, All-append}
 use Rattle.std.proofs.Math.Nat.{mod-eq_of_lt}
 use Rattle.ga_search.specs.declared.races.Race.{Race}
 use Rattle.ga_search.proofs.Offering.{is_offered}
-use Rattle.ga_search.proofs.Behind.{IsOf, TakenBack, taken_back}
+use Rattle.ga_search.proofs.Behind.{IsOf, TakenBack, taken_back, chip_at}
 
 -- ---- parts of nothing are nothing
 
@@ -115,12 +116,6 @@ reads_none Nothing stop side h k = true≢false (sym k)
 reads_none (Fetch sides) stop side h k = absurd (cc)
 reads_none (Read sides) stop side h k = absurd (cc)
 reads_none (Write posted) stop side h k = true≢false (sym k)
-
-one_way : (wait : Wait) (s t : Side) → writes_to wait s ≡ true → reads_from wait t ≡ true → ⊥
-one_way Nothing s t h k = true≢false (sym h)
-one_way (Fetch sides) s t h k = true≢false (sym h)
-one_way (Read sides) s t h k = true≢false (sym h)
-one_way (Write posted) s t h k = true≢false (sym k)
 
 own_touched : (a n : ℕ) → ((a == n) || false) ≡ true → a ≡ n
 own_touched a n h = elim (or_cases (a == n) false h) [ inl q ↦ eqb-true a n q | inr q ↦ absurd (both_ways false refl q) ]
@@ -191,9 +186,6 @@ one_offer s r k (made.Pass w i x j word) e mid side other of can touch same none
     go false is h =
         let writes : writes_to (record_at mid r.number).wait of.0 ≡ true = subst (λ (z : ℕ). writes_to (record_at mid z).wait of.0 ≡ true) (writer_here is) open_.writes in
         absurd (one_way (record_at mid r.number).wait of.0 side writes (subst (λ (z : NodeRecord). reads_from z.wait side ≡ true) (sym same) p.reads))
-
-chip_at : (o : Option (List NodeRecord)) (c : List NodeRecord) → o ≡ Some c → unwrap_or o [] ≡ c
-chip_at o c h = ap (λ (z : Option (List NodeRecord)). unwrap_or z []) h
 
 -- no two words are offered behind a step that stands
 none_two : (s : State) → Runs s → races_asked s None ≡ [] → (r : NodeId) (p : ℕ) (side other : Side) → p < steps_of r.number s.kept
@@ -267,25 +259,25 @@ no_race s runs none calm =
         (subst (λ z. IsSome (offered z r.number side)) at (is_offered now w r side canp))
         (subst (λ z. IsSome (offered z r.number other)) at (is_offered now x r other canq)))
 
-calm_session : (load : List NodeRecord) (limit : ℕ) (calls : List Call) → races_asked (called_all (first load limit) calls) None ≡ []
+calm_session : (load : List NodeRecord) (limit : ℕ) (calls : List MachineCall) → races_asked (called_all (first load limit) calls) None ≡ []
     → has_looks (causes_of (called_all (first load limit) calls)) (chip_of (called_all (first load limit) calls)) ≡ false → HasNoRace load (called_all (first load limit) calls).kept
 calm_session load limit calls none calm =
     let s = called_all (first load limit) calls in
     subst (λ z. HasNoRace z s.kept) (calls_load (first load limit) calls) (no_race s (first_runs load limit calls) none calm)
 
-pub every_way : (load : List NodeRecord) (limit bound : ℕ) (calls others : List Call) → races_asked (called_all (first load limit) calls) None ≡ []
+pub every_way : (load : List NodeRecord) (limit bound : ℕ) (calls others : List MachineCall) → races_asked (called_all (first load limit) calls) None ≡ []
     → has_looks (causes_of (called_all (first load limit) calls)) (chip_of (called_all (first load limit) calls)) ≡ false → first_ready (chip_of (called_all (first load limit) calls)) ≡ None
     → (later : List Event) × AreOrders load (called_all (first load limit) calls).kept ((called_all (first load bound) others).kept ++ later)
 every_way load limit bound calls others none calm quiet =
     on_the_way load limit bound calls others (calm_session load limit calls none calm) (at_end (chip_of (called_all (first load limit) calls)) quiet)
 
-pub every_end : (load : List NodeRecord) (limit bound : ℕ) (calls others : List Call) → races_asked (called_all (first load limit) calls) None ≡ []
+pub every_end : (load : List NodeRecord) (limit bound : ℕ) (calls others : List MachineCall) → races_asked (called_all (first load limit) calls) None ≡ []
     → has_looks (causes_of (called_all (first load limit) calls)) (chip_of (called_all (first load limit) calls)) ≡ false → first_ready (chip_of (called_all (first load limit) calls)) ≡ None
     → first_ready (chip_of (called_all (first load bound) others)) ≡ None → chip_of (called_all (first load bound) others) ≡ chip_of (called_all (first load limit) calls)
 every_end load limit bound calls others none calm quiet stop =
     same_end load limit bound calls others (calm_session load limit calls none calm) (at_end (chip_of (called_all (first load limit) calls)) quiet) (at_end (chip_of (called_all (first load bound) others)) stop)
 
-pub no_other : (load : List NodeRecord) (limit bound : ℕ) (calls others : List Call) → races_asked (called_all (first load limit) calls) None ≡ []
+pub no_other : (load : List NodeRecord) (limit bound : ℕ) (calls others : List MachineCall) → races_asked (called_all (first load limit) calls) None ≡ []
     → has_looks (causes_of (called_all (first load limit) calls)) (chip_of (called_all (first load limit) calls)) ≡ false
     → ((n : ℕ) → steps_of n (called_all (first load bound) others).kept ≤ steps_of n (called_all (first load limit) calls).kept)
     → (later : List Event) × AreOrders load (called_all (first load limit) calls).kept ((called_all (first load bound) others).kept ++ later)
@@ -294,7 +286,7 @@ no_other load limit bound calls others none calm few =
     let z = called_all (first load bound) others in
     beginning_within load s.kept z.kept (some_from load limit calls) (calm_session load limit calls none calm) (some_from load bound others) few
   where
-    some_from : (load : List NodeRecord) (limit : ℕ) (calls : List Call) → IsSome (replay load (called_all (first load limit) calls).kept)
+    some_from : (load : List NodeRecord) (limit : ℕ) (calls : List MachineCall) → IsSome (replay load (called_all (first load limit) calls).kept)
     some_from load limit calls =
         subst (λ z. IsSome (replay z (called_all (first load limit) calls).kept)) (calls_load (first load limit) calls) (runs_some (called_all (first load limit) calls) (first_runs load limit calls))
 
@@ -308,12 +300,6 @@ can_pass chip w r side near writes reads =
     ap (λ (b : Bool). unmatched (b && writes_to (record_at chip w.number).wait side && reads_from (record_at chip r.number).wait side)) is
     ∙ ap (λ (b : Bool). unmatched (b && reads_from (record_at chip r.number).wait side)) writes
     ∙ ap unmatched reads
-
-neighbour_small : (n m : ℕ) (side : Side) → n < 144 → neighbour_of n side ≡ Some m → m < 144
-neighbour_small n m Right l h = grind arith
-neighbour_small n m Down l h = grind arith
-neighbour_small n m Left l h = grind arith
-neighbour_small n m Up l h = grind arith
 
 all_one : {X : Type 0} (P : X → Type 0) (x : X) → P x → All P (x ∷ [])
 all_one P x p zero d l = p

@@ -23,6 +23,7 @@ use Rattle.ga_search.specs.kept.Counted.{counted_link, count_over, counted, more
 use Rattle.ga_search.specs.declared.condition.Condition.{Condition}
 use Rattle.ga_search.proofs.Telling.{read_on}
 use Rattle.ga_search.proofs.Stepping.{StepIs, step_is, stepped_is}
+use Rattle.ga_lab.proofs.Answering.{told_after as told_last}
 
 -- one event more in front
 carried_one : (b : Bool) (sent : Sent) → length (if b then sent ∷ [] else []) ≡ (if b then 1 else 0)
@@ -82,11 +83,6 @@ history_behind before (y ∷ xs) x n =
     ap (λ (z : List Made). last_of before y n ++ z) (history_behind (before ++ y.0.event ∷ []) xs x n)
     ∙ ap (λ (z : List Event). last_of before y n ++ (mades_after (before ++ y.0.event ∷ []) xs n ++ last_of z x n)) (append_assoc before (y.0.event ∷ []) (events_told xs))
     ∙ sym (append_assoc (last_of before y n) (mades_after (before ++ y.0.event ∷ []) xs n) (last_of (before ++ events_told (y ∷ xs)) x n))
-
--- what is told of the event of a step
-told_last : (s : State) (e : Event) → made_after s.kept e (after (chip_of s) e).1 ≡ Some (told_next s e)
-told_last s (event.Own n) = refl
-told_last s (event.Pass w r side) = refl
 
 -- an event that doesn't touch the writer carried no word of it
 other_writer : (p q x : Bool) → (p || q) ≡ false → one_if (p && x) ≡ 0

@@ -48,9 +48,9 @@ is_own_at node test (made.Own n k what) = (n.number == node) && test what
 is_own_at node test (made.Pass w k r j carried) = false
 
 -- it was a step of the node
-abbrev pub is_of : ℕ → Made → Bool
-is_of node (made.Own n k what) = n.number == node
-is_of node (made.Pass w k r j carried) = (w.number == node) || (r.number == node)
+abbrev pub is_step_of : ℕ → Made → Bool
+is_step_of node (made.Own n k what) = n.number == node
+is_step_of node (made.Pass w k r j carried) = (w.number == node) || (r.number == node)
 
 -- what the node does next is to fetch the word at this address
 abbrev pub fetches_at : ℕ → NodeRecord → Bool
@@ -65,16 +65,16 @@ stored_at code n =
     else None
 
 -- the target is this cell of RAM
-abbrev pub is_cell : ℕ → Target → Bool
-is_cell cell (target.Ram k) = k == cell
-is_cell cell (target.Rom k) = false
-is_cell cell target.Io = false
-is_cell cell (target.Ports sides) = false
-is_cell cell target.Bad = false
+abbrev pub is_target_cell : ℕ → Target → Bool
+is_target_cell cell (target.Ram k) = k == cell
+is_target_cell cell (target.Rom k) = false
+is_target_cell cell target.Io = false
+is_target_cell cell (target.Ports sides) = false
+is_target_cell cell target.Bad = false
 
 abbrev pub names_cell : ℕ → Option ℕ → Bool
 names_cell cell None = false
-names_cell cell (Some address) = is_cell cell (classified address)
+names_cell cell (Some address) = is_target_cell cell (classified address)
 
 -- an event of this kind of a node that was so before it stored in the cell
 abbrev pub stores_in : ℕ → NodeRecord → Kind → Bool
@@ -88,9 +88,9 @@ abbrev pub node_before : State → ℕ → NodeRecord
 node_before s node = record_at (chip_of (undone s)) node
 
 -- the word is the one that is asked for, where one is
-abbrev pub is_asked : Option ℕ → ℕ → Bool
-is_asked None word = true
-is_asked (Some asked) word = word == asked
+abbrev pub is_word_asked : Option ℕ → ℕ → Bool
+is_word_asked None word = true
+is_word_asked (Some asked) word = word == asked
 
 -- The condition holds right after this was made, where the machine is this. Memory from address 80 hexadecimal on is ROM, where no
 -- event stores.
@@ -104,10 +104,10 @@ holds (StopsAt node) told s = is_own_at node.number is_stop told
 holds (WaitsAt node) told s = is_own_at node.number is_wait told
 holds (Holds node address word) told s = word_at (record_at (chip_of s) node.number) address == word
 holds (ComesTo node address) told s = (record_at (chip_of s) node.number).p == address
-holds (Reaches node address) told s = is_of node.number told && fetches_at address (record_at (chip_of s) node.number)
+holds (Reaches node address) told s = is_step_of node.number told && fetches_at address (record_at (chip_of s) node.number)
 holds (Writes node address word) told s =
     nat_lt address 128 && is_own_at node.number (stores_in (address % 64) (node_before s node.number)) told
-    && is_asked word (word_at (record_at (chip_of s) node.number) address)
+    && is_word_asked word (word_at (record_at (chip_of s) node.number) address)
 
 -- the place of the first of some conditions that holds then
 unfoldable pub first_held : List Condition → Made → State → Option ℕ
@@ -129,6 +129,6 @@ is_never (Reaches node address) = false
 is_never (Writes node address word) = false
 
 -- those before the first one that holds never
-unfoldable pub asked_of : List Condition → List Condition
-asked_of [] = []
-asked_of (until ∷ others) = if is_never until then [] else until ∷ asked_of others
+unfoldable pub conditions_asked : List Condition → List Condition
+conditions_asked [] = []
+conditions_asked (until ∷ others) = if is_never until then [] else until ∷ conditions_asked others

@@ -3,7 +3,7 @@ use Rattle.std.specs.Prelude.{ℕ, zero, suc, ◌+◌, ◌-◌, ◌==◌, if◌t
 use Rattle.ga_grid.specs.Grid.{node_id}
 use Rattle.ga_event.specs.Told.{steps_of}
 use Rattle.ga_lab.specs.Machine.{State, rewound}
-use Rattle.ga_search.specs.declared.effects.Effect.{Effect}
+use Rattle.ga_search.specs.declared.effects.RollbackEffect.{RollbackEffect}
 
 -- how many steps of each node are kept, and how many a rollback of node n to its step k would leave
 abbrev pub kept_steps : State → ℕ → ℕ
@@ -13,15 +13,15 @@ abbrev pub left_steps : State → ℕ → ℕ → ℕ → ℕ
 left_steps s n k m = steps_of m (rewound s n k).kept
 
 -- what would go of a node, of which so many steps would be left of so many; nothing where all would
-abbrev pub effect_on : (ℕ → ℕ) → (ℕ → ℕ) → ℕ → List Effect
+abbrev pub effect_on : (ℕ → ℕ) → (ℕ → ℕ) → ℕ → List RollbackEffect
 effect_on left all m =
     if left m == all m then [] else record { node = node_id m; first = left m + 1; steps = all m - left m } ∷ []
 
 -- the same of the first nodes
-unfoldable pub effects_below : (ℕ → ℕ) → (ℕ → ℕ) → ℕ → List Effect
+unfoldable pub effects_below : (ℕ → ℕ) → (ℕ → ℕ) → ℕ → List RollbackEffect
 effects_below left all zero = []
 effects_below left all (suc m) = effects_below left all m ++ effect_on left all m
 
 -- of each node, in the order of the numbers
-abbrev pub effects_of : State → ℕ → ℕ → List Effect
+abbrev pub effects_of : State → ℕ → ℕ → List RollbackEffect
 effects_of s n k = effects_below (left_steps s n k) (kept_steps s) 144

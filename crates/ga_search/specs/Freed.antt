@@ -2,5 +2,5 @@
 use Rattle.std.specs.Prelude.{◌≡◌, ℕ, ◌<◌, Bool, true}
 
 -- each node that is marked by the first is marked by the second
-abbrev pub IsWithin : (ℕ → Bool) → (ℕ → Bool) → Type 0
-IsWithin marks others = (n : ℕ) → n < 144 → marks n ≡ true → others n ≡ true
+abbrev pub IsSubset : (ℕ → Bool) → (ℕ → Bool) → Type 0
+IsSubset marks others = (n : ℕ) → n < 144 → marks n ≡ true → others n ≡ true

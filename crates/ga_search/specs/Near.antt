@@ -8,8 +8,8 @@ use Rattle.ga_grid.specs.Grid.{neighbour_of}
 use Rattle.ga_event.specs.Apply.{is_number}
 
 -- the node of this number is one of the marked, or beside one of them
-abbrev pub IsNear : (ℕ → Bool) → ℕ → Type 0
-IsNear marks n = (t : ℕ) × (marks t ≡ true) × ((n ≡ t) ⊎ ((side : Side) × (neighbour_of t side ≡ Some n)))
+abbrev pub IsMarkedOrBeside : (ℕ → Bool) → ℕ → Type 0
+IsMarkedOrBeside marks n = (t : ℕ) × (marks t ≡ true) × ((n ≡ t) ⊎ ((side : Side) × (neighbour_of t side ≡ Some n)))
 
 -- the nodes of these numbers are neighbours
 abbrev pub are_linked : ℕ → ℕ → Bool

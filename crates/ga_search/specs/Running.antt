@@ -30,29 +30,29 @@ abbrev pub chosen : Running → Option NodeId
 chosen r = first_in (can_go (chip_of r.state)) r.schedule.turn.number 144
 
 -- what is told of that event
-abbrev pub told_by : State → Option NodeId → Option Made
-told_by s None = None
-told_by s (Some node) = result_ok (step_answer s node)
+abbrev pub told_by_step : State → Option NodeId → Option Made
+told_by_step s None = None
+told_by_step s (Some node) = result_ok (step_answer s node)
 
 abbrev pub told : Running → Option Made
-told r = told_by r.state (chosen r)
+told r = told_by_step r.state (chosen r)
 
 -- after that event
 abbrev pub moved_by : Running → Option NodeId → Running
 moved_by r None = r
 moved_by r (Some node) = record { state = stepped r.state node; schedule = passed_on r.schedule node }
 
-abbrev pub moved : Running → Running
-moved r = moved_by r (chosen r)
+abbrev pub run_moved : Running → Running
+run_moved r = moved_by r (chosen r)
 
 -- after so many events
-abbrev pub after : Running → ℕ → Running
-after r zero = r
-after r (suc events) = moved (after r events)
+abbrev pub after_events : Running → ℕ → Running
+after_events r zero = r
+after_events r (suc events) = run_moved (after_events r events)
 
 -- each of so many events can be made
 abbrev pub AreMade : Running → ℕ → Type 0
-AreMade r events = (k : ℕ) → k < events → IsSome (told (after r k))
+AreMade r events = (k : ℕ) → k < events → IsSome (told (after_events r k))
 
 -- the place of the first of the conditions that holds right after the next event
 abbrev pub held_told : List Condition → Option Made → State → Option ℕ
@@ -60,11 +60,11 @@ held_told until None s = None
 held_told until (Some made) s = first_held until made s
 
 abbrev pub held_next : List Condition → Running → Option ℕ
-held_next until r = held_told until (told r) (moved r).state
+held_next until r = held_told until (told r) (run_moved r).state
 
 -- and none holds after one of so many
 abbrev pub NeverHolds : List Condition → Running → ℕ → Type 0
-NeverHolds until r events = (k : ℕ) → k < events → held_next until (after r k) ≡ None
+NeverHolds until r events = (k : ℕ) → k < events → held_next until (after_events r k) ≡ None
 
 -- no node has an event
 abbrev pub IsQuiet : List NodeRecord → Type 0
@@ -84,7 +84,7 @@ IsHalted r the_end.Made = ⊥
 -- how it ended after so many events, of which no more were asked for
 abbrev pub HasEnded : Running → ℕ → List Condition → ℕ → End → Type 0
 HasEnded r most until events (the_end.Reached made which) =
-    (k : ℕ) × (events ≡ k + 1) × NeverHolds until r k × (told (after r k) ≡ Some made) × (held_next until (after r k) ≡ Some which)
+    (k : ℕ) × (events ≡ k + 1) × NeverHolds until r k × (told (after_events r k) ≡ Some made) × (held_next until (after_events r k) ≡ Some which)
 HasEnded r most until events the_end.Made = (events ≡ most) × NeverHolds until r events
-HasEnded r most until events the_end.Quiet = (events < most) × NeverHolds until r events × IsHalted (after r events) the_end.Quiet
-HasEnded r most until events (the_end.Refused why) = (events < most) × NeverHolds until r events × IsHalted (after r events) (the_end.Refused why)
+HasEnded r most until events the_end.Quiet = (events < most) × NeverHolds until r events × IsHalted (after_events r events) the_end.Quiet
+HasEnded r most until events (the_end.Refused why) = (events < most) × NeverHolds until r events × IsHalted (after_events r events) (the_end.Refused why)

@@ -18,7 +18,7 @@ use ga_grid::NodeId;
 use ga_lab::{Lab, LabFault};
 use ga_node::Place;
 use ga_ports::Side;
-use ga_races::{Act, Sides};
+use ga_races::{EventAccess, Sides};
 use std::alloc::Global;
 
 // Of each node the number of its wait, and how many steps it had made, behind so many of the kept events.
@@ -176,7 +176,7 @@ impl Behind {
     }
 
     // Goes back by the last event, which is this one, an own event of the node.
-    fn back_own(&mut self, lab: &Lab, cause: Cause, node: NodeId) -> Act
+    fn back_own(&mut self, lab: &Lab, cause: Cause, node: NodeId) -> EventAccess
         requires own { cause.event ≡ Event.Own node }
         requires replays { replay lab.now.load lab.now.kept ≡ Some (chip_of lab.now) }
         requires stood { (p : ℕ) × IsAt lab.now p cause × AllStood lab.now (p + 1) self.old.waits self.old.steps }
@@ -186,7 +186,7 @@ impl Behind {
         ensures changes { (p : ℕ) → IsAt lab.now p cause → AllStood lab.now (p + 1) self.old.waits self.old.steps → IsActAt lab.now p result }
     {
         let first = self.back(lab, node);
-        Act {
+        EventAccess {
             cause,
             first,
             second: no_sides(),
@@ -194,7 +194,7 @@ impl Behind {
     }
 
     // The same of a pass between two nodes.
-    fn back_pass(&mut self, lab: &Lab, cause: Cause, writer: NodeId, reader: NodeId) -> Act
+    fn back_pass(&mut self, lab: &Lab, cause: Cause, writer: NodeId, reader: NodeId) -> EventAccess
         requires pass { (side : Side) × (cause.event ≡ Event.Pass writer reader side) }
         requires replays { replay lab.now.load lab.now.kept ≡ Some (chip_of lab.now) }
         requires stood { (p : ℕ) × IsAt lab.now p cause × AllStood lab.now (p + 1) self.old.waits self.old.steps }
@@ -205,7 +205,7 @@ impl Behind {
     {
         let first = self.back(lab, writer);
         let second = self.back(lab, reader);
-        Act {
+        EventAccess {
             cause,
             first,
             second,
@@ -213,7 +213,7 @@ impl Behind {
     }
 
     // The same of any event.
-    fn back_by(&mut self, lab: &Lab, cause: Cause) -> Act
+    fn back_by(&mut self, lab: &Lab, cause: Cause) -> EventAccess
         requires replays { replay lab.now.load lab.now.kept ≡ Some (chip_of lab.now) }
         requires stood { (p : ℕ) × IsAt lab.now p cause × AllStood lab.now (p + 1) self.old.waits self.old.steps }
         ensures cause { result.cause ≡ cause }
@@ -229,10 +229,10 @@ impl Behind {
 }
 
 // The event, with no sides yet.
-fn plain(cause: &Cause) -> Act
+fn plain(cause: &Cause) -> EventAccess
     ensures { result.cause ≡ cause.now }
 {
-    Act {
+    EventAccess {
         cause: *cause,
         first: no_sides(),
         second: no_sides(),
@@ -240,7 +240,7 @@ fn plain(cause: &Cause) -> Act
 }
 
 // Puts an act at the end of a list.
-fn add_act(list: &mut Vec<Act>, act: Act) -> Result<(), LabFault>
+fn add_act(list: &mut Vec<EventAccess>, act: EventAccess) -> Result<(), LabFault>
     ensures ok { OnOk result (list.new.items ≡ list.old.items ++ act ∷ []) }
     ensures err { IfErr result (λ why. why ≡ LabFault.Memory) }
 {
@@ -251,7 +251,7 @@ fn add_act(list: &mut Vec<Act>, act: Act) -> Result<(), LabFault>
 }
 
 // The events, with no sides yet.
-fn plain_acts(alloc: Global, causes: &[Cause]) -> Result<Vec<Act>, LabFault>
+fn plain_acts(alloc: Global, causes: &[Cause]) -> Result<Vec<EventAccess>, LabFault>
     ensures causes { IfOk result (λ acts. causes_in (actions_in acts.items) ≡ causes.now) }
     ensures err { IfErr result (λ why. why ≡ LabFault.Memory) }
 {
@@ -270,7 +270,11 @@ fn plain_acts(alloc: Global, causes: &[Cause]) -> Result<Vec<Act>, LabFault>
 ///
 /// # Errors
 /// `Memory` alone.
-pub(crate) fn acts_of(alloc: Global, lab: &Lab, causes: &[Cause]) -> Result<Vec<Act>, LabFault>
+pub(crate) fn acts_of(
+    alloc: Global,
+    lab: &Lab,
+    causes: &[Cause],
+) -> Result<Vec<EventAccess>, LabFault>
     requires all { causes.now ≡ causes_of lab.now }
     ensures size { IfOk result (λ acts. length acts.items ≡ length causes.now) }
     ensures alike { IfOk result (λ acts. AreAlike (actions_in acts.items) (actions lab.now.load lab.now.kept)) }

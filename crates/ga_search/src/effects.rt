@@ -12,7 +12,7 @@ use std::alloc::Global;
 
 /// What a rollback would take of a node: so many steps, all from one on.
 #[derive(Clone, Copy, PartialEq, Eq, Debug)]
-pub struct Effect {
+pub struct RollbackEffect {
     /// The node.
     pub node: NodeId,
     /// The first of its steps that would go.
@@ -27,11 +27,11 @@ pub struct Effects {
     /// How many events, which `rewind` would answer.
     pub events: u32,
     /// The nodes of which steps would go, in the order of their numbers.
-    pub nodes: Vec<Effect>,
+    pub nodes: Vec<RollbackEffect>,
 }
 
 // Puts what would go of a node at the end of a list.
-fn add(list: &mut Vec<Effect>, effect: Effect) -> Result<(), LabFault>
+fn add(list: &mut Vec<RollbackEffect>, effect: RollbackEffect) -> Result<(), LabFault>
     ensures ok { OnOk result (list.new.items ≡ list.old.items ++ effect ∷ []) }
     ensures err { IfErr result (λ why. why ≡ LabFault.Memory) }
 {
@@ -42,7 +42,12 @@ fn add(list: &mut Vec<Effect>, effect: Effect) -> Result<(), LabFault>
 }
 
 // The same, where so many steps of the node would go.
-fn add_steps(list: &mut Vec<Effect>, lab: &Lab, node: NodeId, steps: u32) -> Result<(), LabFault>
+fn add_steps(
+    list: &mut Vec<RollbackEffect>,
+    lab: &Lab,
+    node: NodeId,
+    steps: u32,
+) -> Result<(), LabFault>
     requires { steps ≤ steps_of node.number lab.now.kept }
     ensures ok { OnOk result ((left : ℕ → ℕ) → steps + left node.number ≡ steps_of node.number lab.now.kept →
         list.new.items ≡ list.old.items ++ effect_on left (kept_steps lab.now) node.number) }
@@ -52,11 +57,11 @@ fn add_steps(list: &mut Vec<Effect>, lab: &Lab, node: NodeId, steps: u32) -> Res
         return Ok(());
     }
     let first = lab.steps(node) - steps + 1;
-    add(list, Effect { node, first, steps })
+    add(list, RollbackEffect { node, first, steps })
 }
 
 // What would go of each node, where so many steps would.
-fn listed(alloc: Global, lab: &Lab, steps: &Visited) -> Result<Vec<Effect>, LabFault>
+fn listed(alloc: Global, lab: &Lab, steps: &Visited) -> Result<Vec<RollbackEffect>, LabFault>
     requires { (m : ℕ) → slice_index steps.now m ≤ steps_of m lab.now.kept }
     ensures ok { IfOk result (λ list. (left : ℕ → ℕ) →
         ((m : ℕ) → slice_index steps.now m + left m ≡ steps_of m lab.now.kept) →

@@ -5,7 +5,7 @@ ghost use Rattle.ga_grid.specs.Chip.{records_of};
 ghost use Rattle.ga_causal.specs.Dependence.{is_marked};
 ghost use Rattle.ga_search.specs.Stuck.{AreStuck, awaits};
 ghost use Rattle.ga_search.specs.kept.Freed.{is_freed_on, is_freed, MarksHalted, IsSettled};
-ghost use Rattle.ga_search.specs.Freed.{IsWithin};
+ghost use Rattle.ga_search.specs.Freed.{IsSubset};
 
 use ga_event::{is_reading, is_writing};
 use ga_grid::{Chip, NodeId, neighbour};
@@ -82,9 +82,9 @@ fn halted(chip: &Chip) -> [bool; 144]
 fn settled(chip: &Chip, mut marks: [bool; 144]) -> [bool; 144]
     requires { length marks ≡ 144 }
     ensures settled { IsSettled (records_of chip.now) (is_marked result) }
-    ensures fewer { IsWithin (is_marked result) (is_marked marks) }
+    ensures fewer { IsSubset (is_marked result) (is_marked marks) }
     ensures greatest { (others : ℕ → Bool) → AreStuck (records_of chip.now) others →
-        IsWithin others (is_marked marks) → IsWithin others (is_marked result) }
+        IsSubset others (is_marked marks) → IsSubset others (is_marked result) }
     ensures size { length result ≡ 144 }
 {
     'freeing: while let Some(node) = first_freed(chip, &marks) {
@@ -98,7 +98,7 @@ fn settled(chip: &Chip, mut marks: [bool; 144]) -> [bool; 144]
 /// await one that runs for ever and never answers.
 pub fn find_stuck(chip: &Chip) -> [bool; 144]
     ensures stuck { AreStuck (records_of chip.now) (is_marked result) }
-    ensures greatest { (marks : ℕ → Bool) → AreStuck (records_of chip.now) marks → IsWithin marks (is_marked result) }
+    ensures greatest { (marks : ℕ → Bool) → AreStuck (records_of chip.now) marks → IsSubset marks (is_marked result) }
 {
     settled(chip, halted(chip))
 }

@@ -14,19 +14,19 @@ ghost use Rattle.ga_event.specs.Touches.{touches};
 ghost use Rattle.ga_causal.specs.Dependence.{NoneLooks};
 ghost use Rattle.ga_races.specs.Orders.{AreOrders, IsAtEnd, HasNoRace};
 ghost use Rattle.ga_lab.specs.Machine.{State, first, chip_of, causes_of, rewound};
-ghost use Rattle.ga_lab.specs.Calls.{Call, called_all, IsReached};
-ghost use Rattle.ga_search.specs.Near.{IsNear};
+ghost use Rattle.ga_lab.specs.Calls.{MachineCall, called_all, IsReached};
+ghost use Rattle.ga_search.specs.Near.{IsMarkedOrBeside};
 ghost use Rattle.ga_search.specs.Stuck.{AreStuck};
 ghost use Rattle.ga_search.specs.Offered.{offered};
 ghost use Rattle.ga_search.specs.Races.{races_asked, has_looks, first_ready, IsOther};
-ghost use Rattle.ga_search.specs.Running.{Running, after, NeverHolds, HasEnded};
+ghost use Rattle.ga_search.specs.Running.{Running, after_events, NeverHolds, HasEnded};
 ghost use Rattle.ga_search.specs.declared.condition.Condition.{Condition};
 ghost use Rattle.ga_search.specs.declared.running.End.{End};
 
 /// An event changes what the next event of a node is at the nodes that it touches and at their neighbours alone.
 pub fn next_changes_near_alone()
     ensures { (chip : List NodeRecord) (event : Event) →
-        IfSome (apply chip event) (λ done. (node : NodeId) → IsNear (touches event) node.number ⊎ (next chip node ≡ next done.0 node)) }
+        IfSome (apply chip event) (λ done. (node : NodeId) → IsMarkedOrBeside (touches event) node.number ⊎ (next chip node ≡ next done.0 node)) }
 {}
 
 /// Whatever further events are made, each of some nodes that are stuck stays as it is.
@@ -39,12 +39,12 @@ pub fn stuck_stay()
 /// stepped, undone or rewound in it, stands on the way there: its kept events can be gone on with to those of the first in another
 /// order. Once no node has an event there either, its chip is the same: the nodes that are stopped are stopped in both.
 pub fn any_session()
-    ensures way { (load : List NodeRecord) (limit bound : ℕ) (calls others : List Call) →
+    ensures way { (load : List NodeRecord) (limit bound : ℕ) (calls others : List MachineCall) →
         let s = called_all (first load limit) calls in
         let z = called_all (first load bound) others in
         HasNoRace load s.kept → IsAtEnd (chip_of s) →
         (later : List Event) × AreOrders load s.kept (z.kept ++ later) }
-    ensures chip { (load : List NodeRecord) (limit bound : ℕ) (calls others : List Call) →
+    ensures chip { (load : List NodeRecord) (limit bound : ℕ) (calls others : List MachineCall) →
         let s = called_all (first load limit) calls in
         let z = called_all (first load bound) others in
         HasNoRace load s.kept → IsAtEnd (chip_of s) → IsAtEnd (chip_of z) → chip_of z ≡ chip_of s }
@@ -70,12 +70,12 @@ pub fn none_offered()
 /// session from that load stands on the way there, whatever was stepped, undone or rewound in it; and once no node has an event there
 /// either, its chip is the same. This is what `find_races` leaves to say of a run that has ended.
 pub fn every_order()
-    ensures way { (load : List NodeRecord) (limit bound : ℕ) (calls others : List Call) →
+    ensures way { (load : List NodeRecord) (limit bound : ℕ) (calls others : List MachineCall) →
         let s = called_all (first load limit) calls in
         let z = called_all (first load bound) others in
         races_asked s None ≡ [] → has_looks (causes_of s) (chip_of s) ≡ false → first_ready (chip_of s) ≡ None →
         (later : List Event) × AreOrders load s.kept (z.kept ++ later) }
-    ensures chip { (load : List NodeRecord) (limit bound : ℕ) (calls others : List Call) →
+    ensures chip { (load : List NodeRecord) (limit bound : ℕ) (calls others : List MachineCall) →
         let s = called_all (first load limit) calls in
         let z = called_all (first load bound) others in
         races_asked s None ≡ [] → has_looks (causes_of s) (chip_of s) ≡ false → first_ready (chip_of s) ≡ None →
@@ -84,7 +84,7 @@ pub fn every_order()
 
 /// The same where a node may have an event: every other session from that load in which no node made more steps stands on the way.
 pub fn no_other_order()
-    ensures { (load : List NodeRecord) (limit bound : ℕ) (calls others : List Call) →
+    ensures { (load : List NodeRecord) (limit bound : ℕ) (calls others : List MachineCall) →
         let s = called_all (first load limit) calls in
         let z = called_all (first load bound) others in
         races_asked s None ≡ [] → has_looks (causes_of s) (chip_of s) ≡ false →
@@ -101,7 +101,7 @@ pub fn other_word()
 /// Two runs, the second by the schedule that the first hands back, are one run by the schedule of the first: where no condition held in
 /// the first, the second ends as the one does.
 pub fn slices_are_one_run()
-    ensures events { (r : Running) (first second : ℕ) → after (after r first) second ≡ after r (first + second) }
+    ensures events { (r : Running) (first second : ℕ) → after_events (after_events r first) second ≡ after_events r (first + second) }
     ensures end { (r : Running) (until : List Condition) (first most second : ℕ) (end : End) → NeverHolds until r first →
-        HasEnded (after r first) most until second end → HasEnded r (first + most) until (first + second) end }
+        HasEnded (after_events r first) most until second end → HasEnded r (first + most) until (first + second) end }
 {}

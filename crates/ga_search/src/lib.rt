@@ -22,13 +22,13 @@ mod writers;
 
 pub use condition::Condition;
 pub use counting::{are_linked, count_words};
-pub use effects::{Effect, Effects, find_effects};
+pub use effects::{Effects, RollbackEffect, find_effects};
 pub use freed::{awaits, find_stuck};
 pub use idle::find_idle;
 pub use offers::offered;
 pub use races::{Race, Races, find_races};
 pub use readings::Reading;
-pub use running::{End, Ran, run};
+pub use running::{End, Ran, run_schedule};
 pub use schedule::{Order, Schedule};
-pub use watching::{MOST_CONDITIONS, asked_of};
+pub use watching::{MOST_CONDITIONS, conditions_asked};
 pub use words::{Sent, Words};

@@ -7,7 +7,7 @@ ghost use Rattle.ga_search.specs.Words.{one_over, word_count};
 ghost use Rattle.ga_search.specs.kept.Ready.{HoldsReady, IsAlone};
 ghost use Rattle.ga_search.specs.kept.Counted.{newest_told};
 ghost use Rattle.ga_search.specs.Schedules.{passed_on};
-ghost use Rattle.ga_search.specs.Running.{running, told, moved, after, AreMade, IsRefusedFor, IsHalted, HasEnded};
+ghost use Rattle.ga_search.specs.Running.{running, told, run_moved, after_events, AreMade, IsRefusedFor, IsHalted, HasEnded};
 
 use crate::condition::Condition;
 use crate::numbers::Numbers;
@@ -87,7 +87,7 @@ fn advance(
     requires alone { IfSome alone.old (IsAlone ready.old) }
     requires replays { IsSome (replay lab.old.load lab.old.kept) }
     ensures told { IfOk result (λ made. told (running lab.old schedule.old) ≡ Some made) }
-    ensures moved { OnOk result (running lab.new schedule.new ≡ moved (running lab.old schedule.old)) }
+    ensures moved { OnOk result (running lab.new schedule.new ≡ run_moved (running lab.old schedule.old)) }
     ensures ready { OnOk result (HoldsReady (chip_of lab.new) ready.new) }
     ensures alone { OnOk result (IfSome alone.new (IsAlone ready.new)) }
     ensures words { IfOk result (λ made. (writer reader : ℕ) →
@@ -110,9 +110,9 @@ fn advance(
 /// Makes events in the order of a schedule: at most so many, up to the first after which one of the conditions holds, and hands the
 /// schedule back. Takes time by the events that are made, and not by how many nodes wait; a condition that counts words reads the
 /// steps of one end once before.
-pub fn run(lab: &mut Lab, mut schedule: Schedule, most: u64, until: &[Condition]) -> Ran
+pub fn run_schedule(lab: &mut Lab, mut schedule: Schedule, most: u64, until: &[Condition]) -> Ran
     requires { length until.now ≤ 8 }
-    ensures state { running lab.new result.schedule ≡ after (running lab.old schedule) result.events }
+    ensures state { running lab.new result.schedule ≡ after_events (running lab.old schedule) result.events }
     ensures made { AreMade (running lab.old schedule) result.events }
     ensures most { result.events ≤ most }
     ensures end { HasEnded (running lab.old schedule) most until.now result.events result.end }

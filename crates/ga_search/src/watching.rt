@@ -1,7 +1,7 @@
 //! Some conditions at once.
 
 ghost use Rattle.std.specs.Prelude.{◌≡◌, ◌≤◌, length, Some};
-ghost use Rattle.ga_search.specs.Conditions.{first_held, asked_of};
+ghost use Rattle.ga_search.specs.Conditions.{first_held, conditions_asked};
 ghost use Rattle.ga_search.specs.kept.Counted.{AreCounted, WereCounted, newest_told};
 
 use crate::condition::Condition;
@@ -14,8 +14,8 @@ pub const MOST_CONDITIONS: usize = 8;
 pub(crate) type LinkCounts = [u32; MOST_CONDITIONS];
 
 /// The conditions before the first one that holds never.
-pub fn asked_of(until: &[Condition]) -> &[Condition]
-    ensures asked { result.now ≡ asked_of until.now }
+pub fn conditions_asked(until: &[Condition]) -> &[Condition]
+    ensures asked { result.now ≡ conditions_asked until.now }
     ensures most { length result.now ≤ length until.now }
 {
     for (place, condition) in until.iter().enumerate() {

@@ -22,7 +22,7 @@ unless : {X : Type 0} {Y : Type 0} (f : State → Y) (r : Result X LabFault) (ol
 unless f (Ok x) old new same = same
 unless f (Err fault) old new same = refl
 
-with_event-load : (s : State) (r : Result Event NotReady) → (with_event s r).load ≡ s.load
+pub with_event-load : (s : State) (r : Result Event NotReady) → (with_event s r).load ≡ s.load
 with_event-load s (Ok e) = refl
 with_event-load s (Err why) = refl
 

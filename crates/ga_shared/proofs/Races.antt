@@ -11,7 +11,7 @@ use Rattle.ga_shared.specs.declared.closing.Closed.{Closed}
 use Rattle.ga_node.specs.Record.{NodeRecord}
 use Rattle.ga_shared.specs.Log.{Worker, IsLegal, fresh_worker}
 use Rattle.ga_shared.specs.Opening.{receipts_of, WorkerAgrees}
-use Rattle.ga_shared.specs.Close.{IsSound, IsOpenedOn}
+use Rattle.ga_shared.specs.Close.{IsSoundLog, IsOpenedOn}
 use Rattle.ga_shared.specs.kept.Race.{IsDone}
 use Rattle.ga_shared.specs.Race.{Raced, calls_of}
 
@@ -41,7 +41,7 @@ done_calls lists log w s list is done at agrees =
       ap (λ x. x.calls) works.2 ∙ zero-add (length list),
     )
 
-pub raced : (load : List NodeRecord) (limit n : ℕ) (lists : List (List Call)) (seats : List Worker) (closed : Closed) → length lists ≡ n → length seats ≡ n → ((w : ℕ) (s : Worker) → slice_get seats w ≡ Some s → (s.number ≡ w) × IsDone lists s) → IsSound seats closed → IsOpenedOn (record { load = load; limit = limit; workers = n }) closed.lab → ((w : ℕ) → w < n → WorkerAgrees closed.log.items seats w) → Raced load limit lists closed
+pub raced : (load : List NodeRecord) (limit n : ℕ) (lists : List (List Call)) (seats : List Worker) (closed : Closed) → length lists ≡ n → length seats ≡ n → ((w : ℕ) (s : Worker) → slice_get seats w ≡ Some s → (s.number ≡ w) × IsDone lists s) → IsSoundLog seats closed → IsOpenedOn (record { load = load; limit = limit; workers = n }) closed.lab → ((w : ℕ) → w < n → WorkerAgrees closed.log.items seats w) → Raced load limit lists closed
 raced load limit n lists seats closed many size done sound opened agrees =
     let log = closed.log.items in
     record {

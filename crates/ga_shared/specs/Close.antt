@@ -9,7 +9,7 @@ use Rattle.ga_shared.specs.Opening.{Opening, AreSeated, WorkerAgrees, IsLeastWro
 
 -- the log leads the machine from its first state to the lab; it is as long as all workers together made calls, and the lab
 -- counts the events that it tells of
-pub record IsSound (seats : List Worker) (closed : Closed) : Type 0 where
+pub record IsSoundLog (seats : List Worker) (closed : Closed) : Type 0 where
   pub legal : IsLegal (first closed.lab.load closed.lab.limit) closed.log.items closed.lab
   pub calls : length closed.log.items ≡ sum_by (λ s. s.calls) seats
   pub made : closed.lab.made ≡ made_by closed.log.items
@@ -22,11 +22,11 @@ IsOpenedOn o lab = (lab.load ≡ o.load) × (lab.limit ≡ o.limit)
 -- entries; or that seats are missing; or the least doubt, with the same lab and log
 abbrev pub Closes : {L : Type 0} → Opening → List Worker → Result Closed (CloseFault L) → Type 0
 Closes o seats (Ok closed) =
-    AreSeated o.workers seats × IsSound seats closed × IsOpenedOn o closed.lab
+    AreSeated o.workers seats × IsSoundLog seats closed × IsOpenedOn o closed.lab
     × ((w : ℕ) → w < o.workers → WorkerAgrees closed.log.items seats w)
 Closes o seats (Err (Missing shared back)) = (¬ AreSeated o.workers seats) × (shared ≡ o) × (back.items ≡ seats)
 Closes o seats (Err (Disagree None closed)) =
-    AreSeated o.workers seats × IsSound seats closed × (¬ IsOpenedOn o closed.lab)
+    AreSeated o.workers seats × IsSoundLog seats closed × (¬ IsOpenedOn o closed.lab)
 Closes o seats (Err (Disagree (Some w) closed)) =
-    AreSeated o.workers seats × IsSound seats closed × IsOpenedOn o closed.lab
+    AreSeated o.workers seats × IsSoundLog seats closed × IsOpenedOn o closed.lab
     × (w < o.workers) × IsLeastWrong closed.log.items seats w

@@ -71,7 +71,7 @@ pub record Makes (old new : Desk) (was now : Worker) (call : Call) (receipt : Re
 
 -- One call counted: the receipt names the call, its place is no less than the number of calls that the worker made before,
 -- and the worker has one receipt and one call more
-pub record Counts (was now : Worker) (call : Call) (receipt : Receipt) : Type 0 where
+pub record CountsCall (was now : Worker) (call : Call) (receipt : Receipt) : Type 0 where
   pub asked : receipt.call ≡ call
   pub place : was.calls ≤ receipt.place
   pub worker : now ≡ with_receipt was receipt

@@ -39,7 +39,7 @@ impl<L: Ledger> Model for Shared<L> {
 impl<L: Ledger> Shared<L> {
     ghost use Rattle.std.specs.Prelude.{◌≡◌, ◌<◌, ◌≤◌, ℕ, IfOk, OnErr, Some, vec_len, slice_get};
     ghost use Rattle.ga_grid.specs.Chip.{records_of};
-    ghost use Rattle.ga_shared.specs.Log.{Counts, fresh_worker};
+    ghost use Rattle.ga_shared.specs.Log.{CountsCall, fresh_worker};
 
     /// A shared chip that keeps at most `limit` events, and a seat for each worker, numbered from 0. `blank` is a new ledger, with a
     /// part for each worker, in which their calls are counted.
@@ -108,7 +108,7 @@ impl<L: Ledger> Shared<L> {
         seat: &mut Seat<L>,
         node: NodeId,
     ) -> Result<Receipt, SharedFault>
-        ensures counts { IfOk result (λ receipt. Counts seat.old seat.new (Step node) receipt) }
+        ensures counts { IfOk result (λ receipt. CountsCall seat.old seat.new (Step node) receipt) }
         ensures memory { OnErr result (seat.new ≡ seat.old) }
     {
         self.locked.lock(rt).call(seat, Call::Step(node))
@@ -125,7 +125,7 @@ impl<L: Ledger> Shared<L> {
         node: NodeId,
         step: u32,
     ) -> Result<Receipt, SharedFault>
-        ensures counts { IfOk result (λ receipt. Counts seat.old seat.new (Rewind node step) receipt) }
+        ensures counts { IfOk result (λ receipt. CountsCall seat.old seat.new (Rewind node step) receipt) }
         ensures memory { OnErr result (seat.new ≡ seat.old) }
     {
         self.locked.lock(rt).call(seat, Call::Rewind(node, step))

@@ -2,7 +2,7 @@
 
 ghost use Rattle.std.specs.Prelude.{◌≡◌, ◌<◌, ◌^◌, ℕ, length, take, IfOk, OnOk, OnErr};
 ghost use Rattle.ga_shared.specs.Race.{Works};
-ghost use Rattle.ga_shared.specs.Log.{Counts};
+ghost use Rattle.ga_shared.specs.Log.{CountsCall};
 
 use crate::call::{Call, Receipt, SharedFault};
 use crate::gate::Gate;
@@ -44,7 +44,7 @@ fn make<L: Ledger, R: Wait>(
     seat: &mut Seat<L>,
     call: Call,
 ) -> Result<Receipt, SharedFault>
-    ensures counts { IfOk result (λ receipt. Counts seat.old seat.new call receipt) }
+    ensures counts { IfOk result (λ receipt. CountsCall seat.old seat.new call receipt) }
     ensures memory { OnErr result (seat.new ≡ seat.old) }
 {
     match call {

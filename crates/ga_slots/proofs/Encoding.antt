@@ -7,7 +7,7 @@ use Rattle.std.proofs.lemmas.Nat.{xor_lt}
 use Rattle.ga_slots.specs.declared.op.Op.{Op}
 use Rattle.ga_slots.specs.declared.op.Op.TheVariants.{Return, Execute, Jump, Call, Unext, Next, If, MinusIf, FetchP, FetchPlus, FetchB, Fetch, StoreP, StorePlus, StoreB, Store, MultiplyStep, TwoStar, TwoSlash, Invert, Plus, And, Or, Drop, Dup, Pop, Over, A, Nop, Push, BStore, AStore}
 use Rattle.ga_slots.specs.Codes.{code_of, op_of}
-use Rattle.ga_slots.specs.Slots.{opcode, opcode_mask, word_of, encoded}
+use Rattle.ga_slots.specs.Slots.{opcode, opcode_mask, word_of_codes, encoded}
 
 -- an opcode is the one of its code
 pub op_of-code_of : (op : Op) → op_of (code_of op) ≡ op
@@ -90,7 +90,7 @@ pub plain-lt : (a b c d : ℕ) → a < 32 → b < 32 → c < 32 → d < 32 → p
 plain-lt a b c d p q r s = omega arith
 
 -- four codes fill a word
-pub word_of-mod : (a b c d : ℕ) → a < 32 → b < 32 → c < 32 → d < 32 → word_of a b c d % 2 ^ 18 ≡ word_of a b c d
+pub word_of-mod : (a b c d : ℕ) → a < 32 → b < 32 → c < 32 → d < 32 → word_of_codes a b c d % 2 ^ 18 ≡ word_of_codes a b c d
 word_of-mod a b c d p q r s = mod-eq_of_lt (xor_lt 18 (plain_of a b c d) opcode_mask (plain-lt a b c d p q r s) (lit< tt))
 
 -- what holds of each slot
@@ -102,28 +102,28 @@ each_slot P a b c d (suc (suc (suc zero))) below = d
 each_slot P a b c d (suc (suc (suc (suc slot)))) below = absurd (omega arith)
 
 -- the opcode in each slot of a word of four codes, the last of them a multiple of 4
-first : (a b c d : ℕ) → a < 32 → b < 32 → c < 32 → d < 32 → opcode (word_of a b c d) 0 ≡ op_of a
+first : (a b c d : ℕ) → a < 32 → b < 32 → c < 32 → d < 32 → opcode (word_of_codes a b c d) 0 ≡ op_of a
 first a b c d p q r s =
     rw (xor_back (plain_of a b c d) opcode_mask) (ap op_of (let e : plain_of a b c d / 2 ^ 13 % 32 ≡ a = omega arith in e))
 
-second : (a b c d : ℕ) → a < 32 → b < 32 → c < 32 → d < 32 → opcode (word_of a b c d) 1 ≡ op_of b
+second : (a b c d : ℕ) → a < 32 → b < 32 → c < 32 → d < 32 → opcode (word_of_codes a b c d) 1 ≡ op_of b
 second a b c d p q r s =
     rw (xor_back (plain_of a b c d) opcode_mask) (ap op_of (let e : plain_of a b c d / 2 ^ 8 % 32 ≡ b = omega arith in e))
 
-third : (a b c d : ℕ) → a < 32 → b < 32 → c < 32 → d < 32 → opcode (word_of a b c d) 2 ≡ op_of c
+third : (a b c d : ℕ) → a < 32 → b < 32 → c < 32 → d < 32 → opcode (word_of_codes a b c d) 2 ≡ op_of c
 third a b c d p q r s =
     rw (xor_back (plain_of a b c d) opcode_mask) (ap op_of (let e : plain_of a b c d / 2 ^ 3 % 32 ≡ c = omega arith in e))
 
-fourth : (a b c d : ℕ) → a < 32 → b < 32 → c < 32 → d < 32 → d % 4 ≡ 0 → opcode (word_of a b c d) 3 ≡ op_of d
+fourth : (a b c d : ℕ) → a < 32 → b < 32 → c < 32 → d < 32 → d % 4 ≡ 0 → opcode (word_of_codes a b c d) 3 ≡ op_of d
 fourth a b c d p q r s fits =
     rw (xor_back (plain_of a b c d) opcode_mask) (ap op_of (let e : plain_of a b c d % 8 * 4 ≡ d = omega arith in e))
 
 -- the same for the codes of opcodes in a list
 pub opcode-word_of : (ops : List Op) → let code = λ (i : ℕ). code_of (slice_index_or ops i Return) in
-    code 3 % 4 ≡ 0 → (slot : ℕ) → slot < 4 → opcode (word_of (code 0) (code 1) (code 2) (code 3)) slot ≡ slice_index_or ops slot Return
+    code 3 % 4 ≡ 0 → (slot : ℕ) → slot < 4 → opcode (word_of_codes (code 0) (code 1) (code 2) (code 3)) slot ≡ slice_index_or ops slot Return
 opcode-word_of ops fits slot below =
     let op : ℕ → Op = λ i. slice_index_or ops i Return in
-    each_slot (λ k. opcode (word_of (code_of (op 0)) (code_of (op 1)) (code_of (op 2)) (code_of (op 3))) k ≡ op k)
+    each_slot (λ k. opcode (word_of_codes (code_of (op 0)) (code_of (op 1)) (code_of (op 2)) (code_of (op 3))) k ≡ op k)
     (first (code_of (op 0)) (code_of (op 1)) (code_of (op 2)) (code_of (op 3)) (code_of-lt (op 0)) (code_of-lt (op 1)) (code_of-lt (op 2)) (code_of-lt (op 3)) ∙ op_of-code_of (op 0))
     (second (code_of (op 0)) (code_of (op 1)) (code_of (op 2)) (code_of (op 3)) (code_of-lt (op 0)) (code_of-lt (op 1)) (code_of-lt (op 2)) (code_of-lt (op 3)) ∙ op_of-code_of (op 1))
     (third (code_of (op 0)) (code_of (op 1)) (code_of (op 2)) (code_of (op 3)) (code_of-lt (op 0)) (code_of-lt (op 1)) (code_of-lt (op 2)) (code_of-lt (op 3)) ∙ op_of-code_of (op 2))
@@ -132,16 +132,16 @@ opcode-word_of ops fits slot below =
 
 -- the word of opcodes whose fourth fits its slot
 pub encoded-fits : (ops : List Op) → let code = λ (i : ℕ). code_of (slice_index_or ops i Return) in
-    code 3 % 4 ≡ 0 → encoded ops ≡ Some (word_of (code 0) (code 1) (code 2) (code 3) % 2 ^ 18)
+    code 3 % 4 ≡ 0 → encoded ops ≡ Some (word_of_codes (code 0) (code 1) (code 2) (code 3) % 2 ^ 18)
 encoded-fits ops fits =
     let op : ℕ → Op = λ i. slice_index_or ops i Return in
-    ap (λ (b : Bool). cond b (Some (word_of (code_of (op 0)) (code_of (op 1)) (code_of (op 2)) (code_of (op 3)))) None) (eq-eqb (code_of (op 3) % 4) 0 fits)
+    ap (λ (b : Bool). cond b (Some (word_of_codes (code_of (op 0)) (code_of (op 1)) (code_of (op 2)) (code_of (op 3)))) None) (eq-eqb (code_of (op 3) % 4) 0 fits)
     ∙ ap (λ (w : ℕ). Some w)
     (sym (word_of-mod (code_of (op 0)) (code_of (op 1)) (code_of (op 2)) (code_of (op 3)) (code_of-lt (op 0)) (code_of-lt (op 1)) (code_of-lt (op 2)) (code_of-lt (op 3))))
 
 -- its opcodes
 pub opcode-encoded : (ops : List Op) → let code = λ (i : ℕ). code_of (slice_index_or ops i Return) in
-    code 3 % 4 ≡ 0 → (slot : ℕ) → slot < 4 → opcode (word_of (code 0) (code 1) (code 2) (code 3) % 2 ^ 18) slot ≡ slice_index_or ops slot Return
+    code 3 % 4 ≡ 0 → (slot : ℕ) → slot < 4 → opcode (word_of_codes (code 0) (code 1) (code 2) (code 3) % 2 ^ 18) slot ≡ slice_index_or ops slot Return
 opcode-encoded ops fits slot below =
     let op : ℕ → Op = λ i. slice_index_or ops i Return in
     ap (λ (w : ℕ). opcode w slot)

@@ -5,28 +5,28 @@ use Rattle.std.proofs.lemmas.List.{reverse-append}
 use Rattle.std.proofs.lemmas.Bool.{cond-false}
 use Rattle.ga_source.specs.declared.controls.Open.{Open}
 use Rattle.ga_source.specs.declared.scan.Token.{Token}
-use Rattle.ga_source.specs.Asking.{Asking, Refusal, refuse, line_of, all_closed, hear, next_text, asked_from, finished, is_waiting, all_placed, ◌▷◌}
+use Rattle.ga_source.specs.Asking.{Asking, Refusal, refuse_line, line_of, all_closed, hear, next_text, asked_from, finished, is_waiting, all_placed, ◌▷◌}
 use Rattle.ga_source.specs.Asking.Wrong.{Unclosed}
 use Rattle.ga_source.specs.Saying.{said_of, all_said}
 use Rattle.ga_source.specs.kept.Hearing.{texts_of}
 
 -- ---- what is still open
 
-outermost : (now : Asking) (inner : List Open) (one : Open) → all_closed now (inner ++ one ∷ []) ≡ refuse (line_of one) Unclosed
+outermost : (now : Asking) (inner : List Open) (one : Open) → all_closed now (inner ++ one ∷ []) ≡ refuse_line (line_of one) Unclosed
 unfolding all_closed
 outermost now [] one = refl
 outermost now (a ∷ []) one = refl
 outermost now (a ∷ b ∷ inner) one = outermost now (b ∷ inner) one
 
-pub first_open : (now : Asking) (opened : List Open) (d : Open) → 0 < length opened → all_closed now (reverse opened) ≡ refuse (line_of (get_or opened 0 d)) Unclosed
+pub first_open : (now : Asking) (opened : List Open) (d : Open) → 0 < length opened → all_closed now (reverse opened) ≡ refuse_line (line_of (get_or opened 0 d)) Unclosed
 first_open now [] d some = absurd (omega arith)
 first_open now (one ∷ inner) d some = ap (all_closed now) (reverse-append (one ∷ []) inner) ∙ outermost now (reverse inner) one
 
-pub open_refused : (now : Asking) (last : ℕ) (items : List Open) (open_one : Open) → now.opened ≡ reverse items → is_waiting now.expect ≡ false → 0 < length items → open_one ≡ get_or items 0 open_one → finished now last ≡ refuse (line_of open_one) Unclosed
+pub open_refused : (now : Asking) (last : ℕ) (items : List Open) (open_one : Open) → now.opened ≡ reverse items → is_waiting now.expect ≡ false → 0 < length items → open_one ≡ get_or items 0 open_one → finished now last ≡ refuse_line (line_of open_one) Unclosed
 open_refused now last items open_one is ready some first =
     cond-false (is_waiting now.expect) _ _ ready
     ∙ ap (λ (r : Result Asking Refusal). r ▷ (λ closed. all_placed closed closed.labels))
-    (ap (all_closed now) is ∙ (first_open now items open_one some ∙ ap (λ (o : Open). refuse {X = Asking} (line_of o) Unclosed) (sym first)))
+    (ap (all_closed now) is ∙ (first_open now items open_one some ∙ ap (λ (o : Open). refuse_line {X = Asking} (line_of o) Unclosed) (sym first)))
 
 -- ---- one word more
 

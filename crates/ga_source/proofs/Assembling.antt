@@ -4,16 +4,16 @@ use Rattle.std.proofs.Common.{sym, subst}
 use Rattle.ga_grid.specs.Chip.{records_of}
 use Rattle.ga_grid.specs.Steady.{AreSteady}
 use Rattle.ga_source.specs.declared.fault.Fault.{Fault}
-use Rattle.ga_source.specs.declared.fault.Cause.TheVariants.{Memory}
+use Rattle.ga_source.specs.declared.fault.SourceCause.TheVariants.{Memory}
 use Rattle.ga_source.specs.declared.program.Assembled.{Assembled}
 use Rattle.ga_source.specs.declared.scan.Token.{Token}
 use Rattle.ga_source.specs.Saying.{Said, said_in, all_said}
 use Rattle.ga_source.specs.Plain.{texts_in, bodies_in, AreOf, AreRead}
 use Rattle.ga_source.specs.Asks.{said_bodies, AreAskedBy, AreAsked}
 use Rattle.ga_source.specs.Cells.{IsEmptyElsewhere}
-use Rattle.ga_source.specs.Made.{IsMade}
+use Rattle.ga_source.specs.Made.{IsChipOfSource}
 use Rattle.ga_source.specs.Programs.{IsAssembled}
-use Rattle.ga_source.specs.Sound.{IsSound}
+use Rattle.ga_source.specs.Sound.{IsSoundSource}
 use Rattle.ga_source.proofs.Empty.{assembled_empty}
 use Rattle.ga_source.proofs.PlainNodes.{source_made}
 use Rattle.ga_source.proofs.Steady.{assembled_steady}
@@ -27,12 +27,12 @@ pub read_of_words : (source : List ℕ) (words : List Token) (result : Result As
 read_of_words source words result e read = subst (λ (said : List Said). IfOk result (λ all. AreOf (bodies_in (texts_in said)) all.programs.items)) (sym e) read
 
 pub refused_of_words : (source : List ℕ) (words : List Token) (result : Result Assembled Fault) → said_in source ≡ all_said words
-    → IfErr result (λ fault. (other : List ℕ) → said_in other ≡ all_said words → IsSound other → fault.cause ≡ Memory) → IfErr result (λ fault. IsSound source → fault.cause ≡ Memory)
+    → IfErr result (λ fault. (other : List ℕ) → said_in other ≡ all_said words → IsSoundSource other → fault.cause ≡ Memory) → IfErr result (λ fault. IsSoundSource source → fault.cause ≡ Memory)
 refused_of_words source words (Ok all) e refused = refused
 refused_of_words source words (Err fault) e refused = refused source e
 
 pub made_of_source : (source : List ℕ) (result : Result Assembled Fault) → IfOk result (λ all. AreRead source all.programs.items)
-    → IfOk result (λ all. IsAssembled all.chip all.programs.items) → IfOk result (λ all. IsMade source all.chip)
+    → IfOk result (λ all. IsAssembled all.chip all.programs.items) → IfOk result (λ all. IsChipOfSource source all.chip)
 made_of_source source (Ok all) read assembled = source_made source all.chip all.programs.items read assembled
 made_of_source source (Err fault) read assembled = read
 

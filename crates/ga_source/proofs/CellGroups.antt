@@ -2,7 +2,7 @@
 use Rattle.std.proofs.Common.{◌≡◌, ◌≢◌, ◌∙◌, ◌+◌, ◌%◌, ◌^◌, inl, inr, set, replicate, get_or-set_other, ℕ, zero, suc, ◌<◌, length, slice_index_or, arith, refl, sym, ap, subst, true, List, [], ◌∷◌, ◌++◌, Option, None, append-nil, append_assoc}
 use Rattle.std.proofs.lemmas.Bool.{cases_lt}
 use Rattle.std.proofs.lemmas.List.{get_or-replicate, get_or_past, length-replicate}
-use Rattle.ga_source.specs.declared.item.Value.TheVariants.{Number}
+use Rattle.ga_source.specs.declared.item.Operand.TheVariants.{Number}
 use Rattle.ga_source.specs.declared.item.Item.{Item}
 use Rattle.ga_source.specs.declared.item.Item.TheVariants.{Cell}
 use Rattle.ga_source.specs.declared.item.Group.{Group}
@@ -13,7 +13,7 @@ use Rattle.ga_source.specs.declared.packing.Packer.{Packer}
 use Rattle.ga_source.specs.declared.spot.Spot.{Spot}
 use Rattle.ga_source.specs.Reading.{begin_at, behind, fits}
 use Rattle.ga_source.specs.Made.{address_behind}
-use Rattle.ga_source.specs.Sound.{cell_at, cells_from, cell_of, AreFree, IsMemoryAddress}
+use Rattle.ga_source.specs.Sound.{cell_at, cells_from, cell_of, AreDistinctCells, IsMemoryAddress}
 use Rattle.ga_source.specs.kept.Layout.{IsClosed}
 use Rattle.ga_source.specs.kept.Packing.{requests_of, IsPlainRequest, ArePlain, address_after, IsCellGroup, AreCellGroups, IsPackedPlain, AreOpen, AreWords}
 
@@ -127,7 +127,7 @@ same_length [] (group ∷ groups) are = absurd are
 same_length (cell ∷ cells) [] are = absurd are
 
 -- one group more is loaded
-pub open_more : (given now : List (Option ℕ)) (cells : List (ℕ × ℕ)) (groups : List Group) (i : ℕ) (group : Group) → AreCellGroups cells groups → AreFree cells → i < length groups → group ≡ slice_index_or groups i group
+pub open_more : (given now : List (Option ℕ)) (cells : List (ℕ × ℕ)) (groups : List Group) (i : ℕ) (group : Group) → AreCellGroups cells groups → AreDistinctCells cells → i < length groups → group ≡ slice_index_or groups i group
     → ((cell : ℕ × ℕ) (k : ℕ) → IsCellGroup cell group → k ≢ cell.0 % 512 → slice_index_or now k None ≡ slice_index_or given k None) → AreOpen given cells i → AreOpen now cells (i + 1)
 open_more given now cells groups i group are free within is stays before = λ k from small.
     let here : IsCellGroup (cell_of cells i) group = subst (IsCellGroup (cell_of cells i)) (sym is) (group_at cells groups i group are within) in
@@ -145,7 +145,7 @@ all_open given cells is = λ k from small.
     ap (λ (list : List (Option ℕ)). slice_index_or list ((cell_of cells k).0 % 512) None) is ∙ none_there ((cell_of cells k).0 % 512) None
 
 -- no cell is given twice
-pub never_twice : (given : List (Option ℕ)) (cells : List (ℕ × ℕ)) (groups : List Group) (i : ℕ) (group : Group) → AreCellGroups cells groups → AreWords cells → AreFree cells → i < length groups → group ≡ slice_index_or groups i group → length given ≡ 192
+pub never_twice : (given : List (Option ℕ)) (cells : List (ℕ × ℕ)) (groups : List Group) (i : ℕ) (group : Group) → AreCellGroups cells groups → AreWords cells → AreDistinctCells cells → i < length groups → group ≡ slice_index_or groups i group → length given ≡ 192
     → ((cell : ℕ × ℕ) → IsCellGroup cell group → cell.1 < 2 ^ 18 → IsMemoryAddress cell.0 → length given ≡ 192 → slice_index_or given (cell.0 % 512) None ≢ None) → AreOpen given cells i → ⊥
 never_twice given cells groups i group are words free within is size refused before =
     let here : IsCellGroup (cell_of cells i) group = subst (IsCellGroup (cell_of cells i)) (sym is) (group_at cells groups i group are within) in

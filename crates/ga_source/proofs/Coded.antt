@@ -10,9 +10,9 @@ use Rattle.ga_slots.specs.declared.op.Op.TheVariants.{Nop}
 use Rattle.std.specs.Prelude.{IfSome}
 use Rattle.ga_source.specs.declared.item.Item.{Item}
 use Rattle.ga_source.specs.declared.item.Item.TheVariants.{Opcode, Literal, Back, Ahead, Cell}
-use Rattle.ga_source.specs.declared.item.Value.TheVariants.{Label}
+use Rattle.ga_source.specs.declared.item.Operand.TheVariants.{Label}
 use Rattle.ga_source.specs.declared.spot.Spot.{Spot}
-use Rattle.ga_source.specs.Reading.{begin_at, behind, resolved, is_same, reaches, fits, ends_cell}
+use Rattle.ga_source.specs.Reading.{begin_at, behind, resolved, are_both, reaches, fits, ends_cell}
 use Rattle.ga_source.specs.kept.Words.{op_in, nothing}
 use Rattle.ga_source.specs.kept.Layout.{behind_all, spot_in, IsFit}
 use Rattle.ga_source.specs.kept.Loading.{Leads, HasItem, MayEnd, IsWordOf}
@@ -76,11 +76,11 @@ word_has labels address items first found some fit ops dots has before same = re
 
 -- a word whose jump leads where its address is reached
 pub leads_by : (labels : List (Option ℕ)) (word slot label address : ℕ) → resolved labels (Label label) ≡ Some address → ((p : ℕ) → reaches p slot (Some address) ≡ true → target p word slot ≡ address) → Leads labels word slot label
-leads_by labels word slot label address e leads p h = subst (λ (to : Option ℕ). is_same to (Some (target p word slot)) ≡ true) (sym e)
+leads_by labels word slot label address e leads p h = subst (λ (to : Option ℕ). are_both to (Some (target p word slot)) ≡ true) (sym e)
     (eq-eqb address (target p word slot) (sym (leads p (subst (λ (to : Option ℕ). reaches p slot to ≡ true) e h))))
 
-pub same_value : (found : Option ℕ) (word : ℕ) → found ≡ Some word → is_same found (Some word) ≡ true
-same_value found word e = subst (λ (to : Option ℕ). is_same to (Some word) ≡ true) (sym e) (eq-eqb word word refl)
+pub same_value : (found : Option ℕ) (word : ℕ) → found ≡ Some word → are_both found (Some word) ≡ true
+same_value found word e = subst (λ (to : Option ℕ). are_both to (Some word) ≡ true) (sym e) (eq-eqb word word refl)
 
 -- a jump that is put into its slot
 pub jump_item : (labels : List (Option ℕ)) (result : Option ℕ) (word slot label : ℕ) (op : Op) (last item : Item) → last ≡ item → op_in item ≡ op → ((found : ℕ) → opcode found slot ≡ op → Leads labels found slot label → HasItem labels found slot item) → IfSome result (λ found. Leads labels found slot label) → IfSome result (λ found. (k : ℕ) → k ≤ slot → opcode found k ≡ opcode word k) → IfSome result (λ found. opcode word slot ≡ op_in last → HasItem labels found slot last)

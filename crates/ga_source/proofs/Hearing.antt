@@ -5,7 +5,7 @@ use Rattle.std.proofs.lemmas.Bool.{cond-true, cond-false, cases_Bool}
 use Rattle.std.proofs.lemmas.Slice.Eq.{bytes_eq-Decides}
 use Rattle.ga_source.specs.declared.number.Number.{Number as NumberIn}
 use Rattle.ga_source.specs.declared.number.Number.TheVariants.{Of, OutOfRange, Nothing as NoNumber}
-use Rattle.ga_source.specs.declared.item.Value.TheVariants.{Number}
+use Rattle.ga_source.specs.declared.item.Operand.TheVariants.{Number}
 use Rattle.ga_source.specs.declared.item.Item.TheVariants.{Cell}
 use Rattle.ga_source.specs.declared.vocabulary.Directive.{Directive}
 use Rattle.ga_source.specs.declared.vocabulary.Directive.TheVariants.{Address as GoesOn, Register as Gives}
@@ -16,8 +16,8 @@ use Rattle.ga_source.specs.declared.draft.Expect.TheVariants.{Word, Address, Nam
 use Rattle.ga_source.specs.Reading.{carried}
 use Rattle.ga_ports.specs.Steps.{◌>>=◌}
 use Rattle.ga_ports.specs.Letters.{set_number}
-use Rattle.ga_source.specs.Numbers.{by_name, number_in}
-use Rattle.ga_source.specs.Plain.{Plain, with_words, with_request, by_number, only_if, is_cell, plain_from}
+use Rattle.ga_source.specs.Numbers.{by_name, number_by_word}
+use Rattle.ga_source.specs.Plain.{Plain, with_two_words, with_request, by_number, only_if, is_cell, plain_from}
 use Rattle.ga_source.specs.Vocabulary.{directives}
 use Rattle.ga_source.specs.kept.Hearing.{Heard, end_of, may_give, next_of, hear, hear_all}
 
@@ -62,7 +62,7 @@ no_number : {n : ℕ} → NoNumber ≡ Of n → ⊥
 no_number e = subst is_of e tt
 
 -- a word with an apostrophe in front says no number
-label_no_number : (name : List ℕ) → number_in (39 ∷ name) ≡ NoNumber
+label_no_number : (name : List ℕ) → number_by_word (39 ∷ name) ≡ NoNumber
 unfolding set_number
 label_no_number [] = refl
 label_no_number (a ∷ []) = refl
@@ -70,9 +70,9 @@ label_no_number (a ∷ b ∷ []) = refl
 label_no_number (a ∷ b ∷ c ∷ []) = refl
 label_no_number (a ∷ b ∷ c ∷ d ∷ name) = refl
 
-pub no_label : (text : List ℕ) (n : ℕ) → get_or text 0 0 ≡ 39 → number_in text ≡ Of n → ⊥
+pub no_label : (text : List ℕ) (n : ℕ) → get_or text 0 0 ≡ 39 → number_by_word text ≡ Of n → ⊥
 no_label [] n first is = absurd (omega arith)
-no_label (b ∷ name) n first is = no_number (sym (label_no_number name) ∙ (ap (λ (c : ℕ). number_in (c ∷ name)) (sym first) ∙ is))
+no_label (b ∷ name) n first is = no_number (sym (label_no_number name) ∙ (ap (λ (c : ℕ). number_by_word (c ∷ name)) (sym first) ∙ is))
 
 -- what is done on `Ok`, of one number
 pub same_number : (n m : ℕ) (number : NumberIn) → Of n ≡ number → number ≡ Of m → n ≡ m
@@ -115,15 +115,15 @@ allowed_pair true plain heard read k all goes is = goes is
 allowed_pair false plain heard read k all goes is = absurd (no_some is)
 
 module _ (plain all : Plain) (first second : List ℕ) (words : List (List ℕ)) (again : (more : Plain) → plain_from more words ≡ Some all → hear_all (record { expect = Word; plain = more }) words ≡ Some all) where
-  comma_pair : bytes_eq second (codes ",") ≡ true → (with_words plain first second >>= (λ more. plain_from more words)) ≡ Some all → hear_all (record { expect = Word; plain = plain }) (first ∷ second ∷ words) ≡ Some all
+  comma_pair : bytes_eq second (codes ",") ≡ true → (with_two_words plain first second >>= (λ more. plain_from more words)) ≡ Some all → hear_all (record { expect = Word; plain = plain }) (first ∷ second ∷ words) ≡ Some all
   unfolding hear_all
   comma_pair comma is =
       ap (λ (o : Option Heard). o >>= (λ now. hear_all now (second ∷ words))) (cond-true (bytes_eq second (codes ",")) _ _ comma)
-      ∙ number_pair (number_in first) (λ n. Some (with_request plain (Put (Cell (Number n))))) (λ n. Some (record { expect = Nothing; plain = with_request plain (Put (Cell (Number n))) }))
+      ∙ number_pair (number_by_word first) (λ n. Some (with_request plain (Put (Cell (Number n))))) (λ n. Some (record { expect = Nothing; plain = with_request plain (Put (Cell (Number n))) }))
       (λ more. plain_from more words) (λ now. hear_all now (second ∷ words)) all (λ n. again (with_request plain (Put (Cell (Number n)))))
       (ap (λ (o : Option Plain). o >>= (λ more. plain_from more words)) (sym (cond-true (bytes_eq second (codes ",")) _ _ comma)) ∙ is)
 
-  directive_pair : (d : Directive) (e : Expect) (may : ℕ → Bool) (f : ℕ → Plain) → bytes_eq second (codes ",") ≡ false → by_name directives first ≡ Some d → next_of d ≡ Some e → ((n : ℕ) → hear (record { expect = e; plain = plain }) second (slice_index_or words 0 []) ≡ by_number (number_in second) (λ n. only_if (may n) (record { expect = Word; plain = f n }))) → (by_number (number_in second) (λ n. only_if (may n) (f n)) >>= (λ more. plain_from more words)) ≡ Some all → hear_all (record { expect = Word; plain = plain }) (first ∷ second ∷ words) ≡ Some all
+  directive_pair : (d : Directive) (e : Expect) (may : ℕ → Bool) (f : ℕ → Plain) → bytes_eq second (codes ",") ≡ false → by_name directives first ≡ Some d → next_of d ≡ Some e → ((n : ℕ) → hear (record { expect = e; plain = plain }) second (slice_index_or words 0 []) ≡ by_number (number_by_word second) (λ n. only_if (may n) (record { expect = Word; plain = f n }))) → (by_number (number_by_word second) (λ n. only_if (may n) (f n)) >>= (λ more. plain_from more words)) ≡ Some all → hear_all (record { expect = Word; plain = plain }) (first ∷ second ∷ words) ≡ Some all
   unfolding hear_all
   directive_pair d e may f no_comma named next hears is =
       ap (λ (o : Option Heard). o >>= (λ now. hear_all now (second ∷ words)))
@@ -131,10 +131,10 @@ module _ (plain all : Plain) (first second : List ℕ) (words : List (List ℕ))
       ∙ (ap (λ (o : Option Directive). (o >>= next_of) >>= (λ x. Some (record { expect = x; plain = plain }))) named
       ∙ ap (λ (o : Option Expect). o >>= (λ x. Some (record { expect = x; plain = plain }))) next))
       ∙ (ap (λ (o : Option Heard). o >>= (λ now. hear_all now words)) (hears 0)
-      ∙ number_pair (number_in second) (λ n. only_if (may n) (f n)) (λ n. only_if (may n) (record { expect = Word; plain = f n })) (λ more. plain_from more words) (λ now. hear_all now words) all
+      ∙ number_pair (number_by_word second) (λ n. only_if (may n) (f n)) (λ n. only_if (may n) (record { expect = Word; plain = f n })) (λ more. plain_from more words) (λ now. hear_all now words) all
       (λ n. allowed_pair (may n) (f n) (record { expect = Word; plain = f n }) (λ more. plain_from more words) (λ now. hear_all now words) all (again (f n))) is)
 
-  pub pair : (with_words plain first second >>= (λ more. plain_from more words)) ≡ Some all → hear_all (record { expect = Word; plain = plain }) (first ∷ second ∷ words) ≡ Some all
+  pub pair : (with_two_words plain first second >>= (λ more. plain_from more words)) ≡ Some all → hear_all (record { expect = Word; plain = plain }) (first ∷ second ∷ words) ≡ Some all
   pair is = elim (cases_Bool (bytes_eq second (codes ","))) [
     | inl comma ↦ comma_pair comma is
     | inr other ↦ elim (cases_Bool (bytes_eq first (codes "org"))) [

@@ -14,9 +14,9 @@ use Rattle.ga_node.specs.Record.{NodeState}
 use Rattle.ga_source.specs.declared.item.Item.{Item}
 use Rattle.ga_source.specs.declared.item.Item.TheVariants.{Opcode, Literal, Back, Ahead, Cell}
 use Rattle.ga_source.specs.declared.item.Group.{Group}
-use Rattle.ga_source.specs.declared.item.Value.TheVariants.{Label}
+use Rattle.ga_source.specs.declared.item.Operand.TheVariants.{Label}
 use Rattle.ga_source.specs.declared.spot.Spot.{Spot}
-use Rattle.ga_source.specs.Reading.{begin_at, behind, resolved, is_same, word_in, has_op, leads, stands, is_filled, ends_cell}
+use Rattle.ga_source.specs.Reading.{begin_at, behind, resolved, are_both, word_in, has_op, leads, item_stands, is_filled, ends_cell}
 use Rattle.ga_source.specs.Cells.{is_at, takes, KeepsElsewhere}
 use Rattle.ga_source.specs.kept.Words.{nothing}
 use Rattle.ga_source.specs.kept.Layout.{behind_all, Stand, taken, spot_in, IsFit, IsRead, takes_group, are_taken}
@@ -34,20 +34,20 @@ dots word slot = (nat_lt 1 slot || has_op word 1 Nop) && (nat_lt 2 slot || has_o
 has_op_by : (word slot : ℕ) (op : Op) → slot < 4 → opcode word slot ≡ op → has_op (Some word) slot op ≡ true
 has_op_by word slot op l e = and_from (nat_lt slot 4) (code_of (opcode word slot) == code_of op) (lt-ltb slot 4 l) (eq-eqb (code_of (opcode word slot)) (code_of op) (ap code_of e))
 
-stands_in : (node : NodeState) (labels : List (Option ℕ)) (word : ℕ) (spot : Spot) (item : Item) → spot.slot < 4 → MayEnd spot.slot item → HasItem labels word spot.slot item → HasRest node labels spot item → (found : Option ℕ) → found ≡ Some word → word_in node spot.at ≡ found → stands node labels spot item ≡ true
+stands_in : (node : NodeState) (labels : List (Option ℕ)) (word : ℕ) (spot : Spot) (item : Item) → spot.slot < 4 → MayEnd spot.slot item → HasItem labels word spot.slot item → HasRest node labels spot item → (found : Option ℕ) → found ≡ Some word → word_in node spot.at ≡ found → item_stands node labels spot item ≡ true
 stands_in node labels word spot (Opcode op) l may has rest found e at = subst (λ (w : Option ℕ). has_op w spot.slot op ≡ true) (sym (at ∙ e)) (has_op_by word spot.slot op l has)
-stands_in node labels word spot (Literal value) l may has rest found e at = and_from (has_op (word_in node spot.at) spot.slot FetchP) (is_same (resolved labels value) (word_in node spot.p))
+stands_in node labels word spot (Literal value) l may has rest found e at = and_from (has_op (word_in node spot.at) spot.slot FetchP) (are_both (resolved labels value) (word_in node spot.p))
     (subst (λ (w : Option ℕ). has_op w spot.slot FetchP ≡ true) (sym (at ∙ e)) (has_op_by word spot.slot FetchP l has)) rest
 stands_in node labels word spot (Back op label) l may has rest found e at = and_from (has_op (word_in node spot.at) spot.slot op) (leads (word_in node spot.at) spot.slot spot.p (resolved labels (Label label)))
     (subst (λ (w : Option ℕ). has_op w spot.slot op ≡ true) (sym (at ∙ e)) (has_op_by word spot.slot op l has.0))
     (subst (λ (w : Option ℕ). leads w spot.slot spot.p (resolved labels (Label label)) ≡ true) (sym (at ∙ e))
-    (and_from (nat_lt spot.slot 3) (is_same (resolved labels (Label label)) (Some (target spot.p word spot.slot))) (lt-ltb spot.slot 3 rest.0) (has.1 spot.p rest.1)))
+    (and_from (nat_lt spot.slot 3) (are_both (resolved labels (Label label)) (Some (target spot.p word spot.slot))) (lt-ltb spot.slot 3 rest.0) (has.1 spot.p rest.1)))
 stands_in node labels word spot (Ahead op label) l may has rest found e at = and_from (has_op (word_in node spot.at) spot.slot op) (leads (word_in node spot.at) spot.slot spot.p (resolved labels (Label label)))
     (subst (λ (w : Option ℕ). has_op w spot.slot op ≡ true) (sym (at ∙ e)) (has_op_by word spot.slot op l has.0))
     (subst (λ (w : Option ℕ). leads w spot.slot spot.p (resolved labels (Label label)) ≡ true) (sym (at ∙ e))
-    (and_from (nat_lt spot.slot 3) (is_same (resolved labels (Label label)) (Some (target spot.p word spot.slot))) (lt-ltb spot.slot 3 rest.0) (has.1 spot.p rest.1)))
-stands_in node labels word spot (Cell value) l may has rest found e at = and_from (spot.slot == 0) (is_same (resolved labels value) (word_in node spot.at)) (eq-eqb spot.slot 0 may)
-    (subst (λ (w : Option ℕ). is_same (resolved labels value) w ≡ true) (sym (at ∙ e)) has)
+    (and_from (nat_lt spot.slot 3) (are_both (resolved labels (Label label)) (Some (target spot.p word spot.slot))) (lt-ltb spot.slot 3 rest.0) (has.1 spot.p rest.1)))
+stands_in node labels word spot (Cell value) l may has rest found e at = and_from (spot.slot == 0) (are_both (resolved labels value) (word_in node spot.at)) (eq-eqb spot.slot 0 may)
+    (subst (λ (w : Option ℕ). are_both (resolved labels value) w ≡ true) (sym (at ∙ e)) has)
 
 -- ---- what stays
 
@@ -88,14 +88,14 @@ end_held given spot (item ∷ rest) at held = end_held given (behind spot item) 
     (λ cell e. held cell (or_right (takes spot item cell) (taken (behind spot item) rest cell) e))
 
 module _ (before after : NodeState) (given later : List (Option ℕ)) (keeps : Keeps before given after later) where
-  stands_stays : (labels : List (Option ℕ)) (spot : Spot) (item : Item) → Holds given (spot.at % 512) → HoldsRest given spot item → stands after labels spot item ≡ stands before labels spot item
+  stands_stays : (labels : List (Option ℕ)) (spot : Spot) (item : Item) → Holds given (spot.at % 512) → HoldsRest given spot item → item_stands after labels spot item ≡ item_stands before labels spot item
   stands_stays labels spot (Opcode op) at rest = ap (λ (w : Option ℕ). has_op w spot.slot op) ((keeps spot.at at).0)
   stands_stays labels spot (Literal value) at rest =
-      ap (λ (w : Option ℕ). has_op w spot.slot FetchP && is_same (resolved labels value) (word_in after spot.p)) ((keeps spot.at at).0)
-      ∙ ap (λ (w : Option ℕ). has_op (word_in before spot.at) spot.slot FetchP && is_same (resolved labels value) w) ((keeps spot.p rest).0)
+      ap (λ (w : Option ℕ). has_op w spot.slot FetchP && are_both (resolved labels value) (word_in after spot.p)) ((keeps spot.at at).0)
+      ∙ ap (λ (w : Option ℕ). has_op (word_in before spot.at) spot.slot FetchP && are_both (resolved labels value) w) ((keeps spot.p rest).0)
   stands_stays labels spot (Back op label) at rest = ap (λ (w : Option ℕ). has_op w spot.slot op && leads w spot.slot spot.p (resolved labels (Label label))) ((keeps spot.at at).0)
   stands_stays labels spot (Ahead op label) at rest = ap (λ (w : Option ℕ). has_op w spot.slot op && leads w spot.slot spot.p (resolved labels (Label label))) ((keeps spot.at at).0)
-  stands_stays labels spot (Cell value) at rest = ap (λ (w : Option ℕ). spot.slot == 0 && is_same (resolved labels value) w) ((keeps spot.at at).0)
+  stands_stays labels spot (Cell value) at rest = ap (λ (w : Option ℕ). spot.slot == 0 && are_both (resolved labels value) w) ((keeps spot.at at).0)
 
   pub Stand_stays : (labels : List (Option ℕ)) (spot : Spot) (items : List Item) → ((cell : ℕ) → taken spot items cell ≡ true → Holds given cell) → Stand before labels spot items → Stand after labels spot items
   unfolding Stand taken

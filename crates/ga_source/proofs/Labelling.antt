@@ -5,15 +5,15 @@ use Rattle.std.specs.HashMap.{HashMap, get_by, UpdatesBy}
 use Rattle.std.specs.Map.{lookup}
 use denote.Ref.{Bor}
 use Rattle.std.proofs.lemmas.Bool.{cond-true, cond-false, cases_Bool}
-use Rattle.std.proofs.lemmas.Slice.Eq.{bytes_eq-Decides}
 use Rattle.std.proofs.lemmas.List.{map-set, map-append, length-map, get_or-map}
 use Rattle.std.proofs.Math.Seq.{drop-cons}
 use Rattle.std.proofs.lemmas.Map.Text.{hash_map_updates_str}
 use Rattle.ga_source.specs.Saying.{has_bytes}
 use Rattle.ga_source.specs.declared.labels.Label.{Label}
-use Rattle.ga_source.specs.Asking.{Mention, mention_of, named_before, number_of, label_at, with_mark, Asking, all_placed}
+use Rattle.ga_source.specs.Asking.{Mention, mention_of, named_before, label_number, label_at, with_mark, Asking, all_placed}
 use Rattle.ga_source.specs.Asking.Wrong.{Unknown}
 use Rattle.ga_source.specs.kept.Names.{AreNames}
+use Rattle.ga_source.proofs.Hearing.{same_text as same_bytes}
 
 abbrev more : Option ℕ → Option ℕ
 more o = option_map (λ k. k + 1) o
@@ -80,9 +80,6 @@ names_nameless names labels label none are = λ name has.
 pub names_set : {S : Type 0} (names : HashMap (Bor (List ℕ)) ℕ S) (labels : List Mention) (k : ℕ) (label : Mention) → label.name ≡ (label_at labels k).name → AreNames names labels → AreNames names (set labels k label)
 names_set names labels k label e are = λ name has. are name has ∙ sym (set_same labels k label name e)
 
-same_bytes : (a b : List ℕ) → bytes_eq a b ≡ true → a ≡ b
-same_bytes a b same = (bytes_eq-Decides a b).0 same
-
 -- with a new name
 pub names_named : {S : Type 0} (names after : HashMap (Bor (List ℕ)) ℕ S) (labels : List Mention) (label : Mention) (n : ℕ) → UpdatesBy (λ x y. bytes_eq x.now y.now) (λ k. bytes_eq label.name k.now) names after (Some n) → n ≡ length labels → named_before labels label.name ≡ None → AreNames names labels → AreNames after (labels ++ label ∷ [])
 names_named names after labels label n updates last none are = λ name has.
@@ -103,10 +100,10 @@ pub found_name : {S : Type 0} (names : HashMap (Bor (List ℕ)) ℕ S) (labels n
 found_name names labels now [] are e some = absurd (some refl)
 found_name names labels now (b ∷ name) are e some = are (b ∷ name) refl ∙ ap (λ (l : List Mention). named_before l (b ∷ name)) e
 
-pub number_found : (labels : List Mention) (name : List ℕ) (n : ℕ) → named_before labels name ≡ Some n → n ≡ number_of labels name
+pub number_found : (labels : List Mention) (name : List ℕ) (n : ℕ) → named_before labels name ≡ Some n → n ≡ label_number labels name
 number_found labels name n e = rw e refl
 
-pub number_new : (labels : List Mention) (name : List ℕ) (n : ℕ) → named_before labels name ≡ None → n ≡ length labels → n ≡ number_of labels name
+pub number_new : (labels : List Mention) (name : List ℕ) (n : ℕ) → named_before labels name ≡ None → n ≡ length labels → n ≡ label_number labels name
 number_new labels name n e same = rw e same
 
 -- ---- the same of the code's own list

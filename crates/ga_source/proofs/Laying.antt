@@ -7,7 +7,7 @@ use Rattle.ga_source.specs.declared.item.Item.{Item}
 use Rattle.ga_source.specs.declared.item.Item.TheVariants.{Opcode, Literal, Back, Ahead, Cell}
 use Rattle.ga_source.specs.declared.item.Asked.{Asked}
 use Rattle.ga_source.specs.declared.spot.Spot.{Spot}
-use Rattle.ga_source.specs.Reading.{begin_at, next_cell, behind, ends_cell, p_behind, moves_p, stands, is_filled, fits, spot_of, reaches, is_met, after_request, follows}
+use Rattle.ga_source.specs.Reading.{begin_at, next_cell, behind, ends_cell, p_behind, moves_p, item_stands, is_filled, fits, spot_of, reaches, is_met, after_request, follows}
 use Rattle.ga_source.specs.Cells.{takes, asks_for, is_asked}
 use Rattle.ga_source.specs.kept.Layout.{behind_all, Stand, taken, IsReadAt, IsFit, after_all, AreMet, Extends, IsKnown}
 
@@ -18,13 +18,13 @@ unfolding behind_all
 behind_all-push spot [] item = refl
 behind_all-push spot (first ∷ rest) item = behind_all-push (behind spot first) rest item
 
-pub Stand-pop : (node : NodeState) (labels : List (Option ℕ)) (spot : Spot) (items : List Item) (item : Item) → Stand node labels spot (items ++ item ∷ []) → Stand node labels spot items × (stands node labels (behind_all spot items) item ≡ true)
+pub Stand-pop : (node : NodeState) (labels : List (Option ℕ)) (spot : Spot) (items : List Item) (item : Item) → Stand node labels spot (items ++ item ∷ []) → Stand node labels spot items × (item_stands node labels (behind_all spot items) item ≡ true)
 unfolding Stand behind_all
 Stand-pop node labels spot [] item h = (tt, h.0)
 Stand-pop node labels spot (first ∷ rest) item h =
     let parts = Stand-pop node labels (behind spot first) rest item h.1 in ((h.0, parts.0), parts.1)
 
-pub Stand-push : (node : NodeState) (labels : List (Option ℕ)) (spot : Spot) (items : List Item) (item : Item) → Stand node labels spot items → stands node labels (behind_all spot items) item ≡ true → Stand node labels spot (items ++ item ∷ [])
+pub Stand-push : (node : NodeState) (labels : List (Option ℕ)) (spot : Spot) (items : List Item) (item : Item) → Stand node labels spot items → item_stands node labels (behind_all spot items) item ≡ true → Stand node labels spot (items ++ item ∷ [])
 unfolding Stand behind_all
 Stand-push node labels spot [] item h last = (last, tt)
 Stand-push node labels spot (first ∷ rest) item h last = (h.0, Stand-push node labels (behind spot first) rest item h.1 last)

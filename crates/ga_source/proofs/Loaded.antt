@@ -10,6 +10,7 @@ use Rattle.ga_source.specs.declared.item.Program.{Program}
 use Rattle.std.proofs.lemmas.Bool.{cases_eq}
 use Rattle.ga_source.specs.Programs.{given_of, value_or, has_cells, at_load, KeepsState, HasProgram, IsLoaded, IsUnnamed}
 use Rattle.ga_source.specs.kept.Programs.{HasBegun, AreLoaded}
+use Rattle.ga_grid.proofs.Chips.{node_at-with_node_other as stays}
 
 -- a program marked as begun stands in another node than one that isn't
 apart : (begun : List Bool) (n : ℕ) (program : Program) → slice_index_or begun n false ≡ false → HasBegun begun program → program.node.number ≢ n
@@ -18,10 +19,6 @@ apart begun n program fresh h = λ e. let two = ap (λ k. slice_index_or begun k
 -- its mark stays where another node begins
 stays_marked : (begun : List Bool) (n : ℕ) (program : Program) → slice_index_or begun n false ≡ false → HasBegun begun program → HasBegun (set begun n true) program
 stays_marked begun n program fresh h = get_or-set_other begun n program.node.number true false (apart begun n program fresh h) ∙ h
-
--- a node stays where another changes
-stays : (chip : List NodeState) (n k : ℕ) (node : NodeState) → k ≢ n → node_at (with_node chip n node) k ≡ node_at chip k
-stays chip n k node other = get_or-set_other chip n k node nowhere other
 
 -- a program stays loaded where another node changes
 stays_loaded : (chip : List NodeState) (n : ℕ) (node : NodeState) (program : Program) → program.node.number ≢ n → IsLoaded chip program → IsLoaded (with_node chip n node) program

@@ -7,14 +7,14 @@ use Rattle.ga_ports.specs.declared.address.Target.{Target}
 use Rattle.ga_ports.specs.declared.address.Target.TheVariants.{Ram, Rom, Io, Ports, Bad}
 use Rattle.ga_ports.specs.Address.{classified, advanced}
 use Rattle.ga_node.specs.Record.{NodeState}
-use Rattle.ga_source.specs.declared.item.Value.TheVariants.{Number}
+use Rattle.ga_source.specs.declared.item.Operand.TheVariants.{Number}
 use Rattle.ga_source.specs.declared.item.Item.TheVariants.{Cell}
 use Rattle.ga_source.specs.declared.item.Request.{Request}
 use Rattle.ga_source.specs.declared.item.Request.TheVariants.{Put, Go}
 use Rattle.ga_source.specs.declared.item.Asked.{Asked}
-use Rattle.ga_source.specs.Reading.{begin_at, is_same, word_of, is_met, after_request, follows}
+use Rattle.ga_source.specs.Reading.{begin_at, are_both, word_of_target, is_met, after_request, follows}
 use Rattle.ga_source.specs.Cells.{is_at, asks_for, is_asked}
-use Rattle.ga_source.specs.Made.{with_cell, with_asked, address_behind, written}
+use Rattle.ga_source.specs.Made.{with_cell, with_asked, address_behind, with_requests}
 use Rattle.ga_source.specs.kept.Packing.{requests_of, IsPlainRequest, ArePlain}
 use Rattle.ga_source.proofs.Written.{in_ram, in_rom}
 
@@ -37,11 +37,11 @@ is_ram (Ram k) = true
 is_ram _ = false
 
 -- the number that is there
-same_number : (n m : ℕ) → is_same (Some n) (Some m) ≡ true → m ≡ n
+same_number : (n m : ℕ) → are_both (Some n) (Some m) ≡ true → m ≡ n
 same_number n m is = sym (eqb-true n m is)
 
 module _ (before after : NodeState) (at n k : ℕ) (small : k < 64) where
-  pub ram_written : (t : Target) → classified at ≡ t → is_same (Some n) (word_of after t) ≡ true → length before.ram ≡ 64 → (is_at at k ≡ false → slice_index after.ram k ≡ slice_index before.ram k) → slice_index after.ram k ≡ slice_index (with_cell before t n).ram k
+  pub ram_written : (t : Target) → classified at ≡ t → are_both (Some n) (word_of_target after t) ≡ true → length before.ram ≡ 64 → (is_at at k ≡ false → slice_index after.ram k ≡ slice_index before.ram k) → slice_index after.ram k ≡ slice_index (with_cell before t n).ram k
   ram_written (Ram j) is here size stays = elim (cases_eq k j) [
     | inl e ↦
         let there : slice_index after.ram j ≡ n = same_number n (slice_index after.ram j) here in
@@ -60,7 +60,7 @@ module _ (before after : NodeState) (at n k : ℕ) (small : k < 64) where
   ram_written (Ports s) is here size stays = absurd (both_ways false refl here)
   ram_written Bad is here size stays = absurd (both_ways false refl here)
 
-  pub rom_written : (t : Target) → classified at ≡ t → is_same (Some n) (word_of after t) ≡ true → length before.rom ≡ 64 → (is_at at (128 + k) ≡ false → slice_index after.rom k ≡ slice_index before.rom k) → slice_index after.rom k ≡ slice_index (with_cell before t n).rom k
+  pub rom_written : (t : Target) → classified at ≡ t → are_both (Some n) (word_of_target after t) ≡ true → length before.rom ≡ 64 → (is_at at (128 + k) ≡ false → slice_index after.rom k ≡ slice_index before.rom k) → slice_index after.rom k ≡ slice_index (with_cell before t n).rom k
   rom_written (Rom j) is here size stays = elim (cases_eq k j) [
     | inl e ↦
         let there : slice_index after.rom j ≡ n = same_number n (slice_index after.rom j) here in
@@ -118,11 +118,11 @@ pub record Stays (is_named : ℕ → Bool) (before after : NodeState) : Type 0 w
 module _ (labels : List (Option ℕ)) (after : NodeState) where
   -- requests that were read make the node from any before it
   abbrev pub Makes : List Asked → Type 0
-  Makes asked = (before : NodeState) (at : ℕ) → follows after labels (begin_at at) asked ≡ true → Stays (is_asked labels (begin_at at) asked) before after → AreCells (written before at (requests_of asked)) after
+  Makes asked = (before : NodeState) (at : ℕ) → follows after labels (begin_at at) asked ≡ true → Stays (is_asked labels (begin_at at) asked) before after → AreCells (with_requests before at (requests_of asked)) after
 
-  cell_made : (n at : ℕ) (rest : List Asked) → (is_same (Some n) (word_of after (classified at)) && follows after labels (begin_at (advanced at)) rest) ≡ true → (before : NodeState) → Stays (λ k. is_at at k || is_asked labels (begin_at (advanced at)) rest k) before after → Makes rest → AreCells (written (with_cell before (classified at) n) (advanced at) (requests_of rest)) after
+  cell_made : (n at : ℕ) (rest : List Asked) → (are_both (Some n) (word_of_target after (classified at)) && follows after labels (begin_at (advanced at)) rest) ≡ true → (before : NodeState) → Stays (λ k. is_at at k || is_asked labels (begin_at (advanced at)) rest k) before after → Makes rest → AreCells (with_requests (with_cell before (classified at) n) (advanced at) (requests_of rest)) after
   cell_made n at rest read before stays makes =
-      let parts = and_parts (is_same (Some n) (word_of after (classified at))) (follows after labels (begin_at (advanced at)) rest) read in
+      let parts = and_parts (are_both (Some n) (word_of_target after (classified at))) (follows after labels (begin_at (advanced at)) rest) read in
       makes (with_cell before (classified at) n) (advanced at) parts.1 (record {
         ram_size = with_cell_ram before (classified at) n ∙ stays.ram_size;
         rom_size = with_cell_rom before (classified at) n ∙ stays.rom_size;
@@ -130,12 +130,12 @@ module _ (labels : List (Option ℕ)) (after : NodeState) where
         rom = λ k small none. rom_written before after at n k small (classified at) refl parts.0 stays.rom_size (λ other. stays.rom k small (or_none (is_at at (128 + k)) (is_asked labels (begin_at (advanced at)) rest (128 + k)) other none));
       })
 
-  request_made : (request : Request) (rest : List Asked) (at : ℕ) → IsPlainRequest request → (is_met after labels (begin_at at) request && follows after labels (after_request labels (begin_at at) request) rest) ≡ true → (before : NodeState) → Stays (λ k. asks_for labels (begin_at at) request k || is_asked labels (after_request labels (begin_at at) request) rest k) before after → Makes rest → AreCells (written (with_asked before at request) (address_behind at request) (requests_of rest)) after
+  request_made : (request : Request) (rest : List Asked) (at : ℕ) → IsPlainRequest request → (is_met after labels (begin_at at) request && follows after labels (after_request labels (begin_at at) request) rest) ≡ true → (before : NodeState) → Stays (λ k. asks_for labels (begin_at at) request k || is_asked labels (after_request labels (begin_at at) request) rest k) before after → Makes rest → AreCells (with_requests (with_asked before at request) (address_behind at request) (requests_of rest)) after
   request_made (Put (Cell (Number n))) rest at plain read before stays makes = cell_made n at rest read before stays makes
   request_made (Go address) rest at plain read before stays makes = makes before address read stays
   request_made _ rest at plain read before stays makes = absurd plain
 
   pub requests_made : (asked : List Asked) → ArePlain (requests_of asked) → Makes asked
-  unfolding ArePlain follows is_asked written
+  unfolding ArePlain follows is_asked with_requests
   requests_made [] plain before at read stays = record { ram = λ k small. stays.ram k small refl; rom = λ k small. stays.rom k small refl }
   requests_made (one ∷ rest) plain before at read stays = request_made one.request rest at plain.0 read before stays (requests_made rest plain.1)

@@ -12,11 +12,11 @@ use Rattle.ga_source.specs.declared.item.Asked.{Asked}
 use Rattle.ga_source.specs.declared.item.Group.{Group}
 use Rattle.ga_source.specs.declared.item.Request.{Request}
 use Rattle.ga_source.specs.declared.item.Request.TheVariants.{Put, Unext, Mark, Fill, Go, Carry}
-use Rattle.ga_source.specs.declared.item.Value.TheVariants.{Label as LabelOf}
+use Rattle.ga_source.specs.declared.item.Operand.TheVariants.{Label as LabelOf}
 use Rattle.ga_source.specs.declared.packing.Packed.{Packed}
 use Rattle.ga_source.specs.declared.packing.Packer.{Packer}
 use Rattle.ga_source.specs.declared.spot.Spot.{Spot}
-use Rattle.ga_source.specs.Reading.{begin_at, next_cell, behind, resolved, is_same, stands, is_filled, fits, is_met, after_request}
+use Rattle.ga_source.specs.Reading.{begin_at, next_cell, behind, resolved, are_both, item_stands, is_filled, fits, is_met, after_request}
 use Rattle.ga_source.specs.Cells.{takes}
 use Rattle.ga_source.specs.kept.Layout.{behind_all, Stand, taken, IsFit, IsRead, IsFitGroup, are_taken, after_all, AreMet, Extends, IsInCell, IsWalked, IsPending, IsClosed, IsFilling, IsLaidOut}
 use Rattle.ga_source.proofs.Laying.{empty_fits, is_asked-before, follows-met, None≢Some}
@@ -28,8 +28,8 @@ use Rattle.ga_source.proofs.Walking.{named_more, met_more, walk_more, begun, non
 unext_fits : (labels : List (Option ℕ)) (spot : Spot) → fits labels spot (Opcode UnextOp) ≡ true
 unext_fits labels spot = or_right (nat_lt spot.slot 3) true refl
 
-known_label : (labels : List (Option ℕ)) (label address : ℕ) → slice_index_or labels label None ≡ Some address → is_same (resolved labels (LabelOf label)) (Some address) ≡ true
-known_label labels label address e = subst (λ (found : Option ℕ). is_same found (Some address) ≡ true) (sym e) (eq-eqb address address refl)
+known_label : (labels : List (Option ℕ)) (label address : ℕ) → slice_index_or labels label None ≡ Some address → are_both (resolved labels (LabelOf label)) (Some address) ≡ true
+known_label labels label address e = subst (λ (found : Option ℕ). are_both found (Some address) ≡ true) (sym e) (eq-eqb address address refl)
 
 pub pending_unext : (p q : Packer) (before : List Asked) (line label : ℕ) → (q.broken ≡ None → (p.broken ≡ None) × (slice_index_or p.labels.items label None ≡ Some p.spot.at)) → q.filling.items ≡ p.filling.items → q.spot ≡ p.spot → q.groups.items ≡ p.groups.items → q.labels.items ≡ p.labels.items → IsWalked p before → IsPending q (before ++ record { line = line; request = Unext label } ∷ []) (Opcode UnextOp)
 pending_unext p q before line label whole_by filling spot_is groups labels_are w =
@@ -44,8 +44,8 @@ pending_unext p q before line label whole_by filling spot_is groups labels_are w
           let facts = whole_by whole in
           met_more node labels p.spot before one (w.walk labels (more labels e))
           (w.met node labels (more labels e) (subst (All (IsRead node labels)) groups read) facts.0 (subst (Stand node labels (begin_at p.spot.at)) filling (subst (λ (a : ℕ). Stand node labels (begin_at a) q.filling.items) at opened)))
-          (and_from (stands node labels p.spot (Opcode UnextOp)) (is_same (resolved labels (LabelOf label)) (Some p.spot.at))
-          (subst (λ (t : Spot). stands node labels t (Opcode UnextOp) ≡ true) spot_is last) (known_label labels label p.spot.at (more labels e label p.spot.at facts.1)));
+          (and_from (item_stands node labels p.spot (Opcode UnextOp)) (are_both (resolved labels (LabelOf label)) (Some p.spot.at))
+          (subst (λ (t : Spot). item_stands node labels t (Opcode UnextOp) ≡ true) spot_is last) (known_label labels label p.spot.at (more labels e label p.spot.at facts.1)));
       named = λ labels cell e h. elim h [
         | inl a ↦ is_asked-before labels (begin_at 0) before one cell (w.named labels cell (more labels e) (inl (subst (λ (g : List Group). are_taken g cell ≡ true) groups a)))
         | inr b ↦ elim b [
@@ -73,8 +73,8 @@ marked p q s before line label c w closed is_next small unknown r groups filling
     (subst (λ (known : List (Option ℕ)). Extends known labels_now) closed.labels_stay (label_extends q.labels.items label s.at unknown))
     (is_next ∙ (next_spot p before c w ∙ ap (λ (t : Spot). begin_at t.at) (sym is_next)))
     (λ labels. sym is_next)
-    (λ node labels more filled. and_from (is_filled node p.spot) (is_same (resolved labels (LabelOf label)) (Some (next_cell p.spot).at)) filled
-    (subst (λ (t : Spot). is_same (resolved labels (LabelOf label)) (Some t.at) ≡ true) is_next
+    (λ node labels more filled. and_from (is_filled node p.spot) (are_both (resolved labels (LabelOf label)) (Some (next_cell p.spot).at)) filled
+    (subst (λ (t : Spot). are_both (resolved labels (LabelOf label)) (Some t.at) ≡ true) is_next
     (known_label labels label s.at (more label s.at (get_or-set_same q.labels.items label (Some s.at) None small)))))
     r groups filling labels_are spot_is
 

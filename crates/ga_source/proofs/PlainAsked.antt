@@ -9,8 +9,8 @@ use Rattle.std.proofs.lemmas.Bool.Decides.{nat_tests}
 use Rattle.std.proofs.lemmas.Bool.{cond-true, cond-false, cases_Bool, true≢false}
 use Rattle.ga_source.specs.declared.number.Number.{Number as NumberIn}
 use Rattle.ga_source.specs.declared.number.Number.TheVariants.{Of}
-use Rattle.ga_source.specs.declared.item.Value.{Value}
-use Rattle.ga_source.specs.declared.item.Value.TheVariants.{Number}
+use Rattle.ga_source.specs.declared.item.Operand.{Operand}
+use Rattle.ga_source.specs.declared.item.Operand.TheVariants.{Number}
 use Rattle.ga_source.specs.declared.item.Item.TheVariants.{Cell}
 use Rattle.ga_source.specs.declared.item.Request.{Request}
 use Rattle.ga_source.specs.declared.item.Request.TheVariants.{Put, Go}
@@ -21,18 +21,18 @@ use Rattle.ga_source.specs.declared.vocabulary.Register.{Register as RegisterNam
 use Rattle.ga_source.specs.declared.vocabulary.Register.TheVariants.{P, A, B}
 use Rattle.ga_source.specs.declared.draft.Expect.{Expect}
 use Rattle.ga_source.specs.declared.draft.Expect.TheVariants.{Word, Address, Name, Register, Nothing}
-use Rattle.ga_source.specs.declared.scan.Kind.{Kind}
-use Rattle.ga_source.specs.declared.scan.Kind.TheVariants.{Word as WordKind, LongLine as LongLineKind, OpenComment as OpenCommentKind}
+use Rattle.ga_source.specs.declared.scan.TokenKind.{TokenKind}
+use Rattle.ga_source.specs.declared.scan.TokenKind.TheVariants.{Word as WordKind, LongLine as LongLineKind, OpenComment as OpenCommentKind}
 use Rattle.ga_source.specs.declared.controls.Open.{Open}
 use Rattle.ga_source.specs.Asking.{Mention, is_waiting}
 use Rattle.ga_source.specs.Asking.Wrong.{LongLine, OpenComment}
 use Rattle.ga_source.specs.Reading.{carried}
 use Rattle.ga_source.specs.Saying.{Said, said_of, all_said}
 use Rattle.ga_ports.specs.Steps.{◌>>=◌}
-use Rattle.ga_source.specs.Numbers.{by_name, begins, number_in}
+use Rattle.ga_source.specs.Numbers.{by_name, has_prefix, number_by_word}
 use Rattle.ga_source.specs.Plain.{Plain, with_request, by_number, only_if, is_cell, asked_by, value_in, plain_of, no_request}
 use Rattle.ga_source.specs.Vocabulary.{directives, directive_in, bound_of}
-use Rattle.ga_source.specs.Asking.{Asking, Refusal, asking as asks, nothing_asked, by_range, value_said, cell, directive, word_asks, named_word, address_asks, register_asks, given_in, with_given, hear as hear_asking, expected, of_kind, asked_from, asked_of, finished, all_closed, all_placed, next_text, ◌▷◌}
+use Rattle.ga_source.specs.Asking.{Asking, Refusal, asking as asks, nothing_asked, by_range, value_said, cell, directive, word_asks, named_word, address_asks, register_asks, given_in, with_given, hear as hear_asking, expected, of_kind, asked_from, asked_by_words, finished, all_closed, all_placed, next_text, ◌▷◌}
 use Rattle.ga_source.specs.kept.Hearing.{Heard, HasHeard, nothing_heard, end_of, with_register, may_give, next_of, hear_word, hear, hear_all}
 use Rattle.ga_source.specs.declared.draft.Draft.{Draft}
 use Rattle.ga_source.specs.declared.labels.Label.{Label}
@@ -54,18 +54,18 @@ heard_as outcome later expected after is has e = record { later = later; is = is
 
 -- ---- numbers
 
-in_range : {X : Type 0} (word : List ℕ) (line n : ℕ) (asks : ℕ → Result X Refusal) (other : Result X Refusal) → number_in word ≡ Of n → by_range (number_in word) line asks other ≡ asks n
+in_range : {X : Type 0} (word : List ℕ) (line n : ℕ) (asks : ℕ → Result X Refusal) (other : Result X Refusal) → number_by_word word ≡ Of n → by_range (number_by_word word) line asks other ≡ asks n
 in_range word line n asks other is = ap (λ (found : NumberIn). by_range found line asks other) is
 
-quoted_first : (word : List ℕ) → begins word (codes "'") ≡ true → slice_index_or word 0 0 ≡ 39
+quoted_first : (word : List ℕ) → has_prefix word (codes "'") ≡ true → slice_index_or word 0 0 ≡ 39
 quoted_first [] e = absurd (true≢false (sym e))
 quoted_first (b ∷ word) e = ap (λ (t : List ℕ). slice_index_or t 0 0) (same_text (take 1 (b ∷ word)) (codes "'") e)
 
-number_said : (now : Asking) (line n : ℕ) (word : List ℕ) → number_in word ≡ Of n → value_said now line word ≡ Ok (Some (Number n), now)
+number_said : (now : Asking) (line n : ℕ) (word : List ℕ) → number_by_word word ≡ Of n → value_said now line word ≡ Ok (Some (Number n), now)
 unfolding value_said
-number_said now line n word is = elim (cases_Bool (begins word (codes "'"))) [
+number_said now line n word is = elim (cases_Bool (has_prefix word (codes "'"))) [
   | inl quoted ↦ absurd (no_label word n (quoted_first word quoted) is)
-  | inr other ↦ cond-false (begins word (codes "'")) _ _ other ∙ in_range word line n _ _ is
+  | inr other ↦ cond-false (has_prefix word (codes "'")) _ _ other ∙ in_range word line n _ _ is
 ]
 
 both : (a b : Bool) → (a && b) ≡ true → (a ≡ true) × (b ≡ true)
@@ -88,7 +88,7 @@ directive_next now line (Gives register) e is = ap (λ (x : Expect). record now 
 directive_next now line Fill e is = absurd (no_some is)
 directive_next now line (Carry b) e is = absurd (no_some is)
 
-none_given : (o : Option Given) (given : Option Value) → value_in o ≡ given → is_none given ≡ true → is_none o ≡ true
+none_given : (o : Option Given) (given : Option Operand) → value_in o ≡ given → is_none given ≡ true → is_none o ≡ true
 none_given None given e none = refl
 none_given (Some one) given e none = absurd (true≢false (sym (ap is_none e ∙ none)))
 
@@ -122,19 +122,19 @@ module _ (now : Asking) (heard : Heard) (has : HasHeard now heard) where
   unfolding word_asks directive_in
   word_heard line word next after is = elim (cases_Bool (bytes_eq next (codes ","))) [
     | inl comma ↦
-        let number = numbered (number_in word) (λ n. Some (record { expect = Nothing; plain = with_request heard.plain (Put (Cell (Number n))) })) after
+        let number = numbered (number_by_word word) (λ n. Some (record { expect = Nothing; plain = with_request heard.plain (Put (Cell (Number n))) })) after
         (sym (cond-true (bytes_eq next (codes ",")) _ _ comma) ∙ is) in
         heard_as _ (asks (record now { expect = Nothing }) line (Put (Cell (Number number.n)))) _ after
-        (cond-true (bytes_eq next (codes ",")) _ _ comma ∙ ap (λ (r : Result (Option Value × Asking) Refusal). r ▷ (λ said. cell said.1 line said.0)) (number_said now line number.n word number.is))
+        (cond-true (bytes_eq next (codes ",")) _ _ comma ∙ ap (λ (r : Result (Option Operand × Asking) Refusal). r ▷ (λ said. cell said.1 line said.0)) (number_said now line number.n word number.is))
         (asks_has Nothing line (Put (Cell (Number number.n)))) (some_same _ after number.gives)
     | inr other ↦
         directive_heard line word next after (by_name directives word) refl other (sym (cond-false (bytes_eq next (codes ",")) _ _ other) ∙ is)
   ]
 
-  address_heard : (line : ℕ) (word : List ℕ) (after : Heard) → by_number (number_in word) (λ n. only_if (is_cell n) (record { expect = Word; plain = with_request heard.plain (Go n) })) ≡ Some after → IsHeard (address_asks (record now { expect = Word }) line word) after
+  address_heard : (line : ℕ) (word : List ℕ) (after : Heard) → by_number (number_by_word word) (λ n. only_if (is_cell n) (record { expect = Word; plain = with_request heard.plain (Go n) })) ≡ Some after → IsHeard (address_asks (record now { expect = Word }) line word) after
   unfolding address_asks
   address_heard line word after is =
-      let number = numbered (number_in word) (λ n. only_if (is_cell n) (record { expect = Word; plain = with_request heard.plain (Go n) })) after is in
+      let number = numbered (number_by_word word) (λ n. only_if (is_cell n) (record { expect = Word; plain = with_request heard.plain (Go n) })) after is in
       let may = allowed (is_cell number.n) _ after number.gives in
       let small : carried now.carries number.n ≡ number.n = not_carried number.n now.carries has.carries (cell_small number.n may.0) in
       heard_as _ (asks (record now { expect = Word }) line (Go number.n)) _ after
@@ -158,10 +158,10 @@ module _ (now : Asking) (heard : Heard) (has : HasHeard now heard) where
     record { expect = refl; plain = ap (λ (p : Plain). record p { b = Some (Number n) }) has.plain; names = has.names; opened = has.opened; carries = has.carries },
   )
 
-  register_heard : (line : ℕ) (register : RegisterName) (word : List ℕ) (after : Heard) → by_number (number_in word) (λ n. only_if (may_give heard.plain register n) (record { expect = Word; plain = with_register heard.plain register n })) ≡ Some after → IsHeard (register_asks (record now { expect = Word }) line register word) after
+  register_heard : (line : ℕ) (register : RegisterName) (word : List ℕ) (after : Heard) → by_number (number_by_word word) (λ n. only_if (may_give heard.plain register n) (record { expect = Word; plain = with_register heard.plain register n })) ≡ Some after → IsHeard (register_asks (record now { expect = Word }) line register word) after
   unfolding register_asks
   register_heard line register word after is =
-      let number = numbered (number_in word) (λ n. only_if (may_give heard.plain register n) (record { expect = Word; plain = with_register heard.plain register n })) after is in
+      let number = numbered (number_by_word word) (λ n. only_if (may_give heard.plain register n) (record { expect = Word; plain = with_register heard.plain register n })) after is in
       let may = allowed (may_give heard.plain register number.n) _ after number.gives in
       let given = given_heard line number.n register may.0 in
       heard_as _ (record now { expect = Word; registers = with_given now.registers register (record { line = line; value = Number number.n }) }) _ after
@@ -181,7 +181,7 @@ one_word : (now : Asking) (heard after : Heard) (said : Said) (next : List ℕ) 
 one_word now heard after said next kind has is =
     let there = expected_heard now heard after heard.expect said.line said.text next has refl is in
     heard_as _ there.later after after
-    (ap (λ (k : Kind). of_kind k said.line (expected (record now { expect = Word }) now.expect said.line said.text next)) kind
+    (ap (λ (k : TokenKind). of_kind k said.line (expected (record now { expect = Word }) now.expect said.line said.text next)) kind
     ∙ (ap (λ (e : Expect). expected (record now { expect = Word }) e said.line said.text next) has.expect ∙ there.is)) there.has refl
 
 -- ---- all words
@@ -218,7 +218,7 @@ next_same : (words : List Said) → slice_index_or (texts words) 0 [] ≡ next_t
 next_same [] = refl
 next_same (said ∷ words) = refl
 
-abbrev is_a_word : Kind → Option ℕ
+abbrev is_a_word : TokenKind → Option ℕ
 is_a_word WordKind = Some 0
 is_a_word LongLineKind = None
 is_a_word OpenCommentKind = None
@@ -227,7 +227,7 @@ more_words : (outcome : Result Asking Refusal) (all : Plain) (said : Said) (word
 more_words (Ok end) all said words h = h
 more_words (Err refusal) all said words h = λ kinds. h (All-tail (λ said. said.kind ≡ WordKind) said words kinds)
 
-kind_cases : (kind : Kind) (line : ℕ) (asks : Result Asking Refusal) → (kind ≡ WordKind) ⊎ ((kind ≡ WordKind → ⊥) × (refusal : Refusal) × (of_kind kind line asks ≡ Err refusal))
+kind_cases : (kind : TokenKind) (line : ℕ) (asks : Result Asking Refusal) → (kind ≡ WordKind) ⊎ ((kind ≡ WordKind → ⊥) × (refusal : Refusal) × (of_kind kind line asks ≡ Err refusal))
 kind_cases WordKind line asks = inl refl
 kind_cases LongLineKind line asks = inr ((λ e. no_some (ap is_a_word e)), record { line = line; wrong = LongLine }, refl)
 kind_cases OpenCommentKind line asks = inr ((λ e. no_some (ap is_a_word e)), record { line = line; wrong = OpenComment }, refl)
@@ -261,7 +261,7 @@ plain_from_here (said ∷ words) now heard last all has is =
 nothing_heard_yet : HasHeard nothing_asked nothing_heard
 nothing_heard_yet = record { expect = refl; plain = refl; names = refl; opened = refl; carries = refl }
 
-pub plain_asks : (line : ℕ) (words : List Said) (all : Plain) → plain_of (texts words) ≡ Some all → AsksPlain (asked_of line words) all words
+pub plain_asks : (line : ℕ) (words : List Said) (all : Plain) → plain_of (texts words) ≡ Some all → AsksPlain (asked_by_words line words) all words
 plain_asks line words all is = plain_from_here words nothing_asked nothing_heard line all nothing_heard_yet (hear_plain (texts words) no_request all is)
 
 -- ---- the same of a draft
@@ -277,13 +277,13 @@ some_names : {label : Mention} {labels : List Mention} → label ∷ labels ≡ 
 some_names e = subst has_some e tt
 
 module _ (line : ℕ) (tokens : List Token) (all : Plain) (is : plain_of (texts_of tokens) ≡ Some all) where
-  asks_plain : AsksPlain (asked_of line (all_said tokens)) all (all_said tokens)
+  asks_plain : AsksPlain (asked_by_words line (all_said tokens)) all (all_said tokens)
   asks_plain = plain_asks line (all_said tokens) all (ap plain_of (map_map tokens) ∙ is)
 
-  pub plain_told : (draft : Draft) → asked_of line (all_said tokens) ≡ Ok (asking_of draft) → (asked_by draft.asked.items draft.registers ≡ all) × (draft.labels ≡ [])
+  pub plain_told : (draft : Draft) → asked_by_words line (all_said tokens) ≡ Ok (asking_of draft) → (asked_by draft.asked.items draft.registers ≡ all) × (draft.labels ≡ [])
   plain_told draft e = subst (λ (r : Result Asking Refusal). AsksPlain r all (all_said tokens)) e asks_plain
 
-  pub plain_untold : (refusal : Refusal) → asked_of line (all_said tokens) ≡ Err refusal → All (λ token. token.kind ≡ WordKind) tokens → ⊥
+  pub plain_untold : (refusal : Refusal) → asked_by_words line (all_said tokens) ≡ Err refusal → All (λ token. token.kind ≡ WordKind) tokens → ⊥
   plain_untold refusal e kinds = subst (λ (r : Result Asking Refusal). AsksPlain r all (all_said tokens)) e asks_plain (kinds_said tokens kinds)
 
 pub no_names : (items : List Label) (labels : List Mention) → map mention_of items ≡ labels → labels ≡ [] → items ≡ []

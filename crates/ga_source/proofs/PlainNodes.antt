@@ -13,8 +13,8 @@ use Rattle.ga_grid.specs.Chip.{node_at}
 use Rattle.ga_grid.specs.Load.{default_chip}
 use Rattle.ga_source.specs.declared.number.Number.{Number as NumberIn}
 use Rattle.ga_source.specs.declared.number.Number.TheVariants.{Of, OutOfRange, Nothing}
-use Rattle.ga_source.specs.declared.item.Value.{Value}
-use Rattle.ga_source.specs.declared.item.Value.TheVariants.{Number, Label}
+use Rattle.ga_source.specs.declared.item.Operand.{Operand}
+use Rattle.ga_source.specs.declared.item.Operand.TheVariants.{Number, Label}
 use Rattle.ga_source.specs.declared.item.Given.{Given}
 use Rattle.ga_source.specs.declared.item.Item.TheVariants.{Cell}
 use Rattle.ga_source.specs.declared.item.Request.{Request}
@@ -24,12 +24,12 @@ use Rattle.ga_source.specs.declared.item.Asked.{Asked}
 use Rattle.ga_source.specs.declared.item.Program.{Program}
 use Rattle.ga_source.specs.declared.labels.Label.{Label as Name}
 use Rattle.ga_ports.specs.Steps.{◌>>=◌}
-use Rattle.ga_source.specs.Numbers.{number_in}
+use Rattle.ga_source.specs.Numbers.{number_by_word}
 use Rattle.ga_source.specs.Programs.{given_of, value_or, is_item, has_cells, or_start, at_load, HasProgram, IsLoaded, IsUnnamed, IsAssembled}
 use Rattle.ga_source.specs.Cells.{is_asked}
 use Rattle.ga_source.specs.Reading.{begin_at, resolved}
-use Rattle.ga_source.specs.Plain.{Plain, no_request, by_number, only_if, is_cell, may_be, with_words, plain_from, plain_of, value_in, asked_by, words_in, bodies_in, yxx_in, IsOf, AreOf, AreRead}
-use Rattle.ga_source.specs.Made.{with_cell, with_asked, address_behind, written, number_or, plain_node, IsNode, HasPlain, IsMade}
+use Rattle.ga_source.specs.Plain.{Plain, no_request, by_number, only_if, is_cell, may_be, with_two_words, plain_from, plain_of, value_in, asked_by, words_in, bodies_in, yxx_in, IsOf, AreOf, AreRead}
+use Rattle.ga_source.specs.Made.{with_cell, with_asked, address_behind, with_requests, number_or, plain_node, IsNode, HasPlain, IsChipOfSource}
 use Rattle.ga_source.specs.kept.Packing.{requests_of, ArePlain, IsNumber, AreNumbers}
 use Rattle.ga_source.specs.kept.Places.{KeepsRest}
 use Rattle.ga_source.proofs.Empty.{of_each_at_load}
@@ -56,24 +56,24 @@ only_plain : (b : Bool) (plain more : Plain) → (b ≡ true → IsPlain plain) 
 only_plain b plain more each is = let found = allowed b plain more is in subst IsPlain found.1 (each found.0)
 
 -- a register's test
-below : (given : Option Value) (n bound : ℕ) → may_be given n bound ≡ true → n < bound
+below : (given : Option Operand) (n bound : ℕ) → may_be given n bound ≡ true → n < bound
 below given n bound may = ltb-true n bound ((and_parts (is_none given) (ltb n bound) may).1)
 
-words_plain : (plain more : Plain) (first second : List ℕ) → IsPlain plain → with_words plain first second ≡ Some more → IsPlain more
+words_plain : (plain more : Plain) (first second : List ℕ) → IsPlain plain → with_two_words plain first second ≡ Some more → IsPlain more
 words_plain plain more first second is found = elim (cases_Bool (bytes_eq second (codes ","))) [
-  | inl comma ↦ number_plain (number_in first) _ more (λ n number e. subst IsPlain (some_same _ more e)
+  | inl comma ↦ number_plain (number_by_word first) _ more (λ n number e. subst IsPlain (some_same _ more e)
       (record { requests = one_plain_more plain.requests (Put (Cell (Number n))) is.requests (number_small first n number); p = is.p; a = is.a; b = is.b })) (rw comma at found)
   | inr other ↦ elim (cases_Bool (bytes_eq first (codes "org"))) [
-    | inl org ↦ number_plain (number_in second) _ more (λ n number. only_plain (is_cell n) _ more (λ may.
+    | inl org ↦ number_plain (number_by_word second) _ more (λ n number. only_plain (is_cell n) _ more (λ may.
         record { requests = one_plain_more plain.requests (Go n) is.requests tt; p = is.p; a = is.a; b = is.b })) (rw (other, org) at found)
     | inr no_org ↦ elim (cases_Bool (bytes_eq first (codes "/p"))) [
-      | inl p ↦ number_plain (number_in second) _ more (λ n number. only_plain (may_be plain.p n 0x400) _ more (λ may.
+      | inl p ↦ number_plain (number_by_word second) _ more (λ n number. only_plain (may_be plain.p n 0x400) _ more (λ may.
           record { requests = is.requests; p = below plain.p n 0x400 may; a = is.a; b = is.b })) (rw (other, no_org, p) at found)
       | inr no_p ↦ elim (cases_Bool (bytes_eq first (codes "/a"))) [
-        | inl a ↦ number_plain (number_in second) _ more (λ n number. only_plain (may_be plain.a n 0x40000) _ more (λ may.
+        | inl a ↦ number_plain (number_by_word second) _ more (λ n number. only_plain (may_be plain.a n 0x40000) _ more (λ may.
             record { requests = is.requests; p = is.p; a = below plain.a n 0x40000 may; b = is.b })) (rw (other, no_org, no_p, a) at found)
         | inr no_a ↦ elim (cases_Bool (bytes_eq first (codes "/b"))) [
-          | inl b ↦ number_plain (number_in second) _ more (λ n number. only_plain (may_be plain.b n 0x200) _ more (λ may.
+          | inl b ↦ number_plain (number_by_word second) _ more (λ n number. only_plain (may_be plain.b n 0x200) _ more (λ may.
               record { requests = is.requests; p = is.p; a = is.a; b = below plain.b n 0x200 may })) (rw (other, no_org, no_p, no_a, b) at found)
           | inr no_b ↦ absurd (no_some (rw (other, no_org, no_p, no_a, no_b) at found))
         ]
@@ -92,7 +92,7 @@ unfolding plain_from
 from_plain [] plain all is found = subst IsPlain (some_same plain all found) is
 from_plain (word ∷ []) plain all is found = absurd (no_some found)
 from_plain (first ∷ second ∷ words) plain all is found =
-    behind_plain words all (with_words plain first second) (λ m e. words_plain plain m first second is e) (λ m p e. from_plain words m all p e) found
+    behind_plain words all (with_two_words plain first second) (λ m e. words_plain plain m first second is e) (λ m p e. from_plain words m all p e) found
 
 pub all_plain : (words : List (List ℕ)) (plain : Plain) → plain_of words ≡ Some plain → IsPlain plain
 unfolding ArePlain
@@ -114,11 +114,11 @@ asked_keeps node at _ = refl
 keeps_twice : (before now after : NodeState) → KeepsRest before now → KeepsRest now after → KeepsRest before after
 keeps_twice before now after first second = second ∙ ap (λ (node : NodeState). record node { ram = after.ram; rom = after.rom }) first
 
-written_keeps : (node : NodeState) (at : ℕ) (requests : List Request) → KeepsRest node (written node at requests)
-unfolding written
+written_keeps : (node : NodeState) (at : ℕ) (requests : List Request) → KeepsRest node (with_requests node at requests)
+unfolding with_requests
 written_keeps node at [] = refl
 written_keeps node at (request ∷ requests) =
-    keeps_twice node (with_asked node at request) (written (with_asked node at request) (address_behind at request) requests)
+    keeps_twice node (with_asked node at request) (with_requests (with_asked node at request) (address_behind at request) requests)
     (asked_keeps node at request) (written_keeps (with_asked node at request) (address_behind at request) requests)
 
 -- ---- registers
@@ -127,7 +127,7 @@ has_same : (asked : List Asked) → has_cells asked ≡ list_any is_item (reques
 has_same [] = refl
 has_same (one ∷ rest) = ap (λ (b : Bool). is_item one.request || b) (has_same rest)
 
-value_same : (labels : List (Option ℕ)) (value : Value) (bound before : ℕ) → IsNumber bound (Some value) → value_or (resolved labels value) before ≡ number_or (Some value) before
+value_same : (labels : List (Option ℕ)) (value : Operand) (bound before : ℕ) → IsNumber bound (Some value) → value_or (resolved labels value) before ≡ number_or (Some value) before
 value_same labels (Number n) bound before is = refl
 value_same labels (Label k) bound before is = absurd is
 
@@ -136,7 +136,7 @@ register_same labels None bound before is = refl
 register_same labels (Some given) bound before is = value_same labels given.value bound before is
 
 -- what is given goes before what was there
-above_all : (value : Value) (bound before other : ℕ) → IsNumber bound (Some value) → number_or (Some value) before ≡ number_or (Some value) other
+above_all : (value : Operand) (bound before other : ℕ) → IsNumber bound (Some value) → number_or (Some value) before ≡ number_or (Some value) other
 above_all (Number n) bound before other is = refl
 above_all (Label k) bound before other is = absurd is
 
@@ -227,7 +227,7 @@ unnamed n [] (program ∷ programs) of none = absurd of
 unnamed n (words ∷ bodies) [] of none = absurd of
 
 -- what a source asks for and what is assembled is what its plain words make
-pub source_made : (source : List ℕ) (chip : List NodeState) (programs : List Program) → AreRead source programs → IsAssembled chip programs → IsMade source chip
+pub source_made : (source : List ℕ) (chip : List NodeState) (programs : List Program) → AreRead source programs → IsAssembled chip programs → IsChipOfSource source chip
 source_made source chip programs read assembled = record {
   named = bodies_made chip (bodies_in (words_in source)) programs read assembled.each;
   others = λ n none. assembled.rest n (unnamed n (bodies_in (words_in source)) programs read none);
@@ -263,13 +263,13 @@ written_rom : (node : NodeState) (at : ℕ) (request : Request) → length (with
 written_rom node at (Put (Cell (Number n))) = with_cell_rom node (classified at) n
 written_rom node at _ = refl
 
-ram_size : (node : NodeState) (at : ℕ) (requests : List Request) → length (written node at requests).ram ≡ length node.ram
-unfolding written
+ram_size : (node : NodeState) (at : ℕ) (requests : List Request) → length (with_requests node at requests).ram ≡ length node.ram
+unfolding with_requests
 ram_size node at [] = refl
 ram_size node at (request ∷ requests) = ram_size (with_asked node at request) (address_behind at request) requests ∙ written_ram node at request
 
-rom_size : (node : NodeState) (at : ℕ) (requests : List Request) → length (written node at requests).rom ≡ length node.rom
-unfolding written
+rom_size : (node : NodeState) (at : ℕ) (requests : List Request) → length (with_requests node at requests).rom ≡ length node.rom
+unfolding with_requests
 rom_size node at [] = refl
 rom_size node at (request ∷ requests) = rom_size (with_asked node at request) (address_behind at request) requests ∙ written_rom node at request
 

@@ -9,7 +9,7 @@ use Rattle.ga_source.specs.declared.number.Number.{Number}
 use Rattle.ga_source.specs.declared.number.Number.TheVariants.{Of, Nothing}
 use Rattle.ga_ports.specs.Letters.{side_value, set_number}
 use Rattle.ga_ports.specs.Steps.{◌>>=◌}
-use Rattle.ga_source.specs.Numbers.{begins, plain_in, word_of_size, word_below, numeral_in, set_address, set_in, by_name, ports, port_in, number_in}
+use Rattle.ga_source.specs.Numbers.{has_prefix, plain_in, word_of_size, word_below, numeral_in, set_address, set_in, by_name, ports, port_in, number_by_word}
 
 abbrev IsSmall : Number → Type 0
 IsSmall (Of n) = n < 262144
@@ -37,7 +37,7 @@ or_nothing word (Some n) small = small n
 or_nothing word None small = tt
 
 numeral_small : (text : List ℕ) → IsSmall (numeral_in text)
-numeral_small text = elim (cases_Bool (begins text (codes "-"))) [
+numeral_small text = elim (cases_Bool (has_prefix text (codes "-"))) [
   | inl negative ↦ rw negative (or_nothing word_below (plain_in (drop 1 text)) below_small)
   | inr positive ↦ rw positive (or_nothing word_of_size (plain_in text) size_small)
 ]
@@ -95,5 +95,5 @@ word_small : (port : Option ℕ) (number : Number) → IsSmallAddress port → I
 word_small (Some n) number port other = omega arith
 word_small None number port other = other
 
-pub number_small : (text : List ℕ) (n : ℕ) → number_in text ≡ Of n → n < 262144
+pub number_small : (text : List ℕ) (n : ℕ) → number_by_word text ≡ Of n → n < 262144
 number_small text n is = subst IsSmall is (word_small (port_in text) (numeral_in text) (port_small text) (numeral_small text))

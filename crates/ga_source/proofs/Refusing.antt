@@ -4,13 +4,13 @@ use Rattle.std.proofs.Common.{◌≡◌, ◌∙◌, ℕ, suc, ◌+◌, ◌<◌, 
 use Rattle.std.proofs.lemmas.Bool.{cases_Bool, cases_lt, and_parts, both_ways}
 use Rattle.std.proofs.lemmas.List.{get_or-replicate, get_or_past, length-replicate}
 use Rattle.std.proofs.lemmas.List.Elements.{All-nil, All-cons, All-head, All-tail, All-drop, All-take}
-use Rattle.ga_source.specs.declared.scan.Kind.{Kind}
-use Rattle.ga_source.specs.declared.scan.Kind.TheVariants.{Word, LongLine, OpenComment}
+use Rattle.ga_source.specs.declared.scan.TokenKind.{TokenKind}
+use Rattle.ga_source.specs.declared.scan.TokenKind.TheVariants.{Word, LongLine, OpenComment}
 use Rattle.ga_source.specs.declared.scan.Token.{Token}
 use Rattle.ga_source.specs.Saying.{is_word, is_word_kind, said_in, all_said}
 use Rattle.ga_grid.specs.Names.{node_number}
 use Rattle.ga_source.specs.Plain.{Plain, is_node, body_in, bodies_in, yxx_in, words_in, plain_of}
-use Rattle.ga_source.specs.Sound.{cells_from, AreFree, IsSoundBody, IsSound}
+use Rattle.ga_source.specs.Sound.{cells_from, AreDistinctCells, IsSoundBody, IsSoundSource}
 use Rattle.ga_source.specs.kept.Hearing.{texts_of}
 use Rattle.ga_source.specs.kept.Refusing.{AreSound, IsSoundFrom}
 use Rattle.ga_source.proofs.Bodies.{no_number, drop_twice, words_told}
@@ -97,7 +97,7 @@ left_sound begun after words left body n from set_so named is begins bodies soun
 
 -- ---- a source
 
-kind_is : (kind : Kind) → is_word_kind kind ≡ true → kind ≡ Word
+kind_is : (kind : TokenKind) → is_word_kind kind ≡ true → kind ≡ Word
 kind_is Word e = refl
 kind_is LongLine e = absurd (subst (λ b. elim b as (λ _. Type 0) [ true ↦ ⊥ | false ↦ Unit {0} ]) e tt)
 kind_is OpenComment e = absurd (subst (λ b. elim b as (λ _. Type 0) [ true ↦ ⊥ | false ↦ Unit {0} ]) e tt)
@@ -118,7 +118,7 @@ begun_none k = elim (cases_lt k 144) [
 pub none_there : (begun : List Bool) → begun ≡ replicate 144 false → (n : ℕ) → slice_index_or begun n false ≡ false
 none_there begun is n = ap (λ (list : List Bool). slice_index_or list n false) is ∙ begun_none n
 
-pub source_sound : (words : List Token) (begun : List Bool) → ((n : ℕ) → slice_index_or begun n false ≡ false) → (source : List ℕ) → said_in source ≡ all_said words → IsSound source → IsSoundFrom begun words
+pub source_sound : (words : List Token) (begun : List Bool) → ((n : ℕ) → slice_index_or begun n false ≡ false) → (source : List ℕ) → said_in source ≡ all_said words → IsSoundSource source → IsSoundFrom begun words
 source_sound words begun none source told sound =
     let texts : texts_of words ≡ words_in source = words_told source words (sym told) in
     record {
@@ -153,7 +153,7 @@ module _ (begun : List Bool) (words : List Token) (d : Token) (name : List ℕ) 
 
   -- the words behind it are sound
   pub first_refused : (Goal : Type 0) (behind body : List Token) (count : ℕ) → behind ≡ drop 2 words → body ≡ take count behind → texts_of (take count behind) ≡ body_in (texts_of behind)
-      → ((plain : Plain) → All (λ token. token.kind ≡ Word) body → plain_of (texts_of body) ≡ Some plain → AreFree (cells_from 0 plain.requests) → Goal) → IsSoundFrom begun words → Goal
+      → ((plain : Plain) → All (λ token. token.kind ≡ Word) body → plain_of (texts_of body) ≡ Some plain → AreDistinctCells (cells_from 0 plain.requests) → Goal) → IsSoundFrom begun words → Goal
   first_refused Goal behind body count is_behind is_body front refused sound =
       let found = first_is begun words d some sound in
       let texts : texts_of body ≡ body_in (texts_of (drop 2 words)) = ap texts_of is_body ∙ (front ∙ ap (λ (b : List Token). body_in (texts_of b)) is_behind) in

@@ -13,7 +13,7 @@ use Rattle.ga_source.specs.declared.item.Group.{Group}
 use Rattle.ga_source.specs.declared.item.Request.TheVariants.{Put}
 use Rattle.ga_source.specs.declared.packing.Packer.{Packer}
 use Rattle.ga_source.specs.declared.spot.Spot.{Spot}
-use Rattle.ga_source.specs.Reading.{begin_at, next_cell, behind, stands, is_filled, fits, spot_of, is_met, after_request}
+use Rattle.ga_source.specs.Reading.{begin_at, next_cell, behind, item_stands, is_filled, fits, spot_of, is_met, after_request}
 use Rattle.ga_source.specs.Cells.{takes, asks_for, is_asked}
 use Rattle.ga_source.specs.kept.Words.{nothing}
 use Rattle.ga_source.specs.kept.Layout.{behind_all, Stand, taken, IsReadAt, spot_in, IsFit, IsRead, IsFitGroup, takes_group, are_taken, after_all, AreMet, Extends, IsKnown, IsInCell, IsWalked, IsPending, IsClosed}
@@ -60,15 +60,15 @@ closed_group before after group pushed address items broken labels_stay spot_sta
 
 -- ---- an item that has room, and one that has none
 
-met_here : (node : NodeState) (labels : List (Option ℕ)) (spot : Spot) (item : Item) → fits labels spot item ≡ true → stands node labels spot item ≡ true → is_met node labels spot (Put item) ≡ true
-met_here node labels spot item e h = and_from (fits labels spot item || is_filled node spot) (stands node labels (spot_of labels spot item) item)
+met_here : (node : NodeState) (labels : List (Option ℕ)) (spot : Spot) (item : Item) → fits labels spot item ≡ true → item_stands node labels spot item ≡ true → is_met node labels spot (Put item) ≡ true
+met_here node labels spot item e h = and_from (fits labels spot item || is_filled node spot) (item_stands node labels (spot_of labels spot item) item)
     (or_left (fits labels spot item) (is_filled node spot) e)
-    (subst (λ (s : Spot). stands node labels s item ≡ true) (sym (here-fits labels spot item e)) h)
+    (subst (λ (s : Spot). item_stands node labels s item ≡ true) (sym (here-fits labels spot item e)) h)
 
-met_next : (node : NodeState) (labels : List (Option ℕ)) (spot : Spot) (item : Item) → fits labels spot item ≡ false → is_filled node spot ≡ true → stands node labels (next_cell spot) item ≡ true → is_met node labels spot (Put item) ≡ true
-met_next node labels spot item e filled h = and_from (fits labels spot item || is_filled node spot) (stands node labels (spot_of labels spot item) item)
+met_next : (node : NodeState) (labels : List (Option ℕ)) (spot : Spot) (item : Item) → fits labels spot item ≡ false → is_filled node spot ≡ true → item_stands node labels (next_cell spot) item ≡ true → is_met node labels spot (Put item) ≡ true
+met_next node labels spot item e filled h = and_from (fits labels spot item || is_filled node spot) (item_stands node labels (spot_of labels spot item) item)
     (or_right (fits labels spot item) (is_filled node spot) filled)
-    (subst (λ (s : Spot). stands node labels s item ≡ true) (sym (next-fits labels spot item e)) h)
+    (subst (λ (s : Spot). item_stands node labels s item ≡ true) (sym (next-fits labels spot item e)) h)
 
 -- a request whose place is where the walk is, and which takes what its item takes
 pub named_more : (labels : List (Option ℕ)) (spot : Spot) (before : List Asked) (one : Asked) (cell : ℕ) → after_all labels (begin_at 0) before ≡ spot → asks_for labels spot one.request cell ≡ true → is_asked labels (begin_at 0) (before ++ one ∷ []) cell ≡ true
@@ -161,7 +161,7 @@ pending_next p q s before line item is_next none known c w closed =
       met = λ node labels e read whole opened last.
           let parts = closed.read node labels read in
           met_more node labels p.spot before one (w.walk labels (more labels e)) (w.met node labels (more labels e) parts.0 parts.2 parts.1.items_stand)
-          (met_next node labels p.spot item (no_room labels e) (filled_here p before node labels w parts.1) (subst (λ (t : Spot). stands node labels t item ≡ true) is_next last));
+          (met_next node labels p.spot item (no_room labels e) (filled_here p before node labels w parts.1) (subst (λ (t : Spot). item_stands node labels t item ≡ true) is_next last));
       named = λ labels cell e h. elim h [
         | inl a ↦ is_asked-before labels (begin_at 0) before one cell (w.named labels cell (more labels e) (closed.cells cell a))
         | inr b ↦ elim b [
@@ -215,7 +215,7 @@ module _ (p : Packer) (asked : List Asked) (item : Item) (list : List Item) (pus
   put_met : (node : NodeState) (labels : List (Option ℕ)) → Extends p.labels.items labels → All (IsRead node labels) p.groups.items → p.broken ≡ None → Stand node labels (begin_at p.spot.at) list → AreMet node labels (begin_at 0) asked
   put_met node labels more read whole opened =
       let parts = Stand-pop node labels (begin_at p.spot.at) p.filling.items item (subst (Stand node labels (begin_at p.spot.at)) pushed opened) in
-      w.met node labels more read whole parts.0 (subst (λ (s : Spot). stands node labels s item ≡ true) w.here parts.1)
+      w.met node labels more read whole parts.0 (subst (λ (s : Spot). item_stands node labels s item ≡ true) w.here parts.1)
 
   put_named : (labels : List (Option ℕ)) (cell : ℕ) → Extends p.labels.items labels → taken (begin_at p.spot.at) list cell ≡ true → is_asked labels (begin_at 0) asked cell ≡ true
   put_named labels cell more h = elim (taken-pop (begin_at p.spot.at) p.filling.items item cell (subst (λ (l : List Item). taken (begin_at p.spot.at) l cell ≡ true) pushed h)) [

@@ -8,7 +8,7 @@ use Rattle.ga_node.specs.Record.{NodeState}
 use Rattle.ga_node.specs.State.{with_value, HasMemory}
 use Rattle.ga_node.specs.declared.place.Place.{Place}
 use Rattle.ga_node.specs.declared.place.Place.TheVariants.{Ram, Rom}
-use Rattle.ga_source.specs.Reading.{word_of, word_in}
+use Rattle.ga_source.specs.Reading.{word_of_target, word_in}
 use Rattle.ga_source.specs.Cells.{KeepsElsewhere, is_at}
 use Rattle.ga_source.specs.kept.Places.{IsCell, KeepsRest}
 use Rattle.ga_source.specs.kept.Loading.{Holds, Keeps}
@@ -31,13 +31,13 @@ in_rom address l h =
 pub written_by : (node : NodeState) (place : Place) (address word : ℕ) → IsCell address place → HasMemory node place → word_in (with_value node place word) address ≡ Some word
 written_by node (Ram cell) address word c size =
     let l : address % 512 < 64 = omega arith in
-    ap (word_of (with_value node (Ram cell) word)) (in_ram address l)
+    ap (word_of_target (with_value node (Ram cell) word)) (in_ram address l)
     ∙ ap Some (ap (λ (k : ℕ). slice_index_or (set node.ram cell word) k 0) c.1 ∙ get_or-set_same node.ram cell word 0 (omega arith))
 written_by node (Rom cell) address word c size =
     let l : 128 ≤ address % 512 = omega arith in
     let h : address % 512 < 192 = omega arith in
     let is : address % 512 % 64 ≡ cell = omega arith in
-    ap (word_of (with_value node (Rom cell) word)) (in_rom address l h)
+    ap (word_of_target (with_value node (Rom cell) word)) (in_rom address l h)
     ∙ ap Some (ap (λ (k : ℕ). slice_index_or (set node.rom cell word) k 0) is ∙ get_or-set_same node.rom cell word 0 (omega arith))
 written_by node place address word c size = absurd c
 
@@ -46,20 +46,20 @@ pub others_stay : (node : NodeState) (place : Place) (address word other : ℕ) 
 others_stay node (Ram cell) address word other c within apart = elim within [
   | inl l ↦
       let ne : other % 512 ≢ cell = (λ e. apart (e ∙ sym c.1)) in
-      ap (word_of (with_value node (Ram cell) word)) (in_ram other l)
-      ∙ (ap Some (get_or-set_other node.ram cell (other % 512) word 0 ne) ∙ sym (ap (word_of node) (in_ram other l)))
-  | inr h ↦ ap (word_of (with_value node (Ram cell) word)) (in_rom other h.0 h.1) ∙ sym (ap (word_of node) (in_rom other h.0 h.1))
+      ap (word_of_target (with_value node (Ram cell) word)) (in_ram other l)
+      ∙ (ap Some (get_or-set_other node.ram cell (other % 512) word 0 ne) ∙ sym (ap (word_of_target node) (in_ram other l)))
+  | inr h ↦ ap (word_of_target (with_value node (Ram cell) word)) (in_rom other h.0 h.1) ∙ sym (ap (word_of_target node) (in_rom other h.0 h.1))
 ]
 others_stay node (Rom cell) address word other c within apart = elim within [
-  | inl l ↦ ap (word_of (with_value node (Rom cell) word)) (in_ram other l) ∙ sym (ap (word_of node) (in_ram other l))
+  | inl l ↦ ap (word_of_target (with_value node (Rom cell) word)) (in_ram other l) ∙ sym (ap (word_of_target node) (in_ram other l))
   | inr h ↦
       let at : address % 512 ≡ 128 + cell = c.1 in
       let low : 128 ≤ other % 512 = h.0 in
       let high : other % 512 < 192 = h.1 in
       let small : cell < 64 = c.0 in
       let ne : other % 512 % 64 ≢ cell = (λ e. apart (omega arith)) in
-      ap (word_of (with_value node (Rom cell) word)) (in_rom other h.0 h.1)
-      ∙ (ap Some (get_or-set_other node.rom cell (other % 512 % 64) word 0 ne) ∙ sym (ap (word_of node) (in_rom other h.0 h.1)))
+      ap (word_of_target (with_value node (Rom cell) word)) (in_rom other h.0 h.1)
+      ∙ (ap Some (get_or-set_other node.rom cell (other % 512 % 64) word 0 ne) ∙ sym (ap (word_of_target node) (in_rom other h.0 h.1)))
 ]
 others_stay node place address word other c within apart = absurd c
 

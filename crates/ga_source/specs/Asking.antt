@@ -3,12 +3,12 @@ use Rattle.std.specs.Prelude.{ℕ, ◌+◌, nat_lt, Bool, true, false, ◌&&◌,
 use Rattle.std.specs.Option.{option_map_or}
 use Rattle.ga_slots.specs.declared.op.Op.{Op}
 use Rattle.ga_slots.specs.declared.op.Op.TheVariants.{Jump, Call, Next as NextOp, Push}
-use Rattle.ga_source.specs.declared.scan.Kind.{Kind}
-use Rattle.ga_source.specs.declared.scan.Kind.TheVariants.{Word as WordKind, LongLine as LongLineKind, OpenComment as OpenCommentKind}
+use Rattle.ga_source.specs.declared.scan.TokenKind.{TokenKind}
+use Rattle.ga_source.specs.declared.scan.TokenKind.TheVariants.{Word as WordKind, LongLine as LongLineKind, OpenComment as OpenCommentKind}
 use Rattle.ga_source.specs.declared.number.Number.{Number as NumberIn}
 use Rattle.ga_source.specs.declared.number.Number.TheVariants.{Of, OutOfRange, Nothing as NoNumber}
-use Rattle.ga_source.specs.declared.item.Value.{Value}
-use Rattle.ga_source.specs.declared.item.Value.TheVariants.{Number, Label}
+use Rattle.ga_source.specs.declared.item.Operand.{Operand}
+use Rattle.ga_source.specs.declared.item.Operand.TheVariants.{Number, Label}
 use Rattle.ga_source.specs.declared.item.Item.TheVariants.{Opcode, Literal, Back, Ahead, Cell}
 use Rattle.ga_source.specs.declared.item.Request.{Request}
 use Rattle.ga_source.specs.declared.item.Request.TheVariants.{Put, Unext, Mark, Fill, Go, Carry}
@@ -27,7 +27,7 @@ use Rattle.ga_source.specs.declared.labels.Label.{Label as LabelRecord}
 use Rattle.ga_source.specs.declared.controls.Open.{Open}
 use Rattle.ga_source.specs.declared.controls.Open.TheVariants.{Loop, Ahead as JumpAhead}
 use Rattle.ga_source.specs.Saying.{Said, has_bytes}
-use Rattle.ga_source.specs.Numbers.{begins, number_in}
+use Rattle.ga_source.specs.Numbers.{has_prefix, number_by_word}
 use Rattle.ga_source.specs.Reading.{carried}
 use Rattle.ga_source.specs.Plain.{is_cell}
 use Rattle.ga_source.specs.Vocabulary.{opcode_in, control_in, directive_in, bound_of, is_taken}
@@ -88,8 +88,8 @@ pub record Refusal : Type 0 where
   pub line : ℕ
   pub wrong : Wrong
 
-abbrev pub refuse : {X : Type 0} → ℕ → Wrong → Result X Refusal
-refuse line wrong = Err (record { line = line; wrong = wrong })
+abbrev pub refuse_line : {X : Type 0} → ℕ → Wrong → Result X Refusal
+refuse_line line wrong = Err (record { line = line; wrong = wrong })
 
 infixl 10 ◌▷◌
 abbrev pub ◌▷◌ : {X Y : Type 0} → Result X Refusal → (X → Result Y Refusal) → Result Y Refusal
@@ -108,16 +108,16 @@ named_before [] name = None
 named_before (label ∷ labels) name = if has_bytes name && bytes_eq label.name name then Some 0 else option_map (λ k. k + 1) (named_before labels name)
 
 -- the label's number, which is the next one where it is new
-abbrev pub number_of : List Mention → List ℕ → ℕ
-number_of labels name = option_map_or (λ k. k) (named_before labels name) (length labels)
+abbrev pub label_number : List Mention → List ℕ → ℕ
+label_number labels name = option_map_or (λ k. k) (named_before labels name) (length labels)
 
 -- the labels with one more
-abbrev pub one_more : List Mention → ℕ → List ℕ → Bool → List Mention
-one_more labels line name is_marked = labels ++ record { name = name; line = line; is_marked = is_marked } ∷ []
+abbrev pub one_label_more : List Mention → ℕ → List ℕ → Bool → List Mention
+one_label_more labels line name is_marked = labels ++ record { name = name; line = line; is_marked = is_marked } ∷ []
 
 -- the labels, with this one among them
 abbrev pub with_name : List Mention → ℕ → List ℕ → List Mention
-with_name labels line name = option_map_or (λ _. labels) (named_before labels name) (one_more labels line name false)
+with_name labels line name = option_map_or (λ _. labels) (named_before labels name) (one_label_more labels line name false)
 
 -- the words name a label
 abbrev pub naming : Asking → ℕ → List ℕ → Asking
@@ -136,7 +136,7 @@ with_mark labels label = slice_set labels label (record (label_at labels label) 
 -- the label stands here, and nowhere before
 abbrev pub mark : Asking → ℕ → ℕ → Result Asking Refusal
 mark now line label =
-    if is_behind now.labels label then refuse line LabelTwice
+    if is_behind now.labels label then refuse_line line LabelTwice
     else Ok (asking (record now { labels = with_mark now.labels label }) line (Mark label))
 
 -- an opcode with the address of a label: back to one that stands before, or ahead
@@ -146,49 +146,49 @@ jump now line op label = asking now line (Put (if is_behind now.labels label the
 -- ---- control words
 
 -- a loop from here on
-abbrev pub begin : Asking → ℕ → Asking
-begin now line =
-    record (asking (record now { labels = one_more now.labels line [] true }) line (Mark (length now.labels))) { opened = Loop line (length now.labels) ∷ now.opened }
+abbrev pub begin_loop : Asking → ℕ → Asking
+begin_loop now line =
+    record (asking (record now { labels = one_label_more now.labels line [] true }) line (Mark (length now.labels))) { opened = Loop line (length now.labels) ∷ now.opened }
 
 -- a jump ahead, open until its label stands
 abbrev pub ahead : Asking → ℕ → Op → Asking
 ahead now line op =
-    record (jump (record now { labels = one_more now.labels line [] false }) line op (length now.labels)) { opened = JumpAhead line (length now.labels) ∷ now.opened }
+    record (jump (record now { labels = one_label_more now.labels line [] false }) line op (length now.labels)) { opened = JumpAhead line (length now.labels) ∷ now.opened }
 
 -- with this open
-abbrev pub left : Asking → List Open → Asking
-left now opened = record now { opened = opened }
+abbrev pub with_open : Asking → List Open → Asking
+with_open now opened = record now { opened = opened }
 
 -- the innermost open word is a loop, which ends: its label
 abbrev pub loop_ended : Asking → List Open → ℕ → Result (ℕ × Asking) Refusal
-loop_ended now (Loop _ label ∷ around) line = Ok (label, left now around)
-loop_ended now (JumpAhead _ _ ∷ around) line = refuse line Unmatched
-loop_ended now [] line = refuse line Unmatched
+loop_ended now (Loop _ label ∷ around) line = Ok (label, with_open now around)
+loop_ended now (JumpAhead _ _ ∷ around) line = refuse_line line Unmatched
+loop_ended now [] line = refuse_line line Unmatched
 
 abbrev pub end_loop : Asking → ℕ → Result (ℕ × Asking) Refusal
 end_loop now line = loop_ended now now.opened line
 
 -- the same of a jump ahead
 abbrev pub ahead_ended : Asking → List Open → ℕ → Result (ℕ × Asking) Refusal
-ahead_ended now (JumpAhead _ label ∷ around) line = Ok (label, left now around)
-ahead_ended now (Loop _ _ ∷ around) line = refuse line Unmatched
-ahead_ended now [] line = refuse line Unmatched
+ahead_ended now (JumpAhead _ label ∷ around) line = Ok (label, with_open now around)
+ahead_ended now (Loop _ _ ∷ around) line = refuse_line line Unmatched
+ahead_ended now [] line = refuse_line line Unmatched
 
 abbrev pub end_ahead : Asking → ℕ → Result (ℕ × Asking) Refusal
 end_ahead now line = ahead_ended now now.opened line
 
 -- a loop stands right around the innermost open word, which stays open; the loop ends: its label
 abbrev pub around_ended : Asking → List Open → ℕ → Result (ℕ × Asking) Refusal
-around_ended now (innermost ∷ opened) line = end_loop (left now opened) line ▷ (λ end. Ok (end.0, left end.1 (innermost ∷ end.1.opened)))
-around_ended now [] line = refuse line Unmatched
+around_ended now (innermost ∷ opened) line = end_loop (with_open now opened) line ▷ (λ end. Ok (end.0, with_open end.1 (innermost ∷ end.1.opened)))
+around_ended now [] line = refuse_line line Unmatched
 
 abbrev pub end_around : Asking → ℕ → Result (ℕ × Asking) Refusal
 end_around now line = around_ended now now.opened line
 
 -- what a control word asks for
 abbrev pub control : Asking → ℕ → Control → Result Asking Refusal
-control now line Begin = Ok (begin now line)
-control now line For = Ok (begin (asking now line (Put (Opcode Push))) line)
+control now line Begin = Ok (begin_loop now line)
+control now line For = Ok (begin_loop (asking now line (Put (Opcode Push))) line)
 control now line (If op) = Ok (ahead now line op)
 control now line Else = end_ahead now line ▷ (λ end. mark (ahead end.1 line Jump) line end.0)
 control now line Then = end_ahead now line ▷ (λ end. mark end.1 line end.0)
@@ -197,7 +197,7 @@ control now line (Until op) = end_loop now line ▷ (λ end. Ok (jump end.1 line
 control now line Next = end_loop now line ▷ (λ end. Ok (jump end.1 line NextOp end.0))
 control now line NextAround = end_around now line ▷ (λ end. Ok (jump end.1 line NextOp end.0))
 control now line UnextWord = end_loop now line ▷ (λ end. Ok (asking end.1 line (Unext end.0)))
-control now line (While op) = end_loop now line ▷ (λ end. Ok (left (ahead end.1 line op) (Loop line end.0 ∷ (ahead end.1 line op).opened)))
+control now line (While op) = end_loop now line ▷ (λ end. Ok (with_open (ahead end.1 line op) (Loop line end.0 ∷ (ahead end.1 line op).opened)))
 control now line Repeat = end_loop now line ▷ (λ end. end_ahead (jump end.1 line Jump end.0) line ▷ (λ out. mark out.1 line out.0))
 
 -- ---- numbers and values
@@ -205,22 +205,22 @@ control now line Repeat = end_loop now line ▷ (λ end. end_ahead (jump end.1 l
 -- what a number asks for, where the word is one that is in range
 abbrev pub by_range : {X : Type 0} → NumberIn → ℕ → (ℕ → Result X Refusal) → Result X Refusal → Result X Refusal
 by_range (Of n) line asks other = asks n
-by_range OutOfRange line asks other = refuse line NoNumberHere
+by_range OutOfRange line asks other = refuse_line line NoNumberHere
 by_range NoNumber line asks other = other
 
 -- the value that a word says, where it says one: a number, a port, or behind an apostrophe the address of a label
-unfoldable pub value_said : Asking → ℕ → List ℕ → Result (Option Value × Asking) Refusal
+unfoldable pub value_said : Asking → ℕ → List ℕ → Result (Option Operand × Asking) Refusal
 value_said now line word =
-    if begins word (codes "'") then
-    (if has_bytes (drop 1 word) then Ok (Some (Label (number_of now.labels (drop 1 word))), naming now line (drop 1 word)) else refuse line Missing)
-    else by_range (number_in word) line (λ n. Ok (Some (Number n), now)) (Ok (None, now))
+    if has_prefix word (codes "'") then
+    (if has_bytes (drop 1 word) then Ok (Some (Label (label_number now.labels (drop 1 word))), naming now line (drop 1 word)) else refuse_line line Missing)
+    else by_range (number_by_word word) line (λ n. Ok (Some (Number n), now)) (Ok (None, now))
 
 -- ---- words
 
 -- `X ,`
-abbrev pub cell : Asking → ℕ → Option Value → Result Asking Refusal
+abbrev pub cell : Asking → ℕ → Option Operand → Result Asking Refusal
 cell now line (Some value) = Ok (asking (record now { expect = Nothing }) line (Put (Cell value)))
-cell now line None = refuse line Missing
+cell now line None = refuse_line line Missing
 
 abbrev pub directive : Asking → ℕ → Directive → Asking
 directive now line Labels = record now { expect = Name }
@@ -232,12 +232,12 @@ directive now line (Carries is_set) = asking (record now { carries = is_set }) l
 -- `NAME`, or `NAME ;`
 unfoldable pub call : Asking → ℕ → List ℕ → List ℕ → Result Asking Refusal
 call now line name next =
-    if is_taken name then refuse line (Unknown name)
-    else if bytes_eq next (codes ";") then Ok (jump (record (naming now line name) { expect = Nothing }) line Jump (number_of now.labels name))
-    else Ok (jump (naming now line name) line Call (number_of now.labels name))
+    if is_taken name then refuse_line line (Unknown name)
+    else if bytes_eq next (codes ";") then Ok (jump (record (naming now line name) { expect = Nothing }) line Jump (label_number now.labels name))
+    else Ok (jump (naming now line name) line Call (label_number now.labels name))
 
 -- a literal, or else a label's name
-abbrev pub value_or_call : Asking → ℕ → List ℕ → List ℕ → Option Value → Result Asking Refusal
+abbrev pub value_or_call : Asking → ℕ → List ℕ → List ℕ → Option Operand → Result Asking Refusal
 value_or_call now line word next (Some value) = Ok (asking now line (Put (Literal value)))
 value_or_call now line word next None = call now line word next
 
@@ -260,12 +260,12 @@ word_asks now line word next =
 
 -- `: NAME`
 unfoldable pub name_asks : Asking → ℕ → List ℕ → Result Asking Refusal
-name_asks now line name = if is_taken name then refuse line Taken else mark (naming now line name) line (number_of now.labels name)
+name_asks now line name = if is_taken name then refuse_line line Taken else mark (naming now line name) line (label_number now.labels name)
 
 -- `org N`
 unfoldable pub address_asks : Asking → ℕ → List ℕ → Result Asking Refusal
 address_asks now line word =
-    by_range (number_in word) line (λ n. if is_cell n then Ok (asking now line (Go (carried now.carries n))) else refuse line NoNumberHere) (refuse line Missing)
+    by_range (number_by_word word) line (λ n. if is_cell n then Ok (asking now line (Go (carried now.carries n))) else refuse_line line NoNumberHere) (refuse_line line Missing)
 
 -- what a register is given
 abbrev pub given_in : Registers → RegisterName → Option Given
@@ -279,16 +279,16 @@ with_given registers A given = record registers { a = Some given }
 with_given registers B given = record registers { b = Some given }
 
 -- the register is given this, and nothing before
-abbrev pub give : Asking → ℕ → RegisterName → Value → Result Asking Refusal
+abbrev pub give : Asking → ℕ → RegisterName → Operand → Result Asking Refusal
 give now line register value =
     if is_none (given_in now.registers register) then Ok (record now { registers = with_given now.registers register (record { line = line; value = value }) })
-    else refuse line RegisterTwice
+    else refuse_line line RegisterTwice
 
 -- `/p X`, `/a X`, `/b X`
 unfoldable pub register_asks : Asking → ℕ → RegisterName → List ℕ → Result Asking Refusal
 register_asks now line register word =
-    by_range (number_in word) line (λ n. if nat_lt n (bound_of register) then give now line register (Number n) else refuse line NoNumberHere)
-    (if is_taken word then refuse line Missing else give (naming now line word) line register (Label (number_of now.labels word)))
+    by_range (number_by_word word) line (λ n. if nat_lt n (bound_of register) then give now line register (Number n) else refuse_line line NoNumberHere)
+    (if is_taken word then refuse_line line Missing else give (naming now line word) line register (Label (label_number now.labels word)))
 
 -- a word by what is expected
 abbrev pub expected : Asking → Expect → ℕ → List ℕ → List ℕ → Result Asking Refusal
@@ -299,10 +299,10 @@ expected now (Register register) line word next = register_asks now line registe
 expected now Nothing line word next = Ok now
 
 -- what is said is a word, or the fault of a line
-abbrev pub of_kind : Kind → ℕ → Result Asking Refusal → Result Asking Refusal
+abbrev pub of_kind : TokenKind → ℕ → Result Asking Refusal → Result Asking Refusal
 of_kind WordKind line asks = asks
-of_kind LongLineKind line asks = refuse line LongLine
-of_kind OpenCommentKind line asks = refuse line OpenComment
+of_kind LongLineKind line asks = refuse_line line LongLine
+of_kind OpenCommentKind line asks = refuse_line line OpenComment
 
 -- one word more
 abbrev pub hear : Asking → Said → List ℕ → Result Asking Refusal
@@ -326,17 +326,17 @@ line_of (JumpAhead line _) = line
 -- no control word is open; it is told of the outermost one
 unfoldable pub all_closed : Asking → List Open → Result Asking Refusal
 all_closed now [] = Ok now
-all_closed now (one ∷ []) = refuse (line_of one) Unclosed
+all_closed now (one ∷ []) = refuse_line (line_of one) Unclosed
 all_closed now (one ∷ around) = all_closed now around
 
 -- each name is that of a place; it is told of the first that is none
 unfoldable pub all_placed : Asking → List Mention → Result Asking Refusal
 all_placed now [] = Ok now
-all_placed now (label ∷ labels) = if has_bytes label.name && not label.is_marked then refuse label.line (Unknown label.name) else all_placed now labels
+all_placed now (label ∷ labels) = if has_bytes label.name && not label.is_marked then refuse_line label.line (Unknown label.name) else all_placed now labels
 
 abbrev pub finished : Asking → ℕ → Result Asking Refusal
 finished now last =
-    if is_waiting now.expect then refuse last Missing
+    if is_waiting now.expect then refuse_line last Missing
     else all_closed now now.opened ▷ (λ closed. all_placed closed closed.labels)
 
 -- ---- the words of a node
@@ -352,5 +352,5 @@ asked_from now last [] = finished now last
 asked_from now last (said ∷ rest) = hear now said (next_text rest) ▷ (λ after. asked_from after said.line rest)
 
 -- what the words behind a node's name ask for, which stands on this line
-abbrev pub asked_of : ℕ → List Said → Result Asking Refusal
-asked_of line words = asked_from nothing_asked line words
+abbrev pub asked_by_words : ℕ → List Said → Result Asking Refusal
+asked_by_words line words = asked_from nothing_asked line words

@@ -3,7 +3,7 @@ use Rattle.std.specs.Prelude.{ℕ, ◌≡◌, if◌then◌else◌, List, [], ◌
 use Rattle.ga_source.specs.declared.item.Program.{Program}
 use Rattle.ga_source.specs.Saying.{Said, said_in}
 use Rattle.ga_source.specs.Plain.{is_node, yxx_in}
-use Rattle.ga_source.specs.Asking.{Asking, mention_of, asked_of}
+use Rattle.ga_source.specs.Asking.{Asking, mention_of, asked_by_words}
 
 -- ---- the words of each node, with their lines
 
@@ -24,7 +24,7 @@ said_bodies (said ∷ words) = if is_node said.text then said_body words ∷ sai
 pub record AsksFor (line : ℕ) (words : List Said) (program : Program) : Type 0 where
   pub begins : program.line ≡ line
   pub last : Asking
-  pub asks : asked_of line words ≡ Ok last
+  pub asks : asked_by_words line words ≡ Ok last
   pub asked : program.asked.items ≡ last.asked
   pub names : map mention_of program.names.items ≡ last.labels
   pub registers : program.registers ≡ last.registers

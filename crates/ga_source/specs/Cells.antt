@@ -34,8 +34,8 @@ is_asked labels spot [] cell = false
 is_asked labels spot (asked ∷ rest) cell = asks_for labels spot asked.request cell || is_asked labels (after_request labels spot asked.request) rest cell
 
 -- the program names the cell
-abbrev pub names : Program → ℕ → Bool
-names program cell = is_asked program.labels.items (begin_at 0) program.asked.items cell
+abbrev pub program_names : Program → ℕ → Bool
+program_names program cell = is_asked program.labels.items (begin_at 0) program.asked.items cell
 
 -- each cell of a memory that isn't among these holds what it held before
 pub record KeepsElsewhere (is_named : ℕ → Bool) (before after : NodeState) : Type 0 where
@@ -44,7 +44,7 @@ pub record KeepsElsewhere (is_named : ℕ → Bool) (before after : NodeState) :
 
 -- no program of the node names the cell
 abbrev pub IsUnasked : List Program → ℕ → ℕ → Type 0
-IsUnasked programs n cell = All (λ program. program.node.number ≡ n → names program cell ≡ false) programs
+IsUnasked programs n cell = All (λ program. program.node.number ≡ n → program_names program cell ≡ false) programs
 
 -- each cell that nobody names is 0
 pub record IsEmptyElsewhere (chip : List NodeState) (programs : List Program) : Type 0 where

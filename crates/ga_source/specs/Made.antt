@@ -7,8 +7,8 @@ use Rattle.ga_ports.specs.Address.{classified, advanced}
 use Rattle.ga_node.specs.Record.{NodeState}
 use Rattle.ga_grid.specs.Chip.{node_at}
 use Rattle.ga_grid.specs.Load.{default_chip}
-use Rattle.ga_source.specs.declared.item.Value.{Value}
-use Rattle.ga_source.specs.declared.item.Value.TheVariants.{Number}
+use Rattle.ga_source.specs.declared.item.Operand.{Operand}
+use Rattle.ga_source.specs.declared.item.Operand.TheVariants.{Number}
 use Rattle.ga_source.specs.declared.item.Item.TheVariants.{Cell}
 use Rattle.ga_source.specs.declared.item.Request.{Request}
 use Rattle.ga_source.specs.declared.item.Request.TheVariants.{Put, Go}
@@ -35,21 +35,21 @@ address_behind at (Go address) = address
 address_behind at _ = at
 
 -- the node with the cells that requests ask for, from an address on
-unfoldable pub written : NodeState → ℕ → List Request → NodeState
-written node at [] = node
-written node at (request ∷ requests) = written (with_asked node at request) (address_behind at request) requests
+unfoldable pub with_requests : NodeState → ℕ → List Request → NodeState
+with_requests node at [] = node
+with_requests node at (request ∷ requests) = with_requests (with_asked node at request) (address_behind at request) requests
 
 -- ---- nodes
 
 -- a number that is given, or what was there before
-abbrev pub number_or : Option Value → ℕ → ℕ
+abbrev pub number_or : Option Operand → ℕ → ℕ
 number_or (Some (Number n)) before = n
 number_or _ before = before
 
 -- The node with what plain words ask for: their cells from address 0 on, and the registers. P is 0 where there are cells and no
 -- `/p`.
 abbrev pub plain_node : NodeState → Plain → NodeState
-plain_node node plain = record (written node 0 plain.requests) {
+plain_node node plain = record (with_requests node 0 plain.requests) {
   p = number_or plain.p (if list_any is_item plain.requests then 0 else node.p);
   a = number_or plain.a node.a;
   b = number_or plain.b node.b;
@@ -66,6 +66,6 @@ abbrev pub HasPlain : List NodeState → List (List ℕ) → Type 0
 HasPlain chip words = (n : ℕ) (plain : Plain) → yxx_in (slice_index_or words 0 []) ≡ Some n → plain_of (drop 1 words) ≡ Some plain → IsNode (plain_node (node_at default_chip n) plain) (node_at chip n)
 
 -- the chip that a source makes, as far as its words are plain: a node that it doesn't name is as at load
-pub record IsMade (source : List ℕ) (chip : List NodeState) : Type 0 where
+pub record IsChipOfSource (source : List ℕ) (chip : List NodeState) : Type 0 where
   pub named : All (HasPlain chip) (bodies_in (words_in source))
   pub others : (n : ℕ) → All (λ words. yxx_in (slice_index_or words 0 []) ≢ Some n) (bodies_in (words_in source)) → node_at chip n ≡ node_at default_chip n

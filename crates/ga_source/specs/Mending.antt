@@ -20,9 +20,9 @@ abbrev pub with_line : Token → ℕ → Token
 with_line word number = record word { line = number }
 
 -- the words with numbers, from this one on, in place of their lines
-unfoldable pub numbered : ℕ → List Token → List Token
-numbered number [] = []
-numbered number (word ∷ words) = with_line word number ∷ numbered (next_line number) words
+unfoldable pub with_numbers : ℕ → List Token → List Token
+with_numbers number [] = []
+with_numbers number (word ∷ words) = with_line word number ∷ with_numbers (next_line number) words
 
 abbrev pub is_numbered : ℕ → Token → Bool
 is_numbered number word = word.line == number
@@ -33,12 +33,12 @@ place_in (Some k) end = min k end
 place_in None end = end
 
 -- the place of the word with this number, behind all words where none has it
-abbrev pub place_of : ℕ → List Token → ℕ
-place_of number words = place_in (position (is_numbered number) words) (length words)
+abbrev pub place_of_token : ℕ → List Token → ℕ
+place_of_token number words = place_in (position (is_numbered number) words) (length words)
 
 -- the text of a word, empty where there is none
-abbrev pub text_at : List Token → ℕ → List ℕ
-text_at words k = slice_index_or (map (λ word. word.text.now) words) k []
+abbrev pub token_text : List Token → ℕ → List ℕ
+token_text words k = slice_index_or (map (λ word. word.text.now) words) k []
 
 -- ---- what goes with a word
 
@@ -50,50 +50,50 @@ takes_word (Some (Register _)) = true
 takes_word _ = false
 
 -- the word takes the next one with it
-abbrev pub leads : List ℕ → Bool
-leads text = is_node text || takes_word (directive_in text)
+abbrev pub is_leading : List ℕ → Bool
+is_leading text = is_node text || takes_word (directive_in text)
 
 -- the first word that goes: the one at fault, or the one that takes it
 abbrev pub first_gone : List Token → ℕ → ℕ
-first_gone words at = if nat_lt 0 at && leads (text_at words (at - 1)) then at - 1 else at
+first_gone words at = if nat_lt 0 at && is_leading (token_text words (at - 1)) then at - 1 else at
 
 -- behind the word at fault, and behind a `,` that makes it a cell
 abbrev pub behind_gone : List Token → ℕ → ℕ
-behind_gone words at = if bytes_eq (text_at words (at + 1)) (codes ",") then at + 2 else at + 1
+behind_gone words at = if bytes_eq (token_text words (at + 1)) (codes ",") then at + 2 else at + 1
 
 -- a node begins with the word
-abbrev pub begins : Token → Bool
-begins word = is_node word.text.now
+abbrev pub begins_node : Token → Bool
+begins_node word = is_node word.text.now
 
 -- the words behind so many, where there are as many
-abbrev pub past : List Token → ℕ → List Token
-past words count = drop (min count (length words)) words
+abbrev pub tokens_past : List Token → ℕ → List Token
+tokens_past words count = drop (min count (length words)) words
 
 -- from the next `node` on
 abbrev pub from_node : List Token → List Token
-from_node words = drop (place_in (position begins words) (length words)) words
+from_node words = drop (place_in (position begins_node words) (length words)) words
 
 -- the fault is that of a node's beginning, or no node has begun
 abbrev pub is_head : List Token → ℕ → Bool
-is_head words first = first == 0 || is_node (text_at words first)
+is_head words first = first == 0 || is_node (token_text words first)
 
 -- what stands behind: of a node's beginning all up to the next `node` goes
 abbrev pub back : List Token → ℕ → ℕ → List Token
-back words first at = if is_head words first then from_node (past words (if first == at then at + 1 else at)) else past words (behind_gone words at)
+back words first at = if is_head words first then from_node (tokens_past words (if first == at then at + 1 else at)) else tokens_past words (behind_gone words at)
 
 abbrev pub without_at : List Token → ℕ → List Token
 without_at words at = take (first_gone words at) words ++ back words (first_gone words at) at
 
 -- the words without the one of this number and those that go with it
-unfoldable pub without : List Token → ℕ → List Token
-without words number = without_at words (place_of number words)
+unfoldable pub without_token : List Token → ℕ → List Token
+without_token words number = without_at words (place_of_token number words)
 
 -- ---- words with faults
 
 -- the words that faults leave, one after another
 unfoldable pub mended : List Token → List Fault → List Token
 mended words [] = words
-mended words (fault ∷ faults) = mended (without words fault.line) faults
+mended words (fault ∷ faults) = mended (without_token words fault.line) faults
 
 -- The chip has the programs of these words: each asks for what its words do, and each other node is as at load.
 pub record IsAssembledOf (words : List Token) (all : Assembled) : Type 0 where

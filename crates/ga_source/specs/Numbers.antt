@@ -21,12 +21,12 @@ abbrev pub digits_in : ℕ → List ℕ → Option ℕ
 digits_in base text = if is_numeral base text then Some (digits_value base text) else None
 
 -- the text begins so
-abbrev pub begins : List ℕ → List ℕ → Bool
-begins text front = bytes_eq (take (length front) text) front
+abbrev pub has_prefix : List ℕ → List ℕ → Bool
+has_prefix text front = bytes_eq (take (length front) text) front
 
 -- decimal digits, or hexadecimal ones behind `0x`
 abbrev pub plain_in : List ℕ → Option ℕ
-plain_in text = if begins text (codes "0x") then digits_in 16 (drop 2 text) else digits_in 10 text
+plain_in text = if has_prefix text (codes "0x") then digits_in 16 (drop 2 text) else digits_in 10 text
 
 -- a number up to 262143
 abbrev pub word_of_size : ℕ → Number
@@ -38,7 +38,7 @@ word_below size = if nat_le size 131072 then Of ((262144 - size) % 262144) else 
 
 abbrev pub numeral_in : List ℕ → Number
 numeral_in text =
-    if begins text (codes "-") then option_map_or word_below (plain_in (drop 1 text)) Nothing
+    if has_prefix text (codes "-") then option_map_or word_below (plain_in (drop 1 text)) Nothing
     else option_map_or word_of_size (plain_in text) Nothing
 
 -- ---- ports
@@ -69,5 +69,5 @@ abbrev pub port_in : List ℕ → Option ℕ
 port_in text = option_or (by_name ports text) (set_in text)
 
 -- ---- what a word says of a number: the address of a port, or the number modulo 2^18
-abbrev pub number_in : List ℕ → Number
-number_in text = option_map_or Of (port_in text) (numeral_in text)
+abbrev pub number_by_word : List ℕ → Number
+number_by_word text = option_map_or Of (port_in text) (numeral_in text)

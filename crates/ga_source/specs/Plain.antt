@@ -4,8 +4,8 @@ use Rattle.std.specs.Prelude.{ℕ, ◌≡◌, ◌+◌, ◌*◌, ◌-◌, nat_le,
 use Rattle.ga_grid.specs.Grid.{node_of}
 use Rattle.ga_source.specs.declared.number.Number.{Number as NumberIn}
 use Rattle.ga_source.specs.declared.number.Number.TheVariants.{Of, OutOfRange, Nothing}
-use Rattle.ga_source.specs.declared.item.Value.{Value}
-use Rattle.ga_source.specs.declared.item.Value.TheVariants.{Number}
+use Rattle.ga_source.specs.declared.item.Operand.{Operand}
+use Rattle.ga_source.specs.declared.item.Operand.TheVariants.{Number}
 use Rattle.ga_source.specs.declared.item.Item.TheVariants.{Cell}
 use Rattle.ga_source.specs.declared.item.Request.{Request}
 use Rattle.ga_source.specs.declared.item.Request.TheVariants.{Put, Go}
@@ -16,7 +16,7 @@ use Rattle.ga_source.specs.declared.item.Program.{Program}
 use Rattle.ga_source.specs.Saying.{Said, said_in}
 use Rattle.ga_grid.specs.Names.{node_number}
 use Rattle.ga_ports.specs.Steps.{◌>>=◌}
-use Rattle.ga_source.specs.Numbers.{number_in}
+use Rattle.ga_source.specs.Numbers.{number_by_word}
 
 -- ---- the words of each node
 
@@ -51,9 +51,9 @@ yxx_in text = node_number text >>= node_of
 -- requests and values of registers
 pub record Plain : Type 0 where
   pub requests : List Request
-  pub p : Option Value
-  pub a : Option Value
-  pub b : Option Value
+  pub p : Option Operand
+  pub a : Option Operand
+  pub b : Option Operand
 
 -- nothing is asked
 abbrev pub no_request : Plain
@@ -79,24 +79,24 @@ abbrev pub is_cell : ℕ → Bool
 is_cell address = nat_lt address 0x40 || nat_le 0x80 address && nat_lt address 0xc0
 
 -- a register that isn't given yet gets a number below its bound
-abbrev pub may_be : Option Value → ℕ → ℕ → Bool
+abbrev pub may_be : Option Operand → ℕ → ℕ → Bool
 may_be given n bound = is_none given && nat_lt n bound
 
 -- two words more: `N ,`, `org N`, `/p N`, `/a N` or `/b N`, with N in range, and each register at most once
-abbrev pub with_words : Plain → List ℕ → List ℕ → Option Plain
-with_words plain first second =
-    if bytes_eq second (codes ",") then by_number (number_in first) (λ n. Some (with_request plain (Put (Cell (Number n)))))
-    else if bytes_eq first (codes "org") then by_number (number_in second) (λ n. only_if (is_cell n) (with_request plain (Go n)))
-    else if bytes_eq first (codes "/p") then by_number (number_in second) (λ n. only_if (may_be plain.p n 0x400) (record plain { p = Some (Number n) }))
-    else if bytes_eq first (codes "/a") then by_number (number_in second) (λ n. only_if (may_be plain.a n 0x40000) (record plain { a = Some (Number n) }))
-    else if bytes_eq first (codes "/b") then by_number (number_in second) (λ n. only_if (may_be plain.b n 0x200) (record plain { b = Some (Number n) }))
+abbrev pub with_two_words : Plain → List ℕ → List ℕ → Option Plain
+with_two_words plain first second =
+    if bytes_eq second (codes ",") then by_number (number_by_word first) (λ n. Some (with_request plain (Put (Cell (Number n)))))
+    else if bytes_eq first (codes "org") then by_number (number_by_word second) (λ n. only_if (is_cell n) (with_request plain (Go n)))
+    else if bytes_eq first (codes "/p") then by_number (number_by_word second) (λ n. only_if (may_be plain.p n 0x400) (record plain { p = Some (Number n) }))
+    else if bytes_eq first (codes "/a") then by_number (number_by_word second) (λ n. only_if (may_be plain.a n 0x40000) (record plain { a = Some (Number n) }))
+    else if bytes_eq first (codes "/b") then by_number (number_by_word second) (λ n. only_if (may_be plain.b n 0x200) (record plain { b = Some (Number n) }))
     else None
 
 -- what words ask for behind others, where each is plain
 unfoldable pub plain_from : Plain → List (List ℕ) → Option Plain
 plain_from plain [] = Some plain
 plain_from plain (word ∷ []) = None
-plain_from plain (first ∷ second ∷ words) = with_words plain first second >>= (λ more. plain_from more words)
+plain_from plain (first ∷ second ∷ words) = with_two_words plain first second >>= (λ more. plain_from more words)
 
 -- what the words of a node ask for behind its name, where each is plain
 abbrev pub plain_of : List (List ℕ) → Option Plain
@@ -105,7 +105,7 @@ plain_of words = plain_from no_request words
 -- ---- the programs of a source
 
 -- a register's value, where it is given
-abbrev pub value_in : Option Given → Option Value
+abbrev pub value_in : Option Given → Option Operand
 value_in given = option_map (λ one. one.value) given
 
 -- requests without their lines, and the registers' values

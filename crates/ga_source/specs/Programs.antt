@@ -8,14 +8,14 @@ use Rattle.ga_grid.specs.Load.{default_chip}
 use Rattle.ga_source.specs.declared.item.Given.{Given}
 use Rattle.ga_source.specs.declared.item.Registers.{Registers}
 use Rattle.ga_source.specs.declared.item.Program.{Program}
-use Rattle.ga_source.specs.declared.item.Value.{Value}
-use Rattle.ga_source.specs.declared.item.Value.TheVariants.{Number, Label as LabelOf}
+use Rattle.ga_source.specs.declared.item.Operand.{Operand}
+use Rattle.ga_source.specs.declared.item.Operand.TheVariants.{Number, Label as LabelOf}
 use Rattle.ga_source.specs.declared.item.Request.{Request}
 use Rattle.ga_source.specs.declared.item.Request.TheVariants.{Put, Unext}
 use Rattle.ga_source.specs.declared.item.Asked.{Asked}
 use Rattle.ga_source.specs.declared.labels.Label.{Label}
 use Rattle.ga_source.specs.Reading.{resolved, begin_at, follows}
-use Rattle.ga_source.specs.Cells.{names, KeepsElsewhere}
+use Rattle.ga_source.specs.Cells.{program_names, KeepsElsewhere}
 
 -- the value that a register is given
 abbrev pub given_of : List (Option ℕ) → Option Given → Option ℕ
@@ -50,7 +50,7 @@ abbrev pub is_named : List ℕ → Label → Bool
 is_named name label = bytes_eq label.name.now name
 
 -- P where no line gives it: the address of the label `main` where there is one, else 0
-abbrev pub start_of : List Label → Value
+abbrev pub start_of : List Label → Operand
 start_of labels = option_map_or LabelOf (position (is_named (codes "main")) labels) (Number 0)
 
 abbrev pub or_start : Option Given → List Label → Bool → Option Given
@@ -65,7 +65,7 @@ at_load given labels has = record given { p = or_start given.p labels has }
 -- Its registers are those of the program at load, and what is left is as it was before.
 pub record HasProgram (before after : NodeState) (program : Program) : Type 0 where
   pub reads : follows after program.labels.items (begin_at 0) program.asked.items ≡ true
-  pub elsewhere : KeepsElsewhere (names program) before after
+  pub elsewhere : KeepsElsewhere (program_names program) before after
   pub rest : after ≡ with_registers (record before { ram = after.ram; rom = after.rom }) program.labels.items (at_load program.registers program.names.items (has_cells program.asked.items))
 
 -- the program's node has it, and was as at load before

@@ -1,20 +1,20 @@
 -- What a source says: its words with their lines, comments left out (docs/REFERENCE.md, "Source"; the notation is this project's own).
 use Rattle.std.specs.Prelude.{ℕ, ◌+◌, ◌-◌, ◌^◌, ◌==◌, nat_lt, Bool, true, false, ◌||◌, ◌&&◌, not, if◌then◌else◌, List, [], ◌∷◌, ◌++◌, length, map, min, filter, take, drop, slice_index, codes, bytes_eq}
-use Rattle.ga_source.specs.declared.scan.Kind.{Kind}
-use Rattle.ga_source.specs.declared.scan.Kind.TheVariants.{Word, LongLine, OpenComment}
+use Rattle.ga_source.specs.declared.scan.TokenKind.{TokenKind}
+use Rattle.ga_source.specs.declared.scan.TokenKind.TheVariants.{Word, LongLine, OpenComment}
 use Rattle.ga_source.specs.declared.scan.Token.{Token}
 
 -- ---- lines, and the words of a line
 
 -- parts of a text, with one byte more at the front of the first
-abbrev pub with_byte : ℕ → List (List ℕ) → List (List ℕ)
-with_byte byte [] = (byte ∷ []) ∷ []
-with_byte byte (part ∷ parts) = (byte ∷ part) ∷ parts
+abbrev pub onto_first_part : ℕ → List (List ℕ) → List (List ℕ)
+onto_first_part byte [] = (byte ∷ []) ∷ []
+onto_first_part byte (part ∷ parts) = (byte ∷ part) ∷ parts
 
 -- The parts of a text that some bytes end. The last may lack its end. An empty text has no part.
 unfoldable pub parted : (ℕ → Bool) → List ℕ → List (List ℕ)
 parted ends [] = []
-parted ends (byte ∷ text) = if ends byte then [] ∷ parted ends text else with_byte byte (parted ends text)
+parted ends (byte ∷ text) = if ends byte then [] ∷ parted ends text else onto_first_part byte (parted ends text)
 
 -- a line feed
 abbrev pub is_feed : ℕ → Bool
@@ -24,15 +24,15 @@ is_feed byte = byte == 10
 abbrev pub is_blank : ℕ → Bool
 is_blank byte = byte == 32 || byte == 9
 
-abbrev pub lines_of : List ℕ → List (List ℕ)
-lines_of text = parted is_feed text
+abbrev pub source_lines : List ℕ → List (List ℕ)
+source_lines text = parted is_feed text
 
 abbrev pub has_bytes : List ℕ → Bool
 has_bytes [] = false
 has_bytes (byte ∷ text) = true
 
-abbrev pub words_of : List ℕ → List (List ℕ)
-words_of line = filter has_bytes (parted is_blank line)
+abbrev pub source_words : List ℕ → List (List ℕ)
+source_words line = filter has_bytes (parted is_blank line)
 
 -- ---- what some editors write into a text
 
@@ -55,22 +55,22 @@ bare line text = without_return (unmarked line text)
 -- ---- what a line says
 
 -- the most bytes of a line, without these and its line feed
-abbrev pub longest : ℕ
-longest = 200
+abbrev pub longest_source_line : ℕ
+longest_source_line = 200
 
 -- a word, or what is wrong with a line and then no text, with the line's number
 pub record Said : Type 0 where
   pub line : ℕ
   pub text : List ℕ
-  pub kind : Kind
+  pub kind : TokenKind
 
 abbrev pub a_word : ℕ → List ℕ → Said
 a_word line text = record { line = line; text = text; kind = Word }
 
-abbrev pub a_fault : ℕ → Kind → Said
+abbrev pub a_fault : ℕ → TokenKind → Said
 a_fault line kind = record { line = line; text = []; kind = kind }
 
-abbrev pub is_word_kind : Kind → Bool
+abbrev pub is_word_kind : TokenKind → Bool
 is_word_kind Word = true
 is_word_kind LongLine = false
 is_word_kind OpenComment = false
@@ -94,7 +94,7 @@ spoken line false (word ∷ words) =
 spoken line true (word ∷ words) = spoken line (not (closes word)) words
 
 abbrev pub said_by : ℕ → List ℕ → List Said
-said_by line text = if nat_lt longest (length text) then a_fault line LongLine ∷ [] else spoken line false (words_of text)
+said_by line text = if nat_lt longest_source_line (length text) then a_fault line LongLine ∷ [] else spoken line false (source_words text)
 
 -- ---- what a text says
 
@@ -115,7 +115,7 @@ said_from line (text ∷ texts) =
 
 -- what a source says, up to its end or to a line `end`
 abbrev pub all_in : List ℕ → List Said
-all_in source = said_from 1 (lines_of source)
+all_in source = said_from 1 (source_lines source)
 
 -- what a source says, up to its end, to a line `end` or to the first fault of a line
 unfoldable pub said_in : List ℕ → List Said

@@ -1,7 +1,7 @@
 -- Sources that only want of memory keeps from being assembled (docs/REFERENCE.md, "Source"; this project's own).
 use Rattle.std.specs.Prelude.{ℕ, ◌≡◌, ◌≢◌, ◌%◌, ◌<◌, ◌≤◌, ◌⊎◌, true, List, [], ◌∷◌, ◌++◌, length, drop, slice_index_or, Option, Some}
 use Rattle.std.specs.List.{All, list_all}
-use Rattle.ga_source.specs.declared.item.Value.TheVariants.{Number}
+use Rattle.ga_source.specs.declared.item.Operand.TheVariants.{Number}
 use Rattle.ga_source.specs.declared.item.Item.TheVariants.{Cell}
 use Rattle.ga_source.specs.declared.item.Request.{Request}
 use Rattle.ga_source.specs.declared.item.Request.TheVariants.{Put}
@@ -28,7 +28,7 @@ abbrev pub cell_of : List (ℕ × ℕ) → ℕ → ℕ × ℕ
 cell_of cells k = slice_index_or cells k (0, 0)
 
 -- each cell is one of a memory, and none comes twice
-pub record AreFree (cells : List (ℕ × ℕ)) : Type 0 where
+pub record AreDistinctCells (cells : List (ℕ × ℕ)) : Type 0 where
   pub memory : (k : ℕ) → k < length cells → IsMemoryAddress (cell_of cells k).0
   pub apart : (j k : ℕ) → j < k → k < length cells → (cell_of cells k).0 % 512 ≢ (cell_of cells j).0 % 512
 
@@ -38,15 +38,15 @@ pub record IsSoundBody (words : List (List ℕ)) : Type 0 where
   pub plain : Plain
   pub node : yxx_in (slice_index_or words 0 []) ≡ Some number
   pub words_plain : plain_of (drop 1 words) ≡ Some plain
-  pub free : AreFree (cells_from 0 plain.requests)
+  pub free : AreDistinctCells (cells_from 0 plain.requests)
 
 -- the number of the node that the k-th of these words name
-abbrev pub number_of : List (List (List ℕ)) → ℕ → Option ℕ
-number_of bodies k = yxx_in (slice_index_or (slice_index_or bodies k []) 0 [])
+abbrev pub node_number_of_words : List (List (List ℕ)) → ℕ → Option ℕ
+node_number_of_words bodies k = yxx_in (slice_index_or (slice_index_or bodies k []) 0 [])
 
 -- No line has a fault, the words begin with `node`, each node is named once, and what is asked of it is plain and has room.
-pub record IsSound (source : List ℕ) : Type 0 where
+pub record IsSoundSource (source : List ℕ) : Type 0 where
   pub whole : list_all is_word (said_in source) ≡ true
   pub begins : body_in (words_in source) ≡ []
   pub bodies : All IsSoundBody (bodies_in (words_in source))
-  pub apart : (j k : ℕ) → j < k → k < length (bodies_in (words_in source)) → number_of (bodies_in (words_in source)) j ≢ number_of (bodies_in (words_in source)) k
+  pub apart : (j k : ℕ) → j < k → k < length (bodies_in (words_in source)) → node_number_of_words (bodies_in (words_in source)) j ≢ node_number_of_words (bodies_in (words_in source)) k

@@ -13,7 +13,7 @@ use Rattle.ga_source.specs.declared.vocabulary.Register.TheVariants.{P, A, B}
 use Rattle.ga_source.specs.declared.number.Number.{Number}
 use Rattle.ga_source.specs.declared.number.Number.TheVariants.{Of, OutOfRange, Nothing}
 use Rattle.ga_ports.specs.Steps.{◌>>=◌}
-use Rattle.ga_source.specs.Numbers.{by_name, begins, number_in}
+use Rattle.ga_source.specs.Numbers.{by_name, has_prefix, number_by_word}
 
 -- ---- opcodes
 
@@ -102,14 +102,14 @@ bound_of B = 0x200
 -- ---- names
 
 -- the number is one, in range or not
-abbrev pub is_number : Number → Bool
-is_number (Of _) = true
-is_number OutOfRange = true
-is_number Nothing = false
+abbrev pub is_a_number : Number → Bool
+is_a_number (Of _) = true
+is_a_number OutOfRange = true
+is_a_number Nothing = false
 
 -- the word begins a node, ends a cell or begins a comment, or has an apostrophe in front
 abbrev pub is_sign : List ℕ → Bool
-is_sign word = bytes_eq word (codes "node") || bytes_eq word (codes ",") || bytes_eq word (codes "\\") || bytes_eq word (codes "(") || begins word (codes "'")
+is_sign word = bytes_eq word (codes "node") || bytes_eq word (codes ",") || bytes_eq word (codes "\\") || bytes_eq word (codes "(") || has_prefix word (codes "'")
 
 -- The word says something of itself, so that no label has this name: an opcode, with an address or without, a control word, a number,
 -- a port, a directive, or a sign.
@@ -117,6 +117,6 @@ unfoldable pub is_taken : List ℕ → Bool
 is_taken word =
     (is_some (opcode_in word) || bytes_eq word (codes "jump") || bytes_eq word (codes "call"))
     || is_some (control_in word)
-    || is_number (number_in word)
+    || is_a_number (number_by_word word)
     || is_some (directive_in word)
     || is_sign word

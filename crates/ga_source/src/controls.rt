@@ -1,13 +1,13 @@
 //! The control words: loops and jumps ahead.
 
 ghost use Rattle.std.specs.Prelude.{◌≡◌, Ok};
-ghost use Rattle.ga_source.specs.Asking.{asking, begin as begin_row, ahead as ahead_row, end_loop, end_ahead, end_around, control as control_row, jump as jump_row, line_of, ◌▷◌};
+ghost use Rattle.ga_source.specs.Asking.{asking, begin_loop as begin_row, ahead as ahead_row, end_loop, end_ahead, end_around, control as control_row, jump as jump_row, line_of, ◌▷◌};
 ghost use Rattle.ga_source.specs.kept.Answering.{Answers};
 ghost use Rattle.ga_source.specs.kept.Drafting.{asking_of};
 ghost use Rattle.ga_source.specs.declared.vocabulary.Control.TheVariants.{Else as ElseWord, Then as ThenWord, NextAround as NextAroundWord, Unext as UnextWord, While as WhileWord, Repeat as RepeatWord, For as ForWord};
 
 use super::draft::Draft;
-use super::fault::{Cause, Fault, at};
+use super::fault::{Fault, SourceCause, at};
 use super::item::{Item, Request};
 use super::vocabulary::Control;
 use ga_slots::Op;
@@ -148,7 +148,7 @@ impl<'s> Draft<'s> {
     {
         match self.open.pop() {
             Some(Open::Loop(_, label)) => Ok(label),
-            _ => Err(at(line, Cause::Unmatched)),
+            _ => Err(at(line, SourceCause::Unmatched)),
         }
     }
 
@@ -158,7 +158,7 @@ impl<'s> Draft<'s> {
     {
         match self.open.pop() {
             Some(Open::Ahead(_, label)) => Ok(label),
-            _ => Err(at(line, Cause::Unmatched)),
+            _ => Err(at(line, SourceCause::Unmatched)),
         }
     }
 
@@ -167,7 +167,7 @@ impl<'s> Draft<'s> {
         ensures { Answers result (end_around (asking_of self.old) line) (λ label. (label, asking_of self.new)) }
     {
         let Some(innermost) = self.open.pop() else {
-            return Err(at(line, Cause::Unmatched));
+            return Err(at(line, SourceCause::Unmatched));
         };
         let label = self.close_loop(line)?;
         self.open.push(innermost)?;

@@ -2,15 +2,15 @@
 
 ghost use Rattle.std.specs.Prelude.{◌≡◌, codes, [], bytes_eq, if◌then◌else◌, slice_index_or};
 ghost use Rattle.ga_slots.specs.declared.op.Op.TheVariants.{Jump, Call};
-ghost use Rattle.ga_source.specs.Asking.{asked_of, is_waiting as is_waiting_for};
+ghost use Rattle.ga_source.specs.Asking.{asked_by_words, is_waiting as is_waiting_for};
 ghost use Rattle.ga_source.specs.kept.Answering.{Answers};
 ghost use Rattle.ga_source.specs.kept.Drafting.{asking_of};
 ghost use Rattle.ga_source.specs.kept.Hearing.{texts_of};
 ghost use Rattle.ga_source.specs.Saying.{all_said};
 
 use super::controls::Open;
-use super::fault::{Cause, Fault, at};
-use super::item::{Asked, Given, Item, Registers, Request, Value};
+use super::fault::{Fault, SourceCause, at};
+use super::item::{Asked, Given, Item, Operand, Registers, Request};
 use super::labels::Labels;
 use super::number::{Number, number_of};
 use super::reading::carried;
@@ -47,8 +47,8 @@ pub(crate) struct Draft<'s> {
 
 impl<'s> Draft<'s> {
     ghost use Rattle.std.specs.Prelude.{◌≡◌, Ok};
-    ghost use Rattle.ga_source.specs.Asking.{◌▷◌, nothing_asked, asking, jump as jump_row, mark as mark_row, value_said, name_asks, register_asks, address_asks, directive as directive_row, cell as cell_row, call as call_row, word_asks, hear, give, naming, number_of as number_of_label, finished};
-    ghost use Rattle.ga_source.specs.declared.item.Value.TheVariants.{Label as LabelOf};
+    ghost use Rattle.ga_source.specs.Asking.{◌▷◌, nothing_asked, asking, jump as jump_row, mark as mark_row, value_said, name_asks, register_asks, address_asks, directive as directive_row, cell as cell_row, call as call_row, word_asks, hear, give, naming, label_number as number_of_label, finished};
+    ghost use Rattle.ga_source.specs.declared.item.Operand.TheVariants.{Label as LabelOf};
     ghost use Rattle.ga_source.specs.kept.Answering.{Answers};
     ghost use Rattle.ga_source.specs.kept.Drafting.{asking_of};
     ghost use Rattle.ga_source.specs.Saying.{said_of};
@@ -94,7 +94,7 @@ impl<'s> Draft<'s> {
         ensures { Answers result (mark_row (asking_of self.old) line label) (λ _. asking_of self.new) }
     {
         if self.labels.is_marked(label) {
-            return Err(at(line, Cause::LabelTwice));
+            return Err(at(line, SourceCause::LabelTwice));
         }
         self.labels.mark(label);
         self.ask(line, Request::Mark(label))
@@ -102,19 +102,19 @@ impl<'s> Draft<'s> {
 
     /// A number, a port, or the address of a label behind an apostrophe.
     #[tactic(auto, unfolding(crate::specs::Asking::value_said))]
-    fn value(&mut self, line: u32, text: &'s [u8]) -> Result<Option<Value>, Fault<'s>>
+    fn value(&mut self, line: u32, text: &'s [u8]) -> Result<Option<Operand>, Fault<'s>>
         ensures { Answers result (value_said (asking_of self.old) line text.now) (λ found. (found, asking_of self.new)) }
     {
         if let [b'\'', name @ ..] = text {
             if name.is_empty() {
-                return Err(at(line, Cause::Missing));
+                return Err(at(line, SourceCause::Missing));
             }
             let label = self.labels.named(line, name)?;
-            return Ok(Some(Value::Label(label)));
+            return Ok(Some(Operand::Label(label)));
         }
         match number_of(text) {
-            Number::Of(number) => Ok(Some(Value::Number(number))),
-            Number::OutOfRange => Err(at(line, Cause::Number)),
+            Number::Of(number) => Ok(Some(Operand::Number(number))),
+            Number::OutOfRange => Err(at(line, SourceCause::Number)),
             Number::Nothing => Ok(None),
         }
     }
@@ -124,7 +124,7 @@ impl<'s> Draft<'s> {
         ensures { Answers result (name_asks (asking_of self.old) line name.now) (λ _. asking_of self.new) }
     {
         if is_taken(name) {
-            return Err(at(line, Cause::Taken));
+            return Err(at(line, SourceCause::Taken));
         }
         let label = self.labels.named(line, name)?;
         self.mark(line, label)
@@ -138,16 +138,16 @@ impl<'s> Draft<'s> {
         let value = match number_of(text) {
             Number::Of(number) => {
                 if number >= register.bound() {
-                    return Err(at(line, Cause::Number));
+                    return Err(at(line, SourceCause::Number));
                 }
-                Value::Number(number)
+                Operand::Number(number)
             }
-            Number::OutOfRange => return Err(at(line, Cause::Number)),
+            Number::OutOfRange => return Err(at(line, SourceCause::Number)),
             Number::Nothing => {
                 if is_taken(text) {
-                    return Err(at(line, Cause::Missing));
+                    return Err(at(line, SourceCause::Missing));
                 }
-                Value::Label(self.labels.named(line, text)?)
+                Operand::Label(self.labels.named(line, text)?)
             }
         };
         let given = Some(Given { line, value });
@@ -157,7 +157,7 @@ impl<'s> Draft<'s> {
             Register::B => mem::replace(&mut self.registers.b, given),
         };
         if before.is_some() {
-            return Err(at(line, Cause::RegisterTwice));
+            return Err(at(line, SourceCause::RegisterTwice));
         }
         Ok(())
     }
@@ -187,11 +187,11 @@ impl<'s> Draft<'s> {
                 if found < 0x40 || 0x80 <= found && found < 0xc0 {
                     self.ask(line, Request::Go(carried(self.carries, found)))
                 } else {
-                    Err(at(line, Cause::Number))
+                    Err(at(line, SourceCause::Number))
                 }
             }
-            Number::OutOfRange => Err(at(line, Cause::Number)),
-            Number::Nothing => Err(at(line, Cause::Missing)),
+            Number::OutOfRange => Err(at(line, SourceCause::Number)),
+            Number::Nothing => Err(at(line, SourceCause::Missing)),
         }
     }
 
@@ -200,7 +200,7 @@ impl<'s> Draft<'s> {
         ensures { Answers result (value_said (asking_of self.old) line text.now ▷ (λ said. cell_row said.1 line said.0)) (λ _. asking_of self.new) }
     {
         let Some(value) = self.value(line, text)? else {
-            return Err(at(line, Cause::Missing));
+            return Err(at(line, SourceCause::Missing));
         };
         self.expect = Expect::Nothing;
         self.ask(line, Request::Put(Item::Cell(value)))
@@ -212,7 +212,7 @@ impl<'s> Draft<'s> {
         ensures { Answers result (call_row (asking_of self.old) line name.now next.now) (λ _. asking_of self.new) }
     {
         if is_taken(name) {
-            return Err(at(line, Cause::Unknown(name)));
+            return Err(at(line, SourceCause::Unknown(name)));
         }
         let label = self.labels.named(line, name)?;
         let op = calling_op(next);
@@ -266,10 +266,10 @@ impl<'s> Draft<'s> {
         ensures { Answers result (finished (asking_of self.now) line) (λ _. asking_of self.now) }
     {
         if is_waiting(self.expect) {
-            return Err(at(line, Cause::Missing));
+            return Err(at(line, SourceCause::Missing));
         }
         if let Some(open) = self.open.first() {
-            return Err(at(open.line(), Cause::Open));
+            return Err(at(open.line(), SourceCause::Open));
         }
         self.labels.check()
     }
@@ -312,7 +312,7 @@ pub(crate) fn read_node<'s>(
     line: u32,
     tokens: &[Token<'s>],
 ) -> Result<Draft<'s>, Fault<'s>>
-    ensures { Answers result (asked_of line (all_said tokens.now)) asking_of }
+    ensures { Answers result (asked_by_words line (all_said tokens.now)) asking_of }
 {
     let mut draft = Draft::new(alloc);
     let mut last = line;

@@ -7,7 +7,7 @@ use thiserror::Error;
 
 /// What is wrong.
 #[derive(Clone, Copy, PartialEq, Eq, Debug, Error)]
-pub enum Cause<'s> {
+pub enum SourceCause<'s> {
     #[error("no memory")]
     Memory,
     #[error("the line has more than 200 bytes")]
@@ -55,33 +55,33 @@ pub enum Cause<'s> {
 #[derive(Clone, Copy, PartialEq, Eq, Debug)]
 pub struct Fault<'s> {
     pub line: u32,
-    pub cause: Cause<'s>,
+    pub cause: SourceCause<'s>,
 }
 
 impl<'s> From<AllocError> for Fault<'s> {
     ghost use Rattle.std.specs.Prelude.{◌≡◌};
-    ghost use Rattle.ga_source.specs.declared.fault.Cause.TheVariants.{Memory};
+    ghost use Rattle.ga_source.specs.declared.fault.SourceCause.TheVariants.{Memory};
 
     ghost from_gives = { λ _ fault. fault.cause ≡ Memory };
 
     fn from(_refused: AllocError) -> Self {
-        at(0, Cause::Memory)
+        at(0, SourceCause::Memory)
     }
 }
 
 impl<'s, T: Drop> From<AllocFailed<T>> for Fault<'s> {
     ghost use Rattle.std.specs.Prelude.{◌≡◌};
-    ghost use Rattle.ga_source.specs.declared.fault.Cause.TheVariants.{Memory};
+    ghost use Rattle.ga_source.specs.declared.fault.SourceCause.TheVariants.{Memory};
 
     ghost from_gives = { λ _ fault. fault.cause ≡ Memory };
 
     fn from(_refused: AllocFailed<T>) -> Self {
-        at(0, Cause::Memory)
+        at(0, SourceCause::Memory)
     }
 }
 
 /// A fault at a line.
-pub(crate) fn at(line: u32, cause: Cause<'_>) -> Fault<'_>
+pub(crate) fn at(line: u32, cause: SourceCause<'_>) -> Fault<'_>
     ensures line { result.line ≡ line }
     ensures cause { result.cause ≡ cause.entry }
 {

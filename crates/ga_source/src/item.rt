@@ -10,7 +10,7 @@ use ga_slots::Op;
 
 /// A number, or the address of a label by the label's number.
 #[derive(Clone, Copy, PartialEq, Eq)]
-pub enum Value {
+pub enum Operand {
     Number(u32),
     Label(usize),
 }
@@ -21,13 +21,13 @@ pub enum Item {
     /// An opcode without an address.
     Opcode(Op),
     /// `@p`, and its value in a cell behind.
-    Literal(Value),
+    Literal(Operand),
     /// An opcode with the address of a label that stands before it in the source.
     Back(Op, usize),
     /// An opcode with the address of a label that stands behind it.
     Ahead(Op, usize),
     /// A cell of data.
-    Cell(Value),
+    Cell(Operand),
 }
 
 impl Default for Item {
@@ -64,7 +64,7 @@ pub struct Asked {
 #[derive(Clone, Copy, PartialEq, Eq)]
 pub struct Given {
     pub line: u32,
-    pub value: Value,
+    pub value: Operand,
 }
 
 /// What the source gives a node's registers at load.

@@ -2,10 +2,10 @@
 
 ghost use Rattle.std.specs.Prelude.{◌≡◌, ◌&&◌, not, [], length, map, IfOk, OnOk};
 ghost use Rattle.ga_source.specs.Saying.{has_bytes};
-ghost use Rattle.ga_source.specs.Asking.{Asking, mention_of, named_before, number_of, with_name, one_more, is_behind, with_mark, all_placed};
+ghost use Rattle.ga_source.specs.Asking.{Asking, mention_of, named_before, label_number, with_name, one_label_more, is_behind, with_mark, all_placed};
 ghost use Rattle.ga_source.specs.kept.Answering.{Answers};
 
-use super::fault::{Cause, Fault, at};
+use super::fault::{Fault, SourceCause, at};
 use std::alloc::{AllocError, Global};
 use std::collections::HashMap;
 use std::marker::Model;
@@ -70,7 +70,7 @@ impl<'s> Labels<'s> {
 
     /// The number of the label with this name; a new one where there is none.
     pub(crate) fn named(&mut self, line: u32, name: &'s [u8]) -> Result<usize, AllocError>
-        ensures number { IfOk result (λ label. label ≡ number_of self.old name.now) }
+        ensures number { IfOk result (λ label. label ≡ label_number self.old name.now) }
         ensures labels { OnOk result (self.new ≡ with_name self.old line name.now) }
     {
         if let Some(label) = self.find(name) {
@@ -94,7 +94,7 @@ impl<'s> Labels<'s> {
     /// A new label without a name.
     pub(crate) fn nameless(&mut self, line: u32, is_marked: bool) -> Result<usize, AllocError>
         ensures number { IfOk result (λ label. label ≡ length self.old) }
-        ensures labels { OnOk result (self.new ≡ one_more self.old line [] is_marked) }
+        ensures labels { OnOk result (self.new ≡ one_label_more self.old line [] is_marked) }
     {
         let label = self.list.len();
         self.list.push(Label {
@@ -130,7 +130,7 @@ impl<'s> Labels<'s> {
     {
         for label in &self.list {
             if is_unplaced(label) {
-                return Err(at(label.line, Cause::Unknown(label.name)));
+                return Err(at(label.line, SourceCause::Unknown(label.name)));
             }
         }
         Ok(())

@@ -21,10 +21,10 @@ mod spot;
 mod stores;
 mod vocabulary;
 
-pub use fault::{Cause, Fault};
-pub use item::{Asked, Given, Group, Item, Program, Registers, Request, Value};
+pub use fault::{Fault, SourceCause};
+pub use item::{Asked, Given, Group, Item, Operand, Program, Registers, Request};
 pub use labels::Label;
 pub use mending::{MOST_FAULTS, Mended, assemble_behind_faults};
 pub use program::{Assembled, assemble, assemble_words};
-pub use scan::{Kind, Token, unmarked, words_of};
+pub use scan::{Token, TokenKind, source_words, unmarked};
 pub use stores::{Store, stores_over_code};

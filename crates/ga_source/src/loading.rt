@@ -8,14 +8,14 @@ ghost use Rattle.ga_source.specs.Reading.{begin_at as begin_of, ends_cell, follo
 ghost use Rattle.ga_source.specs.kept.Layout.{IsFitGroup, IsLaidOut, takes_group};
 ghost use Rattle.ga_source.specs.kept.Loading.{HasItem, HasRest, Holds, HoldsRest, IsLoadedGroup, IsMemory, IsWordOf, Keeps, Leads, MayEnd};
 ghost use Rattle.ga_source.specs.kept.Places.{IsCell, KeepsRest};
-ghost use Rattle.ga_source.specs.declared.item.Value.{Value as ValueOf};
-ghost use Rattle.ga_source.specs.Sound.{IsMemoryAddress, AreFree};
+ghost use Rattle.ga_source.specs.declared.item.Operand.{Operand as ValueOf};
+ghost use Rattle.ga_source.specs.Sound.{IsMemoryAddress, AreDistinctCells};
 ghost use Rattle.ga_source.specs.kept.Packing.{IsCellGroup, AreCellGroups, AreWords};
 ghost use Rattle.ga_source.specs.Cells.{KeepsElsewhere, is_asked, is_at, takes};
 ghost use Rattle.ga_source.specs.kept.Words.{op_in, nothing};
 
-use super::fault::{Cause, Fault, at};
-use super::item::{Asked, Group, Item, Value};
+use super::fault::{Fault, SourceCause, at};
+use super::item::{Asked, Group, Item, Operand};
 use super::packing::Packed;
 use super::reading::{begin_at, behind, reaches, resolve};
 use super::spot::Spot;
@@ -104,7 +104,7 @@ fn opcode_word(items: &[Item]) -> Word18
 }
 
 /// A value as a word, where it is one.
-fn value_in(labels: &[Option<u32>], value: Value) -> Option<Word18>
+fn value_in(labels: &[Option<u32>], value: Operand) -> Option<Word18>
     ensures value { IfSome result (λ word. resolved labels.now value ≡ Some word) }
     ensures some { (n : ℕ) → value ≡ Value.Number n → n < 2 ^ 18 → IsSome result }
 {
@@ -117,7 +117,7 @@ fn with_jump(labels: &[Option<u32>], word: Word18, slot: usize, label: usize) ->
     ensures leads { IfSome result (λ found. Leads labels.now found slot label) }
     ensures before { IfSome result (λ found. (k : ℕ) → k ≤ slot → opcode_of found k ≡ opcode_of word k) }
 {
-    let address = resolve(labels, Value::Label(label))?;
+    let address = resolve(labels, Operand::Label(label))?;
     Some(with_target(word, slot, address))
 }
 
@@ -178,14 +178,14 @@ fn write(
 {
     let low = address % 512;
     let Some(place) = place_of(address) else {
-        return Err(at(line, Cause::Past(low)));
+        return Err(at(line, SourceCause::Past(low)));
     };
     let cell = low as usize;
     if cell >= given.len() {
-        return Err(at(line, Cause::Past(low)));
+        return Err(at(line, SourceCause::Past(low)));
     }
     if let Some(before) = given[cell] {
-        let cause = Cause::CellTwice {
+        let cause = SourceCause::CellTwice {
             cell: low,
             line: before,
         };
@@ -205,11 +205,11 @@ fn see_jump(
 ) -> Result<(), Fault<'static>>
     ensures { OnOk result ((spot.slot < 3) × (reaches_to spot.p spot.slot (resolved labels.now (Value.Label label)) ≡ true)) }
 {
-    let to = resolve(labels, Value::Label(label));
+    let to = resolve(labels, Operand::Label(label));
     if spot.slot < 3 && reaches(spot.p, spot.slot, to) {
         Ok(())
     } else {
-        let cause = Cause::Reach {
+        let cause = SourceCause::Reach {
             cell: spot.at,
             target: to.unwrap_or(0),
         };
@@ -237,7 +237,7 @@ fn write_item(
     match item {
         Item::Literal(value) => match value_in(labels, value) {
             Some(word) => write(node, given, line, spot.p, word),
-            None => Err(at(line, Cause::Number)),
+            None => Err(at(line, SourceCause::Number)),
         },
         Item::Back(_, label) => see_jump(labels, line, spot, label),
         Item::Ahead(_, label) => see_jump(labels, line, spot, label),
@@ -263,14 +263,14 @@ fn write_group(
         slice_index_or given.old (cell.0 % 512) None ≢ None) }
 {
     if let Some(line) = group.broken {
-        return Err(at(line, Cause::Loop(group.address)));
+        return Err(at(line, SourceCause::Loop(group.address)));
     }
     let items = group.items.as_slice();
     if items.is_empty() {
         return Ok(());
     }
     let Some(word) = word_of(labels, group) else {
-        return Err(at(group.line(), Cause::Number));
+        return Err(at(group.line(), SourceCause::Number));
     };
     write(node, given, group.line(), group.address, word)?;
     let mut spot = begin_at(group.address);
@@ -295,7 +295,7 @@ pub(crate) fn load(node: &mut Node, packed: &Packed, asked: &[Asked]) -> Result<
     ensures follows { OnOk result (follows_of node.new packed.now.labels.items (begin_of 0) asked.now ≡ true) }
     ensures rest { OnOk result (KeepsRest node.old node.new) }
     ensures elsewhere { OnOk result (KeepsElsewhere (is_asked packed.now.labels.items (begin_of 0) asked.now) node.old node.new) }
-    ensures refused { OnErr result ((cells : List (ℕ × ℕ)) → AreCellGroups cells packed.now.groups.items → AreWords cells → AreFree cells → ⊥) }
+    ensures refused { OnErr result ((cells : List (ℕ × ℕ)) → AreCellGroups cells packed.now.groups.items → AreWords cells → AreDistinctCells cells → ⊥) }
 {
     let labels = packed.labels.as_slice();
     let mut given = none_given();

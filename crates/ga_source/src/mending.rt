@@ -1,10 +1,10 @@
 //! Words with faults: what can be assembled of them all the same.
 
 ghost use Rattle.std.specs.Prelude.{◌≡◌, ◌≤◌, ◌<◌, length, take, drop, position, slice_index_or, IfOk, IfErr, IfSome, None, true};
-ghost use Rattle.ga_source.specs.declared.fault.Cause.TheVariants.{Memory};
-ghost use Rattle.ga_source.specs.Mending.{is_numbered as has_number, place_in as place_of_found, place_of as place_by, begins as begins_node, text_at as text_by, leads as leads_to, first_gone as first_of, behind_gone as behind_of, is_head as is_head_of, past, from_node as node_on, back as back_of, without as without_word, with_line, numbered, mended, IsAssembledOf};
+ghost use Rattle.ga_source.specs.declared.fault.SourceCause.TheVariants.{Memory};
+ghost use Rattle.ga_source.specs.Mending.{is_numbered as has_number, place_in as place_of_found, place_of_token as place_by, begins_node, token_text as text_by, is_leading as leads_to, first_gone as first_of, behind_gone as behind_of, is_head as is_head_of, tokens_past, from_node as node_on, back as back_of, without_token as without_word, with_line, with_numbers, mended, IsAssembledOf};
 
-use super::fault::{Cause, Fault};
+use super::fault::{Fault, SourceCause};
 use super::program::{Assembled, assemble_words, is_node};
 use super::scan::Token;
 use super::vocabulary::{Directive, directive_named};
@@ -24,7 +24,7 @@ pub struct Mended<'s> {
 
 /// The words with their numbers, from 1 on, in place of their lines.
 fn number<'s>(alloc: Global, words: &[Token<'s>]) -> Result<Vec<Token<'s>>, AllocError>
-    ensures { IfOk result (λ all. all.items ≡ numbered 1 words.now) }
+    ensures { IfOk result (λ all. all.items ≡ with_numbers 1 words.now) }
 {
     let mut all = Vec::new(alloc);
     let mut number = 1u32;
@@ -142,7 +142,7 @@ fn is_head(words: &[Token<'_>], first: usize) -> bool
 
 /// The words behind so many, where there are as many.
 fn behind<'a, 's>(words: &'a [Token<'s>], count: usize) -> &'a [Token<'s>]
-    ensures { result.now ≡ past words.now count }
+    ensures { result.now ≡ tokens_past words.now count }
 {
     words.split_at(count.min(words.len())).1
 }
@@ -196,7 +196,7 @@ fn is_memory(fault: Fault<'_>) -> bool
     ensures { result ≡ true → fault.entry.cause ≡ Memory }
 {
     match fault.cause {
-        Cause::Memory => true,
+        SourceCause::Memory => true,
         _ => false,
     }
 }
@@ -210,7 +210,7 @@ pub fn assemble_behind_faults<'s>(
     words: &[Token<'s>],
 ) -> Result<Mended<'s>, Fault<'s>>
     // The chip is that of the words that the faults leave.
-    ensures assembled { IfOk result (λ all. IfSome all.assembled (IsAssembledOf (mended (numbered 1 words.now) all.faults.items))) }
+    ensures assembled { IfOk result (λ all. IfSome all.assembled (IsAssembledOf (mended (with_numbers 1 words.now) all.faults.items))) }
     ensures none { IfOk result (λ all. all.assembled ≡ None → length all.faults.items ≡ 200) }
     ensures refused { IfErr result (λ fault. fault.cause ≡ Memory) }
 {

@@ -4,7 +4,7 @@ ghost use Rattle.std.specs.Prelude.{◌≡◌, ◌<◌, ◌≤◌, ◌^◌, min,
 ghost use Rattle.std.specs.Char.{digit_value};
 ghost use Rattle.std.specs.Option.{option_map_or, SomeIff};
 ghost use Rattle.ga_source.specs.declared.number.Number.TheVariants.{Nothing};
-ghost use Rattle.ga_source.specs.Numbers.{digits_in, plain_in, word_of_size, word_below, numeral_in, set_in, port_in, number_in};
+ghost use Rattle.ga_source.specs.Numbers.{digits_in, plain_in, word_of_size, word_below, numeral_in, set_in, port_in, number_by_word};
 
 use ga_ports::set_number;
 
@@ -110,7 +110,7 @@ fn numeral(text: &[u8]) -> Number
 
 /// The number of a word modulo 2^18.
 pub(crate) fn number_of(text: &[u8]) -> Number
-    ensures { result ≡ number_in text.now }
+    ensures { result ≡ number_by_word text.now }
 {
     match port(text) {
         Some(address) => Number::Of(address),

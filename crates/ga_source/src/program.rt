@@ -6,23 +6,23 @@ ghost use Rattle.ga_grid.specs.Chip.{records_of};
 ghost use Rattle.ga_grid.specs.Steady.{AreSteady};
 ghost use Rattle.ga_source.specs.Programs.{given_of, with_registers, has_cells as has_cells_of, is_item as is_item_of, start_of as start, is_named, at_load, HasProgram, IsAssembled};
 ghost use Rattle.ga_source.specs.Cells.{IsEmptyElsewhere};
-ghost use Rattle.ga_grid.specs.Grid.{number_in};
+ghost use Rattle.ga_grid.specs.Grid.{number_where_any};
 ghost use Rattle.ga_source.specs.Plain.{Plain, is_node as is_node_word, body_in, bodies_in, yxx_in, texts_in, plain_of, value_in, asked_by, AreOf, AreRead};
 ghost use Rattle.ga_source.specs.Asks.{said_body, said_bodies, AsksFor, AreAskedBy, AreAsked};
 ghost use Rattle.ga_source.specs.Groups.{HasGroups};
 ghost use Rattle.ga_source.specs.Saying.{all_said, said_in, Said};
-ghost use Rattle.ga_source.specs.Made.{IsMade};
-ghost use Rattle.ga_source.specs.declared.fault.Cause.TheVariants.{Memory};
-ghost use Rattle.ga_source.specs.declared.scan.Kind.TheVariants.{Word};
-ghost use Rattle.ga_source.specs.Sound.{AreFree, cells_from, IsSound};
+ghost use Rattle.ga_source.specs.Made.{IsChipOfSource};
+ghost use Rattle.ga_source.specs.declared.fault.SourceCause.TheVariants.{Memory};
+ghost use Rattle.ga_source.specs.declared.scan.TokenKind.TheVariants.{Word};
+ghost use Rattle.ga_source.specs.Sound.{AreDistinctCells, cells_from, IsSoundSource};
 ghost use Rattle.ga_source.specs.kept.Refusing.{IsSoundFrom};
 ghost use Rattle.ga_source.specs.kept.Packing.{IsNumber, AreNumbers};
 ghost use Rattle.ga_source.specs.kept.Hearing.{texts_of};
 ghost use Rattle.ga_source.specs.kept.Programs.{AreLoaded, AreOfFirst, AreAskedFirst};
 
 use super::draft::{Draft, read_node};
-use super::fault::{Cause, Fault, at};
-use super::item::{Asked, Given, Program, Registers, Request, Value};
+use super::fault::{Fault, SourceCause, at};
+use super::item::{Asked, Given, Operand, Program, Registers, Request};
 use super::labels::Label;
 use super::loading::load;
 use super::packing::pack;
@@ -34,7 +34,7 @@ use std::alloc::Global;
 
 /// The node of a name of three digits.
 fn node_named(text: &[u8]) -> Option<NodeId>
-    ensures { number_in result ≡ yxx_in text.now }
+    ensures { number_where_any result ≡ yxx_in text.now }
 {
     NodeId::from_yxx(node_number(text)?)
 }
@@ -95,12 +95,12 @@ fn main_among(labels: &[Label<'_>]) -> Option<usize>
 }
 
 /// P where no line gives it: the label `main` where there is one, or else 0.
-fn start_of(labels: &[Label<'_>]) -> Value
+fn start_of(labels: &[Label<'_>]) -> Operand
     ensures { result ≡ start labels.now }
 {
     match main_among(labels) {
-        Some(label) => Value::Label(label),
-        None => Value::Number(0),
+        Some(label) => Operand::Label(label),
+        None => Operand::Number(0),
     }
 }
 
@@ -133,7 +133,7 @@ fn value_given(
     };
     match resolve(labels, given.value) {
         Some(found) if found < bound => Ok(Some(found)),
-        _ => Err(at(given.line, Cause::Number)),
+        _ => Err(at(given.line, SourceCause::Number)),
     }
 }
 
@@ -180,7 +180,7 @@ fn assemble_node<'s>(
     ensures asks { IfOk result (λ program. (plain : Plain) → plain_of (texts_of tokens.now) ≡ Some plain → asked_by program.asked.items program.registers ≡ plain) }
     ensures names { IfOk result (λ program. (plain : Plain) → plain_of (texts_of tokens.now) ≡ Some plain → program.names.items ≡ []) }
     ensures refused { IfErr result (λ fault. (plain : Plain) → All (λ token. token.kind ≡ Word) tokens.now → plain_of (texts_of tokens.now) ≡ Some plain →
-        AreFree (cells_from 0 plain.requests) → fault.cause ≡ Memory) }
+        AreDistinctCells (cells_from 0 plain.requests) → fault.cause ≡ Memory) }
 {
     let Draft {
         asked,
@@ -235,17 +235,17 @@ fn assemble_first<'s>(
 {
     let first = words[0];
     if !is_node(first.word()?) {
-        return Err(at(first.line, Cause::NoNode));
+        return Err(at(first.line, SourceCause::NoNode));
     }
     if words.len() < 2 {
-        return Err(at(first.line, Cause::Missing));
+        return Err(at(first.line, SourceCause::Missing));
     }
     let name = words[1];
     let Some(id) = node_named(name.word()?) else {
-        return Err(at(name.line, Cause::NoSuchNode));
+        return Err(at(name.line, SourceCause::NoSuchNode));
     };
     if begun[id.index()] {
-        return Err(at(name.line, Cause::NodeTwice));
+        return Err(at(name.line, SourceCause::NodeTwice));
     }
     begun[id.index()] = true;
     let (_, behind) = words.split_at(2);
@@ -274,11 +274,11 @@ pub fn assemble_words<'s>(alloc: Global, words: &[Token<'s>]) -> Result<Assemble
     ensures read { IfOk result (λ all. AreOf (bodies_in (texts_in (all_said words.now))) all.programs.items) }
 
     // The words of a source of plain words that give each cell once are refused for want of memory alone.
-    ensures refused { IfErr result (λ fault. (source : List ℕ) → said_in source ≡ all_said words.now → IsSound source → fault.cause ≡ Memory) }
+    ensures refused { IfErr result (λ fault. (source : List ℕ) → said_in source ≡ all_said words.now → IsSoundSource source → fault.cause ≡ Memory) }
 {
     let mut chip = match Chip::new(alloc) {
         Ok(chip) => chip,
-        Err(_) => return Err(at(0, Cause::Memory)),
+        Err(_) => return Err(at(0, SourceCause::Memory)),
     };
     let mut begun = none_begun();
     let mut programs = Vec::new(alloc);
@@ -308,10 +308,10 @@ pub fn assemble(alloc: Global, source: &[u8]) -> Result<Assembled<'_>, Fault<'_>
     ensures read { IfOk result (λ all. AreRead source.now all.programs.items) }
 
     // So the words behind a `node` make its node, where they are plain, and a node that isn't named is as at load.
-    ensures made { IfOk result (λ all. IsMade source.now all.chip) }
+    ensures made { IfOk result (λ all. IsChipOfSource source.now all.chip) }
 
     // A source of plain words that give each cell once is refused for want of memory alone.
-    ensures refused { IfErr result (λ fault. IsSound source.now → fault.cause ≡ Memory) }
+    ensures refused { IfErr result (λ fault. IsSoundSource source.now → fault.cause ≡ Memory) }
 
     // So each cell that nobody names is 0.
     ensures empty { IfOk result (λ all. IsEmptyElsewhere all.chip all.programs.items) }

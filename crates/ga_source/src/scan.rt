@@ -2,11 +2,11 @@
 
 ghost use Rattle.std.specs.Prelude.{◌≡◌, ◌<◌, [], ◌∷◌, ◌++◌, length, IsOkAnd, IsErrAnd, IfOk, OnOk};
 ghost use Rattle.std.specs.List.{list_all};
-ghost use Rattle.ga_source.specs.Saying.{lines_of, is_blank as is_blank_byte, parted, closes as closes_comment, unmarked as without_mark, bare as bare_line, without_return as without_end, said_by, is_word, all_in, said_in, all_said};
-ghost use Rattle.ga_source.specs.declared.scan.Kind.TheVariants.{Word, LongLine, OpenComment};
-ghost use Rattle.ga_source.specs.declared.fault.Cause.TheVariants.{LongLine as TooLong, OpenComment as LeftOpen};
+ghost use Rattle.ga_source.specs.Saying.{source_lines, is_blank as is_blank_byte, parted, closes as closes_comment, unmarked as without_mark, bare as bare_line, without_return as without_end, said_by, is_word, all_in, said_in, all_said};
+ghost use Rattle.ga_source.specs.declared.scan.TokenKind.TheVariants.{Word, LongLine, OpenComment};
+ghost use Rattle.ga_source.specs.declared.fault.SourceCause.TheVariants.{LongLine as TooLong, OpenComment as LeftOpen};
 
-use super::fault::{Cause, Fault, at};
+use super::fault::{Fault, SourceCause, at};
 use std::alloc::{AllocError, Global};
 
 /// A word of the source, or what is wrong with a line, and the line's number from 1 on.
@@ -15,12 +15,12 @@ pub struct Token<'s> {
     pub line: u32,
     /// Empty where the line is at fault.
     pub text: &'s [u8],
-    pub kind: Kind,
+    pub kind: TokenKind,
 }
 
 /// What a line says here.
 #[derive(Clone, Copy, PartialEq, Eq)]
-pub enum Kind {
+pub enum TokenKind {
     Word,
     /// The line is too long.
     LongLine,
@@ -37,9 +37,9 @@ impl<'s> Token<'s> {
         ensures open { self.entry.kind ≡ OpenComment → IsErrAnd result (λ fault. (fault.line ≡ self.entry.line) × (fault.cause ≡ LeftOpen)) }
     {
         match self.kind {
-            Kind::Word => Ok(self.text),
-            Kind::LongLine => Err(at(self.line, Cause::LongLine)),
-            Kind::OpenComment => Err(at(self.line, Cause::OpenComment)),
+            TokenKind::Word => Ok(self.text),
+            TokenKind::LongLine => Err(at(self.line, SourceCause::LongLine)),
+            TokenKind::OpenComment => Err(at(self.line, SourceCause::OpenComment)),
         }
     }
 }
@@ -80,7 +80,7 @@ fn scan_line<'s>(tokens: &mut Vec<Token<'s>>, line: u32, text: &'s [u8]) -> Resu
     ensures whole { IfOk result (λ whole. whole ≡ list_all is_word (said_by line text.now)) }
 {
     if text.len() > LONGEST {
-        push(tokens, line, &[], Kind::LongLine)?;
+        push(tokens, line, &[], TokenKind::LongLine)?;
         return Ok(false);
     }
     let mut is_open = false;
@@ -94,12 +94,12 @@ fn scan_line<'s>(tokens: &mut Vec<Token<'s>>, line: u32, text: &'s [u8]) -> Resu
         } else if part == b"(".as_slice() {
             is_open = true;
         } else if !part.is_empty() {
-            push(tokens, line, part, Kind::Word)?;
+            push(tokens, line, part, TokenKind::Word)?;
         }
         rest = behind;
     }
     if is_open {
-        push(tokens, line, &[], Kind::OpenComment)?;
+        push(tokens, line, &[], TokenKind::OpenComment)?;
         return Ok(false);
     }
     Ok(true)
@@ -109,7 +109,7 @@ fn push<'s>(
     tokens: &mut Vec<Token<'s>>,
     line: u32,
     text: &'s [u8],
-    kind: Kind,
+    kind: TokenKind,
 ) -> Result<(), AllocError>
     ensures { OnOk result (all_said tokens.new.items ≡ all_said tokens.old.items ++ record { line = line; text = text.now; kind = kind } ∷ []) }
 {
@@ -120,7 +120,7 @@ fn push<'s>(
 /// The first line and the text behind it.
 fn first_line(text: &[u8]) -> (&[u8], &[u8])
     requires { 0 < length text.now }
-    ensures splits { lines_of text.now ≡ result.0.now ∷ lines_of result.1.now }
+    ensures splits { source_lines text.now ≡ result.0.now ∷ source_lines result.1.now }
     ensures shorter { length result.1.now < length text.now }
 {
     for (i, byte) in text.iter().enumerate() {
@@ -162,7 +162,7 @@ fn bare(line: u32, text: &[u8]) -> &[u8]
 ///
 /// # Errors
 /// Memory was refused.
-pub fn words_of(alloc: Global, source: &[u8]) -> Result<Vec<Token<'_>>, AllocError>
+pub fn source_words(alloc: Global, source: &[u8]) -> Result<Vec<Token<'_>>, AllocError>
     ensures { IfOk result (λ words. all_said words.items ≡ all_in source.now) }
 {
     let mut words = Vec::new(alloc);

@@ -2,7 +2,7 @@
 
 ghost use Rattle.std.specs.Prelude.{◌≡◌, ◌||◌, is_some, codes, bytes_eq};
 ghost use Rattle.ga_source.specs.Numbers.{by_name};
-ghost use Rattle.ga_source.specs.Vocabulary.{closings, other_names, own_names, without_address, opcode_in, control_in, directive_in, bound_of, is_number as is_number_in, is_sign as is_sign_word, is_taken as is_taken_word};
+ghost use Rattle.ga_source.specs.Vocabulary.{closings, other_names, own_names, without_address, opcode_in, control_in, directive_in, bound_of, is_a_number as is_number_in, is_sign as is_sign_word, is_taken as is_taken_word};
 
 use super::number::{Number, number_of};
 use ga_slots::Op;

@@ -2,7 +2,7 @@
 use Rattle.std.proofs.Common.{◌≡◌, ℕ, ◌+◌, ◌%◌, ◌<◌, List, [], ◌∷◌, length, slice_index, slice_set, refl, arith}
 use Rattle.ga_word.proofs.Below.{each_below}
 use Rattle.ga_stacks.specs.Ring.{Ring, listed, pushed}
-use Rattle.ga_stacks.specs.Stack.{restored}
+use Rattle.ga_stacks.specs.Stack.{ring_restored}
 use Rattle.ga_stacks.specs.declared.place.StackPlace.TheVariants.{Pointer, Top, Second, Cell}
 
 -- what holds of each list of eight written out holds of each list of that length
@@ -37,14 +37,14 @@ listed-after_push word top second cells pointer eight below =
 
 pub restored-after_push : (word top second : ℕ) (cells : List ℕ) (pointer : ℕ) → length cells ≡ 8 → pointer < 8
     → let q = (pointer + 7) % 8 in
-    restored (after_push word top second cells q)
+    ring_restored (after_push word top second cells q)
     ((Pointer, pointer) ∷ (Cell q, slice_index cells q) ∷ (Second, second) ∷ (Top, top) ∷ [])
     ≡ record { registers = top ∷ second ∷ []; cells = cells; pointer = pointer }
 restored-after_push word top second cells pointer eight below =
     each_ring
     (λ xs n.
     let q = (n + 7) % 8 in
-    restored (after_push word top second xs q) ((Pointer, n) ∷ (Cell q, slice_index xs q) ∷ (Second, second) ∷ (Top, top) ∷ [])
+    ring_restored (after_push word top second xs q) ((Pointer, n) ∷ (Cell q, slice_index xs q) ∷ (Second, second) ∷ (Top, top) ∷ [])
     ≡ record { registers = top ∷ second ∷ []; cells = xs; pointer = n })
     (λ a b c d e f g h. (refl, refl, refl, refl, refl, refl, refl, refl))
     cells pointer eight below
@@ -64,13 +64,13 @@ listed-after_push_one word top cells pointer eight below =
 
 pub restored-after_push_one : (word top : ℕ) (cells : List ℕ) (pointer : ℕ) → length cells ≡ 8 → pointer < 8
     → let q = (pointer + 7) % 8 in
-    restored (after_push_one word top cells q) ((Pointer, pointer) ∷ (Cell q, slice_index cells q) ∷ (Top, top) ∷ [])
+    ring_restored (after_push_one word top cells q) ((Pointer, pointer) ∷ (Cell q, slice_index cells q) ∷ (Top, top) ∷ [])
     ≡ record { registers = top ∷ []; cells = cells; pointer = pointer }
 restored-after_push_one word top cells pointer eight below =
     each_ring
     (λ xs n.
     let q = (n + 7) % 8 in
-    restored (after_push_one word top xs q) ((Pointer, n) ∷ (Cell q, slice_index xs q) ∷ (Top, top) ∷ [])
+    ring_restored (after_push_one word top xs q) ((Pointer, n) ∷ (Cell q, slice_index xs q) ∷ (Top, top) ∷ [])
     ≡ record { registers = top ∷ []; cells = xs; pointer = n })
     (λ a b c d e f g h. (refl, refl, refl, refl, refl, refl, refl, refl))
     cells pointer eight below

@@ -5,11 +5,11 @@ use Rattle.ga_stacks.specs.declared.place.StackPlace.TheVariants.{Pointer, Top, 
 use Rattle.ga_stacks.specs.Ring.{Ring}
 
 -- what stands at a place
-abbrev pub word_at : Ring → StackPlace → ℕ
-word_at ring Pointer = ring.pointer
-word_at ring Top = slice_index ring.registers 0
-word_at ring Second = slice_index ring.registers 1
-word_at ring (Cell k) = slice_index ring.cells k
+abbrev pub word_at_place : Ring → StackPlace → ℕ
+word_at_place ring Pointer = ring.pointer
+word_at_place ring Top = slice_index ring.registers 0
+word_at_place ring Second = slice_index ring.registers 1
+word_at_place ring (Cell k) = slice_index ring.cells k
 
 -- the stack with another value at a place
 abbrev pub with_stack_word : Ring → StackPlace → ℕ → Ring
@@ -19,9 +19,9 @@ with_stack_word ring Second value = record ring { registers = slice_set ring.reg
 with_stack_word ring (Cell k) value = record ring { cells = slice_set ring.cells k value }
 
 -- the stack with its old values written back, the last of them first
-abbrev pub restored : Ring → List (StackPlace × ℕ) → Ring
-restored ring [] = ring
-restored ring (saved ∷ rest) = with_stack_word (restored ring rest) saved.0 saved.1
+abbrev pub ring_restored : Ring → List (StackPlace × ℕ) → Ring
+ring_restored ring [] = ring
+ring_restored ring (saved ∷ rest) = with_stack_word (ring_restored ring rest) saved.0 saved.1
 
 -- a place that a stack with so many registers has
 abbrev pub HasPlace : ℕ → StackPlace → Type 0
@@ -38,14 +38,14 @@ FitsPlace Second value = value < 2 ^ 18
 FitsPlace (Cell k) value = value < 2 ^ 18
 
 -- what a change of a stack with so many registers tells: places of that stack, with values in their ranges
-abbrev pub AreFit : ℕ → List (StackPlace × ℕ) → Type 0
-AreFit registers [] = Unit {0}
-AreFit registers (saved ∷ rest) = HasPlace registers saved.0 × FitsPlace saved.0 saved.1 × AreFit registers rest
+abbrev pub AreStackChanges : ℕ → List (StackPlace × ℕ) → Type 0
+AreStackChanges registers [] = Unit {0}
+AreStackChanges registers (saved ∷ rest) = HasPlace registers saved.0 × FitsPlace saved.0 saved.1 × AreStackChanges registers rest
 
 -- what stands at some places, as a change of them tells it
 abbrev pub old_words : Ring → List StackPlace → List (StackPlace × ℕ)
-old_words ring places = map (λ place. (place, word_at ring place)) places
+old_words ring places = map (λ place. (place, word_at_place ring place)) places
 
 -- no place twice
-abbrev pub IsOnce : List (StackPlace × ℕ) → Type 0
-IsOnce saved = AllPairs (λ a b. a.0 ≢ b.0) saved
+abbrev pub NoStackPlaceTwice : List (StackPlace × ℕ) → Type 0
+NoStackPlaceTwice saved = AllPairs (λ a b. a.0 ≢ b.0) saved

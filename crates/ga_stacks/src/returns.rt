@@ -3,7 +3,7 @@
 ghost use Rattle.std.specs.Prelude.{◌≡◌, ◌<◌, ◌≤◌, ◌+◌, ◌%◌, [], ◌∷◌, slice_index, length};
 ghost use Rattle.ga_stacks.specs.declared.place.StackPlace.TheVariants.{Pointer, Top, Cell};
 ghost use Rattle.ga_stacks.specs.Ring.{fresh_ring, listed, pushed, popped_return, topped};
-ghost use Rattle.ga_stacks.specs.Stack.{word_at, old_words, with_stack_word, restored, HasPlace, FitsPlace, AreFit, IsOnce};
+ghost use Rattle.ga_stacks.specs.Stack.{word_at_place, old_words, with_stack_word, ring_restored, HasPlace, FitsPlace, AreStackChanges, NoStackPlaceTwice};
 
 use crate::place::{CELLS, FRESH_WORD, Overwritten, StackPlace};
 use arrayvec::ArrayVec;
@@ -87,10 +87,10 @@ impl ReturnStack {
     /// Puts a word on top; the oldest word is lost.
     pub fn push(&mut self, word: Word18) -> Overwritten
         ensures pushed { listed self.new ≡ pushed word (listed self.old) }
-        ensures undone { restored self.new result.items ≡ self.old }
+        ensures undone { ring_restored self.new result.items ≡ self.old }
         ensures overwritten { result.items ≡ old_words self.old (Pointer ∷ Cell ((self.old.pointer + 7) % 8) ∷ Top ∷ []) }
-        ensures fit { AreFit 1 result.items }
-        ensures once { IsOnce result.items }
+        ensures fit { AreStackChanges 1 result.items }
+        ensures once { NoStackPlaceTwice result.items }
         ensures count { length result.items ≤ 3 }
     {
         let pointer = (self.pointer + 7) % CELLS;
@@ -110,10 +110,10 @@ impl ReturnStack {
     /// Takes the top word away; the word that was second is also the new last one.
     pub fn pop(&mut self) -> Overwritten
         ensures popped { listed self.new ≡ popped_return (listed self.old) }
-        ensures undone { restored self.new result.items ≡ self.old }
+        ensures undone { ring_restored self.new result.items ≡ self.old }
         ensures overwritten { result.items ≡ old_words self.old (Pointer ∷ Top ∷ []) }
-        ensures fit { AreFit 1 result.items }
-        ensures once { IsOnce result.items }
+        ensures fit { AreStackChanges 1 result.items }
+        ensures once { NoStackPlaceTwice result.items }
         ensures count { length result.items ≤ 2 }
     {
         let mut saved = ArrayVec::new();
@@ -127,10 +127,10 @@ impl ReturnStack {
     /// Puts another word in the place of the top.
     pub fn replace_top(&mut self, word: Word18) -> Overwritten
         ensures topped { listed self.new ≡ topped word (listed self.old) }
-        ensures undone { restored self.new result.items ≡ self.old }
+        ensures undone { ring_restored self.new result.items ≡ self.old }
         ensures overwritten { result.items ≡ old_words self.old (Top ∷ []) }
-        ensures fit { AreFit 1 result.items }
-        ensures once { IsOnce result.items }
+        ensures fit { AreStackChanges 1 result.items }
+        ensures once { NoStackPlaceTwice result.items }
         ensures count { length result.items ≤ 1 }
     {
         let old = std::mem::replace(&mut self.top, word);
@@ -142,7 +142,7 @@ impl ReturnStack {
     /// What stands in a register, a cell or the pointer.
     pub fn get(&self, place: StackPlace) -> u32
         requires { HasPlace 1 place }
-        ensures value { result ≡ word_at self.now place }
+        ensures value { result ≡ word_at_place self.now place }
         ensures in_range { FitsPlace place result }
     {
         match place {

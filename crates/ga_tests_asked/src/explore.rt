@@ -4,8 +4,8 @@ use ga_grid::{Chip, NodeId};
 use ga_lab::{Lab, LabFault, Made};
 use ga_node::{Kind, Place};
 use ga_search::{
-    Condition, Effect, End, Ran, Schedule, Sent, Words, are_linked, count_words, find_effects,
-    find_stuck, run,
+    Condition, End, Ran, RollbackEffect, Schedule, Sent, Words, are_linked, count_words,
+    find_effects, find_stuck, run_schedule,
 };
 use ga_word::Word18;
 use std::alloc::Global;
@@ -48,8 +48,8 @@ fn the_pass() -> Made {
     }
 }
 
-fn effect(node: NodeId, first: u32, steps: u32) -> Effect {
-    Effect { node, first, steps }
+fn effect(node: NodeId, first: u32, steps: u32) -> RollbackEffect {
+    RollbackEffect { node, first, steps }
 }
 
 // What is kept at a place.
@@ -67,7 +67,7 @@ fn ends(rt: &impl Abort, ran: Ran, events: u64, end: End) {
 #[test]
 fn greedy(rt: HostRuntime) -> Result<(), Fail> {
     let mut lab = pair(rt.alloc())?;
-    let ran = run(&mut lab, Schedule::greedily(), 12, &[]);
+    let ran = run_schedule(&mut lab, Schedule::greedily(), 12, &[]);
     ends(&rt, ran, 12, End::Made);
     is_made_at(&rt, &lab, 6, own(0, 7, Kind::Wait));
     is_made_at(&rt, &lab, 7, own(1, 1, Kind::Fetch));
@@ -89,7 +89,7 @@ fn drawn(rt: HostRuntime) -> Result<(), Fail> {
     let wanted = [117u8, 133, 135, 127, 125];
     for _ in 0..2 {
         let mut lab = at_load(rt.alloc(), 1_000)?;
-        let ran = run(&mut lab, Schedule::at_random(1_234_567), 5, &[]);
+        let ran = run_schedule(&mut lab, Schedule::at_random(1_234_567), 5, &[]);
         ends(&rt, ran, 5, End::Made);
         for (place, node) in wanted.iter().enumerate() {
             is_made_at(&rt, &lab, place as u32, own(*node, 1, Kind::Wait));
@@ -108,10 +108,10 @@ fn slices_and_alternatives(rt: HostRuntime) -> Result<(), Fail> {
         Condition::WaitsAt(node),
     ];
     let mut lab = pair(rt.alloc())?;
-    let first = run(&mut lab, Schedule::in_rounds(), 2, &until);
+    let first = run_schedule(&mut lab, Schedule::in_rounds(), 2, &until);
     let schedule = first.schedule;
     ends(&rt, first, 2, End::Made);
-    let second = run(&mut lab, schedule, 100, &until);
+    let second = run_schedule(&mut lab, schedule, 100, &until);
     let made = own(0, 3, Kind::Run(0x1e));
     ends(&rt, second, 3, End::Reached { made, which: 1 });
     Ok(())
@@ -119,7 +119,7 @@ fn slices_and_alternatives(rt: HostRuntime) -> Result<(), Fail> {
 
 // In rounds up to a stop, how many events are made, and why no more.
 fn goes_up_to(rt: &impl Abort, lab: &mut Lab, events: u64, end: End) {
-    let ran = run(lab, Schedule::in_rounds(), 100, &[Condition::Stops]);
+    let ran = run_schedule(lab, Schedule::in_rounds(), 100, &[Condition::Stops]);
     ends(rt, ran, events, end);
 }
 
@@ -140,7 +140,7 @@ fn has_effects(
     lab: &mut Lab,
     at: (NodeId, u32),
     events: u32,
-    wanted: &[Effect],
+    wanted: &[RollbackEffect],
 ) -> Result<(), Fail> {
     let told = find_effects(alloc, lab, at.0, at.1)?;
     same(rt, &told.events, &events);
@@ -165,7 +165,7 @@ fn effects(rt: &impl Abort, alloc: Global, lab: &mut Lab) -> Result<(), Fail> {
 #[test]
 fn tells_effects(rt: HostRuntime) -> Result<(), Fail> {
     let mut lab = pair(rt.alloc())?;
-    run(&mut lab, Schedule::in_rounds(), 12, &[]);
+    run_schedule(&mut lab, Schedule::in_rounds(), 12, &[]);
     effects(&rt, rt.alloc(), &mut lab)
 }
 
@@ -185,7 +185,7 @@ fn sent_twice(alloc: Global) -> Result<Lab, Fail> {
         node: NodeId::new(0),
         step: 21,
     };
-    run(&mut lab, Schedule::in_rounds(), 100, &[until]);
+    run_schedule(&mut lab, Schedule::in_rounds(), 100, &[until]);
     Ok(lab)
 }
 
@@ -213,7 +213,7 @@ fn counts_words(rt: HostRuntime) -> Result<(), Fail> {
         reader,
         number: 2,
     }];
-    run(&mut lab, Schedule::in_rounds(), 12, &until);
+    run_schedule(&mut lab, Schedule::in_rounds(), 12, &until);
     same(&rt, &count_words(&lab, writer, reader), &1);
     let made = Made::Pass {
         writer,
@@ -222,7 +222,7 @@ fn counts_words(rt: HostRuntime) -> Result<(), Fail> {
         reader_step: 9,
         word: Word18::truncated(0x2a),
     };
-    let ran = run(&mut lab, Schedule::in_rounds(), 100, &until);
+    let ran = run_schedule(&mut lab, Schedule::in_rounds(), 100, &until);
     ends(&rt, ran, 16, End::Reached { made, which: 0 });
     let counts = [
         count_words(&lab, writer, reader),
@@ -257,7 +257,7 @@ fn tells_neighbours(rt: HostRuntime) -> Result<(), Fail> {
 
 // Which nodes can never go on, after so many more events.
 fn stuck_after(lab: &mut Lab, events: u64) -> [bool; 144] {
-    run(lab, Schedule::in_rounds(), events, &[]);
+    run_schedule(lab, Schedule::in_rounds(), events, &[]);
     find_stuck(lab.chip())
 }
 

@@ -3,7 +3,7 @@
 use crate::asserts::same;
 use ga_grid::NodeId;
 use ga_node::{Node, Place};
-use ga_source::{Cause, assemble};
+use ga_source::{SourceCause, assemble};
 use std::process::Abort;
 use std::test::Fail;
 
@@ -40,6 +40,6 @@ fn refused(rt: HostRuntime) {
     same(
         &rt,
         &told,
-        &Some((5, Cause::CellTwice { cell: 0, line: 2 })),
+        &Some((5, SourceCause::CellTwice { cell: 0, line: 2 })),
     );
 }

@@ -7,7 +7,7 @@ use Rattle.ga_grid.specs.Load.{load_p_of}
 use Rattle.ga_node.specs.Record.{NodeState}
 use Rattle.ga_image.specs.Lines.{Bytes, Text}
 use Rattle.ga_image.specs.Spelling.{decimal3_of}
-use Rattle.ga_source.specs.Saying.{has_bytes, Said, is_word, lines_of, said_from}
+use Rattle.ga_source.specs.Saying.{has_bytes, Said, is_word, source_lines, said_from}
 
 -- ---- texts that say words
 
@@ -17,7 +17,7 @@ Word = Bytes
 
 -- The text is whole lines that say these words: before any lines, from any number on. Without a word it is empty.
 pub record Says (text : Text) (words : List Word) : Type 0 where
-  pub says : (line : ℕ) (rest : Text) → (said : List Said) × (next : ℕ) × (said_from line (lines_of (text ++ rest)) ≡ said ++ said_from next (lines_of rest))
+  pub says : (line : ℕ) (rest : Text) → (said : List Said) × (next : ℕ) × (said_from line (source_lines (text ++ rest)) ≡ said ++ said_from next (source_lines rest))
       × (map (λ one. one.text) said ≡ words) × (list_all is_word said ≡ true)
   pub nothing : words ≡ [] → text ≡ []
 

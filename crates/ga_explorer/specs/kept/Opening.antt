@@ -5,7 +5,7 @@ use Rattle.ga_console.specs.Run.{IsFault, Refuses}
 use Rattle.ga_console.specs.declared.run.Status.{Status}
 use Rattle.ga_console.specs.declared.run.Status.TheVariants.{ImageRefused}
 use Rattle.ga_explorer.specs.Tails.{Exploring}
-use Rattle.ga_explorer.specs.Opening.{begins_as_image, Opens}
+use Rattle.ga_explorer.specs.Opening.{begins_as_image, OpensExploring}
 use Rattle.ga_explorer.specs.declared.opening.Unopened.{Unopened}
 use Rattle.ga_explorer.specs.declared.opening.Unopened.TheVariants.{Image, Source}
 
@@ -21,5 +21,5 @@ Declines Source written status = (written ≡ []) × (status ≡ ImageRefused)
 
 -- a machine was opened on the text, or that was declined
 abbrev pub IsOpened : ℕ → Text → Text → Result Exploring Status → Type 0
-IsOpened limit text written (Ok begun) = (written ≡ []) × Opens text limit begun
+IsOpened limit text written (Ok begun) = (written ≡ []) × OpensExploring text limit begun
 IsOpened limit text written (Err status) = (why : Unopened) × IsUnopened text why × Declines why written status

@@ -6,7 +6,7 @@ use Rattle.ga_event.specs.declared.event.Event.{Event}
 use Rattle.ga_event.specs.declared.event.Cause.{Cause}
 use Rattle.ga_event.specs.declared.made.Made.{Made}
 use Rattle.ga_event.specs.declared.made.Made.TheVariants.{Own, Pass}
-use Rattle.ga_explorer.specs.Saved.{saved_line, ended}
+use Rattle.ga_explorer.specs.Saved.{saved_line, with_feed}
 
 -- the node whose step was told so
 abbrev pub actor_in : Made → NodeId
@@ -16,8 +16,8 @@ actor_in (Pass writer k reader j word) = writer
 -- the line of an event, where there is one
 abbrev pub line_at : Option Event → Text
 line_at None = []
-line_at (Some e) = ended (saved_line e)
+line_at (Some e) = with_feed (saved_line e)
 
 -- the line of an event that is listed with its cause
 abbrev pub cause_line : Cause → Text
-cause_line cause = ended (saved_line cause.event)
+cause_line cause = with_feed (saved_line cause.event)

@@ -7,7 +7,7 @@ use Rattle.ga_image.specs.declared.line.Line.TheVariants as line
 use Rattle.ga_image.specs.declared.field.Bank.{Bank}
 use Rattle.ga_image.specs.declared.field.Bank.TheVariants as bank
 use Rattle.ga_image.specs.Spelling.{Form, Node, Words, End}
-use Rattle.ga_image.specs.Forms.{words}
+use Rattle.ga_image.specs.Forms.{words_in_row}
 
 -- a line, as contracts see it
 abbrev pub form_of : Line → Form

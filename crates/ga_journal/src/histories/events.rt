@@ -38,7 +38,7 @@ impl Histories {
     ghost use Rattle.ga_grid.specs.Chip.{records_of, record_at, node_at};
     ghost use Rattle.ga_event.specs.Apply.{refusal_of, is_open};
     ghost use Rattle.ga_event.specs.Undo.{IsOfKind, own_effect};
-    ghost use Rattle.ga_journal.specs.Histories.{past, has_room, has_pass_room, HasRoom, history, pushed, appended};
+    ghost use Rattle.ga_journal.specs.Histories.{past, has_room, has_pass_room, HasRoom, history, with_entry, appended};
     ghost use Rattle.ga_journal.specs.kept.Histories.{past_of, lists_of, room_of, bound_of};
     ghost use Rattle.ga_journal.specs.Logs.{Stamped, Records, IsWhole};
     ghost use Rattle.ga_journal.specs.kept.Newest.{IsTopmost};
@@ -54,7 +54,7 @@ impl Histories {
         requires room { has_room (room_of self.old) node.number }
         requires fits { length (history (lists_of self.old) node.number) + 1 < 2 ^ 32 }
         ensures after { lists_of self.new
-            ≡ pushed (lists_of self.old) node.number (past stamp (Act.Own deed) saved) }
+            ≡ with_entry (lists_of self.old) node.number (past stamp (Act.Own deed) saved) }
         ensures size { length self.new ≡ 144 }
     {
         let history = self.at_mut(node);
@@ -74,7 +74,7 @@ impl Histories {
         requires room { has_pass_room (room_of self.old) node.number }
         requires fits { length (history (lists_of self.old) node.number) < 2 ^ 32 }
         ensures after { lists_of self.new
-            ≡ pushed (lists_of self.old) node.number (past stamp (act_with role pass) saved) }
+            ≡ with_entry (lists_of self.old) node.number (past stamp (act_with role pass) saved) }
         ensures others { (n : ℕ) → n ≢ node.number →
             has_pass_room (room_of self.old) n → has_pass_room (room_of self.new) n }
         ensures size { length self.new ≡ 144 }

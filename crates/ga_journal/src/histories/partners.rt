@@ -1,7 +1,7 @@
 //! The other entry of a pass.
 
 ghost use Rattle.std.specs.Prelude.{◌≡◌};
-ghost use Rattle.ga_journal.specs.Marks.{partner_of, named, is_counted};
+ghost use Rattle.ga_journal.specs.Marks.{partner_of, numbers_of_position, is_counted};
 
 use super::Histories;
 use crate::entry::Act;
@@ -9,7 +9,7 @@ use ga_grid::NodeId;
 
 /// The node and the position that an act names.
 fn named_by(act: &Act) -> Option<(NodeId, u32)>
-    ensures { named result ≡ partner_of act.now }
+    ensures { numbers_of_position result ≡ partner_of act.now }
 {
     match act {
         Act::Own(_) => None,
@@ -33,13 +33,13 @@ impl Histories {
     ghost use Rattle.std.specs.Prelude.{◌≡◌, ◌<◌, ℕ, Some, length, nat_lt, slice_index};
     ghost use Rattle.ga_journal.specs.kept.Histories.{lists_of};
     ghost use Rattle.ga_journal.specs.Histories.{history};
-    ghost use Rattle.ga_journal.specs.Marks.{partner_of, named, partner_at, counted_at};
+    ghost use Rattle.ga_journal.specs.Marks.{partner_of, numbers_of_position, partner_at, counted_at};
     ghost use Rattle.ga_journal.specs.kept.Marks.{has_partner};
 
     /// The other entry of the pass of the entry at a position.
     pub(crate) fn partner(&self, node: NodeId, at: u32) -> Option<(NodeId, u32)>
         requires there { at < length (history (lists_of self.now) node.number) }
-        ensures { named result ≡ partner_at (lists_of self.now) node.number at }
+        ensures { numbers_of_position result ≡ partner_at (lists_of self.now) node.number at }
     {
         let history = self.at(node);
         named_by(&history.head(at as usize).act)

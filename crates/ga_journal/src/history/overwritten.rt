@@ -1,14 +1,14 @@
 //! What an event overwrote, by its entry in a node's history.
 
 ghost use Rattle.std.specs.Prelude.{◌≡◌, None};
-ghost use Rattle.ga_journal.specs.Walked.{over, among};
+ghost use Rattle.ga_journal.specs.Walked.{held_before, among};
 
 use super::History;
 use ga_node::{Place, Saved};
 
 /// The old value of a place, where it is what is asked for.
 fn over(what: Place, place: Place, old: u32) -> Option<u32>
-    ensures { result ≡ over what place old None }
+    ensures { result ≡ held_before what place old None }
 {
     match (what, place) {
         (Place::P, Place::P) => Some(old),

@@ -8,7 +8,7 @@ use std::marker::Model;
 /// The kept events of a journal, to be told one by one from the newest back. A contract sees the journal, and how many of its kept
 /// events are not told yet.
 #[derive(Drop)]
-pub struct Backward<'j> {
+pub struct BackwardEvents<'j> {
     journal: &'j Journal,
     // How many of the first entries of each node are not told.
     lengths: [u32; 144],
@@ -18,7 +18,7 @@ pub struct Backward<'j> {
     place: u32,
 }
 
-impl<'j> Model for Backward<'j> {
+impl<'j> Model for BackwardEvents<'j> {
     ghost use Rattle.ga_journal.specs.Untold.{Untold, untold};
     ghost use Rattle.ga_journal.specs.kept.Untold.{IsUntold};
 
@@ -29,7 +29,7 @@ impl<'j> Model for Backward<'j> {
     ghost invariant = { λ b. IsUntold b.journal.now b.lengths b.top b.place };
 }
 
-impl<'j> Backward<'j> {
+impl<'j> BackwardEvents<'j> {
     ghost use Rattle.std.specs.Prelude.{◌≡◌, ◌-◌, ◌≤◌, ◌↔◌, length, take, Some, IfSome, IsNone};
     ghost use Rattle.ga_event.specs.Told.{steps_of, made_in};
     ghost use Rattle.ga_journal.specs.Events.{kept_of, events_of};
@@ -75,11 +75,11 @@ impl Journal {
     ghost use Rattle.ga_journal.specs.Untold.{untold};
 
     /// The kept events, none of which is told yet.
-    pub(crate) fn backward(&self) -> Backward<'_>
+    pub(crate) fn backward(&self) -> BackwardEvents<'_>
         requires { IsWhole self.now.histories self.now.made }
         ensures { result ≡ untold self.now (length (kept_of self.now)) }
     {
-        Backward {
+        BackwardEvents {
             journal: self,
             lengths: self.histories.lengths_of(),
             top: self.top,

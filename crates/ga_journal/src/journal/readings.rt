@@ -13,7 +13,7 @@ impl Journal {
     ghost use Rattle.std.specs.List.Sorted.{IsStrictlyIncreasing};
     ghost use Rattle.ga_journal.specs.Histories.{history};
     ghost use Rattle.ga_journal.specs.Walked.{walked, CanWalk, overwritten};
-    ghost use Rattle.ga_journal.specs.Events.{kept_of, causes_of, events_of};
+    ghost use Rattle.ga_journal.specs.Events.{kept_of, causes_in_book, events_of};
     ghost use Rattle.ga_event.specs.Told.{steps_of, mades_of, made_in};
     ghost use Rattle.ga_journal.specs.Logs.{IsWhole};
     ghost use Rattle.ga_journal.specs.Since.{IsSince};
@@ -110,7 +110,7 @@ impl Journal {
     /// `Memory` alone.
     pub(crate) fn causes(&self) -> Result<Vec<Cause>, JournalFault>
         requires { IsWhole self.now.histories self.now.made }
-        ensures ok { IfOk result (λ list. list.items ≡ causes_of self.now) }
+        ensures ok { IfOk result (λ list. list.items ≡ causes_in_book self.now) }
         ensures err { IfErr result (λ fault. fault ≡ JournalFault.Memory) }
     {
         self.histories.all_causes(self.top, self.hint, self.kept)
@@ -129,7 +129,7 @@ impl Journal {
         requires whole { IsWhole self.now.histories self.now.made }
         requires counted { 0 < from.1 }
         requires stands { from.1 ≤ steps_of from.0.number (events_of self.now) }
-        ensures ok { IfOk result (λ since. IsSince (causes_of self.now) from.0.number from.1 other.number
+        ensures ok { IfOk result (λ since. IsSince (causes_in_book self.now) from.0.number from.1 other.number
             since.causes.items since.before since.steps) }
         ensures short { IfOk result (λ since. since.before + length since.causes.items < 2 ^ 32) }
         ensures err { IfErr result (λ fault. fault ≡ JournalFault.Memory) }

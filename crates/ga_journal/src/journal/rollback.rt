@@ -8,7 +8,7 @@ impl Journal {
     ghost use Rattle.std.specs.Prelude.{◌≡◌, ◌<◌, ◌+◌, ◌^◌, ℕ, Some, length, true, false, IfSome, IfNone};
     ghost use Rattle.ga_journal.specs.Work.{no_work};
     ghost use Rattle.ga_journal.specs.Histories.{history};
-    ghost use Rattle.ga_journal.specs.Marks.{AreMarks, mark_of, waits, named, partner_at, counted_at, ticked, lowered, raised, taken_up};
+    ghost use Rattle.ga_journal.specs.Marks.{AreMarks, mark_of, waits, numbers_of_position, partner_at, counted_at, ticked, lowered, raised, taken_up};
     ghost use Rattle.ga_journal.specs.Marks.{CanTakeBack, IsTakenBack};
     ghost use Rattle.ga_journal.specs.Looks.{IsLookToGo, SawNoneToGo, IsSought};
 
@@ -31,7 +31,7 @@ impl Journal {
     pub fn look(&mut self, node: NodeId, at: u32) -> Option<(NodeId, u32)>
         requires there { at < length (history self.old.histories node.number) }
         requires fits { self.old.ticks.count + 1 < 2 ^ 64 }
-        ensures value { named result ≡ partner_at self.old.histories node.number at }
+        ensures value { numbers_of_position result ≡ partner_at self.old.histories node.number at }
         ensures ticks { self.new ≡ ticked self.old }
     {
         self.ticks.raise();

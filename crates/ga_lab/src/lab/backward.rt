@@ -10,7 +10,7 @@ use std::marker::Model;
 #[derive(Drop)]
 pub struct Backward<'l> {
     chip: &'l Chip,
-    walk: ga_journal::Backward<'l>,
+    walk: ga_journal::BackwardEvents<'l>,
 }
 
 impl<'l> Model for Backward<'l> {

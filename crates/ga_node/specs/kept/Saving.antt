@@ -9,7 +9,7 @@ use Rattle.ga_node.specs.State.{restored, AreFit}
 use Rattle.ga_node.specs.Changes.{Change, after_changes}
 use Rattle.ga_node.specs.Table.{Access, Plain, Reads, Writes, wrote_at}
 use Rattle.ga_node.specs.declared.kind.Kind.{Kind}
-use Rattle.ga_node.specs.Saving.{written, old_values, Overwrites}
+use Rattle.ga_node.specs.Saving.{written_places, old_values, Overwrites}
 
 -- a place of the data stack
 abbrev pub data_place : StackPlace → Place
@@ -54,9 +54,9 @@ IsEndedBy (Writes address more) kind old new saved = IsEnded (wrote_at address m
 
 -- One change more: its old values come after those before.
 pub record Saves (changes : List Change) (old : NodeState) (before : List (Place × ℕ)) (new : NodeState) (later : List (Place × ℕ)) : Type 0 where
-  pub exact : later ≡ before ++ old_values old (written changes old)
-  pub undone : restored new (old_values old (written changes old)) ≡ old
-  pub fit : AreFit (old_values old (written changes old))
+  pub exact : later ≡ before ++ old_values old (written_places changes old)
+  pub undone : restored new (old_values old (written_places changes old)) ≡ old
+  pub fit : AreFit (old_values old (written_places changes old))
 
 -- the values of a stack as values of its node
 abbrev pub data_values : List (StackPlace × ℕ) → List (Place × ℕ)

@@ -1,7 +1,7 @@
 //! Changes of one register, stack or cell, each with the values that it overwrote.
 
 ghost use Rattle.std.specs.Prelude.{◌≡◌, ◌+◌, ◌≤◌, ◌++◌, length};
-ghost use Rattle.ga_stacks.specs.Stack.{AreFit};
+ghost use Rattle.ga_stacks.specs.Stack.{AreStackChanges};
 ghost use Rattle.ga_node.specs.kept.Saving.{data_values, return_values};
 
 use super::Node;
@@ -14,7 +14,7 @@ use ga_word::Word18;
 /// Adds the values that a change of the data stack overwrote.
 #[inline(always)]
 fn save_data(saved: &mut Saved, overwritten: &Overwritten)
-    requires fit { AreFit 2 overwritten.now.items }
+    requires fit { AreStackChanges 2 overwritten.now.items }
     requires room { length saved.old + length overwritten.now.items ≤ 7 }
     ensures { saved.new ≡ saved.old ++ data_values overwritten.now.items }
 {
@@ -26,7 +26,7 @@ fn save_data(saved: &mut Saved, overwritten: &Overwritten)
 /// Adds the values that a change of the return stack overwrote.
 #[inline(always)]
 fn save_return(saved: &mut Saved, overwritten: &Overwritten)
-    requires fit { AreFit 1 overwritten.now.items }
+    requires fit { AreStackChanges 1 overwritten.now.items }
     requires room { length saved.old + length overwritten.now.items ≤ 7 }
     ensures { saved.new ≡ saved.old ++ return_values overwritten.now.items }
 {

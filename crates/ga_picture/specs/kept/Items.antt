@@ -2,7 +2,7 @@
 use Rattle.std.specs.Prelude.{◌≡◌, ℕ, Bool, List, Option}
 use Rattle.ga_event.specs.declared.event.Cause.{Cause}
 use Rattle.ga_picture.specs.declared.item.Facts.{Facts}
-use Rattle.ga_picture.specs.declared.item.Item.{Item}
+use Rattle.ga_picture.specs.declared.item.PictureItem.{PictureItem}
 use Rattle.ga_picture.specs.declared.shade.Shade.{Shade}
 use Rattle.ga_picture.specs.declared.view.View.{View}
 use Rattle.ga_picture.specs.Drawing.{AreShades}
@@ -17,7 +17,7 @@ abbrev pub known_in : Facts → (ℕ → Bool) → (ℕ → Bool) → Known
 known_in facts ready idle = known_by facts.events.now facts.shades.now ready idle facts.cause facts.rewind
 
 -- the events that are looked at, as the picture takes them
-pub record AreItemsOf (events : List Cause) (ready idle : ℕ → Bool) (view : View) (items : List Item) : Type 0 where
+pub record AreItemsOf (events : List Cause) (ready idle : ℕ → Bool) (view : View) (items : List PictureItem) : Type 0 where
   pub shades : List Shade
   pub shaded : AreShades events (place_for events view.cause) (place_for events view.rewind) shades
   pub are : items ≡ items_of (known_of events ready idle view shades) view (start_in events view) (end_in events view)

@@ -3,11 +3,11 @@ use Rattle.std.specs.Prelude.{◌≡◌, ℕ, ◌≤◌, if◌then◌else◌, le
 use Rattle.ga_picture.specs.declared.shade.Shade.{Shade}
 use Rattle.ga_picture.specs.declared.shade.Shade.TheVariants.{Black}
 use Rattle.ga_picture.specs.declared.runs.Runs.{Runs}
-use Rattle.ga_picture.specs.Runs.{is_same}
+use Rattle.ga_picture.specs.Runs.{is_same_run}
 
 -- how many events the run of a node has in a colour
 abbrev pub count_in : Runs → ℕ → Shade → ℕ
-count_in runs n shade = if is_same (slice_index_or runs.shades n Black) shade then slice_index runs.counts n else 0
+count_in runs n shade = if is_same_run (slice_index_or runs.shades n Black) shade then slice_index runs.counts n else 0
 
 abbrev pub HasNodes : Runs → Type 0
 HasNodes runs = (length runs.counts ≡ 144) × (length runs.shades ≡ 144)

@@ -10,7 +10,7 @@ use Rattle.ga_grid.specs.Chip.{record_at}
 use Rattle.ga_event.specs.declared.event.Event.{Event}
 use Rattle.ga_event.specs.declared.event.Event.TheVariants.{Own, Pass}
 use Rattle.ga_event.specs.Apply.{shows}
-use Rattle.ga_races.specs.declared.act.Act.{Act}
+use Rattle.ga_races.specs.declared.act.EventAccess.{EventAccess}
 use Rattle.ga_races.specs.declared.act.Sides.{Sides}
 use Rattle.ga_races.specs.HappensBefore.{Action, action_at}
 
@@ -34,9 +34,9 @@ changed_sides before behind = record {
 }
 
 -- the act has of each node of the event the sides on which it shows something else on the second chip
-abbrev pub HasSides : List NodeRecord → List NodeRecord → Act → Event → Type 0
-HasSides c d act (Own m) = act.first ≡ changed_sides (record_at c m.number).wait (record_at d m.number).wait
-HasSides c d act (Pass w r side) =
+abbrev pub HasChangedSides : List NodeRecord → List NodeRecord → EventAccess → Event → Type 0
+HasChangedSides c d act (Own m) = act.first ≡ changed_sides (record_at c m.number).wait (record_at d m.number).wait
+HasChangedSides c d act (Pass w r side) =
     (act.first ≡ changed_sides (record_at c w.number).wait (record_at d w.number).wait)
     × (act.second ≡ changed_sides (record_at c r.number).wait (record_at d r.number).wait)
 

@@ -5,7 +5,7 @@ use Rattle.ga_event.specs.declared.event.Event.{Event}
 use Rattle.ga_event.specs.declared.event.Event.TheVariants.{Own, Pass}
 use Rattle.ga_event.specs.Touches.{touches}
 use Rattle.ga_causal.specs.Dependence.{cause_nodes}
-use Rattle.ga_races.specs.declared.act.Act.{Act}
+use Rattle.ga_races.specs.declared.act.EventAccess.{EventAccess}
 use Rattle.ga_races.specs.declared.act.Sides.{Sides}
 use Rattle.ga_races.specs.HappensBefore.{Action, action_at, are_bound, HappensBefore}
 use Rattle.ga_races.specs.kept.Marked.{shows_marked}
@@ -26,7 +26,7 @@ is_shown_to marks (Own m) first second = shows_marked marks first m.number
 is_shown_to marks (Pass w r side) first second = shows_marked marks first w.number || shows_marked marks second r.number
 
 -- an action is bound to one of some that touch these nodes, change what is shown to those, and look in these
-abbrev pub is_met : (ℕ → Bool) → (ℕ → Bool) → (ℕ → Bool) → Act → Bool
+abbrev pub is_met : (ℕ → Bool) → (ℕ → Bool) → (ℕ → Bool) → EventAccess → Bool
 is_met touched shown looked act =
     list_any touched (cause_nodes act.cause)
     || ((act.cause.look && list_any shown (cause_nodes act.cause)) || is_shown_to looked act.cause.event act.first act.second)

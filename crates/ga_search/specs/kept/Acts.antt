@@ -5,7 +5,7 @@ use Rattle.ga_grid.specs.Chip.{record_at}
 use Rattle.ga_event.specs.declared.event.Cause.{Cause}
 use Rattle.ga_event.specs.Told.{steps_of}
 use Rattle.ga_causal.specs.Dependence.{event_at}
-use Rattle.ga_races.specs.declared.act.Act.{Act}
+use Rattle.ga_races.specs.declared.act.EventAccess.{EventAccess}
 use Rattle.ga_races.specs.HappensBefore.{actions, action_at}
 use Rattle.ga_races.specs.Acts.{action_in}
 use Rattle.ga_lab.specs.Machine.{State, chip_of, causes_of, earlier}
@@ -26,5 +26,5 @@ pub record IsAt (s : State) (place : ℕ) (cause : Cause) : Type 0 where
   pub is : event_at (causes_of s) place ≡ cause
 
 -- the act has what the event at the place changed of what is shown to each node of the chip
-abbrev pub IsActAt : State → ℕ → Act → Type 0
+abbrev pub IsActAt : State → ℕ → EventAccess → Type 0
 IsActAt s place act = (n : ℕ) → n < 144 → (action_in act).changes n ≡ (action_at (actions s.load s.kept) place).changes n

@@ -1,14 +1,14 @@
 -- What a call answers where words ask for something, or are refused.
 use Rattle.std.specs.Prelude.{◌≡◌, ◌⊎◌, Result, Ok, Err}
 use Rattle.std.specs.Result.{MatchResult}
-use Rattle.ga_source.specs.declared.fault.Cause.{Cause}
-use Rattle.ga_source.specs.declared.fault.Cause.TheVariants.{Memory, LongLine as TooLong, OpenComment as LeftOpen, Unknown as WhatIs, Taken as IsTaken, Missing as IsMissing, LabelTwice as StandsTwice, RegisterTwice as GivenTwice, Unmatched as NothingOpen, Open as NeverClosed, Number as OutOfRange}
+use Rattle.ga_source.specs.declared.fault.SourceCause.{SourceCause}
+use Rattle.ga_source.specs.declared.fault.SourceCause.TheVariants.{Memory, LongLine as TooLong, OpenComment as LeftOpen, Unknown as WhatIs, Taken as IsTaken, Missing as IsMissing, LabelTwice as StandsTwice, RegisterTwice as GivenTwice, Unmatched as NothingOpen, Open as NeverClosed, Number as OutOfRange}
 use Rattle.ga_source.specs.declared.fault.Fault.{Fault}
 use Rattle.ga_source.specs.Asking.{Wrong, Refusal}
 use Rattle.ga_source.specs.Asking.Wrong.{LongLine, OpenComment, Unknown, Taken, Missing, LabelTwice, RegisterTwice, Unmatched, Unclosed, NoNumberHere, Later}
 
 -- what is wrong with words, where a fault is one of words
-abbrev pub wrong_of : Cause → Wrong
+abbrev pub wrong_of : SourceCause → Wrong
 wrong_of TooLong = LongLine
 wrong_of LeftOpen = OpenComment
 wrong_of (WhatIs name) = Unknown name.now

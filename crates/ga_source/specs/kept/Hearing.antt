@@ -1,6 +1,6 @@
 -- The words of a node as they are heard one by one, with the next (docs/REFERENCE.md, "Source"; this project's own).
 use Rattle.std.specs.Prelude.{ℕ, ◌≡◌, if◌then◌else◌, false, List, [], ◌∷◌, slice_index_or, codes, bytes_eq, Option, Some, None, map, Bool}
-use Rattle.ga_source.specs.declared.item.Value.TheVariants.{Number}
+use Rattle.ga_source.specs.declared.item.Operand.TheVariants.{Number}
 use Rattle.ga_source.specs.declared.item.Item.TheVariants.{Cell}
 use Rattle.ga_source.specs.declared.item.Request.{Request}
 use Rattle.ga_source.specs.declared.item.Request.TheVariants.{Put, Go}
@@ -13,7 +13,7 @@ use Rattle.ga_source.specs.declared.draft.Expect.TheVariants.{Word, Address, Nam
 use Rattle.ga_source.specs.declared.scan.Token.{Token}
 use Rattle.ga_source.specs.Asking.{Asking}
 use Rattle.ga_ports.specs.Steps.{◌>>=◌}
-use Rattle.ga_source.specs.Numbers.{by_name, number_in}
+use Rattle.ga_source.specs.Numbers.{by_name, number_by_word}
 use Rattle.ga_source.specs.Plain.{Plain, no_request, with_request, by_number, only_if, is_cell, may_be, asked_by}
 use Rattle.ga_source.specs.Vocabulary.{directives}
 
@@ -53,16 +53,16 @@ next_of (Carry _) = None
 -- a word where one is expected
 abbrev pub hear_word : Plain → List ℕ → List ℕ → Option Heard
 hear_word plain word next =
-    if bytes_eq next (codes ",") then by_number (number_in word) (λ n. Some (record { expect = Nothing; plain = with_request plain (Put (Cell (Number n))) }))
+    if bytes_eq next (codes ",") then by_number (number_by_word word) (λ n. Some (record { expect = Nothing; plain = with_request plain (Put (Cell (Number n))) }))
     else (by_name directives word >>= next_of) >>= (λ e. Some (record { expect = e; plain = plain }))
 
 -- one word
 abbrev pub hear : Heard → List ℕ → List ℕ → Option Heard
 hear heard word next = elim heard.expect as (λ _. Option Heard) [
   | Word ↦ hear_word heard.plain word next
-  | Address ↦ by_number (number_in word) (λ n. only_if (is_cell n) (record { expect = Word; plain = with_request heard.plain (Go n) }))
+  | Address ↦ by_number (number_by_word word) (λ n. only_if (is_cell n) (record { expect = Word; plain = with_request heard.plain (Go n) }))
   | Name ↦ None
-  | Register register ↦ by_number (number_in word) (λ n. only_if (may_give heard.plain register n) (record { expect = Word; plain = with_register heard.plain register n }))
+  | Register register ↦ by_number (number_by_word word) (λ n. only_if (may_give heard.plain register n) (record { expect = Word; plain = with_register heard.plain register n }))
   | Nothing ↦ Some (record { expect = Word; plain = heard.plain })
 ]
 

@@ -11,7 +11,7 @@ use Rattle.ga_source.specs.declared.item.Request.TheVariants.{Fill, Go, Carry}
 use Rattle.ga_source.specs.declared.packing.Packed.{Packed}
 use Rattle.ga_source.specs.declared.packing.Packer.{Packer}
 use Rattle.ga_source.specs.declared.spot.Spot.{Spot}
-use Rattle.ga_source.specs.Reading.{begin_at, behind, stands, is_filled, fits, is_met, after_request, follows}
+use Rattle.ga_source.specs.Reading.{begin_at, behind, item_stands, is_filled, fits, is_met, after_request, follows}
 use Rattle.ga_source.specs.Cells.{takes, is_asked}
 use Rattle.ga_source.specs.kept.Words.{nothing}
 
@@ -25,7 +25,7 @@ behind_all spot (item ∷ rest) = behind_all (behind spot item) rest
 -- the items stand one behind the other
 unfoldable pub Stand : NodeState → List (Option ℕ) → Spot → List Item → Type 0
 Stand node labels spot [] = Unit {0}
-Stand node labels spot (item ∷ rest) = (stands node labels spot item ≡ true) × Stand node labels (behind spot item) rest
+Stand node labels spot (item ∷ rest) = (item_stands node labels spot item ≡ true) × Stand node labels (behind spot item) rest
 
 -- one of the items or its literal stands in the cell
 unfoldable pub taken : Spot → List Item → ℕ → Bool
@@ -106,7 +106,7 @@ pub record IsPending (packer : Packer) (asked : List Asked) (item : Item) : Type
   pub here : behind_all (begin_at packer.spot.at) packer.filling.items ≡ packer.spot
   pub fit : (labels : List (Option ℕ)) → Extends packer.labels.items labels → fits labels packer.spot item ≡ true
   pub walk : (labels : List (Option ℕ)) → Extends packer.labels.items labels → after_all labels (begin_at 0) asked ≡ behind packer.spot item
-  pub met : (node : NodeState) (labels : List (Option ℕ)) → Extends packer.labels.items labels → All (IsRead node labels) packer.groups.items → packer.broken ≡ None → Stand node labels (begin_at packer.spot.at) packer.filling.items → stands node labels packer.spot item ≡ true → AreMet node labels (begin_at 0) asked
+  pub met : (node : NodeState) (labels : List (Option ℕ)) → Extends packer.labels.items labels → All (IsRead node labels) packer.groups.items → packer.broken ≡ None → Stand node labels (begin_at packer.spot.at) packer.filling.items → item_stands node labels packer.spot item ≡ true → AreMet node labels (begin_at 0) asked
   pub named : (labels : List (Option ℕ)) (cell : ℕ) → Extends packer.labels.items labels → (are_taken packer.groups.items cell ≡ true) ⊎ ((taken (begin_at packer.spot.at) packer.filling.items cell ≡ true) ⊎ (takes packer.spot item cell ≡ true)) → is_asked labels (begin_at 0) asked cell ≡ true
   pub groups_fit : (labels : List (Option ℕ)) → Extends packer.labels.items labels → All (IsFitGroup labels) packer.groups.items
   pub open_fits : (labels : List (Option ℕ)) → Extends packer.labels.items labels → IsFit labels packer.spot.at packer.filling.items

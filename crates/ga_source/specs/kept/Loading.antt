@@ -8,9 +8,9 @@ use Rattle.ga_node.specs.declared.place.Place.TheVariants.{Ram, Rom}
 use Rattle.ga_source.specs.declared.item.Item.{Item}
 use Rattle.ga_source.specs.declared.item.Item.TheVariants.{Opcode, Literal, Back, Ahead, Cell}
 use Rattle.ga_source.specs.declared.item.Group.{Group}
-use Rattle.ga_source.specs.declared.item.Value.TheVariants.{Label}
+use Rattle.ga_source.specs.declared.item.Operand.TheVariants.{Label}
 use Rattle.ga_source.specs.declared.spot.Spot.{Spot}
-use Rattle.ga_source.specs.Reading.{begin_at, resolved, is_same, word_in, reaches, ends_cell}
+use Rattle.ga_source.specs.Reading.{begin_at, resolved, are_both, word_in, reaches, ends_cell}
 use Rattle.ga_source.specs.kept.Words.{nothing}
 use Rattle.ga_source.specs.kept.Layout.{IsRead, Stand, spot_in, taken, takes_group}
 use Rattle.ga_source.specs.kept.Places.{KeepsRest}
@@ -20,7 +20,7 @@ use Rattle.ga_source.specs.Cells.{KeepsElsewhere}
 
 -- a jump that leads from wherever its label is reached
 abbrev pub Leads : List (Option ℕ) → ℕ → ℕ → ℕ → Type 0
-Leads labels word slot label = (p : ℕ) → reaches p slot (resolved labels (Label label)) ≡ true → is_same (resolved labels (Label label)) (Some (target p word slot)) ≡ true
+Leads labels word slot label = (p : ℕ) → reaches p slot (resolved labels (Label label)) ≡ true → are_both (resolved labels (Label label)) (Some (target p word slot)) ≡ true
 
 -- the word has the item in a slot
 abbrev pub HasItem : List (Option ℕ) → ℕ → ℕ → Item → Type 0
@@ -28,7 +28,7 @@ HasItem labels word slot (Opcode op) = opcode word slot ≡ op
 HasItem labels word slot (Literal _) = opcode word slot ≡ FetchP
 HasItem labels word slot (Back op label) = (opcode word slot ≡ op) × Leads labels word slot label
 HasItem labels word slot (Ahead op label) = (opcode word slot ≡ op) × Leads labels word slot label
-HasItem labels word slot (Cell value) = is_same (resolved labels value) (Some word) ≡ true
+HasItem labels word slot (Cell value) = are_both (resolved labels value) (Some word) ≡ true
 
 -- the last item of a cell may stand in this slot
 abbrev pub MayEnd : ℕ → Item → Type 0
@@ -55,7 +55,7 @@ Keeps before given after given_then = (address : ℕ) → Holds given (address %
 
 -- besides its opcode, what an item needs: its literal, or that its jump reaches
 abbrev pub HasRest : NodeState → List (Option ℕ) → Spot → Item → Type 0
-HasRest node labels spot (Literal value) = is_same (resolved labels value) (word_in node spot.p) ≡ true
+HasRest node labels spot (Literal value) = are_both (resolved labels value) (word_in node spot.p) ≡ true
 HasRest node labels spot (Back _ label) = (spot.slot < 3) × (reaches spot.p spot.slot (resolved labels (Label label)) ≡ true)
 HasRest node labels spot (Ahead _ label) = (spot.slot < 3) × (reaches spot.p spot.slot (resolved labels (Label label)) ≡ true)
 HasRest node labels spot _ = Unit {0}

@@ -1,7 +1,7 @@
 -- Plain requests as groups: each cell a group of its own (docs/REFERENCE.md, "Source"; this project's own).
 use Rattle.std.specs.Prelude.{ℕ, ◌≡◌, ◌%◌, ◌<◌, ◌≤◌, ◌^◌, List, [], ◌∷◌, map, length, slice_index_or, Option, Some, None}
-use Rattle.ga_source.specs.declared.item.Value.{Value}
-use Rattle.ga_source.specs.declared.item.Value.TheVariants.{Number, Label}
+use Rattle.ga_source.specs.declared.item.Operand.{Operand}
+use Rattle.ga_source.specs.declared.item.Operand.TheVariants.{Number, Label}
 use Rattle.ga_source.specs.declared.item.Item.TheVariants.{Cell}
 use Rattle.ga_source.specs.declared.item.Group.{Group}
 use Rattle.ga_source.specs.declared.item.Request.{Request}
@@ -28,13 +28,13 @@ ArePlain [] = Unit {0}
 ArePlain (request ∷ requests) = IsPlainRequest request × ArePlain requests
 
 -- a number below a bound, where there is a value
-abbrev pub IsNumber : ℕ → Option Value → Type 0
+abbrev pub IsNumber : ℕ → Option Operand → Type 0
 IsNumber bound None = Unit {0}
 IsNumber bound (Some (Number n)) = n < bound
 IsNumber bound (Some (Label k)) = ⊥
 
 -- the registers are given numbers in range
-pub record AreNumbers (p a b : Option Value) : Type 0 where
+pub record AreNumbers (p a b : Option Operand) : Type 0 where
   pub p_below : IsNumber 0x400 p
   pub a_below : IsNumber 0x40000 a
   pub b_below : IsNumber 0x200 b

@@ -5,7 +5,7 @@ use ga_fixtures::{load, sender, taker};
 use ga_grid::{Chip, NodeId};
 use ga_lab::{Lab, LabFault, Made};
 use ga_node::Place;
-use ga_search::{Race, Schedule, find_races, run};
+use ga_search::{Race, Schedule, find_races, run_schedule};
 use ga_word::Word18;
 use std::alloc::Global;
 use std::process::Abort;
@@ -77,7 +77,7 @@ fn the_other_pass() -> Made {
 #[test]
 fn tells_races(rt: HostRuntime) -> Result<(), Fail> {
     let mut lab = rivals(rt.alloc())?;
-    run(&mut lab, Schedule::in_rounds(), 18, &[]);
+    run_schedule(&mut lab, Schedule::in_rounds(), 18, &[]);
     has_races(&rt, rt.alloc(), &mut lab, None, &[])?;
     same(&rt, &lab.step(NodeId::new(2)).is_ok(), &true);
     has_the_race(&rt, rt.alloc(), &mut lab)?;

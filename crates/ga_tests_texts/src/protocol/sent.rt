@@ -1,13 +1,13 @@
 //! Messages that are written, byte for byte.
 
-use ga_protocol::{Inbox, Next, Outbox, Request, number_at, read_request, text_at};
+use ga_protocol::{ClientRequest, Inbox, Next, Outbox, number_at, read_request, text_at};
 use serde_json::{Value, json};
 use std::alloc::{AllocError, Global};
 use std::process::Abort;
 use std::test::Fail;
 
-fn threads(alloc: Global) -> Result<Request, AllocError> {
-    Ok(Request {
+fn threads(alloc: Global) -> Result<ClientRequest, AllocError> {
+    Ok(ClientRequest {
         seq: 7,
         command: String::from_str(alloc, "threads")?,
         arguments: Value::Null,

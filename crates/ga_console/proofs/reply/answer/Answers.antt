@@ -4,9 +4,9 @@ use Rattle.std.proofs.lemmas.List.{take_all}
 use Rattle.ga_lab.specs.Machine.{State}
 use Rattle.ga_console.specs.Texts.{no_long, no_syntax}
 use Rattle.ga_console.specs.Commands.{SpellsCommand}
-use Rattle.ga_console.specs.Replies.{Answer, Does}
+use Rattle.ga_console.specs.Replies.{LineAnswer, Does}
 use Rattle.ga_console.specs.kept.Turns.{Turns, AnswersLine}
-use Rattle.ga_console.specs.Replies.Answer.{long, command, syntax}
+use Rattle.ga_console.specs.Replies.LineAnswer.{long, command, syntax}
 use Rattle.ga_console.specs.declared.output.WriteFailed.{WriteFailed}
 use Rattle.ga_console.specs.declared.responder.Turn.{Turn}
 use Rattle.ga_console.specs.declared.command.Command.{Command}
@@ -22,22 +22,22 @@ whole line part e h = sym (e ∙ take_all 201 part (omega (arith, ap length e, l
 
 -- a failed write changes nothing of what the answer is
 turns_err : (s : State) (line answer : List ℕ) (new : State) (result : Result Turn WriteFailed) → IsErr result
-    → AnswersLine Answer s line answer new → Turns Answer s line new result answer
+    → AnswersLine LineAnswer s line answer new → Turns LineAnswer s line new result answer
 turns_err s line answer new (Ok turn) is h = absurd (search rules)
 turns_err s line answer new (Err why) is h = h
 
-answers_long : (s : State) (line : List ℕ) → 200 < length line → AnswersLine Answer s line no_long s
+answers_long : (s : State) (line : List ℕ) → 200 < length line → AnswersLine LineAnswer s line no_long s
 answers_long s line past = λ part kept.
     let long_part : 200 < length part = too_long line part kept past in
     (long long_part refl refl, λ e. absurd (omega (arith, ap length e)))
 
-answers_none : (s : State) (line : List ℕ) → length line ≤ 200 → ((d : Command) → ¬ SpellsCommand d line) → AnswersLine Answer s line no_syntax s
+answers_none : (s : State) (line : List ℕ) → length line ≤ 200 → ((d : Command) → ¬ SpellsCommand d line) → AnswersLine LineAnswer s line no_syntax s
 answers_none s line short none = λ part kept.
     let same : part ≡ line = whole line part kept short in
     (syntax (omega (arith, ap length same)) (λ d spelled. none d (subst (SpellsCommand d) same spelled)) refl refl, λ q. none Quit (sym same ∙ q))
 
 answers_done : (s : State) (line answer : List ℕ) (new : State) (d : Command) → length line ≤ 200 → SpellsCommand d line
-    → ((other : Command) → SpellsCommand other line → other ≡ d) → d ≢ Quit → Does s d answer new → AnswersLine Answer s line answer new
+    → ((other : Command) → SpellsCommand other line → other ≡ d) → d ≢ Quit → Does s d answer new → AnswersLine LineAnswer s line answer new
 answers_done s line answer new d short spelled only not_quit does = λ part kept.
     let same : part ≡ line = whole line part kept short in
     (command d (omega (arith, ap length same)) (subst (SpellsCommand d) (sym same) spelled) does, λ q. not_quit (sym (only Quit (sym same ∙ q))))

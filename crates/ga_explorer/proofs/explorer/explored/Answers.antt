@@ -6,11 +6,11 @@ use Rattle.ga_explorer.proofs.explorer.explored.Goals as goal
 
 pub returns-in-Run : goal.returns-in-Run
 returns-in-Run g c = λ before said h.
-    let ran = c.run-ran.result in
-    let many = length c.asked_of-watched.result.now in (
+    let ran = c.run_schedule-ran.result in
+    let many = length c.conditions_asked-watched.result.now in (
       run_text many ran.events ran.end,
-      run_done c.args.lab.now c.args.notes.now c.args.asked c.in-Run.schedule c.in-Run.most c.from.result c.in-Run.until c.asked_of-watched.result.now many ran.events ran.end c.run-ran.new.lab ran.schedule
-          c.in-Run.is c.asked_of-watched.ensures.asked refl c.from.ensures c.run-ran.ensures.made c.run-ran.ensures.most c.run-ran.ensures.end c.run-ran.ensures.state,
+      run_done c.args.lab.now c.args.notes.now c.args.asked c.in-Run.schedule c.in-Run.most c.from.result c.in-Run.until c.conditions_asked-watched.result.now many ran.events ran.end c.run_schedule-ran.new.lab ran.schedule
+          c.in-Run.is c.conditions_asked-watched.ensures.asked refl c.from.ensures c.run_schedule-ran.ensures.made c.run_schedule-ran.ensures.most c.run_schedule-ran.ensures.end c.run_schedule-ran.ensures.state,
       told_as c.say_blocks.result _ before said c.as_slice.result.now (run_text many ran.events ran.end) c.say_blocks.new.self
           (c.as_slice.ensures.value ∙ c.ran_text.ensures) (c.say_blocks.ensures before said h),
     )

@@ -1,7 +1,7 @@
 use Rattle.std.proofs.Common.{◌∙◌, ap, sym, arith}
 use Rattle.std.specs.Prelude.{map}
 use Rattle.std.proofs.lemmas.List.{drop_all}
-use Rattle.ga_explorer.specs.Forms.{form_in}
+use Rattle.ga_explorer.specs.Forms.{form_of_command}
 use Rattle.ga_explorer.specs.kept.Forms.{entry_of}
 use Rattle.ga_explorer.proofs.Finding.{named_here, named_behind}
 use Rattle.ga_explorer.proofs.forms.form_in.Goals as goal
@@ -13,5 +13,5 @@ pub rows-preserved : goal.rows-preserved
 rows-preserved c = named_behind c.args.word.now c.args.rows.now c.rows.row-index _ (omega arith) c.eq.result c.if-eq.false c.eq.ensures ∙ c.rows.invariant
 
 pub returns : goal.returns
-unfolding form_in
-returns c = sym (ap (λ z. form_in c.args.word.now (map entry_of z)) (drop_all c.rows.row-index c.args.rows.now (omega arith))) ∙ c.rows.invariant
+unfolding form_of_command
+returns c = sym (ap (λ z. form_of_command c.args.word.now (map entry_of z)) (drop_all c.rows.row-index c.args.rows.now (omega arith))) ∙ c.rows.invariant

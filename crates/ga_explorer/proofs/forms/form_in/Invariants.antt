@@ -1,8 +1,8 @@
 use Rattle.std.proofs.Common.{◌≡◌, drop}
 use Rattle.std.specs.Prelude.{map}
-use Rattle.ga_explorer.specs.Forms.{form_in}
+use Rattle.ga_explorer.specs.Forms.{form_of_command}
 use Rattle.ga_explorer.specs.kept.Forms.{entry_of}
 use Rattle.ga_explorer.proofs.forms.form_in.Given as goal
 
 abbrev pub invariant-rows : goal.invariant-rows
-invariant-rows l = form_in l.word (map entry_of (drop l.row-index l.rows)) ≡ form_in l.word (map entry_of l.rows)
+invariant-rows l = form_of_command l.word (map entry_of (drop l.row-index l.rows)) ≡ form_of_command l.word (map entry_of l.rows)

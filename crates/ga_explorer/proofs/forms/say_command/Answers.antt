@@ -2,7 +2,7 @@ use Rattle.std.proofs.Common.{◌≡◌, ◌∙◌, ◌++◌, [], List, ℕ, Som
 use Rattle.std.specs.Prelude.{Option, option_map, slice_get}
 use Rattle.std.proofs.lemmas.Option.{slice_get-map}
 use Rattle.ga_console.proofs.SaidLemmas.{said_as, said_pending}
-use Rattle.ga_explorer.specs.Forms.{Entry, rows, about_text, about_found, command_text}
+use Rattle.ga_explorer.specs.Forms.{CommandForm, rows, about_text, about_found, command_text}
 use Rattle.ga_explorer.specs.kept.Forms.{entry_of}
 use Rattle.ga_explorer.specs.declared.commands.Row.{Row}
 use Rattle.ga_explorer.proofs.Told.{told_as}
@@ -13,7 +13,7 @@ returns-in-Some g c = λ before said h.
     let row = c.in-Some.row.now in
     let found : Some row ≡ slice_get c.rows.result.now c.args.place = c.in-Some.ensures in
     let entry : Some (entry_of row) ≡ slice_get rows c.args.place =
-    ap (option_map entry_of) found ∙ sym (slice_get-map entry_of c.rows.result.now c.args.place) ∙ ap (λ (z : List Entry). slice_get z c.args.place) c.rows.ensures in (
+    ap (option_map entry_of) found ∙ sym (slice_get-map entry_of c.rows.result.now c.args.place) ∙ ap (λ (z : List CommandForm). slice_get z c.args.place) c.rows.ensures in (
       command_text c.args.place,
       refl,
       told_as c.say_about.result _ before said (about_text (entry_of row)) (command_text c.args.place) _ (ap about_found entry) (c.say_about.ensures before said h),
@@ -23,7 +23,7 @@ pub returns-in-None : goal.returns-in-None
 returns-in-None g c = λ before said h.
     let found : None ≡ slice_get c.rows.result.now c.args.place = c.in-None.ensures in
     let entry : None ≡ slice_get rows c.args.place =
-    ap (option_map entry_of) found ∙ sym (slice_get-map entry_of c.rows.result.now c.args.place) ∙ ap (λ (z : List Entry). slice_get z c.args.place) c.rows.ensures in (
+    ap (option_map entry_of) found ∙ sym (slice_get-map entry_of c.rows.result.now c.args.place) ∙ ap (λ (z : List CommandForm). slice_get z c.args.place) c.rows.ensures in (
       command_text c.args.place,
       refl,
       said_as _ before said [] (command_text c.args.place) _ (ap about_found entry) (said_pending _ before said _ h),

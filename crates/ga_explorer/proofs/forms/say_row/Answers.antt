@@ -1,6 +1,6 @@
 use Rattle.std.proofs.Common.{◌++◌, refl}
 use Rattle.ga_console.proofs.SaidLemmas.{cut_here, cut_within}
-use Rattle.ga_explorer.specs.Forms.{row_text}
+use Rattle.ga_explorer.specs.Forms.{form_row_text}
 use Rattle.ga_explorer.specs.kept.Forms.{entry_of}
 use Rattle.ga_explorer.proofs.Saying.{joined_said}
 use Rattle.ga_explorer.proofs.forms.say_row.Goals as goal
@@ -8,7 +8,7 @@ use Rattle.ga_explorer.proofs.forms.say_row.Goals as goal
 pub returns-in_err-say_blocks : goal.returns-in_err-say_blocks
 returns-in_err-say_blocks g c = λ before said h.
     let row = c.args.row.now in
-    let whole = row_text (entry_of row) in
+    let whole = form_row_text (entry_of row) in
     cut_here c.from_residual.result _ before (said ++ whole) _ c.from_residual.ensures.0
     (cut_within _ before said row.form.now row.does.now whole refl (c.in_err-say_blocks.ensures before said h))
 

@@ -1,7 +1,7 @@
 use Rattle.std.proofs.Common.{ℕ, List, ◌++◌, [], refl, arith}
 use Rattle.std.specs.Prelude.{map}
 use Rattle.ga_console.proofs.SaidLemmas.{cut_here, said_pending}
-use Rattle.ga_explorer.specs.Forms.{rows_text}
+use Rattle.ga_explorer.specs.Forms.{form_rows_text}
 use Rattle.ga_explorer.specs.kept.Forms.{entry_of}
 use Rattle.ga_explorer.proofs.Finding.{next_row, no_row}
 use Rattle.ga_explorer.proofs.Saying.{line_said, line_cut, all_said}
@@ -13,7 +13,7 @@ rows-init g c = λ before said h. record { front = []; splits = refl; is_said = 
 pub returns-in_err-say_row : goal.returns-in_err-say_row
 returns-in_err-say_row g c = λ before said h.
     let rows = c.args.rows.now in
-    let whole : List ℕ = rows_text (map entry_of rows) in
+    let whole : List ℕ = form_rows_text (map entry_of rows) in
     let done = c.rows.invariant before said h in (
       whole,
       refl,
@@ -27,14 +27,14 @@ pub rows-preserved : goal.rows-preserved
 rows-preserved g c = λ before said h.
     let rows = c.args.rows.now in
     let done = c.rows.invariant before said h in
-    line_said _ before said (rows_text (map entry_of rows)) _ _ _ done.front _
+    line_said _ before said (form_rows_text (map entry_of rows)) _ _ _ done.front _
     (next_row rows c.rows.row-index _ (omega arith)) done.splits
     (c.in_ok-say_row.ensures before (said ++ done.front) done.is_said)
 
 pub returns : goal.returns
 returns g c = λ before said h.
     let rows = c.args.rows.now in
-    let whole : List ℕ = rows_text (map entry_of rows) in (
+    let whole : List ℕ = form_rows_text (map entry_of rows) in (
       whole,
       refl,
       all_said _ before said whole _ _ (no_row rows c.rows.row-index (omega arith)) (c.rows.invariant before said h),

@@ -1,11 +1,11 @@
 use Rattle.std.proofs.Common.{ℕ, List, drop}
 use Rattle.std.specs.Prelude.{map}
 use Rattle.ga_console.specs.Output.{IsSaid}
-use Rattle.ga_explorer.specs.Forms.{rows_text}
+use Rattle.ga_explorer.specs.Forms.{form_rows_text}
 use Rattle.ga_explorer.specs.kept.Forms.{entry_of}
 use Rattle.ga_explorer.proofs.Saying.{IsSaidUpTo}
 use Rattle.ga_explorer.proofs.forms.say_rows.Given as goal
 
 abbrev pub invariant-rows : goal.invariant-rows
 invariant-rows g l = (before said : List ℕ) → IsSaid (g.W.Write.contents l.fn.writer) before said l.fn.output
-    → IsSaidUpTo (g.W.Write.contents l.writer) before said (rows_text (map entry_of l.rows)) (rows_text (map entry_of (drop l.row-index l.rows))) l.output
+    → IsSaidUpTo (g.W.Write.contents l.writer) before said (form_rows_text (map entry_of l.rows)) (form_rows_text (map entry_of (drop l.row-index l.rows))) l.output

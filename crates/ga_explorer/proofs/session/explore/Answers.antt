@@ -5,7 +5,7 @@ use Rattle.ga_console.specs.Session.{Serves}
 use Rattle.ga_console.proofs.RunLemmas.{said_fresh}
 use Rattle.ga_explorer.specs.Answers.{Explores}
 use Rattle.ga_explorer.specs.Opening.{IsFront}
-use Rattle.ga_explorer.specs.Session.Runs.{served, unbegun}
+use Rattle.ga_explorer.specs.Session.RunsExploring.{served, unbegun}
 use Rattle.ga_explorer.proofs.session.explore.Goals as goal
 
 pub returns-in-Ok : goal.returns-in-Ok

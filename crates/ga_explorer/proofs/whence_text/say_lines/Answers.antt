@@ -1,7 +1,7 @@
 use Rattle.std.proofs.Common.{ℕ, List, [], ◌++◌, refl, ap, arith}
 use Rattle.std.specs.Prelude.{flat_map}
 use Rattle.ga_console.proofs.SaidLemmas.{cut_here, said_pending}
-use Rattle.ga_explorer.specs.Trees.{row_text}
+use Rattle.ga_explorer.specs.Trees.{tree_row_text}
 use Rattle.ga_explorer.proofs.Saying.{line_said, line_cut, all_said, rest_lines, no_lines}
 use Rattle.ga_explorer.proofs.whence_text.say_lines.Goals as goal
 
@@ -11,7 +11,7 @@ rows-init g c = λ before said h. record { front = []; splits = refl; is_said = 
 pub returns-in_err-say_row : goal.returns-in_err-say_row
 returns-in_err-say_row g c = λ before said h.
     let rows = c.args.rows.now in
-    let line = row_text c.args.notes.now c.args.lab.now c.args.deeper in
+    let line = tree_row_text c.args.notes.now c.args.lab.now c.args.deeper in
     let whole : List ℕ = flat_map line rows in
     let i : ℕ = c.rows.row-index in
     let done = c.rows.invariant before said h in
@@ -26,7 +26,7 @@ returns-in_err-say_row g c = λ before said h.
 pub rows-preserved : goal.rows-preserved
 rows-preserved g c = λ before said h.
     let rows = c.args.rows.now in
-    let line = row_text c.args.notes.now c.args.lab.now c.args.deeper in
+    let line = tree_row_text c.args.notes.now c.args.lab.now c.args.deeper in
     let i : ℕ = c.rows.row-index in
     let done = c.rows.invariant before said h in
     let text = line c.row-item.result in
@@ -37,7 +37,7 @@ rows-preserved g c = λ before said h.
 pub returns : goal.returns
 returns g c = λ before said h.
     let rows = c.args.rows.now in
-    let line = row_text c.args.notes.now c.args.lab.now c.args.deeper in
+    let line = tree_row_text c.args.notes.now c.args.lab.now c.args.deeper in
     let whole : List ℕ = flat_map line rows in (
       whole,
       refl,

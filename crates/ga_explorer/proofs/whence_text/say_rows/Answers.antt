@@ -1,7 +1,7 @@
 use Rattle.std.proofs.Common.{◌≡◌, ℕ, Bool, true, false, ◌++◌, refl, sym, ap, ◌∙◌}
 use Rattle.std.specs.Prelude.{flat_map}
 use Rattle.ga_console.proofs.SaidLemmas.{cut_here, cut_within}
-use Rattle.ga_explorer.specs.Trees.{row_text, head_text, rows_by}
+use Rattle.ga_explorer.specs.Trees.{tree_row_text, head_text, rows_by}
 use Rattle.ga_explorer.specs.kept.Trees.{is_first}
 use Rattle.ga_explorer.proofs.Saying.{joined_said}
 use Rattle.ga_explorer.proofs.whence_text.say_rows.Goals as goal
@@ -21,7 +21,7 @@ returns-in_err-say_head g c = λ before said h.
     let done = c.in_err-say_head.ensures before said h in
     let rows = c.args.rows.now in
     let made : is_first c.args.near.now.step rows ≡ false = ap (λ (k : ℕ). is_first k rows) (sym c.step.ensures.value) ∙ sym c.is_first.ensures ∙ c.if-is_first.false in
-    let last = flat_map (row_text c.args.notes.now c.args.lab.now 1) rows in (
+    let last = flat_map (tree_row_text c.args.notes.now c.args.lab.now 1) rows in (
       done.0 ++ last,
       ap (λ z. z ++ last) done.1 ∙ ap (λ (b : Bool). rows_by c.args.notes.now c.args.lab.now c.args.node c.args.near.now.step b rows) (sym made),
       cut_here c.from_residual.result _ before (said ++ (done.0 ++ last)) _ c.from_residual.ensures.0

@@ -1,11 +1,11 @@
 use Rattle.std.proofs.Common.{◌≡◌, ◌≤◌, length}
-use Rattle.ga_image.specs.Forms.{words}
+use Rattle.ga_image.specs.Forms.{words_in_row}
 use Rattle.ga_image.proofs.Spaced.{words_after}
 use Rattle.ga_image.proofs.line.read_words.Given as goal
 
 abbrev pub invariant-loop-rest : goal.invariant-loop-rest
 invariant-loop-rest l = record {
-  same : words_after l.words.items l.rest ≡ words l.fn.text;
+  same : words_after l.words.items l.rest ≡ words_in_row l.fn.text;
   fits : length l.words.items ≤ 16;
 }
 

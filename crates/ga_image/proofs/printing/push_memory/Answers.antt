@@ -2,7 +2,7 @@ use Rattle.std.proofs.Common.{ℕ, ◌≡◌, ◌*◌, ◌<◌, List, ◌++◌, 
 use Rattle.ga_node.specs.Record.{record_of}
 use Rattle.ga_image.specs.declared.field.Field.{Field}
 use Rattle.ga_image.specs.kept.Forms.{field_in}
-use Rattle.ga_image.specs.Printing.{AreWords, line_unless, row_at, row_cells}
+use Rattle.ga_image.specs.Printing.{AreWords, line_unless, row_of_words, row_cells}
 use Rattle.ga_image.specs.kept.Printing.{fields_text, memory_in}
 use Rattle.ga_image.proofs.Pieces.{lines_grown, rows_more, row_cell}
 use Rattle.ga_image.proofs.PrintedSound.{rows_words, memory_words}
@@ -16,9 +16,9 @@ rows-preserved c =
     let text : List ℕ = c.rows.text.items in
     let new : List ℕ = c.push_words_unless.new.text.items in
     let number = c.rows.number in
-    let lines : ℕ → List (Field × List ℕ) = λ cell. line_unless 0 (field_in bank cell) (row_at memory cell) in
+    let lines : ℕ → List (Field × List ℕ) = λ cell. line_unless 0 (field_in bank cell) (row_of_words memory cell) in
     let within : number < 8 = omega arith in
-    let words : c.as_slice.result.now ≡ row_at memory (8 * number) = c.as_slice.ensures.value ∙ c.row.ensures.items in
+    let words : c.as_slice.result.now ≡ row_of_words memory (8 * number) = c.as_slice.ensures.value ∙ c.row.ensures.items in
     let last : new ≡ text ++ fields_text (lines (8 * number)) =
     c.in_ok-push_words_unless.ensures
     ∙ ap (λ field. text ++ fields_text (line_unless 0 field c.as_slice.result.now)) c.field.ensures

@@ -5,7 +5,7 @@ use Rattle.ga_grid.specs.Chip.{nowhere, node_at, records_of, record_at}
 use Rattle.ga_grid.proofs.Chips.{record_at-records_of}
 use Rattle.ga_image.specs.kept.Printing.{blocks_text}
 use Rattle.ga_image.specs.Printing.{block_unless, lines_at}
-use Rattle.ga_image.specs.ReadBack.{IsSound}
+use Rattle.ga_image.specs.ReadBack.{IsSoundRecord}
 use Rattle.ga_image.proofs.Pieces.{next_block, finished}
 use Rattle.ga_image.proofs.PrintedSound.{all_more, all_whole}
 use Rattle.ga_image.proofs.printing.whole_text.Goals as goal
@@ -25,7 +25,7 @@ loop-number-preserved c =
     record {
       whole = next_block nodes n (record_of nowhere) text new _ within c.loop-number.invariant.whole piece;
       size = λ _. c.node.ensures.size;
-      sound = all_more IsSound nodes n (record_of nowhere) within c.loop-number.invariant.sound (subst IsSound node c.in_ok-push_block.ensures.sound);
+      sound = all_more IsSoundRecord nodes n (record_of nowhere) within c.loop-number.invariant.sound (subst IsSoundRecord node c.in_ok-push_block.ensures.sound);
     }
 
 pub returns-clause-text : goal.returns-clause-text
@@ -40,4 +40,4 @@ returns-clause-sound c =
     let chip = c.args.chip.now in
     let size : length chip ≡ 144 = c.loop-number.invariant.size (omega arith) in
     let count : length (records_of chip) ≡ 144 = length-map chip record_of ∙ size in
-    record { size = count; each = all_whole IsSound (records_of chip) c.loop-number.number (omega arith) c.loop-number.invariant.sound }
+    record { size = count; each = all_whole IsSoundRecord (records_of chip) c.loop-number.number (omega arith) c.loop-number.invariant.sound }

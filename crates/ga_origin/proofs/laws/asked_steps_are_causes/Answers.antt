@@ -3,7 +3,7 @@ use Rattle.std.proofs.lemmas.List.Elements.{All-nil, All-cons}
 use Rattle.ga_causal.specs.Dependence.{itself}
 use Rattle.ga_flow.specs.Flow.{top}
 use Rattle.ga_origin.specs.declared.listing.Row.{Row}
-use Rattle.ga_origin.specs.Origins.{value_at}
+use Rattle.ga_origin.specs.Origins.{value_of_step}
 use Rattle.ga_origin.specs.Rows.{row_at}
 use Rattle.ga_origin.specs.Causes.{IsNamedFor}
 use Rattle.ga_origin.proofs.Causes.{rows_named, earlier}
@@ -13,7 +13,7 @@ use Rattle.ga_origin.proofs.laws.asked_steps_are_causes.Goals as goal
 pub returns : goal.returns
 returns c s node step place value rows whole is asked told =
     let near = asked_near s node step value asked in
-    let here = value_at node step top in
+    let here = value_of_step node step top in
     rows_named s here [] (row_at 0 value ∷ []) rows whole told
     (All-cons (λ (row : Row). IsNamedFor s here row.value) (row_at 0 value) []
     (earlier s here here value near.0 near.1 (inr (record { cause = place; effect = place; cause_place = is; effect_place = is; depends = itself })))

@@ -1,5 +1,5 @@
 use Rattle.std.proofs.Common.{◌≡◌, ◌≤◌, ◌+◌, true, false, [], length, vec_len, sym, ap, ◌∙◌, arith}
-use Rattle.ga_origin.specs.Rows.{is_named, row_at, below}
+use Rattle.ga_origin.specs.Rows.{has_value, row_at, below}
 use Rattle.ga_origin.proofs.Walking.{told_again, told_on, told_cut, told_all, no_items, grown_by, open_top, open_left, open_on}
 use Rattle.ga_origin.proofs.listing.whence_near.Goals as goal
 
@@ -16,8 +16,8 @@ push_below-requires-clause-deep c =
 
 pub telling-preserved-then-is_named : goal.telling-preserved-then-is_named
 telling-preserved-then-is_named c =
-    let named : is_named c.telling.rows.items c.origin_near-last.result.value ≡ true =
-    sym (ap (λ z. is_named z c.origin_near-last.result.value) c.deref.ensures.value) ∙ sym c.is_named.ensures ∙ c.if-is_named.true in
+    let named : has_value c.telling.rows.items c.origin_near-last.result.value ≡ true =
+    sym (ap (λ z. has_value z c.origin_near-last.result.value) c.deref.ensures.value) ∙ sym c.is_named.ensures ∙ c.if-is_named.true in
     record {
       tells = told_again c.args.lab.now (row_at 0 c.args.value) c.telling.rows.items c.telling.todo.items c.pop.new.self.items c.in-Some.next c.origin_near-last.result.value c.in-Some.ensures.items c.origin_near-last.ensures.value named c.telling.invariant.tells;
       ready = open_left (length c.telling.rows.items) c.telling.todo.items c.pop.new.self.items c.in-Some.next c.in-Some.ensures.items c.telling.invariant.ready;
@@ -27,14 +27,14 @@ telling-preserved-then-is_named c =
 
 pub returns-then-as_slice-most-clause-rows : goal.returns-then-as_slice-most-clause-rows
 returns-then-as_slice-most-clause-rows c =
-    let named : is_named c.telling.rows.items c.origin_near-last.result.value ≡ false =
-    sym (ap (λ z. is_named z c.origin_near-last.result.value) c.deref.ensures.value) ∙ sym c.is_named.ensures ∙ c.if-is_named.false in
+    let named : has_value c.telling.rows.items c.origin_near-last.result.value ≡ false =
+    sym (ap (λ z. has_value z c.origin_near-last.result.value) c.deref.ensures.value) ∙ sym c.is_named.ensures ∙ c.if-is_named.false in
     told_cut c.args.lab.now (row_at 0 c.args.value) c.telling.rows.items c.telling.todo.items c.pop.new.self.items c.in-Some.next c.origin_near-last.result.value c.in-Some.ensures.items c.origin_near-last.ensures.value named c.telling.invariant.tells
 
 pub telling-preserved : goal.telling-preserved
 telling-preserved c =
-    let named : is_named c.telling.rows.items c.origin_near-last.result.value ≡ false =
-    sym (ap (λ z. is_named z c.origin_near-last.result.value) c.deref.ensures.value) ∙ sym c.is_named.ensures ∙ c.if-is_named.false in
+    let named : has_value c.telling.rows.items c.origin_near-last.result.value ≡ false =
+    sym (ap (λ z. has_value z c.origin_near-last.result.value) c.deref.ensures.value) ∙ sym c.is_named.ensures ∙ c.if-is_named.false in
     let row = row_at c.in-Some.next.depth c.origin_near-last.result.value in
     let grown : length c.push-in-Some.new.self.items ≡ length c.telling.rows.items + 1 = grown_by c.telling.rows.items c.push-in-Some.new.self.items row c.in_ok-push-2.ensures.items in
     let top = open_top (length c.telling.rows.items) c.telling.todo.items c.pop.new.self.items c.in-Some.next c.in-Some.ensures.items c.telling.invariant.ready in

@@ -1,7 +1,7 @@
 use Rattle.std.proofs.Common.{◌≡◌, ℕ, suc, ◌-◌, ap, ◌∙◌, refl, arith}
 use Rattle.ga_flow.specs.Flow.{Flow}
 use Rattle.ga_flow.specs.Following.{flow_of}
-use Rattle.ga_origin.specs.Origins.{moved_from, value_at, origin_from}
+use Rattle.ga_origin.specs.Origins.{moved_from, value_of_step, origin_from}
 use Rattle.ga_lab.specs.Machine.{Standing}
 use Rattle.ga_origin.proofs.Made.{back_on, back_end, told_so, stays_so}
 use Rattle.ga_origin.proofs.origin.origin_behind.Goals as goal
@@ -21,7 +21,7 @@ steps-preserved c =
       trail = stays_so s node c.flow_by_trail-flow.new.trail told.new.self c.flow_by_trail-flow.ensures.trail told.ensures.trail;
       order = (let same = ap (λ (z : Standing). z.step) told.ensures.trail in omega (arith, told.ensures.within, c.flow_by_trail-flow.ensures.order, same));
       back = omega (arith, told.ensures.within, c.steps.invariant.back);
-      same = told_so s node (value_at node k c.in-Some.from) told.result made refl told.ensures.node told.ensures.same
+      same = told_so s node (value_of_step node k c.in-Some.from) told.result made refl told.ensures.node told.ensures.same
           (back_on s node value.step k value.part c.in-Some.from made is (c.in-Some.ensures.value ∙ ap (λ (z : Flow). moved_from z value.part) c.flow_by_trail-flow.ensures.value) c.steps.invariant.same);
     }
 

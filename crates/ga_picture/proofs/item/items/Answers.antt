@@ -3,7 +3,7 @@ use Rattle.std.specs.List.{range_with_len}
 use Rattle.std.proofs.lemmas.List.{get_or_default}
 use Rattle.std.proofs.lemmas.List.FromFn.{map-range_with_len_more}
 use Rattle.ga_causal.specs.Dependence.{is_marked, event_at, no_cause}
-use Rattle.ga_picture.specs.declared.item.Item.{Item}
+use Rattle.ga_picture.specs.declared.item.PictureItem.{PictureItem}
 use Rattle.ga_picture.specs.declared.shade.Shade.TheVariants.{Black}
 use Rattle.ga_event.specs.declared.event.Cause.{Cause}
 use Rattle.ga_picture.specs.Items.{actor, item_at}
@@ -27,15 +27,15 @@ events-preserved c = λ ready h.
     let coloured : place < length c.args.facts.shades.now = let size : length c.args.facts.shades.now ≡ length events = c.requires.shades in omega arith in
     let flagged : place < length c.args.facts.plain.now = let size : length c.args.facts.plain.now ≡ length events = c.requires.plain in omega arith in
     let there : event_at events place ≡ get_or events place e = get_or_default events place no_cause e within in
-    let at : ℕ → Item = item_at (known_in c.args.facts ready (is_marked c.args.idle.now)) c.args.view in
+    let at : ℕ → PictureItem = item_at (known_in c.args.facts ready (is_marked c.args.idle.now)) c.args.view in
     let item : c.item_of.result ≡ at place =
     c.item_of.ensures ∙ item_same c.args.view _ _ _ _ _ _ _ _ _ _ (sym there) (get_or_default c.args.facts.shades.now place _ Black coloured)
     (get_or_default c.args.facts.plain.now place _ false flagged ∙ h place within) c.is_named-named.ensures
     (c.is_idle-silent.ensures ∙ ap (is_marked c.args.idle.now) c.actor.ensures ∙ ap (λ (z : Cause). is_marked c.args.idle.now (actor z.event)) (sym there)) in
     let next : place - from + 1 ≡ place + 1 - from = let begun : from ≤ place = c.events.auto.place in omega arith in
     let sum : from + (place - from) ≡ place = let begun : from ≤ place = c.events.auto.place in omega arith in
-    c.in_ok-push.ensures.items ∙ ap (λ (z : List Item). z ++ c.item_of.result ∷ []) (c.events.invariant ready h)
-    ∙ ap (λ (z : Item). map at (range_with_len from (place - from)) ++ z ∷ []) item
+    c.in_ok-push.ensures.items ∙ ap (λ (z : List PictureItem). z ++ c.item_of.result ∷ []) (c.events.invariant ready h)
+    ∙ ap (λ (z : PictureItem). map at (range_with_len from (place - from)) ++ z ∷ []) item
     ∙ sym (map-range_with_len_more at from (place - from) place sum) ∙ ap (λ (z : ℕ). map at (range_with_len from z)) next
 
 pub returns : goal.returns

@@ -1,8 +1,8 @@
 use Rattle.std.proofs.Common.{◌≡◌, ◌+◌, ◌<◌, true, false, length, refl, sym, ap, ◌∙◌, subst, arith}
 use Rattle.std.proofs.lemmas.List.{get_or_default}
 use Rattle.ga_causal.specs.Dependence.{cause_touches}
-use Rattle.ga_picture.specs.declared.item.Item.{Item}
-use Rattle.ga_picture.specs.declared.placing.Row.{Row}
+use Rattle.ga_picture.specs.declared.item.PictureItem.{PictureItem}
+use Rattle.ga_picture.specs.declared.placing.PictureRow.{PictureRow}
 use Rattle.ga_picture.specs.Drawing.{IsShape, IsRow}
 use Rattle.ga_picture.specs.Items.{actor}
 use Rattle.ga_picture.specs.Runs.{at_place, no_item, IsSimple, run_before, before_at, behind_at, steps_at, rows_below}
@@ -57,7 +57,7 @@ items-preserved c =
     c.index.ensures ∙ get_or_default c.in_ok-behind.behind.items place c.index.result.now 0 near ∙ c.in_ok-behind.ensures.exact place within in
     let front : before ≡ before_at items place =
     c.count-before.ensures ∙ ap (λ z. count_in c.items.runs z item.shade) c.actor.ensures ∙ c.items.invariant.runs.counts (actor item.cause.event) item.shade node
-    ∙ ap (λ (z : Item). run_before (actor z.cause.event) z.shade items place) (sym here) in
+    ∙ ap (λ (z : PictureItem). run_before (actor z.cause.event) z.shade items place) (sym here) in
     let many : steps ≡ steps_at items fold place = steps_are items fold place item before c.index.result.now steps here front behind c.drawn_with-steps.ensures in
     let has = row_is items fold place item before steps c.has_row.result here front many c.has_row.ensures in
     record {
@@ -66,12 +66,12 @@ items-preserved c =
       laid = elim c.if-has_row.branch [
         | then-has_row+in_ok-push w ↦ (
             let in_it : item.out ≡ false = is_in item.out _ c.has_row.result w.if-has_row.true c.has_row.ensures in
-            let row : Row = record { place = place; shape = w.shape_of.result } in
+            let row : PictureRow = record { place = place; shape = w.shape_of.result } in
             let is : IsRow items fold lines row = record {
-              shape = subst (λ (z : Item). IsShape z.cause lines w.shape_of.result) (sym here) (w.shape_of.ensures.drawn lines
+              shape = subst (λ (z : PictureItem). IsShape z.cause lines w.shape_of.result) (sym here) (w.shape_of.ensures.drawn lines
                   (λ n t. c.in_ok-nodes.ensures.found n (touched_below item.cause.event n t)
-                  (c.touched_by.ensures.all n place within (ap (λ (z : Item). z.out) here ∙ in_it) (subst (λ (z : Item). cause_touches z.cause n ≡ true) (sym here) t))));
-              shaded = w.shape_of.ensures.shaded ∙ ap (λ (z : Item). z.shade) (sym here);
+                  (c.touched_by.ensures.all n place within (ap (λ (z : PictureItem). z.out) here ∙ in_it) (subst (λ (z : PictureItem). cause_touches z.cause n ≡ true) (sym here) t))));
+              shaded = w.shape_of.ensures.shaded ∙ ap (λ (z : PictureItem). z.shade) (sym here);
               steps = steps_shown item _ steps before c.index.result.now fold simple c.drawn_with-steps.ensures w.shape_of.ensures.steps w.shape_of.ensures.one ∙ many;
             } in
             subst (λ z. AreLaid items fold lines (place + 1) z) (sym (ap (λ z. z.items) w.rows-is))

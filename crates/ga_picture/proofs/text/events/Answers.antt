@@ -1,12 +1,12 @@
 use Rattle.std.proofs.Common.{◌<◌, ◌≤◌, ◌++◌, List, ℕ, length, take, sym, ◌∙◌, ap, subst, arith}
 use Rattle.std.specs.Prelude.{string_bytes}
-use Rattle.ga_picture.specs.declared.placing.Row.{Row}
+use Rattle.ga_picture.specs.declared.placing.PictureRow.{PictureRow}
 use Rattle.ga_picture.specs.Drawing.{shade_of}
 use Rattle.ga_picture.specs.Svg.{class_of, classes_in}
 use Rattle.ga_picture.proofs.Grouped.{AreBehind, behind_more, classes_next, classes_all}
 use Rattle.ga_picture.proofs.text.events.Goals as goal
 
-abbrev class_at : Row → List ℕ
+abbrev class_at : PictureRow → List ℕ
 class_at row = class_of (shade_of row.shape)
 
 pub rows-preserved : goal.rows-preserved

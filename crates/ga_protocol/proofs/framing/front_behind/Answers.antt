@@ -1,5 +1,5 @@
 use Rattle.std.proofs.Common.{◌≡◌, ◌≤◌, true, false, length, sym, subst, arith}
-use Rattle.ga_protocol.specs.Framing.{header_end, Agree, Finds, IsLength}
+use Rattle.ga_protocol.specs.Framing.{header_end, OneBeginsOther, Finds, IsLength}
 use Rattle.ga_protocol.proofs.Frames.{whole, is_too_long, is_many, is_no_end, is_part, no_digits}
 use Rattle.ga_protocol.proofs.Tests.{is_zero, not_zero}
 use Rattle.ga_protocol.proofs.framing.front_behind.Goals as goal
@@ -27,7 +27,7 @@ pub returns-then-not-agree : goal.returns-then-not-agree
 returns-then-not-agree c =
     let r = c.value_behind.ensures.reads in
     let is : IsLength c.value_behind.result.0.now c.in-Some.number = (not_zero (length c.value_behind.result.0.now) c.is_empty.result c.is_empty.ensures c.if-is_empty.false, omega arith, r.1, sym c.in-Some.ensures.value, c.in-Some.ensures.within) in
-    let differ = λ (h : Agree c.value_behind.result.1.now header_end).
+    let differ = λ (h : OneBeginsOther c.value_behind.result.1.now header_end).
     let t : c.agree.result ≡ true = c.agree.ensures.1 h in let f : c.agree.result ≡ false = c.if-not-agree.true in absurd (cc) in
     is_no_end c.args.bytes.now c.value_behind.result.0.now c.value_behind.result.1.now r.0
     (subst (IsLength c.value_behind.result.0.now) c.in-Some.ensures.value is) (c.value_behind.ensures.all (omega arith)) differ

@@ -2,15 +2,15 @@ use Rattle.std.proofs.Common.{◌≡◌, ℕ, Bool, length}
 use Rattle.ga_grid.specs.Chip.{records_of}
 use Rattle.ga_causal.specs.Dependence.{is_marked}
 use Rattle.ga_search.specs.Stuck.{AreStuck}
-use Rattle.ga_search.specs.Freed.{IsWithin}
+use Rattle.ga_search.specs.Freed.{IsSubset}
 use Rattle.ga_search.proofs.Freeing.{how_many}
 use Rattle.ga_search.proofs.freed.settled.Given as goal
 
 abbrev pub invariant-freeing : goal.invariant-freeing
 invariant-freeing l = record {
   size : length l.marks ≡ 144;
-  fewer : IsWithin (is_marked l.marks) (is_marked l.initial.marks);
-  greatest : (others : ℕ → Bool) → AreStuck (records_of l.chip) others → IsWithin others (is_marked l.initial.marks) → IsWithin others (is_marked l.marks);
+  fewer : IsSubset (is_marked l.marks) (is_marked l.initial.marks);
+  greatest : (others : ℕ → Bool) → AreStuck (records_of l.chip) others → IsSubset others (is_marked l.initial.marks) → IsSubset others (is_marked l.marks);
 }
 
 abbrev pub decreases-freeing : goal.decreases-freeing

@@ -2,7 +2,7 @@ use Rattle.std.proofs.Common.{◌≡◌, ℕ, Option, take, sym, ◌∙◌, ap}
 use Rattle.ga_node.specs.Record.{NodeRecord}
 use Rattle.ga_event.specs.Apply.{shows, beside_in}
 use Rattle.ga_event.specs.Told.{steps_of}
-use Rattle.ga_causal.specs.Dependence.{events_in}
+use Rattle.ga_event.specs.Told.{events_in}
 use Rattle.ga_lab.specs.Machine.{chip_of, earlier}
 use Rattle.ga_search.proofs.Placed.{steps_at}
 use Rattle.ga_search.proofs.readings.beside_before.Goals as goal

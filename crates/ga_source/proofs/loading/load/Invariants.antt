@@ -3,7 +3,7 @@ use Rattle.std.specs.List.{All}
 use Rattle.ga_source.specs.Cells.{KeepsElsewhere}
 use Rattle.ga_source.specs.kept.Layout.{are_taken}
 use Rattle.ga_source.specs.kept.Loading.{IsLoadedGroup}
-use Rattle.ga_source.specs.Sound.{AreFree}
+use Rattle.ga_source.specs.Sound.{AreDistinctCells}
 use Rattle.ga_source.specs.kept.Packing.{AreCellGroups, AreOpen}
 use Rattle.ga_source.specs.kept.Places.{KeepsRest}
 use Rattle.ga_source.proofs.loading.load.Given as goal
@@ -14,5 +14,5 @@ invariant-loop-group l = record {
   elsewhere : KeepsElsewhere (are_taken l.packed.groups.items) l.fn.node l.node;
   loaded : All (IsLoadedGroup l.node l.labels l.given) (take l.group-index l.packed.groups.items);
   size : length l.given ≡ 192;
-  free : (cells : List (ℕ × ℕ)) → AreCellGroups cells l.packed.groups.items → AreFree cells → AreOpen l.given cells l.group-index;
+  free : (cells : List (ℕ × ℕ)) → AreCellGroups cells l.packed.groups.items → AreDistinctCells cells → AreOpen l.given cells l.group-index;
 }

@@ -1,10 +1,10 @@
 use Rattle.std.proofs.Common.{◌≡◌, ◌≤◌, ◌-◌, length}
-use Rattle.ga_source.specs.Mending.{numbered, mended}
+use Rattle.ga_source.specs.Mending.{with_numbers, mended}
 use Rattle.ga_source.proofs.mending.assemble_behind_faults.Given as goal
 
 abbrev pub invariant-faults : goal.invariant-faults
 invariant-faults l = record {
-  left : l.kept.items ≡ mended (numbered 1 l.words) l.faults.items;
+  left : l.kept.items ≡ mended (with_numbers 1 l.words) l.faults.items;
   few : length l.faults.items ≤ 200;
 }
 

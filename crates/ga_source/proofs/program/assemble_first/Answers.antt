@@ -1,8 +1,8 @@
 use Rattle.std.proofs.Common.{rules, arith, ◌≡◌, ◌∙◌, sym, Some, ◌<◌, ◌++◌, ◌∷◌, [], false, length, slice_index_or, ap, subst}
 use Rattle.ga_grid.specs.declared.node_id.NodeId.{NodeId}
 use Rattle.std.specs.Prelude.{Err}
-use Rattle.ga_grid.specs.Grid.{number_in}
-use Rattle.ga_source.specs.declared.fault.Cause.TheVariants.{Memory}
+use Rattle.ga_grid.specs.Grid.{number_where_any}
+use Rattle.ga_source.specs.declared.fault.SourceCause.TheVariants.{Memory}
 use Rattle.ga_source.specs.Programs.{HasProgram}
 use Rattle.ga_source.proofs.Loaded.{one_more_at}
 use Rattle.ga_source.proofs.Refusing.{not_node, too_few, no_such, begun_twice, first_refused, left_first}
@@ -40,7 +40,7 @@ returns-then-words-lt2-clause-refused c = λ sound. absurd (too_few c.args.begun
 
 pub returns-in_default-clause-refused : goal.returns-in_default-clause-refused
 returns-in_default-clause-refused c = λ sound.
-    absurd (no_such c.args.begun.now c.args.words.now _ c.in_ok-word-2.field-0.now c.requires.many c.in_ok-word-2.ensures.told (sym c.node_named.ensures ∙ ap number_in c.in_default.is) sound)
+    absurd (no_such c.args.begun.now c.args.words.now _ c.in_ok-word-2.field-0.now c.requires.many c.in_ok-word-2.ensures.told (sym c.node_named.ensures ∙ ap number_where_any c.in_default.is) sound)
 
 pub returns-then-begun-index-clause-refused : goal.returns-then-begun-index-clause-refused
 returns-then-begun-index-clause-refused c = λ sound.

@@ -4,7 +4,7 @@ use Rattle.ga_source.specs.declared.item.Asked.{Asked}
 use Rattle.ga_source.specs.declared.item.Request.{Request}
 use Rattle.ga_source.specs.declared.item.Registers.{Registers}
 use Rattle.ga_source.specs.Plain.{Plain, value_in}
-use Rattle.ga_source.specs.Sound.{cells_from, AreFree}
+use Rattle.ga_source.specs.Sound.{cells_from, AreDistinctCells}
 use Rattle.ga_source.specs.kept.Hearing.{texts_of}
 use Rattle.ga_source.specs.kept.Packing.{requests_of, ArePlain, AreNumbers}
 use Rattle.ga_source.proofs.CellGroups.{plain_words}
@@ -62,4 +62,4 @@ returns-in_err-load-clause-refused c =
     let are : ArePlain (requests_of c.as_slice.result.now) = subst (λ (list : List Asked). ArePlain (requests_of list)) (sym c.as_slice.ensures.value)
     (plain_requests (texts_of c.args.tokens.now) plain c.in_ok-asked.field-0.asked.items c.in_ok-asked.field-0.registers is asks) in
     absurd (c.in_err-load.ensures.refused (cells_from 0 (requests_of c.as_slice.result.now)) (c.in_ok-packed.ensures.cells are)
-    (plain_words 0 (requests_of c.as_slice.result.now) are) (subst (λ (list : List Request). AreFree (cells_from 0 list)) same free)))
+    (plain_words 0 (requests_of c.as_slice.result.now) are) (subst (λ (list : List Request). AreDistinctCells (cells_from 0 list)) same free)))

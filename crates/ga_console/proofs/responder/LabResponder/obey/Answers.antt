@@ -1,4 +1,4 @@
-use Rattle.ga_console.specs.Replies.Answer.{command}
+use Rattle.ga_console.specs.Replies.LineAnswer.{command}
 use Rattle.ga_console.proofs.responder.LabResponder.obey.Goals as goal
 
 pub returns : goal.returns

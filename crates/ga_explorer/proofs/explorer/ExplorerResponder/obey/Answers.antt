@@ -1,5 +1,5 @@
 use Rattle.std.proofs.Common.{ap, subst, inl, inr}
-use Rattle.ga_console.specs.Replies.{Answer}
+use Rattle.ga_console.specs.Replies.{LineAnswer}
 use Rattle.ga_explorer.specs.Tails.{Exploring}
 use Rattle.ga_explorer.specs.Answers.Explores.{debugged}
 use Rattle.ga_explorer.proofs.Apart.{debugger_alone}
@@ -10,7 +10,7 @@ returns g c = λ before said h.
     let done = c.obey.ensures before said h in (
       done.0,
       λ line short spelled. debugged (λ fits. debugger_alone c.args.self.now.notes c.args.command line spelled)
-          (inl (inr (short, c.args.command, spelled), subst (λ (s : Exploring). Answer s.lab line done.0 c.obey.new.self) c.self.view_is (done.1 line short spelled)))
+          (inl (inr (short, c.args.command, spelled), subst (λ (s : Exploring). LineAnswer s.lab line done.0 c.obey.new.self) c.self.view_is (done.1 line short spelled)))
           (ap (λ (s : Exploring). s.notes) c.self.view_is),
       done.2,
     )

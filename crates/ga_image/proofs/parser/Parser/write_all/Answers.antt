@@ -1,7 +1,7 @@
 use Rattle.std.proofs.Common.{◌≡◌, ℕ, ◌-◌, false, length, sym, ◌∙◌, ap, get_or, arith}
 use Rattle.ga_image.specs.Fields.{goes_past, is_too_great}
 use Rattle.ga_image.specs.kept.Progress.{progress_of, stage_of}
-use Rattle.ga_image.specs.Reading.{node_in}
+use Rattle.ga_image.specs.Reading.{node_of_stage}
 use Rattle.ga_image.proofs.Writes.{next_fits, next_greatest, repeats_here, repeated_field, repeats_later, written_later, next_codes}
 use Rattle.ga_image.proofs.parser.Parser.write_all.Goals as goal
 
@@ -16,7 +16,7 @@ returns-then-self-number-clause-fault c =
 pub loop-word-preserved : goal.loop-word-preserved
 loop-word-preserved c =
     let free = ap (λ (n : ℕ). get_or c.loop-word.self.given n false) (sym c.number-number.ensures.value) ∙ c.if-self-number.false in
-    let node : node_in (stage_of c.loop-word.self.stage) ≡ c.args.node.number = ap (λ s. node_in (stage_of s)) (c.loop-word.invariant.block ∙ c.requires.block) in
+    let node : node_of_stage (stage_of c.loop-word.self.stage) ≡ c.args.node.number = ap (λ s. node_of_stage (stage_of s)) (c.loop-word.invariant.block ∙ c.requires.block) in
     record {
       fits = rw c.next-at.ensures (next_fits c.loop-word.at (length c.args.words.now - c.loop-word.word-index) _ (omega arith) c.loop-word.invariant.fits);
       greatest = rw c.next-at.ensures (next_greatest c.loop-word.at ∙ c.loop-word.invariant.greatest);

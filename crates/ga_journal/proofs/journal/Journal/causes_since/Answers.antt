@@ -1,7 +1,7 @@
 use Rattle.std.proofs.Common.{◌≡◌, ◌≤◌, length, sym, ◌∙◌, ap, subst}
 use Rattle.ga_journal.specs.Histories.{Book, history}
 use Rattle.ga_journal.specs.kept.Histories.{lists_of}
-use Rattle.ga_journal.specs.Events.{causes_of, events_of}
+use Rattle.ga_journal.specs.Events.{causes_in_book, events_of}
 use Rattle.ga_event.specs.Told.{steps_of}
 use Rattle.ga_journal.specs.Logs.{IsWhole}
 use Rattle.ga_journal.proofs.Down.{since_kept, since_short}
@@ -28,8 +28,8 @@ pub returns-clause-ok : goal.returns-clause-ok
 returns-clause-ok c =
     let whole : IsWhole (lists_of c.self.inside.histories) c.self.inside.made = subst (λ (b : Book). IsWhole b.histories b.made) (sym c.self.view_is) c.requires.whole in
     let w : WalkOf c.self.inside.histories c.self.inside.top c.self.inside.made c.self.inside.kept = walk_of c.self.inside.histories c.self.inside.top c.self.inside.made c.self.inside.kept c.self.inside.limit c.self.invariant.keeps whole in
-    since_kept c.walk_down.result c.self.inside.histories c.self.inside.top c.self.inside.kept c.args.from.0.number c.args.from.1 c.args.other.number w.log (causes_of c.args.self.now) c.walk_down.ensures.ok w.long w.below
-    (same_causes c.self.inside.histories c.self.inside.top c.self.inside.made c.self.inside.kept w ∙ ap (λ (b : Book). causes_of b) c.self.view_is)
+    since_kept c.walk_down.result c.self.inside.histories c.self.inside.top c.self.inside.kept c.args.from.0.number c.args.from.1 c.args.other.number w.log (causes_in_book c.args.self.now) c.walk_down.ensures.ok w.long w.below
+    (same_causes c.self.inside.histories c.self.inside.top c.self.inside.made c.self.inside.kept w ∙ ap (λ (b : Book). causes_in_book b) c.self.view_is)
 
 pub returns-clause-short : goal.returns-clause-short
 returns-clause-short c =

@@ -1,5 +1,5 @@
 use Rattle.std.proofs.Common.{◌≡◌, ◌∙◌, ◌+◌, not, arith, ap}
-use Rattle.ga_notes.specs.Source.{nearest}
+use Rattle.ga_notes.specs.Source.{nearest_found}
 use Rattle.ga_notes.specs.kept.Marking.{label_at}
 use Rattle.ga_notes.proofs.Labels.{none_is, nearest_less, nearest_here, nearest_last, found_before}
 use Rattle.ga_notes.proofs.label.Marked.before.Goals as goal
@@ -18,7 +18,7 @@ returns c = λ program marked.
     let labels = c.args.self.now.labels in
     let first = c.from-first.result in
     let behind = c.loop-behind.behind in
-    let here : label_at labels (first + behind) ≡ nearest (label_at labels) first behind = elim c.loop-behind-test.branch [
+    let here : label_at labels (first + behind) ≡ nearest_found (label_at labels) first behind = elim c.loop-behind-test.branch [
       | then-loop-behind-test+else-is_none w ↦ nearest_here (label_at labels) first behind (w.is_none.ensures ∙ ap not w.if-is_none.false)
       | else-loop-behind-test w ↦ nearest_last (label_at labels) first behind w.loop-behind-test.false
     ] in

@@ -1,5 +1,5 @@
 use Rattle.std.proofs.Common.{◌≡◌, ◌≤◌, ◌*◌, ◌/◌, ◌%◌}
-use Rattle.ga_notes.specs.Source.{nearest}
+use Rattle.ga_notes.specs.Source.{nearest_found}
 use Rattle.ga_notes.specs.kept.Marking.{label_at}
 use Rattle.ga_notes.proofs.label.Marked.before.Given as goal
 
@@ -7,7 +7,7 @@ abbrev pub invariant-loop-behind : goal.invariant-loop-behind
 invariant-loop-behind l = record {
   first : l.first ≡ l.cell / 64 * 64;
   low : l.behind ≤ l.cell % 64;
-  same : nearest (label_at l.self.labels) l.first l.behind ≡ nearest (label_at l.self.labels) l.first (l.cell % 64);
+  same : nearest_found (label_at l.self.labels) l.first l.behind ≡ nearest_found (label_at l.self.labels) l.first (l.cell % 64);
 }
 
 abbrev pub decreases-loop-behind : goal.decreases-loop-behind

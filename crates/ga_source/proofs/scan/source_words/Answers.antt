@@ -1,7 +1,7 @@
 use Rattle.std.proofs.Common.{◌∙◌, sym, refl}
 use Rattle.std.proofs.lemmas.Bool.{eqb-true}
 use Rattle.ga_source.proofs.Scanning.{ends_here, other_line, no_line_left, said_all, said_more}
-use Rattle.ga_source.proofs.scan.words_of.Goals as goal
+use Rattle.ga_source.proofs.scan.source_words.Goals as goal
 
 pub loop-rest-init : goal.loop-rest-init
 loop-rest-init c = rw c.new-words.ensures.items refl

@@ -3,7 +3,7 @@ use Rattle.std.specs.Prelude.{slice_get}
 use Rattle.std.proofs.lemmas.Option.{slice_get_read}
 use Rattle.ga_search.proofs.Held.{asked_before, all_asked, none_more}
 use Rattle.ga_search.specs.Conditions.{is_never}
-use Rattle.ga_search.proofs.watching.asked_of.Goals as goal
+use Rattle.ga_search.proofs.watching.conditions_asked.Goals as goal
 
 pub returns-then-is_never-clause-asked : goal.returns-then-is_never-clause-asked
 returns-then-is_never-clause-asked c =

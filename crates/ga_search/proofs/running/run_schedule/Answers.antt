@@ -4,7 +4,7 @@ use Rattle.ga_search.specs.kept.Ready.{HoldsReady}
 use Rattle.ga_search.proofs.WordCounts.{all_counted_on}
 use Rattle.ga_search.specs.Running.{Running, running, held_next}
 use Rattle.ga_search.proofs.Events.{gone_on, made_more, never_more, held_is, ended_reached, ended_halted}
-use Rattle.ga_search.proofs.running.run.Goals as goal
+use Rattle.ga_search.proofs.running.run_schedule.Goals as goal
 
 pub loop-events-preserved : goal.loop-events-preserved
 loop-events-preserved c =

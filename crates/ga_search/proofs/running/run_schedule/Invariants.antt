@@ -4,12 +4,12 @@ use Rattle.ga_event.specs.Apply.{replay}
 use Rattle.ga_lab.specs.Machine.{chip_of}
 use Rattle.ga_search.specs.kept.Ready.{HoldsReady, IsAlone}
 use Rattle.ga_search.specs.kept.Counted.{AreCounted}
-use Rattle.ga_search.specs.Running.{running, after, AreMade, NeverHolds}
-use Rattle.ga_search.proofs.running.run.Given as goal
+use Rattle.ga_search.specs.Running.{running, after_events, AreMade, NeverHolds}
+use Rattle.ga_search.proofs.running.run_schedule.Given as goal
 
 abbrev pub invariant-loop-events : goal.invariant-loop-events
 invariant-loop-events l = record {
-  at : running l.lab l.schedule ≡ after (running l.initial.lab l.initial.schedule) l.events;
+  at : running l.lab l.schedule ≡ after_events (running l.initial.lab l.initial.schedule) l.events;
   made : AreMade (running l.initial.lab l.initial.schedule) l.events;
   never : NeverHolds l.until (running l.initial.lab l.initial.schedule) l.events;
   ready : HoldsReady (chip_of l.lab) l.ready;

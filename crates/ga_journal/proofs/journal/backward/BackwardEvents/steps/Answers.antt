@@ -4,7 +4,7 @@ use Rattle.ga_event.specs.Told.{steps_of}
 use Rattle.ga_journal.specs.Untold.{Untold}
 use Rattle.ga_journal.specs.Events.{events_of}
 use Rattle.ga_journal.proofs.Untelling.{steps_left}
-use Rattle.ga_journal.proofs.journal.backward.Backward.steps.Goals as goal
+use Rattle.ga_journal.proofs.journal.backward.BackwardEvents.steps.Goals as goal
 
 pub returns : goal.returns
 returns c =

@@ -6,7 +6,7 @@ use Rattle.ga_journal.specs.Untold.{Untold}
 use Rattle.ga_journal.specs.Events.{kept_of}
 use Rattle.ga_journal.specs.kept.Cuts.{WalksBack, IsFirst, IsWalked}
 use Rattle.ga_journal.proofs.Untelling.{told_next, left_next}
-use Rattle.ga_journal.proofs.journal.backward.Backward.back.Goals as goal
+use Rattle.ga_journal.proofs.journal.backward.BackwardEvents.back.Goals as goal
 
 pub invariant_of-self : goal.invariant_of-self
 invariant_of-self c =
