@@ -106,7 +106,7 @@ fn opcode_word(items: &[Item]) -> Word18
 /// A value as a word, where it is one.
 fn value_in(labels: &[Option<u32>], value: Operand) -> Option<Word18>
     ensures value { IfSome result (λ word. resolved labels.now value ≡ Some word) }
-    ensures some { (n : ℕ) → value ≡ Value.Number n → n < 2 ^ 18 → IsSome result }
+    ensures some { (n : ℕ) → value ≡ Operand.Number n → n < 2 ^ 18 → IsSome result }
 {
     Word18::new(resolve(labels, value)?)
 }
@@ -127,7 +127,7 @@ fn with_last(labels: &[Option<u32>], word: Word18, slot: usize, last: Item) -> O
     ensures has { IfSome result (λ found. opcode_of word slot ≡ op_in last → HasItem labels.now found slot last) }
     ensures before { IfSome result (λ found. (k : ℕ) → k < slot → opcode_of found k ≡ opcode_of word k) }
     ensures behind { IfSome result (λ found. ends_cell last ≡ false → found ≡ word) }
-    ensures some { (n : ℕ) → last ≡ Item.Cell (Value.Number n) → n < 2 ^ 18 → IsSome result }
+    ensures some { (n : ℕ) → last ≡ Item.Cell (Operand.Number n) → n < 2 ^ 18 → IsSome result }
 {
     match last {
         Item::Cell(value) => value_in(labels, value),
@@ -142,7 +142,7 @@ fn word_of(labels: &[Option<u32>], group: &Group) -> Option<Word18>
     requires begun { 0 < length group.now.items.items }
     requires fit { IsFitGroup labels.now group.now }
     ensures word { IfSome result (λ word. IsWordOf labels.now group.now.items.items word) }
-    ensures some { (n : ℕ) → group.now.items.items ≡ Item.Cell (Value.Number n) ∷ [] → n < 2 ^ 18 → IsSome result }
+    ensures some { (n : ℕ) → group.now.items.items ≡ Item.Cell (Operand.Number n) ∷ [] → n < 2 ^ 18 → IsSome result }
 {
     let items = group.items.as_slice();
     let word = opcode_word(items);
@@ -203,7 +203,7 @@ fn see_jump(
     spot: Spot,
     label: usize,
 ) -> Result<(), Fault<'static>>
-    ensures { OnOk result ((spot.slot < 3) × (reaches_to spot.p spot.slot (resolved labels.now (Value.Label label)) ≡ true)) }
+    ensures { OnOk result ((spot.slot < 3) × (reaches_to spot.p spot.slot (resolved labels.now (Operand.Label label)) ≡ true)) }
 {
     let to = resolve(labels, Operand::Label(label));
     if spot.slot < 3 && reaches(spot.p, spot.slot, to) {
