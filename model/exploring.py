@@ -93,8 +93,9 @@ class Session:
         return self.random.choice(made if made and self.random.random() < 0.9 else self.base.nodes)
 
     def step(self, node):
-        if self.random.random() < 0.1:
-            return "last"
+        return "last" if self.random.random() < 0.1 else self.numbered_step(node)
+
+    def numbered_step(self, node):
         return self.random.randint(0 if self.random.random() < 0.1 else 1, max(self.machine.steps[node] + (self.random.random() < 0.1), 1))
 
     def word(self):

@@ -325,7 +325,7 @@ class Drawn:
         for _ in range(self.draw.randint(1, 8)):
             node = self.made.node()
             line = pick((f"run {pick((1, 9, 60, 160))}", f"run greedy {pick((5, 40))}", f"run random {self.draw.randrange(99)} {pick((20, 150))}",
-                "back", f"rewind {name(node)} {self.made.step(node)}", f"step {name(node)}", "foo", "trace 000", f"rewind {name(node)} 99999"))  # fmt: skip
+                "back", f"rewind {name(node)} {self.made.numbered_step(node)}", f"step {name(node)}", "foo", "trace 000", f"rewind {name(node)} 99999"))  # fmt: skip
             self.obey(line)
         if self.draw.random() < 0.2:
             self.text += "quit\nrun 5\n"
@@ -370,7 +370,7 @@ class Drawn:
 
     def option(self, word):
         node = self.made.node()
-        step = self.made.step(node)
+        step = self.made.numbered_step(node)
         self.words += [word, name(node), str(step)]
         return node, step
 
