@@ -12,7 +12,7 @@ returns-in-Ok g c = λ before said h. (
 
 pub returns-in-Err : goal.returns-in-Err
 returns-in-Err g c = λ before said h. (
-  c.refusal.result.now,
-  back_refused c.args.lab.now c.in-Err.fault _ c.undo.new.self c.in-Err.ensures.answer c.in-Err.ensures.state c.refusal.ensures.text,
+  c.refusal_text.result.now,
+  back_refused c.args.lab.now c.in-Err.fault _ c.undo.new.self c.in-Err.ensures.answer c.in-Err.ensures.state c.refusal_text.ensures.text,
   c.say.ensures before said h,
 )

@@ -13,7 +13,7 @@ returns-in-Ok g c = λ before said h. (
 
 pub returns-in-Err : goal.returns-in-Err
 returns-in-Err g c = λ before said h. (
-  c.refusal.result.now,
-  rewind_refused c.args.lab.now c.args.node c.args.step c.in-Err.fault _ c.rewind.new.self c.in-Err.ensures.answer c.in-Err.ensures.same c.refusal.ensures.text,
+  c.refusal_text.result.now,
+  rewind_refused c.args.lab.now c.args.node c.args.step c.in-Err.fault _ c.rewind.new.self c.in-Err.ensures.answer c.in-Err.ensures.same c.refusal_text.ensures.text,
   c.say.ensures before said h,
 )

@@ -12,7 +12,7 @@ returns-in-Ok g c = λ before said h. (
 
 pub returns-in-Err : goal.returns-in-Err
 returns-in-Err g c = λ before said h. (
-  c.refusal.result.now,
-  step_refused c.args.lab.now c.args.node c.in-Err.fault _ c.step_inlined.new.self c.in-Err.ensures.answer c.in-Err.ensures.err c.refusal.ensures.text,
+  c.refusal_text.result.now,
+  step_refused c.args.lab.now c.args.node c.in-Err.fault _ c.step_inlined.new.self c.in-Err.ensures.answer c.in-Err.ensures.err c.refusal_text.ensures.text,
   c.say.ensures before said h,
 )

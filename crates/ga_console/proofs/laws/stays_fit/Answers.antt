@@ -10,4 +10,4 @@ use Rattle.ga_console.proofs.laws.stays_fit.Goals as goal
 pub returns : goal.returns
 returns c = λ image limit machine last lines opens reached.
     let load = ap (λ (s : State). s.load) opens.2 in
-    c.stays_steady.ensures last (subst (λ (l : List NodeRecord). AreSteady l) (sym (reached_load machine lines last reached ∙ load)) (images_steady (lines_of image) opens.0 opens.1))
+    c.machine_stays_steady.ensures last (subst (λ (l : List NodeRecord). AreSteady l) (sym (reached_load machine lines last reached ∙ load)) (images_steady (lines_of image) opens.0 opens.1))

@@ -10,7 +10,7 @@ returns-in-Ok g c = λ before said h. (
 
 pub returns-in-Err : goal.returns-in-Err
 returns-in-Err g c = λ before said h. (
-  c.refusal.result.now,
-  dump_refused c.args.lab.now c.refusal.result.now c.refusal.ensures.text,
+  c.refusal_text.result.now,
+  dump_refused c.args.lab.now c.refusal_text.result.now c.refusal_text.ensures.text,
   c.say.ensures before said h,
 )

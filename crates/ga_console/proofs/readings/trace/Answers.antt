@@ -9,7 +9,7 @@ returns-in-Ok g c = λ before said h.
 
 pub returns-in-Err : goal.returns-in-Err
 returns-in-Err g c = λ before said h. (
-  c.refusal.result.now,
-  trace_refused c.args.lab.now c.args.node c.in-Err.fault _ c.in-Err.ensures.err c.refusal.ensures.text,
+  c.refusal_text.result.now,
+  trace_refused c.args.lab.now c.args.node c.in-Err.fault _ c.in-Err.ensures.err c.refusal_text.ensures.text,
   c.say.ensures before said h,
 )

@@ -18,7 +18,7 @@ returns-in-Ok-Some g c = λ before said h.
 
 pub returns-in-Err : goal.returns-in-Err
 returns-in-Err g c = λ before said h. (
-  c.refusal.result.now,
-  why_refused c.args.lab.now c.args.from.0 c.args.to.0 c.args.from.1 c.args.to.1 c.in-Err.fault c.refusal.result.now c.in-Err.ensures.err c.refusal.ensures.text,
+  c.refusal_text.result.now,
+  why_refused c.args.lab.now c.args.from.0 c.args.to.0 c.args.from.1 c.args.to.1 c.in-Err.fault c.refusal_text.result.now c.in-Err.ensures.err c.refusal_text.ensures.text,
   c.say-in-Err.ensures before said h,
 )

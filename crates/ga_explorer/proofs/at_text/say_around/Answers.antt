@@ -16,7 +16,7 @@ returns-then-stands g c = λ before said h.
 
 pub returns-else-stands : goal.returns-else-stands
 returns-else-stands g c = λ before said h. (
-  c.refusal.result.now,
-  c.refusal.ensures.text ∙ around_nowhere c.args.notes.now c.args.lab.now c.args.node c.args.step c.args.around (sym c.stands.ensures.value ∙ c.if-stands.false),
+  c.refusal_text.result.now,
+  c.refusal_text.ensures.text ∙ around_nowhere c.args.notes.now c.args.lab.now c.args.node c.args.step c.args.around (sym c.stands.ensures.value ∙ c.if-stands.false),
   c.say.ensures before said h,
 )

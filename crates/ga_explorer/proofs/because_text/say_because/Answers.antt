@@ -21,7 +21,7 @@ returns-then-stands g c = λ before said h.
 
 pub returns-else-stands : goal.returns-else-stands
 returns-else-stands g c = λ before said h. (
-  c.refusal.result.now,
-  c.refusal.ensures.text ∙ because_nowhere c.args.notes.now c.args.lab.now c.args.node c.args.step c.args.most (sym c.stands.ensures.value ∙ c.if-stands.false),
+  c.refusal_text.result.now,
+  c.refusal_text.ensures.text ∙ because_nowhere c.args.notes.now c.args.lab.now c.args.node c.args.step c.args.most (sym c.stands.ensures.value ∙ c.if-stands.false),
   c.say.ensures before said h,
 )

@@ -12,7 +12,7 @@ returns-in-Ok-clause-said g c = λ before said h.
 
 pub returns-in-Err-clause-said : goal.returns-in-Err-clause-said
 returns-in-Err-clause-said g c = λ before said h. (
-  c.refusal.result.now,
-  effects_refused c.args.lab.now c.args.node c.args.step c.in-Err.fault c.refusal.result.now c.in-Err.ensures.err c.refusal.ensures.text,
+  c.refusal_text.result.now,
+  effects_refused c.args.lab.now c.args.node c.args.step c.in-Err.fault c.refusal_text.result.now c.in-Err.ensures.err c.refusal_text.ensures.text,
   c.say.ensures before said h,
 )

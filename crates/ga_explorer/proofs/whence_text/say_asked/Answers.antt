@@ -29,4 +29,4 @@ returns-in_ok-say_rows-in-Ok g c = λ before said h.
     )
 
 pub returns-in-Err : goal.returns-in-Err
-returns-in-Err g c = λ before said h. (c.refusal.result.now, inl c.refusal.ensures.text, c.say.ensures before said h)
+returns-in-Err g c = λ before said h. (c.refusal_text.result.now, inl c.refusal_text.ensures.text, c.say.ensures before said h)

@@ -7,8 +7,8 @@ use Rattle.ga_explorer.proofs.whence_text.say_whence.Goals as goal
 
 pub returns-then-not-stands : goal.returns-then-not-stands
 returns-then-not-stands g c = λ before said h. (
-  c.refusal.result.now,
-  inl (sym c.stands.ensures.value ∙ c.if-not-stands.true, c.refusal.ensures.text),
+  c.refusal_text.result.now,
+  inl (sym c.stands.ensures.value ∙ c.if-not-stands.true, c.refusal_text.ensures.text),
   c.say.ensures before said h,
 )
 
