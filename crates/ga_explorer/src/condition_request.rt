@@ -56,7 +56,7 @@ fn named_condition(notes: &Option<Notes>, name: &[u8], rest: &[u8]) -> Option<Co
 }
 
 /// `NNN K`
-#[tactic(auto, unfolding(crate::specs::Reading::steps_in))]
+#[tactic(auto, unfolding(crate::specs::Reading::steps_condition))]
 fn steps_of(text: &[u8]) -> Option<Condition>
     ensures { result ≡ steps_condition text.now }
 {
@@ -186,7 +186,7 @@ fn noted_of(notes: &Option<Notes>, node: NodeId, text: &[u8]) -> Option<u32>
 }
 
 /// `line N`: the address of the first instruction word of the node that this line begins.
-#[tactic(auto, unfolding(crate::specs::Reading::line_in))]
+#[tactic(auto, unfolding(crate::specs::Reading::cell_of_line))]
 fn line_of(notes: &Option<Notes>, node: NodeId, name: &[u8], line: &[u8]) -> Option<u32>
     ensures { result ≡ cell_of_line notes.now node name.now line.now }
 {
@@ -229,7 +229,7 @@ fn equal_of(text: &[u8]) -> Option<Word18>
 }
 
 /// A word of six hexadecimal digits, in either case.
-#[tactic(auto, unfolding(crate::specs::Reading::word_in))]
+#[tactic(auto, unfolding(crate::specs::Reading::hex_word_in))]
 fn word_of(text: &[u8]) -> Option<Word18>
     ensures { result ≡ hex_word_in text.now }
 {

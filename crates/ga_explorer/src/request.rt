@@ -149,7 +149,7 @@ fn effects_of(text: &[u8]) -> Option<ExplorerCommand>
 }
 
 /// `NNN MMM`
-#[tactic(auto, unfolding(crate::specs::Reading::words_in))]
+#[tactic(auto, unfolding(crate::specs::Reading::words_request))]
 fn words_of(text: &[u8]) -> Option<ExplorerCommand>
     ensures { result ≡ words_request text.now }
 {
