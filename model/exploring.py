@@ -19,7 +19,7 @@ from sessions import DEFAULT_LIMIT, SECONDS, Generator
 from source import asm
 
 # How often each command comes, of 1000. The others are those of the debugger.
-COMMANDS = {"run": 250, "whence": 180, "because": 100, "at": 80, "races": 40, "writes": 70, "words": 60, "effects": 50, "who": 30, "chip": 20, "save": 10, "help": 6, "wrong": 28, "debug": 80}
+COMMANDS = {"run": 230, "whence": 160, "because": 100, "at": 80, "races": 40, "writes": 70, "words": 60, "effects": 50, "who": 30, "chip": 20, "save": 10, "help": 6, "wrong": 28, "debug": 76, "back": 40}
 WORDS = "dup drop over + and or @ ! @b !b a! pop push 2* 2/ - +* @+ !+ a . 1 5 0x20 0x15555 0x3ffff right left down up".split()
 CALLS = ["x", "'y a!", "'y b!", "0x22 a! !", "0x84 a! @", "io b!", "for x next", "1 for x next", "for +* unext", "2 for . unext", "if dup then", "0 if dup then", "'y push ex", "-if a else over then", "begin dup -until", "+cy + -cy"]
 PARTS = ["\\ a remark", "( and ) ", "  ", "\t", ".."]
@@ -163,6 +163,19 @@ class Session:
         order = self.random.choice(("", "", " greedy", f" random {self.random.randrange(1 << 32)}"))
         return f"run{order} {self.random.choice((1, 5, 30, 200, 400))}" + (f" until {self.conditions(order)}" if self.random.random() < 0.6 else "")
 
+    def behind(self):
+        """Conditions that held behind some event that is kept; or such as those of a run."""
+        events = self.machine.events
+        if not events or self.random.random() < 0.3:
+            return self.conditions("")
+        place = self.random.choice((self.random.randrange(len(events)), max(len(events) - 9, 0)))
+        machine = pickle.loads(pickle.dumps(self.machine))
+        self.machine.events, self.machine.made = events[:place], machine.made
+        self.machine.replay()
+        until = self.conditions("")
+        self.machine = machine
+        return until
+
     def command(self):
         node, number = self.node(), self.random.randrange
         chosen = self.random.choices(list(COMMANDS), list(COMMANDS.values()))[0]
@@ -175,6 +188,7 @@ class Session:
             "effects": f"effects {name(node)} {self.step(node)}",
             "writes": f"writes {name(node)} {self.address():02x}",
             "words": "words " + " ".join(map(name, self.link())),
+            "back": f"back {self.random.choice(('', f'{name(node)} '))}until {self.behind()}",
             "help": "help" + self.random.choice(("", " " + self.random.choice([*ROWS, "cond"]))),
             "races": "races" + self.random.choice(("", f" {name(node)}", f" {name(self.link()[1])}")),
         }.get(chosen, chosen)

@@ -98,9 +98,9 @@ static ROWS: [Row; 22] = [
     },
     Row {
         name: b"back",
-        form: b"back",
-        does: b"                  take the newest event back\n",
-        more: b"answers: removed 1 kept M: M events are left\nexample: back\n",
+        form: b"back [[NNN] until COND]",
+        does: b"\n                      take the newest event back; or all up to the newest one behind which COND\n                      held, or that step of NNN with what depends on it\n",
+        more: b"answers: removed X kept M: X events went, and M are left; none, and nothing changes, where COND held behind no event\nexample: back until reach 001 main\n",
     },
     Row {
         name: b"rewind",

@@ -1,6 +1,6 @@
 //! Laws of the definitions, each the contract of a function that does nothing.
 
-ghost use Rattle.std.specs.Prelude.{◌≡◌, ◌≢◌, ◌≤◌, ◌+◌, ◌↔◌, ◌⊎◌, ℕ, Bool, true, false, List, [], ◌++◌, Option, None, Ok, IfSome, IsSome};
+ghost use Rattle.std.specs.Prelude.{◌≡◌, ◌≢◌, ◌<◌, ◌≤◌, ◌+◌, ◌-◌, ◌↔◌, ◌⊎◌, ℕ, Bool, true, false, List, [], ◌++◌, length, Option, Some, None, Ok, IfSome, IsSome};
 ghost use Rattle.std.specs.List.{All};
 ghost use Rattle.ga_ports.specs.declared.side.Side.{Side};
 ghost use Rattle.ga_node.specs.Record.{NodeRecord};
@@ -13,12 +13,13 @@ ghost use Rattle.ga_event.specs.Next.{next};
 ghost use Rattle.ga_event.specs.Touches.{touches};
 ghost use Rattle.ga_causal.specs.Dependence.{NoneLooks};
 ghost use Rattle.ga_races.specs.Orders.{AreOrders, IsAtEnd, HasNoRace};
-ghost use Rattle.ga_lab.specs.Machine.{State, first, chip_of, causes_of, rewound};
+ghost use Rattle.ga_lab.specs.Machine.{State, first, chip_of, causes_of, rewound, earlier};
 ghost use Rattle.ga_lab.specs.Calls.{MachineCall, called_all, IsReached};
 ghost use Rattle.ga_search.specs.Near.{IsMarkedOrBeside};
 ghost use Rattle.ga_search.specs.Stuck.{AreStuck};
 ghost use Rattle.ga_search.specs.Offered.{offered};
 ghost use Rattle.ga_search.specs.Races.{races_asked, has_looks, first_ready, IsOther};
+ghost use Rattle.ga_search.specs.Backward.{is_asked_held, newest_of, IsNewestHeld, undone_often};
 ghost use Rattle.ga_search.specs.Running.{Running, after_events, NeverHolds, HasEnded};
 ghost use Rattle.ga_search.specs.declared.condition.Condition.{Condition};
 ghost use Rattle.ga_search.specs.declared.running.End.{End};
@@ -104,4 +105,18 @@ pub fn slices_are_one_run()
     ensures events { (r : Running) (first second : ℕ) → after_events (after_events r first) second ≡ after_events r (first + second) }
     ensures end { (r : Running) (until : List Condition) (first most second : ℕ) (end : End) → NeverHolds until r first →
         HasEnded (after_events r first) most until second end → HasEnded r (first + most) until (first + second) end }
+{}
+
+/// What is found going back is the newest event behind which one of the conditions held, of those that are asked; and where none is
+/// found, there is none.
+pub fn newest_is_found()
+    ensures some { (until : List Condition) (only : Option NodeId) (s : State) (place : ℕ) → newest_of until only s ≡ Some place →
+        IsNewestHeld until only s (length s.kept) place }
+    ensures none { (until : List Condition) (only : Option NodeId) (s : State) → newest_of until only s ≡ None →
+        (place : ℕ) → place < length s.kept → is_asked_held until only s place ≡ false }
+{}
+
+/// So many undos lead to the machine as it was when so many fewer of the kept events had been made.
+pub fn undos_lead_back()
+    ensures { (s : State) (count : ℕ) → count ≤ length s.kept → undone_often count s ≡ earlier s (length s.kept - count) }
 {}
