@@ -1,0 +1,144 @@
+//! Every order of small programs: servers that take words from whoever comes first, and clients that send them.
+
+use ga_check::orders::{Bounds, check};
+use ga_check::tally::Tally;
+use ga_grid::NodeId;
+use ga_image::parse;
+use ga_lab::Lab;
+use std::alloc::Global;
+use std::process::Abort;
+use std::test::Fail;
+
+/// As many events as a run may have.
+const LIMIT: u32 = 10_000;
+
+/// Two clients send a word each to a server, which stores what comes.
+const SERVER_2X1: &[u8] =
+    b"ga144 1\nnode 101\np 000000\nram 00 004b12 0001f5 000020 02bdba 000001 00187d 004852 000115\nnode 102\np 000000\nram 00 004b12 000175 000000 02e9b2 026dbf 000100 02c122 01e004\nram 08 004852 000115\nnode 100\np 000000\nram 00 004b12 0001d5 000000 02e9b2 026dbf 000200 02c122 01e004\nram 08 004852 000115\nend\n";
+
+/// Two words each.
+const SERVER_2X2: &[u8] =
+    b"ga144 1\nnode 101\np 000000\nram 00 004b12 0001f5 000020 02bdba 000003 00187d 004852 000115\nnode 102\np 000000\nram 00 004b12 000175 000001 02e9b2 026dbf 000100 02c122 01e004\nram 08 004852 000115\nnode 100\np 000000\nram 00 004b12 0001d5 000001 02e9b2 026dbf 000200 02c122 01e004\nram 08 004852 000115\nend\n";
+
+/// Three words each.
+const SERVER_2X3: &[u8] =
+    b"ga144 1\nnode 101\np 000000\nram 00 004b12 0001f5 000020 02bdba 000005 00187d 004852 000115\nnode 102\np 000000\nram 00 004b12 000175 000002 02e9b2 026dbf 000100 02c122 01e004\nram 08 004852 000115\nnode 100\np 000000\nram 00 004b12 0001d5 000002 02e9b2 026dbf 000200 02c122 01e004\nram 08 004852 000115\nend\n";
+
+/// Three clients send a word each.
+const SERVER_3X1: &[u8] =
+    b"ga144 1\nnode 101\np 000000\nram 00 004b12 0001e5 000020 02bdba 000002 00187d 004852 000115\nnode 102\np 000000\nram 00 004b12 000175 000000 02e9b2 026dbf 000100 02c122 01e004\nram 08 004852 000115\nnode 100\np 000000\nram 00 004b12 0001d5 000000 02e9b2 026dbf 000200 02c122 01e004\nram 08 004852 000115\nnode 201\np 000000\nram 00 004b12 000145 000000 02e9b2 026dbf 000300 02c122 01e004\nram 08 004852 000115\nend\n";
+
+/// Two words each.
+const SERVER_3X2: &[u8] =
+    b"ga144 1\nnode 101\np 000000\nram 00 004b12 0001e5 000020 02bdba 000005 00187d 004852 000115\nnode 102\np 000000\nram 00 004b12 000175 000001 02e9b2 026dbf 000100 02c122 01e004\nram 08 004852 000115\nnode 100\np 000000\nram 00 004b12 0001d5 000001 02e9b2 026dbf 000200 02c122 01e004\nram 08 004852 000115\nnode 201\np 000000\nram 00 004b12 000145 000001 02e9b2 026dbf 000300 02c122 01e004\nram 08 004852 000115\nend\n";
+
+/// Four clients send a word each.
+const SERVER_4X1: &[u8] =
+    b"ga144 1\nnode 101\np 000000\nram 00 004b12 0001a5 000020 02bdba 000003 00187d 004852 000115\nnode 102\np 000000\nram 00 004b12 000175 000000 02e9b2 026dbf 000100 02c122 01e004\nram 08 004852 000115\nnode 100\np 000000\nram 00 004b12 0001d5 000000 02e9b2 026dbf 000200 02c122 01e004\nram 08 004852 000115\nnode 201\np 000000\nram 00 004b12 000145 000000 02e9b2 026dbf 000300 02c122 01e004\nram 08 004852 000115\nnode 001\np 000000\nram 00 004b12 000115 000000 02e9b2 026dbf 000400 02c122 01e004\nram 08 004852 000115\nend\n";
+
+/// Three clients send two words each to a server that adds them: the order does not show.
+const SUM_3X2: &[u8] =
+    b"ga144 1\nnode 101\np 000000\nram 00 004b17 0001e5 000000 000005 02e9b2 0009f2 01e005 004a2f\nram 08 000020 000000 02bd17 000000 000000 000000 005d17 000000\nram 10 000000 000000 000000 005d17 000000 000000 000000 000115\nram 18 02f5b2\nnode 102\np 000000\nram 00 004b12 000175 000001 02e9b2 026dbf 000100 02c122 01e004\nram 08 004852 000115\nnode 100\np 000000\nram 00 004b12 0001d5 000001 02e9b2 026dbf 000200 02c122 01e004\nram 08 004852 000115\nnode 201\np 000000\nram 00 004b12 000145 000001 02e9b2 026dbf 000300 02c122 01e004\nram 08 004852 000115\nend\n";
+
+/// Two clients send an address and a value each: in some orders the server takes a value for an address and stops.
+const PAIR_2: &[u8] =
+    b"ga144 1\nnode 101\np 000000\nram 00 004b12 0001f5 000001 02e9b2 000a02 00b004 004852 000115\nnode 102\np 000000\nram 00 004b12 000175 000020 009d27 000100 000115 02f5b2\nnode 100\np 000000\nram 00 004b12 0001d5 000021 009d27 000101 000115 02f5b2\nend\n";
+
+/// Two clients ask a keeper, which answers the right one first, whoever asked first.
+const LOCK_WRONG: &[u8] =
+    b"ga144 1\nnode 101\np 000000\nram 00 004b02 0001f5 03bdaf 0001d5 000001 00beef 0001f5 029fef\nram 08 000175 02bd2a 000001 002212 000115 02f5b2\nnode 100\np 000000\nram 00 004b12 0001d5 000001 009f27 000115 02f5b2\nnode 102\np 000000\nram 00 004b12 000175 000001 009f27 000115 02f5b2\nend\n";
+
+/// An arbiter that looks who waits.
+const POLL_1X1: &[u8] =
+    b"ga144 1\nnode 101\np 000000\nram 00 005da2 000001 00003b 009daa 000020 004b03 00015d 0040b2\nram 08 000800 01800d 03a212 000175 01000f 03a2b2 010005 029f3f\nram 10 00003b 029f12 03ffff 03cd22 018016 03b705 03bdbd 000115\nnode 102\np 000000\nram 00 004b12 000175 000000 02e9b2 026dbf 000100 02c122 01e004\nram 08 004852 000115\nend\n";
+
+/// A node that looks three times, and gives up.
+const TIMEOUT_3: &[u8] =
+    b"ga144 1\nnode 101\np 000000\nram 00 0048b2 000002 004b07 00015d 008000 03f30b 03acef 0001d5\nram 08 029f12 000115 02f5b2 03b002 005dbd 03ffff 000115\nnode 100\np 000000\nram 00 004b12 0001d5 000007 02e9b2 00427c 000003 005b12 000005\nram 08 000115 02f5b2\nend\n";
+
+// All orders of a program, or as many as may be met.
+fn orders(alloc: Global, image: &[u8], runs: u64) -> Result<Tally, Fail> {
+    let chip = parse(alloc, image)?;
+    let mut lab = Lab::new(alloc, chip, LIMIT)?;
+    let tally = check(alloc, &mut lab, bounds(runs), 0)?;
+    Ok(tally)
+}
+
+fn bounds(runs: u64) -> Bounds {
+    Bounds { runs, choices: 100 }
+}
+
+// The lab at the end of an order.
+fn at_end(alloc: Global, image: &[u8], asked: u64) -> Result<Lab, Fail> {
+    let chip = parse(alloc, image)?;
+    let mut lab = Lab::new(alloc, chip, LIMIT)?;
+    let _cut = check(alloc, &mut lab, bounds(1000), asked).is_err();
+    Ok(lab)
+}
+
+// Two clients that send j words each have as many orders as there are ways to merge two lists of j words, and so on.
+#[test]
+fn servers_have_the_multinomials(rt: HostRuntime) -> Result<(), Fail> {
+    let alloc = rt.alloc();
+    for (image, count) in [
+        (SERVER_2X1, 2u64),
+        (SERVER_2X2, 6),
+        (SERVER_2X3, 20),
+        (SERVER_3X1, 6),
+        (SERVER_3X2, 90),
+        (SERVER_4X1, 24),
+        (SUM_3X2, 90),
+    ] {
+        let tally = orders(alloc, image, 1000)?;
+        assert_eq!(&rt; tally.orders, count);
+        assert!(&rt; tally.whole);
+    }
+    Ok(())
+}
+
+// How many of the first so many orders end with a stop 2 of node 101.
+fn stops(alloc: Global, image: &[u8], count: u64) -> Result<u32, Fail> {
+    let mut stops = 0u32;
+    for met in 0..count {
+        let lab = at_end(alloc, image, met + 1)?;
+        if lab.node(NodeId::new(19)).stop() == 2 {
+            stops = stops.saturating_add(1);
+        }
+    }
+    Ok(stops)
+}
+
+#[test]
+fn a_stop_shows_in_four_orders_of_six(rt: HostRuntime) -> Result<(), Fail> {
+    let tally = orders(rt.alloc(), PAIR_2, 1000)?;
+    assert_eq!(&rt; tally.orders, 6);
+    let stops = stops(rt.alloc(), PAIR_2, 6)?;
+    assert_eq!(&rt; stops, 4);
+    Ok(())
+}
+
+#[test]
+fn a_deadlock_shows_in_one_order_of_two(rt: HostRuntime) -> Result<(), Fail> {
+    let tally = orders(rt.alloc(), LOCK_WRONG, 1000)?;
+    assert_eq!(&rt; tally.orders, 2);
+    Ok(())
+}
+
+#[test]
+fn a_bound_is_told(rt: HostRuntime) -> Result<(), Fail> {
+    let alloc = rt.alloc();
+    let cut = orders(alloc, SERVER_3X2, 50)?;
+    assert!(&rt; cut.orders <= 50);
+    assert!(&rt; !cut.whole);
+    Ok(())
+}
+
+#[test]
+fn programs_that_look_are_not_whole(rt: HostRuntime) -> Result<(), Fail> {
+    let alloc = rt.alloc();
+    for image in [POLL_1X1, TIMEOUT_3] {
+        let tally = orders(alloc, image, 1000)?;
+        assert!(&rt; !tally.whole);
+    }
+    Ok(())
+}
