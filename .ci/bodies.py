@@ -3,9 +3,11 @@ beside it, and how the bodies of the others are left out.
 """
 import os
 import re
+import shutil
 from functools import cache
 
 FUNCTION = re.compile(r"^( *)(?:pub(?:\([a-z]+\))? )?(?:const )?(?:unsafe )?(?:extern \"C\" )?fn (\w+)", re.M)
+CYCLE = re.compile(r"^ *#\[cycle\((\w+)\)\]\n", re.M)
 BLOCK = re.compile(r"^(?:impl(?:<[^\n]*?>)? (?:(\w+)(?:<[^\n]*>)? for )?|(?:pub(?:\([a-z]+\))? )?(trait) )(\w+)", re.M)
 
 
@@ -233,7 +235,8 @@ def hole_of(path):
 
 def leave_out(folder, crate, kept):
     """Leaves out the bodies of the functions of a copy of a crate that are not among those kept: each stands by its contract, which was
-    proved before. What a constant may need, and the methods of traits, stay. Answers the paths of what was left out."""
+    proved before, and calls nothing, so it is in no cycle of calls. What a constant may need, and the methods of traits, stay. Answers
+    the paths of what was left out."""
     left = set()
     for at, _, files in os.walk(f"{folder}/src"):
         for path in (os.path.relpath(f"{at}/{it}", folder) for it in sorted(files) if it.endswith(".rt")):
@@ -242,8 +245,10 @@ def leave_out(folder, crate, kept):
                 place, whole = function.place(), text[function.start : function.end]
                 if tuple(place) in kept or function.is_of_trait or "const fn " in whole or whole.endswith("{}\n"):
                     continue
-                indent = function.indent
-                text = f"{text[: function.start]}{function.head(whole).rstrip()}\n{indent}{{\n{indent}    unreachable!()\n{indent}}}\n{text[function.end :]}"
+                indent, head = function.indent, function.head(whole)
+                for cycle in CYCLE.findall(head):
+                    shutil.rmtree(f"{folder}/proofs/{'/'.join(place[:-1])}/+{cycle}", ignore_errors=True)
+                text = f"{text[: function.start]}{CYCLE.sub('', head).rstrip()}\n{indent}{{\n{indent}    unreachable!()\n{indent}}}\n{text[function.end :]}"
                 there = f"{folder}/proofs/{'/'.join(place)}"
                 os.makedirs(there, exist_ok=True)
                 for file in (it for it in os.listdir(there) if it in ("Answers.antt", "Invariants.antt")):
