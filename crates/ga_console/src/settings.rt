@@ -68,6 +68,16 @@ COND or COND ..          ends at the first that holds
 
 Exit status: 0 done, 1 image refused, 2 a stream failed, 3 command line refused.";
 
+/// What `ga144 check --help` says behind the options.
+const CHECKS: &str = "\
+Reads what explore reads: an image or source, from FILE where one is given. Meets each order in which its nodes can run: two
+orders are one where they differ by swaps of steps that are free of one another.
+
+Answers `orders N`, or `orders N or more` where a bound was reached or a node looks at its neighbours; with --session the lines
+`step NNN` that lead to the end of the Kth order.
+
+Exit status: 0 one order, 1 image refused, 2 a stream failed, 3 command line refused, 5 several orders, 6 there may be more.";
+
 /// What `ga144 race --help` says behind the options.
 const RACES: &str = "\
 Reads an image (lines `ga144 1` to `end`) from standard input. Worker w, from 0 on, steps the node with the number w.
@@ -84,6 +94,9 @@ Exit status: 0 done, 1 image or step refused, 2 a stream failed, 3 command line 
 
 /// How many events are kept where no limit is given.
 const DEFAULT_LIMIT: u32 = 1_000_000;
+
+/// How many runs are made where no number is given.
+const MOST_RUNS: u32 = 1_000_000;
 
 const GREATEST_LIMIT: u32 = 4_000_000;
 
@@ -125,6 +138,13 @@ pub enum Settings {
         workers: u32,
         calls: u32,
         limit: u32,
+    },
+    /// Meet each order in which the nodes of a program can run, by at most this many runs; or lead to the end of the order with
+    /// this number, if it isn't 0.
+    Check {
+        most: u32,
+        session: u32,
+        file: Option<String>,
     },
     /// Assemble source into an image.
     Assemble {
@@ -198,6 +218,7 @@ fn program<'a>(alloc: Global) -> Result<Command<'a>, AllocError> {
         .subcommand(debug_line(alloc)?)?
         .subcommand(explore_line(alloc)?)?
         .subcommand(race_line(alloc)?)?
+        .subcommand(check_line(alloc)?)?
         .subcommand(source_line(alloc)?)?
         .subcommand(list_line(alloc)?)?
         .subcommand(image_line(alloc)?)?
@@ -238,6 +259,26 @@ fn race_line<'a>(alloc: Global) -> Result<Command<'a>, AllocError> {
         )
         .required(true))?
         .arg(limit_option(alloc))
+}
+
+fn check_line<'a>(alloc: Global) -> Result<Command<'a>, AllocError> {
+    Command::new(alloc, "check")
+        .about("Meet each order in which the nodes of a program can run")
+        .after_help(CHECKS)
+        .arg(number_option(
+            alloc,
+            "most",
+            "How many runs are made at most, 1 to 4294967295 [default: 1000000]",
+            u32::MAX,
+        ))?
+        .arg(number_option(
+            alloc,
+            "session",
+            "Tell the session of the Kth order, counted from 1",
+            u32::MAX,
+        )
+        .value_name("K"))?
+        .arg(file_argument(alloc, "An image or source"))
 }
 
 fn source_line<'a>(alloc: Global) -> Result<Command<'a>, AllocError> {
@@ -351,6 +392,7 @@ fn chosen(alloc: Global, matches: &ArgMatches<'_>) -> Result<Settings, LineFault
                 limit: limit(race)?,
             })
         }
+        Some(("check", check)) => checked(alloc, check),
         Some(("asm", source)) => Ok(Settings::Assemble {
             file: file(alloc, source)?,
         }),
@@ -363,6 +405,22 @@ fn chosen(alloc: Global, matches: &ArgMatches<'_>) -> Result<Settings, LineFault
         Some(("draw", draw)) => drawn(alloc, draw),
         _ => Err(LineFault::Memory),
     }
+}
+
+/// How orders are to be met.
+fn checked(alloc: Global, check: &ArgMatches<'_>) -> Result<Settings, LineFault>
+    ensures in_range { IfOk result AreInRange }
+{
+    let most = place(check.get_str("most"), MOST_RUNS)?;
+    let session = match check.get_str("session") {
+        None => 0,
+        given => number(given, u32::MAX)?,
+    };
+    Ok(Settings::Check {
+        most,
+        session,
+        file: file(alloc, check)?,
+    })
 }
 
 /// What is to be drawn.

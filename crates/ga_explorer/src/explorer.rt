@@ -59,6 +59,13 @@ impl Explorer {
     {
         &self.lab
     }
+
+    /// The lab, without what its source says.
+    pub fn into_lab(self) -> Lab
+        ensures { result ≡ self.lab }
+    {
+        self.lab
+    }
 }
 
 impl Responder for Explorer {
