@@ -1,12 +1,13 @@
 -- A command in front of a text.
-use Rattle.std.proofs.Common.{◌≡◌, ◌≢◌, ◌<◌, ℕ, ◌+◌, ◌*◌, ◌/◌, ◌%◌, ◌≤◌, false, List, [], ◌∷◌, ◌++◌, length, take, drop, suc, drop-cons, length-take, take-append-drop, get_or, refl, sym, ap, ◌∙◌, arith, append_assoc}
+use Rattle.std.proofs.Common.{◌≡◌, ◌≢◌, ◌<◌, ℕ, ◌+◌, ◌*◌, ◌/◌, ◌%◌, ◌≤◌, false, List, [], ◌∷◌, ◌++◌, length, take, drop, suc, drop-cons, length-take, length-drop, take-append-drop, get_or, refl, sym, ap, ◌∙◌, arith, append_assoc, inl, inr, eq-zero-or-pos, ◌-◌}
+use Rattle.std.proofs.lemmas.List.{take_all}
 use Rattle.std.proofs.lemmas.List.Elements.{All-from_recursion}
 use Rattle.ga_grid.specs.Grid.{yxx_of}
 use Rattle.ga_grid.specs.declared.node_id.NodeId.{NodeId}
 use Rattle.ga_console.specs.Texts.{name_of}
 use Rattle.ga_console.specs.Lines.{HasNoFeed, is_feed}
 use Rattle.ga_console.specs.Commands.{SpellsCommand}
-use Rattle.ga_console.specs.kept.Ahead.{IsAhead}
+use Rattle.ga_console.specs.kept.Ahead.{IsAhead, IsLineAhead}
 use Rattle.ga_console.specs.declared.command.Command.{Command}
 use Rattle.ga_console.specs.declared.command.Command.TheVariants.{Step, Quit}
 use Rattle.std.proofs.Math.Seq.{drop-append-add}
@@ -58,6 +59,14 @@ same_bytes a b c d e f g h ka kb kc kd ke kf kg kh sums =
     let two : b ≡ f = omega arith in
     let three : c ≡ g = omega arith in (one, two, three, omega arith)
 
+-- four zeros are no name and space
+pub guess_is_node : (guess : ℕ) (four : List ℕ) (word : ℕ) → (144 ≤ guess → four ≡ 0 ∷ 0 ∷ 0 ∷ 0 ∷ [])
+    → get_or four 0 0 + 256 * get_or four 1 0 + 65536 * get_or four 2 0 + 16777216 * get_or four 3 0 ≡ word + 369098752 → guess < 144
+guess_is_node guess four word none sums = elim (eq-zero-or-pos (144 - guess)) [
+  | inl z ↦ let bad = rw (none (omega arith)) at sums in absurd (omega (arith, bad))
+  | inr g ↦ omega arith
+]
+
 -- a name and a space are the same number as these bytes and what a space has more than a line feed
 pub name_same : (node : NodeId) (four : List ℕ) (row tens ones feed : ℕ) → four ≡ name_of node ++ 32 ∷ [] → row < 256 → tens < 256 → ones < 256 → feed < 256
     → get_or four 0 0 + 256 * get_or four 1 0 + 65536 * get_or four 2 0 + 16777216 * get_or four 3 0 ≡ row + 256 * tens + 65536 * ones + 16777216 * feed + 369098752
@@ -69,23 +78,45 @@ name_same node four row tens ones feed e kr kt ko kf sums =
     let same = same_bytes (48 + n / 100) (48 + n / 10 % 10) (48 + n % 10) 10 row tens ones feed (omega arith) (omega arith) (omega arith) (omega arith) kr kt ko kf (omega arith) in
     rw (← same.0, ← same.1, ← same.2, ← same.3) refl
 
--- a whole line in front of a text, with the line feed behind it
-pub line_front : (text : List ℕ) (asked : Command) (count : ℕ) → count < length text → HasNoFeed (take count text) → get_or text count 0 ≡ 10 → count ≤ 200
-    → SpellsCommand asked (take count text) → ((other : Command) → SpellsCommand other (take count text) → other ≡ asked) → asked ≢ Quit → IsAhead text asked count
-line_front text asked count below no_feed feed short spelled only not_quit =
+-- a line in front of a text, and what stands behind its line feed
+line_splits : (text : List ℕ) (count : ℕ) → IsLineAhead text count → text ≡ take count text ++ 10 ∷ drop (count + 1) text
+line_splits text count h =
     let next : suc count ≡ count + 1 = omega arith in
-    record {
-      line = take count text;
-      more = drop (count + 1) text;
-      splits = sym (take-append-drop count text)
-          ∙ ap (λ (t : List ℕ). take count text ++ t)
-          (drop-cons text count 0 below ∙ ap (λ (b : ℕ). b ∷ drop (suc count) text) feed ∙ ap (λ (n : ℕ). 10 ∷ drop n text) next);
-      no_feed = no_feed;
-      counts = omega (arith, length-take count text);
-      short = short;
-      spelled = spelled;
-      not_quit = λ q. not_quit (sym (only Quit q));
-    }
+    sym (take-append-drop count text)
+    ∙ ap (λ (t : List ℕ). take count text ++ t)
+    (drop-cons text count 0 h.below ∙ ap (λ (b : ℕ). b ∷ drop (suc count) text) h.feed ∙ ap (λ (n : ℕ). 10 ∷ drop n text) next)
+
+-- where it spells a command
+pub line_front : (text : List ℕ) (asked : Command) (count : ℕ) → IsLineAhead text count
+    → SpellsCommand asked (take count text) → ((other : Command) → SpellsCommand other (take count text) → other ≡ asked) → asked ≢ Quit → IsAhead text asked count
+line_front text asked count h spelled only not_quit = record {
+  line = take count text;
+  more = drop (count + 1) text;
+  splits = line_splits text count h;
+  no_feed = h.no_feed;
+  counts = omega (arith, length-take count text, h.below);
+  short = h.short;
+  spelled = spelled;
+  not_quit = λ q. not_quit (sym (only Quit q));
+}
+
+-- what is there and what may still come
+pub line_whole : (text rest : List ℕ) (count : ℕ) → IsLineAhead text count → text ++ rest ≡ take count text ++ 10 ∷ (drop (count + 1) text ++ rest)
+line_whole text rest count h =
+    ap (λ (t : List ℕ). t ++ rest) (line_splits text count h) ∙ append_assoc (take count text) (10 ∷ drop (count + 1) text) rest
+
+-- the same where the line was taken
+pub line_taken : (text now rest : List ℕ) (count : ℕ) → IsLineAhead text count → now ≡ drop (count + 1) text → text ++ rest ≡ take count text ++ 10 ∷ (now ++ rest)
+line_taken text now rest count h e = line_whole text rest count h ∙ ap (λ (t : List ℕ). take count text ++ 10 ∷ (t ++ rest)) (sym e)
+
+-- it is short enough to be kept whole
+pub line_kept : (text : List ℕ) (count : ℕ) → IsLineAhead text count → take count text ≡ take 201 (take count text)
+line_kept text count h = sym (take_all 201 (take count text) (omega (arith, length-take count text, h.short)))
+
+-- and what is left stays within the bound
+pub line_within : (text : List ℕ) (count taken limit : ℕ) → IsLineAhead text count → taken + length text ≤ limit
+    → taken + length (take count text) + 1 + length (drop (count + 1) text) ≤ limit
+line_within text count taken limit h within = omega (arith, within, h.below, length-take count text, length-drop (count + 1) text)
 
 behind : (bytes line more now : List ℕ) (count : ℕ) → bytes ≡ line ++ 10 ∷ more → length line ≡ count → now ≡ drop (count + 1) bytes → now ≡ more
 behind bytes line more now count splits counts e =

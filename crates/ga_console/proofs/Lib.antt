@@ -11,6 +11,7 @@ pub mod TextLemmas
 pub mod Taking
 pub mod Cuts
 pub mod Spelled
+pub mod Heads
 pub mod ReplyLemmas
 pub mod ListedLemmas
 pub mod Heard

@@ -1,6 +1,6 @@
 -- What stands in the tables of digits.
 use Rattle.std.specs.Prelude.{◌==◌, ◌&&◌}
-use Rattle.std.proofs.Common.{◌≡◌, ℕ, zero, suc, ◌+◌, ◌*◌, ◌/◌, ◌%◌, ◌^◌, ◌<◌, Bool, true, false, List, ◌++◌, get_or, refl, arith, inl, inr, eq-zero-or-pos, ◌-◌}
+use Rattle.std.proofs.Common.{◌≡◌, ℕ, zero, suc, ◌+◌, ◌*◌, ◌/◌, ◌%◌, ◌^◌, ◌<◌, ◌≤◌, Bool, true, false, List, ◌++◌, get_or, refl, subst, arith, inl, inr, eq-zero-or-pos, ◌-◌}
 use Rattle.std.proofs.lemmas.Bool.Decides.{nat_tests}
 use Rattle.ga_word.specs.Word.{hex_digit, hex6_of}
 use Rattle.ga_image.specs.Spelling.{hex2_of}
@@ -76,3 +76,38 @@ name_at (suc count) n all below =
 pub name_four : (n : ℕ) → n < 144
     → (get_or NAMES (4 * n) 0 ≡ 48 + n / 18) × (get_or NAMES (4 * n + 1) 0 ≡ 48 + n % 18 / 10) × (get_or NAMES (4 * n + 2) 0 ≡ 48 + n % 18 % 10) × (get_or NAMES (4 * n + 3) 0 ≡ 32)
 name_four n below = name_at 144 n refl below
+
+-- so many numbers from 144 on have four zeros
+abbrev blank : ℕ → Bool
+blank n = (get_or NAMES (4 * n) 0 == 0 && get_or NAMES (4 * n + 1) 0 == 0) && (get_or NAMES (4 * n + 2) 0 == 0 && get_or NAMES (4 * n + 3) 0 == 0)
+
+abbrev blanks : ℕ → Bool
+blanks zero = true
+blanks (suc n) = blank (144 + n) && blanks n
+
+AreZeros : ℕ → Type 0
+AreZeros n = (get_or NAMES (4 * n) 0 ≡ 0) × (get_or NAMES (4 * n + 1) 0 ≡ 0) × (get_or NAMES (4 * n + 2) 0 ≡ 0) × (get_or NAMES (4 * n + 3) 0 ≡ 0)
+
+zeros_at : (n : ℕ) → blank n ≡ true → AreZeros n
+unfolding AreZeros
+zeros_at n here =
+    let (front, back) = both (get_or NAMES (4 * n) 0 == 0 && get_or NAMES (4 * n + 1) 0 == 0) (get_or NAMES (4 * n + 2) 0 == 0 && get_or NAMES (4 * n + 3) 0 == 0) here in
+    let (one, two) = both (get_or NAMES (4 * n) 0 == 0) (get_or NAMES (4 * n + 1) 0 == 0) front in
+    let (three, four) = both (get_or NAMES (4 * n + 2) 0 == 0) (get_or NAMES (4 * n + 3) 0 == 0) back in
+    (same _ _ one, same _ _ two, same _ _ three, same _ _ four)
+
+blank_at : (count m : ℕ) → blanks count ≡ true → m < count → AreZeros (144 + m)
+blank_at zero m all below = absurd (omega arith)
+blank_at (suc count) m all below =
+    let (here, rest) = both (blank (144 + count)) (blanks count) all in
+    elim (eq-zero-or-pos (count - m)) [
+      | inl z ↦ let e : m ≡ count = omega arith in rw e (zeros_at (144 + count) here)
+      | inr g ↦ blank_at count m rest (omega arith)
+    ]
+
+pub name_blank : (n : ℕ) → 144 ≤ n → n < 256
+    → (get_or NAMES (4 * n) 0 ≡ 0) × (get_or NAMES (4 * n + 1) 0 ≡ 0) × (get_or NAMES (4 * n + 2) 0 ≡ 0) × (get_or NAMES (4 * n + 3) 0 ≡ 0)
+unfolding AreZeros
+name_blank n past below =
+    let e : 144 + (n - 144) ≡ n = omega arith in
+    subst AreZeros e (blank_at 112 (n - 144) refl (omega arith))

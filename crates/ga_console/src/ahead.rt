@@ -1,11 +1,11 @@
-//! A command whose line was read whole, found where it stands.
+//! A line that was read whole, found where it stands.
 ghost use Rattle.std.specs.Prelude.{◌≡◌, ◌+◌, ◌*◌, [], ◌∷◌, ◌++◌, IfSome, codes};
 ghost use Rattle.ga_console.specs.Texts.{name_of};
-ghost use Rattle.ga_console.specs.kept.Ahead.{IsAhead};
+ghost use Rattle.ga_console.specs.kept.Ahead.{IsLineAhead, StandsAhead};
 
 use super::command::{Command, command_of};
 use super::input::feed_at;
-use super::text::name_spaced;
+use super::text::name_numbered;
 use ga_grid::NodeId;
 use ga_image::LINE_LIMIT;
 
@@ -29,7 +29,7 @@ const WEIGHTS: u64 = 0x120a_0101;
 
 /// Four bytes in one number, which is compared at once.
 #[inline(always)]
-fn word_of(first: u8, second: u8, third: u8, fourth: u8) -> u64
+pub(crate) fn word_of(first: u8, second: u8, third: u8, fourth: u8) -> u64
     ensures { result ≡ first + 256 * second + 65536 * third + 16777216 * fourth }
 {
     u64::from(first)
@@ -44,59 +44,80 @@ fn node_ahead(row: u8, tens: u8, ones: u8, feed: u8) -> Option<NodeId>
     ensures { IfSome result (λ node. (name_of node ++ codes "\n") ≡ (row ∷ tens ∷ ones ∷ feed ∷ [])) }
 {
     let word = word_of(row, tens, ones, feed);
-    let guess = (word + NO_DIGITS) * WEIGHTS / 0x100_0000 % 0x100;
-    if guess >= 144 {
-        return None;
-    }
-    let node = NodeId::new(guess as u8);
-    let [first, second, third, space] = name_spaced(node);
+    let guess = ((word + NO_DIGITS) * WEIGHTS / 0x100_0000 % 0x100) as u8;
+    let [first, second, third, space] = name_numbered(guess);
     if word_of(first, second, third, space) == word + SPACE_FOR_FEED {
-        Some(node)
+        Some(NodeId::new(guess))
     } else {
         None
     }
 }
 
-/// The command that the first line of a text spells, and how many bytes the line has before its line feed. None where the text
-/// has no whole line, or one that spells none or `quit`.
+/// What stands in front of a text.
+#[derive(Clone, Copy)]
+pub enum Ahead {
+    /// A line that spells a command, and how many bytes it has before its line feed. The command isn't `quit`.
+    Spelled(Command, usize),
+    /// Another line that isn't too long.
+    Other(usize),
+    /// No whole line, or one that is too long.
+    Nothing,
+}
+
+/// What stands in front of a text. `step` and `back` are told before the line feed is looked for.
 #[inline(always)]
-pub fn command_ahead(text: &[u8]) -> Option<(Command, usize)>
-    ensures { IfSome result (λ ahead. IsAhead text.now ahead.0 ahead.1) }
+pub fn ahead_of(text: &[u8]) -> Ahead
+    ensures { StandsAhead text.now result }
 {
     if let [s, t, e, p, b' ', row, tens, ones, feed, ..] = text {
         if word_of(*s, *t, *e, *p) == STEP {
-            let node = node_ahead(*row, *tens, *ones, *feed)?;
-            return Some((Command::Step(node), STEP_LINE));
+            if let Some(node) = node_ahead(*row, *tens, *ones, *feed) {
+                return Ahead::Spelled(Command::Step(node), STEP_LINE);
+            }
         }
     }
     other_ahead(text)
 }
 
-/// The same of any command but `step`.
+/// The same, where it is no `step` of a node.
 #[inline(always)]
-fn other_ahead(text: &[u8]) -> Option<(Command, usize)>
-    ensures { IfSome result (λ ahead. IsAhead text.now ahead.0 ahead.1) }
+fn other_ahead(text: &[u8]) -> Ahead
+    ensures { StandsAhead text.now result }
 {
     match text {
-        [b'b', b'a', b'c', b'k', b'\n', ..] => Some((Command::Back, BACK_LINE)),
+        [b'b', b'a', b'c', b'k', b'\n', ..] => Ahead::Spelled(Command::Back, BACK_LINE),
         _ => line_ahead(text),
     }
 }
 
 /// The same, by looking for the line feed.
 #[inline(always)]
-fn line_ahead(text: &[u8]) -> Option<(Command, usize)>
-    ensures { IfSome result (λ ahead. IsAhead text.now ahead.0 ahead.1) }
+fn line_ahead(text: &[u8]) -> Ahead
+    ensures { StandsAhead text.now result }
 {
-    let count = feed_at(text)?;
-    if count > LINE_LIMIT {
-        return None;
+    match feed_at(text) {
+        None => Ahead::Nothing,
+        Some(count) => {
+            if count > LINE_LIMIT {
+                Ahead::Nothing
+            } else {
+                told_ahead(text, count)
+            }
+        }
     }
+}
+
+/// The same, where the line has so many bytes.
+#[inline(always)]
+fn told_ahead(text: &[u8], count: usize) -> Ahead
+    requires { IsLineAhead text.now count }
+    ensures { StandsAhead text.now result }
+{
     match command_of(&text[..count]) {
-        None => None,
+        None => Ahead::Other(count),
         Some(command) => match command {
-            Command::Quit => None,
-            _ => Some((command, count)),
+            Command::Quit => Ahead::Other(count),
+            _ => Ahead::Spelled(command, count),
         },
     }
 }

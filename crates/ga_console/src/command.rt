@@ -1,15 +1,16 @@
 //! Commands, as lines spell them.
 
-ghost use Rattle.std.specs.Prelude.{◌≡◌, ◌+◌, ◌*◌, ◌<◌, [], ◌∷◌, IfSome, IfNone, option_map};
+ghost use Rattle.std.specs.Prelude.{◌≡◌, ◌+◌, ◌*◌, ◌<◌, [], ◌∷◌, false, IfSome, IfNone, option_map};
 ghost use Rattle.ga_grid.specs.Grid.{node_of as node_numbered, node_id};
 ghost use Rattle.ga_grid.specs.Names.{decimal_digit};
 ghost use Rattle.ga_console.specs.Commands.{SpellsCommand};
 ghost use Rattle.ga_image.specs.Digits.{byte_in};
 ghost use Rattle.ga_console.specs.Parsing.{cut, node_in, number_in, with_digit};
-ghost use Rattle.ga_console.specs.kept.Parsing.{step_in, rewind_in, memory_in, why_in, alone, with_arguments};
+ghost use Rattle.ga_console.specs.kept.Parsing.{step_in, rewind_in, memory_in, why_in, alone, with_arguments, is_head};
 ghost use Rattle.ga_console.specs.declared.command.Command.{Command};
 ghost use Rattle.ga_console.specs.declared.command.Command.TheVariants.{Step, Node, Trace};
 
+use super::ahead::word_of;
 use ga_grid::{NodeId, decimal_digit};
 use ga_image::byte_of;
 
@@ -44,7 +45,49 @@ pub enum Command {
 }
 
 /// The command that a line spells, or none.
+#[inline(always)]
 pub fn command_of(line: &[u8]) -> Option<Command>
+    ensures some { IfSome result (λ command. SpellsCommand command line.now) }
+    ensures only { IfSome result (λ command. (other : Command) → SpellsCommand other line.now → other ≡ command) }
+    ensures none { IfNone result ((command : Command) → ¬ SpellsCommand command line.now) }
+{
+    if has_head(line) {
+        spelled_by(line)
+    } else {
+        None
+    }
+}
+
+/// Whether a line begins with the first four bytes of a command.
+#[inline(always)]
+fn has_head(line: &[u8]) -> bool
+    ensures { result ≡ false → (command : Command) → ¬ SpellsCommand command line.now }
+{
+    if line.len() < 4 {
+        return false;
+    }
+    is_head(word_of(line[0], line[1], line[2], line[3]))
+}
+
+/// Whether four bytes in one number are the first of a command.
+#[inline(always)]
+fn is_head(word: u64) -> bool
+    ensures { result ≡ is_head word }
+{
+    word == 0x7065_7473
+        || word == 0x6b63_6162
+        || word == 0x6977_6572
+        || word == 0x6564_6f6e
+        || word == 0x206d_656d
+        || word == 0x6361_7274
+        || word == 0x2079_6877
+        || word == 0x6e75_6f63
+        || word == 0x706d_7564
+        || word == 0x7469_7571
+}
+
+/// The command that a line spells, whatever it begins with.
+fn spelled_by(line: &[u8]) -> Option<Command>
     ensures some { IfSome result (λ command. SpellsCommand command line.now) }
     ensures only { IfSome result (λ command. (other : Command) → SpellsCommand other line.now → other ≡ command) }
     ensures none { IfNone result ((command : Command) → ¬ SpellsCommand command line.now) }

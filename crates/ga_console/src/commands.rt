@@ -5,7 +5,7 @@ ghost use Rattle.ga_console.specs.Input.{IsWithin, input_limit};
 ghost use Rattle.ga_console.specs.Output.{IsSaid, IsSaidOrCut};
 ghost use Rattle.ga_console.specs.Session.{Serves, Written};
 
-use super::ahead::command_ahead;
+use super::ahead::{Ahead, ahead_of};
 use super::input::Input;
 use super::lines::{Line, LineEnd, read_line};
 use super::output::{Output, WriteFailed};
@@ -71,14 +71,25 @@ fn answer_lines<S: Responder, R: Read, W: Write>(
 {
     let mut line = Line::new();
     'lines: loop {
-        if let Some(ahead) = command_ahead(input.unread()) {
-            let (command, count) = ahead;
-            input.skip(count);
-            session.obey(alloc, command, output, writer)?;
-            continue 'lines;
+        let text = input.unread();
+        match ahead_of(text) {
+            Ahead::Spelled(command, count) => {
+                input.skip(count);
+                session.obey(alloc, command, output, writer)?;
+                continue 'lines;
+            }
+            Ahead::Other(size) => {
+                let turn = session.answer(alloc, &text[..size], output, writer)?;
+                input.skip(size);
+                match turn {
+                    Turn::Quit => return Ok(Ending::Quit),
+                    Turn::Answered => continue 'lines,
+                }
+            }
+            Ahead::Nothing => {}
         }
         match read_line(input, reader, output, writer, &mut line)? {
-            LineEnd::Feed => match session.answer(alloc, &line, output, writer)? {
+            LineEnd::Feed => match session.answer(alloc, line.as_slice(), output, writer)? {
                 Turn::Quit => return Ok(Ending::Quit),
                 Turn::Answered => {}
             },
@@ -86,7 +97,7 @@ fn answer_lines<S: Responder, R: Read, W: Write>(
                 if line.is_empty() {
                     return Ok(Ending::Ended);
                 }
-                return match session.answer(alloc, &line, output, writer)? {
+                return match session.answer(alloc, line.as_slice(), output, writer)? {
                     Turn::Quit => Ok(Ending::Quit),
                     Turn::Answered => Ok(Ending::Ended),
                 };

@@ -1,11 +1,12 @@
 //! The texts of events and of the list that keeps them.
-ghost use Rattle.std.specs.Prelude.{◌≡◌, ◌+◌, ◌≤◌, ◌++◌, length, codes};
+ghost use Rattle.std.specs.Prelude.{◌≡◌, ◌+◌, ◌≤◌, ◌<◌, ◌++◌, length, codes};
 ghost use Rattle.arrayvec.specs.ArrayVec.{array_vec_len};
-ghost use Rattle.ga_event.specs.declared.made.Made.TheVariants.{Pass};
+ghost use Rattle.ga_event.specs.declared.made.Made.TheVariants.{Own, Pass};
 ghost use Rattle.ga_console.specs.Texts.{made_text, kind_text, removed_text, counts_text, trace_text, chain_text, refusal_text};
 
 use super::text::{
-    LINE_ROOM, NUMBER_ROOM, hex2, push_node, push_number, push_spaced, push_step, push_text,
+    LINE_ROOM, NUMBER_ROOM, hex2, push_eight, push_node, push_node_spaced, push_number,
+    push_spaced, push_step, push_text,
 };
 use arrayvec::ArrayVec;
 use ga_grid::NodeId;
@@ -27,8 +28,11 @@ pub fn push_made<const ROOM: usize>(out: &mut ArrayVec<u8, ROOM>, made: Made)
 {
     match made {
         Made::Own { node, step, kind } => {
-            push_step(out, node, step);
-            push_kind(out, kind);
+            if step < 100_000_000 {
+                push_near(out, node, step, kind);
+            } else {
+                push_far(out, node, step, kind);
+            }
         }
         Made::Pass {
             writer,
@@ -38,6 +42,28 @@ pub fn push_made<const ROOM: usize>(out: &mut ArrayVec<u8, ROOM>, made: Made)
             word,
         } => push_pass(out, (writer, writer_step), (reader, reader_step), word),
     }
+}
+
+/// Adds the text of an event of a node's own, whose number has at most eight digits: it goes without a call.
+#[inline(always)]
+fn push_near<const ROOM: usize>(out: &mut ArrayVec<u8, ROOM>, node: NodeId, step: u32, kind: Kind)
+    requires small { step < 100000000 }
+    requires room { array_vec_len out.old + LINE_ROOM ≤ ROOM }
+    ensures { out.new.items ≡ out.old.items ++ made_text (Own node step kind) }
+{
+    push_node_spaced(out, node);
+    push_eight(out, u64::from(step));
+    push_kind(out, kind);
+}
+
+/// The same with a number of any length.
+#[inline(never)]
+fn push_far<const ROOM: usize>(out: &mut ArrayVec<u8, ROOM>, node: NodeId, step: u32, kind: Kind)
+    requires { array_vec_len out.old + LINE_ROOM ≤ ROOM }
+    ensures { out.new.items ≡ out.old.items ++ made_text (Own node step kind) }
+{
+    push_step(out, node, step);
+    push_kind(out, kind);
 }
 
 /// Adds the text of a pass, by both of its steps and the word.

@@ -171,8 +171,9 @@ pub fn feed_at(bytes: &[u8]) -> Option<usize>
         × HasNoFeed (take count bytes.now) × (slice_index bytes.now count ≡ 10)) }
     ensures none { IfNone result (HasNoFeed bytes.now) }
 {
-    for (count, byte) in bytes.iter().enumerate() {
-        if *byte == b'\n' {
+    for count in 0..bytes.len() {
+        let byte = bytes[count];
+        if byte == b'\n' {
             return Some(count);
         }
     }

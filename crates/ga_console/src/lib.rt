@@ -40,7 +40,6 @@ pub use event::{push_made, refusal};
 pub use faults::{tell_fault, tell_long, tell_memory};
 pub use image::{ImageEnd, read_image};
 pub use input::Input;
-pub use lines::Line;
 pub use listing::list_source;
 pub use output::{Output, WriteFailed, write_all};
 pub use race::race_report;

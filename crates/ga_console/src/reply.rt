@@ -5,7 +5,6 @@ ghost use Rattle.ga_console.specs.kept.Turns.{Turns};
 
 use super::changes::{back, rewind, step};
 use super::command::{Command, command_of};
-use super::lines::Line;
 use super::output::{Output, WriteFailed};
 use super::readings::{count, dump, memory, node, trace, why};
 use super::responder::Turn;
@@ -21,18 +20,18 @@ use std::io::Write;
 pub fn answer<W: Write>(
     alloc: Global,
     lab: &mut Lab,
-    line: &Line,
+    line: &[u8],
     output: &mut Output,
     writer: &mut W,
 ) -> Result<Turn, WriteFailed>
-    ensures { Says result (Turns Answer lab.old line.now.items lab.new result)
+    ensures { Says result (Turns Answer lab.old line.now lab.new result)
         (W.contents writer.old) output.old (W.contents writer.new) output.new }
 {
     if line.len() > LINE_LIMIT {
         output.say(writer, b"no 32 long\n")?;
         return Ok(Turn::Answered);
     }
-    match command_of(line.as_slice()) {
+    match command_of(line) {
         None => {
             output.say(writer, b"no 31 syntax\n")?;
             Ok(Turn::Answered)

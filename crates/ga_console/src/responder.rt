@@ -6,7 +6,6 @@ ghost use Rattle.ga_console.specs.kept.Output.{Says};
 ghost use Rattle.ga_console.specs.kept.Turns.{Turns, AnswersCommand};
 
 use super::command::Command;
-use super::lines::Line;
 use super::output::{Output, WriteFailed};
 use super::reply;
 use ga_lab::Lab;
@@ -41,11 +40,11 @@ pub trait Responder: Drop {
     fn answer<W: Write>(
         &mut self,
         alloc: Global,
-        line: &Line,
+        line: &[u8],
         output: &mut Output,
         writer: &mut W,
     ) -> Result<Turn, WriteFailed>
-        ensures { Says result (Turns answers self.old line.now.items self.new result)
+        ensures { Says result (Turns answers self.old line.now self.new result)
             (W.contents writer.old) output.old (W.contents writer.new) output.new };
 
     /// Answers a line that spells a command of the debugger.
@@ -77,7 +76,7 @@ impl Responder for Lab {
     fn answer<W: Write>(
         &mut self,
         alloc: Global,
-        line: &Line,
+        line: &[u8],
         output: &mut Output,
         writer: &mut W,
     ) -> Result<Turn, WriteFailed> {

@@ -1,5 +1,6 @@
 //! The text of a line as it is put together, in a buffer of fixed size.
-ghost use Rattle.std.specs.Prelude.{◌≡◌, ◌+◌, ◌%◌, ◌≤◌, ◌<◌, [], ◌++◌, length, codes, decimal};
+ghost use Rattle.std.specs.Prelude.{◌≡◌, ◌+◌, ◌%◌, ◌≤◌, ◌<◌, [], ◌∷◌, ◌++◌, length, codes, decimal};
+ghost use Rattle.ga_grid.specs.declared.node_id.NodeId.{NodeId};
 ghost use Rattle.arrayvec.specs.ArrayVec.{array_vec_len};
 ghost use Rattle.ga_word.specs.Word.{hex6_of};
 ghost use Rattle.ga_image.specs.Spelling.{decimal3_of, hex2_of};
@@ -67,7 +68,7 @@ fn push_long<const ROOM: usize>(out: &mut ArrayVec<u8, ROOM>, number: u64)
 
 /// The same for a number of at most eight digits, in pieces of fixed size.
 #[inline(always)]
-fn push_eight<const ROOM: usize>(out: &mut ArrayVec<u8, ROOM>, number: u64)
+pub(crate) fn push_eight<const ROOM: usize>(out: &mut ArrayVec<u8, ROOM>, number: u64)
     requires small { number < 100000000 }
     requires room { array_vec_len out.old + length (decimal number) ≤ ROOM }
     ensures text { out.new.items ≡ out.old.items ++ decimal number }
@@ -161,11 +162,30 @@ fn name_digits(node: NodeId) -> [u8; NODE_ROOM]
 
 /// A node's name and a space.
 #[inline(always)]
-pub(crate) fn name_spaced(node: NodeId) -> [u8; 4]
+fn name_spaced(node: NodeId) -> [u8; 4]
     ensures { result ≡ name_of node ++ codes " " }
 {
-    let at = 4 * node.index();
+    name_numbered(node.index() as u8)
+}
+
+/// The name of the node with this number and a space, or four zeros where there is no such node.
+#[inline(always)]
+pub(crate) fn name_numbered(number: u8) -> [u8; 4]
+    ensures named { (node : NodeId) → node.number ≡ number → result ≡ name_of node ++ codes " " }
+    ensures none { 144 ≤ number → result ≡ (0 ∷ 0 ∷ 0 ∷ 0 ∷ []) }
+{
+    let at = 4 * number as usize;
     [NAMES[at], NAMES[at + 1], NAMES[at + 2], NAMES[at + 3]]
+}
+
+/// Adds a node's name and a space.
+#[inline(always)]
+pub(crate) fn push_node_spaced<const ROOM: usize>(out: &mut ArrayVec<u8, ROOM>, node: NodeId)
+    requires { array_vec_len out.old + NODE_ROOM + 1 ≤ ROOM }
+    ensures text { out.new.items ≡ out.old.items ++ (name_of node ++ codes " ") }
+    ensures len { array_vec_len out.new ≡ array_vec_len out.old + NODE_ROOM + 1 }
+{
+    push_text(out, &name_spaced(node));
 }
 
 /// Adds a step: the name of its node and its number.
@@ -237,6 +257,6 @@ static DECIMAL: [u8; 200] =
 static HEXADECIMAL: [u8; 512] =
     *b"000102030405060708090a0b0c0d0e0f101112131415161718191a1b1c1d1e1f202122232425262728292a2b2c2d2e2f303132333435363738393a3b3c3d3e3f404142434445464748494a4b4c4d4e4f505152535455565758595a5b5c5d5e5f606162636465666768696a6b6c6d6e6f707172737475767778797a7b7c7d7e7f808182838485868788898a8b8c8d8e8f909192939495969798999a9b9c9d9e9fa0a1a2a3a4a5a6a7a8a9aaabacadaeafb0b1b2b3b4b5b6b7b8b9babbbcbdbebfc0c1c2c3c4c5c6c7c8c9cacbcccdcecfd0d1d2d3d4d5d6d7d8d9dadbdcdddedfe0e1e2e3e4e5e6e7e8e9eaebecedeeeff0f1f2f3f4f5f6f7f8f9fafbfcfdfeff";
 
-/// The names of the nodes, each with a space behind it.
-static NAMES: [u8; 576] =
-    *b"000 001 002 003 004 005 006 007 008 009 010 011 012 013 014 015 016 017 100 101 102 103 104 105 106 107 108 109 110 111 112 113 114 115 116 117 200 201 202 203 204 205 206 207 208 209 210 211 212 213 214 215 216 217 300 301 302 303 304 305 306 307 308 309 310 311 312 313 314 315 316 317 400 401 402 403 404 405 406 407 408 409 410 411 412 413 414 415 416 417 500 501 502 503 504 505 506 507 508 509 510 511 512 513 514 515 516 517 600 601 602 603 604 605 606 607 608 609 610 611 612 613 614 615 616 617 700 701 702 703 704 705 706 707 708 709 710 711 712 713 714 715 716 717 ";
+/// The names of the nodes, each with a space behind it, and zeros up to the number 255.
+static NAMES: [u8; 1024] =
+    *b"000 001 002 003 004 005 006 007 008 009 010 011 012 013 014 015 016 017 100 101 102 103 104 105 106 107 108 109 110 111 112 113 114 115 116 117 200 201 202 203 204 205 206 207 208 209 210 211 212 213 214 215 216 217 300 301 302 303 304 305 306 307 308 309 310 311 312 313 314 315 316 317 400 401 402 403 404 405 406 407 408 409 410 411 412 413 414 415 416 417 500 501 502 503 504 505 506 507 508 509 510 511 512 513 514 515 516 517 600 601 602 603 604 605 606 607 608 609 610 611 612 613 614 615 616 617 700 701 702 703 704 705 706 707 708 709 710 711 712 713 714 715 716 717 \0\0\0\0\0\0\0\0\0\0\0\0\0\0\0\0\0\0\0\0\0\0\0\0\0\0\0\0\0\0\0\0\0\0\0\0\0\0\0\0\0\0\0\0\0\0\0\0\0\0\0\0\0\0\0\0\0\0\0\0\0\0\0\0\0\0\0\0\0\0\0\0\0\0\0\0\0\0\0\0\0\0\0\0\0\0\0\0\0\0\0\0\0\0\0\0\0\0\0\0\0\0\0\0\0\0\0\0\0\0\0\0\0\0\0\0\0\0\0\0\0\0\0\0\0\0\0\0\0\0\0\0\0\0\0\0\0\0\0\0\0\0\0\0\0\0\0\0\0\0\0\0\0\0\0\0\0\0\0\0\0\0\0\0\0\0\0\0\0\0\0\0\0\0\0\0\0\0\0\0\0\0\0\0\0\0\0\0\0\0\0\0\0\0\0\0\0\0\0\0\0\0\0\0\0\0\0\0\0\0\0\0\0\0\0\0\0\0\0\0\0\0\0\0\0\0\0\0\0\0\0\0\0\0\0\0\0\0\0\0\0\0\0\0\0\0\0\0\0\0\0\0\0\0\0\0\0\0\0\0\0\0\0\0\0\0\0\0\0\0\0\0\0\0\0\0\0\0\0\0\0\0\0\0\0\0\0\0\0\0\0\0\0\0\0\0\0\0\0\0\0\0\0\0\0\0\0\0\0\0\0\0\0\0\0\0\0\0\0\0\0\0\0\0\0\0\0\0\0\0\0\0\0\0\0\0\0\0\0\0\0\0\0\0\0\0\0\0\0\0\0\0\0\0\0\0\0\0\0\0\0\0\0\0\0\0\0\0\0\0\0\0\0\0\0\0\0\0\0\0\0\0\0\0\0\0\0\0\0\0\0\0\0\0\0\0\0\0\0\0\0\0\0\0\0\0\0\0\0\0\0\0\0\0\0\0\0\0\0\0\0\0\0\0\0\0\0\0\0\0\0\0\0\0\0\0\0\0\0\0\0\0\0\0\0\0\0\0";

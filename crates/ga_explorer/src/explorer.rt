@@ -20,7 +20,7 @@ use crate::whence_text::say_whence;
 use crate::who_text::say_who;
 use crate::words_text::say_words;
 use crate::writes_text::say_writes;
-use ga_console::{Command, Line, Output, Responder, Turn, WriteFailed, command_of};
+use ga_console::{Command, Output, Responder, Turn, WriteFailed, command_of};
 use ga_image::LINE_LIMIT;
 use ga_lab::Lab;
 use ga_notes::Notes;
@@ -77,7 +77,7 @@ impl Responder for Explorer {
     fn answer<W: Write>(
         &mut self,
         alloc: Global,
-        line: &Line,
+        line: &[u8],
         output: &mut Output,
         writer: &mut W,
     ) -> Result<Turn, WriteFailed> {
@@ -103,12 +103,12 @@ impl Responder for Explorer {
 }
 
 /// The command of exploring that a line spells, where it is not too long.
-fn asked_by(notes: &Option<Notes>, line: &Line) -> Option<Request>
-    ensures some { IfSome result (λ asked. (length line.now.items ≤ LINE_LIMIT) × (request_in notes.now line.now.items ≡ Some asked)) }
-    ensures none { IfNone result (length line.now.items ≤ LINE_LIMIT → request_in notes.now line.now.items ≡ None) }
+fn asked_by(notes: &Option<Notes>, line: &[u8]) -> Option<Request>
+    ensures some { IfSome result (λ asked. (length line.now ≤ LINE_LIMIT) × (request_in notes.now line.now ≡ Some asked)) }
+    ensures none { IfNone result (length line.now ≤ LINE_LIMIT → request_in notes.now line.now ≡ None) }
 {
     if line.len() <= LINE_LIMIT {
-        request_of(notes, line.as_slice())
+        request_of(notes, line)
     } else {
         None
     }
@@ -121,26 +121,26 @@ fn asked_by(notes: &Option<Notes>, line: &Line) -> Option<Request>
 fn answer_other<W: Write>(
     alloc: Global,
     lab: &mut Lab,
-    line: &Line,
+    line: &[u8],
     output: &mut Output,
     writer: &mut W,
 ) -> Result<Turn, WriteFailed>
-    ensures { Says result (Turns AnswersOther lab.old line.now.items lab.new result)
+    ensures { Says result (Turns AnswersOther lab.old line.now lab.new result)
         (W.contents writer.old) output.old (W.contents writer.new) output.new }
 {
     if is_no_command(line) {
-        say_no_command(line.as_slice(), output, writer)?;
+        say_no_command(line, output, writer)?;
         return Ok(Turn::Answered);
     }
     lab.answer(alloc, line, output, writer)
 }
 
 /// Whether a line is not too long and spells no command of the debugger.
-fn is_no_command(line: &Line) -> bool
-    ensures none { IsTrue result → IsNoCommand line.now.items }
-    ensures some { result ≡ false → IsOfDebugger line.now.items }
+fn is_no_command(line: &[u8]) -> bool
+    ensures none { IsTrue result → IsNoCommand line.now }
+    ensures some { result ≡ false → IsOfDebugger line.now }
 {
-    line.len() <= LINE_LIMIT && command_of(line.as_slice()).is_none()
+    line.len() <= LINE_LIMIT && command_of(line).is_none()
 }
 
 /// Carries a command of exploring out.

@@ -8,7 +8,7 @@ ghost use Rattle.ga_picture.specs.Following.{IsShort};
 ghost use Rattle.ga_picture.specs.kept.Following.{Notes};
 ghost use Rattle.ga_explorer.specs.Answers.{Explores};
 
-use ga_console::{Command, Line, Output, Responder, Turn, WriteFailed};
+use ga_console::{Command, Output, Responder, Turn, WriteFailed};
 use ga_explorer::Explorer;
 use ga_lab::Lab;
 use std::alloc::Global;
@@ -25,8 +25,8 @@ pub struct Silent {
 
 impl Silent {
     /// Answers a line, of which at least the first 201 bytes are here, and says nothing.
-    fn hear(&mut self, alloc: Global, line: &Line) -> Turn
-        ensures heard { (answer : Bytes) × Turns Explores self.old.explorer line.now.items self.new.explorer (Ok result) answer
+    fn hear(&mut self, alloc: Global, line: &[u8]) -> Turn
+        ensures heard { (answer : Bytes) × Turns Explores self.old.explorer line.now self.new.explorer (Ok result) answer
             × Notes self.old.short answer self.new.short }
         ensures ends { result ≡ Quit → self.new.short ≡ self.old.short }
     {
@@ -100,7 +100,7 @@ impl Responder for Silent {
     fn answer<W: Write>(
         &mut self,
         alloc: Global,
-        line: &Line,
+        line: &[u8],
         _output: &mut Output,
         _writer: &mut W,
     ) -> Result<Turn, WriteFailed> {

@@ -1,10 +1,12 @@
--- A command that was read whole and is not taken yet.
-use Rattle.std.specs.Prelude.{◌≡◌, ◌≢◌, ◌≤◌, ℕ, ◌∷◌, ◌++◌, length}
+-- A line that was read whole and is not taken yet.
+use Rattle.std.specs.Prelude.{◌≡◌, ◌≢◌, ◌≤◌, ◌<◌, ℕ, ◌∷◌, ◌++◌, length, take, slice_index}
 use Rattle.ga_image.specs.Lines.{Bytes, Line, longest}
 use Rattle.ga_console.specs.Lines.{HasNoFeed}
 use Rattle.ga_console.specs.Commands.{SpellsCommand}
 use Rattle.ga_console.specs.Turns.{quit_line}
 use Rattle.ga_console.specs.declared.command.Command.{Command}
+use Rattle.ga_console.specs.declared.ahead.Ahead.{Ahead}
+use Rattle.ga_console.specs.declared.ahead.Ahead.TheVariants.{Spelled, Other, Nothing}
 
 -- the bytes begin with a line of so many bytes that spells the command, which isn't quit
 pub record IsAhead (bytes : Bytes) (asked : Command) (count : ℕ) : Type 0 where
@@ -16,3 +18,16 @@ pub record IsAhead (bytes : Bytes) (asked : Command) (count : ℕ) : Type 0 wher
   pub short : count ≤ longest
   pub spelled : SpellsCommand asked line
   pub not_quit : line ≢ quit_line
+
+-- a line of so many bytes stands in front of the bytes, with its line feed
+pub record IsLineAhead (bytes : Bytes) (count : ℕ) : Type 0 where
+  pub below : count < length bytes
+  pub no_feed : HasNoFeed (take count bytes)
+  pub feed : slice_index bytes count ≡ 10
+  pub short : count ≤ longest
+
+-- what stands in front of the bytes
+abbrev pub StandsAhead : Bytes → Ahead → Type 0
+StandsAhead bytes (Spelled asked count) = IsAhead bytes asked count
+StandsAhead bytes (Other count) = IsLineAhead bytes count
+StandsAhead bytes Nothing = Unit {0}

@@ -1,5 +1,5 @@
 -- What private contracts, invariants and bridges cite.
-use Rattle.std.specs.Prelude.{ℕ, nat_eq, if◌then◌else◌, codes, Option, Some, None, option_map}
+use Rattle.std.specs.Prelude.{ℕ, ◌+◌, ◌*◌, ◌==◌, ◌||◌, Bool, nat_eq, if◌then◌else◌, codes, slice_index, Option, Some, None, option_map}
 use Rattle.std.specs.Cmp.Lexicographic.{pointwise}
 use Rattle.ga_image.specs.Lines.{Text, Line}
 use Rattle.ga_grid.specs.declared.node_id.NodeId.{NodeId}
@@ -63,3 +63,21 @@ command_by (Some parts) line = with_arguments parts.0 parts.1
 -- the command that a line spells
 abbrev pub command_in : Line → Option Command
 command_in line = command_by (cut line) line
+
+-- the first four bytes of a line in one number
+abbrev pub head_of : Line → ℕ
+head_of line = slice_index line 0 + 256 * slice_index line 1 + 65536 * slice_index line 2 + 16777216 * slice_index line 3
+
+-- those of a command: step, back, rewi, node, mem, trac, why, coun, dump, quit
+abbrev pub is_head : ℕ → Bool
+is_head word =
+    word == 0x70657473
+    || word == 0x6b636162
+    || word == 0x69776572
+    || word == 0x65646f6e
+    || word == 0x206d656d
+    || word == 0x63617274
+    || word == 0x20796877
+    || word == 0x6e756f63
+    || word == 0x706d7564
+    || word == 0x74697571

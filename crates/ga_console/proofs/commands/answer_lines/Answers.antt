@@ -1,7 +1,7 @@
-use Rattle.std.proofs.Common.{ℕ, ◌-◌, ◌++◌, [], List, refl, sym, ap, subst, ◌∙◌, arith}
+use Rattle.std.proofs.Common.{ℕ, ◌+◌, ◌-◌, ◌++◌, [], List, take, drop, length, length-take, refl, sym, ap, subst, ◌∙◌, arith}
 use Rattle.std.specs.Prelude.{Result, Ok}
 use Rattle.std.specs.Result.{IsErr}
-use Rattle.ga_console.specs.kept.Ahead.{IsAhead}
+use Rattle.ga_console.specs.kept.Ahead.{IsAhead, IsLineAhead}
 use Rattle.ga_console.specs.Turns.{Answering}
 use Rattle.ga_console.specs.Session.{Serves, ServesCut}
 use Rattle.ga_console.specs.Texts.{no_input}
@@ -9,7 +9,7 @@ use Rattle.ga_console.specs.declared.output.WriteFailed.{WriteFailed}
 use Rattle.ga_console.specs.declared.commands.Ending.{Ending}
 use Rattle.ga_console.specs.declared.commands.Ending.TheVariants.{Ended, Past}
 use Rattle.ga_console.proofs.SaidLemmas.{at_err, cut_here, said_assoc, cut_assoc, said_pending, said_nothing}
-use Rattle.ga_console.proofs.AheadLemmas.{ahead_whole}
+use Rattle.ga_console.proofs.AheadLemmas.{ahead_whole, line_whole, line_taken, line_kept, line_within}
 use Rattle.ga_console.proofs.LineLemmas.{quit_part, empty_part, some_part}
 use Rattle.ga_console.proofs.Heard.{heard_none, heard_push, heard_cut, heard_failed, heard_ended, heard_last, heard_quit, heard_quit_last, heard_past, heard_same, cut_short, read_to, read_past, read_over, split_at, split_past, split_over}
 use Rattle.ga_console.proofs.commands.answer_lines.Goals as goal
@@ -51,8 +51,8 @@ returns-in_err-answer-in-Feed g c = λ left before said known held.
     let part : List ℕ = got.2.part in
     let heard = inv.4 in
     let turn = c.in_err-answer-in-Feed.ensures before (said ++ inv.1) told in
-    let answered = turn.1 part got.2.is_line.kept in
-    let more = heard_push heard part (c.read_line.new.input.bytes ++ got.0) c.read_line.new.input.taken turn.0 c.answer.new.self
+    let answered = turn.1 part (c.as_slice.ensures.value ∙ got.2.is_line.kept) in
+    let more = heard_push heard part (c.read_line.new.input.bytes ++ got.0) c.read_line.new.input.taken turn.0 c.answer-in-Feed.new.self
     got.2.is_line.splits got.2.is_line.no_feed got.2.counts answered.0 answered.1 in (
       read_to more c.read_line.new.input.bytes,
       got.0,
@@ -65,15 +65,15 @@ returns-in_err-answer-in-Feed g c = λ left before said known held.
           (cut_assoc _ before said inv.1 turn.0 turn.2),
     )
 
-pub returns-in-Quit : goal.returns-in-Quit
-returns-in-Quit g c = λ left before said known held.
+pub returns-in-Quit-2 : goal.returns-in-Quit-2
+returns-in-Quit-2 g c = λ left before said known held.
     let inv = c.lines.invariant.heard left before said known held in
     let got = rw c.in-Feed.is at (c.in_ok-read_line.ensures.reads inv.0 inv.2) in
     let told = c.in_ok-read_line.ensures.said before (said ++ inv.1) inv.3 in
     let part : List ℕ = got.2.part in
-    let turn = rw c.in-Quit.is at (c.in_ok-answer-in-Feed.ensures before (said ++ inv.1) told) in
-    let heard = heard_same inv.4 c.answer.new.self turn.1.1 in
-    let quit = quit_part c.read_line.new.line.items part got.2.is_line.kept turn.1.0 in (
+    let turn = rw c.in-Quit-2.is at (c.in_ok-answer-in-Feed.ensures before (said ++ inv.1) told) in
+    let heard = heard_same inv.4 c.answer-in-Feed.new.self turn.1.1 in
+    let quit = quit_part c.as_slice.result.now part (c.as_slice.ensures.value ∙ got.2.is_line.kept) turn.1.0 in (
       read_past heard part c.read_line.new.input.bytes,
       got.0,
       inv.1,
@@ -92,13 +92,13 @@ lines-preserved g c = record {
       let told = c.in_ok-read_line.ensures.said before (said ++ inv.1) inv.3 in
       let part : List ℕ = got.2.part in
       let heard = inv.4 in
-      let turn = rw c.in-Answered.is at (c.in_ok-answer-in-Feed.ensures before (said ++ inv.1) told) in
-      let answered = turn.1 part got.2.is_line.kept in (
+      let turn = rw c.in-Answered-2.is at (c.in_ok-answer-in-Feed.ensures before (said ++ inv.1) told) in
+      let answered = turn.1 part (c.as_slice.ensures.value ∙ got.2.is_line.kept) in (
         got.0,
         inv.1 ++ turn.0,
         got.1,
         said_assoc _ before said inv.1 turn.0 _ turn.2,
-        heard_push heard part (c.read_line.new.input.bytes ++ got.0) c.read_line.new.input.taken turn.0 c.answer.new.self
+        heard_push heard part (c.read_line.new.input.bytes ++ got.0) c.read_line.new.input.taken turn.0 c.answer-in-Feed.new.self
             got.2.is_line.splits got.2.is_line.no_feed got.2.counts answered.0 answered.1,
       );
 }
@@ -129,7 +129,7 @@ returns-in_err-answer-in-Last g c = λ left before said known held.
     let heard = inv.4 in
     let some = some_part c.read_line.new.line.items part got.2.0.is_line.kept c.if-is_empty.ensures in
     let turn = c.in_err-answer-in-Last.ensures before (said ++ inv.1) told in
-    let answered = turn.1 part got.2.0.is_line.kept in (
+    let answered = turn.1 part (c.as_slice-in-Last.ensures.value ∙ got.2.0.is_line.kept) in (
       read_to heard part,
       got.0,
       inv.1 ++ turn.0,
@@ -142,15 +142,15 @@ returns-in_err-answer-in-Last g c = λ left before said known held.
           (cut_assoc _ before said inv.1 turn.0 turn.2),
     )
 
-pub returns-in-Quit-2 : goal.returns-in-Quit-2
-returns-in-Quit-2 g c = λ left before said known held.
+pub returns-in-Quit-3 : goal.returns-in-Quit-3
+returns-in-Quit-3 g c = λ left before said known held.
     let inv = c.lines.invariant.heard left before said known held in
     let got = rw c.in-Last.is at (c.in_ok-read_line.ensures.reads inv.0 inv.2) in
     let told = c.in_ok-read_line.ensures.said before (said ++ inv.1) inv.3 in
     let part : List ℕ = got.2.0.part in
-    let turn = rw c.in-Quit-2.is at (c.in_ok-answer-in-Last.ensures before (said ++ inv.1) told) in
+    let turn = rw c.in-Quit-3.is at (c.in_ok-answer-in-Last.ensures before (said ++ inv.1) told) in
     let heard = heard_same inv.4 c.answer-in-Last.new.self turn.1.1 in
-    let quit = quit_part c.read_line.new.line.items part got.2.0.is_line.kept turn.1.0 in (
+    let quit = quit_part c.as_slice-in-Last.result.now part (c.as_slice-in-Last.ensures.value ∙ got.2.0.is_line.kept) turn.1.0 in (
       read_to heard part,
       got.0,
       inv.1,
@@ -160,16 +160,16 @@ returns-in-Quit-2 g c = λ left before said known held.
       said_nothing _ before (said ++ inv.1) turn.0 _ turn.1.2 turn.2,
     )
 
-pub returns-in-Answered-2 : goal.returns-in-Answered-2
-returns-in-Answered-2 g c = λ left before said known held.
+pub returns-in-Answered-3 : goal.returns-in-Answered-3
+returns-in-Answered-3 g c = λ left before said known held.
     let inv = c.lines.invariant.heard left before said known held in
     let got = rw c.in-Last.is at (c.in_ok-read_line.ensures.reads inv.0 inv.2) in
     let told = c.in_ok-read_line.ensures.said before (said ++ inv.1) inv.3 in
     let part : List ℕ = got.2.0.part in
     let heard = inv.4 in
     let some = some_part c.read_line.new.line.items part got.2.0.is_line.kept c.if-is_empty.ensures in
-    let turn = rw c.in-Answered-2.is at (c.in_ok-answer-in-Last.ensures before (said ++ inv.1) told) in
-    let answered = turn.1 part got.2.0.is_line.kept in (
+    let turn = rw c.in-Answered-3.is at (c.in_ok-answer-in-Last.ensures before (said ++ inv.1) told) in
+    let answered = turn.1 part (c.as_slice-in-Last.ensures.value ∙ got.2.0.is_line.kept) in (
       read_to heard part,
       got.0,
       inv.1 ++ turn.0,
@@ -230,12 +230,12 @@ returns-in-ReadFailed g c = λ left before said known held.
       told,
     )
 
-pub returns-in_err-obey : goal.returns-in_err-obey
-returns-in_err-obey g c = λ left before said known held.
+pub returns-in_err-obey-in-Spelled : goal.returns-in_err-obey-in-Spelled
+returns-in_err-obey-in-Spelled g c = λ left before said known held.
     let inv = c.lines.invariant.heard left before said known held in
-    let ahead = subst (λ (t : List ℕ). IsAhead t c.in-Some.ahead.0 c.in-Some.ahead.1) c.unread.ensures c.in-Some.ensures in
-    let done = c.in_err-obey.ensures before (said ++ inv.1) inv.3 in
-    let whole = ahead_whole c.lines.input.bytes c.skip.new.self.bytes inv.0 c.in-Some.ahead.0 c.in-Some.ahead.1 ahead c.skip.ensures.bytes in
+    let ahead = subst (λ (t : List ℕ). IsAhead t c.in-Spelled.command c.in-Spelled.count) c.unread-text.ensures c.in-Spelled.ensures in
+    let done = c.in_err-obey-in-Spelled.ensures before (said ++ inv.1) inv.3 in
+    let whole = ahead_whole c.lines.input.bytes c.skip.new.self.bytes inv.0 c.in-Spelled.command c.in-Spelled.count ahead c.skip.ensures.bytes in
     let more = heard_push inv.4 ahead.line (c.skip.new.self.bytes ++ inv.0) c.skip.new.self.taken done.0 c.obey.new.self
     whole ahead.no_feed (omega (arith, c.skip.ensures.taken, ahead.counts))
     (done.1 ahead.line (omega (arith, ahead.counts, ahead.short)) ahead.spelled) ahead.not_quit in (
@@ -248,20 +248,84 @@ returns-in_err-obey g c = λ left before said known held.
       cut_here c.from_residual.result _ before (said ++ (inv.1 ++ done.0)) _ c.from_residual.ensures.0 (cut_assoc _ before said inv.1 done.0 done.2),
     )
 
-pub lines-preserved-in-Some : goal.lines-preserved-in-Some
-lines-preserved-in-Some g c = record {
+pub lines-preserved-in-Spelled : goal.lines-preserved-in-Spelled
+lines-preserved-in-Spelled g c = record {
   within = c.skip.ensures.within;
   heard = λ left before said known held.
       let inv = c.lines.invariant.heard left before said known held in
-      let ahead = subst (λ (t : List ℕ). IsAhead t c.in-Some.ahead.0 c.in-Some.ahead.1) c.unread.ensures c.in-Some.ensures in
-      let done = c.in_ok-obey.ensures before (said ++ inv.1) inv.3 in (
+      let ahead = subst (λ (t : List ℕ). IsAhead t c.in-Spelled.command c.in-Spelled.count) c.unread-text.ensures c.in-Spelled.ensures in
+      let done = c.in_ok-obey-in-Spelled.ensures before (said ++ inv.1) inv.3 in (
         inv.0,
         inv.1 ++ done.0,
         inv.2,
         said_assoc _ before said inv.1 done.0 _ done.2,
         heard_push inv.4 ahead.line (c.skip.new.self.bytes ++ inv.0) c.skip.new.self.taken done.0 c.obey.new.self
-            (ahead_whole c.lines.input.bytes c.skip.new.self.bytes inv.0 c.in-Some.ahead.0 c.in-Some.ahead.1 ahead c.skip.ensures.bytes)
+            (ahead_whole c.lines.input.bytes c.skip.new.self.bytes inv.0 c.in-Spelled.command c.in-Spelled.count ahead c.skip.ensures.bytes)
             ahead.no_feed (omega (arith, c.skip.ensures.taken, ahead.counts))
             (done.1 ahead.line (omega (arith, ahead.counts, ahead.short)) ahead.spelled) ahead.not_quit,
+      );
+}
+
+pub returns-in_err-turn-in-Other : goal.returns-in_err-turn-in-Other
+returns-in_err-turn-in-Other g c = λ left before said known held.
+    let inv = c.lines.invariant.heard left before said known held in
+    let bytes : List ℕ = c.lines.input.bytes in
+    let count : ℕ = c.in-Other.size in
+    let ahead = subst (λ (t : List ℕ). IsLineAhead t count) c.unread-text.ensures c.in-Other.ensures in
+    let part : List ℕ = take count bytes in
+    let next : List ℕ = drop (count + 1) bytes in
+    let turn = c.in_err-turn-in-Other.ensures before (said ++ inv.1) inv.3 in
+    let answered = turn.1 part (ap (take count) c.unread-text.ensures ∙ line_kept bytes count ahead) in
+    let more = heard_push inv.4 part (next ++ inv.0) (c.lines.input.taken + length part + 1) turn.0 c.answer.new.self
+    (line_whole bytes inv.0 count ahead) ahead.no_feed refl answered.0 answered.1 in (
+      read_to more next,
+      inv.0,
+      inv.1 ++ turn.0,
+      split_at more next inv.0 refl,
+      inv.2,
+      serves_cut _ _ _ _ _ _ _ c.from_residual-in_err-turn-in-Other.result c.from_residual-in_err-turn-in-Other.ensures.0
+          (heard_cut more next inv.0 (line_within bytes count c.lines.input.taken 16777216 ahead c.lines.invariant.within)),
+      cut_here c.from_residual-in_err-turn-in-Other.result _ before (said ++ (inv.1 ++ turn.0)) _ c.from_residual-in_err-turn-in-Other.ensures.0
+          (cut_assoc _ before said inv.1 turn.0 turn.2),
+    )
+
+pub returns-in-Quit : goal.returns-in-Quit
+returns-in-Quit g c = λ left before said known held.
+    let inv = c.lines.invariant.heard left before said known held in
+    let bytes : List ℕ = c.lines.input.bytes in
+    let count : ℕ = c.in-Other.size in
+    let ahead = subst (λ (t : List ℕ). IsLineAhead t count) c.unread-text.ensures c.in-Other.ensures in
+    let part : List ℕ = take count bytes in
+    let turn = rw c.in-Quit.is at (c.in_ok-turn-in-Other.ensures before (said ++ inv.1) inv.3) in
+    let heard = heard_same inv.4 c.answer.new.self turn.1.1 in
+    let whole = line_taken bytes c.skip-in-Other.new.self.bytes inv.0 count ahead c.skip-in-Other.ensures.bytes in (
+      read_past heard part c.skip-in-Other.new.self.bytes,
+      inv.0,
+      inv.1,
+      split_past heard part c.skip-in-Other.new.self.bytes inv.0 whole,
+      inv.2,
+      heard_quit heard part c.skip-in-Other.new.self.bytes inv.0 c.skip-in-Other.new.self.taken ahead.no_feed (sym (ap (take count) c.unread-text.ensures) ∙ turn.1.0)
+          (omega (arith, c.skip-in-Other.ensures.taken, ahead.below, length-take count bytes)) c.skip-in-Other.ensures.within,
+      said_nothing _ before (said ++ inv.1) turn.0 _ turn.1.2 turn.2,
+    )
+
+pub lines-preserved-in-Answered : goal.lines-preserved-in-Answered
+lines-preserved-in-Answered g c = record {
+  within = c.skip-in-Other.ensures.within;
+  heard = λ left before said known held.
+      let inv = c.lines.invariant.heard left before said known held in
+      let bytes : List ℕ = c.lines.input.bytes in
+      let count : ℕ = c.in-Other.size in
+      let ahead = subst (λ (t : List ℕ). IsLineAhead t count) c.unread-text.ensures c.in-Other.ensures in
+      let part : List ℕ = take count bytes in
+      let turn = rw c.in-Answered.is at (c.in_ok-turn-in-Other.ensures before (said ++ inv.1) inv.3) in
+      let answered = turn.1 part (ap (take count) c.unread-text.ensures ∙ line_kept bytes count ahead) in (
+        inv.0,
+        inv.1 ++ turn.0,
+        inv.2,
+        said_assoc _ before said inv.1 turn.0 _ turn.2,
+        heard_push inv.4 part (c.skip-in-Other.new.self.bytes ++ inv.0) c.skip-in-Other.new.self.taken turn.0 c.answer.new.self
+            (line_taken bytes c.skip-in-Other.new.self.bytes inv.0 count ahead c.skip-in-Other.ensures.bytes)
+            ahead.no_feed (omega (arith, c.skip-in-Other.ensures.taken, ahead.below, length-take count bytes)) answered.0 answered.1,
       );
 }

@@ -11,11 +11,11 @@ use Rattle.ga_explorer.proofs.explorer.ExplorerResponder.answer.Goals as goal
 pub returns-in_err-explored-in-Some : goal.returns-in_err-explored-in-Some
 returns-in_err-explored-in-Some g c = λ before said h.
     let new = exploring c.explored.new.lab c.self.inside.notes in
-    let spelled = subst (λ (e : Exploring). request_in e.notes c.args.line.now.items ≡ Some c.in-Some.asked) c.self.view_is c.in-Some.ensures.some.1 in
+    let spelled = subst (λ (e : Exploring). request_in e.notes c.args.line.now ≡ Some c.in-Some.asked) c.self.view_is c.in-Some.ensures.some.1 in
     let done = c.in_err-explored-in-Some.ensures before said h in (
       done.0,
-      explored_err c.args.self.now c.args.line.now.items new c.from_residual.result done.0 c.from_residual.ensures.0
-          (explored_line c.args.self.now c.args.line.now.items c.in-Some.asked done.0 new c.in-Some.ensures.some.0 spelled
+      explored_err c.args.self.now c.args.line.now new c.from_residual.result done.0 c.from_residual.ensures.0
+          (explored_line c.args.self.now c.args.line.now c.in-Some.asked done.0 new c.in-Some.ensures.some.0 spelled
           (subst (λ s. Explored s c.in-Some.asked done.0 new) c.self.view_is done.1)),
       cut_here c.from_residual.result _ before (said ++ done.0) _ c.from_residual.ensures.0 done.2,
     )
@@ -23,10 +23,10 @@ returns-in_err-explored-in-Some g c = λ before said h.
 pub returns-in_ok-explored-in-Some : goal.returns-in_ok-explored-in-Some
 returns-in_ok-explored-in-Some g c = λ before said h.
     let new = exploring c.explored.new.lab c.self.inside.notes in
-    let spelled = subst (λ (e : Exploring). request_in e.notes c.args.line.now.items ≡ Some c.in-Some.asked) c.self.view_is c.in-Some.ensures.some.1 in
+    let spelled = subst (λ (e : Exploring). request_in e.notes c.args.line.now ≡ Some c.in-Some.asked) c.self.view_is c.in-Some.ensures.some.1 in
     let done = c.in_ok-explored-in-Some.ensures before said h in (
       done.0,
-      explored_line c.args.self.now c.args.line.now.items c.in-Some.asked done.0 new c.in-Some.ensures.some.0 spelled
+      explored_line c.args.self.now c.args.line.now c.in-Some.asked done.0 new c.in-Some.ensures.some.0 spelled
           (subst (λ s. Explored s c.in-Some.asked done.0 new) c.self.view_is done.1),
       done.2,
     )
@@ -34,11 +34,11 @@ returns-in_ok-explored-in-Some g c = λ before said h.
 pub returns-in-None : goal.returns-in-None
 returns-in-None g c = λ before said h.
     let new = exploring c.answer_other.new.lab c.self.inside.notes in
-    let none = subst (λ (e : Exploring). length c.args.line.now.items ≤ 200 → request_in e.notes c.args.line.now.items ≡ None) c.self.view_is c.in-None.ensures.none in
+    let none = subst (λ (e : Exploring). length c.args.line.now ≤ 200 → request_in e.notes c.args.line.now ≡ None) c.self.view_is c.in-None.ensures.none in
     let done = c.answer_other.ensures before said h in (
       done.0,
-      debugged_turn c.args.self.now c.args.line.now.items new c.answer_other.result done.0 none
+      debugged_turn c.args.self.now c.args.line.now new c.answer_other.result done.0 none
           (ap (λ (s : Exploring). s.notes) c.self.view_is)
-          (subst (λ (s : Exploring). Turns AnswersOther s.lab c.args.line.now.items c.answer_other.new.lab c.answer_other.result done.0) c.self.view_is done.1),
+          (subst (λ (s : Exploring). Turns AnswersOther s.lab c.args.line.now c.answer_other.new.lab c.answer_other.result done.0) c.self.view_is done.1),
       done.2,
     )

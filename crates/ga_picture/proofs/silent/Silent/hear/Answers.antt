@@ -11,7 +11,7 @@ pub returns-in-Ok-Answered-clause-heard : goal.returns-in-Ok-Answered-clause-hea
 returns-in-Ok-Answered-clause-heard c =
     let heard = rw c.in-Ok-Answered.field-0-is at c.in-Ok-Answered.ensures in
     let done = heard [] [] (said_fresh _ [] [] c.new-output.result (ap Some c.new-said.ensures.items) c.new-output.ensures) in
-    let P : Exploring → Type 0 = λ s. Turns Explores c.args.self.now.explorer c.args.line.now.items s (Ok Answered) done.0 in
+    let P : Exploring → Type 0 = λ s. Turns Explores c.args.self.now.explorer c.args.line.now s (Ok Answered) done.0 in
     (done.0, subst P (sym c.note.ensures.same) done.1, c.note.ensures.noted done.0 done.2)
 
 pub returns-in-Ok-Quit-clause-heard : goal.returns-in-Ok-Quit-clause-heard

@@ -1,7 +1,7 @@
 use Rattle.std.proofs.Common.{ap, ◌∙◌}
 use Rattle.ga_console.specs.kept.Parsing.{command_by}
 use Rattle.ga_console.proofs.Spelled.{told_some, told_only, told_none}
-use Rattle.ga_console.proofs.command.command_of.Goals as goal
+use Rattle.ga_console.proofs.command.spelled_by.Goals as goal
 
 pub returns-in-Some-clause-some : goal.returns-in-Some-clause-some
 returns-in-Some-clause-some c = told_some _ c.args.line.now (c.with_arguments.ensures ∙ ap (λ found. command_by found c.args.line.now) c.in-Some.ensures)
