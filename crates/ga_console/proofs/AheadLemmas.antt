@@ -4,14 +4,14 @@ use Rattle.std.proofs.lemmas.List.{take_all}
 use Rattle.std.proofs.lemmas.List.Elements.{All-from_recursion}
 use Rattle.ga_grid.specs.Grid.{yxx_of}
 use Rattle.ga_grid.specs.declared.node_id.NodeId.{NodeId}
-use Rattle.ga_console.specs.Texts.{name_of}
-use Rattle.ga_console.specs.Lines.{HasNoFeed, is_feed}
+use Rattle.ga_text.specs.Names.{name_of}
+use Rattle.ga_text.specs.Lines.{HasNoFeed, is_feed}
 use Rattle.ga_console.specs.Commands.{SpellsCommand}
 use Rattle.ga_console.specs.kept.Ahead.{IsAhead, IsLineAhead}
 use Rattle.ga_console.specs.declared.command.Command.{Command}
 use Rattle.ga_console.specs.declared.command.Command.TheVariants.{Step, Quit}
 use Rattle.std.proofs.Math.Seq.{drop-append-add}
-use Rattle.ga_console.proofs.PartLemmas.{not_feed}
+use Rattle.ga_text.proofs.PartLemmas.{not_feed}
 
 -- the first nine of some bytes
 nine : (text : List ℕ) → 9 ≤ length text

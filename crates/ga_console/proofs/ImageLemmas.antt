@@ -4,7 +4,7 @@ use Rattle.std.specs.List.{AllByRecursion}
 use Rattle.std.proofs.lemmas.List.{append-nil, take_all, length-drop}
 use Rattle.std.proofs.lemmas.List.Elements.{All-append, All-nil}
 use Rattle.std.proofs.lemmas.Grind.{flat_map-append}
-use Rattle.ga_console.specs.Lines.{HasNoFeed, is_feed, ended, text_of}
+use Rattle.ga_text.specs.Lines.{HasNoFeed, is_feed, ended, text_of}
 use Rattle.ga_console.specs.Image.{IsBodyLine, end_line, HasNoEnd}
 
 -- the lines that were read whole, and the part behind them, which begins at start

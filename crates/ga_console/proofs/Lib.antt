@@ -1,15 +1,9 @@
 pub mod AheadLemmas
-pub mod DigitLemmas
-pub mod TableLemmas
 pub mod KnownBytes
 pub mod SaidLemmas
-pub mod PartLemmas
 pub mod LineLemmas
 pub mod ImageLemmas
 pub mod Pieces
-pub mod TextLemmas
-pub mod Taking
-pub mod Cuts
 pub mod Spelled
 pub mod Heads
 pub mod ReplyLemmas

@@ -4,7 +4,7 @@ use Rattle.std.proofs.lemmas.List.{append-nil, take_all}
 use Rattle.std.proofs.lemmas.Bool.Decides.{nat_tests}
 use Rattle.std.specs.Prelude.{◌==◌}
 use Rattle.std.proofs.lemmas.List.Elements.{All-append, All-nil}
-use Rattle.ga_console.specs.Lines.{HasNoFeed, is_feed}
+use Rattle.ga_text.specs.Lines.{HasNoFeed, is_feed}
 use Rattle.ga_console.specs.kept.ReadLine.{IsLine}
 use Rattle.ga_console.specs.Turns.{quit_line}
 

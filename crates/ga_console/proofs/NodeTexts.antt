@@ -7,8 +7,8 @@ use Rattle.std.proofs.lemmas.List.Elements.{All-nil, All-more}
 use Rattle.ga_node.specs.Record.{NodeState}
 use Rattle.ga_grid.specs.Grid.{yxx_of}
 use Rattle.ga_grid.specs.Chip.{node_at, nowhere}
-use Rattle.ga_image.specs.Lines.{Text}
-use Rattle.ga_image.specs.Spelling.{decimal3_of}
+use Rattle.ga_text.specs.Lines.{Text}
+use Rattle.ga_text.specs.Digits.{decimal3_of}
 use Rattle.ga_source.specs.Saying.{Said, parted, said_from, lines_of}
 use Rattle.ga_console.specs.kept.Disassembling.{Word, Says, Adds, holds_words, registers_words, memory_words, node_words, named_words, source_words, HasRegisters, IsFit}
 use Rattle.ga_console.proofs.Telling.{says_nothing, says_both}

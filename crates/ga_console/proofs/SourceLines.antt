@@ -5,7 +5,7 @@ use Rattle.std.specs.List.{list_all}
 use Rattle.std.proofs.lemmas.List.{append-nil}
 use Rattle.std.proofs.lemmas.List.Folds.{list_all-append}
 use Rattle.std.proofs.lemmas.Bool.{and_from, cond-true, cond-false, eq-eqb, ne_eqb}
-use Rattle.ga_image.specs.Lines.{Text}
+use Rattle.ga_text.specs.Lines.{Text}
 use Rattle.ga_source.specs.Saying.{words_of, Said, a_word, spoken}
 use Rattle.ga_console.specs.kept.Disassembling.{Word, Says, Adds, AddsRemark, IsOrdinary, IsUnmarked, is_inner, hex_of, number_word, register_words, address_words, cell_words}
 use Rattle.ga_console.proofs.HexLemmas.{all_shown}

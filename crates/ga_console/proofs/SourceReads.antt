@@ -8,12 +8,10 @@ use Rattle.std.proofs.lemmas.Bool.{and_from}
 use Rattle.ga_node.specs.Record.{NodeState}
 use Rattle.ga_grid.specs.Chip.{node_at}
 use Rattle.ga_grid.specs.Load.{default_chip}
-use Rattle.ga_image.specs.Lines.{Bytes, Text, Line}
+use Rattle.ga_text.specs.Lines.{Bytes, Text, Line, HasNoFeed, ended, text_of, is_feed as ends_line}
 use Rattle.ga_source.specs.Saying.{Said, is_feed, lines_of, bare, said_by, said_from, said_in, next_line, up_to_fault}
 use Rattle.ga_source.specs.Plain.{bodies_in, yxx_in}
 use Rattle.ga_source.specs.Made.{HasPlain, IsMade}
-use Rattle.ga_console.specs.Lines.{HasNoFeed, ended, text_of}
-use Rattle.ga_console.specs.Lines.{is_feed as ends_line}
 use Rattle.ga_console.specs.Image.{IsBodyLine, EndsAtEnd, end_line}
 use Rattle.ga_console.specs.Source.{IsReadWhole}
 use Rattle.ga_console.proofs.Telling.{part_behind, own_line}

@@ -7,8 +7,8 @@ use Rattle.std.proofs.lemmas.List.Folds.{list_all-append}
 use Rattle.std.proofs.lemmas.Bool.{and_parts, and_from, cond-true, cond-false, le-leb, lt-ltb, ne_eqb, cases_Bool}
 use Rattle.ga_grid.specs.Grid.{yxx_of, node_of}
 use Rattle.ga_node.specs.Record.{NodeState}
-use Rattle.ga_image.specs.Lines.{Text}
-use Rattle.ga_image.specs.Spelling.{decimal3_of}
+use Rattle.ga_text.specs.Lines.{Text}
+use Rattle.ga_text.specs.Digits.{decimal3_of}
 use Rattle.ga_source.specs.Saying.{Said, parted, is_word, lines_of, said_from, up_to_fault, said_in}
 use Rattle.ga_grid.specs.Names.{decimal_digit, node_number}
 use Rattle.ga_source.specs.Plain.{words_in, is_node, body_in, bodies_in, yxx_in}

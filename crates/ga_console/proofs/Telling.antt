@@ -6,8 +6,8 @@ use Rattle.std.proofs.lemmas.List.{map-append}
 use Rattle.std.proofs.lemmas.List.Folds.{list_all-append}
 use Rattle.std.proofs.lemmas.Slice.Eq.{bytes_eq-Decides}
 use Rattle.std.proofs.lemmas.Bool.{cases_Bool, and_parts, and_from, cond-false, le-ltb, ltb-true, lt-ltb, ne_eqb, false≢true}
-use Rattle.ga_image.specs.Lines.{Text}
-use Rattle.ga_image.specs.Spelling.{decimal3_of}
+use Rattle.ga_text.specs.Lines.{Text}
+use Rattle.ga_text.specs.Digits.{decimal3_of}
 use Rattle.ga_source.specs.Saying.{with_byte, parted, is_feed, is_blank, lines_of, has_bytes, words_of, longest, order_mark, without_return, bare, Said, a_word, is_word, spoken, said_by, next_line, said_from}
 use Rattle.ga_console.specs.kept.Disassembling.{Word, Says, IsOrdinary, IsUnmarked, is_inner, is_shown}
 

@@ -1,8 +1,7 @@
 -- The image part: what of the input it is (docs/REFERENCE.md, "Sessions"; this project's own).
 use Rattle.std.specs.Prelude.{◌≡◌, ◌≢◌, ℕ, ◌+◌, List, [], ◌∷◌, ◌++◌, length, codes}
 use Rattle.std.specs.List.{AllByRecursion}
-use Rattle.ga_image.specs.Lines.{Bytes, Text, Line}
-use Rattle.ga_console.specs.Lines.{HasNoFeed, ended, text_of}
+use Rattle.ga_text.specs.Lines.{Bytes, Text, Line, HasNoFeed, ended, text_of}
 use Rattle.ga_console.specs.Input.{Unread, input_limit}
 use Rattle.ga_console.specs.declared.image.ImageEnd.{ImageEnd}
 use Rattle.ga_console.specs.declared.image.ImageEnd.TheVariants.{EndLine, Ended, Past, Failed}

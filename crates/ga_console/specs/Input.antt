@@ -1,6 +1,6 @@
 -- How much of an input is taken, and in which blocks.
 use Rattle.std.specs.Prelude.{ℕ, ◌+◌, ◌≤◌, length}
-use Rattle.ga_image.specs.Lines.{Bytes}
+use Rattle.ga_text.specs.Lines.{Bytes}
 
 -- what was read and is not taken yet, and how many bytes were taken
 pub record Unread : Type 0 where

@@ -1,9 +1,7 @@
-pub mod Lines
 pub mod Input
 pub mod Output
 pub mod Image
 pub mod Texts
-pub mod Parsing
 pub mod Commands
 pub mod Turns
 pub mod Replies

@@ -1,6 +1,6 @@
 -- What a session says first, and a text that was written in part.
 use Rattle.std.specs.Prelude.{◌≡◌, ◌++◌, Option, Some, Result, Ok, Err, codes}
-use Rattle.ga_image.specs.Lines.{Bytes, Text}
+use Rattle.ga_text.specs.Lines.{Bytes, Text}
 use Rattle.ga_console.specs.declared.output.WriteFailed.{WriteFailed}
 
 -- the first that is said after an accepted image

@@ -3,7 +3,7 @@
 use Rattle.std.specs.Prelude.{◌≡◌, ℕ, ◌-◌, ◌<◌, ◌⊎◌, List, [], ◌++◌, length, Result, Ok, Err}
 use Rattle.ga_node.specs.Record.{NodeState}
 use Rattle.ga_grid.specs.Chip.{records_of}
-use Rattle.ga_image.specs.Lines.{Bytes, Text, lines_of}
+use Rattle.ga_text.specs.Lines.{Bytes, Text, lines_of}
 use Rattle.ga_image.specs.Grammar.{IsImage}
 use Rattle.ga_image.specs.Fault.{no_memory}
 use Rattle.ga_image.specs.FirstFault.{IsFirstFault}

@@ -2,8 +2,7 @@
 -- project's own). A is how the session answers a line: of the debugger's it is Answer.
 use Rattle.std.specs.Prelude.{◌≡◌, ◌≢◌, ℕ, ◌+◌, ◌<◌, ◌≤◌, ◌⊎◌, List, [], ◌∷◌, ◌++◌, length, take, nat_le, if◌then◌else◌, Result, Ok, Err}
 use Rattle.std.specs.List.{AllByRecursion}
-use Rattle.ga_image.specs.Lines.{Bytes, Text, Line, lines_of}
-use Rattle.ga_console.specs.Lines.{ended_lines}
+use Rattle.ga_text.specs.Lines.{Bytes, Text, Line, lines_of, ended_lines}
 use Rattle.ga_console.specs.Output.{Begins}
 use Rattle.ga_console.specs.Texts.{no_input}
 use Rattle.ga_console.specs.Turns.{Answering, quit_line}

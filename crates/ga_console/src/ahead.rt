@@ -1,11 +1,11 @@
 //! A line that was read whole, found where it stands.
 ghost use Rattle.std.specs.Prelude.{◌≡◌, ◌+◌, ◌*◌, [], ◌∷◌, ◌++◌, IfSome, codes};
-ghost use Rattle.ga_console.specs.Texts.{name_of};
+ghost use Rattle.ga_text.specs.Names.{name_of};
 ghost use Rattle.ga_console.specs.kept.Ahead.{IsLineAhead, StandsAhead};
 
 use super::command::{Command, command_of};
-use super::input::feed_at;
-use super::text::name_numbered;
+use ga_text::feed_at;
+use ga_text::name_numbered;
 use ga_grid::NodeId;
 use ga_image::LINE_LIMIT;
 

@@ -1,6 +1,6 @@
 //! Source in, the image of its chip out.
 ghost use Rattle.std.specs.Prelude.{◌≡◌, ◌++◌, Some, IfSome};
-ghost use Rattle.ga_image.specs.Lines.{Bytes};
+ghost use Rattle.ga_text.specs.Lines.{Bytes};
 ghost use Rattle.ga_console.specs.kept.Race.{Writes};
 ghost use Rattle.ga_console.specs.Source.{IsAssembly, Assembles};
 ghost use Rattle.ga_console.specs.kept.Source.{Assembly};

@@ -1,13 +1,14 @@
 //! The command part of a session.
 ghost use Rattle.std.specs.Prelude.{◌≡◌, ◌-◌, ◌++◌, Some};
-ghost use Rattle.ga_image.specs.Lines.{Bytes};
+ghost use Rattle.ga_text.specs.Lines.{Bytes};
 ghost use Rattle.ga_console.specs.Input.{IsWithin, input_limit};
 ghost use Rattle.ga_console.specs.Output.{IsSaid, IsSaidOrCut};
 ghost use Rattle.ga_console.specs.Session.{Serves, Written};
 
 use super::ahead::{Ahead, ahead_of};
 use super::input::Input;
-use super::lines::{Line, LineEnd, read_line};
+use super::lines::{LineEnd, read_line};
+use ga_text::Line;
 use super::output::{Output, WriteFailed};
 use super::responder::{Responder, Turn};
 use std::alloc::Global;

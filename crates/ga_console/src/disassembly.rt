@@ -4,7 +4,7 @@ ghost use Rattle.std.specs.List.{All};
 ghost use Rattle.ga_image.specs.Fault.{no_memory};
 ghost use Rattle.ga_image.specs.FirstFault.{IsFirstFault};
 ghost use Rattle.ga_image.specs.Grammar.{IsImage};
-ghost use Rattle.ga_image.specs.Lines.{Bytes, lines_of};
+ghost use Rattle.ga_text.specs.Lines.{Bytes, lines_of};
 ghost use Rattle.ga_console.specs.Run.{IsFault};
 ghost use Rattle.ga_console.specs.Source.{IsAccepted, Disassembles};
 ghost use Rattle.ga_console.specs.kept.Source.{Disassembly};

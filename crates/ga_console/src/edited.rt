@@ -1,7 +1,7 @@
 //! What editors write into a text, where it has no place.
 
 use super::faults::tell;
-use super::text::{Text, push_text};
+use ga_text::{Text, push_text};
 use std::io::Write;
 
 /// What an editor wrote into a text where it has no place.

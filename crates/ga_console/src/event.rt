@@ -4,7 +4,7 @@ ghost use Rattle.arrayvec.specs.ArrayVec.{array_vec_len};
 ghost use Rattle.ga_event.specs.declared.made.Made.TheVariants.{Own, Pass};
 ghost use Rattle.ga_console.specs.Texts.{made_text, kind_text, removed_text, counts_text, trace_text, chain_text, refusal_text};
 
-use super::text::{
+use ga_text::{
     LINE_ROOM, NUMBER_ROOM, hex2, push_eight, push_node, push_node_spaced, push_number,
     push_spaced, push_step, push_text,
 };

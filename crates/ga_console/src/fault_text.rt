@@ -2,7 +2,7 @@
 ghost use Rattle.std.specs.Prelude.{◌≡◌};
 ghost use Rattle.ga_console.specs.Texts.{image_fault_text};
 
-use super::text::{Text, push_number, push_text};
+use ga_text::{Text, push_number, push_text};
 use ga_image::ImageFault;
 
 /// Puts the text of a refused image.

@@ -5,7 +5,7 @@ ghost use Rattle.ga_node.specs.State.{IsPlace};
 ghost use Rattle.ga_console.specs.kept.Texts.{shown_byte, shown, unknown_text};
 
 use super::output::write_all;
-use super::text::{Text, push_byte, push_number, push_text};
+use ga_text::{Text, push_byte, push_number, push_text};
 use arrayvec::ArrayVec;
 use ga_grid::{Chip, NODES, NodeId};
 use ga_node::{Node, Place};

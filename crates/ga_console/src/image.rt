@@ -1,8 +1,7 @@
 //! The image part of a session.
 ghost use Rattle.std.specs.Prelude.{◌≡◌, ◌<◌, ◌++◌, [], length, Some, Ok, IfOk, OnErr, IsTrue, ◌↔◌};
-ghost use Rattle.ga_image.specs.Lines.{Bytes};
+ghost use Rattle.ga_text.specs.Lines.{Bytes, ended};
 ghost use Rattle.ga_console.specs.Input.{IsWithin, block_size};
-ghost use Rattle.ga_console.specs.Lines.{ended};
 ghost use Rattle.ga_console.specs.Image.{ReadsImage, end_line};
 
 use super::input::{Fill, Input};

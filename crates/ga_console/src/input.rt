@@ -1,12 +1,11 @@
 //! The input, block by block, up to its bound.
-ghost use Rattle.std.specs.Prelude.{◌≡◌, ◌+◌, ◌≤◌, ◌<◌, ◌++◌, ◌∷◌, true, [], length, take, drop, slice_index, Some, IfSome, IfNone, IfOk, OnErr};
-ghost use Rattle.ga_image.specs.Lines.{Bytes};
+ghost use Rattle.std.specs.Prelude.{◌≡◌, ◌+◌, ◌≤◌, ◌<◌, ◌++◌, ◌∷◌, true, [], length, take, drop, Some, IfOk, OnErr};
+ghost use Rattle.ga_text.specs.Lines.{Bytes};
 ghost use Rattle.ga_console.specs.Input.{Unread, IsWithin, block_size};
 ghost use Rattle.ga_console.specs.kept.Input.{Fills, HasFilled, TakesPart};
-ghost use Rattle.ga_console.specs.Lines.{HasNoFeed};
 ghost use Rattle.ga_console.specs.kept.Image.{with_feed};
 
-use super::lines::{Line, keep};
+use ga_text::{Line, feed_at, keep};
 use std::alloc::AllocError;
 use std::io::Read;
 use std::marker::Model;
@@ -163,19 +162,4 @@ impl Input {
             }
         }
     }
-}
-
-/// Where the first line feed stands.
-pub fn feed_at(bytes: &[u8]) -> Option<usize>
-    ensures found { IfSome result (λ count. (count < length bytes.now)
-        × HasNoFeed (take count bytes.now) × (slice_index bytes.now count ≡ 10)) }
-    ensures none { IfNone result (HasNoFeed bytes.now) }
-{
-    for count in 0..bytes.len() {
-        let byte = bytes[count];
-        if byte == b'\n' {
-            return Some(count);
-        }
-    }
-    None
 }

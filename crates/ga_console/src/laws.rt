@@ -4,7 +4,7 @@ ghost use Rattle.std.specs.Prelude.{ℕ, ◌≡◌, ◌<◌, ◌++◌, List};
 ghost use Rattle.ga_node.specs.Record.{NodeState};
 ghost use Rattle.ga_grid.specs.Chip.{node_at, records_of};
 ghost use Rattle.ga_grid.specs.Steady.{AreSteady};
-ghost use Rattle.ga_image.specs.Lines.{Bytes, Line, Text, lines_of};
+ghost use Rattle.ga_text.specs.Lines.{Bytes, Line, Text, lines_of};
 ghost use Rattle.ga_image.specs.Grammar.{IsImage};
 ghost use Rattle.ga_image.specs.ReadBack.{Describes};
 ghost use Rattle.ga_lab.specs.Machine.{State, chip_of};

@@ -28,11 +28,10 @@ mod reply;
 mod responder;
 mod run;
 mod settings;
-mod text;
 mod whole;
 
 pub use assembling::{assemble_source, tell_stores};
-pub use command::{Command, command_of, cut, node_of, number_of};
+pub use command::{Command, command_of};
 pub use commands::{Ending, serve};
 pub use disassembly::disassemble;
 pub use edited::{Edited, edited_image, edited_source, tell_edited};
@@ -46,7 +45,3 @@ pub use race::race_report;
 pub use responder::{Responder, Turn};
 pub use run::{Status, open_image, refuse, session, session_with, status_of};
 pub use settings::{LineFault, Settings, arguments};
-pub use text::{
-    BYTE_ROOM, LINE_ROOM, NODE_ROOM, NUMBER_ROOM, STEP_ROOM, Text, WORD_ROOM, push_byte,
-    push_digit, push_node, push_number, push_spaced, push_step, push_text, push_word,
-};

@@ -1,17 +1,14 @@
 //! Lines of the input.
-ghost use Rattle.std.specs.Prelude.{◌≡◌, ◌+◌, ◌≤◌, ◌<◌, ◌++◌, Some, length, take, Ok};
-ghost use Rattle.ga_image.specs.Lines.{Bytes};
+ghost use Rattle.std.specs.Prelude.{◌≡◌, ◌<◌, Some, Ok};
+ghost use Rattle.ga_text.specs.Lines.{Bytes};
 ghost use Rattle.ga_console.specs.Input.{IsWithin};
 ghost use Rattle.ga_console.specs.Output.{IsSaid, IsSaidOrCut};
 ghost use Rattle.ga_console.specs.kept.ReadLine.{ReadsLine};
 
 use super::input::{Fill, Input};
 use super::output::{Output, WriteFailed};
-use arrayvec::ArrayVec;
+use ga_text::Line;
 use std::io::{Read, Write};
-
-/// A line, or the first 201 bytes of one that is too long.
-pub type Line = ArrayVec<u8, 201>;
 
 /// How a line ended.
 #[derive(Clone, Copy, PartialEq, Eq)]
@@ -59,12 +56,4 @@ pub fn read_line<R: Read, W: Write>(
             Fill::Failed => return Ok(LineEnd::ReadFailed),
         }
     }
-}
-
-/// Adds bytes to a line, as far as there is room.
-pub fn keep(line: &mut Line, bytes: &[u8])
-    ensures { line.new.items ≡ take 201 (line.old.items ++ bytes.now) }
-{
-    let count = line.remaining_capacity().min(bytes.len());
-    let _fits = line.try_extend_from_slice(&bytes[..count]);
 }

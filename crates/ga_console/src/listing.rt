@@ -1,9 +1,9 @@
 //! Source in, a listing of its cells out.
 ghost use Rattle.std.specs.Prelude.{◌≡◌, ◌≤◌, ◌<◌, ◌++◌, [], ◌∷◌, codes, length, Some, None, IfOk, IfSome, OnOk, slice_index};
-ghost use Rattle.ga_image.specs.Lines.{Bytes};
+ghost use Rattle.ga_text.specs.Lines.{Bytes};
 ghost use Rattle.hex.specs.Hex.{lower_digits};
 ghost use Rattle.ga_grid.specs.Grid.{yxx_of};
-ghost use Rattle.ga_image.specs.Spelling.{decimal3_of};
+ghost use Rattle.ga_text.specs.Digits.{decimal3_of};
 ghost use Rattle.ga_console.specs.kept.Disassembling.{Adds, hex_of};
 ghost use Rattle.ga_console.specs.kept.Source.{Listing, IsListed, with_fault, behind_listing};
 ghost use Rattle.ga_console.specs.Source.{Lists};

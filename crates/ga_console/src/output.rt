@@ -1,13 +1,13 @@
 //! The output, gathered before it is written.
 ghost use Rattle.std.specs.Prelude.{◌≡◌, ◌++◌, ◌+◌, ◌≤◌, length, ℕ, List, [], OnOk};
-ghost use Rattle.ga_image.specs.Lines.{Bytes};
+ghost use Rattle.ga_text.specs.Lines.{Bytes};
 ghost use Rattle.ga_console.specs.Output.{IsSaid, IsSaidOrCut, ready};
 ghost use Rattle.ga_console.specs.Texts.{made_text, removed_text, node_text, memory_text, counts_text, trace_text, chain_text};
 ghost use Rattle.ga_node.specs.Record.{record_of};
 
 use super::event::{push_chain, push_counts, push_made, push_removed, push_trace};
 use super::node_text::{push_memory_line, push_node_line};
-use super::text::LINE_ROOM;
+use ga_text::LINE_ROOM;
 use arrayvec::ArrayVec;
 use ga_grid::NodeId;
 use ga_lab::{Counts, Made};

@@ -1,6 +1,6 @@
 //! What answers the lines of a session.
 ghost use Rattle.std.specs.Prelude.{◌≡◌};
-ghost use Rattle.ga_image.specs.Lines.{Bytes};
+ghost use Rattle.ga_text.specs.Lines.{Bytes};
 ghost use Rattle.ga_lab.specs.Machine.{State};
 ghost use Rattle.ga_console.specs.kept.Output.{Says};
 ghost use Rattle.ga_console.specs.kept.Turns.{Turns, AnswersCommand};

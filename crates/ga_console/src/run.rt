@@ -1,6 +1,6 @@
 //! A whole session.
 ghost use Rattle.std.specs.Prelude.{◌≡◌, ◌++◌, Some, IfOk, IfErr};
-ghost use Rattle.ga_image.specs.Lines.{Bytes};
+ghost use Rattle.ga_text.specs.Lines.{Bytes};
 ghost use Rattle.ga_console.specs.Input.{IsWithin};
 ghost use Rattle.ga_console.specs.Output.{IsSaid};
 ghost use Rattle.ga_console.specs.Run.{Runs, RunsBy, Refuses, Opens, IsFault, status_of as status_that};
@@ -12,7 +12,7 @@ use super::image::{ImageEnd, read_image};
 use super::input::Input;
 use super::output::{Output, WriteFailed, write_all};
 use super::responder::Responder;
-use super::text::Text;
+use ga_text::Text;
 use ga_image::{ImageCause, ImageFault, parse};
 use ga_lab::Lab;
 use std::alloc::Global;

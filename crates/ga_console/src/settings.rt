@@ -2,7 +2,7 @@
 ghost use Rattle.std.specs.Prelude.{IfOk};
 ghost use Rattle.ga_console.specs.Settings.{AreInRange, Within};
 
-use super::command::{node_of, number_of};
+use ga_text::{node_of, number_of};
 use clap::builder::ValueParser;
 use clap::{Arg, ArgMatches, Command, value_parser};
 use ga_grid::NodeId;

@@ -1,6 +1,6 @@
 //! An input that is read whole before anything is made of it: source, or an image without commands.
 ghost use Rattle.std.specs.Prelude.{◌≡◌, ◌++◌, Some, IfOk, IfErr};
-ghost use Rattle.ga_image.specs.Lines.{Bytes};
+ghost use Rattle.ga_text.specs.Lines.{Bytes};
 ghost use Rattle.ga_console.specs.kept.Whole.{ReadsWhole, IsWhole, IsUnread};
 
 use super::faults::{tell_long, tell_memory};

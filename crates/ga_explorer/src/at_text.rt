@@ -2,7 +2,7 @@
 
 ghost use Rattle.std.specs.Prelude.{◌≡◌, ◌<◌, ◌≤◌, ◌+◌, ◌-◌, ◌^◌, ◌++◌, Some, codes};
 ghost use Rattle.std.specs.List.{slice_get};
-ghost use Rattle.ga_image.specs.Lines.{Bytes};
+ghost use Rattle.ga_text.specs.Lines.{Bytes};
 ghost use Rattle.arrayvec.specs.ArrayVec.{array_vec_len};
 ghost use Rattle.ga_word.specs.Word.{hex6_of};
 ghost use Rattle.ga_node.specs.Record.{record_of};
@@ -17,9 +17,8 @@ ghost use Rattle.ga_explorer.specs.Around.{behind_text, passed_text, place_text,
 use crate::deed_text::push_deed;
 use crate::tail_text::say_walk_tail;
 use arrayvec::ArrayVec;
-use ga_console::{
-    Output, Text, WORD_ROOM, WriteFailed, push_spaced, push_step, push_text, refusal,
-};
+use ga_console::{Output, WriteFailed, refusal};
+use ga_text::{Text, WORD_ROOM, push_spaced, push_step, push_text};
 use ga_grid::NodeId;
 use ga_lab::{Lab, LabFault, Made, Walk};
 use ga_node::{Node, Place};

@@ -1,7 +1,7 @@
 //! The steps at which a value decided where a node went on, told line by line.
 
 ghost use Rattle.std.specs.Prelude.{◌≡◌, ◌+◌, ◌-◌, ◌≤◌, ◌<◌, ◌^◌, ◌++◌};
-ghost use Rattle.ga_image.specs.Lines.{Bytes};
+ghost use Rattle.ga_text.specs.Lines.{Bytes};
 ghost use Rattle.arrayvec.specs.ArrayVec.{array_vec_len};
 ghost use Rattle.ga_lab.specs.Machine.{standing};
 ghost use Rattle.ga_console.specs.Texts.{register_text};
@@ -15,9 +15,8 @@ use crate::part_text::{PART_ROOM, push_part};
 use crate::tail_text::say_step_tail;
 use crate::whence_text::say_row;
 use arrayvec::ArrayVec;
-use ga_console::{
-    Output, Text, WORD_ROOM, WriteFailed, push_spaced, push_step, push_text, refusal,
-};
+use ga_console::{Output, WriteFailed, refusal};
+use ga_text::{Text, WORD_ROOM, push_spaced, push_step, push_text};
 use ga_flow::Part;
 use ga_grid::NodeId;
 use ga_lab::{Lab, LabFault, Made, Walk};

@@ -1,6 +1,6 @@
 //! The front of a session: an image or source is read, and opened.
 ghost use Rattle.std.specs.Prelude.{◌≡◌, ◌++◌, [], Some};
-ghost use Rattle.ga_image.specs.Lines.{Bytes};
+ghost use Rattle.ga_text.specs.Lines.{Bytes};
 ghost use Rattle.ga_console.specs.Input.{IsWithin};
 ghost use Rattle.ga_explorer.specs.Opening.{IsBegun};
 ghost use Rattle.ga_explorer.specs.kept.Opening.{IsOpened};

@@ -3,9 +3,9 @@
 ghost use Rattle.std.specs.Prelude.{◌≡◌};
 ghost use Rattle.ga_explorer.specs.Reading.{condition_in, lone_condition, named_condition, steps_in, passes_in, passed_in, holds_in, comes_in, reaches_in, writes_to_in, written_in, address_in, label_in, equal_in, word_in};
 
-use ga_console::{cut, node_of, number_of};
+use ga_text::{cut, node_of, number_of};
 use ga_grid::NodeId;
-use ga_image::byte_of;
+use ga_text::byte_of;
 use ga_notes::Notes;
 use ga_search::Condition;
 use ga_word::Word18;

@@ -1,14 +1,15 @@
 //! What a rollback would take, told line by line.
 
 ghost use Rattle.std.specs.Prelude.{◌≡◌, ◌++◌};
-ghost use Rattle.ga_image.specs.Lines.{Bytes};
+ghost use Rattle.ga_text.specs.Lines.{Bytes};
 ghost use Rattle.ga_console.specs.Output.{IsSaid, IsSaidOrCut};
 ghost use Rattle.ga_console.specs.kept.Output.{Says};
 ghost use Rattle.ga_explorer.specs.Texts.{effect_text, effects_head, effects_text};
 ghost use Rattle.ga_explorer.specs.Answers.{TellsEffects};
 
 use arrayvec::ArrayVec;
-use ga_console::{Output, Text, WriteFailed, push_number, push_step, push_text, refusal};
+use ga_console::{Output, WriteFailed, refusal};
+use ga_text::{Text, push_number, push_step, push_text};
 use ga_grid::NodeId;
 use ga_lab::Lab;
 use ga_search::{Effect, Effects, find_effects};

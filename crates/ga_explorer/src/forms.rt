@@ -1,13 +1,15 @@
 //! The commands of a session of exploring with their forms, what `help` tells of them, and what is said of a line that spells none.
 
 ghost use Rattle.std.specs.Prelude.{◌≡◌, ◌++◌, codes, map, option_map};
-ghost use Rattle.ga_image.specs.Lines.{Bytes};
+ghost use Rattle.ga_text.specs.Lines.{Bytes};
 ghost use Rattle.ga_console.specs.Output.{IsSaid, IsSaidOrCut};
 ghost use Rattle.ga_console.specs.kept.Output.{Says};
 ghost use Rattle.ga_explorer.specs.Forms.{rows, row_text, rows_text, form_in, near_form_in, form_for, is_near, are_exchanged, is_mark, is_return, is_blank, is_upper, cure, no_command};
 ghost use Rattle.ga_explorer.specs.kept.Forms.{entry_of};
 
-use ga_console::{Output, WriteFailed, cut};
+use ga_console::{Output, WriteFailed};
+
+use ga_text::cut;
 use std::io::Write;
 
 /// A command of a session of exploring.

@@ -1,16 +1,15 @@
 //! Steps that could have come out otherwise, told line by line.
 
 ghost use Rattle.std.specs.Prelude.{◌≡◌, ◌≤◌, ◌++◌, length, flat_map};
-ghost use Rattle.ga_image.specs.Lines.{Bytes};
+ghost use Rattle.ga_text.specs.Lines.{Bytes};
 ghost use Rattle.ga_console.specs.Output.{IsSaid, IsSaidOrCut};
 ghost use Rattle.ga_console.specs.kept.Output.{Says};
 ghost use Rattle.ga_search.specs.Readings.{back_of};
 ghost use Rattle.ga_explorer.specs.Races.{race_text, reading_text, side_text, races_head, lines_text, last_line, listed_text, TellsRaces};
 
 use arrayvec::ArrayVec;
-use ga_console::{
-    Output, Text, WriteFailed, push_node, push_number, push_step, push_text, push_word, refusal,
-};
+use ga_console::{Output, WriteFailed, refusal};
+use ga_text::{Text, push_node, push_number, push_step, push_text, push_word};
 use ga_grid::NodeId;
 use ga_lab::Lab;
 use ga_search::{Race, Races, Reading, find_races};

@@ -5,9 +5,9 @@ ghost use Rattle.ga_explorer.specs.Reading.{request_in, lone_request, named_requ
 
 use crate::conditions_request::{Conditions, no_condition};
 use crate::run_request::run_of;
-use ga_console::{cut, node_of, number_of};
+use ga_text::{cut, node_of, number_of};
 use ga_grid::NodeId;
-use ga_image::byte_of;
+use ga_text::byte_of;
 use ga_notes::Notes;
 use ga_search::Schedule;
 

@@ -5,7 +5,7 @@ ghost use Rattle.ga_explorer.specs.Reading.{run_in, lone_order, named_order, see
 
 use crate::conditions_request::{conditions_of, no_condition};
 use crate::request::{MOST_EVENTS, Request};
-use ga_console::{cut, number_of};
+use ga_text::{cut, number_of};
 use ga_notes::Notes;
 use ga_search::Schedule;
 

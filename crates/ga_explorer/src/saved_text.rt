@@ -2,7 +2,7 @@
 
 ghost use Rattle.std.specs.Prelude.{◌≡◌, ◌++◌, flat_map};
 ghost use Rattle.std.specs.List.{slice_get};
-ghost use Rattle.ga_image.specs.Lines.{Bytes};
+ghost use Rattle.ga_text.specs.Lines.{Bytes};
 ghost use Rattle.ga_lab.specs.Forward.{actor_of};
 ghost use Rattle.ga_console.specs.Output.{IsSaid, IsSaidOrCut};
 ghost use Rattle.ga_console.specs.kept.Output.{Says};
@@ -10,7 +10,8 @@ ghost use Rattle.ga_explorer.specs.Saved.{step_line, ended, saved_text};
 ghost use Rattle.ga_explorer.specs.kept.Saved.{actor_in, line_at, cause_line};
 
 use arrayvec::ArrayVec;
-use ga_console::{Output, Text, WriteFailed, push_node, push_text};
+use ga_console::{Output, WriteFailed};
+use ga_text::{Text, push_node, push_text};
 use ga_event::{Cause, Event};
 use ga_grid::NodeId;
 use ga_lab::{Lab, Made};

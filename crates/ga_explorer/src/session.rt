@@ -1,6 +1,6 @@
 //! A whole session of exploring.
 ghost use Rattle.std.specs.Prelude.{◌≡◌, ◌++◌, Some};
-ghost use Rattle.ga_image.specs.Lines.{Bytes};
+ghost use Rattle.ga_text.specs.Lines.{Bytes};
 ghost use Rattle.ga_explorer.specs.Session.{Runs};
 
 use crate::beginning::begin;

@@ -1,7 +1,7 @@
 //! Where a value came from, told line by line.
 
 ghost use Rattle.std.specs.Prelude.{◌≡◌, ◌≤◌, ◌<◌, ◌+◌, ◌++◌, ◌⊎◌, Some, flat_map};
-ghost use Rattle.ga_image.specs.Lines.{Bytes};
+ghost use Rattle.ga_text.specs.Lines.{Bytes};
 ghost use Rattle.arrayvec.specs.ArrayVec.{array_vec_len};
 ghost use Rattle.ga_flow.specs.Flow.{IsPart};
 ghost use Rattle.ga_lab.specs.Machine.{stands, standing};
@@ -15,7 +15,8 @@ use crate::deed_text::{DEED_ROOM, push_deed};
 use crate::part_text::{push_mark, push_part};
 use crate::tail_text::{say_value_tail, say_walk_tail};
 use arrayvec::ArrayVec;
-use ga_console::{Output, STEP_ROOM, Text, WriteFailed, push_node, push_step, push_text, refusal};
+use ga_console::{Output, WriteFailed, refusal};
+use ga_text::{STEP_ROOM, Text, push_node, push_step, push_text};
 use ga_grid::NodeId;
 use ga_lab::{Lab, LabFault, Walk};
 use ga_notes::Notes;

@@ -1,7 +1,7 @@
 //! Who waits for whom, told line by line.
 
 ghost use Rattle.std.specs.Prelude.{◌≡◌, ◌++◌, ◌+◌, ◌≤◌, ◌&&◌, not, if◌then◌else◌, length};
-ghost use Rattle.ga_image.specs.Lines.{Bytes};
+ghost use Rattle.ga_text.specs.Lines.{Bytes};
 ghost use Rattle.arrayvec.specs.ArrayVec.{array_vec_len};
 ghost use Rattle.ga_grid.specs.Grid.{number_in};
 ghost use Rattle.ga_grid.specs.Chip.{records_of};
@@ -13,7 +13,8 @@ ghost use Rattle.ga_explorer.specs.Answers.{TellsWho};
 
 use super::ring_text::say_rings;
 use arrayvec::ArrayVec;
-use ga_console::{NUMBER_ROOM, Output, Text, WriteFailed, push_node, push_number, push_text};
+use ga_console::{Output, WriteFailed};
+use ga_text::{NUMBER_ROOM, Text, push_node, push_number, push_text};
 use ga_grid::{Chip, NodeId, neighbour};
 use ga_lab::Lab;
 use ga_node::{Node, Wait};

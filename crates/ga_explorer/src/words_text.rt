@@ -1,15 +1,14 @@
 //! The words that went over a link, told line by line.
 
 ghost use Rattle.std.specs.Prelude.{◌≡◌, ◌++◌};
-ghost use Rattle.ga_image.specs.Lines.{Bytes};
+ghost use Rattle.ga_text.specs.Lines.{Bytes};
 ghost use Rattle.ga_console.specs.Output.{IsSaid, IsSaidOrCut};
 ghost use Rattle.ga_console.specs.kept.Output.{Says};
 ghost use Rattle.ga_explorer.specs.Texts.{sent_text, words_head, linked_text, words_text};
 
 use arrayvec::ArrayVec;
-use ga_console::{
-    Output, Text, WriteFailed, push_node, push_number, push_spaced, push_step, push_text,
-};
+use ga_console::{Output, WriteFailed};
+use ga_text::{Text, push_node, push_number, push_spaced, push_step, push_text};
 use ga_grid::NodeId;
 use ga_lab::Lab;
 use ga_search::{Sent, Words, are_linked, count_words};

@@ -7,7 +7,8 @@ ghost use Rattle.ga_explorer.specs.Writing.{written_text, cell_writes, writes_te
 
 use crate::deed_text::push_deed;
 use arrayvec::ArrayVec;
-use ga_console::{Output, Text, WriteFailed, push_spaced, push_step, push_text};
+use ga_console::{Output, WriteFailed};
+use ga_text::{Text, push_spaced, push_step, push_text};
 use ga_grid::NodeId;
 use ga_lab::Lab;
 use ga_origin::{CellWrites, Written};

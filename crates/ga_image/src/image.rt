@@ -5,12 +5,12 @@ ghost use Rattle.ga_node.specs.Record.{NodeState};
 ghost use Rattle.ga_grid.specs.Load.{default_chip};
 ghost use Rattle.ga_image.specs.FirstFault.{IsFirstFault};
 ghost use Rattle.ga_image.specs.Grammar.{IsImage};
-ghost use Rattle.ga_image.specs.Lines.{lines_of};
+ghost use Rattle.ga_text.specs.Lines.{lines_of};
 ghost use Rattle.ga_image.specs.Reading.{start, reading, Gives};
 ghost use Rattle.ga_image.specs.Fault.{no_memory};
 
 use super::fault::{ImageCause, ImageFault};
-use super::lines::first_line;
+use ga_text::first_line;
 use super::parser::{Parser, Stage};
 use ga_grid::Chip;
 use std::alloc::Global;

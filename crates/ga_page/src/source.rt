@@ -1,7 +1,7 @@
 //! Source as one call: its image, and its listing.
 
 ghost use Rattle.std.specs.Prelude.{◌≡◌, ◌++◌, length, take};
-ghost use Rattle.ga_image.specs.Lines.{Bytes};
+ghost use Rattle.ga_text.specs.Lines.{Bytes};
 ghost use Rattle.ga_console.specs.Source.{Assembles, Lists};
 ghost use Rattle.ga_console.specs.declared.run.Status.{Status as Ended};
 

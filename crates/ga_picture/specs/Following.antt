@@ -1,6 +1,6 @@
 -- A session whose answers are dropped (docs/REFERENCE.md, "Pictures"; this project's own).
 use Rattle.std.specs.Prelude.{◌≡◌, ℕ, ◌-◌, ◌⊎◌, [], ◌++◌, length, take, codes, Result, Ok, Err}
-use Rattle.ga_image.specs.Lines.{Bytes, Text, Line}
+use Rattle.ga_text.specs.Lines.{Bytes, Text, Line}
 use Rattle.ga_explorer.specs.Tails.{Exploring}
 use Rattle.ga_lab.specs.declared.fault.LabFault.{LabFault}
 use Rattle.ga_lab.specs.declared.fault.LabFault.TheVariants.{Memory}

@@ -1,6 +1,6 @@
 //! A whole session whose answers are dropped.
 ghost use Rattle.std.specs.Prelude.{◌≡◌, ◌-◌, ◌++◌, Some};
-ghost use Rattle.ga_image.specs.Lines.{Bytes};
+ghost use Rattle.ga_text.specs.Lines.{Bytes};
 ghost use Rattle.ga_console.specs.Input.{IsWithin, input_limit};
 ghost use Rattle.ga_picture.specs.Following.{Reaches, Declines};
 ghost use Rattle.ga_picture.specs.kept.Following.{Goes, Ends};

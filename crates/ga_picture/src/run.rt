@@ -1,6 +1,6 @@
 //! A whole session that ends with a picture.
 ghost use Rattle.std.specs.Prelude.{◌≡◌, ◌++◌, Some};
-ghost use Rattle.ga_image.specs.Lines.{Bytes};
+ghost use Rattle.ga_text.specs.Lines.{Bytes};
 ghost use Rattle.ga_picture.specs.Drawn.{Draws, Pictures, IsOut};
 
 use super::follow::{decline, follow_session};

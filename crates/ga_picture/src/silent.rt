@@ -1,6 +1,6 @@
 //! A session that says nothing.
 ghost use Rattle.std.specs.Prelude.{◌≡◌, ◌↔◌, [], Some, Ok, IsTrue};
-ghost use Rattle.ga_image.specs.Lines.{Bytes};
+ghost use Rattle.ga_text.specs.Lines.{Bytes};
 ghost use Rattle.ga_console.specs.Output.{IsSaid};
 ghost use Rattle.ga_console.specs.declared.responder.Turn.TheVariants.{Quit};
 ghost use Rattle.ga_console.specs.kept.Turns.{Turns, AnswersCommand};

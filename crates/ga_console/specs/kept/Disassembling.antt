@@ -5,8 +5,8 @@ use Rattle.ga_word.specs.Word.{hex_digit}
 use Rattle.ga_grid.specs.Grid.{yxx_of}
 use Rattle.ga_grid.specs.Load.{load_p_of}
 use Rattle.ga_node.specs.Record.{NodeState}
-use Rattle.ga_image.specs.Lines.{Bytes, Text}
-use Rattle.ga_image.specs.Spelling.{decimal3_of}
+use Rattle.ga_text.specs.Lines.{Bytes, Text}
+use Rattle.ga_text.specs.Digits.{decimal3_of}
 use Rattle.ga_source.specs.Saying.{has_bytes, Said, is_word, lines_of, said_from}
 
 -- ---- texts that say words

@@ -1,7 +1,6 @@
 -- What reading the image part does.
 use Rattle.std.specs.Prelude.{Bool, true, false}
-use Rattle.ga_image.specs.Lines.{Text, Line}
-use Rattle.ga_console.specs.Lines.{ended}
+use Rattle.ga_text.specs.Lines.{Text, Line, ended}
 
 -- a part with its line feed, if it has one
 abbrev pub with_feed : Line → Bool → Text

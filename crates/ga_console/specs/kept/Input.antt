@@ -1,7 +1,6 @@
 -- What was read of an input and is not taken yet, and how more is read.
 use Rattle.std.specs.Prelude.{◌≡◌, ℕ, ◌+◌, ◌<◌, Bool, true, false, length, [], ◌∷◌, ◌++◌}
-use Rattle.ga_image.specs.Lines.{Bytes}
-use Rattle.ga_console.specs.Lines.{HasNoFeed}
+use Rattle.ga_text.specs.Lines.{Bytes, HasNoFeed}
 use Rattle.ga_console.specs.declared.input.Fill.{Fill}
 use Rattle.ga_console.specs.declared.input.Fill.TheVariants.{More, End, Past, Failed}
 use Rattle.ga_console.specs.Input.{Unread, input_limit}

@@ -1,6 +1,6 @@
 -- What was said to an output, which gathers it before it writes.
 use Rattle.std.specs.Prelude.{◌++◌, Option, Result}
-use Rattle.ga_image.specs.Lines.{Bytes, Text}
+use Rattle.ga_text.specs.Lines.{Bytes, Text}
 use Rattle.ga_console.specs.declared.output.WriteFailed.{WriteFailed}
 use Rattle.ga_console.specs.Output.{IsSaid, IsSaidOrCut}
 

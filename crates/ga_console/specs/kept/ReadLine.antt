@@ -1,7 +1,6 @@
 -- What the reading of one line does.
 use Rattle.std.specs.Prelude.{◌≡◌, ℕ, ◌+◌, [], ◌∷◌, ◌++◌, length, take, Result, Ok, Err}
-use Rattle.ga_image.specs.Lines.{Bytes, Line, longest}
-use Rattle.ga_console.specs.Lines.{HasNoFeed}
+use Rattle.ga_text.specs.Lines.{Bytes, Line, longest, HasNoFeed}
 use Rattle.ga_console.specs.Input.{Unread, input_limit}
 use Rattle.ga_console.specs.declared.output.WriteFailed.{WriteFailed}
 use Rattle.ga_console.specs.declared.lines.LineEnd.{LineEnd}

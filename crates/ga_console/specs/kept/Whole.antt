@@ -1,6 +1,6 @@
 -- What reading a whole input does.
 use Rattle.std.specs.Prelude.{◌≡◌, ◌++◌, length}
-use Rattle.ga_image.specs.Lines.{Bytes, Text}
+use Rattle.ga_text.specs.Lines.{Bytes, Text}
 use Rattle.ga_console.specs.Input.{input_limit}
 use Rattle.ga_console.specs.Image.{HasNoEnd}
 use Rattle.ga_console.specs.Source.{IsReadWhole}

@@ -1,5 +1,5 @@
 use Rattle.std.proofs.Common.{ℕ, List, subst}
-use Rattle.ga_image.specs.Lines.{lines_of}
+use Rattle.ga_text.specs.Lines.{lines_of}
 use Rattle.ga_image.specs.Grammar.{IsImage}
 use Rattle.ga_console.proofs.SourceNames.{is_source}
 use Rattle.ga_console.proofs.disassembly.source_for.Goals as goal

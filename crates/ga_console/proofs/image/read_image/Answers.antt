@@ -1,7 +1,7 @@
 use Rattle.std.proofs.Common.{◌≡◌, ℕ, ◌-◌, Bool, true, false, List, [], ◌∷◌, ◌++◌, length, take, drop, sym, ap, ◌∙◌, subst, arith, length-append, append_assoc}
-use Rattle.ga_console.proofs.PartLemmas.{where_err}
+use Rattle.ga_text.proofs.PartLemmas.{where_err}
 use Rattle.std.proofs.lemmas.Bool.{false≢true}
-use Rattle.ga_console.specs.Lines.{ended}
+use Rattle.ga_text.specs.Lines.{ended}
 use Rattle.ga_console.specs.kept.Input.{TakesPart}
 use Rattle.ga_console.specs.Input.{Unread}
 use Rattle.ga_console.specs.kept.Image.{with_feed}

@@ -1,5 +1,5 @@
 use Rattle.std.proofs.Common.{◌∙◌, ◌++◌, ℕ, List, ap, codes, ◌∷◌, []}
-use Rattle.ga_image.specs.Spelling.{decimal3_of}
+use Rattle.ga_text.specs.Digits.{decimal3_of}
 use Rattle.ga_grid.specs.Grid.{yxx_of}
 use Rattle.ga_console.proofs.Telling.{grown, says_node}
 use Rattle.ga_console.proofs.listing.push_node.Goals as goal

@@ -1,0 +1,9 @@
+pub mod Feeds
+pub mod Cells
+pub mod Numbers
+pub mod DigitLemmas
+pub mod TableLemmas
+pub mod TextLemmas
+pub mod PartLemmas
+pub mod Cuts
+pub mod Taking
