@@ -370,7 +370,6 @@ WRONG = (
     (PICTURES, '["black"] * bool(view.cause)', '["black"]'),
     (PICTURES, "(row.looked or at in named or row.out)", "(row.looked or row.out)"),
     (PICTURES, 'row.kind() in ("fetch", "run") and not', 'row.kind() in ("fetch", "run", "wait") and not'),
-    (PICTURES, "run and run[-1].colour == row.colour:", "run:"),
     (PICTURES, "last.update((node, None) for node in row.sees)", "last.update((node, None) for node in row.event)"),
     (PICTURES, "len(run) >= fold", "len(run) > fold"),
     (PICTURES, "int(step) + self.many - 1", "int(step) + self.many"),
