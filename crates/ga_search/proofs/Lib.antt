@@ -23,3 +23,7 @@ pub mod Racing
 pub mod Acting
 pub mod Placed
 mod Alike
+pub mod Earlier
+pub mod Fronts
+pub mod Backing
+pub mod FoundSteps

@@ -55,7 +55,7 @@ abbrev is_of_told : ℕ → Option Made → Bool
 is_of_told n None = false
 is_of_told n (Some m) = is_step_of n m
 
-of_made : (before : List Event) (e : Event) (what : Told) (m : Made) (n : ℕ) → made_after before e what ≡ Some m → touches e n ≡ is_step_of n m
+pub of_made : (before : List Event) (e : Event) (what : Told) (m : Made) (n : ℕ) → made_after before e what ≡ Some m → touches e n ≡ is_step_of n m
 of_made before (event.Own node) (Did kind) m n is = or_none (node.number == n) ∙ ap (is_of_told n) is
 of_made before (event.Own node) (Carried word) m n is = absurd (cc)
 of_made before (event.Pass w r side) (Did kind) m n is = absurd (cc)

@@ -52,7 +52,7 @@ pub one_more : (w r : ℕ) (list : List Made) (i : ℕ) (x : Made) → Some x �
     → length (words_after w r 0 (drop i list)) ≡ one_over w r x + length (words_after w r 0 (drop (i + 1) list))
 one_more w r list i x h = ap (λ z. length (words_after w r 0 z)) (read_on list i x h) ∙ one_counted w r x (drop (i + 1) list)
 
-abbrev one_if : Bool → ℕ
+abbrev pub one_if : Bool → ℕ
 one_if b = if b then 1 else 0
 
 at_most_one : (b : Bool) → one_if b ≤ 1
@@ -65,7 +65,7 @@ few_words w r [] = omega arith
 few_words w r (x ∷ xs) = omega (arith, one_counted w r x xs, few_words w r xs, at_most_one (is_over w r x))
 
 -- one event more behind
-behind : (w r : ℕ) (xs : List Made) (x : Made) → length (words_after w r 0 (xs ++ x ∷ [])) ≡ length (words_after w r 0 xs) + one_over w r x
+pub behind : (w r : ℕ) (xs : List Made) (x : Made) → length (words_after w r 0 (xs ++ x ∷ [])) ≡ length (words_after w r 0 xs) + one_over w r x
 behind w r [] x = one_counted w r x [] ∙ (let q : one_over w r x + 0 ≡ 0 + one_over w r x = omega arith in q)
 behind w r (y ∷ xs) x =
     one_counted w r y (xs ++ x ∷ []) ∙ ap (λ (z : ℕ). one_over w r y + z) (behind w r xs x)
@@ -73,10 +73,10 @@ behind w r (y ∷ xs) x =
     ∙ ap (λ (z : ℕ). z + one_over w r x) (sym (one_counted w r y xs))
 
 -- what a node's history has of the last of a list
-abbrev last_of : List Event → Cause × Told → ℕ → List Made
+abbrev pub last_of : List Event → Cause × Told → ℕ → List Made
 last_of before x n = if touches x.0.event n then option_to_list (made_after before x.0.event x.1) else []
 
-history_behind : (before : List Event) (xs : List (Cause × Told)) (x : Cause × Told) (n : ℕ)
+pub history_behind : (before : List Event) (xs : List (Cause × Told)) (x : Cause × Told) (n : ℕ)
     → mades_after before (xs ++ x ∷ []) n ≡ mades_after before xs n ++ last_of (before ++ events_told xs) x n
 history_behind before [] x n = append-nil (last_of before x n) ∙ ap (λ (z : List Event). last_of z x n) (sym (append-nil before))
 history_behind before (y ∷ xs) x n =
@@ -85,7 +85,7 @@ history_behind before (y ∷ xs) x n =
     ∙ sym (append_assoc (last_of before y n) (mades_after (before ++ y.0.event ∷ []) xs n) (last_of (before ++ events_told (y ∷ xs)) x n))
 
 -- an event that doesn't touch the writer carried no word of it
-other_writer : (p q x : Bool) → (p || q) ≡ false → one_if (p && x) ≡ 0
+pub other_writer : (p q x : Bool) → (p || q) ≡ false → one_if (p && x) ≡ 0
 other_writer true q x h = absurd (cc)
 other_writer false q x h = refl
 

@@ -6,3 +6,4 @@ pub mod Ready
 pub mod Writers
 pub mod Readings
 pub mod Acts
+pub mod Backward

@@ -1,6 +1,6 @@
 //! Laws of the definitions, each the contract of a function that does nothing.
 
-ghost use Rattle.std.specs.Prelude.{◌≡◌, ◌≢◌, ◌≤◌, ◌+◌, ◌↔◌, ◌⊎◌, ℕ, Bool, true, false, List, [], ◌++◌, Option, None, Ok, IfSome, IsSome};
+ghost use Rattle.std.specs.Prelude.{◌≡◌, ◌≢◌, ◌<◌, ◌≤◌, ◌+◌, ◌-◌, ◌↔◌, ◌⊎◌, ℕ, Bool, true, false, List, [], ◌++◌, length, Option, Some, None, Ok, IfSome, IsSome};
 ghost use Rattle.std.specs.List.{All};
 ghost use Rattle.ga_ports.specs.declared.side.Side.{Side};
 ghost use Rattle.ga_node.specs.Record.{NodeRecord};
@@ -8,17 +8,18 @@ ghost use Rattle.ga_grid.specs.declared.node_id.NodeId.{NodeId};
 ghost use Rattle.ga_grid.specs.Chip.{record_at};
 ghost use Rattle.ga_event.specs.declared.event.Event.{Event};
 ghost use Rattle.ga_event.specs.Apply.{apply, replay};
-ghost use Rattle.ga_event.specs.Told.{steps_of};
+ghost use Rattle.ga_event.specs.Told.{steps_of, made_in};
 ghost use Rattle.ga_event.specs.Next.{next};
 ghost use Rattle.ga_event.specs.Touches.{touches};
-ghost use Rattle.ga_causal.specs.Dependence.{NoneLooks};
+ghost use Rattle.ga_causal.specs.Dependence.{NoneLooks, place_of};
 ghost use Rattle.ga_races.specs.Orders.{AreOrders, IsAtEnd, HasNoRace};
-ghost use Rattle.ga_lab.specs.Machine.{State, first, chip_of, causes_of, rewound};
+ghost use Rattle.ga_lab.specs.Machine.{State, first, chip_of, causes_of, told_of_kept, rewound, earlier};
 ghost use Rattle.ga_lab.specs.Calls.{MachineCall, called_all, IsReached};
 ghost use Rattle.ga_search.specs.Near.{IsMarkedOrBeside};
 ghost use Rattle.ga_search.specs.Stuck.{AreStuck};
 ghost use Rattle.ga_search.specs.Offered.{offered};
 ghost use Rattle.ga_search.specs.Races.{races_asked, has_looks, first_ready, IsOther};
+ghost use Rattle.ga_search.specs.Backward.{is_asked_held, newest_held, IsNewestHeld, gone_from, number_of_step, undone_often};
 ghost use Rattle.ga_search.specs.Running.{Running, after_events, NeverHolds, HasEnded};
 ghost use Rattle.ga_search.specs.declared.condition.Condition.{Condition};
 ghost use Rattle.ga_search.specs.declared.running.End.{End};
@@ -104,4 +105,27 @@ pub fn slices_are_one_run()
     ensures events { (r : Running) (first second : ℕ) → after_events (after_events r first) second ≡ after_events r (first + second) }
     ensures end { (r : Running) (until : List Condition) (first most second : ℕ) (end : End) → NeverHolds until r first →
         HasEnded (after_events r first) most until second end → HasEnded r (first + most) until (first + second) end }
+{}
+
+/// What is found going back is the newest event behind which one of the conditions held, of those that are asked; and where none is
+/// found, there is none.
+pub fn newest_is_found()
+    ensures some { (until : List Condition) (only : Option NodeId) (s : State) (place : ℕ) → newest_held until only s ≡ Some place →
+        IsNewestHeld until only s (length s.kept) place }
+    ensures none { (until : List Condition) (only : Option NodeId) (s : State) → newest_held until only s ≡ None →
+        (place : ℕ) → place < length s.kept → is_asked_held until only s place ≡ false }
+{}
+
+/// The step of a node that is taken back then is the event that is found, so that its rollback isn't refused: some events go just where
+/// there is one to be found.
+pub fn found_goes()
+    ensures step { (until : List Condition) (node : NodeId) (s : State) (place : ℕ) → newest_held until (Some node) s ≡ Some place →
+        place_of (causes_of s) node.number (number_of_step node.number (made_in (told_of_kept s) place)) ≡ Some place }
+    ensures some { (until : List Condition) (only : Option NodeId) (s : State) →
+        IsSome (gone_from only s (newest_held until only s)) ↔ IsSome (newest_held until only s) }
+{}
+
+/// Going back to a place is as many undos as there are kept events from it on.
+pub fn undos_lead_back()
+    ensures { (s : State) (place : ℕ) → place ≤ length s.kept → undone_often (length s.kept - place) s ≡ earlier s place }
 {}

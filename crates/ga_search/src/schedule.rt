@@ -44,7 +44,7 @@ fn drawn_word(state: u64) -> (u64, u64)
 }
 
 // The node of this number; from 144 on they begin again.
-fn node_at(number: u64) -> NodeId
+pub(crate) fn node_at(number: u64) -> NodeId
     ensures { result ≡ node_id number }
 {
     NodeId::new((number % NODES as u64) as u8)
