@@ -23,7 +23,7 @@ COMMANDS = {
         "run until step 000 5", "run until stop 000", "run until wait 000", "run until mem 000 00 = 00002a", "run until p 000 000001",
         "run until reach 000 000001", "run until change 000 00", "run until change 000 00 = 00002a", "run until stop or wait 000",
         "run 5 until stop or step 000 5 or change 000 00", "effects 000 1", "words 000 001", "writes 000 00", "at 000 1 2", "whence 000 1",
-        "because 000 1", "races", "races 000", "who", "chip", "save", "help", "step 000", "why 000 1 001 5",
+        "because 000 1", "back until stop", "back 000 until wait 000 or stop", "races", "races 000", "who", "chip", "save", "help", "step 000", "why 000 1 001 5",
     ],
 }  # fmt: skip
 PAIRS = {"debug": "step 000\nback\n", "explore": "run 1\nback\n"}

@@ -20,6 +20,7 @@ CONDITION = re.compile(
 )
 MOST_CONDITIONS = 8
 RUN = re.compile(rf"run(?: (greedy|random ({NUMBER})))?(?: ({NUMBER}))?(?: until (.+))?")
+BACK = re.compile(rf"back (?:({NODE}) )?until (.+)")
 RACES = re.compile(rf"races(?: ({NODE}))?")
 ASKED = re.compile(rf"(effects|whence) ({NODE}) ({STEP})|(words) ({NODE}) ({NODE})|(writes) ({NODE}) ({HH})|(at|because) ({NODE}) ({STEP})(?: ([1-9]?[0-9]))?")
 HELP = """\
@@ -41,7 +42,9 @@ races [NNN]           steps that could have come out otherwise, and how
 save                  the kept events as lines of debug
 help [COMMAND]        these lines, or more of one command
 step NNN              make the next event of NNN
-back                  take the newest event back
+back [[NNN] until COND]
+                      take the newest event back; or that behind which COND held last,
+                      with all since; or such a step of NNN, with what depends on it
 rewind NNN K          take step K of NNN back, with all that depends on it
 node NNN              what NNN holds
 mem NNN HH            the word at HH of the memory of NNN
@@ -65,7 +68,7 @@ MORE = {
     "save": ("step NNN for each kept event, the oldest first", "save"),
     "help": ("the command's form and what it does, what it answers, and an example", "help why"),
     "step": ("NNN K and what the step did, or pass WWW K RRR J W: the word W went from WWW to RRR", "step 001"),
-    "back": ("removed 1 kept M: M events are left", "back"),
+    "back": ("removed X kept M: X events went, and M are left; or none, and nothing changes, where COND held behind no event", "back until change 001 20"),
     "rewind": ("removed X kept M: X events went, and M are left", "rewind 001 4"),
     "node": ("the state, the registers and both stacks, the top first", "node 001"),
     "mem": ("mem NNN HH W: RAM below 80, ROM from there on", "mem 001 20"),
@@ -161,22 +164,47 @@ class Explorer(Machine):
         races = RACES.fullmatch(line)
         if races:
             return self.races(races[1] and number_of(races[1]))
-        found = RUN.fullmatch(line)
-        if not found:
-            return None
-        order, seed, most, until = found.groups()
+        found, back = RUN.fullmatch(line), BACK.fullmatch(line)
+        until = back[2] if back else found and found[4]
         conditions = until.split(" or ") if until else []
-        if len(conditions) > MOST_CONDITIONS or not all(map(self.is_condition, conditions)):
+        if not (found or back) or len(conditions) > MOST_CONDITIONS or not all(map(self.is_condition, conditions)):
             return None
+        if back:
+            return self.back_until(back[1] and number_of(back[1]), conditions)
+        order, seed, most, _ = found.groups()
         return self.run(order and order.split(" ")[0], seed and int(seed), int(most) if most else MOST, conditions)
 
     def is_condition(self, text):
         kind, *words = text.split(" ")
         return bool(CONDITION.fullmatch(text)) and (kind not in ("p", "reach") or self.address(*words) is not None)
 
+    @staticmethod
+    def written(conditions):
+        """The nodes whose writes some conditions ask for."""
+        return [number_of(condition.split(" ")[1]) for condition in conditions if condition.startswith("change ")]
+
+    def back_until(self, only, conditions):
+        """Takes back up to right before the newest event, of one node where that is asked, behind which one of the conditions held."""
+        again, newest = Explorer(self.load, self.limit), None
+        again.notes = self.notes
+        for place, event in enumerate(self.events):
+            again.events.append(event)
+            before = {it: again.chip[it].copy() for it in self.written(conditions)}
+            again.apply(event)
+            if only in (None, *event) and any(again.holds(it, again.told[-1], before) for it in conditions):
+                newest = place
+        if newest is None:
+            return "none"
+        if only is not None:
+            return self.rewind(only, sum(only in event for event in self.events[: newest + 1]))
+        gone = len(self.events) - newest
+        self.events = self.events[:newest]
+        self.replay()
+        return f"removed {gone} kept {newest}"
+
     def run(self, order, seed, most, conditions):
         turn, state = 0, seed
-        written = [number_of(condition.split(" ")[1]) for condition in conditions if condition.startswith("change ")]
+        written = self.written(conditions)
         if order == "random":
             word, state = mixed(state)
             turn = word % NODES

@@ -7,11 +7,12 @@ exploring.py --write FOLDER FIRST COUNT: writes those of them as files that have
 
 import pickle
 import random
+import re
 import subprocess
 import sys
 from itertools import zip_longest
 
-from explore import ROWS, STORES, Explorer, number_of
+from explore import NODE, ROWS, STORES, Explorer, number_of
 from files import answer, load_of
 from machine import name
 from notes import Notes
@@ -19,7 +20,7 @@ from sessions import DEFAULT_LIMIT, SECONDS, Generator
 from source import asm
 
 # How often each command comes, of 1000. The others are those of the debugger.
-COMMANDS = {"run": 250, "whence": 180, "because": 100, "at": 80, "races": 40, "writes": 70, "words": 60, "effects": 50, "who": 30, "chip": 20, "save": 10, "help": 6, "wrong": 28, "debug": 80}
+COMMANDS = {"run": 230, "whence": 160, "because": 100, "at": 80, "races": 40, "writes": 70, "words": 60, "effects": 50, "who": 30, "chip": 20, "save": 10, "help": 6, "wrong": 28, "debug": 76, "back": 40}
 WORDS = "dup drop over + and or @ ! @b !b a! pop push 2* 2/ - +* @+ !+ a . 1 5 0x20 0x15555 0x3ffff right left down up".split()
 CALLS = ["x", "'y a!", "'y b!", "0x22 a! !", "0x84 a! @", "io b!", "for x next", "1 for x next", "for +* unext", "2 for . unext", "if dup then", "0 if dup then", "'y push ex", "-if a else over then", "begin dup -until", "+cy + -cy"]
 PARTS = ["\\ a remark", "( and ) ", "  ", "\t", ".."]
@@ -164,11 +165,23 @@ class Session:
         order = self.random.choice(("", "", " greedy", f" random {self.random.randrange(1 << 32)}"))
         return f"run{order} {self.random.choice((1, 5, 30, 200, 400))}" + (f" until {self.conditions(order)}" if self.random.random() < 0.6 else "")
 
+    def back(self):
+        """Back to where conditions hold, such as held behind some kept event; or to any."""
+        machine, draw = self.machine, self.random
+        if draw.random() < 0.7:
+            self.machine = pickle.loads(pickle.dumps(machine))
+            self.machine.events = machine.events[: draw.choice((draw.randrange(len(machine.events)), -9))]
+            self.machine.replay()
+        until = self.conditions("")
+        self.machine = machine
+        named = re.search(NODE, until)
+        return f"back {draw.choice(('', f'{name(self.node())} ', f'{named[0]} ' if named else ''))}until {until}"
+
     def command(self):
         node, number = self.node(), self.random.randrange
         chosen = self.random.choices(list(COMMANDS), list(COMMANDS.values()))[0]
-        if chosen == "run":
-            return self.run()
+        if chosen in ("run", "back"):
+            return self.run() if chosen == "run" else self.back()
         if chosen in ("at", "because"):
             return f"{chosen} {name(node)} {self.step(node)}" + self.random.choice(("", f" {number(4)}", f" {number(100)}"))
         return {

@@ -135,7 +135,7 @@ def clicks(browser, name, dice):
     browser.run(f"const it = document.getElementById('examples'); it.value = {json.dumps(name)}; it.onchange()")
     taken = 0
     for _ in range(CLICKS):
-        what = dice.choices(["step", "round", "run", "until", "choose", "take", "back"], [5, 2, 2, 1, 3, 4, 1])[0]
+        what = dice.choices(["step", "round", "run", "until", "choose", "take", "back", "behind"], [5, 2, 2, 1, 3, 4, 1, 1])[0]
         events = browser.run("return page.session.events.length")
         if what == "step":
             browser.run(f"document.getElementById('n{dice.randrange(8)}{dice.randrange(18):02d}').click(); document.getElementById('step').click()")
@@ -143,6 +143,8 @@ def clicks(browser, name, dice):
             order, until = dice.choice(("rounds", "greedy", "random")), dice.choice(("stop", "wait 000", "p 001 000002", f"step 000 {dice.randrange(1, 60)}"))
             browser.run(f"find('order').value = '{order}'; find('seed').value = '{dice.randrange(9)}'; find('most').value = {dice.randrange(1, 90)}; find('until').value = '{until}'; "
                         + ("find('run').click()" if what == "run" else "page.run(`90 until ${find('until').value}`)"))
+        elif what == "behind":
+            browser.run(f"page.command('back {dice.choice(('', '000 ', '001 '))}until {dice.choice(('wait 001', 'stop or wait 000', f'step 000 {dice.randrange(1, 60)}'))}')")
         elif what in ("round", "back"):
             browser.run(f"document.getElementById('{what}').click()")
         elif events:

@@ -8,7 +8,7 @@ const EVENT = /^(?:(\d{3}) (\d+) (fetch|run ([0-9a-f]{2})|wait|stop (\d+))|pass 
 const NODE = /^node (\d{3}) (run|stop (\d)|(fetch|read|write) ([rdlu-]{4})) p (\w+) a (\w+) b (\w+) i (\w+) slot (\d) carry (\d) io (\w+) d (.*) r (.*)$/;
 // How an event stands to the chosen step: that depends on it, or would go with it.
 const PAST = 1, GOES = 2;
-const KEEPS = /^(step|back|rewind|run)\b/, STEPS_ALONE = /^(step|back)\b/;
+const KEEPS = /^(step|back|rewind|run)\b/, STEPS_ALONE = /^step\b|^back$/;
 const RAN = /^(?:reached|made|quiet|full|memory|spent) (\d+)/;
 // A step that could have come out otherwise, as `races` tells it: the step, what else it could have been, and the commands that make it so.
 const RACE = /^(\d{3}) (\d+) (?:takes|reads) \w+(?: from \d{3})?, (or .*): (rewind (\d{3}) (\d+)), (step \d{3})$/;
@@ -58,13 +58,14 @@ class Session {
     }
     const said = this.core.answer(image, this.limit);
     if (said !== "ready\n") return said === null ? NO_MEMORY : said.trim() || "no image";
-    Object.assign(this, { load, image, told: told.trim(), listing, commands: "", runs: false, said, events: [], steps: {}, traces: {}, loaded: {} });
+    Object.assign(this, { load, image, told: told.trim(), listing, commands: "", is_plain: true, said, events: [], steps: {}, traces: {}, loaded: {} });
     return null;
   }
 
-  // As it was given, with the commands; and as `ga144 debug` reads it, which makes the kept events step by step where there are runs.
+  // As it was given, with the commands; and as `ga144 debug` reads it, which makes the kept events step by step where it doesn't know each
+  // command.
   get text() { return this.load + this.commands; }
-  get script() { return this.image + (this.runs ? lines_of(saved(this.events)) : this.commands); }
+  get script() { return this.image + (this.is_plain ? this.commands : lines_of(saved(this.events))); }
 
   // Asks on a second run of the session. The last answer has all lines that are left. Null for want of memory.
   ask(lines) {
@@ -85,7 +86,7 @@ class Session {
     for (const line of [...lines, null]) {
       if (line && STEPS_ALONE.test(line)) { steps.push(line); continue; }
       if (steps.length) { answers = answers.concat(this.step(steps, this.questions("000")).answers); steps = []; }
-      if (line) answers.push(line.startsWith("run") ? this.run(line) : this.rewind(line));
+      if (line) answers.push(line.startsWith("run") ? this.run(line) : line.startsWith("back") ? this.back_until(line) : this.rewind(line));
     }
     return answers;
   }
@@ -115,16 +116,30 @@ class Session {
     if (!answers || steps.length !== made || events.includes(null)) return made > 1 ? [...this.run(bounded(line, made >> 1)), NO_MEMORY] : [NO_MEMORY];
     for (const it of events) this.keep(it);
     this.record([kept], [ended ? "made " + made : told]);
-    this.runs = true;
+    this.is_plain = false;
     return ended ? [told, NO_MEMORY] : [told];
   }
 
   // A rollback. `effects` tells what it takes.
   rewind(line) {
-    const all = this.ask([line.replace("rewind", "effects"), line]), [told = NO_MEMORY] = all ? all[1] : [], removed = /^removed (\d+)/.exec(told), firsts = {};
+    const all = this.ask([line.replace("rewind", "effects"), line]), [told = NO_MEMORY] = all ? all[1] : [], firsts = {};
+    for (const row of all ? all[0].slice(1) : []) { const [name, step] = row.split(" "); firsts[name] = +step; }
+    return this.leave(line, told, ({ ends: [[name, step]] }) => !(step >= firsts[name]));
+  }
+
+  // `back until`, of all nodes or of one. `save` tells what is left: of each node the first of the events that it makes.
+  back_until(line) {
+    const all = this.ask([line, "save"]), [told = NO_MEMORY] = all ? all[0] : [], counts = {};
+    for (const row of all ? all[1] : []) counts[row] = (counts[row] || 0) + 1;
+    const answer = this.leave(line, told, ({ ends: [[name]] }) => counts["step " + name]-- > 0);
+    if (answer[0].startsWith("removed ")) this.is_plain = false;
+    return answer;
+  }
+
+  // Keeps these events alone, where as many go as was told.
+  leave(line, told, is_left) {
+    const removed = /^removed (\d+)/.exec(told), left = removed && this.events.filter(is_left);
     if (!removed) return [told];
-    for (const row of all[0].slice(1)) { const [name, step] = row.split(" "); firsts[name] = +step; }
-    const left = this.events.filter(({ ends: [[name, step]] }) => !(step >= firsts[name]));
     if (this.events.length - left.length !== +removed[1]) return [NO_MEMORY];
     Object.assign(this, { events: [], steps: {}, traces: {} });
     for (const it of left) this.keep(it);

@@ -4,11 +4,12 @@ use Rattle.std.proofs.Common.{◌≡◌, ◌∙◌, ◌≤◌, ℕ, List, length
 use Rattle.ga_grid.specs.declared.node_id.NodeId.{NodeId}
 use Rattle.ga_lab.specs.Machine.{State}
 use Rattle.ga_search.specs.Conditions.{conditions_asked}
+use Rattle.ga_search.specs.Backward.{newest_held, left_from, gone_from}
 use Rattle.ga_search.specs.Running.{Running, running, after_events, AreMade, HasEnded}
 use Rattle.ga_search.specs.declared.schedule.Schedule.{Schedule}
 use Rattle.ga_search.specs.declared.condition.Condition.{Condition}
 use Rattle.ga_search.specs.declared.running.End.{End}
-use Rattle.ga_explorer.specs.Texts.{run_text, link_words_text, chip_text}
+use Rattle.ga_explorer.specs.Texts.{run_text, back_text, link_words_text, chip_text}
 use Rattle.ga_explorer.specs.Forms.{rows, form_rows_text, command_text}
 use Rattle.ga_explorer.specs.Saved.{saved_text}
 use Rattle.ga_explorer.specs.Writing.{writes_text}
@@ -22,7 +23,7 @@ use Rattle.ga_explorer.specs.Answers.{TellsEffects, TellsWho, Explored}
 use Rattle.ga_explorer.specs.declared.which.Which.{Which}
 use Rattle.ga_explorer.specs.Which.{step_meant}
 use Rattle.ga_explorer.specs.declared.request.ExplorerCommand.{ExplorerCommand}
-use Rattle.ga_explorer.specs.declared.request.ExplorerCommand.TheVariants.{Run, Effects, Words, Writes, At, Whence, Because, Races, Who, Chip, Save, Help, HelpOf}
+use Rattle.ga_explorer.specs.declared.request.ExplorerCommand.TheVariants.{Run, BackUntil, Effects, Words, Writes, At, Whence, Because, Races, Who, Chip, Save, Help, HelpOf}
 
 pub run_done : (s : State) (notes : Option Notes) (asked : ExplorerCommand) (schedule : Schedule) (most bound : ℕ) (given until : List Condition) (many events : ℕ) (end : End) (new : State) (gone : Schedule)
     → asked ≡ Run schedule most given → until ≡ conditions_asked given → many ≡ length until → bound ≡ most → AreMade (running s schedule) events → events ≤ bound
@@ -39,6 +40,16 @@ run_done s notes asked schedule most bound given until many events end new gone 
         state = ap (λ (r : Running). r.state) state;
         text = ap (λ z. run_text z events end) (many_so ∙ ap length given_so);
       },
+      refl,
+    )
+
+pub back_done : (s : State) (notes : Option Notes) (asked : ExplorerCommand) (only : Option NodeId) (until watched : List Condition) (text : List ℕ) (now : State)
+    → asked ≡ BackUntil only until → watched ≡ conditions_asked until → text ≡ back_text (gone_from only s (newest_held watched only s)) (length now.kept)
+    → now ≡ left_from only s (newest_held watched only s) → Explored (exploring s notes) asked text (exploring now notes)
+back_done s notes asked only until watched text now e w t state =
+    subst (λ z. Explored (exploring s notes) z text (exploring now notes)) (sym e) (
+      t ∙ ap (λ (z : List Condition). back_text (gone_from only s (newest_held z only s)) (length now.kept)) w,
+      state ∙ ap (λ (z : List Condition). left_from only s (newest_held z only s)) w,
       refl,
     )
 

@@ -9,6 +9,7 @@ use Rattle.ga_search.specs.Stuck.{AreStuck}
 use Rattle.ga_search.specs.Freed.{IsSubset}
 use Rattle.ga_search.specs.Idle.{MarksIdle}
 use Rattle.ga_search.specs.Conditions.{conditions_asked}
+use Rattle.ga_search.specs.Backward.{newest_held, left_from, gone_from}
 use Rattle.ga_search.specs.Running.{running, after_events, AreMade, HasEnded}
 use Rattle.ga_search.specs.declared.schedule.Schedule.{Schedule}
 use Rattle.ga_search.specs.declared.condition.Condition.{Condition}
@@ -20,7 +21,7 @@ use Rattle.ga_console.specs.declared.command.Command.{Command}
 use Rattle.ga_explorer.specs.Which.{step_meant}
 use Rattle.ga_explorer.specs.Reading.{request_in}
 use Rattle.ga_explorer.specs.Tails.{Exploring}
-use Rattle.ga_explorer.specs.Texts.{run_text, effects_answer, link_words_text, chip_text}
+use Rattle.ga_explorer.specs.Texts.{run_text, back_text, effects_answer, link_words_text, chip_text}
 use Rattle.ga_explorer.specs.Forms.{rows, form_rows_text, command_text, no_command}
 use Rattle.ga_explorer.specs.Waiting.{who_text}
 use Rattle.ga_explorer.specs.Saved.{saved_text}
@@ -30,7 +31,7 @@ use Rattle.ga_explorer.specs.Trees.{TellsWhence}
 use Rattle.ga_explorer.specs.Because.{because_text}
 use Rattle.ga_explorer.specs.Races.{TellsRaces}
 use Rattle.ga_explorer.specs.declared.request.ExplorerCommand.{ExplorerCommand}
-use Rattle.ga_explorer.specs.declared.request.ExplorerCommand.TheVariants.{Run, Effects, Words, Writes, At, Whence, Because, Races, Who, Chip, Save, Help, HelpOf}
+use Rattle.ga_explorer.specs.declared.request.ExplorerCommand.TheVariants.{Run, BackUntil, Effects, Words, Writes, At, Whence, Because, Races, Who, Chip, Save, Help, HelpOf}
 
 -- Events were made in the order of the schedule, at most so many, up to the first after which one of the conditions holds: the text
 -- says how many and why no more, and the machine is the one after them.
@@ -62,6 +63,9 @@ pub record TellsWho (s : State) (answer : Text) : Type 0 where
 -- what is answered to a command of exploring, and what is explored then
 abbrev pub Explored : Exploring → ExplorerCommand → Text → Exploring → Type 0
 Explored e (Run schedule most until) answer new = IsRun e.lab schedule most (conditions_asked until) answer new.lab × (new.notes ≡ e.notes)
+Explored e (BackUntil only until) answer new =
+    (answer ≡ back_text (gone_from only e.lab (newest_held (conditions_asked until) only e.lab)) (length new.lab.kept))
+    × (new.lab ≡ left_from only e.lab (newest_held (conditions_asked until) only e.lab)) × (new.notes ≡ e.notes)
 Explored e (Effects node which) answer new = TellsEffects e.lab node (step_meant e.lab node which) answer × (new ≡ e)
 Explored e (Words from to) answer new = (answer ≡ link_words_text e.lab from to) × (new ≡ e)
 Explored e (Writes node address) answer new = (answer ≡ writes_text e.lab node address) × (new ≡ e)

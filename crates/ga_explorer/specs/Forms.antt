@@ -33,7 +33,7 @@ rows =
     ∷ entry (codes "save") (codes "save") (codes "                  the kept events as lines of debug\n") (codes "answers: step NNN for each kept event, the oldest first\nexample: save\n")
     ∷ entry (codes "help") (codes "help [COMMAND]") (codes "        these lines, or more of one command\n") (codes "answers: the command's form and what it does, what it answers, and an example\nexample: help why\n")
     ∷ entry (codes "step") (codes "step NNN") (codes "              make the next event of NNN\n") (codes "answers: NNN K and what the step did, or pass WWW K RRR J W: the word W went from WWW to RRR\nexample: step 001\n")
-    ∷ entry (codes "back") (codes "back") (codes "                  take the newest event back\n") (codes "answers: removed 1 kept M: M events are left\nexample: back\n")
+    ∷ entry (codes "back") (codes "back [[NNN] until COND]") (codes "\n                      take the newest event back; or that behind which COND held last,\n                      with all since; or such a step of NNN, with what depends on it\n") (codes "answers: removed X kept M: X events went, and M are left; or none, and nothing changes, where COND held behind no event\nexample: back until change 001 20\n")
     ∷ entry (codes "rewind") (codes "rewind NNN K") (codes "          take step K of NNN back, with all that depends on it\n") (codes "answers: removed X kept M: X events went, and M are left\nexample: rewind 001 4\n")
     ∷ entry (codes "node") (codes "node NNN") (codes "              what NNN holds\n") (codes "answers: the state, the registers and both stacks, the top first\nexample: node 001\n")
     ∷ entry (codes "mem") (codes "mem NNN HH") (codes "            the word at HH of the memory of NNN\n") (codes "answers: mem NNN HH W: RAM below 80, ROM from there on\nexample: mem 001 20\n")

@@ -17,7 +17,7 @@ use Rattle.ga_explorer.specs.Forms.{place_of_form}
 use Rattle.ga_explorer.specs.declared.which.Which.{Which}
 use Rattle.ga_explorer.specs.Which.{which_in}
 use Rattle.ga_explorer.specs.declared.request.ExplorerCommand.{ExplorerCommand}
-use Rattle.ga_explorer.specs.declared.request.ExplorerCommand.TheVariants.{Run, Effects, Words, Writes, At, Whence, Because, Races, Who, Chip, Save, Help, HelpOf}
+use Rattle.ga_explorer.specs.declared.request.ExplorerCommand.TheVariants.{Run, BackUntil, Effects, Words, Writes, At, Whence, Because, Races, Who, Chip, Save, Help, HelpOf}
 
 -- how many events are made at most where no number is given
 abbrev pub most_events : ℕ
@@ -284,6 +284,31 @@ run_by notes (Some parts) text = named_order notes parts.0 parts.1 text
 abbrev pub run_in : Option Notes → Line → Option ExplorerCommand
 run_in notes text = run_by notes (cut text) text
 
+-- ---- `back until`
+
+abbrev pub until_back : Option Notes → Option NodeId → Line → Option ExplorerCommand
+until_back notes only text = option_map (BackUntil only) (conditions_in notes text)
+
+-- `until COND or COND ..` behind a node
+unfoldable pub node_back_in : Option Notes → NodeId → Line → Option ExplorerCommand
+node_back_in notes node text = do
+  parts ← cut text
+  if pointwise nat_eq parts.0 (codes "until") then until_back notes (Some node) parts.1 else None
+
+-- the same, or a node before it
+unfoldable pub back_by : Option Notes → Line → Line → Option ExplorerCommand
+back_by notes name text =
+    if pointwise nat_eq name (codes "until") then until_back notes None text
+    else (do
+      node ← node_in name
+      node_back_in notes node text)
+
+-- what stands behind `back`
+unfoldable pub back_in : Option Notes → Line → Option ExplorerCommand
+back_in notes text = do
+  parts ← cut text
+  back_by notes parts.0 parts.1
+
 -- ---- `effects`, `words`, `writes`, `at`, `whence`, `because`, `races` and `help`
 
 -- `NNN K`
@@ -394,6 +419,7 @@ lone_request name =
 unfoldable pub named_request : Option Notes → Line → Line → Option ExplorerCommand
 named_request notes name text =
     if pointwise nat_eq name (codes "run") then run_in notes text
+    else if pointwise nat_eq name (codes "back") then back_in notes text
     else if pointwise nat_eq name (codes "effects") then effects_in text
     else if pointwise nat_eq name (codes "words") then words_request text
     else if pointwise nat_eq name (codes "writes") then writes_in text

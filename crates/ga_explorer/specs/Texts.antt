@@ -1,5 +1,5 @@
 -- The texts of exploring's answers, each line ended by a line feed (docs/REFERENCE.md, "Exploring"; this project's own).
-use Rattle.std.specs.Prelude.{ℕ, zero, suc, ◌+◌, ◌*◌, ◌==◌, nat_lt, if◌then◌else◌, List, [], ◌++◌, length, flat_map, codes, decimal, Result, Ok, Err}
+use Rattle.std.specs.Prelude.{ℕ, zero, suc, ◌+◌, ◌*◌, ◌==◌, nat_lt, if◌then◌else◌, List, [], ◌++◌, length, flat_map, codes, decimal, Option, Some, None, Result, Ok, Err}
 use Rattle.ga_image.specs.Lines.{Text}
 use Rattle.ga_word.specs.Word.{hex6_of}
 use Rattle.ga_ports.specs.Address.{only}
@@ -17,7 +17,7 @@ use Rattle.ga_search.specs.declared.effects.RollbackEffect.{RollbackEffect}
 use Rattle.ga_search.specs.declared.words.Sent.{Sent}
 use Rattle.ga_search.specs.declared.running.End.{End}
 use Rattle.ga_search.specs.declared.running.End.TheVariants.{Reached, Made, Quiet, Refused}
-use Rattle.ga_console.specs.Texts.{made_text, name_of_node, step_text, refusal_text}
+use Rattle.ga_console.specs.Texts.{made_text, removed_text, name_of_node, step_text, refusal_text}
 
 -- ---- `run`
 
@@ -100,6 +100,13 @@ effects_text events effects = effects_head events (length effects) ++ flat_map e
 abbrev pub effects_answer : List RollbackEffect → Result ℕ LabFault → Text
 effects_answer effects (Ok events) = effects_text events effects
 effects_answer effects (Err why) = refusal_text why
+
+-- ---- `back until`
+
+-- how many events went, and how many are kept then; or that none went
+abbrev pub back_text : Option ℕ → ℕ → Text
+back_text (Some gone) kept = removed_text gone kept
+back_text None kept = codes "none\n"
 
 -- ---- `words`
 

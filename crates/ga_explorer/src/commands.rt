@@ -98,9 +98,9 @@ static ROWS: [Row; 22] = [
     },
     Row {
         name: b"back",
-        form: b"back",
-        does: b"                  take the newest event back\n",
-        more: b"answers: removed 1 kept M: M events are left\nexample: back\n",
+        form: b"back [[NNN] until COND]",
+        does: b"\n                      take the newest event back; or that behind which COND held last,\n                      with all since; or such a step of NNN, with what depends on it\n",
+        more: b"answers: removed X kept M: X events went, and M are left; or none, and nothing changes, where COND held behind no event\nexample: back until change 001 20\n",
     },
     Row {
         name: b"rewind",

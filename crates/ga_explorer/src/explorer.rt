@@ -8,6 +8,7 @@ ghost use Rattle.ga_explorer.specs.Answers.{Explored, AnswersOther, IsOfDebugger
 ghost use Rattle.ga_console.specs.kept.Turns.{Turns};
 
 use crate::at_text::say_around;
+use crate::back_text::say_back;
 use crate::because_text::say_because;
 use crate::chip_text::glance;
 use crate::effects_text::say_effects;
@@ -175,6 +176,9 @@ fn explored<W: Write>(
             let watched = conditions_asked(&until);
             let ran = run_schedule(lab, schedule, u64::from(most), watched);
             output.say_blocks(writer, ran_text(&ran, watched.len()).as_slice())
+        }
+        ExplorerCommand::BackUntil { only, until } => {
+            say_back(lab, conditions_asked(&until), only, output, writer)
         }
         ExplorerCommand::Effects { node, which } => {
             let step = which.meant(lab, node);

@@ -2,6 +2,8 @@
 #![tactic(auto)]
 
 mod at_text;
+mod back_request;
+mod back_text;
 mod because_text;
 mod beginning;
 mod chip_text;

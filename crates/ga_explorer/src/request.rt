@@ -3,6 +3,7 @@
 ghost use Rattle.std.specs.Prelude.{◌≡◌};
 ghost use Rattle.ga_explorer.specs.Reading.{request_in, lone_request, named_request, effects_in, words_request, writes_in, at_in, around_in, whence_in, because_in, decided_in, races_in, help_in};
 
+use crate::back_request::back_of;
 use crate::commands::place_of;
 use crate::conditions_request::{Conditions, no_condition};
 use crate::run_request::run_of;
@@ -28,6 +29,11 @@ pub enum ExplorerCommand {
     Run {
         schedule: Schedule,
         most: u32,
+        until: Conditions,
+    },
+    /// `back until`: takes the kept events back up to the newest one behind which a condition held; of a node its newest such step.
+    BackUntil {
+        only: Option<NodeId>,
         until: Conditions,
     },
     /// `effects`: tells what a rollback of a step would take, without taking it.
@@ -115,6 +121,8 @@ fn named_request(notes: &Option<Notes>, name: &[u8], arguments: &[u8]) -> Option
 {
     if name == b"run".as_slice() {
         run_of(notes, arguments)
+    } else if name == b"back".as_slice() {
+        back_of(notes, arguments)
     } else if name == b"effects".as_slice() {
         effects_of(arguments)
     } else if name == b"words".as_slice() {

@@ -1,6 +1,6 @@
 use Rattle.std.proofs.Common.{◌∙◌, length, refl}
 use Rattle.ga_explorer.specs.Texts.{run_text, chip_text}
-use Rattle.ga_explorer.proofs.Done.{run_done, effects_done, words_done, writes_done, at_done, whence_done, because_done, races_done, who_done, save_done, chip_done, help_done, help_of_done}
+use Rattle.ga_explorer.proofs.Done.{run_done, back_done, effects_done, words_done, writes_done, at_done, whence_done, because_done, races_done, who_done, save_done, chip_done, help_done, help_of_done}
 use Rattle.ga_explorer.proofs.Told.{told_as}
 use Rattle.ga_explorer.proofs.explorer.explored.Goals as goal
 
@@ -13,6 +13,15 @@ returns-in-Run g c = λ before said h.
           c.in-Run.is c.conditions_asked-watched.ensures.asked refl c.from.ensures c.run_schedule-ran.ensures.made c.run_schedule-ran.ensures.most c.run_schedule-ran.ensures.end c.run_schedule-ran.ensures.state,
       told_as c.say_blocks.result _ before said c.as_slice.result.now (run_text many ran.events ran.end) c.say_blocks.new.self
           (c.as_slice.ensures.value ∙ c.ran_text.ensures) (c.say_blocks.ensures before said h),
+    )
+
+pub returns-in-BackUntil : goal.returns-in-BackUntil
+returns-in-BackUntil g c = λ before said h.
+    let done = c.say_back.ensures.said before said h in (
+      done.0,
+      back_done c.args.lab.now c.args.notes.now c.args.asked c.in-BackUntil.only c.in-BackUntil.until c.conditions_asked.result.now done.0 c.say_back.new.lab
+          c.in-BackUntil.is c.conditions_asked.ensures.asked done.1 c.say_back.ensures.state,
+      done.2,
     )
 
 pub returns-in-Effects : goal.returns-in-Effects

@@ -1,0 +1,33 @@
+//! Back to where a condition held, and how many events went.
+
+ghost use Rattle.std.specs.Prelude.{◌≡◌, length};
+ghost use Rattle.ga_console.specs.kept.Output.{Says};
+ghost use Rattle.ga_search.specs.Backward.{newest_held, left_from, gone_from};
+ghost use Rattle.ga_explorer.specs.Texts.{back_text};
+
+use ga_console::{Output, WriteFailed};
+use ga_grid::NodeId;
+use ga_lab::Lab;
+use ga_search::{Condition, back_until};
+use std::io::Write;
+
+/// `back until COND`, `back NNN until COND`: takes events back, and says how many went, or that none did.
+///
+/// # Errors
+/// A write failed.
+pub(crate) fn say_back<W: Write>(
+    lab: &mut Lab,
+    until: &[Condition],
+    only: Option<NodeId>,
+    output: &mut Output,
+    writer: &mut W,
+) -> Result<(), WriteFailed>
+    ensures said { Says result (λ text. text ≡ back_text (gone_from only lab.old (newest_held until.now only lab.old)) (length lab.new.kept))
+        (W.contents writer.old) output.old (W.contents writer.new) output.new }
+    ensures state { lab.new ≡ left_from only lab.old (newest_held until.now only lab.old) }
+{
+    match back_until(lab, until, only) {
+        Some(gone) => output.say_removed(writer, gone, lab.counts().kept),
+        None => output.say(writer, b"none\n"),
+    }
+}
