@@ -22,4 +22,6 @@ pub mod Silent
 pub mod Racing
 pub mod Acting
 pub mod Placed
+pub mod Depths
+pub mod Posted
 mod Alike

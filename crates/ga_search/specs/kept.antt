@@ -6,3 +6,5 @@ pub mod Ready
 pub mod Writers
 pub mod Readings
 pub mod Acts
+pub mod Left
+pub mod Besides

@@ -8,6 +8,7 @@ mod edges;
 mod effects;
 mod freed;
 mod idle;
+mod left;
 pub mod laws;
 mod numbers;
 mod offers;
