@@ -239,10 +239,34 @@ impl LeftBeside {
     {
         let are_two = writers.are_two();
         Ok(LeftBeside {
-            right: steps_over(alloc, causes, node, Side::Right, are_two && writers.at(Side::Right))?,
-            down: steps_over(alloc, causes, node, Side::Down, are_two && writers.at(Side::Down))?,
-            left: steps_over(alloc, causes, node, Side::Left, are_two && writers.at(Side::Left))?,
-            up: steps_over(alloc, causes, node, Side::Up, are_two && writers.at(Side::Up))?,
+            right: steps_over(
+                alloc,
+                causes,
+                node,
+                Side::Right,
+                are_two && writers.at(Side::Right),
+            )?,
+            down: steps_over(
+                alloc,
+                causes,
+                node,
+                Side::Down,
+                are_two && writers.at(Side::Down),
+            )?,
+            left: steps_over(
+                alloc,
+                causes,
+                node,
+                Side::Left,
+                are_two && writers.at(Side::Left),
+            )?,
+            up: steps_over(
+                alloc,
+                causes,
+                node,
+                Side::Up,
+                are_two && writers.at(Side::Up),
+            )?,
         })
     }
 

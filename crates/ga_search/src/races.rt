@@ -133,8 +133,12 @@ fn add_over(
             }
             match beside.left.at(side, taken.step) {
                 Some(many) => {
-                    let offer =
-                        offered_behind(lab, (taken.reader, taken.step), side, (other, many));
+                    let offer = offered_behind(
+                        lab,
+                        (taken.reader, taken.step),
+                        side,
+                        (other, many),
+                    );
                     add_from(list, taken, other, offer)
                 }
                 None => match offered(lab, taken.reader, taken.step, side) {
@@ -231,12 +235,7 @@ fn takes_some(lab: &Lab, node: NodeId) -> bool
 }
 
 // Who ever waited to write to the node, and how many of their steps would be left, were each of its steps taken back.
-fn besides_of(
-    alloc: Global,
-    lab: &Lab,
-    causes: &[Cause],
-    node: NodeId,
-) -> Result<Besides, LabFault>
+fn besides_of(alloc: Global, lab: &Lab, causes: &[Cause], node: NodeId) -> Result<Besides, LabFault>
     requires all { causes.now ≡ causes_of lab.now }
     requires few { length causes.now < 2 ^ 32 }
     ensures ok { IfOk result (λ beside. IsBeside lab.now node.number beside) }
