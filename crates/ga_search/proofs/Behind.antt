@@ -3,10 +3,11 @@ use Rattle.std.proofs.Common.{◌≡◌, ℕ, zero, suc, ◌+◌, ◌==◌, cond
 use Rattle.std.specs.Prelude.{option_map, option_and_then, option_to_list, unwrap_or, is_some, take}
 use Rattle.std.specs.List.{slice_get}
 use Rattle.std.proofs.lemmas.Option.{same_Some}
-use Rattle.std.proofs.lemmas.Bool.{le-leb, eqb-true}
+use Rattle.std.proofs.lemmas.Bool.{le-leb, leb-true, and_parts, eqb-true}
 use Rattle.std.proofs.Math.Dec.{leb}
 use Rattle.ga_node.specs.declared.kind.NotReady.{NotReady}
 use Rattle.ga_node.specs.Record.{NodeRecord}
+use Rattle.ga_node.specs.Table.{t}
 use Rattle.ga_ports.specs.declared.side.Side.{Side}
 use Rattle.ga_grid.specs.declared.node_id.NodeId.{NodeId}
 use Rattle.ga_grid.specs.Chip.{record_at}
@@ -37,6 +38,11 @@ abbrev pub IsOf : Made → Event → Type 0
 IsOf (made.Own n k kind) e = (a : NodeId) × (e ≡ event.Own a)
 IsOf (made.Pass w i r j word) e = (side : Side) × (e ≡ event.Pass w r side)
 
+-- and the word of a pass is that of its writer
+abbrev pub IsWordOf : List NodeRecord → Made → Type 0
+IsWordOf c (made.Own n k kind) = Unit {0}
+IsWordOf c (made.Pass w i r j word) = word ≡ t (record_at c w.number)
+
 can_of : (c d : List NodeRecord) (e : Event) (t : Told) → apply c e ≡ Some (d, t) → CanBe c e
 can_of c d e t h = go (refusal_of c e) refl h
   where
@@ -44,9 +50,9 @@ can_of c d e t h = go (refusal_of c e) refl h
     go None is k = is
     go (Some why) is k = absurd (cc)
 
-told_of : (before : List Event) (c d : List NodeRecord) (e : Event) (t : Told) → apply c e ≡ Some (d, t) → (m : Made) × (made_after before e t ≡ Some m) × IsOf m e
-told_of before c d (event.Own a) t h = (_, ap (λ (z : Told). made_after before (event.Own a) z) (sym (after_of c d (event.Own a) t h)), (a, refl))
-told_of before c d (event.Pass w r side) t h = (_, ap (λ (z : Told). made_after before (event.Pass w r side) z) (sym (after_of c d (event.Pass w r side) t h)), (side, refl))
+told_of : (before : List Event) (c d : List NodeRecord) (e : Event) (t : Told) → apply c e ≡ Some (d, t) → (m : Made) × (made_after before e t ≡ Some m) × IsOf m e × IsWordOf c m
+told_of before c d (event.Own a) t h = (_, ap (λ (z : Told). made_after before (event.Own a) z) (sym (after_of c d (event.Own a) t h)), (a, refl), tt)
+told_of before c d (event.Pass w r side) t h = (_, ap (λ (z : Told). made_after before (event.Pass w r side) z) (sym (after_of c d (event.Pass w r side) t h)), (side, refl), refl)
 
 pub record Behind (c : List NodeRecord) (es : List Event) (ts : List (Cause × Told)) (before : List Event) (n k i : ℕ) : Type 0 where
   pub event : Event
@@ -56,6 +62,7 @@ pub record Behind (c : List NodeRecord) (es : List Event) (ts : List (Cause × T
   pub made : Made
   pub told : slice_get (mades_after before ts n) k ≡ Some made
   pub of : IsOf made event
+  pub word : IsWordOf mid made
   pub begun : replay c (take i es) ≡ Some mid
   pub count : steps_of n (take i es) ≡ k
   pub now : List NodeRecord
@@ -97,6 +104,7 @@ more c d e es t ts before n k j i h same adds b = record {
   made = b.made;
   told = same ∙ b.told;
   of = b.of;
+  word = b.word;
   begun = replay-cons c e (take j es) ∙ ap (λ (o : Option (List NodeRecord × Told)). option_and_then (λ first. replay first.0 (take j es)) o) h ∙ b.begun;
   count = steps-cons n e (take j es) ∙ ap (λ (z : ℕ). cond {A = ℕ} (touches e n) 1 0 + z) b.count ∙ adds;
   now = b.now;
@@ -132,6 +140,7 @@ behind (e ∷ es) c last ts before n k i is at =
           made = m.0;
           told = ap (λ (z : List Made). slice_get z 0) (told_first before (cause_of c e, f.told) f.others n m.0 touch m.1);
           of = m.2;
+          word = m.3;
           begun = refl;
           count = refl;
           now = r.now;
@@ -160,6 +169,9 @@ found (Some i) h = (i, refl)
 pub stands_within : (s : State) (n k : ℕ) → 0 < k → k ≤ steps_of n s.kept → stands s n k ≡ true
 stands_within s n k first within = ap (λ (b : Bool). b && leb k (steps_of n s.kept)) (le-leb 1 k first) ∙ le-leb k (steps_of n s.kept) within
 
+pub stands_many : (s : State) (n k : ℕ) → stands s n k ≡ true → k ≤ steps_of n s.kept
+stands_many s n k on = leb-true k (steps_of n s.kept) ((and_parts (leb 1 k) (leb k (steps_of n s.kept)) on).1)
+
 pub chip_at : (o : Option (List NodeRecord)) (c : List NodeRecord) → o ≡ Some c → unwrap_or o [] ≡ c
 chip_at o c h = ap (λ (z : Option (List NodeRecord)). unwrap_or z []) h
 
@@ -171,6 +183,7 @@ pub record TakenBack (s : State) (n p : ℕ) : Type 0 where
   pub made : Made
   pub told : slice_get (history_of s n) p ≡ Some made
   pub of : IsOf made event
+  pub word : IsWordOf mid made
   pub same : record_at mid n ≡ record_at (chip_of (rewound s n (suc p))) n
   pub place : ℕ
   pub count : steps_of n (take place s.kept) ≡ p
@@ -185,6 +198,7 @@ taken_back s runs n p within = record {
   made = b.made;
   told = ap (λ (z : List (Cause × Told)). slice_get (mades_of z n) p) (told_is s runs) ∙ b.told;
   of = b.of;
+  word = b.word;
   same = b.same ∙ sym (ap (λ z. record_at z n) (chip_at (replay s.load (rewound s n (suc p)).kept) b.now led));
   place = there.0;
   count = b.count;

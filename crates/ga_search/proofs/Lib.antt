@@ -22,6 +22,8 @@ pub mod Silent
 pub mod Racing
 pub mod Acting
 pub mod Placed
+pub mod Depths
+pub mod Posted
 mod Alike
 pub mod Earlier
 pub mod Fronts

@@ -11,15 +11,16 @@ use Rattle.ga_event.specs.declared.event.Event.{Event}
 use Rattle.ga_event.specs.Touches.{touches}
 use Rattle.std.proofs.lemmas.Bool.{cases_eq}
 use Rattle.ga_event.specs.Told.{steps_of}
-use Rattle.ga_lab.specs.Machine.{State, Standing, standing, chip_of, earlier, rewound}
+use Rattle.ga_lab.specs.Machine.{State, Standing, standing, chip_of, earlier, rewound, stands}
 use Rattle.ga_search.specs.Offered.{offered_by, offered}
 use Rattle.ga_node.specs.Waits.{wait_of}
 use Rattle.ga_grid.specs.declared.node_id.NodeId.{NodeId}
 use Rattle.ga_lab.proofs.Called.{Runs}
+use Rattle.ga_lab.proofs.Reasons.{stands_counted}
 use Rattle.ga_search.specs.Races.{race_from, races_over}
 use Rattle.ga_search.specs.declared.races.Race.{Race}
 use Rattle.ga_search.proofs.Standing.{stands_somewhere, steps-cons}
-use Rattle.ga_search.proofs.Behind.{TakenBack, taken_back}
+use Rattle.ga_search.proofs.Behind.{TakenBack, taken_back, stands_many}
 
 -- it didn't wait to write where it had made so many steps
 abbrev pub IsSilentAt : State → ℕ → Side → ℕ → Type 0
@@ -39,24 +40,28 @@ both_none true true o h = absurd (cc)
 both_none true false o h = refl
 both_none false c o h = refl
 
--- nor is one offered over a side over which the node didn't wait to read before the step
-pub unread : (s : State) → Runs s → (n p code : ℕ) (side : Side) → p < steps_of n s.kept
-    → ((place : ℕ) → steps_of n (take place s.kept) ≡ p → (record_at (chip_of (earlier s place)) n).wait ≡ wait_of code)
-    → reads_from (wait_of code) side ≡ false → offered (chip_of (rewound s n (suc p))) n side ≡ None
-unread s runs n p code side within held not = go (neighbour_of n side)
+-- nor is one offered over a side over which the node doesn't wait to read
+pub unread : (chip : List NodeRecord) (n : ℕ) (side : Side) → reads_from (record_at chip n).wait side ≡ false → offered chip n side ≡ None
+unread chip n side free = go (neighbour_of n side)
   where
-    chip : List NodeRecord
-    chip = chip_of (rewound s n (suc p))
-
-    b : TakenBack s n p
-    b = taken_back s runs n p within
-
-    free : reads_from (record_at chip n).wait side ≡ false
-    free = ap (λ (z : NodeRecord). reads_from z.wait side) (sym b.same ∙ sym b.stood) ∙ ap (λ z. reads_from z side) (held b.place b.count) ∙ not
-
     go : (o : Option ℕ) → offered_by chip n side o ≡ None
     go None = refl
     go (Some w) = both_none (writes_to (record_at chip w).wait side) (reads_from (record_at chip n).wait side) (Some (t (record_at chip w))) free
+
+-- what the node waits for where its step is taken back is what it waited for before the step
+pub waited : (s : State) → Runs s → (n k code : ℕ) → stands s n k ≡ true → ((place : ℕ) → steps_of n (take place s.kept) ≡ k - 1 → (record_at (chip_of (earlier s place)) n).wait ≡ wait_of code)
+    → (record_at (chip_of (rewound s n k)) n).wait ≡ wait_of code
+waited s runs n zero code on held = absurd (let q = stands_counted s n 0 on in omega (arith, q))
+waited s runs n (suc p) code on held =
+    let b : TakenBack s n p = taken_back s runs n p (let q = stands_many s n (suc p) on in omega (arith, q)) in
+    ap (λ (z : NodeRecord). z.wait) (sym b.same ∙ sym b.stood) ∙ held b.place (b.count ∙ (let q : p ≡ suc p - 1 = omega arith in q))
+
+pub stood_then : (s : State) → Runs s → (n k : ℕ) (then : NodeRecord) → stands s n k ≡ true → ((place : ℕ) → steps_of n (take place s.kept) ≡ k - 1 → then ≡ record_at (chip_of (earlier s place)) n)
+    → then ≡ record_at (chip_of (rewound s n k)) n
+stood_then s runs n zero then on held = absurd (let q = stands_counted s n 0 on in omega (arith, q))
+stood_then s runs n (suc p) then on held =
+    let b : TakenBack s n p = taken_back s runs n p (let q = stands_many s n (suc p) on in omega (arith, q)) in
+    held b.place (b.count ∙ (let q : p ≡ suc p - 1 = omega arith in q)) ∙ b.stood ∙ b.same
 
 pub none_over : (s : State) (r : NodeId) (k : ℕ) (w : NodeId) (word : ℕ) (side : Side) → offered (chip_of (rewound s r.number k)) r.number side ≡ None → races_over s r k w word side ≡ []
 none_over s r k w word side h = ap (race_from r k w word (neighbour_of r.number side)) h ∙ go (neighbour_of r.number side)
@@ -67,7 +72,7 @@ none_over s r k w word side h = ap (race_from r k w word (neighbour_of r.number 
 
 -- ---- on the walk back
 
-steps_take : (n : ℕ) (es : List Event) (p : ℕ) → steps_of n (take p es) ≤ steps_of n es
+pub steps_take : (n : ℕ) (es : List Event) (p : ℕ) → steps_of n (take p es) ≤ steps_of n es
 steps_take n es zero = omega arith
 steps_take n [] (suc p) = omega arith
 steps_take n (e ∷ es) (suc p) =

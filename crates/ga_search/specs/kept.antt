@@ -7,3 +7,5 @@ pub mod Writers
 pub mod Readings
 pub mod Acts
 pub mod Backward
+pub mod Left
+pub mod Besides

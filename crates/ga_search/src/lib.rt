@@ -10,6 +10,7 @@ mod freed;
 mod going_back;
 mod idle;
 pub mod laws;
+mod left;
 mod numbers;
 mod offers;
 mod past;

@@ -6,10 +6,11 @@ ghost use Rattle.ga_event.specs.Told.{steps_of};
 ghost use Rattle.ga_lab.specs.Machine.{State, chip_of, causes_of, stands};
 ghost use Rattle.std.specs.List.{All};
 ghost use Rattle.ga_search.specs.Readings.{IsTold};
-ghost use Rattle.ga_search.specs.kept.Writers.{AreSilent};
+ghost use Rattle.ga_search.specs.kept.Besides.{IsBeside};
 ghost use Rattle.ga_search.specs.Races.{race_from, races_over, races_around, races_told, races_of, races_below, races_asked, has_look, looks_next, has_next_look, has_looks, first_ready};
 
-use crate::offers::offered;
+use crate::left::LeftBeside;
+use crate::offers::{offered, offered_behind};
 use crate::readings::{Reading, find_readings};
 use crate::ready::{first_from, ready_nodes};
 use crate::writers::{Writers, may_come, writers_of};
@@ -60,6 +61,13 @@ struct Taken {
     word: Word18,
 }
 
+// Who ever waited to write to a node, and how many of their steps would be left, were each of its steps taken back.
+#[derive(Drop)]
+struct Besides {
+    writers: Writers,
+    left: LeftBeside,
+}
+
 // Puts a race at the end of a list.
 fn add(list: &mut Vec<Race>, race: Race) -> Result<(), LabFault>
     ensures ok { OnOk result (list.new.items ≡ list.old.items ++ race ∷ []) }
@@ -104,18 +112,18 @@ fn add_from(
 fn add_over(
     list: &mut Vec<Race>,
     lab: &mut Lab,
-    writers: &Writers,
+    beside: &Besides,
     taken: &Taken,
     side: Side,
 ) -> Result<(), LabFault>
-    requires silent { AreSilent lab.old taken.now.reader.number writers.now }
+    requires beside { IsBeside lab.old taken.now.reader.number beside.now }
     requires stands { stands lab.old taken.now.reader.number taken.now.step ≡ true }
     ensures ok { OnOk result (list.new.items ≡ list.old.items
         ++ races_over lab.old taken.now.reader taken.now.step taken.now.writer taken.now.word side) }
     ensures err { IfErr result (λ why. why ≡ LabFault.Memory) }
     ensures same { lab.new ≡ lab.old }
 {
-    if !may_come(lab, writers, taken.reader, taken.step, side) {
+    if !may_come(lab, &beside.writers, taken.reader, taken.step, side) {
         return Ok(());
     }
     match neighbour(taken.reader, side) {
@@ -123,9 +131,20 @@ fn add_over(
             if other.number == taken.writer.number {
                 return Ok(());
             }
-            match offered(lab, taken.reader, taken.step, side) {
-                Ok(offer) => add_from(list, taken, other, offer),
-                Err(_) => Ok(()),
+            match beside.left.at(side, taken.step) {
+                Some(many) => {
+                    let offer = offered_behind(
+                        lab,
+                        (taken.reader, taken.step),
+                        side,
+                        (other, many),
+                    );
+                    add_from(list, taken, other, offer)
+                }
+                None => match offered(lab, taken.reader, taken.step, side) {
+                    Ok(offer) => add_from(list, taken, other, offer),
+                    Err(_) => Ok(()),
+                },
             }
         }
         None => Ok(()),
@@ -136,20 +155,20 @@ fn add_over(
 fn add_around(
     list: &mut Vec<Race>,
     lab: &mut Lab,
-    writers: &Writers,
+    beside: &Besides,
     taken: &Taken,
 ) -> Result<(), LabFault>
-    requires silent { AreSilent lab.old taken.now.reader.number writers.now }
+    requires beside { IsBeside lab.old taken.now.reader.number beside.now }
     requires stands { stands lab.old taken.now.reader.number taken.now.step ≡ true }
     ensures ok { OnOk result (list.new.items ≡ list.old.items
         ++ races_around lab.old taken.now.reader taken.now.step taken.now.writer taken.now.word) }
     ensures err { IfErr result (λ why. why ≡ LabFault.Memory) }
     ensures same { lab.new ≡ lab.old }
 {
-    add_over(list, lab, writers, taken, Side::Right)?;
-    add_over(list, lab, writers, taken, Side::Down)?;
-    add_over(list, lab, writers, taken, Side::Left)?;
-    add_over(list, lab, writers, taken, Side::Up)?;
+    add_over(list, lab, beside, taken, Side::Right)?;
+    add_over(list, lab, beside, taken, Side::Down)?;
+    add_over(list, lab, beside, taken, Side::Left)?;
+    add_over(list, lab, beside, taken, Side::Up)?;
     Ok(())
 }
 
@@ -157,12 +176,12 @@ fn add_around(
 fn add_told(
     list: &mut Vec<Race>,
     lab: &mut Lab,
-    writers: &Writers,
+    beside: &Besides,
     node: NodeId,
     step: u32,
     made: &Made,
 ) -> Result<(), LabFault>
-    requires silent { AreSilent lab.old node.number writers.now }
+    requires beside { IsBeside lab.old node.number beside.now }
     requires stands { stands lab.old node.number step ≡ true }
     ensures ok { OnOk result (list.new.items ≡ list.old.items ++ races_told lab.old node step (Some made.now)) }
     ensures err { IfErr result (λ why. why ≡ LabFault.Memory) }
@@ -181,7 +200,7 @@ fn add_told(
                 writer: *writer,
                 word: *word,
             };
-            add_around(list, lab, writers, &taken)
+            add_around(list, lab, beside, &taken)
         }
         _ => Ok(()),
     }
@@ -215,8 +234,28 @@ fn takes_some(lab: &Lab, node: NodeId) -> bool
     false
 }
 
+// Who ever waited to write to the node, and how many of their steps would be left, were each of its steps taken back.
+fn besides_of(alloc: Global, lab: &Lab, causes: &[Cause], node: NodeId) -> Result<Besides, LabFault>
+    requires all { causes.now ≡ causes_of lab.now }
+    requires few { length causes.now < 2 ^ 32 }
+    ensures ok { IfOk result (λ beside. IsBeside lab.now node.number beside) }
+    ensures err { IfErr result (λ why. why ≡ LabFault.Memory) }
+{
+    let writers = writers_of(lab, node);
+    let left = LeftBeside::of(alloc, causes, node, &writers)?;
+    Ok(Besides { writers, left })
+}
+
 // Adds the races of a node.
-fn add_node(list: &mut Vec<Race>, lab: &mut Lab, node: NodeId) -> Result<(), LabFault>
+fn add_node(
+    alloc: Global,
+    list: &mut Vec<Race>,
+    lab: &mut Lab,
+    causes: &[Cause],
+    node: NodeId,
+) -> Result<(), LabFault>
+    requires all { causes.now ≡ causes_of lab.old }
+    requires few { length causes.now < 2 ^ 32 }
     ensures ok { OnOk result (list.new.items ≡ list.old.items ++ races_of lab.old node) }
     ensures err { IfErr result (λ why. why ≡ LabFault.Memory) }
     ensures same { lab.new ≡ lab.old }
@@ -225,10 +264,10 @@ fn add_node(list: &mut Vec<Race>, lab: &mut Lab, node: NodeId) -> Result<(), Lab
         return Ok(());
     }
     let steps = lab.steps(node);
-    let writers = writers_of(lab, node);
+    let beside = besides_of(alloc, lab, causes, node)?;
     'steps: for place in 0..steps {
         match lab.told(node, place) {
-            Some(made) => add_told(list, lab, &writers, node, place + 1, &made)?,
+            Some(made) => add_told(list, lab, &beside, node, place + 1, &made)?,
             None => return Ok(()),
         }
     }
@@ -236,13 +275,20 @@ fn add_node(list: &mut Vec<Race>, lab: &mut Lab, node: NodeId) -> Result<(), Lab
 }
 
 // The races of all nodes.
-fn add_nodes(list: &mut Vec<Race>, lab: &mut Lab) -> Result<(), LabFault>
+fn add_nodes(
+    alloc: Global,
+    list: &mut Vec<Race>,
+    lab: &mut Lab,
+    causes: &[Cause],
+) -> Result<(), LabFault>
+    requires all { causes.now ≡ causes_of lab.old }
+    requires few { length causes.now < 2 ^ 32 }
     ensures ok { OnOk result (list.new.items ≡ list.old.items ++ races_below lab.old 144) }
     ensures err { IfErr result (λ why. why ≡ LabFault.Memory) }
     ensures same { lab.new ≡ lab.old }
 {
     'nodes: for number in 0..144u8 {
-        add_node(list, lab, NodeId::new(number))?;
+        add_node(alloc, list, lab, causes, NodeId::new(number))?;
     }
     Ok(())
 }
@@ -303,22 +349,29 @@ fn kept_causes(lab: &Lab) -> Result<Vec<Cause>, LabFault>
 }
 
 // The steps of a node, or of all, by which it took a word where another neighbour could have given it one.
-fn find_taken(alloc: Global, lab: &mut Lab, only: Option<NodeId>) -> Result<Vec<Race>, LabFault>
+fn find_taken(
+    alloc: Global,
+    lab: &mut Lab,
+    causes: &[Cause],
+    only: Option<NodeId>,
+) -> Result<Vec<Race>, LabFault>
+    requires all { causes.now ≡ causes_of lab.old }
+    requires few { length causes.now < 2 ^ 32 }
     ensures list { IfOk result (λ list. list.items ≡ races_asked lab.old only) }
     ensures err { IfErr result (λ why. why ≡ LabFault.Memory) }
     ensures same { lab.new ≡ lab.old }
 {
     let mut list = Vec::new(alloc);
     match only {
-        Some(node) => add_node(&mut list, lab, node)?,
-        None => add_nodes(&mut list, lab)?,
+        Some(node) => add_node(alloc, &mut list, lab, causes, node)?,
+        None => add_nodes(alloc, &mut list, lab, causes)?,
     }
     Ok(list)
 }
 
 /// The steps of a node, or of all, by which it took a word where another neighbour could have given it one. Nothing is taken back.
-/// Takes memory for the list, and for a while for a list of all kept events; and time by these, and by what the rollbacks of steps
-/// would take for which another neighbour ever waited to write.
+/// Takes memory for the list, and for a while for a list of all kept events and four numbers for each step of a node; and time by these
+/// events, and again by these for each neighbour of a node that ever waited to write to it, where there are two.
 ///
 /// # Errors
 /// `Memory` alone.
@@ -330,8 +383,8 @@ pub fn find_races(alloc: Global, lab: &mut Lab, only: Option<NodeId>) -> Result<
     ensures err { IfErr result (λ why. why ≡ LabFault.Memory) }
     ensures same { lab.new ≡ lab.old }
 {
-    let list = find_taken(alloc, lab, only)?;
     let causes = kept_causes(lab)?;
+    let list = find_taken(alloc, lab, causes.as_slice(), only)?;
     let looks = has_look(causes.as_slice());
     let readings = find_readings(alloc, lab, causes.as_slice(), looks, only)?;
     Ok(Races {

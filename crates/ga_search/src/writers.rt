@@ -3,13 +3,14 @@
 ghost use Rattle.std.specs.Prelude.{◌≡◌, ◌+◌, ◌<◌, ℕ, true, false, Some, None};
 ghost use Rattle.ga_node.specs.Waits.{wait_of, IsWaitCode};
 ghost use Rattle.ga_event.specs.Apply.{reads_from};
+ghost use Rattle.ga_grid.specs.Chip.{record_at};
 ghost use Rattle.ga_event.specs.Told.{steps_of};
 ghost use Rattle.ga_grid.specs.Grid.{neighbour_of};
 ghost use Rattle.ga_lab.specs.Machine.{chip_of, rewound, stands};
 ghost use Rattle.ga_search.specs.Offered.{offered};
 ghost use Rattle.ga_search.specs.kept.Writers.{at_side, NeverOffers, AreSilent};
 
-use ga_event::is_writing;
+use ga_event::{is_reading, is_writing};
 use ga_grid::{NodeId, neighbour};
 use ga_lab::Lab;
 use ga_node::Place;
@@ -25,6 +26,13 @@ pub(crate) struct Writers {
 }
 
 impl Writers {
+    /// Whether two sides have a flag.
+    pub(crate) fn are_two(&self) -> bool {
+        (self.right && (self.down || self.left || self.up))
+            || (self.down && (self.left || self.up))
+            || (self.left && self.up)
+    }
+
     /// The flag of a side.
     pub(crate) fn at(&self, side: Side) -> bool
         ensures { result ≡ at_side self.now side }
@@ -87,15 +95,27 @@ pub(crate) fn reads_by(code: u32, side: Side) -> bool
     PortSet::of(sides as u8).has(side)
 }
 
-// Whether the node may have waited to read over the side right before its step at this position.
-fn may_read(lab: &Lab, node: NodeId, at: u32, side: Side) -> bool
-    requires { at < steps_of node.number lab.now.kept }
-    ensures { result ≡ false → offered (chip_of (rewound lab.now node.number (at + 1))) node.number side ≡ None }
+// Whether the node waited to read over the side right before its step, by a copy of the node walked back.
+fn read_then(lab: &Lab, node: NodeId, step: u32, side: Side) -> bool
+    requires { stands lab.now node.number step ≡ true }
+    ensures { result ≡ reads_from (record_at (chip_of (rewound lab.now node.number step)) node.number).wait side }
 {
     let _stands = lab.node(node);
-    match lab.overwritten(node, at, Place::Wait) {
+    match lab.peek(node, step - 1) {
+        Some(then) => is_reading(&then.wait(), side),
+        None => false,
+    }
+}
+
+// The same, by what is kept of the step.
+fn reads_before(lab: &Lab, node: NodeId, step: u32, side: Side) -> bool
+    requires { stands lab.now node.number step ≡ true }
+    ensures { result ≡ reads_from (record_at (chip_of (rewound lab.now node.number step)) node.number).wait side }
+{
+    let _stands = lab.node(node);
+    match lab.overwritten(node, step - 1, Place::Wait) {
         Some(code) => reads_by(code, side),
-        None => true,
+        None => read_then(lab, node, step, side),
     }
 }
 
@@ -104,7 +124,11 @@ fn may_read(lab: &Lab, node: NodeId, at: u32, side: Side) -> bool
 pub(crate) fn may_come(lab: &Lab, writers: &Writers, node: NodeId, step: u32, side: Side) -> bool
     requires silent { AreSilent lab.now node.number writers.now }
     requires stands { stands lab.now node.number step ≡ true }
-    ensures { result ≡ false → offered (chip_of (rewound lab.now node.number step)) node.number side ≡ None }
+    ensures none { result ≡ false → offered (chip_of (rewound lab.now node.number step)) node.number side ≡ None }
+    ensures reads { result ≡ true → reads_from (record_at (chip_of (rewound lab.now node.number step)) node.number).wait side ≡ true }
 {
-    writers.at(side) && may_read(lab, node, step - 1, side)
+    if !writers.at(side) {
+        return false;
+    }
+    reads_before(lab, node, step, side)
 }

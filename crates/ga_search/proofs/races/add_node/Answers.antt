@@ -5,7 +5,7 @@ use Rattle.ga_search.specs.declared.races.Race.{Race}
 use Rattle.ga_event.specs.Told.{steps_of}
 use Rattle.ga_lab.specs.Machine.{State, history_of}
 use Rattle.ga_search.specs.Races.{races_told, races_before}
-use Rattle.ga_search.specs.kept.Writers.{AreSilent}
+use Rattle.ga_search.specs.kept.Besides.{IsBeside}
 use Rattle.ga_search.proofs.Behind.{stands_within}
 use Rattle.ga_search.proofs.Racing.{one_more, none_before, told_there}
 use Rattle.ga_search.proofs.races.add_node.Goals as goal
@@ -27,8 +27,8 @@ steps-preserved c =
           (c.in_ok-add_told-in-Some.ensures.ok ∙ ap (λ (z : State). c.steps.list.items ++ races_told z c.args.node (c.steps.place + 1) (Some c.in-Some.made)) c.steps.invariant.same);
     }
 
-pub add_told-requires-clause-silent : goal.add_told-requires-clause-silent
-add_told-requires-clause-silent c = subst (λ (z : State). AreSilent z c.args.node.number c.writers_of-writers.result) (sym c.steps.invariant.same) c.writers_of-writers.ensures
+pub add_told-requires-clause-beside : goal.add_told-requires-clause-beside
+add_told-requires-clause-beside c = subst (λ (z : State). IsBeside z c.args.node.number c.in_ok-beside.beside) (sym c.steps.invariant.same) c.in_ok-beside.ensures.ok
 
 pub add_told-requires-clause-stands : goal.add_told-requires-clause-stands
 add_told-requires-clause-stands c =

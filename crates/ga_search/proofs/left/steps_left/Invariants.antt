@@ -1,0 +1,12 @@
+use Rattle.std.proofs.Common.{◌≡◌, ◌≤◌, take, drop, get_or, ℕ}
+use Rattle.ga_causal.specs.Steps.{touching}
+use Rattle.ga_search.proofs.Depths.{IsGoing}
+use Rattle.ga_search.proofs.left.steps_left.Given as goal
+
+abbrev pub invariant-causes : goal.invariant-causes
+invariant-causes l = record {
+  going : IsGoing l.causes l.node.number l.other.number (λ (n : ℕ). get_or l.depths n 0) l.made l.count l.left.items (drop l.cause-index l.causes);
+  all : l.made ≡ touching l.node.number (take l.cause-index l.causes);
+  made : l.made ≤ l.cause-index;
+  count : l.count ≤ l.cause-index;
+}
