@@ -9,6 +9,7 @@ mod effects;
 mod freed;
 mod idle;
 pub mod laws;
+mod needs;
 mod numbers;
 mod offers;
 mod races;
