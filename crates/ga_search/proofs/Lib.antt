@@ -13,6 +13,7 @@ pub mod Ends
 pub mod WordCounts
 pub mod Newest
 pub mod Held
+pub mod Needing
 pub mod Sessions
 pub mod Standing
 pub mod Offering

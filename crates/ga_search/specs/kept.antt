@@ -3,6 +3,7 @@ pub mod Freed
 pub mod Idle
 pub mod Numbers
 pub mod Ready
+pub mod Needs
 pub mod Writers
 pub mod Readings
 pub mod Acts

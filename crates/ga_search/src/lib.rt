@@ -11,6 +11,7 @@ mod going_back;
 mod idle;
 pub mod laws;
 mod left;
+mod needs;
 mod numbers;
 mod offers;
 mod past;

@@ -10,6 +10,7 @@ ghost use Rattle.ga_search.specs.Schedules.{passed_on};
 ghost use Rattle.ga_search.specs.Running.{running, told, run_moved, after_events, AreMade, IsRefusedFor, IsHalted, HasEnded};
 
 use crate::condition::Condition;
+use crate::needs::need_of;
 use crate::numbers::Numbers;
 use crate::ready::{next_from, ready_nodes, refresh};
 use crate::schedule::Schedule;
@@ -119,6 +120,7 @@ pub fn run_schedule(lab: &mut Lab, mut schedule: Schedule, most: u64, until: &[C
 {
     let mut ready = ready_nodes(lab.chip());
     let mut alone = None;
+    let need = need_of(until);
     let mut words = count_all(until, lab);
     let mut events = 0;
     while events < most {
@@ -126,7 +128,7 @@ pub fn run_schedule(lab: &mut Lab, mut schedule: Schedule, most: u64, until: &[C
             Ok(made) => {
                 events += 1;
                 count_on(until, &mut words, &made, lab);
-                if let Some(which) = first_held(until, &words, &made, lab) {
+                if let Some(which) = first_held(until, need, &words, &made, lab) {
                     let end = End::Reached { made, which };
                     return Ran {
                         events,

@@ -3,8 +3,10 @@
 ghost use Rattle.std.specs.Prelude.{◌≡◌, ◌≤◌, length, Some};
 ghost use Rattle.ga_search.specs.Conditions.{first_held, conditions_asked};
 ghost use Rattle.ga_search.specs.kept.Counted.{AreCounted, WereCounted, newest_told};
+ghost use Rattle.ga_search.specs.kept.Needs.{IsNeeded};
 
 use crate::condition::Condition;
+use crate::needs::{Need, lacks};
 use ga_lab::{Lab, Made};
 
 /// So many conditions at most are watched at once.
@@ -61,12 +63,7 @@ pub(crate) fn count_on(until: &[Condition], words: &mut LinkCounts, made: &Made,
 
 // The place of the first that holds right after what was made, which is the newest event, where so many words are kept.
 #[inline(always)]
-pub(crate) fn first_held(
-    until: &[Condition],
-    words: &LinkCounts,
-    made: &Made,
-    lab: &Lab,
-) -> Option<u8>
+fn first_asked(until: &[Condition], words: &LinkCounts, made: &Made, lab: &Lab) -> Option<u8>
     requires most { length until.now ≤ 8 }
     requires size { length words.now ≡ 8 }
     requires counted { AreCounted until.now lab.now words.now }
@@ -79,4 +76,29 @@ pub(crate) fn first_held(
         }
     }
     None
+}
+
+// The same, where it is known what an event needs.
+#[inline(always)]
+pub(crate) fn first_held(
+    until: &[Condition],
+    need: Need,
+    words: &LinkCounts,
+    made: &Made,
+    lab: &Lab,
+) -> Option<u8>
+    requires needed { IsNeeded need until.now }
+    requires most { length until.now ≤ 8 }
+    requires size { length words.now ≡ 8 }
+    requires counted { AreCounted until.now lab.now words.now }
+    requires newest { newest_told lab.now ≡ Some made.now }
+    ensures { result ≡ first_held until.now made.now lab.now }
+{
+    if until.is_empty() {
+        return None;
+    }
+    if lacks(need, made, lab) {
+        return None;
+    }
+    first_asked(until, words, made, lab)
 }
