@@ -70,12 +70,12 @@ made_split s mid y post last is led =
     none : (m x : ℕ) → x + steps_of m [] ≡ x
     none m x = let z : steps_of m [] ≡ 0 = refl in omega (arith, z)
 
-causes_are : (s : State) (last : List NodeRecord) → replay s.load s.kept ≡ Some last → causes_in (actions s.load s.kept) ≡ causes_of s
+pub causes_are : (s : State) (last : List NodeRecord) → replay s.load s.kept ≡ Some last → causes_in (actions s.load s.kept) ≡ causes_of s
 causes_are s last led =
     let r : Runs s = runs_of s (is_some_of (replay s.load s.kept) last led) in
     causes_of_run s.kept s.load r.last r.told r.run_is ∙ sym (ap (λ (o : Option (List NodeRecord × List (Cause × Told))). map (λ (x : Cause × Told). x.0) (told_by o)) r.run_is)
 
-cause_there : (xs : List Action) (i : ℕ) → i < length xs → event_at (causes_in xs) i ≡ (action_at xs i).cause
+pub cause_there : (xs : List Action) (i : ℕ) → i < length xs → event_at (causes_in xs) i ≡ (action_at xs i).cause
 cause_there xs i l = get_or-map (λ (a : Action). a.cause) xs i no_action no_cause l
 
 pub made_at : (s : State) (last : List NodeRecord) (p : ℕ) (cause : Cause) → replay s.load s.kept ≡ Some last → IsAt s p cause → Made s p cause.event

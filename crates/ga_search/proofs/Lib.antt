@@ -23,6 +23,7 @@ pub mod Silent
 pub mod Racing
 pub mod Acting
 pub mod Placed
+pub mod NearReadings
 pub mod Depths
 pub mod Posted
 mod Alike

@@ -5,7 +5,7 @@ ghost use Rattle.ga_grid.specs.Chip.{records_of};
 ghost use Rattle.ga_event.specs.Told.{steps_of};
 ghost use Rattle.ga_lab.specs.Machine.{State, chip_of, causes_of, stands};
 ghost use Rattle.std.specs.List.{All};
-ghost use Rattle.ga_search.specs.Readings.{IsTold};
+ghost use Rattle.ga_search.specs.Readings.{IsTold, NoneMissed};
 ghost use Rattle.ga_search.specs.kept.Besides.{IsBeside};
 ghost use Rattle.ga_search.specs.Races.{race_from, races_over, races_around, races_told, races_of, races_below, races_asked, has_look, looks_next, has_next_look, has_looks, first_ready};
 
@@ -378,6 +378,7 @@ fn find_taken(
 pub fn find_races(alloc: Global, lab: &mut Lab, only: Option<NodeId>) -> Result<Races, LabFault>
     ensures list { IfOk result (λ races. races.list.items ≡ races_asked lab.old only) }
     ensures readings { IfOk result (λ races. All (IsTold lab.old only) races.readings.items) }
+    ensures none_missed { IfOk result (λ races. NoneMissed lab.old only races.readings.items) }
     ensures looks { IfOk result (λ races. races.looks ≡ has_looks (causes_of lab.old) (chip_of lab.old)) }
     ensures quiet { IfOk result (λ races. races.quiet ≡ is_none (first_ready (chip_of lab.old))) }
     ensures err { IfErr result (λ why. why ≡ LabFault.Memory) }

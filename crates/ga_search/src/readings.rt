@@ -1,6 +1,6 @@
 //! Looks that could have read another word.
 
-ghost use Rattle.std.specs.Prelude.{◌≡◌, ◌≢◌, ◌<◌, ◌≤◌, ◌+◌, ◌^◌, ◌++◌, ◌∷◌, [], ℕ, true, length, take, slice_index, IfSome, IfOk, OnOk, IfErr};
+ghost use Rattle.std.specs.Prelude.{◌≡◌, ◌≢◌, ◌<◌, ◌≤◌, ◌+◌, ◌^◌, ◌++◌, ◌∷◌, [], ℕ, true, false, length, take, slice_index, if◌then◌else◌, Contains, Some, IsSome, IfSome, IfOk, OnOk, IfErr};
 ghost use Rattle.std.specs.List.{All};
 ghost use Rattle.ga_node.specs.Record.{record_of};
 ghost use Rattle.ga_node.specs.Io.{io_word};
@@ -10,17 +10,18 @@ ghost use Rattle.ga_event.specs.Apply.{shows, beside_in, seen_from};
 ghost use Rattle.ga_event.specs.Told.{steps_of};
 ghost use Rattle.ga_causal.specs.Dependence.{event_at};
 ghost use Rattle.ga_causal.specs.Steps.{touching, IsStep};
-ghost use Rattle.ga_lab.specs.Machine.{State, chip_of, causes_of, earlier, rewound};
-ghost use Rattle.ga_search.specs.Races.{looks_next};
-ghost use Rattle.ga_search.specs.Readings.{IsOtherwise, IsTold};
-ghost use Rattle.ga_search.specs.kept.Readings.{AreGone};
+ghost use Rattle.ga_lab.specs.Machine.{State, chip_of, causes_of, earlier, rewound, stands};
+ghost use Rattle.ga_search.specs.Races.{looks_next, has_look};
+ghost use Rattle.ga_search.specs.Readings.{IsOtherwise, IsTold, NoneMissed};
+ghost use Rattle.ga_search.specs.kept.Readings.{AreGone, IsAtNear, part_beside};
 
 use crate::acts::acts_of;
+use crate::counting::are_linked;
 use crate::offers::behind;
 use ga_event::{Cause, Event, is_reading, is_writing, touches};
 use ga_grid::{NodeId, neighbour};
 use ga_lab::{Lab, LabFault};
-use ga_node::{Beside, Seen, Wait};
+use ga_node::{Beside, Node, Seen, Wait};
 use ga_ports::Side;
 use ga_races::{Near, find_near};
 use ga_rollback::Visited;
@@ -74,45 +75,47 @@ fn shows(wait: &Wait, side: Side) -> Beside
     }
 }
 
-// What stood on a side of the node when so many of the kept events had been made.
-fn beside_before(
-    lab: &Lab,
-    causes: &[Cause],
-    place: u32,
-    node: NodeId,
-    side: Side,
-) -> Option<Beside>
+// A node as it stood when so many of the kept events had been made.
+fn node_before(lab: &Lab, causes: &[Cause], place: u32, node: NodeId) -> Node
     requires all { causes.now ≡ causes_of lab.now }
     requires within { place ≤ length causes.now }
-    ensures { IfSome result (λ it. it ≡ beside_in (chip_of (earlier lab.now place)) side (neighbour_of node.number side)) }
+    ensures { record_of result ≡ record_at (chip_of (earlier lab.now place)) node.number }
 {
     let _caused = lab.stands((node, 0));
+    match lab.peek(node, steps_before(causes, place, node)) {
+        Some(then) => then,
+        None => lab.node(node).copy(),
+    }
+}
+
+// What stood on a side of the node then.
+fn beside_before(lab: &Lab, causes: &[Cause], place: u32, node: NodeId, side: Side) -> Beside
+    requires all { causes.now ≡ causes_of lab.now }
+    requires within { place ≤ length causes.now }
+    ensures { result ≡ beside_in (chip_of (earlier lab.now place)) side (neighbour_of node.number side) }
+{
     match neighbour(node, side) {
         Some(other) => {
-            let then = lab.peek(other, steps_before(causes, place, other))?;
-            Some(shows(&then.wait(), side))
+            let then = node_before(lab, causes, place, other);
+            shows(&then.wait(), side)
         }
-        None => Some(Beside::Nobody),
+        None => Beside::Nobody,
     }
 }
 
 // What stood on each of its sides then.
 #[tactic(auto, unfolding(ga_event::specs::Apply::seen_from))]
-fn seen_before(lab: &Lab, causes: &[Cause], place: u32, node: NodeId) -> Option<Seen>
+fn seen_before(lab: &Lab, causes: &[Cause], place: u32, node: NodeId) -> Seen
     requires all { causes.now ≡ causes_of lab.now }
     requires within { place ≤ length causes.now }
-    ensures { IfSome result (λ seen. seen ≡ seen_from (chip_of (earlier lab.now place)) node.number) }
+    ensures { result ≡ seen_from (chip_of (earlier lab.now place)) node.number }
 {
-    let right = beside_before(lab, causes, place, node, Side::Right)?;
-    let down = beside_before(lab, causes, place, node, Side::Down)?;
-    let left = beside_before(lab, causes, place, node, Side::Left)?;
-    let up = beside_before(lab, causes, place, node, Side::Up)?;
-    Some(Seen {
-        right,
-        down,
-        left,
-        up,
-    })
+    Seen {
+        right: beside_before(lab, causes, place, node, Side::Right),
+        down: beside_before(lab, causes, place, node, Side::Down),
+        left: beside_before(lab, causes, place, node, Side::Left),
+        up: beside_before(lab, causes, place, node, Side::Up),
+    }
 }
 
 // What would stand on a side of the node where so many steps of each node went.
@@ -150,6 +153,8 @@ fn looks_behind(lab: &Lab, steps: &Visited, node: NodeId, step: u32) -> bool
     ensures next { result ≡ true → (n k : ℕ) → AreGone lab.now n k steps.now → looks_next (chip_of (rewound lab.now n k)) node.number ≡ true }
     ensures step { result ≡ true → (n k : ℕ) → AreGone lab.now n k steps.now →
         steps_of node.number (rewound lab.now n k).kept + 1 ≡ step }
+    ensures none { result ≡ false → (n k : ℕ) → AreGone lab.now n k steps.now → looks_next (chip_of (rewound lab.now n k)) node.number ≡ true →
+        steps_of node.number (rewound lab.now n k).kept + 1 ≢ step }
 {
     let left = lab.steps(node) - steps.count(node);
     if left >= step || step - left != 1 {
@@ -169,6 +174,8 @@ fn read_behind(lab: &mut Lab, back: (NodeId, u32), node: NodeId, step: u32) -> O
         word ≡ io_word (seen_from (chip_of (rewound lab.old back.0.number back.1)) node.number)) }
     ensures next { IfSome result (λ word. looks_next (chip_of (rewound lab.old back.0.number back.1)) node.number ≡ true) }
     ensures step { IfSome result (λ word. steps_of node.number (rewound lab.old back.0.number back.1).kept + 1 ≡ step) }
+    ensures some { stands lab.old back.0.number back.1 ≡ true → looks_next (chip_of (rewound lab.old back.0.number back.1)) node.number ≡ true →
+        steps_of node.number (rewound lab.old back.0.number back.1).kept + 1 ≡ step → IsSome result }
     ensures same { lab.new ≡ lab.old }
 {
     match lab.would_rewind(back.0, back.1) {
@@ -185,41 +192,56 @@ fn read_behind(lab: &mut Lab, back: (NodeId, u32), node: NodeId, step: u32) -> O
 
 // The node of a look.
 fn looking(cause: &Cause) -> Option<NodeId>
-    ensures { IfSome result (λ node. cause.now ≡ record { event = Event.Own node; look = true }) }
+    ensures node { IfSome result (λ node. cause.now ≡ record { event = Event.Own node; look = true }) }
+    ensures found { (node : NodeId) → cause.now ≡ record { event = Event.Own node; look = true } → result ≡ Some node }
 {
     match cause.event {
-        Event::Own(node) if cause.look => Some(node),
-        _ => None,
-    }
-}
-
-// Whether the second is a neighbour of the first.
-fn is_beside(node: NodeId, other: NodeId) -> bool {
-    is_over(node, Side::Right, other)
-        || is_over(node, Side::Down, other)
-        || is_over(node, Side::Left, other)
-        || is_over(node, Side::Up, other)
-}
-
-// Whether it is the neighbour on that side.
-fn is_over(node: NodeId, side: Side, other: NodeId) -> bool {
-    match neighbour(node, side) {
-        Some(beside) => beside.number == other.number,
-        None => false,
+        Event::Own(node) => { if cause.look { Some(node) } else { None } }
+        Event::Pass { .. } => None,
     }
 }
 
 // Which node of an event is beside another.
-fn neighbour_in(event: Event, node: NodeId) -> NodeId {
+fn part_beside(event: Event, node: NodeId) -> NodeId
+    ensures { result ≡ part_beside event node.number }
+{
     match event {
         Event::Own(own) => own,
         Event::Pass { writer, reader, .. } => {
-            if is_beside(node, writer) {
+            if are_linked(node, writer) {
                 writer
             } else {
                 reader
             }
         }
+    }
+}
+
+// The word that a look would read, were it taken back, where it came before the change, or else the change.
+fn other_word(
+    lab: &mut Lab,
+    early: bool,
+    look: (NodeId, u32),
+    change: (NodeId, u32),
+) -> Option<Word18>
+    ensures word { IfSome result (λ word.
+        let back = if early then look else change in
+        word ≡ io_word (seen_from (chip_of (rewound lab.old back.0.number back.1)) look.0.number)) }
+    ensures next { IfSome result (λ word.
+        let back = if early then look else change in
+        looks_next (chip_of (rewound lab.old back.0.number back.1)) look.0.number ≡ true) }
+    ensures step { IfSome result (λ word.
+        let back = if early then look else change in
+        steps_of look.0.number (rewound lab.old back.0.number back.1).kept + 1 ≡ look.1) }
+    ensures some { let back = if early then look else change in
+        stands lab.old back.0.number back.1 ≡ true → looks_next (chip_of (rewound lab.old back.0.number back.1)) look.0.number ≡ true →
+        steps_of look.0.number (rewound lab.old back.0.number back.1).kept + 1 ≡ look.1 → IsSome result }
+    ensures same { lab.new ≡ lab.old }
+{
+    if early {
+        read_behind(lab, look, look.0, look.1)
+    } else {
+        read_behind(lab, change, look.0, look.1)
     }
 }
 
@@ -230,20 +252,17 @@ fn reading_of(lab: &mut Lab, causes: &[Cause], near: Near) -> Option<Reading>
     requires look { near.look < length causes.now }
     requires change { near.change < length causes.now }
     ensures told { IfSome result (λ reading. IsOtherwise lab.old reading) }
+    ensures found { (reading : Reading) → IsOtherwise lab.old reading → IsAtNear lab.old near reading → result ≡ Some reading }
     ensures same { lab.new ≡ lab.old }
 {
+    let _stands = lab.node(NodeId::new(0));
     let node = looking(&causes[near.look as usize])?;
     let step = steps_before(causes, near.look, node) + 1;
-    let word = seen_before(lab, causes, near.look, node)?.io_word();
-    let neighbour = neighbour_in(causes[near.change as usize].event, node);
+    let word = seen_before(lab, causes, near.look, node).io_word();
+    let neighbour = part_beside(causes[near.change as usize].event, node);
     let change = steps_before(causes, near.change, neighbour) + 1;
     let early = near.look < near.change;
-    let back = if early {
-        (node, step)
-    } else {
-        (neighbour, change)
-    };
-    let other = read_behind(lab, back, node, step)?;
+    let other = other_word(lab, early, (node, step), (neighbour, change))?;
     if other.get() == word.get() {
         return None;
     }
@@ -260,7 +279,8 @@ fn reading_of(lab: &mut Lab, causes: &[Cause], near: Near) -> Option<Reading>
 
 // Whether it is the node that was asked for.
 fn is_asked(only: Option<NodeId>, node: NodeId) -> bool
-    ensures { result ≡ true → IfSome only (λ it. node ≡ it) }
+    ensures asked { result ≡ true → IfSome only (λ it. node ≡ it) }
+    ensures other { result ≡ false → IfSome only (λ it. node ≡ it) → ⊥ }
 {
     match only {
         Some(it) => it.number == node.number,
@@ -291,6 +311,8 @@ fn add_near(
     requires few { length causes.now < 2 ^ 32 }
     requires told { All (IsTold lab.old only) list.old.items }
     ensures told { OnOk result (All (IsTold lab.old only) list.new.items) }
+    ensures kept { OnOk result ((reading : Reading) → Contains list.old.items reading → Contains list.new.items reading) }
+    ensures found { OnOk result ((reading : Reading) → IsTold lab.old only reading → IsAtNear lab.old near reading → Contains list.new.items reading) }
     ensures err { IfErr result (λ why. why ≡ LabFault.Memory) }
     ensures same { lab.new ≡ lab.old }
 {
@@ -318,13 +340,16 @@ pub(crate) fn find_readings(
 ) -> Result<Vec<Reading>, LabFault>
     requires all { causes.now ≡ causes_of lab.old }
     requires few { length causes.now < 2 ^ 32 }
+    requires looks { looks ≡ has_look causes.now }
     ensures told { IfOk result (λ list. All (IsTold lab.old only) list.items) }
+    ensures found { IfOk result (λ list. NoneMissed lab.old only list.items) }
     ensures err { IfErr result (λ why. why ≡ LabFault.Memory) }
     ensures same { lab.new ≡ lab.old }
 {
     if !looks {
         return Ok(Vec::new(alloc));
     }
+    let _stands = lab.node(NodeId::new(0));
     let acts = acts_of(alloc, lab, causes)?;
     let nears = match find_near(alloc, acts.as_slice()) {
         Ok(nears) => nears,

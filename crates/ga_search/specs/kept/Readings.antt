@@ -1,8 +1,30 @@
 -- What private contracts, invariants and bridges cite.
-use Rattle.std.specs.Prelude.{◌≡◌, ℕ, ◌+◌, List, slice_index}
+use Rattle.std.specs.Prelude.{◌≡◌, ℕ, ◌+◌, nat_lt, true, if◌then◌else◌, List, slice_index, Some}
+use Rattle.ga_ports.specs.declared.side.Side.{Side}
+use Rattle.ga_grid.specs.declared.node_id.NodeId.{NodeId}
+use Rattle.ga_grid.specs.Grid.{neighbour_of}
+use Rattle.ga_event.specs.declared.event.Event.{Event}
+use Rattle.ga_event.specs.declared.event.Event.TheVariants.{Own, Pass}
 use Rattle.ga_event.specs.Told.{steps_of}
-use Rattle.ga_lab.specs.Machine.{State, rewound}
+use Rattle.ga_causal.specs.Steps.{IsStep}
+use Rattle.ga_races.specs.declared.near.Near.{Near}
+use Rattle.ga_lab.specs.Machine.{State, causes_of, rewound}
+use Rattle.ga_search.specs.Near.{are_linked}
+use Rattle.ga_search.specs.declared.readings.Reading.{Reading}
 
 -- of each node so many steps would go with the step k of node n
 abbrev pub AreGone : State → ℕ → ℕ → List ℕ → Type 0
 AreGone s n k steps = (m : ℕ) → slice_index steps m + steps_of m (rewound s n k).kept ≡ steps_of m s.kept
+
+-- which node of an event stands beside another, of a pass the writer if that does
+abbrev pub part_beside : Event → ℕ → NodeId
+part_beside (Own own) n = own
+part_beside (Pass writer reader side) n = if are_linked n writer.number then writer else reader
+
+-- the look and the change stand at these two places
+pub record IsAtNear (s : State) (near : Near) (reading : Reading) : Type 0 where
+  pub looks : IsStep (causes_of s) reading.node.number reading.step near.look
+  pub changes : IsStep (causes_of s) reading.neighbour.number reading.change near.change
+  pub side : Side
+  pub beside : neighbour_of reading.node.number side ≡ Some reading.neighbour.number
+  pub order : reading.early ≡ nat_lt near.look near.change
