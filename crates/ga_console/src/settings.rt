@@ -42,6 +42,8 @@ Further commands (N is a number of events; NNN and MMM are nodes, K a step, HH t
   run [N] [until COND]   make events in rounds: each node that has an event makes one, in the order of their names
   run greedy ..          each node as far as it goes
   run random SEED ..     nodes drawn by a generator with this seed
+  back until COND        take the newest event back behind which COND held, and all since
+  back NNN until COND    take the newest such step of NNN back, with all that depends on it
   chip                   show what each node does
   who                    show who waits for whom, and which nodes can never go on
   effects NNN K          show what rewind NNN K would take, and take nothing
