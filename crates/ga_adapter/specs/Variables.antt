@@ -1,8 +1,9 @@
 -- The responses to `scopes` and `variables` (Debug Adapter Protocol, "ScopesRequest", "VariablesRequest"): what a node holds.
 use Rattle.std.specs.Prelude.{ℕ, ◌-◌, ◌+◌, ◌==◌, min, Bool, true, false, if◌then◌else◌, List, [], ◌∷◌, ◌++◌, codes, decimal, Option, Some, None, slice_index}
+use Rattle.std.specs.Int.{from_bool}
 use Rattle.std.specs.List.{range_with_len}
 use Rattle.serde_json.specs.Data.{Data, string, boolean, object, Members, no_members, member}
-use Rattle.ga_word.specs.Word.{carry_value, hex6_of}
+use Rattle.ga_word.specs.Word.{hex6_of}
 use Rattle.ga_image.specs.Lines.{Text}
 use Rattle.ga_node.specs.Record.{NodeRecord}
 use Rattle.ga_grid.specs.Grid.{neighbour_of}
@@ -74,7 +75,7 @@ variable_value s stuck n variable.A = valued_word (record_at (chip_of s) n).a
 variable_value s stuck n variable.B = valued_word (record_at (chip_of s) n).b
 variable_value s stuck n variable.I = valued_word (record_at (chip_of s) n).i
 variable_value s stuck n variable.Slot = slot_words (record_at (chip_of s) n).slot
-variable_value s stuck n variable.Carry = decimal (carry_value (record_at (chip_of s) n).carry)
+variable_value s stuck n variable.Carry = decimal (from_bool (record_at (chip_of s) n).carry)
 variable_value s stuck n variable.Io = valued_word (record_at (chip_of s) n).io
 variable_value s stuck n (variable.DataWord k) = valued_word (slice_index (record_at (chip_of s) n).d k)
 variable_value s stuck n (variable.ReturnWord k) = valued_word (slice_index (record_at (chip_of s) n).r k)

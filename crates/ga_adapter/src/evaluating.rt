@@ -4,7 +4,7 @@ ghost use Rattle.std.specs.Prelude.{◌≡◌, ◌≢◌, ◌<◌, ℕ, IfOk, If
 ghost use Rattle.serde_json.specs.View.{view};
 ghost use Rattle.ga_adapter.specs.declared.scope.Scope.TheVariants.{Registers};
 ghost use Rattle.ga_adapter.specs.Shown.{IsVariable, variable_at, variable_count, variable_name};
-ghost use Rattle.ga_adapter.specs.Evaluating.{cell_in_brackets, AsksFor, AsksForNone, result_object, evaluated};
+ghost use Rattle.ga_adapter.specs.Evaluating.{cell_in_brackets, AsksForVariable, AsksForNoVariable, result_object, evaluated};
 
 use crate::scope::Scope;
 use crate::values::value_of;
@@ -36,12 +36,11 @@ fn cell_named(text: &[u8]) -> Option<Variable>
     ensures value { result ≡ cell_in_brackets text.now }
     ensures valid { IfSome result IsVariable }
 {
-    match text {
-        [b'[', high, low, b']'] => {
-            let address = byte_of(&[*high, *low])?;
-            Some(Variable::Cell(address))
-        }
-        _ => None,
+    if text.len() == 4 && text[0] == b'[' && text[3] == b']' {
+        let address = byte_of(&text[1..3])?;
+        Some(Variable::Cell(address))
+    } else {
+        None
     }
 }
 
@@ -51,9 +50,9 @@ fn cell_named(text: &[u8]) -> Option<Variable>
 /// # Errors
 /// Memory was refused.
 pub fn asked_variable(alloc: Global, expression: &str) -> Result<Option<Variable>, AllocError>
-    ensures found { IfOk result (λ found. IfSome found (AsksFor expression.now)) }
+    ensures found { IfOk result (λ found. IfSome found (AsksForVariable expression.now)) }
     ensures valid { IfOk result (λ found. IfSome found IsVariable) }
-    ensures none { IfOk result (λ found. IfNone found (AsksForNone expression.now)) }
+    ensures none { IfOk result (λ found. IfNone found (AsksForNoVariable expression.now)) }
 {
     match register_named(alloc, expression)? {
         Some(one) => Ok(Some(one)),

@@ -14,7 +14,7 @@ use crate::values::value_of;
 use crate::variable::{Variable, count_of, name_of, variable_of};
 use ga_grid::NodeId;
 use ga_lab::Lab;
-use serde_json::{Value, json};
+use serde_json::{Value, json, push};
 use std::alloc::{AllocError, Global};
 
 /// The scopes, in order.
@@ -74,8 +74,9 @@ fn all_of(alloc: Global, node: NodeId) -> Result<Vec<Value>, AllocError>
     ensures { IfOk result (λ list. map view list.items ≡ map (scope_of node.number) all_scopes) }
 {
     let mut list = Vec::new(alloc);
-    'scopes: for one in SCOPES {
-        list.push(scope(alloc, node, one)?)?;
+    'scopes: for place in 0..6u8 {
+        let value = scope(alloc, node, SCOPES[place as usize])?;
+        push(&mut list, value)?;
     }
     Ok(list)
 }
@@ -143,13 +144,15 @@ fn between(
     at: (NodeId, Scope),
     places: (u8, u8),
 ) -> Result<Vec<Value>, AllocError>
-    requires { places.1 ≤ variable_count at.1 }
+    requires order { places.0 ≤ places.1 }
+    requires within { places.1 ≤ variable_count at.1 }
     ensures { IfOk result (λ list. map view list.items
         ≡ map (λ k. data_of lab.now stuck at.0.number (variable_at at.1 k)) (range_with_len places.0 (places.1 - places.0))) }
 {
     let mut list = Vec::new(alloc);
     'places: for place in places.0..places.1 {
-        list.push(variable(alloc, lab, stuck, at.0, variable_of(at.1, place))?)?;
+        let value = variable(alloc, lab, stuck, at.0, variable_of(at.1, place))?;
+        push(&mut list, value)?;
     }
     Ok(list)
 }

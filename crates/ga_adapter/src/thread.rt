@@ -1,6 +1,6 @@
 //! The threads: nodes that have something to show.
 
-ghost use Rattle.std.specs.Prelude.{◌≡◌, ◌<◌, ℕ, IfOk, map, filter};
+ghost use Rattle.std.specs.Prelude.{◌≡◌, ◌++◌, ◌∷◌, [], IfOk, OnOk, map, filter};
 ghost use Rattle.std.specs.List.{range_with_len};
 ghost use Rattle.serde_json.specs.View.{view};
 ghost use Rattle.ga_ports.specs.Address.{classified};
@@ -15,7 +15,7 @@ use ga_grid::NodeId;
 use ga_lab::Lab;
 use ga_node::{Node, Place};
 use ga_ports::{Target, classify};
-use serde_json::{Value, json};
+use serde_json::{Value, json, push};
 use std::alloc::{AllocError, Global};
 
 /// A thread of this name.
@@ -60,16 +60,31 @@ pub fn has_thread(lab: &Lab, programs: &[NodeId], node: NodeId) -> bool
     is_among(programs, node) || lab.steps(node) > 1 || is_in_memory(lab.node(node))
 }
 
+/// Adds the thread of a node, where that has something to show.
+fn add_thread(
+    list: &mut Vec<Value>,
+    alloc: Global,
+    lab: &Lab,
+    programs: &[NodeId],
+    node: NodeId,
+) -> Result<(), AllocError>
+    ensures { OnOk result (map view list.new.items ≡ map view list.old.items
+        ++ map (thread_in lab.now) (filter (has_thread lab.now programs.now) (node.number ∷ []))) }
+{
+    if !has_thread(lab, programs, node) {
+        return Ok(());
+    }
+    let value = thread(alloc, lab, node)?;
+    push(list, value)
+}
+
 /// The threads of the nodes that have something to show.
 fn shown(alloc: Global, lab: &Lab, programs: &[NodeId]) -> Result<Vec<Value>, AllocError>
     ensures { IfOk result (λ list. map view list.items ≡ map (thread_in lab.now) (filter (has_thread lab.now programs.now) (range_with_len 0 144))) }
 {
     let mut list = Vec::new(alloc);
     'nodes: for number in 0..144u8 {
-        let node = NodeId::new(number);
-        if has_thread(lab, programs, node) {
-            list.push(thread(alloc, lab, node)?)?;
-        }
+        add_thread(&mut list, alloc, lab, programs, NodeId::new(number))?;
     }
     Ok(list)
 }
