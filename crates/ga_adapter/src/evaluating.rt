@@ -1,6 +1,6 @@
 //! A register or a cell, asked for by its name.
 
-ghost use Rattle.std.specs.Prelude.{◌≡◌, ◌≢◌, ◌<◌, ℕ, IfOk, IfSome, IfNone};
+ghost use Rattle.std.specs.Prelude.{◌≡◌, ◌≢◌, ◌<◌, ◌↔◌, ℕ, IsTrue, IfOk, IfSome, IfNone};
 ghost use Rattle.serde_json.specs.View.{view};
 ghost use Rattle.ga_adapter.specs.declared.scope.Scope.TheVariants.{Registers};
 ghost use Rattle.ga_adapter.specs.Shown.{IsVariable, variable_at, variable_count, variable_name};
@@ -15,6 +15,15 @@ use ga_lab::Lab;
 use serde_json::{Value, json};
 use std::alloc::{AllocError, Global};
 
+/// Whether a variable has this name.
+fn has_name(alloc: Global, one: Variable, name: &str) -> Result<bool, AllocError>
+    requires { IsVariable one }
+    ensures { IfOk result (λ same. IsTrue same ↔ (variable_name one ≡ name.now)) }
+{
+    let own = name_of(alloc, one)?;
+    Ok(own.as_str() == name)
+}
+
 /// The register of a name, where there is one.
 fn register_named(alloc: Global, name: &str) -> Result<Option<Variable>, AllocError>
     ensures found { IfOk result (λ found. IfSome found (λ one. variable_name one ≡ name.now)) }
@@ -24,7 +33,8 @@ fn register_named(alloc: Global, name: &str) -> Result<Option<Variable>, AllocEr
 {
     'registers: for place in 0..count_of(Scope::Registers) {
         let one = variable_of(Scope::Registers, place);
-        if name_of(alloc, one)?.as_str() == name {
+        let same = has_name(alloc, one, name)?;
+        if same {
             return Ok(Some(one));
         }
     }

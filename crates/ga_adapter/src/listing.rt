@@ -1,6 +1,6 @@
 //! The scopes of a node, and the variables of a scope.
 
-ghost use Rattle.std.specs.Prelude.{◌≡◌, ◌<◌, ◌+◌, ◌-◌, ◌^◌, ◌≤◌, ℕ, IfOk, map, length, string_bytes};
+ghost use Rattle.std.specs.Prelude.{◌≡◌, true, false, ◌<◌, ◌+◌, ◌-◌, ◌^◌, ◌≤◌, ℕ, IfOk, map, length, string_bytes};
 ghost use Rattle.std.specs.List.{range_with_len};
 ghost use Rattle.serde_json.specs.View.{view};
 ghost use Rattle.ga_adapter.specs.Shown.{IsVariable, variable_at, variable_count};
@@ -142,15 +142,16 @@ fn between(
     lab: &Lab,
     stuck: bool,
     at: (NodeId, Scope),
-    places: (u8, u8),
+    first: u8,
+    end: u8,
 ) -> Result<Vec<Value>, AllocError>
-    requires order { places.0 ≤ places.1 }
-    requires within { places.1 ≤ variable_count at.1 }
+    requires order { first ≤ end }
+    requires within { end ≤ variable_count at.1 }
     ensures { IfOk result (λ list. map view list.items
-        ≡ map (λ k. data_of lab.now stuck at.0.number (variable_at at.1 k)) (range_with_len places.0 (places.1 - places.0))) }
+        ≡ map (λ k. data_of lab.now stuck at.0.number (variable_at at.1 k)) (range_with_len first (end - first))) }
 {
     let mut list = Vec::new(alloc);
-    'places: for place in places.0..places.1 {
+    'places: for place in first..end {
         let value = variable(alloc, lab, stuck, at.0, variable_of(at.1, place))?;
         push(&mut list, value)?;
     }
@@ -176,6 +177,6 @@ pub fn variables(
     let left = size.saturating_sub(start);
     let many = if count == 0 { left } else { count.min(left) };
     let first = start.min(size);
-    let list = between(alloc, lab, stuck, at, (first as u8, (first + many) as u8))?;
+    let list = between(alloc, lab, stuck, at, first as u8, (first + many) as u8)?;
     object_with(alloc, "variables", list)
 }

@@ -1,12 +1,11 @@
 //! The threads: nodes that have something to show.
 
 ghost use Rattle.std.specs.Prelude.{◌≡◌, ◌++◌, ◌∷◌, [], IfOk, OnOk, map, filter};
-ghost use Rattle.std.specs.List.{range_with_len};
 ghost use Rattle.serde_json.specs.View.{view};
 ghost use Rattle.ga_ports.specs.Address.{classified};
 ghost use Rattle.ga_node.specs.Record.{record_of};
 ghost use Rattle.ga_adapter.specs.Json.{array_of, object_of};
-ghost use Rattle.ga_adapter.specs.Threads.{named_thread, thread_in, has_thread, is_in_memory, is_among_nodes, threads_in};
+ghost use Rattle.ga_adapter.specs.Threads.{named_thread, thread_in, has_thread, is_in_memory, is_among_nodes, with_threads, threads_in};
 
 use crate::doing::named_doing;
 use crate::json::object_with;
@@ -80,7 +79,7 @@ fn add_thread(
 
 /// The threads of the nodes that have something to show.
 fn shown(alloc: Global, lab: &Lab, programs: &[NodeId]) -> Result<Vec<Value>, AllocError>
-    ensures { IfOk result (λ list. map view list.items ≡ map (thread_in lab.now) (filter (has_thread lab.now programs.now) (range_with_len 0 144))) }
+    ensures { IfOk result (λ list. map view list.items ≡ map (thread_in lab.now) (with_threads lab.now programs.now 144)) }
 {
     let mut list = Vec::new(alloc);
     'nodes: for number in 0..144u8 {

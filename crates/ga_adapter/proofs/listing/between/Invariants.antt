@@ -7,6 +7,6 @@ use Rattle.ga_adapter.proofs.listing.between.Given as goal
 
 abbrev pub invariant-places : goal.invariant-places
 invariant-places l = record {
-  from : l.places.0 ≤ l.place;
-  list : map view l.list.items ≡ map (λ k. data_of l.lab l.stuck l.at.0.number (variable_at l.at.1 k)) (range_with_len l.places.0 (l.place - l.places.0));
+  from : l.fn.first ≤ l.place;
+  list : map view l.list.items ≡ map (λ k. data_of l.lab l.stuck l.at.0.number (variable_at l.at.1 k)) (range_with_len l.fn.first (l.place - l.fn.first));
 }
