@@ -1,6 +1,6 @@
 -- Values of JSON (RFC 8259), as the responses hold them.
-use Rattle.std.specs.Prelude.{ℕ, List, map, Option, Some, None}
-use Rattle.serde_json.specs.Data.{Data, number, unsigned, array, object, Members, no_members, member}
+use Rattle.std.specs.Prelude.{ℕ, List, map}
+use Rattle.serde_json.specs.Data.{Data, number, unsigned, array, object, no_members, member}
 use Rattle.serde_json.specs.View.{items_of}
 
 abbrev pub whole_number : ℕ → Data
@@ -13,8 +13,3 @@ array_of f xs = array (items_of (map f xs))
 -- an object of one member
 abbrev pub object_of : List ℕ → Data → Data
 object_of key value = object (member key value no_members)
-
--- a member, where there is one
-abbrev pub with_member_of : List ℕ → (List ℕ → Data) → Option (List ℕ) → Members → Members
-with_member_of key f None members = members
-with_member_of key f (Some text) members = member key (f text) members
