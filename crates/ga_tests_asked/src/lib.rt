@@ -2,6 +2,8 @@
 #![tactic(auto)]
 
 #[cfg(test)]
+mod adapter;
+#[cfg(test)]
 mod asserts;
 #[cfg(test)]
 mod because;

@@ -1,0 +1,62 @@
+-- Lists of values that grow by one at a time.
+use Rattle.std.proofs.Common.{◌≡◌, ℕ, zero, suc, ◌+◌, ◌-◌, ◌≤◌, ◌<◌, min, length, get_or, take, List, [], ◌∷◌, ◌++◌, map, refl, sym, ap, ◌∙◌, arith}
+use Rattle.std.specs.List.{range_with_len, filter}
+use Rattle.std.proofs.lemmas.List.{map-append, map-id, map_push, map_more}
+use Rattle.std.proofs.lemmas.List.FromFn.{map-range_with_len_more}
+use Rattle.std.proofs.lemmas.List.Elements.{filter-append}
+use Rattle.serde_json.specs.Data.{Data}
+use Rattle.serde_json.specs.View.{view}
+use Rattle.serde_json.specs.declared.value.Value.{Value}
+use Rattle.ga_grid.specs.declared.node_id.NodeId.{NodeId}
+use Rattle.ga_lab.specs.Machine.{State}
+use Rattle.ga_adapter.specs.Threads.{has_thread, thread_in, with_threads}
+
+range_more : (n : ℕ) → range_with_len 0 (n + 1) ≡ range_with_len 0 n ++ n ∷ []
+range_more n = sym (map-id (range_with_len 0 (n + 1))) ∙ map-range_with_len_more (λ (x : ℕ). x) 0 n n (omega arith) ∙ ap (λ (z : List ℕ). z ++ n ∷ []) (map-id (range_with_len 0 n))
+
+chosen_more : (s : State) (programs : List NodeId) (n : ℕ)
+    → with_threads s programs (n + 1) ≡ with_threads s programs n ++ filter (has_thread s programs) (n ∷ [])
+unfolding with_threads
+chosen_more s programs n =
+    ap (λ (z : List ℕ). filter (has_thread s programs) z) (range_more n) ∙ filter-append (has_thread s programs) (range_with_len 0 n) (n ∷ [])
+
+pub no_threads : (s : State) (programs : List NodeId) → with_threads s programs 0 ≡ []
+unfolding with_threads
+no_threads s programs = refl
+
+-- the thread of one more node, where it has one
+pub thread_step : (s : State) (programs : List NodeId) (n at : ℕ) (old new : List Data) → at ≡ n → old ≡ map (thread_in s) (with_threads s programs n)
+    → new ≡ old ++ map (thread_in s) (filter (has_thread s programs) (at ∷ [])) → new ≡ map (thread_in s) (with_threads s programs (n + 1))
+thread_step s programs n at old new same before grown =
+    grown
+    ∙ ap (λ (z : List Data). z ++ map (thread_in s) (filter (has_thread s programs) (at ∷ []))) before
+    ∙ ap (λ (z : ℕ). map (thread_in s) (with_threads s programs n) ++ map (thread_in s) (filter (has_thread s programs) (z ∷ []))) same
+    ∙ sym (map-append (thread_in s) (with_threads s programs n) (filter (has_thread s programs) (n ∷ [])))
+    ∙ sym (ap (λ (z : List ℕ). map (thread_in s) z) (chosen_more s programs n))
+
+-- one more value behind those of a range
+pub range_step : (f : ℕ → Data) (first n : ℕ) (old new : List Value) (value : Value) → first ≤ n → new ≡ old ++ value ∷ [] → view value ≡ f n
+    → map view old ≡ map f (range_with_len first (n - first)) → map view new ≡ map f (range_with_len first (n + 1 - first))
+range_step f first n old new value from pushed same before =
+    let more : n + 1 - first ≡ n - first + 1 = omega (arith, from) in
+    ap (λ (z : List Value). map view z) pushed
+    ∙ map_push view old value
+    ∙ ap (λ (z : List Data). z ++ view value ∷ []) before
+    ∙ ap (λ (z : Data). map f (range_with_len first (n - first)) ++ z ∷ []) same
+    ∙ sym (map-range_with_len_more f first (n - first) n (omega (arith, from)))
+    ∙ sym (ap (λ (z : ℕ). map f (range_with_len first z)) more)
+
+-- one more value behind those of the first things of a list
+pub take_step : {A : Type 0} (f : A → Data) (xs : List A) (n : ℕ) (d : A) (old new : List Value) (value : Value) → n < length xs → new ≡ old ++ value ∷ []
+    → view value ≡ f (get_or xs n d) → map view old ≡ map f (take n xs) → map view new ≡ map f (take (n + 1) xs)
+take_step f xs n d old new value below pushed same before =
+    ap (λ (z : List Value). map view z) pushed
+    ∙ map_push view old value
+    ∙ ap (λ (z : List Data). z ++ view value ∷ []) before
+    ∙ ap (λ (z : Data). map f (take n xs) ++ z ∷ []) same
+    ∙ sym (map_more f xs n d below)
+
+-- from a place past the end on nothing is left
+pub from_min : (size start many : ℕ) → many ≤ size - start → range_with_len (min start size) many ≡ range_with_len start many
+from_min size start zero few = refl
+from_min size start (suc many) few = let same : min start size ≡ start = omega (arith, few) in ap (λ (z : ℕ). range_with_len z (suc many)) same

@@ -1,0 +1,25 @@
+//! What a client of the Debug Adapter Protocol is shown of a lab: each response a definition of the machine.
+#![tactic(auto)]
+
+mod doing;
+mod evaluating;
+mod exceptions;
+mod json;
+mod listing;
+mod numbers;
+mod scope;
+mod texts;
+mod thread;
+mod values;
+mod variable;
+
+pub use evaluating::{asked_variable, evaluate};
+pub use exceptions::exception_info;
+pub use listing::{scopes, variables};
+pub use numbers::{
+    cell_of_chip, chip_address, frame_of, node_of_frame, node_of_thread, reference_of, referred,
+    thread_of,
+};
+pub use scope::Scope;
+pub use thread::{has_thread, threads};
+pub use variable::Variable;
