@@ -7,11 +7,9 @@
 ghost use Rattle.std.specs.Prelude.{IfOk};
 ghost use Rattle.ga_console.specs.Settings.{AreInRange};
 
-use ga_console::{
-    LineFault, Settings, Status, arguments, assemble_source, disassemble, list_source, race_report,
-    session,
-};
+use ga_console::{LineFault, Settings, Status, arguments, race_report, session};
 use ga_explorer::{close, explore, is_cut_off};
+use ga_listing::{assemble_source, disassemble, list_source};
 use ga_picture::{View, draw_session};
 use std::fs::File;
 use std::io::{Chain, ErrorKind, Read, Stdin, Take};

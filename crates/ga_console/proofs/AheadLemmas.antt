@@ -4,14 +4,15 @@ use Rattle.std.proofs.lemmas.List.{take_all}
 use Rattle.std.proofs.lemmas.List.Elements.{All-from_recursion}
 use Rattle.ga_grid.specs.Grid.{yxx_of}
 use Rattle.ga_grid.specs.declared.node_id.NodeId.{NodeId}
-use Rattle.ga_console.specs.Texts.{name_of_node}
-use Rattle.ga_console.specs.Lines.{HasNoFeed, ends_line}
+use Rattle.ga_text.specs.Names.{name_of_node}
+use Rattle.ga_text.specs.Lines.{HasNoFeed, ends_line}
+use Rattle.ga_console.specs.Turns.{quit_line}
 use Rattle.ga_console.specs.Commands.{SpellsCommand}
 use Rattle.ga_console.specs.kept.Ahead.{IsAhead, IsLineAhead}
 use Rattle.ga_console.specs.declared.command.Command.{Command}
 use Rattle.ga_console.specs.declared.command.Command.TheVariants.{Step, Quit}
 use Rattle.std.proofs.Math.Seq.{drop-append-add}
-use Rattle.ga_console.proofs.PartLemmas.{not_feed}
+use Rattle.ga_text.proofs.PartLemmas.{not_feed}
 
 -- the first nine of some bytes
 nine : (text : List ℕ) → 9 ≤ length text
@@ -128,3 +129,8 @@ pub ahead_whole : (bytes now rest : List ℕ) (asked : Command) (count : ℕ) (h
 ahead_whole bytes now rest asked count h e =
     ap (λ (t : List ℕ). t ++ rest) h.splits ∙ append_assoc h.line (10 ∷ h.more) rest
     ∙ ap (λ (t : List ℕ). h.line ++ 10 ∷ (t ++ rest)) (sym (behind bytes h.line h.more now count h.splits h.counts e))
+
+-- the whole line, where it is quit or empty
+pub quit_part : (line part : List ℕ) → line ≡ take 201 part → line ≡ quit_line → part ≡ quit_line
+quit_part line part kept quit =
+    sym (take_all 201 part (omega (arith, length-take 201 part, ap length kept, ap length quit))) ∙ sym kept ∙ quit

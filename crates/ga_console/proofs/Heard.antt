@@ -6,15 +6,14 @@ use Rattle.std.proofs.lemmas.List.{append-nil, take_all}
 use Rattle.std.proofs.Math.Seq.{take-append_seam}
 use Rattle.std.proofs.lemmas.Grind.{flat_map-append}
 use Rattle.std.proofs.lemmas.Bool.Decides.{nat_tests}
-use Rattle.ga_image.specs.Lines.{lines_of}
-use Rattle.ga_console.specs.Lines.{ended, text_of, ended_lines, HasNoFeed}
+use Rattle.ga_text.specs.Lines.{lines_of, ended, text_of, ended_lines, HasNoFeed}
 use Rattle.ga_console.specs.Turns.{Answering, quit_line}
 use Rattle.ga_console.specs.Session.{Answers, HasNoQuit, heard_lines, HearsWholeLines, QuitsAfter, Serves, ServesToEnd, ServesToQuit, ServesToBound, ServesToFault, ServesCut}
 use Rattle.ga_console.specs.Texts.{no_input}
 use Rattle.ga_console.specs.declared.commands.Ending.{Ending}
 use Rattle.ga_console.specs.declared.commands.Ending.TheVariants.{Ended, Quit, Past, ReadFailed}
-use Rattle.ga_console.specs.declared.output.WriteFailed.{WriteFailed}
-use Rattle.ga_console.proofs.TextLemmas.{lines_front, ended_front, lines_last, ended_whole, more_lines}
+use Rattle.ga_text.specs.declared.output.WriteFailed.{WriteFailed}
+use Rattle.ga_text.proofs.TextLemmas.{lines_front, ended_front, lines_last, ended_whole, more_lines}
 
 text_push : (lines : List (List ℕ)) (line tail : List ℕ) → text_of lines ++ (line ++ 10 ∷ tail) ≡ text_of (lines ++ line ∷ []) ++ tail
 text_push lines line tail =

@@ -6,7 +6,7 @@ use Rattle.std.proofs.lemmas.Grind.{flat_map-append}
 use Rattle.std.proofs.lemmas.List.{ext_get_or}
 use Rattle.std.proofs.lemmas.List.FromFn.{map-range_with_len_more, get_or-map-range_with_len, length-map-range_with_len}
 use Rattle.ga_word.specs.Word.{hex6_of}
-use Rattle.ga_image.specs.Spelling.{words_text}
+use Rattle.ga_text.specs.Digits.{words_text}
 
 -- one piece more
 pub piece_more : (old said new text piece : List ℕ) → said ≡ old ++ text → new ≡ said ++ piece → new ≡ old ++ (text ++ piece)

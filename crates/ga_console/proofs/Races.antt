@@ -11,7 +11,7 @@ use Rattle.ga_shared.specs.declared.call.Call.{Call}
 use Rattle.ga_shared.specs.declared.call.Call.TheVariants.{Step}
 use Rattle.ga_shared.specs.declared.closing.Closed.{Closed}
 use Rattle.ga_shared.specs.Race.{Raced}
-use Rattle.ga_image.specs.Lines.{lines_of}
+use Rattle.ga_text.specs.Lines.{lines_of}
 use Rattle.ga_image.specs.Grammar.{IsImage}
 use Rattle.ga_image.specs.FirstFault.{IsFirstFault}
 use Rattle.ga_image.specs.Fault.{no_memory}

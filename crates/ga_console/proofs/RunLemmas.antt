@@ -3,9 +3,9 @@ use Rattle.std.proofs.Common.{◌≡◌, ℕ, ◌-◌, ◌<◌, inl, inr, List, 
 use Rattle.std.proofs.lemmas.List.{append-nil}
 use Rattle.ga_image.proofs.Sizes.{short_image}
 use Rattle.ga_image.specs.declared.fault.ImageFault.{ImageFault}
-use Rattle.ga_console.specs.Input.{input_limit}
-use Rattle.ga_console.specs.Image.{HasNoEnd}
-use Rattle.ga_console.specs.Output.{IsSaid, ready}
+use Rattle.ga_text.specs.Input.{input_limit}
+use Rattle.ga_text.specs.Image.{HasNoEnd}
+use Rattle.ga_text.specs.Output.{IsSaid, ready}
 use Rattle.ga_lab.specs.Machine.{State}
 use Rattle.ga_console.specs.Turns.{Answering}
 use Rattle.ga_console.specs.Session.{Serves, Written}
@@ -13,7 +13,7 @@ use Rattle.ga_console.specs.Run.{RunsBy, Served, Refused, Refuses, Opens, IsFaul
 use Rattle.ga_console.specs.kept.Run.{AfterImage}
 use Rattle.ga_console.specs.declared.commands.Ending.{Ending}
 use Rattle.ga_console.specs.declared.commands.Ending.TheVariants.{Ended, Quit, Past, ReadFailed}
-use Rattle.ga_console.specs.declared.output.WriteFailed.{WriteFailed}
+use Rattle.ga_text.specs.declared.output.WriteFailed.{WriteFailed}
 use Rattle.ga_console.specs.declared.run.Status.{Status}
 use Rattle.ga_console.specs.declared.run.Status.TheVariants.{Done, ImageRefused, StreamFault, NotFinished}
 

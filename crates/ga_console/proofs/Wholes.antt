@@ -1,8 +1,7 @@
 -- Of an input that was read whole nothing was read that its text doesn't need.
 use Rattle.std.proofs.Common.{ℕ, List, inl, inr}
 use Rattle.ga_console.specs.Run.{IsReadAlone}
-use Rattle.ga_console.specs.Source.{IsReadWhole}
-use Rattle.ga_console.specs.kept.Whole.{IsTooLong}
+use Rattle.ga_text.specs.Whole.{IsReadWhole, IsTooLong}
 
 pub alone_whole : (text ahead rest : List ℕ) → IsReadWhole text ahead rest → IsReadAlone text ahead rest
 alone_whole text ahead rest (inl to_end_line) = inl to_end_line

@@ -1,21 +1,11 @@
 -- The commands, and which line spells which: words with one space between two of them (docs/REFERENCE.md, "Sessions"; this
 -- project's own).
-use Rattle.std.specs.Prelude.{◌≡◌, ℕ, ◌^◌, ◌<◌, List, [], ◌∷◌, ◌++◌, codes, decimal}
-use Rattle.std.specs.Str.{str_to_ascii_lowercase}
-use Rattle.ga_image.specs.Lines.{Text, Line}
-use Rattle.ga_image.specs.Spelling.{hex2_of}
-use Rattle.ga_console.specs.Texts.{name_of_node}
+use Rattle.std.specs.Prelude.{◌≡◌, List, [], ◌∷◌, ◌++◌, codes, decimal}
+use Rattle.ga_text.specs.Lines.{Text, Line}
+use Rattle.ga_text.specs.Names.{name_of_node}
+use Rattle.ga_text.specs.Parsing.{IsNumber, SpellsAddress}
 use Rattle.ga_console.specs.declared.command.Command.{Command}
 use Rattle.ga_console.specs.declared.command.Command.TheVariants.{Step, Back, Rewind, Node, Memory, Trace, Why, Count, Dump, Quit}
-
--- the numbers of steps that can be named
-abbrev pub IsNumber : ℕ → Type 0
-IsNumber k = k < 2 ^ 32
-
--- an address has two hexadecimal digits, of either case
-pub record SpellsAddress (address : ℕ) (word : Text) : Type 0 where
-  pub in_range : address < 256
-  pub digits : str_to_ascii_lowercase word ≡ hex2_of address
 
 -- words with one space between two of them
 abbrev pub spaced : List Text → Text

@@ -1,9 +1,4 @@
-pub mod Lines
-pub mod Input
-pub mod Output
-pub mod Image
 pub mod Texts
-pub mod Parsing
 pub mod Commands
 pub mod Turns
 pub mod Replies
@@ -12,5 +7,4 @@ pub mod Session
 pub mod Run
 pub mod Settings
 pub mod Race
-pub mod Source
 pub mod kept

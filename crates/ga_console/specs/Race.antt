@@ -3,7 +3,7 @@ use Rattle.std.specs.Prelude.{◌≡◌, ℕ, ◌<◌, ◌*◌, ◌⊎◌, List,
 use Rattle.ga_node.specs.Record.{NodeState, NodeRecord}
 use Rattle.ga_grid.specs.Chip.{records_of}
 use Rattle.ga_grid.specs.Grid.{node_id}
-use Rattle.ga_image.specs.Lines.{Bytes, Text, lines_of}
+use Rattle.ga_text.specs.Lines.{Bytes, Text, lines_of}
 use Rattle.ga_image.specs.Grammar.{IsImage}
 use Rattle.ga_image.specs.FirstFault.{IsFirstFault}
 use Rattle.ga_image.specs.declared.fault.ImageFault.{ImageFault}
@@ -13,8 +13,8 @@ use Rattle.ga_shared.specs.declared.call.Call.TheVariants.{Step}
 use Rattle.ga_shared.specs.declared.call.Entry.{Entry}
 use Rattle.ga_shared.specs.Log.{IsLegal}
 use Rattle.ga_shared.specs.Race.{calls_of}
-use Rattle.ga_console.specs.Output.{Begins}
-use Rattle.ga_console.specs.Image.{HasNoEnd}
+use Rattle.ga_text.specs.Output.{Begins}
+use Rattle.ga_text.specs.Image.{HasNoEnd}
 use Rattle.ga_console.specs.Run.{IsReadAlone}
 use Rattle.ga_console.specs.Texts.{image_fault_text}
 use Rattle.ga_console.specs.declared.run.Status.{Status}

@@ -1,6 +1,6 @@
 -- The machines to which a session comes.
 use Rattle.std.specs.Prelude.{◌≡◌, List, [], ◌∷◌}
-use Rattle.ga_image.specs.Lines.{Text, Line}
+use Rattle.ga_text.specs.Lines.{Text, Line}
 use Rattle.ga_lab.specs.Machine.{State}
 use Rattle.ga_console.specs.Replies.{LineAnswer}
 

@@ -3,7 +3,7 @@ use Rattle.std.specs.Prelude.{◌≡◌, ℕ, ◌<◌, ◌≤◌, ◌⊎◌, IsO
 use Rattle.ga_grid.specs.Chip.{record_at}
 use Rattle.ga_grid.specs.declared.node_id.NodeId.{NodeId}
 use Rattle.ga_causal.specs.declared.chain.Link.{Link}
-use Rattle.ga_image.specs.Lines.{Text, Line, longest}
+use Rattle.ga_text.specs.Lines.{Text, Line, longest}
 use Rattle.ga_image.specs.Printing.{printed}
 use Rattle.ga_event.specs.Told.{made_in}
 use Rattle.ga_event.specs.declared.made.Made.{Made}

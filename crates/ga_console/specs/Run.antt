@@ -3,14 +3,14 @@
 use Rattle.std.specs.Prelude.{◌≡◌, ℕ, ◌-◌, ◌<◌, ◌⊎◌, List, [], ◌++◌, length, Result, Ok, Err}
 use Rattle.ga_node.specs.Record.{NodeState}
 use Rattle.ga_grid.specs.Chip.{records_of}
-use Rattle.ga_image.specs.Lines.{Bytes, Text, lines_of}
+use Rattle.ga_text.specs.Lines.{Bytes, Text, lines_of}
 use Rattle.ga_image.specs.Grammar.{IsImage}
 use Rattle.ga_image.specs.Fault.{no_memory}
 use Rattle.ga_image.specs.FirstFault.{IsFirstFault}
 use Rattle.ga_image.specs.declared.fault.ImageFault.{ImageFault}
-use Rattle.ga_console.specs.Input.{input_limit, block_size}
-use Rattle.ga_console.specs.Output.{Begins, ready}
-use Rattle.ga_console.specs.Image.{EndsAtEnd, HasNoEnd}
+use Rattle.ga_text.specs.Input.{input_limit, block_size}
+use Rattle.ga_text.specs.Output.{Begins, ready}
+use Rattle.ga_text.specs.Image.{EndsAtEnd, HasNoEnd}
 use Rattle.ga_lab.specs.Machine.{State, first}
 use Rattle.ga_console.specs.Texts.{image_fault_text}
 use Rattle.ga_console.specs.Turns.{Answering}
@@ -18,7 +18,7 @@ use Rattle.ga_console.specs.Session.{Serves, Written}
 use Rattle.ga_console.specs.Replies.{LineAnswer}
 use Rattle.ga_console.specs.declared.commands.Ending.{Ending}
 use Rattle.ga_console.specs.declared.commands.Ending.TheVariants.{Ended, Quit, Past, ReadFailed}
-use Rattle.ga_console.specs.declared.output.WriteFailed.{WriteFailed}
+use Rattle.ga_text.specs.declared.output.WriteFailed.{WriteFailed}
 use Rattle.ga_console.specs.declared.run.Status.{Status}
 use Rattle.ga_console.specs.declared.run.Status.TheVariants.{Done, ImageRefused, StreamFault, NotFinished}
 

@@ -2,14 +2,13 @@
 -- project's own). A is how the session answers a line: of the debugger's it is Answer.
 use Rattle.std.specs.Prelude.{◌≡◌, ◌≢◌, ℕ, ◌+◌, ◌<◌, ◌≤◌, ◌⊎◌, List, [], ◌∷◌, ◌++◌, length, take, nat_le, if◌then◌else◌, Result, Ok, Err}
 use Rattle.std.specs.List.{AllByRecursion}
-use Rattle.ga_image.specs.Lines.{Bytes, Text, Line, lines_of}
-use Rattle.ga_console.specs.Lines.{ended_lines}
-use Rattle.ga_console.specs.Output.{Begins}
+use Rattle.ga_text.specs.Lines.{Bytes, Text, Line, lines_of, ended_lines}
+use Rattle.ga_text.specs.Output.{Begins}
 use Rattle.ga_console.specs.Texts.{no_input}
 use Rattle.ga_console.specs.Turns.{Answering, quit_line}
 use Rattle.ga_console.specs.declared.commands.Ending.{Ending}
 use Rattle.ga_console.specs.declared.commands.Ending.TheVariants.{Ended, Quit, Past, ReadFailed}
-use Rattle.ga_console.specs.declared.output.WriteFailed.{WriteFailed}
+use Rattle.ga_text.specs.declared.output.WriteFailed.{WriteFailed}
 
 abbrev pub HasNoQuit : List Line → Type 0
 HasNoQuit lines = AllByRecursion (λ line. line ≢ quit_line) lines

@@ -1,7 +1,7 @@
 -- The texts of answers, each ended by a line feed (docs/REFERENCE.md, "Sessions"; this project's own).
 use Rattle.std.specs.Prelude.{ℕ, ◌==◌, if◌then◌else◌, ◌++◌, codes, decimal}
 use Rattle.std.specs.Int.{from_bool}
-use Rattle.ga_image.specs.Lines.{Text}
+use Rattle.ga_text.specs.Lines.{Text}
 use Rattle.ga_word.specs.Word.{hex6_of}
 use Rattle.ga_ports.specs.Address.{only, has_side}
 use Rattle.ga_ports.specs.declared.side.Side.{Side}
@@ -11,19 +11,15 @@ use Rattle.ga_node.specs.declared.wait.Wait.{Wait}
 use Rattle.ga_node.specs.declared.wait.Wait.TheVariants as wait
 use Rattle.ga_node.specs.declared.kind.Kind.{Kind}
 use Rattle.ga_node.specs.declared.kind.Kind.TheVariants as kind
-use Rattle.ga_grid.specs.Grid.{yxx_of}
 use Rattle.ga_grid.specs.declared.node_id.NodeId.{NodeId}
 use Rattle.ga_image.specs.Fault.{cause_number, cause_word}
-use Rattle.ga_image.specs.Spelling.{decimal3_of, hex2_of, words_text}
+use Rattle.ga_text.specs.Digits.{decimal3_of, hex2_of, words_text}
 use Rattle.ga_image.specs.declared.fault.ImageFault.{ImageFault}
 use Rattle.ga_event.specs.declared.made.Made.{Made}
 use Rattle.ga_event.specs.declared.made.Made.TheVariants.{Own, Pass}
 use Rattle.ga_lab.specs.declared.fault.LabFault.{LabFault}
 use Rattle.ga_lab.specs.declared.fault.LabFault.TheVariants.{Waiting, Stopped, Full, Memory, Empty, NoStep, Spent}
-
--- a node's name: three decimal digits, of its row and its column
-abbrev pub name_of_node : NodeId → Text
-name_of_node node = decimal3_of (yxx_of node.number)
+use Rattle.ga_text.specs.Names.{name_of_node, step_text}
 
 -- ---- events
 
@@ -32,10 +28,6 @@ kind_text kind.Fetch = codes " fetch"
 kind_text (kind.Run code) = codes " run " ++ hex2_of code
 kind_text kind.Wait = codes " wait"
 kind_text (kind.Stop number) = codes " stop " ++ decimal number
-
--- a step of a node
-abbrev pub step_text : NodeId → ℕ → Text
-step_text node step = name_of_node node ++ codes " " ++ decimal step
 
 -- a node's own event, or a word that went from its writer to its reader
 abbrev pub made_text : Made → Text

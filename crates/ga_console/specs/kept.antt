@@ -1,13 +1,5 @@
 pub mod Ahead
-pub mod Disassembling
-pub mod Image
-pub mod Input
-pub mod Output
 pub mod Parsing
 pub mod Race
-pub mod ReadLine
 pub mod Run
-pub mod Source
-pub mod Texts
 pub mod Turns
-pub mod Whole

@@ -1,13 +1,12 @@
 //! A line that was read whole, found where it stands.
 ghost use Rattle.std.specs.Prelude.{◌≡◌, ◌+◌, ◌*◌, [], ◌∷◌, ◌++◌, IfSome, codes};
-ghost use Rattle.ga_console.specs.Texts.{name_of_node};
+ghost use Rattle.ga_text.specs.Names.{name_of_node};
 ghost use Rattle.ga_console.specs.kept.Ahead.{IsLineAhead, StandsAhead};
 
 use super::command::{Command, command_of};
-use super::input::feed_at;
-use super::text::name_numbered;
 use ga_grid::NodeId;
 use ga_image::LINE_LIMIT;
+use ga_text::{feed_at, name_numbered};
 
 /// The bytes of a line `step NNN`.
 const STEP_LINE: usize = b"step NNN".len();

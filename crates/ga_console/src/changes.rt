@@ -1,12 +1,13 @@
 //! The commands that change the machine.
-ghost use Rattle.ga_console.specs.kept.Output.{Says};
+ghost use Rattle.ga_text.specs.kept.Output.{Says};
 ghost use Rattle.ga_console.specs.Replies.{Does};
 ghost use Rattle.ga_console.specs.declared.command.Command.TheVariants.{Step, Back, Rewind};
 
 use super::event::refusal_text;
-use super::output::{Output, WriteFailed};
+use super::saying::{say_made, say_removed};
 use ga_grid::NodeId;
 use ga_lab::Lab;
+use ga_text::{Output, WriteFailed};
 use std::io::Write;
 
 /// `step NNN`: makes the node's next event.
@@ -21,7 +22,7 @@ pub fn step<W: Write>(
         (W.contents writer.old) output.old (W.contents writer.new) output.new }
 {
     match lab.step_inlined(node) {
-        Ok(made) => { output.say_made(writer, made) }
+        Ok(made) => { say_made(output, writer, made) }
         Err(fault) => output.say(writer, refusal_text(fault)),
     }
 }
@@ -32,7 +33,7 @@ pub fn back<W: Write>(lab: &mut Lab, output: &mut Output, writer: &mut W) -> Res
         (W.contents writer.old) output.old (W.contents writer.new) output.new }
 {
     match lab.undo() {
-        Ok(()) => { output.say_removed(writer, 1, lab.counts().kept) }
+        Ok(()) => { say_removed(output, writer, 1, lab.counts().kept) }
         Err(fault) => output.say(writer, refusal_text(fault)),
     }
 }
@@ -49,7 +50,7 @@ pub fn rewind<W: Write>(
         (W.contents writer.old) output.old (W.contents writer.new) output.new }
 {
     match lab.rewind(node, step) {
-        Ok(removed) => { output.say_removed(writer, removed, lab.counts().kept) }
+        Ok(removed) => { say_removed(output, writer, removed, lab.counts().kept) }
         Err(fault) => output.say(writer, refusal_text(fault)),
     }
 }

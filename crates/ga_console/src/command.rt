@@ -1,18 +1,16 @@
 //! Commands, as lines spell them.
 
-ghost use Rattle.std.specs.Prelude.{◌≡◌, ◌+◌, ◌*◌, ◌<◌, [], ◌∷◌, false, IfSome, IfNone, option_map};
-ghost use Rattle.ga_grid.specs.Grid.{node_of as node_numbered, node_id};
-ghost use Rattle.ga_grid.specs.Names.{decimal_digit};
+ghost use Rattle.std.specs.Prelude.{◌≡◌, false, IfSome, IfNone, option_map};
 ghost use Rattle.ga_console.specs.Commands.{SpellsCommand};
-ghost use Rattle.ga_image.specs.Digits.{byte_in};
-ghost use Rattle.ga_console.specs.Parsing.{cut, node_in, number_in, with_digit};
+ghost use Rattle.ga_text.specs.Digits.{byte_in};
+ghost use Rattle.ga_text.specs.Parsing.{cut, node_in, number_in};
 ghost use Rattle.ga_console.specs.kept.Parsing.{step_in, rewind_in, memory_in, why_in, alone, with_arguments, is_head};
 ghost use Rattle.ga_console.specs.declared.command.Command.{Command};
 ghost use Rattle.ga_console.specs.declared.command.Command.TheVariants.{Step, Node, Trace};
 
 use super::ahead::word_of;
-use ga_grid::{NodeId, decimal_digit};
-use ga_image::byte_of;
+use ga_grid::NodeId;
+use ga_text::{byte_of, cut, node_in, number_in};
 
 /// A command of a session. Steps are numbered from 1, but any number may be asked for.
 #[derive(Clone, Copy, PartialEq, Eq)]
@@ -196,75 +194,4 @@ fn step_of(text: &[u8]) -> Option<(NodeId, u32)>
 {
     let (node, step) = cut(text)?;
     Some((node_in(node)?, number_in(step)?))
-}
-
-/// The text before the first space, and the text behind it.
-pub fn cut(text: &[u8]) -> Option<(&[u8], &[u8])>
-    ensures { option_map (λ parts. (parts.0.now, parts.1.now)) result ≡ cut text.now }
-{
-    for (i, byte) in text.iter().enumerate() {
-        if *byte == b' ' {
-            return Some((text.split_at(i).0, text.split_at(i + 1).1));
-        }
-    }
-    None
-}
-
-/// The node that is named by three decimal digits: its row, and two of its column.
-#[tactic(auto, unfolding(crate::specs::Parsing::node_in, ga_grid::specs::Names::node_number))]
-pub fn node_in(word: &[u8]) -> Option<NodeId>
-    ensures { result ≡ node_in word.now }
-{
-    match word {
-        [row, tens, ones] => node_named(*row, *tens, *ones),
-        _ => None,
-    }
-}
-
-/// The node of three such digits.
-#[tactic(auto, unfolding(crate::specs::Parsing::node_in, ga_grid::specs::Names::node_number))]
-#[inline(always)]
-pub fn node_named(row: u8, tens: u8, ones: u8) -> Option<NodeId>
-    ensures { result ≡ node_in (row ∷ tens ∷ ones ∷ []) }
-{
-    let row = decimal_digit(row)?;
-    let tens = decimal_digit(tens)?;
-    let ones = decimal_digit(ones)?;
-    node_at(row, 10 * tens + ones)
-}
-
-/// The node of a row and a column, where there is one.
-#[inline(always)]
-fn node_at(row: u32, column: u32) -> Option<NodeId>
-    requires { column < 100 }
-    ensures { result ≡ option_map node_id (node_numbered (100 * row + column)) }
-{
-    if row < 8 && column < 18 {
-        Some(NodeId::new((18 * row + column) as u8))
-    } else {
-        None
-    }
-}
-
-/// A decimal number below 2^32 without leading zeros.
-pub fn number_in(word: &[u8]) -> Option<u32>
-    ensures { result ≡ number_in word.now }
-{
-    let (first, rest) = word.split_first()?;
-    let mut number = decimal_digit(*first)?;
-    'digits: for byte in rest {
-        number = with_digit(number, *byte)?;
-    }
-    Some(number)
-}
-
-/// A number with one digit more, where it had no leading zero and fits.
-fn with_digit(number: u32, byte: u8) -> Option<u32>
-    ensures { result ≡ with_digit number byte }
-{
-    if number == 0 {
-        return None;
-    }
-    let digit = decimal_digit(byte)?;
-    number.checked_mul(10)?.checked_add(digit)
 }

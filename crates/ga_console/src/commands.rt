@@ -1,15 +1,13 @@
 //! The command part of a session.
 ghost use Rattle.std.specs.Prelude.{◌≡◌, ◌-◌, ◌++◌, Some};
-ghost use Rattle.ga_image.specs.Lines.{Bytes};
-ghost use Rattle.ga_console.specs.Input.{IsWithin, input_limit};
-ghost use Rattle.ga_console.specs.Output.{IsSaid, IsSaidOrCut};
+ghost use Rattle.ga_text.specs.Lines.{Bytes};
+ghost use Rattle.ga_text.specs.Input.{IsWithin, input_limit};
+ghost use Rattle.ga_text.specs.Output.{IsSaid, IsSaidOrCut};
 ghost use Rattle.ga_console.specs.Session.{Serves, Written};
 
 use super::ahead::{Ahead, ahead_of};
-use super::input::Input;
-use super::lines::{LineBuffer, LineEnd, read_line};
-use super::output::{Output, WriteFailed};
 use super::responder::{Responder, Turn};
+use ga_text::{Input, LineBuffer, LineEnd, Output, WriteFailed, read_line};
 use std::alloc::Global;
 use std::io::{Read, Write};
 

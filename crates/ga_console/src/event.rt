@@ -4,14 +4,14 @@ ghost use Rattle.arrayvec.specs.ArrayVec.{array_vec_len};
 ghost use Rattle.ga_event.specs.declared.made.Made.TheVariants.{Own, Pass};
 ghost use Rattle.ga_console.specs.Texts.{made_text, kind_text, removed_text, counts_text, trace_text, chain_text, refusal_text};
 
-use super::text::{
-    LINE_ROOM, NUMBER_ROOM, hex2, push_eight, push_node, push_node_spaced, push_number,
-    push_spaced, push_step, push_text,
-};
 use arrayvec::ArrayVec;
 use ga_grid::NodeId;
 use ga_lab::{Counts, LabFault, Made};
 use ga_node::Kind;
+use ga_text::{
+    LINE_ROOM, NUMBER_ROOM, hex2, push_eight, push_node, push_node_spaced, push_number,
+    push_spaced, push_step, push_text,
+};
 use ga_word::Word18;
 
 /// What a fetch is told as, and the end of its line.

@@ -2,8 +2,8 @@
 ghost use Rattle.std.specs.Prelude.{◌≡◌};
 ghost use Rattle.ga_console.specs.Texts.{image_fault_text};
 
-use super::text::{TextBuffer, push_number, push_text};
 use ga_image::ImageFault;
+use ga_text::{TextBuffer, push_number, push_text};
 
 /// Puts the text of a refused image.
 pub fn put_fault(out: &mut TextBuffer, fault: ImageFault)

@@ -3,16 +3,16 @@ ghost use Rattle.std.specs.Prelude.{◌≡◌, ◌<◌, ◌+◌, ◌≤◌, ◌^
 ghost use Rattle.arrayvec.specs.ArrayVec.{array_vec_len};
 ghost use Rattle.ga_word.specs.Word.{hex6_of};
 ghost use Rattle.ga_node.specs.Record.{record_of};
-ghost use Rattle.ga_image.specs.Spelling.{words_text};
+ghost use Rattle.ga_text.specs.Digits.{words_text};
 ghost use Rattle.ga_console.specs.Texts.{node_text, memory_text, state_text, sides_text, register_text, registers_text, flags_text, stacks_text};
 
-use super::text::{
-    LINE_ROOM, NUMBER_ROOM, WORD_ROOM, push_byte, push_digit, push_node, push_number, push_spaced,
-    push_text, push_word,
-};
 use arrayvec::ArrayVec;
 use ga_grid::NodeId;
 use ga_node::{Node, Place, Wait};
+use ga_text::{
+    LINE_ROOM, NUMBER_ROOM, WORD_ROOM, push_byte, push_digit, push_node, push_number, push_spaced,
+    push_text, push_word,
+};
 use ga_word::Word18;
 
 /// How many words the data stack has.

@@ -1,17 +1,15 @@
 //! A race of workers on the chip of an image.
 ghost use Rattle.std.specs.Prelude.{◌≡◌, ◌<◌, ◌≤◌, ◌*◌, ◌++◌, ℕ, map, length, Some, IfOk, IfSome, All, vec_len, slice_get};
-ghost use Rattle.ga_image.specs.Lines.{Bytes};
+ghost use Rattle.ga_text.specs.Lines.{Bytes};
 ghost use Rattle.ga_grid.specs.Chip.{records_of};
 ghost use Rattle.ga_console.specs.Race.{calls_by, report_text, IsRaceOfWorkers, Reports};
 ghost use Rattle.ga_console.specs.kept.Race.{Races, Writes};
 
-use super::output::{WriteFailed, write_all};
 use super::run::{Status, refuse};
-use super::text::{TextBuffer, push_number, push_text};
-use super::whole::{WholeRead, read_whole};
 use ga_grid::{Chip, NodeId};
 use ga_image::{ImageCause, parse};
 use ga_shared::{Call, Closed, Free, race};
+use ga_text::{TextBuffer, WholeRead, WriteFailed, push_number, push_text, read_whole, write_all};
 use std::alloc::{AllocError, Global};
 use std::io::{Read, Write};
 use std::sync::Wait;

@@ -1,15 +1,16 @@
 //! The commands that read the machine and leave it as it is.
 ghost use Rattle.std.specs.Prelude.{◌≡◌, ◌++◌, length, flat_map};
-ghost use Rattle.ga_console.specs.kept.Output.{Says};
+ghost use Rattle.ga_text.specs.kept.Output.{Says};
 ghost use Rattle.ga_console.specs.Texts.{made_text, chain_text};
 ghost use Rattle.ga_console.specs.Replies.{Does, steps_text};
 ghost use Rattle.ga_console.specs.declared.command.Command.TheVariants.{Node, Memory, Trace, Why, Count, Dump};
 
 use super::event::refusal_text;
-use super::output::{Output, WriteFailed};
+use super::saying::{say_chain_count, say_counts, say_made, say_memory, say_node, say_trace};
 use ga_grid::NodeId;
 use ga_image::print;
 use ga_lab::{Lab, LabFault, Made};
+use ga_text::{Output, WriteFailed};
 use std::alloc::Global;
 use std::io::Write;
 
@@ -23,7 +24,7 @@ pub fn node<W: Write>(
     ensures { Says result (λ text. Does lab.now (Node node) text lab.now)
         (W.contents writer.old) output.old (W.contents writer.new) output.new }
 {
-    output.say_node(writer, node, lab.node(node))
+    say_node(output, writer, node, lab.node(node))
 }
 
 /// `mem NNN HH`: shows the word at an address of the node's memory.
@@ -37,7 +38,7 @@ pub fn memory<W: Write>(
     ensures { Says result (λ text. Does lab.now (Memory node address) text lab.now)
         (W.contents writer.old) output.old (W.contents writer.new) output.new }
 {
-    output.say_memory(writer, node, address, lab.memory(node, address))
+    say_memory(output, writer, node, address, lab.memory(node, address))
 }
 
 /// `count`: shows how many events are kept, how many were made, and how many may be kept.
@@ -45,7 +46,7 @@ pub fn count<W: Write>(lab: &Lab, output: &mut Output, writer: &mut W) -> Result
     ensures { Says result (λ text. Does lab.now Count text lab.now)
         (W.contents writer.old) output.old (W.contents writer.new) output.new }
 {
-    output.say_counts(writer, lab.counts())
+    say_counts(output, writer, lab.counts())
 }
 
 /// `trace NNN`: shows the steps of the node, a line for each.
@@ -74,9 +75,9 @@ fn say_steps<W: Write>(
     ensures { Says result (λ text. text ≡ steps_text node steps.now)
         (W.contents writer.old) output.old (W.contents writer.new) output.new }
 {
-    output.say_trace(writer, node, steps.len())?;
+    say_trace(output, writer, node, steps.len())?;
     'steps: for made in steps {
-        output.say_made(writer, *made)?;
+        say_made(output, writer, *made)?;
     }
     Ok(())
 }
@@ -108,9 +109,9 @@ fn say_chain<W: Write>(
     ensures { Says result (λ text. text ≡ chain_text (length events.now) ++ flat_map made_text events.now)
         (W.contents writer.old) output.old (W.contents writer.new) output.new }
 {
-    output.say_chain(writer, events.len())?;
+    say_chain_count(output, writer, events.len())?;
     'events: for made in events {
-        output.say_made(writer, *made)?;
+        say_made(output, writer, *made)?;
     }
     Ok(())
 }

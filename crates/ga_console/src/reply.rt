@@ -1,15 +1,15 @@
 //! The answer to a line.
-ghost use Rattle.ga_console.specs.kept.Output.{Says};
+ghost use Rattle.ga_text.specs.kept.Output.{Says};
 ghost use Rattle.ga_console.specs.Replies.{LineAnswer, Does};
 ghost use Rattle.ga_console.specs.kept.Turns.{Turns};
 
 use super::changes::{back, rewind, step};
 use super::command::{Command, command_of};
-use super::output::{Output, WriteFailed};
 use super::readings::{count, dump, memory, node, trace, why};
 use super::responder::Turn;
 use ga_image::LINE_LIMIT;
 use ga_lab::Lab;
+use ga_text::{Output, WriteFailed};
 use std::alloc::Global;
 use std::io::Write;
 

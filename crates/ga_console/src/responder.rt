@@ -1,14 +1,14 @@
 //! What answers the lines of a session.
 ghost use Rattle.std.specs.Prelude.{◌≡◌};
-ghost use Rattle.ga_image.specs.Lines.{Bytes};
+ghost use Rattle.ga_text.specs.Lines.{Bytes};
 ghost use Rattle.ga_lab.specs.Machine.{State};
-ghost use Rattle.ga_console.specs.kept.Output.{Says};
+ghost use Rattle.ga_text.specs.kept.Output.{Says};
 ghost use Rattle.ga_console.specs.kept.Turns.{Turns, AnswersCommand};
 
 use super::command::Command;
-use super::output::{Output, WriteFailed};
 use super::reply;
 use ga_lab::Lab;
+use ga_text::{Output, WriteFailed};
 use std::alloc::Global;
 use std::io::Write;
 

@@ -1,20 +1,17 @@
 //! A whole session.
 ghost use Rattle.std.specs.Prelude.{◌≡◌, ◌++◌, Some, IfOk, IfErr};
-ghost use Rattle.ga_image.specs.Lines.{Bytes};
-ghost use Rattle.ga_console.specs.Input.{IsWithin};
-ghost use Rattle.ga_console.specs.Output.{IsSaid};
+ghost use Rattle.ga_text.specs.Lines.{Bytes};
+ghost use Rattle.ga_text.specs.Input.{IsWithin};
+ghost use Rattle.ga_text.specs.Output.{IsSaid};
 ghost use Rattle.ga_console.specs.Run.{Runs, RunsBy, Refuses, Opens, IsFault, status_of as status_that};
 ghost use Rattle.ga_console.specs.kept.Run.{AfterImage};
 
 use super::commands::{Ending, serve};
 use super::fault_text::put_fault;
-use super::image::{ImageEnd, read_image};
-use super::input::Input;
-use super::output::{Output, WriteFailed, write_all};
 use super::responder::Responder;
-use super::text::TextBuffer;
 use ga_image::{ImageCause, ImageFault, parse};
 use ga_lab::Lab;
+use ga_text::{ImageEnd, Input, Output, TextBuffer, WriteFailed, read_image, write_all};
 use std::alloc::Global;
 use std::io::{Read, Write};
 

@@ -2,10 +2,10 @@
 ghost use Rattle.std.specs.Prelude.{IfOk};
 ghost use Rattle.ga_console.specs.Settings.{AreInRange, Within};
 
-use super::command::{node_in, number_in};
 use clap::builder::ValueParser;
 use clap::{Arg, ArgAction, ArgMatches, Command, value_parser};
 use ga_grid::NodeId;
+use ga_text::{node_in, number_in};
 use std::alloc::{AllocError, Global};
 use thiserror::Error;
 

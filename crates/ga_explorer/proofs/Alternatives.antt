@@ -8,7 +8,7 @@ use Rattle.ga_notes.specs.declared.notes.Notes.{Notes}
 use Rattle.ga_search.specs.declared.condition.Condition.{Condition}
 use Rattle.ga_search.specs.declared.condition.Condition.TheVariants.{Never}
 use Rattle.ga_explorer.specs.Reading.{behind_or, cut_here, or_cut, or_split, condition_in, with_front, with_first, others_by, conditions_by, conditions_within}
-use Rattle.ga_console.specs.Parsing.{in_front}
+use Rattle.ga_text.specs.Parsing.{in_front}
 
 pub at_or : (text : List ℕ) (i : ℕ) (rest : List ℕ) → i < length text → ((k : ℕ) → k < i → behind_or (drop k text) ≡ None) → behind_or (drop i text) ≡ Some rest
     → or_cut text ≡ Some (take i text, rest)

@@ -2,8 +2,8 @@
 use Rattle.std.proofs.Common.{◌≡◌, ℕ, ◌<◌, inl, inr, List, [], ◌∷◌, ◌++◌, length, true, false, refl, arith, Result, Ok, Err}
 use Rattle.ga_image.proofs.Sizes.{short_image}
 use Rattle.ga_image.specs.declared.fault.ImageFault.{ImageFault}
-use Rattle.ga_console.specs.Input.{input_limit, Unread}
-use Rattle.ga_console.specs.Image.{HasNoEnd}
+use Rattle.ga_text.specs.Input.{input_limit, Unread}
+use Rattle.ga_text.specs.Image.{HasNoEnd}
 use Rattle.ga_console.specs.Run.{IsReadAlone, IsFault}
 use Rattle.ga_console.specs.declared.run.Status.{Status}
 use Rattle.ga_explorer.specs.Tails.{Exploring}

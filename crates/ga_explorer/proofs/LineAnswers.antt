@@ -10,7 +10,7 @@ use Rattle.ga_console.specs.Commands.{SpellsCommand}
 use Rattle.ga_console.specs.declared.command.Command.{Command}
 use Rattle.ga_console.specs.declared.command.Command.TheVariants.{Quit}
 use Rattle.ga_lab.specs.Machine.{State}
-use Rattle.ga_console.specs.declared.output.WriteFailed.{WriteFailed}
+use Rattle.ga_text.specs.declared.output.WriteFailed.{WriteFailed}
 use Rattle.ga_console.specs.declared.responder.Turn.{Turn}
 use Rattle.ga_console.specs.declared.responder.Turn.TheVariants as turn
 use Rattle.ga_notes.specs.declared.notes.Notes.{Notes}

@@ -2,9 +2,9 @@
 use Rattle.std.proofs.Common.{◌≡◌, ℕ, ◌+◌, ◌<◌, ◌≤◌, List, [], ◌∷◌, ◌++◌, Option, Result, Ok, Err, length, get_or, drop, refl, sym, ap, ◌∙◌, append_assoc, arith}
 use Rattle.std.specs.Prelude.{flat_map}
 use Rattle.std.proofs.lemmas.List.{append-nil, drop_more, drop_all}
-use Rattle.ga_console.specs.Output.{IsSaid, IsCut, IsSaidOrCut}
-use Rattle.ga_console.specs.declared.output.WriteFailed.{WriteFailed}
-use Rattle.ga_console.proofs.SaidLemmas.{said_as, said_assoc, cut_assoc, cut_within}
+use Rattle.ga_text.specs.Output.{IsSaid, IsCut, IsSaidOrCut}
+use Rattle.ga_text.specs.declared.output.WriteFailed.{WriteFailed}
+use Rattle.ga_text.proofs.SaidLemmas.{said_as, said_assoc, cut_assoc, cut_within}
 
 -- a front of the whole was said, and the rest is to be
 pub record IsSaidUpTo (contents : Option (List ℕ)) (before said whole rest pending : List ℕ) : Type 0 where

@@ -1,6 +1,6 @@
 -- What exploring answers to a line (docs/REFERENCE.md, "Exploring"; this project's own).
 use Rattle.std.specs.Prelude.{◌≡◌, ℕ, ◌<◌, ◌≤◌, ◌⊎◌, Bool, IsOk, List, length, Some, None}
-use Rattle.ga_image.specs.Lines.{longest, Text, Line}
+use Rattle.ga_text.specs.Lines.{longest, Text, Line}
 use Rattle.ga_grid.specs.declared.node_id.NodeId.{NodeId}
 use Rattle.ga_lab.specs.Machine.{State, chip_of, rewind_answer}
 use Rattle.ga_lab.specs.declared.fault.LabFault.TheVariants.{Memory}

@@ -1,7 +1,7 @@
 -- The texts of `at`: the steps around one, each with registers behind it (docs/REFERENCE.md, "Exploring"; this project's own).
 use Rattle.std.specs.Prelude.{ℕ, zero, suc, ◌+◌, ◌-◌, nat_le, if◌then◌else◌, [], ◌++◌, codes, Option, Some, None}
 use Rattle.std.specs.List.{slice_get}
-use Rattle.ga_image.specs.Lines.{Text}
+use Rattle.ga_text.specs.Lines.{Text}
 use Rattle.ga_node.specs.Record.{NodeRecord}
 use Rattle.ga_node.specs.Table.{t, s as second, r}
 use Rattle.ga_grid.specs.declared.node_id.NodeId.{NodeId}
@@ -10,7 +10,8 @@ use Rattle.ga_event.specs.declared.made.Made.{Made}
 use Rattle.ga_lab.specs.Machine.{State, stands, history_of}
 use Rattle.ga_lab.specs.declared.fault.LabFault.TheVariants.{NoStep}
 use Rattle.ga_origin.specs.Origins.{node_after}
-use Rattle.ga_console.specs.Texts.{step_text, register_text, refusal_text}
+use Rattle.ga_text.specs.Names.{step_text}
+use Rattle.ga_console.specs.Texts.{register_text, refusal_text}
 use Rattle.ga_notes.specs.declared.notes.Notes.{Notes}
 use Rattle.ga_explorer.specs.Deeds.{deed_text}
 use Rattle.ga_explorer.specs.Tails.{step_tail}

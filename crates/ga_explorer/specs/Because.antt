@@ -1,6 +1,6 @@
 -- The texts of `because`: the steps at which a value decided where a node went on (docs/REFERENCE.md, "Exploring"; this project's own).
 use Rattle.std.specs.Prelude.{ℕ, zero, suc, ◌-◌, if◌then◌else◌, [], ◌++◌, codes, Option, Some, None}
-use Rattle.ga_image.specs.Lines.{Text}
+use Rattle.ga_text.specs.Lines.{Text}
 use Rattle.ga_grid.specs.declared.node_id.NodeId.{NodeId}
 use Rattle.ga_event.specs.declared.made.Made.{Made}
 use Rattle.ga_event.specs.declared.made.Made.TheVariants.{Own, Pass}
@@ -10,7 +10,8 @@ use Rattle.ga_flow.specs.declared.part.Part.{Part}
 use Rattle.ga_origin.specs.declared.deciding.Decision.{Decision}
 use Rattle.ga_origin.specs.Deciding.{newest_decided}
 use Rattle.ga_origin.specs.Rows.{row_at}
-use Rattle.ga_console.specs.Texts.{step_text, register_text, refusal_text}
+use Rattle.ga_text.specs.Names.{step_text}
+use Rattle.ga_console.specs.Texts.{register_text, refusal_text}
 use Rattle.ga_notes.specs.declared.notes.Notes.{Notes}
 use Rattle.ga_explorer.specs.Deeds.{deed_text}
 use Rattle.ga_explorer.specs.Tails.{step_tail}

@@ -1,6 +1,6 @@
 -- What a step of a node did, in a few words (docs/REFERENCE.md, "Exploring"; this project's own).
 use Rattle.std.specs.Prelude.{ℕ, ◌==◌, ◌%◌, if◌then◌else◌, ◌++◌, codes, decimal}
-use Rattle.ga_image.specs.Lines.{Text}
+use Rattle.ga_text.specs.Lines.{Text}
 use Rattle.ga_word.specs.Word.{hex6_of}
 use Rattle.ga_slots.specs.Codes.{name_of, op_of}
 use Rattle.ga_node.specs.declared.kind.Kind.{Kind}
@@ -8,7 +8,7 @@ use Rattle.ga_node.specs.declared.kind.Kind.TheVariants as kind
 use Rattle.ga_grid.specs.declared.node_id.NodeId.{NodeId}
 use Rattle.ga_event.specs.declared.made.Made.{Made}
 use Rattle.ga_event.specs.declared.made.Made.TheVariants.{Own, Pass}
-use Rattle.ga_console.specs.Texts.{step_text}
+use Rattle.ga_text.specs.Names.{step_text}
 
 -- an event of a node's own: the opcode's name, or what came in its place
 abbrev pub kind_name : Kind → Text

@@ -3,8 +3,8 @@
 use Rattle.std.specs.Prelude.{ℕ, ◌+◌, nat_eq, nat_le, Bool, false, ◌==◌, ◌&&◌, ◌||◌, if◌then◌else◌, List, [], ◌∷◌, ◌++◌, length, flat_map, slice_get, codes, Option, Some, None}
 use Rattle.std.specs.Cmp.Lexicographic.{pointwise}
 use Rattle.std.specs.List.{starts_with, ends_with}
-use Rattle.ga_image.specs.Lines.{Text, Line}
-use Rattle.ga_console.specs.Parsing.{cut}
+use Rattle.ga_text.specs.Lines.{Text, Line}
+use Rattle.ga_text.specs.Parsing.{cut}
 
 -- a command: the word that a line of it begins with, how it is spelled, what `help` says behind that, and what `help` of this command says
 -- besides

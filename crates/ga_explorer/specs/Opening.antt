@@ -3,7 +3,7 @@ use Rattle.std.specs.Prelude.{◌≡◌, ℕ, ◌⊎◌, Bool, true, false, List
 use Rattle.std.specs.List.{All}
 use Rattle.ga_node.specs.Record.{NodeState}
 use Rattle.ga_grid.specs.Chip.{records_of}
-use Rattle.ga_image.specs.Lines.{Bytes, Text}
+use Rattle.ga_text.specs.Lines.{Bytes, Text}
 use Rattle.ga_image.specs.Fault.{no_memory}
 use Rattle.ga_image.specs.declared.fault.ImageFault.{ImageFault}
 use Rattle.ga_source.specs.declared.item.Program.{Program}
@@ -15,8 +15,8 @@ use Rattle.ga_source.specs.Made.{IsChipOfSource}
 use Rattle.ga_notes.specs.declared.notes.Notes.{Notes}
 use Rattle.ga_notes.specs.Source.{AreOfSource}
 use Rattle.ga_lab.specs.Machine.{first}
-use Rattle.ga_console.specs.Input.{Unread}
-use Rattle.ga_console.specs.Image.{EndsAtEnd, HasNoEnd}
+use Rattle.ga_text.specs.Input.{Unread}
+use Rattle.ga_text.specs.Image.{EndsAtEnd, HasNoEnd}
 use Rattle.ga_console.specs.Run.{Opens as OpensImage, IsReadAlone, Faulty, Refuses}
 use Rattle.ga_console.specs.declared.run.Status.{Status}
 use Rattle.ga_console.specs.declared.run.Status.TheVariants.{ImageRefused, StreamFault}

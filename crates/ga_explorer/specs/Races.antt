@@ -2,7 +2,7 @@
 -- this project's own). What the last line means is law `every_order` and law `no_other_order` of ga_search.
 use Rattle.std.specs.Prelude.{◌≡◌, ◌+◌, ◌⊎◌, Bool, true, false, is_none, List, [], ◌∷◌, ◌++◌, length, flat_map, codes, decimal, ℕ, Option, Some, None}
 use Rattle.std.specs.List.{All}
-use Rattle.ga_image.specs.Lines.{Text}
+use Rattle.ga_text.specs.Lines.{Text}
 use Rattle.ga_word.specs.Word.{hex6_of}
 use Rattle.ga_grid.specs.declared.node_id.NodeId.{NodeId}
 use Rattle.ga_lab.specs.Machine.{State, chip_of, causes_of}
@@ -11,7 +11,8 @@ use Rattle.ga_search.specs.declared.races.Race.{Race}
 use Rattle.ga_search.specs.declared.readings.Reading.{Reading}
 use Rattle.ga_search.specs.Readings.{back_of, IsTold}
 use Rattle.ga_search.specs.Races.{races_asked, has_looks, first_ready}
-use Rattle.ga_console.specs.Texts.{name_of_node, step_text, refusal_text}
+use Rattle.ga_text.specs.Names.{name_of_node, step_text}
+use Rattle.ga_console.specs.Texts.{refusal_text}
 
 -- the step and the word that it took, another that it could have taken, and the commands that make it take that
 abbrev pub race_text : Race → Text

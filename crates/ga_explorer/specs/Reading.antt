@@ -2,11 +2,11 @@
 -- "Exploring"; this project's own). Nodes and numbers are spelled as in the debugger's commands.
 use Rattle.std.specs.Prelude.{ℕ, zero, suc, ◌+◌, ◌*◌, ◌^◌, ◌==◌, nat_eq, nat_lt, nat_le, ◌&&◌, if◌then◌else◌, List, [], ◌∷◌, ◌++◌, replicate, codes, Option, Some, None, option_map}
 use Rattle.std.specs.Cmp.Lexicographic.{pointwise}
-use Rattle.ga_image.specs.Lines.{Line}
+use Rattle.ga_text.specs.Lines.{Line}
 use Rattle.ga_grid.specs.declared.node_id.NodeId.{NodeId}
 use Rattle.ga_ports.specs.Steps.{◌>>=◌}
-use Rattle.ga_image.specs.Digits.{byte_in}
-use Rattle.ga_console.specs.Parsing.{in_front, cut, node_in, number_in}
+use Rattle.ga_text.specs.Digits.{byte_in}
+use Rattle.ga_text.specs.Parsing.{in_front, cut, node_in, number_in}
 use Rattle.ga_search.specs.Schedules.{in_rounds, greedily, at_random}
 use Rattle.ga_search.specs.declared.schedule.Schedule.{Schedule}
 use Rattle.ga_search.specs.declared.condition.Condition.{Condition}

@@ -1,11 +1,11 @@
 -- What `save` tells: the kept events as commands of the debugger (docs/REFERENCE.md, "Exploring"; this project's own).
 use Rattle.std.specs.Prelude.{◌≡◌, List, [], ◌∷◌, ◌++◌, codes, map, flat_map}
-use Rattle.ga_image.specs.Lines.{Text, Line}
+use Rattle.ga_text.specs.Lines.{Text, Line}
 use Rattle.ga_grid.specs.declared.node_id.NodeId.{NodeId}
 use Rattle.ga_event.specs.declared.event.Event.{Event}
 use Rattle.ga_lab.specs.Machine.{State}
 use Rattle.ga_lab.specs.Forward.{actor_of}
-use Rattle.ga_console.specs.Texts.{name_of_node}
+use Rattle.ga_text.specs.Names.{name_of_node}
 use Rattle.ga_console.specs.Commands.{spaced, SpellsCommand}
 use Rattle.ga_console.specs.Replies.{reply}
 use Rattle.ga_console.specs.declared.command.Command.{Command}

@@ -1,12 +1,12 @@
 -- What a whole session of exploring may write, and how it may end (docs/REFERENCE.md, "Exploring"; this project's own).
 use Rattle.std.specs.Prelude.{◌≡◌, ℕ, ◌-◌, ◌++◌, length, Result}
-use Rattle.ga_image.specs.Lines.{Bytes, Text}
-use Rattle.ga_console.specs.Input.{input_limit}
-use Rattle.ga_console.specs.Output.{ready}
+use Rattle.ga_text.specs.Lines.{Bytes, Text}
+use Rattle.ga_text.specs.Input.{input_limit}
+use Rattle.ga_text.specs.Output.{ready}
 use Rattle.ga_console.specs.Run.{status_of}
 use Rattle.ga_console.specs.Session.{Serves, Written}
 use Rattle.ga_console.specs.declared.commands.Ending.{Ending}
-use Rattle.ga_console.specs.declared.output.WriteFailed.{WriteFailed}
+use Rattle.ga_text.specs.declared.output.WriteFailed.{WriteFailed}
 use Rattle.ga_console.specs.declared.run.Status.{Status}
 use Rattle.ga_explorer.specs.Tails.{Exploring}
 use Rattle.ga_explorer.specs.Answers.{Explores}

@@ -1,6 +1,6 @@
 -- The texts of exploring's answers, each line ended by a line feed (docs/REFERENCE.md, "Exploring"; this project's own).
 use Rattle.std.specs.Prelude.{ℕ, zero, suc, ◌+◌, ◌*◌, ◌==◌, nat_lt, if◌then◌else◌, List, [], ◌++◌, length, flat_map, codes, decimal, Option, Some, None, Result, Ok, Err}
-use Rattle.ga_image.specs.Lines.{Text}
+use Rattle.ga_text.specs.Lines.{Text}
 use Rattle.ga_word.specs.Word.{hex6_of}
 use Rattle.ga_ports.specs.Address.{only}
 use Rattle.ga_node.specs.declared.wait.Wait.{Wait}
@@ -17,7 +17,8 @@ use Rattle.ga_search.specs.declared.effects.RollbackEffect.{RollbackEffect}
 use Rattle.ga_search.specs.declared.words.Sent.{Sent}
 use Rattle.ga_search.specs.declared.running.End.{End}
 use Rattle.ga_search.specs.declared.running.End.TheVariants.{Reached, Made, Quiet, Refused}
-use Rattle.ga_console.specs.Texts.{made_text, removed_text, name_of_node, step_text, refusal_text}
+use Rattle.ga_console.specs.Texts.{made_text, removed_text, refusal_text}
+use Rattle.ga_text.specs.Names.{name_of_node, step_text}
 
 -- ---- `run`
 

@@ -1,7 +1,7 @@
 -- The texts of `who`: what each node that waits waits for, which nodes can never go on, the rings among them, and how many nodes are
 -- idle, of which no more is said (docs/REFERENCE.md, "Exploring"; this project's own).
 use Rattle.std.specs.Prelude.{ℕ, zero, suc, ◌+◌, ◌==◌, nat_le, Bool, ◌&&◌, not, if◌then◌else◌, List, [], ◌∷◌, ◌++◌, codes, decimal, Option, Some, None, option_map}
-use Rattle.ga_image.specs.Lines.{Text}
+use Rattle.ga_text.specs.Lines.{Text}
 use Rattle.ga_ports.specs.declared.side.Side.{Side}
 use Rattle.ga_ports.specs.declared.side.Side.TheVariants.{Right, Down, Left, Up}
 use Rattle.ga_node.specs.Record.{NodeRecord}
@@ -9,7 +9,7 @@ use Rattle.ga_node.specs.declared.wait.Wait.{Wait}
 use Rattle.ga_node.specs.declared.wait.Wait.TheVariants as wait
 use Rattle.ga_grid.specs.Grid.{neighbour_of, yxx_of}
 use Rattle.ga_grid.specs.Chip.{record_at}
-use Rattle.ga_image.specs.Spelling.{decimal3_of}
+use Rattle.ga_text.specs.Digits.{decimal3_of}
 use Rattle.ga_search.specs.Stuck.{awaits}
 
 -- the name of the node of this number

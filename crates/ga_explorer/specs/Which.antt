@@ -1,11 +1,11 @@
 -- Which step of a node a command means: one by its number, or the last (docs/REFERENCE.md, "Exploring"; this project's own).
 use Rattle.std.specs.Prelude.{ℕ, nat_eq, if◌then◌else◌, codes, Option, Some, option_map}
 use Rattle.std.specs.Cmp.Lexicographic.{pointwise}
-use Rattle.ga_image.specs.Lines.{Line}
+use Rattle.ga_text.specs.Lines.{Line}
 use Rattle.ga_grid.specs.declared.node_id.NodeId.{NodeId}
 use Rattle.ga_event.specs.Told.{steps_of}
 use Rattle.ga_lab.specs.Machine.{State}
-use Rattle.ga_console.specs.Parsing.{number_in}
+use Rattle.ga_text.specs.Parsing.{number_in}
 use Rattle.ga_explorer.specs.declared.which.Which.{Which}
 use Rattle.ga_explorer.specs.declared.which.Which.TheVariants.{Number, Last}
 

@@ -1,13 +1,13 @@
 -- The texts of `writes`: the steps that wrote a cell (docs/REFERENCE.md, "Exploring"; this project's own).
 use Rattle.std.specs.Prelude.{ℕ, zero, suc, ◌%◌, nat_lt, if◌then◌else◌, [], ◌++◌, codes, Option, Some, None}
-use Rattle.ga_image.specs.Lines.{Text}
+use Rattle.ga_text.specs.Lines.{Text}
 use Rattle.ga_word.specs.Word.{hex6_of}
 use Rattle.ga_grid.specs.declared.node_id.NodeId.{NodeId}
 use Rattle.ga_event.specs.Told.{steps_of}
 use Rattle.ga_lab.specs.Machine.{State}
 use Rattle.ga_origin.specs.Writes.{written_at}
 use Rattle.ga_origin.specs.declared.writes.CellWrite.{CellWrite}
-use Rattle.ga_console.specs.Texts.{step_text}
+use Rattle.ga_text.specs.Names.{step_text}
 use Rattle.ga_explorer.specs.Deeds.{deed_text}
 
 -- a step that wrote: its number, the opcode's name, and the word

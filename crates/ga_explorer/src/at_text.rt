@@ -2,7 +2,7 @@
 
 ghost use Rattle.std.specs.Prelude.{◌≡◌, ◌<◌, ◌≤◌, ◌+◌, ◌-◌, ◌^◌, ◌++◌, Some, codes};
 ghost use Rattle.std.specs.List.{slice_get};
-ghost use Rattle.ga_image.specs.Lines.{Bytes};
+ghost use Rattle.ga_text.specs.Lines.{Bytes};
 ghost use Rattle.arrayvec.specs.ArrayVec.{array_vec_len};
 ghost use Rattle.ga_word.specs.Word.{hex6_of};
 ghost use Rattle.ga_node.specs.Record.{record_of};
@@ -10,20 +10,19 @@ ghost use Rattle.ga_event.specs.Told.{steps_of};
 ghost use Rattle.ga_lab.specs.Machine.{history_of, standing};
 ghost use Rattle.ga_origin.specs.Origins.{node_after};
 ghost use Rattle.ga_console.specs.Texts.{register_text};
-ghost use Rattle.ga_console.specs.Output.{IsSaid, IsSaidOrCut};
-ghost use Rattle.ga_console.specs.kept.Output.{Says};
+ghost use Rattle.ga_text.specs.Output.{IsSaid, IsSaidOrCut};
+ghost use Rattle.ga_text.specs.kept.Output.{Says};
 ghost use Rattle.ga_explorer.specs.Around.{behind_text, passed_text, place_text, places_text, around_text};
 
 use crate::deed_text::push_deed;
 use crate::tail_text::say_walk_tail;
 use arrayvec::ArrayVec;
-use ga_console::{
-    Output, TextBuffer, WORD_ROOM, WriteFailed, push_spaced, push_step, push_text, refusal_text,
-};
+use ga_console::refusal_text;
 use ga_grid::NodeId;
 use ga_lab::{Lab, LabFault, Made, Walk};
 use ga_node::{Node, Place};
 use ga_notes::Notes;
+use ga_text::{Output, TextBuffer, WORD_ROOM, WriteFailed, push_spaced, push_step, push_text};
 use ga_word::Word18;
 use std::io::Write;
 

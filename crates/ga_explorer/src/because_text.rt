@@ -1,12 +1,12 @@
 //! The steps at which a value decided where a node went on, told line by line.
 
 ghost use Rattle.std.specs.Prelude.{◌≡◌, ◌+◌, ◌-◌, ◌≤◌, ◌<◌, ◌^◌, ◌++◌};
-ghost use Rattle.ga_image.specs.Lines.{Bytes};
+ghost use Rattle.ga_text.specs.Lines.{Bytes};
 ghost use Rattle.arrayvec.specs.ArrayVec.{array_vec_len};
 ghost use Rattle.ga_lab.specs.Machine.{standing};
 ghost use Rattle.ga_console.specs.Texts.{register_text};
-ghost use Rattle.ga_console.specs.Output.{IsSaid, IsSaidOrCut};
-ghost use Rattle.ga_console.specs.kept.Output.{Says};
+ghost use Rattle.ga_text.specs.Output.{IsSaid, IsSaidOrCut};
+ghost use Rattle.ga_text.specs.kept.Output.{Says};
 ghost use Rattle.ga_explorer.specs.Because.{decided_text, decision_text, decisions_text, because_text};
 ghost use Rattle.ga_explorer.specs.Trees.{part_name};
 
@@ -15,14 +15,13 @@ use crate::part_text::{PART_ROOM, push_part};
 use crate::tail_text::say_step_tail;
 use crate::whence_text::say_row;
 use arrayvec::ArrayVec;
-use ga_console::{
-    Output, TextBuffer, WORD_ROOM, WriteFailed, push_spaced, push_step, push_text, refusal_text,
-};
+use ga_console::refusal_text;
 use ga_flow::Part;
 use ga_grid::NodeId;
 use ga_lab::{Lab, LabFault, Made, Walk};
 use ga_notes::Notes;
 use ga_origin::{Decision, Decisions, Row};
+use ga_text::{Output, TextBuffer, WORD_ROOM, WriteFailed, push_spaced, push_step, push_text};
 use ga_word::Word18;
 use std::io::Write;
 

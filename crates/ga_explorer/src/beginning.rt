@@ -1,14 +1,16 @@
 //! The front of a session: an image or source is read, and opened.
 ghost use Rattle.std.specs.Prelude.{◌≡◌, ◌++◌, [], Some};
-ghost use Rattle.ga_image.specs.Lines.{Bytes};
-ghost use Rattle.ga_console.specs.Input.{IsWithin};
+ghost use Rattle.ga_text.specs.Lines.{Bytes};
+ghost use Rattle.ga_text.specs.Input.{IsWithin};
 ghost use Rattle.ga_explorer.specs.Opening.{IsBegun};
 ghost use Rattle.ga_explorer.specs.kept.Opening.{IsOpened};
 
 use crate::explorer::Explorer;
 use crate::opening::{Unopened, is_image, open_text};
-use ga_console::{ImageEnd, Input, Status, read_image, refuse, tell_long};
+use ga_console::{Status, refuse};
 use ga_image::{ImageCause, ImageFault};
+use ga_notes::tell_long;
+use ga_text::{ImageEnd, Input, read_image};
 use std::alloc::Global;
 use std::io::{Read, Write};
 

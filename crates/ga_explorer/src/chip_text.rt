@@ -5,10 +5,10 @@ ghost use Rattle.arrayvec.specs.ArrayVec.{array_vec_len};
 ghost use Rattle.ga_explorer.specs.Texts.{chip_text, row_text, rows_text, cell_text, cells_text, side_letter, doing_text};
 
 use arrayvec::ArrayVec;
-use ga_console::{push_digit, push_text};
 use ga_grid::NodeId;
 use ga_lab::Lab;
 use ga_node::Wait;
+use ga_text::{push_digit, push_text};
 
 /// The bytes of a node.
 const CELL_ROOM: usize = 3;

@@ -5,13 +5,13 @@ ghost use Rattle.arrayvec.specs.ArrayVec.{array_vec_len};
 ghost use Rattle.ga_slots.specs.Codes.{name_of, op_of};
 ghost use Rattle.ga_explorer.specs.Deeds.{deed_text, kind_name, pass_text};
 
-use ga_console::{
-    NUMBER_ROOM, STEP_ROOM, TextBuffer, WORD_ROOM, push_number, push_step, push_text, push_word,
-};
 use ga_grid::NodeId;
 use ga_lab::Made;
 use ga_node::Kind;
 use ga_slots::Op;
+use ga_text::{
+    NUMBER_ROOM, STEP_ROOM, TextBuffer, WORD_ROOM, push_number, push_step, push_text, push_word,
+};
 use ga_word::Word18;
 
 /// The most bytes of an opcode's name.

@@ -1,19 +1,18 @@
 //! What a rollback would take, told line by line.
 
 ghost use Rattle.std.specs.Prelude.{◌≡◌, ◌++◌};
-ghost use Rattle.ga_image.specs.Lines.{Bytes};
-ghost use Rattle.ga_console.specs.Output.{IsSaid, IsSaidOrCut};
-ghost use Rattle.ga_console.specs.kept.Output.{Says};
+ghost use Rattle.ga_text.specs.Lines.{Bytes};
+ghost use Rattle.ga_text.specs.Output.{IsSaid, IsSaidOrCut};
+ghost use Rattle.ga_text.specs.kept.Output.{Says};
 ghost use Rattle.ga_explorer.specs.Texts.{effect_text, effects_head, effects_text};
 ghost use Rattle.ga_explorer.specs.Answers.{TellsEffects};
 
 use arrayvec::ArrayVec;
-use ga_console::{
-    Output, TextBuffer, WriteFailed, push_number, push_step, push_text, refusal_text,
-};
+use ga_console::refusal_text;
 use ga_grid::NodeId;
 use ga_lab::Lab;
 use ga_search::{Effects, RollbackEffect, find_effects};
+use ga_text::{Output, TextBuffer, WriteFailed, push_number, push_step, push_text};
 use std::alloc::Global;
 use std::io::Write;
 

@@ -1,7 +1,7 @@
 //! What answers the lines of a session of exploring.
 
 ghost use Rattle.std.specs.Prelude.{◌≡◌, ◌≤◌, length, Some, None, IfSome, IfNone, IsTrue, false};
-ghost use Rattle.ga_console.specs.kept.Output.{Says};
+ghost use Rattle.ga_text.specs.kept.Output.{Says};
 ghost use Rattle.ga_explorer.specs.Reading.{request_in};
 ghost use Rattle.ga_explorer.specs.kept.Exploring.{exploring};
 ghost use Rattle.ga_explorer.specs.Answers.{Explored, AnswersOther, IsOfDebugger, IsNoCommand};
@@ -21,11 +21,12 @@ use crate::whence_text::say_whence;
 use crate::who_text::say_who;
 use crate::words_text::say_words;
 use crate::writes_text::say_writes;
-use ga_console::{Command, Output, Responder, Turn, WriteFailed, command_of};
+use ga_console::{Command, Responder, Turn, command_of};
 use ga_image::LINE_LIMIT;
 use ga_lab::Lab;
 use ga_notes::Notes;
 use ga_search::{conditions_asked, run_schedule};
+use ga_text::{Output, WriteFailed};
 use std::alloc::Global;
 use std::io::Write;
 use std::marker::Model;

@@ -1,14 +1,14 @@
 //! What `help` answers, and what is said of a line that spells no command.
 
 ghost use Rattle.std.specs.Prelude.{◌≡◌, ◌++◌, codes, map, option_map};
-ghost use Rattle.ga_image.specs.Lines.{Bytes};
-ghost use Rattle.ga_console.specs.Output.{IsSaid, IsSaidOrCut};
-ghost use Rattle.ga_console.specs.kept.Output.{Says};
+ghost use Rattle.ga_text.specs.Lines.{Bytes};
+ghost use Rattle.ga_text.specs.Output.{IsSaid, IsSaidOrCut};
+ghost use Rattle.ga_text.specs.kept.Output.{Says};
 ghost use Rattle.ga_explorer.specs.Forms.{rows, form_row_text, form_rows_text, about_text, command_text, form_of_command, near_form_in, form_for, is_near, are_exchanged, is_mark, is_return, has_blank_end, is_upper, cure, no_command};
 ghost use Rattle.ga_explorer.specs.kept.Forms.{entry_of};
 
 use crate::commands::{Row, row_in, rows};
-use ga_console::{Output, WriteFailed, cut};
+use ga_text::{Output, WriteFailed, cut};
 use std::io::Write;
 
 /// Says what `help` answers: each command's form, and what it does.

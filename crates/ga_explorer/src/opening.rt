@@ -4,12 +4,12 @@ ghost use Rattle.ga_explorer.specs.Opening.{begins_as_image, OpensExploring, Ope
 ghost use Rattle.ga_explorer.specs.kept.Opening.{IsUnopened};
 
 use crate::explorer::Explorer;
-use ga_console::{
-    edited_image, edited_source, open_image, tell_edited, tell_fault, tell_memory, tell_stores,
-};
+use ga_console::open_image;
 use ga_image::ImageFault;
 use ga_lab::Lab;
-use ga_notes::notes_of;
+use ga_notes::{
+    edited_image, edited_source, notes_of, tell_edited, tell_fault, tell_memory, tell_stores,
+};
 use ga_source::assemble;
 use std::alloc::Global;
 use std::io::Write;

@@ -4,8 +4,8 @@ ghost use Rattle.std.specs.Prelude.{◌≡◌, ◌+◌, ◌≤◌, ◌++◌};
 ghost use Rattle.arrayvec.specs.ArrayVec.{array_vec_len};
 ghost use Rattle.ga_explorer.specs.Trees.{data_name, return_name, part_name, mark_text};
 
-use ga_console::{NUMBER_ROOM, TextBuffer, push_byte, push_number, push_text};
 use ga_flow::Part;
+use ga_text::{NUMBER_ROOM, TextBuffer, push_byte, push_number, push_text};
 
 /// The most bytes of a part's name.
 pub(crate) const PART_ROOM: usize = b"d".len() + NUMBER_ROOM;

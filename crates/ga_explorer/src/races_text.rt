@@ -1,20 +1,20 @@
 //! Steps that could have come out otherwise, told line by line.
 
 ghost use Rattle.std.specs.Prelude.{◌≡◌, ◌≤◌, ◌++◌, length, flat_map};
-ghost use Rattle.ga_image.specs.Lines.{Bytes};
-ghost use Rattle.ga_console.specs.Output.{IsSaid, IsSaidOrCut};
-ghost use Rattle.ga_console.specs.kept.Output.{Says};
+ghost use Rattle.ga_text.specs.Lines.{Bytes};
+ghost use Rattle.ga_text.specs.Output.{IsSaid, IsSaidOrCut};
+ghost use Rattle.ga_text.specs.kept.Output.{Says};
 ghost use Rattle.ga_search.specs.Readings.{back_of};
 ghost use Rattle.ga_explorer.specs.Races.{race_text, reading_text, before_or_behind, races_head, race_lines_text, last_line, listed_text, TellsRaces};
 
 use arrayvec::ArrayVec;
-use ga_console::{
-    Output, TextBuffer, WriteFailed, push_node, push_number, push_step, push_text, push_word,
-    refusal_text,
-};
+use ga_console::refusal_text;
 use ga_grid::NodeId;
 use ga_lab::Lab;
 use ga_search::{Race, Races, Reading, find_races};
+use ga_text::{
+    Output, TextBuffer, WriteFailed, push_node, push_number, push_step, push_text, push_word,
+};
 use std::alloc::Global;
 use std::io::Write;
 

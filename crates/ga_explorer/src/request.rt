@@ -8,11 +8,10 @@ use crate::commands::place_of;
 use crate::conditions_request::{Conditions, no_condition};
 use crate::run_request::run_of;
 use crate::which::Which;
-use ga_console::{cut, node_in, number_in};
 use ga_grid::NodeId;
-use ga_image::byte_of;
 use ga_notes::Notes;
 use ga_search::Schedule;
+use ga_text::{byte_of, cut, node_in, number_in};
 
 /// How many events are made at most where no number is given.
 pub(crate) const MOST_EVENTS: u32 = u32::MAX;

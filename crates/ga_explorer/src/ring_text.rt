@@ -1,20 +1,20 @@
 //! Rings of nodes that can never go on, told line by line.
 
 ghost use Rattle.std.specs.Prelude.{◌≡◌, ◌++◌, ◌+◌, ◌≤◌, [], Some};
-ghost use Rattle.ga_image.specs.Lines.{Bytes};
+ghost use Rattle.ga_text.specs.Lines.{Bytes};
 ghost use Rattle.arrayvec.specs.ArrayVec.{array_vec_len};
 ghost use Rattle.ga_grid.specs.Grid.{number_where_any};
 ghost use Rattle.ga_grid.specs.Chip.{records_of};
 ghost use Rattle.ga_causal.specs.Dependence.{is_marked};
-ghost use Rattle.ga_console.specs.Output.{IsSaid, IsSaidOrCut};
-ghost use Rattle.ga_console.specs.kept.Output.{Says};
+ghost use Rattle.ga_text.specs.Output.{IsSaid, IsSaidOrCut};
+ghost use Rattle.ga_text.specs.kept.Output.{Says};
 ghost use Rattle.ga_explorer.specs.Waiting.{awaited_at, sole, sole_awaited, name_text, ring_names, ring_line, ring_text, all_rings};
 
 use arrayvec::ArrayVec;
-use ga_console::{Output, WriteFailed, push_node, push_text};
 use ga_grid::{Chip, NodeId, neighbour};
 use ga_ports::Side;
 use ga_search::awaits;
+use ga_text::{Output, WriteFailed, push_node, push_text};
 use std::io::Write;
 
 /// Room for a line: a name behind a space for each node, and one more behind the last that is followed.

@@ -5,9 +5,9 @@ ghost use Rattle.ga_explorer.specs.Reading.{run_in, lone_order, named_order, see
 
 use crate::conditions_request::{conditions_of, no_condition};
 use crate::request::{ExplorerCommand, MOST_EVENTS};
-use ga_console::{cut, number_in};
 use ga_notes::Notes;
 use ga_search::Schedule;
+use ga_text::{cut, number_in};
 
 /// What stands behind `run` and a space.
 pub(crate) fn run_of(notes: &Option<Notes>, text: &[u8]) -> Option<ExplorerCommand>

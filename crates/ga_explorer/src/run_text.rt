@@ -5,9 +5,10 @@ ghost use Rattle.arrayvec.specs.ArrayVec.{array_vec_len};
 ghost use Rattle.ga_explorer.specs.Texts.{run_text, which_text, fault_word};
 
 use arrayvec::ArrayVec;
-use ga_console::{LINE_ROOM, NUMBER_ROOM, push_made, push_number, push_text};
+use ga_console::push_made;
 use ga_lab::LabFault;
 use ga_search::{End, Ran};
+use ga_text::{LINE_ROOM, NUMBER_ROOM, push_number, push_text};
 
 /// The most bytes of a run's line.
 const RUN_ROOM: usize = 2 * LINE_ROOM;

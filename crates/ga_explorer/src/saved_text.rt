@@ -2,18 +2,18 @@
 
 ghost use Rattle.std.specs.Prelude.{◌≡◌, ◌++◌, flat_map};
 ghost use Rattle.std.specs.List.{slice_get};
-ghost use Rattle.ga_image.specs.Lines.{Bytes};
+ghost use Rattle.ga_text.specs.Lines.{Bytes};
 ghost use Rattle.ga_lab.specs.Forward.{actor_of};
-ghost use Rattle.ga_console.specs.Output.{IsSaid, IsSaidOrCut};
-ghost use Rattle.ga_console.specs.kept.Output.{Says};
+ghost use Rattle.ga_text.specs.Output.{IsSaid, IsSaidOrCut};
+ghost use Rattle.ga_text.specs.kept.Output.{Says};
 ghost use Rattle.ga_explorer.specs.Saved.{step_line, with_feed, saved_text};
 ghost use Rattle.ga_explorer.specs.kept.Saved.{actor_in, line_at, cause_line};
 
 use arrayvec::ArrayVec;
-use ga_console::{Output, TextBuffer, WriteFailed, push_node, push_text};
 use ga_event::{Cause, Event};
 use ga_grid::NodeId;
 use ga_lab::{Lab, Made};
+use ga_text::{Output, TextBuffer, WriteFailed, push_node, push_text};
 use std::io::Write;
 
 /// `save`: says a line `step NNN` for each kept event. Takes memory for the list of the events, and time by how many they are; where

@@ -1,10 +1,11 @@
 //! A whole session of exploring.
 ghost use Rattle.std.specs.Prelude.{◌≡◌, ◌++◌, Some};
-ghost use Rattle.ga_image.specs.Lines.{Bytes};
+ghost use Rattle.ga_text.specs.Lines.{Bytes};
 ghost use Rattle.ga_explorer.specs.Session.{RunsExploring};
 
 use crate::beginning::begin;
-use ga_console::{Input, Output, Status, serve, status_of};
+use ga_console::{Status, serve, status_of};
+use ga_text::{Input, Output};
 use std::alloc::Global;
 use std::io::{Read, Write};
 

@@ -1,18 +1,18 @@
 //! What a source says of cells, behind the lines that name them.
 
 ghost use Rattle.std.specs.Prelude.{◌≡◌, ◌++◌};
-ghost use Rattle.ga_image.specs.Lines.{Bytes};
-ghost use Rattle.ga_console.specs.Output.{IsSaid, IsSaidOrCut};
+ghost use Rattle.ga_text.specs.Lines.{Bytes};
+ghost use Rattle.ga_text.specs.Output.{IsSaid, IsSaidOrCut};
 ghost use Rattle.ga_lab.specs.Machine.{standing};
 ghost use Rattle.ga_origin.specs.Fetched.{fetched_cell as cell_fetched};
 ghost use Rattle.ga_explorer.specs.Tails.{noted_text, tail_text, step_tail, part_cell, value_tail};
 
-use ga_console::{Output, WriteFailed};
 use ga_flow::Part;
 use ga_grid::NodeId;
 use ga_lab::{Lab, Walk};
 use ga_notes::Notes;
 use ga_origin::{Value, fetched_near};
+use ga_text::{Output, WriteFailed};
 use std::io::Write;
 
 /// What the source says of a cell.

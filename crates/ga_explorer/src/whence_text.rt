@@ -1,13 +1,13 @@
 //! Where a value came from, told line by line.
 
 ghost use Rattle.std.specs.Prelude.{◌≡◌, ◌≤◌, ◌<◌, ◌+◌, ◌++◌, ◌⊎◌, Some, flat_map};
-ghost use Rattle.ga_image.specs.Lines.{Bytes};
+ghost use Rattle.ga_text.specs.Lines.{Bytes};
 ghost use Rattle.arrayvec.specs.ArrayVec.{array_vec_len};
 ghost use Rattle.ga_flow.specs.Flow.{IsPart};
 ghost use Rattle.ga_lab.specs.Machine.{stands, standing};
 ghost use Rattle.ga_event.specs.Told.{steps_of};
-ghost use Rattle.ga_console.specs.Output.{IsSaid, IsSaidOrCut};
-ghost use Rattle.ga_console.specs.kept.Output.{Says};
+ghost use Rattle.ga_text.specs.Output.{IsSaid, IsSaidOrCut};
+ghost use Rattle.ga_text.specs.kept.Output.{Says};
 ghost use Rattle.ga_explorer.specs.Trees.{blanks, tree_row_text, rows_by, value_text, did_text, head_text, more_text, TellsAsked, TellsWhence};
 ghost use Rattle.ga_explorer.specs.kept.Trees.{is_first};
 
@@ -15,13 +15,12 @@ use crate::deed_text::{DEED_ROOM, push_deed};
 use crate::part_text::{push_mark, push_part};
 use crate::tail_text::{say_value_tail, say_walk_tail};
 use arrayvec::ArrayVec;
-use ga_console::{
-    Output, STEP_ROOM, TextBuffer, WriteFailed, push_node, push_step, push_text, refusal_text,
-};
+use ga_console::refusal_text;
 use ga_grid::NodeId;
 use ga_lab::{Lab, LabFault, Walk};
 use ga_notes::Notes;
 use ga_origin::{Row, Value, asked_behind, whence_near};
+use ga_text::{Output, STEP_ROOM, TextBuffer, WriteFailed, push_node, push_step, push_text};
 use std::alloc::Global;
 use std::io::Write;
 

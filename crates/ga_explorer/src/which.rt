@@ -3,9 +3,9 @@
 ghost use Rattle.std.specs.Prelude.{◌≡◌};
 ghost use Rattle.ga_explorer.specs.Which.{which_in, step_meant};
 
-use ga_console::number_in;
 use ga_grid::NodeId;
 use ga_lab::Lab;
+use ga_text::number_in;
 
 /// Which step of a node is meant.
 #[derive(Clone, Copy, PartialEq, Eq, Debug)]

@@ -1,24 +1,24 @@
 //! Who waits for whom, told line by line.
 
 ghost use Rattle.std.specs.Prelude.{◌≡◌, ◌++◌, ◌+◌, ◌≤◌, ◌&&◌, not, if◌then◌else◌, length};
-ghost use Rattle.ga_image.specs.Lines.{Bytes};
+ghost use Rattle.ga_text.specs.Lines.{Bytes};
 ghost use Rattle.arrayvec.specs.ArrayVec.{array_vec_len};
 ghost use Rattle.ga_grid.specs.Grid.{number_where_any};
 ghost use Rattle.ga_grid.specs.Chip.{records_of};
 ghost use Rattle.ga_causal.specs.Dependence.{is_marked};
-ghost use Rattle.ga_console.specs.Output.{IsSaid, IsSaidOrCut};
-ghost use Rattle.ga_console.specs.kept.Output.{Says};
+ghost use Rattle.ga_text.specs.Output.{IsSaid, IsSaidOrCut};
+ghost use Rattle.ga_text.specs.kept.Output.{Says};
 ghost use Rattle.ga_explorer.specs.Waiting.{doing_word, does_text, beside_text, awaited_text, awaiting_text, waiting_text, busy_text, all_waiting, name_if, busy_names, node_count, idle_tail, stuck_line, stuck_text, idle_line, idle_text};
 ghost use Rattle.ga_explorer.specs.Answers.{TellsWho};
 
 use super::ring_text::say_rings;
 use arrayvec::ArrayVec;
-use ga_console::{NUMBER_ROOM, Output, TextBuffer, WriteFailed, push_node, push_number, push_text};
 use ga_grid::{Chip, NodeId, neighbour};
 use ga_lab::Lab;
 use ga_node::{Node, Wait};
 use ga_ports::Side;
 use ga_search::{awaits, find_idle, find_stuck};
+use ga_text::{NUMBER_ROOM, Output, TextBuffer, WriteFailed, push_node, push_number, push_text};
 use std::io::Write;
 
 /// The most bytes of what a node does.

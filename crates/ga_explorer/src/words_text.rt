@@ -1,18 +1,18 @@
 //! The words that went over a link, told line by line.
 
 ghost use Rattle.std.specs.Prelude.{◌≡◌, ◌++◌};
-ghost use Rattle.ga_image.specs.Lines.{Bytes};
-ghost use Rattle.ga_console.specs.Output.{IsSaid, IsSaidOrCut};
-ghost use Rattle.ga_console.specs.kept.Output.{Says};
+ghost use Rattle.ga_text.specs.Lines.{Bytes};
+ghost use Rattle.ga_text.specs.Output.{IsSaid, IsSaidOrCut};
+ghost use Rattle.ga_text.specs.kept.Output.{Says};
 ghost use Rattle.ga_explorer.specs.Texts.{sent_text, words_head, linked_text, link_words_text};
 
 use arrayvec::ArrayVec;
-use ga_console::{
-    Output, TextBuffer, WriteFailed, push_node, push_number, push_spaced, push_step, push_text,
-};
 use ga_grid::NodeId;
 use ga_lab::Lab;
 use ga_search::{Sent, Words, are_linked, count_words};
+use ga_text::{
+    Output, TextBuffer, WriteFailed, push_node, push_number, push_spaced, push_step, push_text,
+};
 use std::io::Write;
 
 /// `words NNN MMM`: tells the words that went from one node to another. Takes no memory.

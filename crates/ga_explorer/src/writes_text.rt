@@ -2,15 +2,15 @@
 
 ghost use Rattle.std.specs.Prelude.{◌≡◌, ◌<◌, Some};
 ghost use Rattle.ga_event.specs.Told.{steps_of};
-ghost use Rattle.ga_console.specs.kept.Output.{Says};
+ghost use Rattle.ga_text.specs.kept.Output.{Says};
 ghost use Rattle.ga_explorer.specs.Writing.{written_text, cell_writes, writes_text};
 
 use crate::deed_text::push_deed;
 use arrayvec::ArrayVec;
-use ga_console::{Output, TextBuffer, WriteFailed, push_spaced, push_step, push_text};
 use ga_grid::NodeId;
 use ga_lab::Lab;
 use ga_origin::{CellWrite, CellWrites};
+use ga_text::{Output, TextBuffer, WriteFailed, push_spaced, push_step, push_text};
 use std::io::Write;
 
 /// `writes NNN HH`: tells the steps of a node that wrote at an address of its memory, the newest first. Takes no memory.

@@ -19,6 +19,7 @@ use Rattle.ga_image.specs.Reading.{reading, fault_of, later_fault, node_fault, a
 use Rattle.ga_image.proofs.Spellings.{forms_read}
 use Rattle.ga_image.proofs.Flags.{seen_twice, AreBelow, AreFree, apart_once, all_free, or_false}
 use Rattle.ga_image.proofs.Meanings.{reads, reading_forms, fields_read, marked}
+use Rattle.ga_text.proofs.Taking.{node_of_yxx}
 
 -- the places of writes, by their numbers
 abbrev pub numbers : List (Field × ℕ) → List ℕ
@@ -59,16 +60,6 @@ fields_below (field_line ∷ field_lines) each = below-append (writes field_line
 pub all_written : (progress : Progress) (ws : List (Field × ℕ)) → with_writes progress ws ≡ record progress { given = marked progress.given ws; held = held_after progress.held ws; chip = chip_with_words (node_of_stage progress.stage) progress.chip ws }
 all_written progress [] = refl
 all_written progress (w ∷ ws) = all_written (with_write progress w) ws
-
--- a node is found again by its row and column
-pub node_of_yxx : (n : ℕ) → n < 144 → node_of (yxx_of n) ≡ Some n
-node_of_yxx n small =
-    let row : (100 * (n / 18) + n % 18) / 100 ≡ n / 18 = omega arith in
-    let column : (100 * (n / 18) + n % 18) % 100 ≡ n % 18 = omega arith in
-    let rows : n / 18 < 8 = omega arith in
-    let columns : n % 18 < 18 = omega arith in
-    let whole : 18 * (n / 18) + n % 18 ≡ n = omega arith in
-    rw (row, column) (grind (arith, nat_tests))
 
 -- a block or the end may come, and the block before can stand
 abbrev pub IsReady : Progress → Type 0

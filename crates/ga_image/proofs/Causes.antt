@@ -9,7 +9,7 @@ use Rattle.ga_image.specs.declared.field.Format.{Format}
 use Rattle.ga_image.specs.declared.field.Format.TheVariants.{One, Two}
 use Rattle.ga_image.specs.declared.held.Held.{Held}
 use Rattle.ga_image.specs.Spelling.{Form, Node, Words, End, Spells}
-use Rattle.ga_image.specs.Lines.{longest}
+use Rattle.ga_text.specs.Lines.{longest}
 use Rattle.ga_image.specs.Grammar.{header, is_header_of}
 use Rattle.ga_image.specs.Progress.{Progress, Stage}
 use Rattle.ga_image.specs.Progress as stage

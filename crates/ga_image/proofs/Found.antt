@@ -14,7 +14,7 @@ use Rattle.ga_image.specs.declared.held.Held.{Held}
 use Rattle.ga_image.specs.declared.fault.ImageFault.{ImageFault}
 use Rattle.ga_image.specs.declared.fault.ImageCause.{ImageCause}
 use Rattle.ga_image.specs.declared.fault.ImageCause.TheVariants as cause
-use Rattle.ga_image.specs.Lines.{longest}
+use Rattle.ga_text.specs.Lines.{longest}
 use Rattle.ga_image.specs.Grammar.{with_word, header, is_header_of, format_of, Block, field_line_form, block_forms, all_writes, Fits, IsFieldLine, IsBlock, chip_with_words, loaded, IsImage}
 use Rattle.ga_image.specs.Progress.{Progress, Stage}
 use Rattle.ga_image.specs.Progress as stage

@@ -1,5 +1,3 @@
-pub mod Feeds
-pub mod Cells
 pub mod Spaced
 pub mod Numbers
 pub mod Spelled

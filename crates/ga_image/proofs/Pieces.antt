@@ -8,7 +8,8 @@ use Rattle.ga_word.specs.Word.{hex6_of}
 use Rattle.ga_image.specs.declared.field.Field.{Field}
 use Rattle.ga_node.specs.Record.{NodeRecord}
 use Rattle.ga_grid.specs.Grid.{yxx_of}
-use Rattle.ga_image.specs.Spelling.{Node, End, words_text, decimal3_of}
+use Rattle.ga_image.specs.Spelling.{Node, End}
+use Rattle.ga_text.specs.Digits.{words_text, decimal3_of}
 use Rattle.ga_image.specs.Grammar.{Block, field_line_form, block_forms}
 use Rattle.ga_image.specs.Printing.{AreWords, lines_text, line_text, field_text, line_unless, word_unless, row_cells, lines_at, block_unless, blocks_from, printed}
 use Rattle.ga_image.specs.kept.Printing.{fields_text, blocks_text}

@@ -24,7 +24,7 @@ use Rattle.ga_image.specs.declared.field.Field.TheVariants.{A, B, P, I, Io, Carr
 use Rattle.ga_image.specs.declared.field.Format.TheVariants.{Two}
 use Rattle.ga_image.specs.Fields.{writes, number_of}
 use Rattle.ga_image.specs.Held.{held_at_load, held_after, is_unsteady}
-use Rattle.ga_image.specs.Lines.{lines_of}
+use Rattle.ga_text.specs.Lines.{lines_of}
 use Rattle.ga_image.specs.Spelling.{Node, End}
 use Rattle.ga_image.specs.Grammar.{header, Block, field_line_form, block_forms, all_writes, IsFieldLine, IsBlock, with_field, with_word, chip_with_words, loaded, IsImage}
 use Rattle.ga_image.specs.Printing.{line_text, line_unless, word_unless, row_of_words, memory_lines, register_lines, state_lines, lines_beside, lines_at, block_unless, blocks_from, forms_of, printed}

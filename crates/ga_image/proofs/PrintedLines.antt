@@ -12,12 +12,13 @@ use Rattle.ga_word.specs.Word.{hex_digit}
 use Rattle.ga_image.specs.declared.field.Field.{Field}
 use Rattle.ga_image.specs.declared.field.Field.TheVariants.{A, B, P, I, Io, Carry, Slot, Wait, Stop, Data, Return, Ram, Rom}
 use Rattle.ga_image.specs.declared.field.Format.TheVariants.{Two}
-use Rattle.ga_image.specs.Lines.{lines_of, with_byte}
-use Rattle.ga_image.specs.Spelling.{Form, Node, Words, End, decimal3_of, hex2_of, words_text, letter, set_text, wait_text, field_name, numbers_of, code_text, HasCount, SpellsWords, IsCode, SpellsCode, SpellsField, SpellsIn}
+use Rattle.ga_text.specs.Lines.{lines_of, with_byte}
+use Rattle.ga_image.specs.Spelling.{Form, Node, Words, End, letter, set_text, wait_text, field_name, numbers_of, code_text, HasCount, SpellsWords, IsCode, SpellsCode, SpellsField, SpellsIn}
+use Rattle.ga_text.specs.Digits.{decimal3_of, hex2_of, words_text}
 use Rattle.ga_image.specs.Grammar.{Spell, header}
 use Rattle.ga_image.specs.Printing.{field_text, line_text, lines_text}
-use Rattle.ga_image.proofs.Numbers.{digit_spelled}
-use Rattle.ga_image.proofs.Feeds.{past_byte}
+use Rattle.ga_text.proofs.Numbers.{digit_spelled}
+use Rattle.ga_text.proofs.Feeds.{past_byte}
 
 -- ---- digits
 

@@ -4,7 +4,8 @@ use Rattle.std.specs.Str.{str_to_ascii_lowercase}
 use Rattle.std.proofs.Common.{◌≡◌, ℕ, ◌+◌, ◌*◌, ◌<◌, ◌≤◌, Bool, true, false, cond, List, [], ◌∷◌, length, refl, sym, ◌∙◌, ap, arith, length-append}
 use Rattle.ga_image.specs.declared.field.Field.{Field}
 use Rattle.ga_image.specs.declared.field.Field.TheVariants.{A, B, P, I, Io, Carry, Slot, Wait, Stop, Data, Return, Ram, Rom}
-use Rattle.ga_image.specs.Spelling.{Form, Node, Words, End, Spells, SpellsField, SpellsWords, SpellsCode, HasCount, words_text, set_text, wait_text, code_text, field_name, numbers_of}
+use Rattle.ga_image.specs.Spelling.{Form, Node, Words, End, Spells, SpellsField, SpellsWords, SpellsCode, HasCount, set_text, wait_text, code_text, field_name, numbers_of}
+use Rattle.ga_text.specs.Digits.{words_text}
 
 lower_length : (xs : List ℕ) → length (str_to_ascii_lowercase xs) ≡ length xs
 lower_length [] = refl

@@ -17,10 +17,11 @@ use Rattle.ga_ports.specs.Steps.{◌>>=◌}
 use Rattle.ga_node.specs.Waits.{IsWaitCode}
 use Rattle.ga_grid.specs.Names.{node_number}
 use Rattle.ga_ports.specs.Letters.{set_number}
-use Rattle.ga_image.specs.Digits.{byte_in}
-use Rattle.ga_image.specs.Spelling.{Form, Node, Words, End, hex2_of, words_text, set_text, wait_text, field_name, numbers_of, code_text, HasCount, SpellsWords, IsCode, SpellsCode, SpellsField, Spells}
+use Rattle.ga_text.specs.Digits.{byte_in, hex2_of, words_text}
+use Rattle.ga_image.specs.Spelling.{Form, Node, Words, End, set_text, wait_text, field_name, numbers_of, code_text, HasCount, SpellsWords, IsCode, SpellsCode, SpellsField, Spells}
 use Rattle.ga_image.specs.Forms.{form, spaced_words, few, words_in_row, word_form, cells_form, stack_form, digit_form, set_form, side_form, wait_form, node_form, wide_form, state_form, begins}
-use Rattle.ga_image.proofs.Numbers.{word_spelled, word_read, cell_spelled, node_spelled, set_spelled, between}
+use Rattle.ga_text.proofs.Numbers.{word_spelled, word_read, cell_spelled, node_spelled, between}
+use Rattle.ga_image.proofs.Numbers.{set_spelled}
 
 -- the first step gave something
 first_step : {A B : Type 0} (o : Option A) (f : A → Option B) (y : B) → (o >>= f) ≡ Some y → (x : A) × (o ≡ Some x) × (f x ≡ Some y)

@@ -11,12 +11,14 @@ use Rattle.ga_image.specs.declared.field.Field.TheVariants.{A, B, P, I, Io, Carr
 use Rattle.ga_node.specs.Waits.{IsWaitCode}
 use Rattle.ga_image.specs.declared.field.Format.{Format}
 use Rattle.ga_image.specs.Fields.{has_field}
-use Rattle.ga_image.specs.Spelling.{Form, Node, Words, End, decimal3_of, hex2_of, words_text, set_text, wait_text, field_name, code_text, SpellsWords, SpellsCode, SpellsField, Spells, IsFormOf, SpellsIn}
+use Rattle.ga_image.specs.Spelling.{Form, Node, Words, End, set_text, wait_text, field_name, code_text, SpellsWords, SpellsCode, SpellsField, Spells, IsFormOf, SpellsIn}
+use Rattle.ga_text.specs.Digits.{decimal3_of, hex2_of, words_text}
 use Rattle.ga_image.specs.kept.Spelling.{HoldsCode, AreCodes}
 use Rattle.ga_image.specs.Forms.{form, word_form, cells_form, stack_form, digit_form, set_form, side_form, wait_form, node_form, wide_form, state_form}
 use Rattle.ga_image.specs.Reading.{form_in, kept_in}
 use Rattle.ga_image.specs.Grammar.{Spell}
-use Rattle.ga_image.proofs.Numbers.{word_read, cell_read, node_read, set_read}
+use Rattle.ga_text.proofs.Numbers.{word_read, cell_read, node_read}
+use Rattle.ga_image.proofs.Numbers.{set_read}
 use Rattle.ga_image.proofs.Spelled.{AreSix, guarded, lower_space, row_read, fetch_text, read_text, write_text, form_spelled}
 
 one_word : (ws : List ℕ) → length ws ≡ 1 → (w : ℕ) × (ws ≡ w ∷ [])

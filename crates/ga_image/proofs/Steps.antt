@@ -7,7 +7,7 @@ use Rattle.ga_image.specs.declared.fault.ImageCause.{ImageCause}
 use Rattle.ga_image.specs.declared.fault.ImageCause.TheVariants.{Truncated}
 use Rattle.ga_image.specs.Progress.{Progress, Stage, Header, Open, Block, Ended}
 use Rattle.ga_image.specs.kept.Progress.{stage_of}
-use Rattle.ga_image.specs.Lines.{lines_of}
+use Rattle.ga_text.specs.Lines.{lines_of}
 use Rattle.ga_image.specs.Reading.{reading, fault_of, after_line, at_end}
 
 -- past a line without fault

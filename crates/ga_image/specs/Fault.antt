@@ -1,7 +1,7 @@
 -- The causes of a refusal: the number and the word by which each is reported (docs/REFERENCE.md, "Images"; this project's
 -- own).
 use Rattle.std.specs.Prelude.{ℕ, codes}
-use Rattle.ga_image.specs.Lines.{Text}
+use Rattle.ga_text.specs.Lines.{Text}
 use Rattle.ga_image.specs.declared.fault.ImageCause.{ImageCause}
 use Rattle.ga_image.specs.declared.fault.ImageCause.TheVariants.{Header, Line, Node, Word, Repeated, Place, Truncated, Long, Memory, State}
 use Rattle.ga_image.specs.declared.fault.ImageCause.TheVariants as cause

@@ -11,7 +11,7 @@ use Rattle.ga_image.specs.declared.field.Format.{Format}
 use Rattle.ga_image.specs.declared.field.Format.TheVariants.{One}
 use Rattle.ga_image.specs.Fields.{writes, greatest}
 use Rattle.ga_image.specs.Held.{held_at_load, held_after, is_unsteady}
-use Rattle.ga_image.specs.Lines.{Line, longest}
+use Rattle.ga_text.specs.Lines.{Line, longest}
 use Rattle.ga_image.specs.Spelling.{Form, Node, Words, End, Spells, SpellsIn}
 use Rattle.ga_image.specs.Grammar.{header, format_of, field_line_form, all_writes, Fits}
 

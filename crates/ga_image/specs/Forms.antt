@@ -1,7 +1,7 @@
 -- Reading a line: the form that it spells.
 use Rattle.std.specs.Prelude.{ℕ, ◌+◌, ◌-◌, ◌==◌, ◌&&◌, nat_eq, nat_le, Bool, if◌then◌else◌, List, [], ◌∷◌, length, take, drop, codes, Option, Some, None}
 use Rattle.std.specs.Cmp.Lexicographic.{pointwise}
-use Rattle.ga_image.specs.Lines.{Text, Line}
+use Rattle.ga_text.specs.Lines.{Text, Line}
 use Rattle.ga_word.specs.Word.{read6_of}
 use Rattle.ga_ports.specs.Address.{is_single}
 use Rattle.ga_image.specs.declared.field.Field.{Field}
@@ -9,7 +9,7 @@ use Rattle.ga_image.specs.declared.field.Field.TheVariants.{A, B, P, I, Io, Carr
 use Rattle.ga_ports.specs.Steps.{◌>>=◌}
 use Rattle.ga_grid.specs.Names.{node_number}
 use Rattle.ga_ports.specs.Letters.{set_number}
-use Rattle.ga_image.specs.Digits.{byte_in}
+use Rattle.ga_text.specs.Digits.{byte_in}
 use Rattle.ga_image.specs.Spelling.{Form, Node, Words, End}
 
 -- numbers of six digits, each behind one space

@@ -1,10 +1,8 @@
-pub mod Lines
 pub mod Fault
 pub mod Fields
 pub mod Held
 pub mod Spelling
 pub mod Grammar
-pub mod Digits
 pub mod Forms
 pub mod Progress
 pub mod Reading

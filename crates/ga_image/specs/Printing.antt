@@ -2,7 +2,7 @@
 use Rattle.std.specs.Prelude.{ℕ, ◌+◌, ◌^◌, ◌<◌, ◌==◌, if◌then◌else◌, List, [], ◌∷◌, ◌++◌, take, drop, slice_index, codes, map, flat_map}
 use Rattle.std.specs.List.{AllByRecursion, list_all}
 use Rattle.std.specs.Int.{from_bool}
-use Rattle.ga_image.specs.Lines.{Text, Line}
+use Rattle.ga_text.specs.Lines.{Text, Line}
 use Rattle.ga_stacks.specs.Ring.{fresh_word}
 use Rattle.ga_node.specs.Record.{NodeRecord, fresh_record}
 use Rattle.ga_node.specs.Waits.{wait_code}
@@ -10,7 +10,8 @@ use Rattle.ga_grid.specs.Load.{load_p_of}
 use Rattle.ga_image.specs.declared.field.Field.{Field}
 use Rattle.ga_image.specs.declared.field.Field.TheVariants.{A, B, P, I, Io, Carry, Slot, Wait, Stop, Data, Return, Ram, Rom}
 use Rattle.ga_image.specs.declared.field.Format.TheVariants.{Two}
-use Rattle.ga_image.specs.Spelling.{Form, Node, Words, End, decimal3_of, field_name, numbers_of, code_text}
+use Rattle.ga_image.specs.Spelling.{Form, Node, Words, End, field_name, numbers_of, code_text}
+use Rattle.ga_text.specs.Digits.{decimal3_of}
 use Rattle.ga_image.specs.Grammar.{header, Block, block_forms}
 
 -- ---- lines

@@ -1,7 +1,7 @@
 -- A text that describes a chip, and the chips that a text in format 2, a format of this project's own, can describe.
 use Rattle.std.specs.Prelude.{ℕ, ◌≡◌, ◌^◌, ◌<◌, ◌≤◌, List, length}
 use Rattle.std.specs.List.{AllByRecursion}
-use Rattle.ga_image.specs.Lines.{Line}
+use Rattle.ga_text.specs.Lines.{Line}
 use Rattle.ga_node.specs.declared.wait.Wait.{Wait}
 use Rattle.ga_node.specs.declared.wait.Wait.TheVariants.{Nothing, Fetch, Read, Write}
 use Rattle.ga_node.specs.Record.{NodeState, NodeRecord}

@@ -14,7 +14,7 @@ use Rattle.ga_image.specs.Held.{held_at_load, with_held, is_unsteady}
 use Rattle.ga_image.specs.Fields.{field_count, has_field, number_of, writes, goes_past, is_too_great, repeats}
 use Rattle.ga_image.specs.Spelling.{Form, Node, Words, End}
 use Rattle.ga_image.specs.Forms.{form}
-use Rattle.ga_image.specs.Lines.{Line, longest}
+use Rattle.ga_text.specs.Lines.{Line, longest}
 use Rattle.ga_image.specs.Grammar.{is_header_of, format_of, with_word}
 use Rattle.ga_image.specs.Progress.{Stage, Header, Open, Block, Ended, Progress}
 use Rattle.ga_image.specs.Fault.{no_memory}

@@ -2,13 +2,14 @@
 use Rattle.std.specs.Prelude.{◌≡◌, ◌≢◌, ℕ, ◌+◌, ◌-◌, ◌/◌, ◌%◌, ◌^◌, ◌<◌, ◌≤◌, ◌==◌, nat_lt, if◌then◌else◌, true, ◌++◌, List, [], ◌∷◌, length, codes, flat_map}
 use Rattle.std.specs.List.{AllByRecursion}
 use Rattle.std.specs.Str.{str_to_ascii_lowercase}
-use Rattle.ga_image.specs.Lines.{Text, Line}
+use Rattle.ga_text.specs.Lines.{Text, Line}
 use Rattle.ga_word.specs.Word.{hex_digit, hex6_of}
 use Rattle.ga_node.specs.Waits.{IsWaitCode}
 use Rattle.ga_image.specs.declared.field.Field.{Field}
 use Rattle.ga_image.specs.declared.field.Format.{Format}
 use Rattle.ga_image.specs.Fields.{has_field}
 use Rattle.ga_image.specs.declared.field.Field.TheVariants.{A, B, P, I, Io, Carry, Slot, Wait, Stop, Data, Return, Ram, Rom}
+use Rattle.ga_text.specs.Digits.{decimal3_of, hex2_of, words_text}
 
 -- A line behind the header: a block of the node with this row and column begins; words for a field and for those
 -- after it; or the end.
@@ -16,18 +17,6 @@ pub data Form : Type 0 where
   Node : ℕ → Form
   Words : Field → List ℕ → Form
   End : Form
-
--- three decimal digits
-abbrev pub decimal3_of : ℕ → Text
-decimal3_of n = (48 + n / 100) ∷ (48 + n / 10 % 10) ∷ (48 + n % 10) ∷ []
-
--- two hexadecimal digits
-abbrev pub hex2_of : ℕ → Text
-hex2_of n = hex_digit n 1 ∷ hex_digit n 0 ∷ []
-
--- words of six digits, each behind one space
-abbrev pub words_text : List ℕ → Text
-words_text words = flat_map (λ word. 32 ∷ hex6_of word) words
 
 -- the letter of a side in a set, or a hyphen where the set lacks it
 abbrev pub letter : ℕ → ℕ → ℕ

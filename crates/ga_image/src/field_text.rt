@@ -4,7 +4,8 @@ ghost use Rattle.std.specs.Prelude.{◌≡◌, ◌<◌, ◌≤◌, ◌++◌, [],
 ghost use Rattle.std.specs.List.{list_all};
 ghost use Rattle.ga_grid.specs.Grid.{yxx_of};
 ghost use Rattle.ga_node.specs.Waits.{IsWaitCode};
-ghost use Rattle.ga_image.specs.Spelling.{decimal3_of, hex2_of, words_text, set_text, wait_text};
+ghost use Rattle.ga_text.specs.Digits.{decimal3_of, hex2_of, words_text};
+ghost use Rattle.ga_image.specs.Spelling.{set_text, wait_text};
 ghost use Rattle.ga_image.specs.Printing.{field_text, line_unless, word_unless, AreWords};
 ghost use Rattle.ga_image.specs.kept.Printing.{fields_text, HasWords, HasDigit};
 

@@ -5,14 +5,14 @@ ghost use Rattle.ga_node.specs.Record.{NodeState};
 ghost use Rattle.ga_grid.specs.Load.{default_chip};
 ghost use Rattle.ga_image.specs.FirstFault.{IsFirstFault};
 ghost use Rattle.ga_image.specs.Grammar.{IsImage};
-ghost use Rattle.ga_image.specs.Lines.{lines_of};
+ghost use Rattle.ga_text.specs.Lines.{lines_of};
 ghost use Rattle.ga_image.specs.Reading.{start, reading, Gives};
 ghost use Rattle.ga_image.specs.Fault.{no_memory};
 
 use super::fault::{ImageCause, ImageFault};
-use super::lines::first_line;
 use super::parser::{Parser, Stage};
 use ga_grid::Chip;
+use ga_text::first_line;
 use std::alloc::Global;
 
 /// The chip that a text describes, or the first fault of the text. All memory is taken before the text is looked at.

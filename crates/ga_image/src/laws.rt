@@ -7,7 +7,7 @@ ghost use Rattle.ga_grid.specs.Steady.{AreSteady};
 ghost use Rattle.ga_image.specs.declared.fault.ImageFault.{ImageFault};
 ghost use Rattle.ga_image.specs.FirstFault.{IsFirstFault};
 ghost use Rattle.ga_image.specs.Grammar.{IsImage};
-ghost use Rattle.ga_image.specs.Lines.{lines_of};
+ghost use Rattle.ga_text.specs.Lines.{lines_of};
 ghost use Rattle.ga_image.specs.Printing.{printed};
 ghost use Rattle.ga_image.specs.ReadBack.{AreSound, Describes};
 ghost use Rattle.ga_image.specs.Reading.{start, reading};

@@ -2,7 +2,6 @@
 //! formats line by line; `parse` reads either, `print` writes the second.
 #![tactic(auto)]
 
-mod digits;
 mod fault;
 mod field;
 mod field_text;
@@ -10,11 +9,9 @@ mod held;
 mod image;
 pub mod laws;
 mod line;
-mod lines;
 mod parser;
 mod printing;
 
-pub use digits::byte_of;
 pub use fault::{ImageCause, ImageFault};
 pub use image::parse;
 pub use parser::LINE_LIMIT;

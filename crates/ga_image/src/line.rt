@@ -6,11 +6,11 @@ ghost use Rattle.std.specs.Option.{option_map};
 ghost use Rattle.ga_image.specs.kept.Forms.{form_of, field_in};
 ghost use Rattle.ga_image.specs.Forms.{words_in_row, word_form, cells_form, stack_form, digit_form, set_form, side_form, wait_form, node_form, wide_form, state_form, form};
 
-use super::digits::byte_of;
 use super::field::{Bank, Field};
 use arrayvec::ArrayVec;
 use ga_grid::node_number;
 use ga_ports::set_number;
+use ga_text::byte_of;
 use ga_word::Word18;
 
 /// A line behind the header.

@@ -8,7 +8,7 @@ ghost use Rattle.ga_grid.specs.Steady.{AreSteady};
 ghost use Rattle.ga_image.specs.kept.Printing.{fields_text, blocks_text, memory_in};
 ghost use Rattle.ga_image.specs.Printing.{register_lines, state_lines, memory_lines, row_of_words, lines_beside, block_unless, lines_at, printed, AreWords};
 ghost use Rattle.ga_image.specs.ReadBack.{HasSoundRegisters, HasSoundState, HoldsWords, IsSoundRecord, AreSound, Describes};
-ghost use Rattle.ga_image.specs.Lines.{lines_of};
+ghost use Rattle.ga_text.specs.Lines.{lines_of};
 ghost use Rattle.ga_image.specs.Fault.{no_memory};
 ghost use Rattle.ga_image.specs.kept.Forms.{field_in};
 

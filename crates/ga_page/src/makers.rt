@@ -1,7 +1,7 @@
 //! Which nodes made the events that a session keeps, as one call.
 
 ghost use Rattle.std.specs.Prelude.{◌≡◌, ◌++◌, ◌⊎◌, ℕ, List, Ok, IfSome, length, map, take};
-ghost use Rattle.ga_image.specs.Lines.{Bytes};
+ghost use Rattle.ga_text.specs.Lines.{Bytes};
 ghost use Rattle.ga_explorer.specs.Tails.{Exploring};
 ghost use Rattle.ga_picture.specs.Following.{FollowsTo};
 ghost use Rattle.ga_page.specs.kept.Makers.{maker_of, makers_of};

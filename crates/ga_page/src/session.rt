@@ -1,7 +1,7 @@
 //! A whole session of exploring as one call: the bytes of an image and its commands in, the answers out.
 
 ghost use Rattle.std.specs.Prelude.{◌≡◌, ◌++◌, ◌∷◌, [], length, take};
-ghost use Rattle.ga_image.specs.Lines.{Bytes};
+ghost use Rattle.ga_text.specs.Lines.{Bytes};
 ghost use Rattle.ga_console.specs.declared.run.Status.{Status as Ended};
 ghost use Rattle.ga_explorer.specs.Session.{RunsExploring};
 ghost use Rattle.ga_page.specs.kept.Ended.{number_of};

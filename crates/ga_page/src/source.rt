@@ -1,12 +1,12 @@
 //! Source as one call: its image, and its listing.
 
 ghost use Rattle.std.specs.Prelude.{◌≡◌, ◌++◌, length, take};
-ghost use Rattle.ga_image.specs.Lines.{Bytes};
-ghost use Rattle.ga_console.specs.Source.{Assembles, Lists};
+ghost use Rattle.ga_text.specs.Lines.{Bytes};
+ghost use Rattle.ga_listing.specs.Source.{Assembles, Lists};
 ghost use Rattle.ga_console.specs.declared.run.Status.{Status as Ended};
 
 use crate::buffer::put_front;
-use ga_console::{assemble_source, list_source};
+use ga_listing::{assemble_source, list_source};
 use std::alloc::Global;
 
 /// The image of a source, as far as there is room for it; says how many bytes it has, 0 where the source is refused. Its fault

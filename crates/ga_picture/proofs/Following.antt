@@ -5,7 +5,7 @@ use Rattle.ga_console.specs.Run.{status_of}
 use Rattle.ga_console.specs.Session.{Answers, Script, Serves}
 use Rattle.ga_console.specs.declared.commands.Ending.{Ending}
 use Rattle.ga_console.specs.declared.commands.Ending.TheVariants.{Ended, Quit, Past, ReadFailed}
-use Rattle.ga_console.specs.declared.output.WriteFailed.{WriteFailed}
+use Rattle.ga_text.specs.declared.output.WriteFailed.{WriteFailed}
 use Rattle.ga_console.specs.declared.run.Status.TheVariants.{Done}
 use Rattle.ga_picture.specs.Following.{Hears, Follows}
 use Rattle.ga_picture.specs.kept.Following.{HearsLine}

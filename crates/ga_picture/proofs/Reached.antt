@@ -1,12 +1,12 @@
 -- From the parts of a session whose answers are dropped to the whole.
 use Rattle.std.proofs.Common.{◌≡◌, ℕ, ◌-◌, List, [], ◌++◌, length, inl, inr, refl, Result, Ok, Err}
 use Rattle.ga_explorer.specs.Tails.{Exploring}
-use Rattle.ga_console.specs.Input.{input_limit}
+use Rattle.ga_text.specs.Input.{input_limit}
 use Rattle.ga_console.specs.Run.{status_of}
 use Rattle.ga_console.specs.Session.{Serves, Written}
 use Rattle.ga_console.specs.Turns.{Answering}
 use Rattle.ga_console.specs.declared.commands.Ending.{Ending}
-use Rattle.ga_console.specs.declared.output.WriteFailed.{WriteFailed}
+use Rattle.ga_text.specs.declared.output.WriteFailed.{WriteFailed}
 use Rattle.ga_console.specs.declared.run.Status.{Status}
 use Rattle.ga_console.specs.declared.run.Status.TheVariants.{Done}
 use Rattle.ga_explorer.specs.Opening.{OpensExploring, IsFront}

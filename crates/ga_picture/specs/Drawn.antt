@@ -1,13 +1,13 @@
 -- What a session that ends with a picture may write, and its status (docs/REFERENCE.md, "Pictures"; this project's own).
 use Rattle.std.specs.Prelude.{◌≡◌, ℕ, ◌⊎◌, true, false, [], Result}
-use Rattle.ga_image.specs.Lines.{Bytes, Text}
+use Rattle.ga_text.specs.Lines.{Bytes, Text}
 use Rattle.ga_lab.specs.Machine.{State}
 use Rattle.ga_lab.specs.declared.fault.LabFault.{LabFault}
 use Rattle.ga_lab.specs.declared.fault.LabFault.TheVariants.{Waiting, Stopped, Full, Memory, Empty, NoStep, Spent}
-use Rattle.ga_console.specs.Output.{Begins}
+use Rattle.ga_text.specs.Output.{Begins}
 use Rattle.ga_console.specs.Run.{status_of}
 use Rattle.ga_console.specs.declared.commands.Ending.{Ending}
-use Rattle.ga_console.specs.declared.output.WriteFailed.{WriteFailed}
+use Rattle.ga_text.specs.declared.output.WriteFailed.{WriteFailed}
 use Rattle.ga_console.specs.declared.run.Status.{Status}
 use Rattle.ga_console.specs.declared.run.Status.TheVariants.{Done, ImageRefused, StreamFault, NotFinished}
 use Rattle.ga_picture.specs.Picture.{IsPictureText, all_stand}

@@ -1,14 +1,15 @@
 //! A whole session whose answers are dropped.
 ghost use Rattle.std.specs.Prelude.{◌≡◌, ◌-◌, ◌++◌, Some};
-ghost use Rattle.ga_image.specs.Lines.{Bytes};
-ghost use Rattle.ga_console.specs.Input.{IsWithin, input_limit};
+ghost use Rattle.ga_text.specs.Lines.{Bytes};
+ghost use Rattle.ga_text.specs.Input.{IsWithin, input_limit};
 ghost use Rattle.ga_picture.specs.Following.{FollowsTo, Declines};
 ghost use Rattle.ga_picture.specs.kept.Following.{Goes, Ends};
 
 use super::silent::Silent;
-use ga_console::{Input, Output, Status, refusal_text, serve, status_of, write_all};
+use ga_console::{Status, refusal_text, serve, status_of};
 use ga_explorer::{Explorer, begin};
 use ga_lab::LabFault;
+use ga_text::{Input, Output, write_all};
 use std::alloc::Global;
 use std::io::{Read, Write};
 

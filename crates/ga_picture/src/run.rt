@@ -1,12 +1,13 @@
 //! A whole session that ends with a picture.
 ghost use Rattle.std.specs.Prelude.{◌≡◌, ◌++◌, Some};
-ghost use Rattle.ga_image.specs.Lines.{Bytes};
+ghost use Rattle.ga_text.specs.Lines.{Bytes};
 ghost use Rattle.ga_picture.specs.Drawn.{Draws, Pictures, IsOut};
 
 use super::follow::{decline, follow_session};
 use super::view::{View, picture};
-use ga_console::{Status, write_all};
+use ga_console::Status;
 use ga_lab::Lab;
+use ga_text::write_all;
 use std::alloc::Global;
 use std::io::{Read, Write};
 

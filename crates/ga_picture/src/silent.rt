@@ -1,16 +1,17 @@
 //! A session that says nothing.
 ghost use Rattle.std.specs.Prelude.{◌≡◌, ◌↔◌, [], Some, Ok, IsTrue};
-ghost use Rattle.ga_image.specs.Lines.{Bytes};
-ghost use Rattle.ga_console.specs.Output.{IsSaid};
+ghost use Rattle.ga_text.specs.Lines.{Bytes};
+ghost use Rattle.ga_text.specs.Output.{IsSaid};
 ghost use Rattle.ga_console.specs.declared.responder.Turn.TheVariants.{Quit};
 ghost use Rattle.ga_console.specs.kept.Turns.{Turns, AnswersCommand};
 ghost use Rattle.ga_picture.specs.Following.{IsShort};
 ghost use Rattle.ga_picture.specs.kept.Following.{Notes};
 ghost use Rattle.ga_explorer.specs.Answers.{Explores};
 
-use ga_console::{Command, Output, Responder, Turn, WriteFailed};
+use ga_console::{Command, Responder, Turn};
 use ga_explorer::Explorer;
 use ga_lab::Lab;
+use ga_text::{Output, WriteFailed};
 use std::alloc::Global;
 use std::io::Write;
 

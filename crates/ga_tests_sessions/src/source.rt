@@ -1,7 +1,8 @@
 //! Source as `asm`, `list` and `dis` take it. Other sources stand in the folder `sources` at the top.
 
 use crate::same::{ends, same};
-use ga_console::{Status, assemble_source, disassemble, list_source};
+use ga_console::Status;
+use ga_listing::{assemble_source, disassemble, list_source};
 
 const SOURCE: &[u8] = b"node 001\n: main right b! @b go\n  \\ nothing\n: go 'go go ;\n12 ,\nend\nx";
 

@@ -1,7 +1,6 @@
 -- A line that was read whole and is not taken yet.
 use Rattle.std.specs.Prelude.{◌≡◌, ◌≢◌, ◌≤◌, ◌<◌, ℕ, ◌∷◌, ◌++◌, length, take, slice_index}
-use Rattle.ga_image.specs.Lines.{Bytes, Line, longest}
-use Rattle.ga_console.specs.Lines.{HasNoFeed}
+use Rattle.ga_text.specs.Lines.{Bytes, Line, longest, HasNoFeed}
 use Rattle.ga_console.specs.Commands.{SpellsCommand}
 use Rattle.ga_console.specs.Turns.{quit_line}
 use Rattle.ga_console.specs.declared.command.Command.{Command}

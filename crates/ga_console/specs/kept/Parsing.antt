@@ -1,13 +1,13 @@
 -- What private contracts, invariants and bridges cite.
 use Rattle.std.specs.Prelude.{ℕ, ◌+◌, ◌*◌, ◌==◌, ◌||◌, Bool, nat_eq, if◌then◌else◌, codes, slice_index, Option, Some, None, option_map}
 use Rattle.std.specs.Cmp.Lexicographic.{pointwise}
-use Rattle.ga_image.specs.Lines.{Text, Line}
+use Rattle.ga_text.specs.Lines.{Text, Line}
 use Rattle.ga_grid.specs.declared.node_id.NodeId.{NodeId}
 use Rattle.ga_ports.specs.Steps.{◌>>=◌}
 use Rattle.ga_console.specs.declared.command.Command.{Command}
 use Rattle.ga_console.specs.declared.command.Command.TheVariants.{Step, Back, Rewind, Node, Memory, Trace, Why, Count, Dump, Quit}
-use Rattle.ga_image.specs.Digits.{byte_in}
-use Rattle.ga_console.specs.Parsing.{cut, node_in, number_in}
+use Rattle.ga_text.specs.Digits.{byte_in}
+use Rattle.ga_text.specs.Parsing.{cut, node_in, number_in}
 
 -- a node and a step of it
 unfoldable pub step_in : Text → Option (NodeId × ℕ)

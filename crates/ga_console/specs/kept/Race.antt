@@ -1,7 +1,7 @@
 -- What a race writes once the image was read.
 use Rattle.std.specs.Prelude.{◌≡◌, ℕ, ◌⊎◌, []}
-use Rattle.ga_image.specs.Lines.{Bytes, Text}
-use Rattle.ga_console.specs.Output.{Begins}
+use Rattle.ga_text.specs.Lines.{Bytes, Text}
+use Rattle.ga_text.specs.Output.{Begins}
 use Rattle.ga_console.specs.declared.run.Status.{Status}
 use Rattle.ga_console.specs.declared.run.Status.TheVariants.{Done, ImageRefused, StreamFault, NotFinished}
 use Rattle.ga_console.specs.Race.{IsReport, IsRefusal, IsCutShort}

@@ -1,14 +1,14 @@
 -- What is written once the image was read.
 use Rattle.std.specs.Prelude.{◌≡◌, ℕ, ◌-◌, ◌⊎◌, ◌++◌, Result}
-use Rattle.ga_image.specs.Lines.{Bytes, Text}
+use Rattle.ga_text.specs.Lines.{Bytes, Text}
 use Rattle.ga_image.specs.declared.fault.ImageFault.{ImageFault}
-use Rattle.ga_console.specs.Input.{input_limit}
-use Rattle.ga_console.specs.Output.{ready}
+use Rattle.ga_text.specs.Input.{input_limit}
+use Rattle.ga_text.specs.Output.{ready}
 use Rattle.ga_lab.specs.Machine.{State}
 use Rattle.ga_console.specs.Turns.{Answering}
 use Rattle.ga_console.specs.Session.{Serves, Written}
 use Rattle.ga_console.specs.declared.commands.Ending.{Ending}
-use Rattle.ga_console.specs.declared.output.WriteFailed.{WriteFailed}
+use Rattle.ga_text.specs.declared.output.WriteFailed.{WriteFailed}
 use Rattle.ga_console.specs.declared.run.Status.{Status}
 use Rattle.ga_console.specs.Run.{status_of, Refuses, Opens, IsFault}
 

@@ -1,8 +1,8 @@
 -- What private contracts, invariants and bridges cite.
 use Rattle.std.specs.Prelude.{◌≡◌, ◌≢◌, ◌+◌, ◌≤◌, [], length, take, Result, Ok, Err}
-use Rattle.ga_image.specs.Lines.{Text, Line, longest}
+use Rattle.ga_text.specs.Lines.{Text, Line, longest}
 use Rattle.ga_console.specs.Commands.{SpellsCommand}
-use Rattle.ga_console.specs.declared.output.WriteFailed.{WriteFailed}
+use Rattle.ga_text.specs.declared.output.WriteFailed.{WriteFailed}
 use Rattle.ga_console.specs.declared.responder.Turn.{Turn}
 use Rattle.ga_console.specs.declared.responder.Turn.TheVariants.{Answered, Quit}
 use Rattle.ga_console.specs.declared.command.Command.{Command}

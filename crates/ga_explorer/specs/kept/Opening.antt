@@ -1,6 +1,6 @@
 -- What is written once an image or source was read.
 use Rattle.std.specs.Prelude.{◌≡◌, ℕ, true, false, [], Result, Ok, Err}
-use Rattle.ga_image.specs.Lines.{Text}
+use Rattle.ga_text.specs.Lines.{Text}
 use Rattle.ga_console.specs.Run.{IsFault, Refuses}
 use Rattle.ga_console.specs.declared.run.Status.{Status}
 use Rattle.ga_console.specs.declared.run.Status.TheVariants.{ImageRefused}

@@ -1,6 +1,6 @@
 -- The text of fields and blocks as it is put together.
 use Rattle.std.specs.Prelude.{ℕ, List, map, flat_map}
-use Rattle.ga_image.specs.Lines.{Text}
+use Rattle.ga_text.specs.Lines.{Text}
 use Rattle.ga_node.specs.Record.{NodeRecord}
 use Rattle.ga_image.specs.declared.field.Bank.{Bank}
 use Rattle.ga_image.specs.declared.field.Bank.TheVariants as bank

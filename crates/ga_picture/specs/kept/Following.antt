@@ -1,12 +1,12 @@
 -- What private contracts, invariants and bridges cite.
 use Rattle.std.specs.Prelude.{◌≡◌, ℕ, ◌⊎◌, Bool, false, [], Result, Ok, Err}
-use Rattle.ga_image.specs.Lines.{Bytes, Text, Line}
+use Rattle.ga_text.specs.Lines.{Bytes, Text, Line}
 use Rattle.ga_explorer.specs.Tails.{Exploring}
 use Rattle.ga_lab.specs.declared.fault.LabFault.TheVariants.{Memory}
 use Rattle.ga_console.specs.Run.{status_of}
 use Rattle.ga_console.specs.Session.{Serves, Written}
 use Rattle.ga_console.specs.declared.commands.Ending.{Ending}
-use Rattle.ga_console.specs.declared.output.WriteFailed.{WriteFailed}
+use Rattle.ga_text.specs.declared.output.WriteFailed.{WriteFailed}
 use Rattle.ga_console.specs.declared.run.Status.{Status}
 use Rattle.ga_console.specs.declared.run.Status.TheVariants.{Done, StreamFault}
 use Rattle.ga_explorer.specs.Answers.{Explores}

@@ -4,8 +4,9 @@ ghost use Rattle.ga_node.specs.State.{IsPlace};
 
 use crate::asserts::same;
 use ga_grid::{Chip, NodeId};
-use ga_image::{byte_of, parse};
+use ga_image::parse;
 use ga_node::{Node, Place};
+use ga_text::byte_of;
 use std::process::Abort;
 use std::test::Fail;
 

@@ -1,6 +1,6 @@
 use Rattle.std.proofs.Common.{◌≡◌, ℕ, ◌-◌, List, ◌++◌, Some}
-use Rattle.ga_console.specs.Input.{IsWithin}
-use Rattle.ga_console.specs.Output.{IsSaid}
+use Rattle.ga_text.specs.Input.{IsWithin}
+use Rattle.ga_text.specs.Output.{IsSaid}
 use Rattle.ga_console.proofs.Heard.{Heard}
 use Rattle.ga_console.proofs.commands.answer_lines.Given as goal
 

@@ -3,9 +3,9 @@ use Rattle.std.specs.Prelude.{Result, Ok}
 use Rattle.std.proofs.lemmas.List.{append-nil}
 use Rattle.ga_console.specs.Session.{Serves, Written}
 use Rattle.ga_console.specs.declared.commands.Ending.{Ending}
-use Rattle.ga_console.specs.declared.output.WriteFailed.{WriteFailed}
+use Rattle.ga_text.specs.declared.output.WriteFailed.{WriteFailed}
 use Rattle.ga_console.proofs.Heard.{cut_short}
-use Rattle.ga_console.proofs.SaidLemmas.{at_err}
+use Rattle.ga_text.proofs.SaidLemmas.{at_err}
 use Rattle.ga_console.proofs.commands.serve.Goals as goal
 
 pub returns-in_err-ending : goal.returns-in_err-ending

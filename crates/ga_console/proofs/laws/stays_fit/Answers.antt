@@ -2,7 +2,7 @@ use Rattle.std.proofs.Common.{List, sym, ap, ◌∙◌, subst}
 use Rattle.ga_node.specs.Record.{NodeRecord}
 use Rattle.ga_grid.specs.Steady.{AreSteady}
 use Rattle.ga_lab.specs.Machine.{State}
-use Rattle.ga_image.specs.Lines.{lines_of}
+use Rattle.ga_text.specs.Lines.{lines_of}
 use Rattle.ga_image.proofs.ReadSteady.{images_steady}
 use Rattle.ga_console.proofs.Reaching.{reached_load}
 use Rattle.ga_console.proofs.laws.stays_fit.Goals as goal

@@ -1,7 +1,7 @@
 use Rattle.std.proofs.Common.{◌≡◌, ℕ, List, ◌∷◌, ◌++◌, length, sym, ap, ◌∙◌, arith}
 use Rattle.ga_word.specs.Word.{hex6_of}
 use Rattle.ga_node.specs.Record.{record_of}
-use Rattle.ga_image.specs.Spelling.{words_text}
+use Rattle.ga_text.specs.Digits.{words_text}
 use Rattle.ga_console.proofs.Pieces.{first_words, piece_more, words_more, words_whole}
 use Rattle.ga_console.proofs.node_text.push_data.Goals as goal
 

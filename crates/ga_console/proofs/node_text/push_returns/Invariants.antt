@@ -1,6 +1,6 @@
 use Rattle.std.proofs.Common.{◌≡◌, ◌<◌, ◌+◌, ◌*◌, ◌++◌, length}
 use Rattle.ga_node.specs.Record.{record_of}
-use Rattle.ga_image.specs.Spelling.{words_text}
+use Rattle.ga_text.specs.Digits.{words_text}
 use Rattle.ga_console.proofs.Pieces.{first_words}
 use Rattle.ga_console.proofs.node_text.push_returns.Given as goal
 

@@ -2,7 +2,7 @@ use Rattle.std.proofs.Common.{◌≢◌, length, sym, ◌∙◌, subst}
 use denote.Enum.Bare.{same_false}
 use Rattle.ga_image.specs.contracts.fault.ImageCause.{the_type}
 use Rattle.ga_image.specs.declared.fault.ImageCause.TheVariants.{Memory}
-use Rattle.ga_image.specs.Lines.{lines_of}
+use Rattle.ga_text.specs.Lines.{lines_of}
 use Rattle.ga_image.specs.Grammar.{IsImage}
 use Rattle.ga_image.specs.FirstFault.{IsFirstFault}
 use Rattle.ga_console.proofs.Races.{races_reported, races_refused, first_fault}

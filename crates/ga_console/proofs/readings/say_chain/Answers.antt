@@ -1,26 +1,26 @@
 use Rattle.std.proofs.Common.{ℕ, ◌+◌, List, ◌++◌, length, drop, take, refl, ap, ◌∙◌, arith}
 use Rattle.std.specs.Prelude.{flat_map}
 use Rattle.ga_console.specs.Texts.{made_text, chain_text}
-use Rattle.ga_console.proofs.SaidLemmas.{cut_here, cut_within, cut_assoc, said_as, said_assoc}
-use Rattle.ga_console.proofs.ListedLemmas.{listed_none, listed_more, listed_front, listed_all}
+use Rattle.ga_text.proofs.SaidLemmas.{cut_here, cut_within, cut_assoc, said_as, said_assoc}
+use Rattle.ga_text.proofs.ListedLemmas.{listed_none, listed_more, listed_front, listed_all}
 use Rattle.ga_console.proofs.readings.say_chain.Goals as goal
 
-pub returns-in_err-say_chain : goal.returns-in_err-say_chain
-returns-in_err-say_chain g c = λ before said h.
+pub returns-in_err-say_chain_count : goal.returns-in_err-say_chain_count
+returns-in_err-say_chain_count g c = λ before said h.
     let events = c.args.events.now in
     let head : List ℕ = chain_text (length events) in
     let whole : List ℕ = head ++ flat_map made_text events in (
       whole,
       refl,
       cut_here c.from_residual.result _ before (said ++ whole) _ c.from_residual.ensures.0
-          (cut_within _ before said head (flat_map made_text events) whole refl (c.in_err-say_chain.ensures before said h)),
+          (cut_within _ before said head (flat_map made_text events) whole refl (c.in_err-say_chain_count.ensures before said h)),
     )
 
 pub events-init : goal.events-init
 events-init g c = λ before said h.
     let events = c.args.events.now in
     let head : List ℕ = chain_text (length events) in
-    said_as _ before said head _ _ (listed_none made_text head events) (c.in_ok-say_chain.ensures before said h)
+    said_as _ before said head _ _ (listed_none made_text head events) (c.in_ok-say_chain_count.ensures before said h)
 
 pub returns-in_err-say_made : goal.returns-in_err-say_made
 returns-in_err-say_made g c = λ before said h.

@@ -7,11 +7,11 @@ use Rattle.ga_console.specs.Commands.{SpellsCommand}
 use Rattle.ga_console.specs.Replies.{LineAnswer, Does}
 use Rattle.ga_console.specs.kept.Turns.{Turns, AnswersLine}
 use Rattle.ga_console.specs.Replies.LineAnswer.{long, command, syntax}
-use Rattle.ga_console.specs.declared.output.WriteFailed.{WriteFailed}
+use Rattle.ga_text.specs.declared.output.WriteFailed.{WriteFailed}
 use Rattle.ga_console.specs.declared.responder.Turn.{Turn}
 use Rattle.ga_console.specs.declared.command.Command.{Command}
 use Rattle.ga_console.specs.declared.command.Command.TheVariants.{Quit}
-use Rattle.ga_console.proofs.SaidLemmas.{cut_here, said_pending}
+use Rattle.ga_text.proofs.SaidLemmas.{cut_here, said_pending}
 use Rattle.ga_console.proofs.reply.answer.Goals as goal
 
 too_long : (line part : List ℕ) → line ≡ take 201 part → 200 < length line → 200 < length part

@@ -1,5 +1,5 @@
 use Rattle.std.proofs.Common.{inl, inr, refl}
-use Rattle.ga_console.specs.Output.{ready}
+use Rattle.ga_text.specs.Output.{ready}
 use Rattle.ga_console.proofs.RunLemmas.{said_fresh, serves_from}
 use Rattle.ga_console.proofs.run.after_image.Goals as goal
 

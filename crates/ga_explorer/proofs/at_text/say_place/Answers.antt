@@ -1,6 +1,6 @@
 use Rattle.std.proofs.Common.{◌≡◌, List, ℕ, ◌+◌, ◌++◌, ap, ◌∙◌}
 use Rattle.ga_lab.specs.Machine.{Standing}
-use Rattle.ga_console.proofs.SaidLemmas.{cut_here, cut_within}
+use Rattle.ga_text.proofs.SaidLemmas.{cut_here, cut_within}
 use Rattle.ga_explorer.specs.Around.{place_text}
 use Rattle.ga_explorer.specs.Tails.{step_tail}
 use Rattle.ga_explorer.proofs.Told.{told_as}

@@ -1,5 +1,5 @@
 use Rattle.std.proofs.Common.{ℕ, ◌-◌, List}
-use Rattle.ga_console.specs.Output.{IsSaid}
+use Rattle.ga_text.specs.Output.{IsSaid}
 use Rattle.ga_explorer.specs.Around.{places_text}
 use Rattle.ga_explorer.proofs.Saying.{IsSaidUpTo}
 use Rattle.ga_explorer.proofs.at_text.say_places.Given as goal

@@ -1,5 +1,5 @@
 use Rattle.std.proofs.Common.{◌≡◌, ℕ, List, ◌++◌, ap, ◌∙◌, append_assoc}
-use Rattle.ga_console.proofs.SaidLemmas.{cut_here, cut_within, said_assoc, cut_assoc}
+use Rattle.ga_text.proofs.SaidLemmas.{cut_here, cut_within, said_assoc, cut_assoc}
 use Rattle.ga_origin.specs.Rows.{row_at}
 use Rattle.ga_explorer.specs.Tails.{step_tail}
 use Rattle.ga_explorer.specs.Trees.{tree_row_text}

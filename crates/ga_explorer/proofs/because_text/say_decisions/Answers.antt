@@ -1,7 +1,7 @@
 use Rattle.std.proofs.Common.{◌≡◌, ◌-◌, ℕ, List, ◌++◌, [], refl, sym, ap, ◌∙◌, arith}
 use Rattle.ga_lab.specs.Machine.{Standing, standing}
 use Rattle.ga_origin.specs.Deciding.{newest_decided}
-use Rattle.ga_console.proofs.SaidLemmas.{cut_here, said_pending}
+use Rattle.ga_text.proofs.SaidLemmas.{cut_here, said_pending}
 use Rattle.ga_explorer.specs.Because.{decision_text, decisions_text}
 use Rattle.ga_explorer.proofs.Saying.{line_said, line_cut, all_said}
 use Rattle.ga_explorer.proofs.Because.{no_more, none_left, next_decision}

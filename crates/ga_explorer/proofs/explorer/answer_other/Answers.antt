@@ -1,5 +1,5 @@
 use Rattle.std.proofs.Common.{◌++◌}
-use Rattle.ga_console.proofs.SaidLemmas.{cut_here}
+use Rattle.ga_text.proofs.SaidLemmas.{cut_here}
 use Rattle.ga_explorer.proofs.LineAnswers.{other_turn, unread_line, unread_err}
 use Rattle.ga_explorer.proofs.explorer.answer_other.Goals as goal
 

@@ -1,7 +1,7 @@
 use Rattle.std.proofs.Common.{◌≡◌, ◌∙◌, ◌++◌, [], List, ℕ, Some, None, refl, sym, ap}
 use Rattle.std.specs.Prelude.{Option, option_map, slice_get}
 use Rattle.std.proofs.lemmas.Option.{slice_get-map}
-use Rattle.ga_console.proofs.SaidLemmas.{said_as, said_pending}
+use Rattle.ga_text.proofs.SaidLemmas.{said_as, said_pending}
 use Rattle.ga_explorer.specs.Forms.{CommandForm, rows, about_text, about_found, command_text}
 use Rattle.ga_explorer.specs.kept.Forms.{entry_of}
 use Rattle.ga_explorer.specs.declared.commands.Row.{Row}

@@ -1,6 +1,6 @@
 use Rattle.std.proofs.Common.{ℕ, List, ◌++◌, ap}
 use Rattle.std.specs.Prelude.{codes}
-use Rattle.ga_console.proofs.SaidLemmas.{cut_here, cut_within}
+use Rattle.ga_text.proofs.SaidLemmas.{cut_here, cut_within}
 use Rattle.ga_explorer.specs.Forms.{cure}
 use Rattle.ga_explorer.proofs.Told.{told_as}
 use Rattle.ga_explorer.proofs.Saying.{joined_said}

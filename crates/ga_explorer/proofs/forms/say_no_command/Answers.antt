@@ -1,6 +1,6 @@
 use Rattle.std.proofs.Common.{◌++◌, refl}
 use Rattle.std.specs.Prelude.{codes}
-use Rattle.ga_console.proofs.SaidLemmas.{cut_here, cut_within}
+use Rattle.ga_text.proofs.SaidLemmas.{cut_here, cut_within}
 use Rattle.ga_explorer.specs.Forms.{cure, no_command}
 use Rattle.ga_explorer.proofs.Saying.{joined_said}
 use Rattle.ga_explorer.proofs.forms.say_no_command.Goals as goal

@@ -1,6 +1,6 @@
 use Rattle.std.proofs.Common.{ℕ, ◌+◌, List, length, ◌++◌, refl, ap, ◌∙◌}
 use Rattle.std.specs.Prelude.{flat_map}
-use Rattle.ga_console.proofs.SaidLemmas.{cut_here, cut_within}
+use Rattle.ga_text.proofs.SaidLemmas.{cut_here, cut_within}
 use Rattle.ga_search.specs.declared.races.Race.{Race}
 use Rattle.ga_search.specs.declared.readings.Reading.{Reading}
 use Rattle.ga_explorer.specs.Races.{race_lines_text, reading_text, last_line, listed_text}

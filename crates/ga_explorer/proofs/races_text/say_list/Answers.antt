@@ -1,6 +1,6 @@
 use Rattle.std.proofs.Common.{ℕ, List, ◌++◌, refl, ap, ◌∙◌, arith}
 use Rattle.std.specs.Prelude.{flat_map}
-use Rattle.ga_console.proofs.SaidLemmas.{cut_here, cut_within}
+use Rattle.ga_text.proofs.SaidLemmas.{cut_here, cut_within}
 use Rattle.ga_explorer.specs.Races.{race_text, race_lines_text}
 use Rattle.ga_explorer.proofs.Saying.{line_said, line_cut, all_said, rest_lines, no_lines}
 use Rattle.ga_explorer.proofs.races_text.say_list.Goals as goal

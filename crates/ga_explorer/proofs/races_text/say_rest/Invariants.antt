@@ -1,6 +1,6 @@
 use Rattle.std.proofs.Common.{ℕ, List, ◌++◌, drop}
 use Rattle.std.specs.Prelude.{flat_map}
-use Rattle.ga_console.specs.Output.{IsSaid}
+use Rattle.ga_text.specs.Output.{IsSaid}
 use Rattle.ga_explorer.specs.Races.{reading_text}
 use Rattle.ga_explorer.proofs.Saying.{IsSaidUpTo}
 use Rattle.ga_explorer.proofs.races_text.say_rest.Given as goal

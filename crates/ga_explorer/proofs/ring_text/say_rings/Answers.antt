@@ -1,7 +1,7 @@
 use Rattle.std.proofs.Common.{ℕ, List, ◌++◌, [], refl, arith}
 use Rattle.ga_grid.specs.Chip.{records_of}
 use Rattle.ga_causal.specs.Dependence.{is_marked}
-use Rattle.ga_console.proofs.SaidLemmas.{cut_here, said_pending}
+use Rattle.ga_text.proofs.SaidLemmas.{cut_here, said_pending}
 use Rattle.ga_explorer.specs.Waiting.{ring_text, all_rings}
 use Rattle.ga_explorer.proofs.Saying.{line_said, line_cut, all_said}
 use Rattle.ga_explorer.proofs.WaitingLines.{next_node, all_told}

@@ -1,7 +1,7 @@
 use Rattle.std.proofs.Common.{ℕ, ◌-◌, List}
 use Rattle.ga_grid.specs.Chip.{records_of}
 use Rattle.ga_causal.specs.Dependence.{is_marked}
-use Rattle.ga_console.specs.Output.{IsSaid}
+use Rattle.ga_text.specs.Output.{IsSaid}
 use Rattle.ga_explorer.specs.Waiting.{ring_text, each_node, all_rings}
 use Rattle.ga_explorer.proofs.Saying.{IsSaidUpTo}
 use Rattle.ga_explorer.proofs.ring_text.say_rings.Given as goal

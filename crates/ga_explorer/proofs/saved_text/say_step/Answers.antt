@@ -1,6 +1,6 @@
 use Rattle.std.proofs.Common.{ap, ◌∙◌, [], refl}
 use Rattle.std.specs.Prelude.{is_some}
-use Rattle.ga_console.proofs.SaidLemmas.{said_pending}
+use Rattle.ga_text.proofs.SaidLemmas.{said_pending}
 use Rattle.ga_explorer.proofs.Saving.{saved_at, none_at}
 use Rattle.ga_explorer.proofs.saved_text.say_step.Goals as goal
 

@@ -1,5 +1,5 @@
 use Rattle.std.proofs.Common.{ℕ, List, ◌++◌, [], refl, arith}
-use Rattle.ga_console.proofs.SaidLemmas.{cut_here, said_pending}
+use Rattle.ga_text.proofs.SaidLemmas.{cut_here, said_pending}
 use Rattle.ga_explorer.specs.Saved.{saved_text}
 use Rattle.ga_explorer.proofs.Saying.{line_said, line_cut, all_said}
 use Rattle.ga_explorer.proofs.Saving.{next_saved, all_saved}

@@ -1,6 +1,6 @@
 use Rattle.std.proofs.Common.{ℕ, ◌-◌, List, ◌++◌, refl, Some, sym, ap, subst, ◌∙◌, append_assoc}
 use Rattle.std.proofs.lemmas.List.{append-nil}
-use Rattle.ga_console.specs.Output.{ready}
+use Rattle.ga_text.specs.Output.{ready}
 use Rattle.ga_console.specs.Session.{Serves}
 use Rattle.ga_console.proofs.RunLemmas.{said_fresh}
 use Rattle.ga_explorer.specs.Answers.{Explores}

@@ -1,5 +1,5 @@
 use Rattle.std.proofs.Common.{◌++◌, refl, inl, inr}
-use Rattle.ga_console.proofs.SaidLemmas.{cut_here, cut_within}
+use Rattle.ga_text.proofs.SaidLemmas.{cut_here, cut_within}
 use Rattle.ga_explorer.specs.Trees.{more_text}
 use Rattle.ga_explorer.proofs.Saying.{joined_said}
 use Rattle.ga_explorer.proofs.Trees.{tree_told}

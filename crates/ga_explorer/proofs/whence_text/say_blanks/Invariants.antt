@@ -1,5 +1,5 @@
 use Rattle.std.proofs.Common.{ℕ, List}
-use Rattle.ga_console.specs.Output.{IsSaid}
+use Rattle.ga_text.specs.Output.{IsSaid}
 use Rattle.ga_explorer.specs.Trees.{blanks}
 use Rattle.ga_explorer.proofs.Saying.{IsSaidUpTo}
 use Rattle.ga_explorer.proofs.whence_text.say_blanks.Given as goal

@@ -1,5 +1,5 @@
 use Rattle.std.proofs.Common.{List, ℕ, ◌++◌, refl, ap, ◌∙◌}
-use Rattle.ga_console.proofs.SaidLemmas.{cut_here, cut_within}
+use Rattle.ga_text.proofs.SaidLemmas.{cut_here, cut_within}
 use Rattle.ga_explorer.specs.Tails.{step_tail}
 use Rattle.ga_explorer.specs.Trees.{did_text}
 use Rattle.ga_explorer.proofs.Saying.{joined_said}

@@ -1,6 +1,6 @@
 use Rattle.std.proofs.Common.{ℕ, List, drop}
 use Rattle.std.specs.Prelude.{flat_map}
-use Rattle.ga_console.specs.Output.{IsSaid}
+use Rattle.ga_text.specs.Output.{IsSaid}
 use Rattle.ga_explorer.specs.Trees.{tree_row_text}
 use Rattle.ga_explorer.proofs.Saying.{IsSaidUpTo}
 use Rattle.ga_explorer.proofs.whence_text.say_lines.Given as goal

@@ -1,5 +1,5 @@
 use Rattle.std.proofs.Common.{◌≡◌, ℕ, List, ◌+◌, ◌++◌, ap, ◌∙◌, append_assoc, arith}
-use Rattle.ga_console.proofs.SaidLemmas.{cut_here, cut_within, said_assoc, cut_assoc}
+use Rattle.ga_text.proofs.SaidLemmas.{cut_here, cut_within, said_assoc, cut_assoc}
 use Rattle.ga_explorer.specs.Tails.{value_tail}
 use Rattle.ga_explorer.specs.Trees.{blanks, value_text, tree_row_text}
 use Rattle.ga_explorer.proofs.Told.{told_as}

@@ -1,6 +1,6 @@
 use Rattle.std.proofs.Common.{◌≡◌, ℕ, Bool, true, false, ◌++◌, refl, sym, ap, ◌∙◌}
 use Rattle.std.specs.Prelude.{flat_map}
-use Rattle.ga_console.proofs.SaidLemmas.{cut_here, cut_within}
+use Rattle.ga_text.proofs.SaidLemmas.{cut_here, cut_within}
 use Rattle.ga_explorer.specs.Trees.{tree_row_text, head_text, rows_by}
 use Rattle.ga_explorer.specs.kept.Trees.{is_first}
 use Rattle.ga_explorer.proofs.Saying.{joined_said}

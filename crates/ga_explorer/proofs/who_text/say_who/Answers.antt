@@ -1,7 +1,7 @@
 use Rattle.std.proofs.Common.{ℕ, List, ◌++◌, refl, ◌∙◌}
 use Rattle.ga_grid.specs.Chip.{records_of}
 use Rattle.ga_causal.specs.Dependence.{is_marked}
-use Rattle.ga_console.proofs.SaidLemmas.{cut_here, cut_within, cut_assoc, said_assoc}
+use Rattle.ga_text.proofs.SaidLemmas.{cut_here, cut_within, cut_assoc, said_assoc}
 use Rattle.ga_explorer.specs.Waiting.{stuck_text, all_rings, idle_text}
 use Rattle.ga_explorer.proofs.Saying.{joined_said}
 use Rattle.ga_explorer.proofs.Answering.{who_told}

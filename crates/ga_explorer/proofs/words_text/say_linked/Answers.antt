@@ -1,6 +1,6 @@
 use Rattle.std.proofs.Common.{◌≡◌, ℕ, List, ◌++◌, length, refl, sym, ap, ◌∙◌, arith}
 use Rattle.std.specs.Prelude.{flat_map}
-use Rattle.ga_console.proofs.SaidLemmas.{cut_here, cut_within}
+use Rattle.ga_text.proofs.SaidLemmas.{cut_here, cut_within}
 use Rattle.ga_search.specs.Words.{words_of, words_left}
 use Rattle.ga_explorer.specs.Texts.{sent_text, words_head, linked_text}
 use Rattle.ga_explorer.proofs.Saying.{line_said, line_cut, all_said, none_left}

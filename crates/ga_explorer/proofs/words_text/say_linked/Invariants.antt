@@ -1,6 +1,6 @@
 use Rattle.std.proofs.Common.{◌≡◌, ℕ, ◌+◌, List, length}
 use Rattle.std.specs.Prelude.{flat_map}
-use Rattle.ga_console.specs.Output.{IsSaid}
+use Rattle.ga_text.specs.Output.{IsSaid}
 use Rattle.ga_search.specs.Words.{words_left}
 use Rattle.ga_explorer.specs.Texts.{sent_text, linked_text}
 use Rattle.ga_explorer.proofs.Saying.{IsSaidUpTo}

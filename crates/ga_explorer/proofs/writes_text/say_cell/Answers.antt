@@ -1,6 +1,6 @@
 use Rattle.std.proofs.Common.{◌≡◌, ◌-◌, ℕ, List, ◌++◌, [], refl, sym, ap, ◌∙◌, arith}
 use Rattle.ga_event.specs.Told.{steps_of}
-use Rattle.ga_console.proofs.SaidLemmas.{cut_here, said_pending}
+use Rattle.ga_text.proofs.SaidLemmas.{cut_here, said_pending}
 use Rattle.ga_explorer.specs.Writing.{cell_writes}
 use Rattle.ga_explorer.proofs.Saying.{line_said, line_cut, all_said}
 use Rattle.ga_explorer.proofs.Writing.{next_write, no_write}

@@ -1,6 +1,6 @@
 use Rattle.std.proofs.Common.{◌≡◌, ℕ, List}
 use Rattle.ga_event.specs.Told.{steps_of}
-use Rattle.ga_console.specs.Output.{IsSaid}
+use Rattle.ga_text.specs.Output.{IsSaid}
 use Rattle.ga_origin.specs.Writes.{search}
 use Rattle.ga_explorer.specs.Writing.{cell_writes}
 use Rattle.ga_explorer.proofs.Saying.{IsSaidUpTo}

@@ -1,6 +1,6 @@
 use Rattle.std.proofs.Common.{ℕ, List, ◌≡◌, ◌^◌, ◌<◌, [], ◌∷◌, ◌++◌, get_or, length, take, sym, ap, ◌∙◌, arith}
 use Rattle.ga_word.specs.Word.{hex6_of}
-use Rattle.ga_image.specs.Spelling.{words_text}
+use Rattle.ga_text.specs.Digits.{words_text}
 use Rattle.ga_image.proofs.Pieces.{words_more, each_word, grown}
 use Rattle.ga_image.proofs.field_text.push_words.Goals as goal
 

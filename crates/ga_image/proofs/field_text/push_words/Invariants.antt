@@ -1,5 +1,5 @@
 use Rattle.std.proofs.Common.{◌≡◌, ◌++◌, take}
-use Rattle.ga_image.specs.Spelling.{words_text}
+use Rattle.ga_text.specs.Digits.{words_text}
 use Rattle.ga_image.proofs.field_text.push_words.Given as goal
 
 abbrev pub invariant-loop-word : goal.invariant-loop-word

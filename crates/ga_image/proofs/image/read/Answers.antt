@@ -1,7 +1,7 @@
 use Rattle.std.proofs.Common.{◌≡◌, ◌+◌, ◌≤◌, arith, sym, ◌∙◌, ap, subst, refl}
 use Rattle.std.proofs.lemmas.Bool.{eqb-true}
 use Rattle.std.proofs.lemmas.List.{nil_from_length}
-use Rattle.ga_image.specs.Lines.{lines_of}
+use Rattle.ga_text.specs.Lines.{lines_of}
 use Rattle.ga_image.specs.Progress.{Progress}
 use Rattle.ga_image.specs.kept.Progress.{progress_of, stage_of}
 use Rattle.ga_image.specs.Reading.{reading, start}

@@ -1,6 +1,6 @@
 use Rattle.std.proofs.Common.{subst, sym}
 use Rattle.ga_grid.specs.Chip.{records_of}
-use Rattle.ga_image.specs.Lines.{lines_of}
+use Rattle.ga_text.specs.Lines.{lines_of}
 use Rattle.ga_image.specs.ReadBack.{Describes}
 use Rattle.ga_image.proofs.PrintedBack.{prints_back}
 use Rattle.ga_image.proofs.printing.print.Goals as goal

@@ -1,6 +1,6 @@
 use Rattle.std.proofs.Common.{◌≡◌, ◌≤◌, ◌++◌, length, Some, None, ap, subst}
 use Rattle.ga_console.specs.kept.Turns.{Turns}
-use Rattle.ga_console.proofs.SaidLemmas.{cut_here}
+use Rattle.ga_text.proofs.SaidLemmas.{cut_here}
 use Rattle.ga_explorer.specs.Reading.{request_in}
 use Rattle.ga_explorer.specs.Answers.{Explored, AnswersOther}
 use Rattle.ga_explorer.specs.Tails.{Exploring}

@@ -1,5 +1,5 @@
 use Rattle.std.proofs.Common.{[], refl}
-use Rattle.ga_console.proofs.SaidLemmas.{said_pending}
+use Rattle.ga_text.proofs.SaidLemmas.{said_pending}
 use Rattle.ga_picture.proofs.silent.SilentResponder.obey.Goals as goal
 
 pub returns : goal.returns

@@ -1,0 +1,13 @@
+pub mod Sources
+pub mod HexLemmas
+pub mod Telling
+pub mod SourceLines
+pub mod Cells
+pub mod NodeTexts
+pub mod SourceWords
+pub mod SourceNames
+pub mod PlainWords
+pub mod PlainCells
+pub mod FreeCells
+pub mod PlainNodes
+pub mod SourceReads

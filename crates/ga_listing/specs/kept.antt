@@ -1,0 +1,2 @@
+pub mod Disassembling
+pub mod Source

@@ -1,0 +1,15 @@
+//! Source and images over streams: an image assembled of source, a listing of its cells, and source of the same memories and
+//! registers written of an image.
+#![tactic(auto)]
+
+mod assembling;
+mod disassembly;
+mod fault_lines;
+pub mod laws;
+mod listing;
+mod reading;
+mod remark;
+
+pub use assembling::assemble_source;
+pub use disassembly::disassemble;
+pub use listing::list_source;

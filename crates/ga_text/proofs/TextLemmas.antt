@@ -1,0 +1,95 @@
+-- The lines of a text.
+use Rattle.std.proofs.Common.{◌≡◌, ℕ, ◌+◌, ◌/◌, ◌%◌, ◌<◌, Bool, true, false, cond, List, [], ◌∷◌, ◌++◌, length, refl, ap, ◌∙◌, arith, append_assoc}
+use Rattle.std.specs.List.{AllByRecursion}
+use Rattle.std.proofs.lemmas.List.{append-nil}
+use Rattle.std.proofs.lemmas.List.Elements.{recursion_from_All}
+use Rattle.ga_text.specs.Lines.{lines_of, with_byte, ends_line, HasNoFeed, ended, text_of, onto_first, ended_lines}
+use Rattle.ga_grid.specs.Grid.{yxx_of}
+use Rattle.ga_grid.specs.declared.node_id.NodeId.{NodeId}
+use Rattle.ga_text.specs.Names.{name_of_node}
+use Rattle.ga_text.specs.kept.Digits.{two_digits}
+
+-- no line feed, byte by byte
+NoFeed : List ℕ → Type 0
+NoFeed bytes = AllByRecursion (λ b. ends_line b ≡ false) bytes
+
+by_byte : (bytes : List ℕ) → HasNoFeed bytes → NoFeed bytes
+unfolding NoFeed
+by_byte bytes h = recursion_from_All (λ b. ends_line b ≡ false) bytes h
+
+otherwise : {A : Type 0} (b : Bool) (x y : A) → b ≡ false → cond b x y ≡ y
+otherwise b x y e = rw e refl
+
+lines_at : (line more : List ℕ) → NoFeed line → lines_of (line ++ 10 ∷ more) ≡ line ∷ lines_of more
+unfolding NoFeed
+lines_at [] more h = refl
+lines_at (b ∷ line) more h = otherwise (ends_line b) _ _ h.0 ∙ ap (with_byte b) (lines_at line more h.1)
+
+ended_at : (line more : List ℕ) → NoFeed line → ended_lines (line ++ 10 ∷ more) ≡ line ∷ ended_lines more
+unfolding NoFeed
+ended_at [] more h = refl
+ended_at (b ∷ line) more h = otherwise (ends_line b) _ _ h.0 ∙ ap (onto_first b) (ended_at line more h.1)
+
+ended_by_byte : (bytes : List ℕ) → NoFeed bytes → ended_lines bytes ≡ []
+unfolding NoFeed
+ended_by_byte [] h = refl
+ended_by_byte (b ∷ bytes) h = otherwise (ends_line b) _ _ h.0 ∙ ap (onto_first b) (ended_by_byte bytes h.1)
+
+last_by_byte : (b : ℕ) (bytes : List ℕ) → NoFeed (b ∷ bytes) → lines_of (b ∷ bytes) ≡ (b ∷ bytes) ∷ []
+unfolding NoFeed
+last_by_byte b [] h = otherwise (ends_line b) _ _ h.0
+last_by_byte b (x ∷ bytes) h = otherwise (ends_line b) _ _ h.0 ∙ ap (with_byte b) (last_by_byte x bytes h.1)
+
+pub lines_front : (lines : List (List ℕ)) (tail : List ℕ) → AllByRecursion HasNoFeed lines → lines_of (text_of lines ++ tail) ≡ lines ++ lines_of tail
+lines_front [] tail h = refl
+lines_front (line ∷ lines) tail h =
+    ap lines_of (append_assoc (ended line) (text_of lines) tail ∙ append_assoc line (10 ∷ []) (text_of lines ++ tail))
+    ∙ lines_at line (text_of lines ++ tail) (by_byte line h.0) ∙ ap (λ (ls : List (List ℕ)). line ∷ ls) (lines_front lines tail h.1)
+
+pub ended_front : (lines : List (List ℕ)) (tail : List ℕ) → AllByRecursion HasNoFeed lines → ended_lines (text_of lines ++ tail) ≡ lines ++ ended_lines tail
+ended_front [] tail h = refl
+ended_front (line ∷ lines) tail h =
+    ap ended_lines (append_assoc (ended line) (text_of lines) tail ∙ append_assoc line (10 ∷ []) (text_of lines ++ tail))
+    ∙ ended_at line (text_of lines ++ tail) (by_byte line h.0) ∙ ap (λ (ls : List (List ℕ)). line ∷ ls) (ended_front lines tail h.1)
+
+pub ended_none : (tail : List ℕ) → HasNoFeed tail → ended_lines tail ≡ []
+ended_none tail h = ended_by_byte tail (by_byte tail h)
+
+pub lines_last : (tail : List ℕ) → HasNoFeed tail → 0 < length tail → lines_of tail ≡ tail ∷ []
+lines_last [] h some = absurd (omega arith)
+lines_last (b ∷ bytes) h some = last_by_byte b bytes (by_byte (b ∷ bytes) h)
+
+pub ended_whole : (lines : List (List ℕ)) (tail : List ℕ) → AllByRecursion HasNoFeed lines → HasNoFeed tail → ended_lines (text_of lines ++ tail) ≡ lines
+ended_whole lines tail h none = ended_front lines tail h ∙ ap (λ (ls : List (List ℕ)). lines ++ ls) (ended_none tail none) ∙ append-nil lines
+
+-- The lines are those that a line feed ends, and at most one more.
+pub record MoreLines (text : List ℕ) : Type 0 where
+  pub more : List (List ℕ)
+  pub same : lines_of text ≡ ended_lines text ++ more
+
+with_byte_more : (b : ℕ) (all first more : List (List ℕ)) → all ≡ first ++ more → (rest : List (List ℕ)) × (with_byte b all ≡ onto_first b first ++ rest)
+with_byte_more b all [] more e = (with_byte b all, refl)
+with_byte_more b all (l ∷ ls) more e = (more, ap (with_byte b) e)
+
+more_by_byte : (b : ℕ) (feed : Bool) (all first : List (List ℕ)) (more : List (List ℕ)) → all ≡ first ++ more
+    → (rest : List (List ℕ)) × (cond feed ([] ∷ all) (with_byte b all) ≡ cond feed ([] ∷ first) (onto_first b first) ++ rest)
+more_by_byte b true all first more e = (more, ap (λ (ls : List (List ℕ)). [] ∷ ls) e)
+more_by_byte b false all first more e = with_byte_more b all first more e
+
+pub more_lines : (text : List ℕ) → MoreLines text
+more_lines [] = record { more = []; same = refl }
+more_lines (b ∷ text) =
+    let later = more_lines text in
+    let found = more_by_byte b (ends_line b) (lines_of text) (ended_lines text) later.more later.same in
+    record { more = found.0; same = found.1 }
+
+-- ---- a node's name
+
+-- its row, and two digits of its column
+pub name_spelled : (node : NodeId) → (48 + node.number / 18) ∷ two_digits (node.number % 18) ≡ name_of_node node
+name_spelled node =
+    let small : node.number < 144 = node.in_range in
+    let row : yxx_of node.number / 100 ≡ node.number / 18 = omega arith in
+    let tens : yxx_of node.number / 10 % 10 ≡ node.number % 18 / 10 = omega arith in
+    let ones : yxx_of node.number % 10 ≡ node.number % 18 % 10 = omega arith in
+    rw (row, tens, ones) refl

@@ -1,0 +1,22 @@
+use Rattle.std.proofs.Common.{◌≡◌, ℕ, ◌+◌, ◌-◌, ◌≤◌, List, ◌++◌, length, Some}
+use Rattle.ga_text.specs.Input.{IsWithin}
+use Rattle.ga_text.specs.Output.{IsSaid}
+use Rattle.ga_text.specs.ReadLine.{IsLine}
+use Rattle.ga_text.proofs.lines.read_line.Given as goal
+
+-- what was taken so far holds no line feed
+abbrev pub invariant-parts : goal.invariant-parts
+invariant-parts g l = record {
+  within : IsWithin l.input;
+  goes_on : l.fn.input.taken ≤ l.input.taken;
+  part : (left : List ℕ) → g.R.Read.remaining l.fn.reader ≡ Some left →
+      (part : List ℕ) × (rest : List ℕ) × (g.R.Read.remaining l.reader ≡ Some rest)
+      × IsLine (l.fn.input.bytes ++ left) l.line.items part (l.input.bytes ++ rest)
+      × (l.input.taken ≡ l.fn.input.taken + length part);
+  said : (before said : List ℕ) → IsSaid (g.W.Write.contents l.fn.writer) before said l.fn.output
+      → IsSaid (g.W.Write.contents l.writer) before said l.output;
+}
+
+-- how many bytes may still be read
+abbrev pub decreases-parts : goal.decreases-parts
+decreases-parts g l = 16777216 - (l.input.taken + length l.input.bytes)

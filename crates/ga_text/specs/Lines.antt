@@ -1,0 +1,54 @@
+-- The lines of a text.
+use Rattle.std.specs.Prelude.{ℕ, ◌≡◌, Bool, false, List, [], ◌∷◌, ◌++◌, ◌==◌, if◌then◌else◌, All, flat_map}
+
+-- bytes as they are read or written
+abbrev pub Bytes : Type 0
+Bytes = List ℕ
+
+-- bytes that are read as lines, or that say something
+abbrev pub Text : Type 0
+Text = Bytes
+
+-- a line of a text, without its line feed
+abbrev pub Line : Type 0
+Line = Bytes
+
+-- the lines, with one byte more at the front of the first
+abbrev pub with_byte : ℕ → List Line → List Line
+with_byte byte [] = (byte ∷ []) ∷ []
+with_byte byte (line ∷ lines) = (byte ∷ line) ∷ lines
+
+-- Each line is ended by a line feed, which the last may lack. An empty text has no line.
+abbrev pub lines_of : Text → List Line
+lines_of [] = []
+lines_of (byte ∷ text) = if byte == 10 then [] ∷ lines_of text else with_byte byte (lines_of text)
+
+-- the most bytes of a line, without its line feed
+abbrev pub longest : ℕ
+longest = 200
+
+-- ---- lines that a line feed ends
+
+abbrev pub ends_line : ℕ → Bool
+ends_line b = b == 10
+
+abbrev pub HasNoFeed : Bytes → Type 0
+HasNoFeed part = All (λ b. ends_line b ≡ false) part
+
+-- a line with its line feed
+abbrev pub ended : Line → Text
+ended line = line ++ 10 ∷ []
+
+-- the text of such lines
+abbrev pub text_of : List Line → Text
+text_of lines = flat_map ended lines
+
+-- a byte in front of the first line
+abbrev pub onto_first : ℕ → List Line → List Line
+onto_first b [] = []
+onto_first b (line ∷ lines) = (b ∷ line) ∷ lines
+
+-- The lines of a text that are ended by a line feed. What stands after the last line feed is none of them.
+abbrev pub ended_lines : Bytes → List Line
+ended_lines [] = []
+ended_lines (b ∷ text) = if ends_line b then [] ∷ ended_lines text else onto_first b (ended_lines text)

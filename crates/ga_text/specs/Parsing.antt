@@ -1,0 +1,61 @@
+-- Words of a line: where one ends, and the node, the number or the address that it names (docs/REFERENCE.md, "Sessions"; this
+-- project's own).
+use Rattle.std.specs.Prelude.{◌≡◌, ℕ, ◌+◌, ◌*◌, ◌^◌, ◌<◌, ◌==◌, nat_lt, if◌then◌else◌, [], ◌∷◌, Option, Some, None, option_map}
+use Rattle.std.specs.Str.{str_to_ascii_lowercase}
+use Rattle.ga_text.specs.Lines.{Text}
+use Rattle.ga_text.specs.Digits.{hex2_of}
+use Rattle.ga_grid.specs.Grid.{node_of, node_id}
+use Rattle.ga_grid.specs.declared.node_id.NodeId.{NodeId}
+use Rattle.ga_grid.specs.Names.{decimal_digit, node_number}
+use Rattle.ga_ports.specs.Steps.{◌>>=◌}
+
+-- a byte more in front of the first part
+abbrev pub in_front : ℕ → Option (Text × Text) → Option (Text × Text)
+in_front b None = None
+in_front b (Some parts) = Some (b ∷ parts.0, parts.1)
+
+-- what stands before the first space, and what stands behind it
+abbrev pub cut : Text → Option (Text × Text)
+cut [] = None
+cut (b ∷ text) = if b == 32 then Some ([], text) else in_front b (cut text)
+
+-- the node of three decimal digits
+unfoldable pub node_in : Text → Option NodeId
+node_in word = do
+  yxx ← node_number word
+  option_map node_id (node_of yxx)
+
+-- a number that fits
+abbrev pub fitting : ℕ → Option ℕ
+fitting n = if nat_lt n (2 ^ 32) then Some n else None
+
+-- a number with one decimal digit more; none behind a leading zero
+abbrev pub with_digit : ℕ → ℕ → Option ℕ
+with_digit n byte =
+    if n == 0 then None
+    else (do
+      digit ← decimal_digit byte
+      fitting (10 * n + digit))
+
+-- with all of these digits more
+abbrev pub with_digits : ℕ → Text → Option ℕ
+with_digits n [] = Some n
+with_digits n (byte ∷ text) = do
+  more ← with_digit n byte
+  with_digits more text
+
+-- the number of decimal digits without leading zeros
+abbrev pub number_in : Text → Option ℕ
+number_in [] = None
+number_in (byte ∷ text) = do
+  digit ← decimal_digit byte
+  with_digits digit text
+
+-- the numbers of steps that can be named
+abbrev pub IsNumber : ℕ → Type 0
+IsNumber k = k < 2 ^ 32
+
+-- an address has two hexadecimal digits, of either case
+pub record SpellsAddress (address : ℕ) (word : Text) : Type 0 where
+  pub in_range : address < 256
+  pub digits : str_to_ascii_lowercase word ≡ hex2_of address

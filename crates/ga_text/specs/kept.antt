@@ -1,0 +1,4 @@
+pub mod Digits
+pub mod Image
+pub mod Input
+pub mod Output

@@ -1,0 +1,25 @@
+-- What was read of an input and is not taken yet, and how more is read.
+use Rattle.std.specs.Prelude.{◌≡◌, ℕ, ◌+◌, ◌<◌, Bool, true, false, length, [], ◌∷◌, ◌++◌}
+use Rattle.ga_text.specs.Lines.{Bytes, HasNoFeed}
+use Rattle.ga_text.specs.declared.input.Fill.{Fill}
+use Rattle.ga_text.specs.declared.input.Fill.TheVariants.{More, End, Past, Failed}
+use Rattle.ga_text.specs.Input.{Unread, input_limit}
+
+-- What one read of more does: input is what the reader has left before it, rest what it has left afterwards, bytes what was read.
+abbrev pub Fills : ℕ → Bytes → Bytes → Bytes → Fill → Type 0
+Fills taken input bytes rest More = input ≡ bytes ++ rest
+Fills taken input bytes rest End = (input ≡ []) × (rest ≡ [])
+Fills taken input bytes rest Past = (taken ≡ input_limit) × ((b : ℕ) × (input ≡ b ∷ rest))
+Fills taken input bytes rest Failed = rest ≡ input
+
+-- there are bytes now, or none
+abbrev pub HasFilled : Bytes → Fill → Type 0
+HasFilled bytes More = 0 < length bytes
+HasFilled bytes End = bytes ≡ []
+HasFilled bytes Past = bytes ≡ []
+HasFilled bytes Failed = bytes ≡ []
+
+-- A part was taken: up to a line feed, which is taken too, or all that was read.
+abbrev pub TakesPart : Unread → Bytes → Unread → Bool → Type 0
+TakesPart old part new true = HasNoFeed part × (old.bytes ≡ part ++ 10 ∷ new.bytes) × (new.taken ≡ old.taken + length part + 1)
+TakesPart old part new false = HasNoFeed part × (old.bytes ≡ part) × (new.bytes ≡ []) × (new.taken ≡ old.taken + length part)

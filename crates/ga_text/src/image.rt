@@ -1,0 +1,63 @@
+//! The image part of a session.
+ghost use Rattle.std.specs.Prelude.{◌≡◌, ◌<◌, ◌++◌, [], length, Some, Ok, IfOk, OnErr, IsTrue, ◌↔◌};
+ghost use Rattle.ga_text.specs.Lines.{Bytes, ended};
+ghost use Rattle.ga_text.specs.Input.{IsWithin, block_size};
+ghost use Rattle.ga_text.specs.Image.{ReadsImage, end_line};
+
+use super::input::{Fill, Input};
+use std::alloc::AllocError;
+use std::io::Read;
+
+/// Where the reading of an image stopped.
+#[derive(Clone, Copy, PartialEq, Eq)]
+pub enum ImageEnd {
+    /// After its line `end`.
+    EndLine,
+    /// The input ended.
+    Ended,
+    /// The input goes past its bound.
+    Past,
+    /// A read failed.
+    Failed,
+}
+
+/// Reads an image up to its first line `end`. Want of memory leaves nothing to go on with.
+pub fn read_image<R: Read>(
+    input: &mut Input,
+    reader: &mut R,
+    text: &mut Vec<u8>,
+) -> Result<ImageEnd, AllocError>
+    requires within { IsWithin input.old }
+    requires empty { text.old.items ≡ [] }
+    ensures reads { IfOk result (λ stop. (left : Bytes) → R.remaining reader.old ≡ Some left →
+        (rest : Bytes) × (R.remaining reader.new ≡ Some rest)
+        × ReadsImage input.old left text.new.items input.new rest stop) }
+    ensures err { OnErr result ((left : Bytes) → R.remaining reader.old ≡ Some left →
+        (read : Bytes) × (rest : Bytes) × (R.remaining reader.new ≡ Some rest)
+        × (input.old.bytes ++ left ≡ read ++ rest)) }
+    ensures behind { result ≡ Ok ImageEnd.EndLine → length input.new.bytes < block_size }
+    ensures within { IsWithin input.new }
+{
+    let mut start = 0;
+    'parts: loop {
+        if input.take_text(text)? {
+            if is_end_line(&text[start..]) {
+                return Ok(ImageEnd::EndLine);
+            }
+            start = text.len();
+        } else {
+            match input.fill(reader) {
+                Fill::More => {}
+                Fill::End => return Ok(ImageEnd::Ended),
+                Fill::Past => return Ok(ImageEnd::Past),
+                Fill::Failed => return Ok(ImageEnd::Failed),
+            }
+        }
+    }
+}
+
+fn is_end_line(line: &[u8]) -> bool
+    ensures { IsTrue result ↔ (line.now ≡ ended end_line) }
+{
+    line == b"end\n".as_slice()
+}

@@ -1,0 +1,84 @@
+//! Lines of a text, and of the input.
+ghost use Rattle.std.specs.Prelude.{◌≡◌, ◌+◌, ◌≤◌, ◌<◌, ◌∷◌, ◌++◌, Some, length, take, Ok};
+ghost use Rattle.ga_text.specs.Lines.{Bytes, lines_of};
+ghost use Rattle.ga_text.specs.Input.{IsWithin};
+ghost use Rattle.ga_text.specs.Output.{IsSaid, IsSaidOrCut};
+ghost use Rattle.ga_text.specs.ReadLine.{ReadsLine};
+
+use super::input::{Fill, Input};
+use super::output::{Output, WriteFailed};
+use arrayvec::ArrayVec;
+use std::io::{Read, Write};
+
+/// A line, or the first 201 bytes of one that is too long.
+pub type LineBuffer = ArrayVec<u8, 201>;
+
+/// How a line ended.
+#[derive(Clone, Copy, PartialEq, Eq)]
+pub enum LineEnd {
+    /// By a line feed.
+    Feed,
+    /// The input ended. The line may be empty: then there is none.
+    Last,
+    /// The line goes past the bound of the input.
+    Past,
+    /// A read failed within the line.
+    ReadFailed,
+}
+
+/// Reads the next line, without its line feed. What is pending is written before each read of more.
+///
+/// # Errors
+/// What was said before could not be written.
+pub fn read_line<R: Read, W: Write>(
+    input: &mut Input,
+    reader: &mut R,
+    output: &mut Output,
+    writer: &mut W,
+    line: &mut LineBuffer,
+) -> Result<LineEnd, WriteFailed>
+    requires { IsWithin input.old }
+    ensures reads { (left : Bytes) → R.remaining reader.old ≡ Some left →
+        (rest : Bytes) × (R.remaining reader.new ≡ Some rest)
+        × ReadsLine input.old left line.new.items input.new rest result }
+    ensures said { (before said : Bytes) → IsSaid (W.contents writer.old) before said output.old →
+        IsSaidOrCut result (W.contents writer.new) before said output.new }
+    ensures within { IsWithin input.new }
+    ensures goes_on { result ≡ Ok LineEnd.Feed → input.old.taken < input.new.taken }
+{
+    line.clear();
+    'parts: loop {
+        if input.take_line(line) {
+            return Ok(LineEnd::Feed);
+        }
+        output.send(writer)?;
+        match input.fill(reader) {
+            Fill::More => {}
+            Fill::End => return Ok(LineEnd::Last),
+            Fill::Past => return Ok(LineEnd::Past),
+            Fill::Failed => return Ok(LineEnd::ReadFailed),
+        }
+    }
+}
+
+/// Adds bytes to a line, as far as there is room.
+pub fn keep(line: &mut LineBuffer, bytes: &[u8])
+    ensures { line.new.items ≡ take 201 (line.old.items ++ bytes.now) }
+{
+    let count = line.remaining_capacity().min(bytes.len());
+    let _fits = line.try_extend_from_slice(&bytes[..count]);
+}
+
+/// The first line, without its line feed, and the text after it.
+pub fn first_line(text: &[u8]) -> (&[u8], &[u8])
+    requires { 0 < length text.now }
+    ensures splits { lines_of text.now ≡ result.0.now ∷ lines_of result.1.now }
+    ensures shorter { length result.1.now < length text.now }
+{
+    for (i, byte) in text.iter().enumerate() {
+        if *byte == b'\n' {
+            return (text.split_at(i).0, text.split_at(i + 1).1);
+        }
+    }
+    (text, &[])
+}

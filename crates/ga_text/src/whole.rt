@@ -1,0 +1,39 @@
+//! An input that is read whole before anything is made of it: source, or an image without commands.
+ghost use Rattle.std.specs.Prelude.{◌≡◌, ◌++◌, Some};
+ghost use Rattle.ga_text.specs.Lines.{Bytes};
+ghost use Rattle.ga_text.specs.Whole.{ReadsWhole};
+
+use super::image::{ImageEnd, read_image};
+use super::input::Input;
+use std::alloc::Global;
+use std::io::Read;
+
+/// What reading a whole input comes to.
+#[derive(Drop)]
+pub enum WholeRead {
+    /// The text up to its first line `end`, or to the end of the input.
+    Whole(Vec<u8>),
+    /// The input goes past its bound. The text is what is within it.
+    TooLong(Vec<u8>),
+    /// A read failed.
+    ReadFailed,
+    /// Memory was refused.
+    NoMemory,
+}
+
+/// Reads an input up to its first line `end`, or to its end.
+pub fn read_whole<R: Read>(alloc: Global, reader: &mut R) -> WholeRead
+    // Where the reader tells its bytes: what was read of them, and what that came to.
+    ensures { (left : Bytes) → R.remaining reader.old ≡ Some left →
+        (read rest : Bytes) × (left ≡ read ++ rest) × (R.remaining reader.new ≡ Some rest) × ReadsWhole read rest result }
+{
+    let mut input = Input::new();
+    let mut text = Vec::new(alloc);
+    match read_image(&mut input, reader, &mut text) {
+        Err(_) => WholeRead::NoMemory,
+        Ok(ImageEnd::Failed) => WholeRead::ReadFailed,
+        Ok(ImageEnd::Past) => WholeRead::TooLong(text),
+        Ok(ImageEnd::Ended) => WholeRead::Whole(text),
+        Ok(ImageEnd::EndLine) => WholeRead::Whole(text),
+    }
+}
