@@ -1,8 +1,8 @@
 -- What a node does and what a word is, as a person reads it (Debug Adapter Protocol, "Thread.name", "Variable.value"; F18A Technology Reference
 -- DB001, ports).
 use Rattle.std.specs.Prelude.{ℕ, ◌==◌, ◌-◌, nat_lt, if◌then◌else◌, List, [], ◌∷◌, ◌++◌, codes, decimal}
-use Rattle.ga_image.specs.Lines.{Text}
-use Rattle.ga_image.specs.Spelling.{decimal3_of}
+use Rattle.ga_text.specs.Lines.{Text}
+use Rattle.ga_text.specs.Digits.{decimal3_of}
 use Rattle.ga_word.specs.Word.{hex6_of}
 use Rattle.ga_ports.specs.Address.{has_side}
 use Rattle.ga_ports.specs.declared.side.Side.{Side}

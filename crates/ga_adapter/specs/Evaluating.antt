@@ -2,8 +2,8 @@
 -- frame.
 use Rattle.std.specs.Prelude.{◌≡◌, ◌≢◌, ◌<◌, ◌⊎◌, ◌==◌, ◌&&◌, if◌then◌else◌, ℕ, Bool, length, slice_index, slice_range, codes, Option, Some, None, option_map}
 use Rattle.serde_json.specs.Data.{Data, string, object, no_members, member}
-use Rattle.ga_image.specs.Digits.{byte_in}
-use Rattle.ga_image.specs.Lines.{Text}
+use Rattle.ga_text.specs.Digits.{byte_in}
+use Rattle.ga_text.specs.Lines.{Text}
 use Rattle.ga_lab.specs.Machine.{State}
 use Rattle.ga_adapter.specs.Json.{whole_number}
 use Rattle.ga_adapter.specs.Shown.{variable_at, variable_count, variable_name}

@@ -7,7 +7,7 @@ use Rattle.ga_ports.specs.declared.address.Target.TheVariants.{Ram, Rom}
 use Rattle.ga_ports.specs.Address.{classified}
 use Rattle.ga_grid.specs.Chip.{record_at}
 use Rattle.ga_grid.specs.declared.node_id.NodeId.{NodeId}
-use Rattle.ga_image.specs.Lines.{Text}
+use Rattle.ga_text.specs.Lines.{Text}
 use Rattle.ga_event.specs.Told.{steps_of}
 use Rattle.ga_lab.specs.Machine.{State, chip_of}
 use Rattle.ga_adapter.specs.Doing.{named_activity}

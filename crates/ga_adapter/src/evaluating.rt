@@ -10,8 +10,8 @@ use crate::scope::Scope;
 use crate::values::value_of;
 use crate::variable::{Variable, count_of, name_of, variable_of};
 use ga_grid::NodeId;
-use ga_image::byte_of;
 use ga_lab::Lab;
+use ga_text::byte_of;
 use serde_json::{Value, json};
 use std::alloc::{AllocError, Global};
 

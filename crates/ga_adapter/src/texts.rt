@@ -4,7 +4,7 @@ ghost use Rattle.std.specs.Prelude.{◌≡◌, ◌<◌, ◌^◌, ◌+◌, ◌++�
 ghost use Rattle.hex.specs.Hex.{lower_digits};
 ghost use Rattle.ga_word.specs.Word.{hex6_of};
 ghost use Rattle.ga_grid.specs.Grid.{yxx_of};
-ghost use Rattle.ga_image.specs.Spelling.{decimal3_of, hex2_of};
+ghost use Rattle.ga_text.specs.Digits.{decimal3_of, hex2_of};
 ghost use Rattle.ga_adapter.specs.Doing.{negative_text, valued_word};
 ghost use Rattle.ga_adapter.specs.Variables.{memory_reference};
 

@@ -5,9 +5,9 @@ ghost use Rattle.ga_explorer.specs.Reading.{back_in, back_by, node_back_in, unti
 
 use crate::conditions_request::conditions_of;
 use crate::request::ExplorerCommand;
-use ga_console::{cut, node_in};
 use ga_grid::NodeId;
 use ga_notes::Notes;
+use ga_text::{cut, node_in};
 
 /// What stands behind `back` and a space.
 #[tactic(auto, unfolding(crate::specs::Reading::back_in))]

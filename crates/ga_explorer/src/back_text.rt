@@ -1,14 +1,14 @@
 //! Back to where a condition held, and how many events went.
 
 ghost use Rattle.std.specs.Prelude.{◌≡◌, length};
-ghost use Rattle.ga_console.specs.kept.Output.{Says};
+ghost use Rattle.ga_text.specs.kept.Output.{Says};
 ghost use Rattle.ga_search.specs.Backward.{newest_held, left_from, gone_from};
 ghost use Rattle.ga_explorer.specs.Texts.{back_text};
 
-use ga_console::{Output, WriteFailed};
 use ga_grid::NodeId;
 use ga_lab::Lab;
 use ga_search::{Condition, back_until};
+use ga_text::{Output, WriteFailed};
 use std::io::Write;
 
 /// `back until COND`, `back NNN until COND`: takes events back, and says how many went, or that none did.
