@@ -24,4 +24,5 @@ pub use event::{push_made, refusal_text};
 pub use race::race_report;
 pub use responder::{Responder, Turn};
 pub use run::{Status, open_image, refuse, session, session_with, status_of};
+pub use saying::say_removed;
 pub use settings::{LineFault, Settings, arguments};

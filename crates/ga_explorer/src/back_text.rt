@@ -5,6 +5,7 @@ ghost use Rattle.ga_text.specs.kept.Output.{Says};
 ghost use Rattle.ga_search.specs.Backward.{newest_held, left_from, gone_from};
 ghost use Rattle.ga_explorer.specs.Texts.{back_text};
 
+use ga_console::say_removed;
 use ga_grid::NodeId;
 use ga_lab::Lab;
 use ga_search::{Condition, back_until};
@@ -27,7 +28,7 @@ pub(crate) fn say_back<W: Write>(
     ensures state { lab.new ≡ left_from only lab.old (newest_held until.now only lab.old) }
 {
     match back_until(lab, until, only) {
-        Some(gone) => output.say_removed(writer, gone, lab.counts().kept),
+        Some(gone) => say_removed(output, writer, gone, lab.counts().kept),
         None => output.say(writer, b"none\n"),
     }
 }
