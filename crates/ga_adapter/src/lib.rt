@@ -13,6 +13,13 @@ mod thread;
 mod values;
 mod variable;
 
+mod calls;
+mod disassembly;
+mod frames;
+mod labels;
+mod moves;
+mod spots;
+
 pub use evaluating::{asked_variable, evaluate};
 pub use exceptions::exception_info;
 pub use listing::{scopes, variables};
@@ -23,3 +30,9 @@ pub use numbers::{
 pub use scope::Scope;
 pub use thread::{has_thread, threads};
 pub use variable::Variable;
+
+pub use calls::{OpenCall, open_calls};
+pub use disassembly::disassembled;
+pub use frames::{SourceFile, stack_trace};
+pub use moves::{Watched, go_back, reverse_continue, step_back};
+pub use spots::{Spot, spot_behind};
