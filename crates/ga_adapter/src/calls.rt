@@ -122,6 +122,47 @@ fn before_push(window: Window) -> Window
     }
 }
 
+/// The same of a step by which the top goes.
+fn before_pop(window: Window) -> Window
+    requires some { 0 < window.left }
+    requires within { window.place + window.left ≤ 9 }
+    ensures within { result.place + result.left ≤ 9 }
+    ensures room { result.left ≤ window.left }
+    ensures before { IsBefore Shift.Pops window result }
+{
+    let Window { place, left } = window;
+    if place + left == 9 {
+        Window {
+            place: place + 1,
+            left: left - 1,
+        }
+    } else {
+        Window {
+            place: place + 1,
+            left,
+        }
+    }
+}
+
+/// The same of a step by which another word comes in the place of the top.
+fn before_exchange(window: Window) -> Window
+    requires some { 0 < window.left }
+    requires within { window.place + window.left ≤ 9 }
+    ensures within { result.place + result.left ≤ 9 }
+    ensures room { result.left ≤ window.left }
+    ensures before { IsBefore Shift.Replaces window result }
+{
+    let Window { place, left } = window;
+    if place == 0 {
+        Window {
+            place: 1,
+            left: left - 1,
+        }
+    } else {
+        window
+    }
+}
+
 /// Where the entries of a window stood before a step that did this to them.
 fn window_before(window: Window, shift: Shift) -> Window
     requires some { 0 < window.left }
@@ -130,34 +171,12 @@ fn window_before(window: Window, shift: Shift) -> Window
     ensures room { length (put_first shift window.place 0) + result.left ≤ window.left }
     ensures before { IsBefore shift window result }
 {
-    let Window { place, left } = window;
     match shift {
         Shift::Stays => window,
         Shift::Calls => before_push(window),
         Shift::Pushes => before_push(window),
-        Shift::Pops => {
-            if place + left == 9 {
-                Window {
-                    place: place + 1,
-                    left: left - 1,
-                }
-            } else {
-                Window {
-                    place: place + 1,
-                    left,
-                }
-            }
-        }
-        Shift::Replaces => {
-            if place == 0 {
-                Window {
-                    place: 1,
-                    left: left - 1,
-                }
-            } else {
-                window
-            }
-        }
+        Shift::Pops => before_pop(window),
+        Shift::Replaces => before_exchange(window),
     }
 }
 

@@ -20,7 +20,7 @@ pub returns : goal.returns
 returns c =
     let first : ℕ = c.args.cell / 64 * 64 in
     let found = place_of_label c.args.names.now c.args.node in
-    c.place_of_label.ensures
+    c.place_of_label-2.ensures
     ∙ ap found (let e : first ≡ first + c.looking.behind = omega arith in e)
     ∙ nearest_last found first c.looking.behind (omega arith)
     ∙ c.looking.invariant.same

@@ -15,7 +15,7 @@ returns-then-slot-eq4 c =
     let walk = c.args.walk.now in
     let there = then_of s node walk (record_of c.node.result.now) c.requires (omega (arith, c.step-step.ensures.value, c.step-step.ensures.within)) c.node.ensures in
     c.due_spot.ensures
-    ∙ due_so (record_of c.node.result.now) (node_after s node.number walk.step) c.slot_and_p.result.0 c.slot_and_p.result.1 (fetched_cell s node walk.step) there c.slot_and_p.ensures.slot c.slot_and_p.ensures.p
+    ∙ due_so (record_of c.node.result.now) (node_after s node.number walk.step) c.slot_and_p-slot.result.0 c.slot_and_p-slot.result.1 (fetched_cell s node walk.step) there c.slot_and_p-slot.ensures.slot c.slot_and_p-slot.ensures.p
     c.if-slot-eq4.true
 
 pub returns-in-Some : goal.returns-in-Some
@@ -24,8 +24,8 @@ returns-in-Some c =
     let node = c.args.node in
     let walk = c.args.walk.now in
     let there = then_of s node walk (record_of c.node.result.now) c.requires (omega (arith, c.step-step.ensures.value, c.step-step.ensures.within)) c.node.ensures in
-    ap (option_map (spot c.slot_and_p.result.0)) (c.in-Some.ensures ∙ ap (fetched_cell s node) c.step-step.ensures.value)
-    ∙ running_so (record_of c.node.result.now) (node_after s node.number walk.step) c.slot_and_p.result.0 (fetched_cell s node walk.step) there c.slot_and_p.ensures.slot c.if-slot-eq4.false
+    ap (option_map (spot c.slot_and_p-slot.result.0)) (c.in-Some.ensures ∙ ap (fetched_cell s node) c.step-step.ensures.value)
+    ∙ running_so (record_of c.node.result.now) (node_after s node.number walk.step) c.slot_and_p-slot.result.0 (fetched_cell s node walk.step) there c.slot_and_p-slot.ensures.slot c.if-slot-eq4.false
 
 pub returns-in-None : goal.returns-in-None
 returns-in-None c =
@@ -33,5 +33,5 @@ returns-in-None c =
     let node = c.args.node in
     let walk = c.args.walk.now in
     let there = then_of s node walk (record_of c.node.result.now) c.requires (omega (arith, c.step-step.ensures.value, c.step-step.ensures.within)) c.node.ensures in
-    ap (option_map (spot c.slot_and_p.result.0)) (c.in-None.ensures ∙ ap (fetched_cell s node) c.step-step.ensures.value)
-    ∙ running_so (record_of c.node.result.now) (node_after s node.number walk.step) c.slot_and_p.result.0 (fetched_cell s node walk.step) there c.slot_and_p.ensures.slot c.if-slot-eq4.false
+    ap (option_map (spot c.slot_and_p-slot.result.0)) (c.in-None.ensures ∙ ap (fetched_cell s node) c.step-step.ensures.value)
+    ∙ running_so (record_of c.node.result.now) (node_after s node.number walk.step) c.slot_and_p-slot.result.0 (fetched_cell s node walk.step) there c.slot_and_p-slot.ensures.slot c.if-slot-eq4.false
