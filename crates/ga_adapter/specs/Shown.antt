@@ -1,5 +1,5 @@
 -- What a scope of a node has (Debug Adapter Protocol, "Scope", "Variable"), by names.
-use Rattle.std.specs.Prelude.{ℕ, ◌+◌, ◌==◌, ◌<◌, ◌≤◌, if◌then◌else◌, List, [], ◌∷◌, ◌++◌, codes, decimal, slice_index_or}
+use Rattle.std.specs.Prelude.{ℕ, ◌+◌, ◌==◌, ◌<◌, if◌then◌else◌, List, [], ◌∷◌, ◌++◌, codes, decimal, slice_index_or}
 use Rattle.ga_image.specs.Lines.{Text}
 use Rattle.ga_image.specs.Spelling.{hex2_of}
 use Rattle.ga_ports.specs.declared.side.Side.TheVariants.{Right, Down, Left, Up}

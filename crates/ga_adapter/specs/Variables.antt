@@ -1,8 +1,8 @@
 -- The responses to `scopes` and `variables` (Debug Adapter Protocol, "ScopesRequest", "VariablesRequest"): what a node holds.
-use Rattle.std.specs.Prelude.{ℕ, ◌-◌, ◌+◌, ◌==◌, min, Bool, true, false, if◌then◌else◌, List, [], ◌∷◌, ◌++◌, codes, decimal, Option, Some, None, slice_index}
+use Rattle.std.specs.Prelude.{ℕ, ◌-◌, ◌==◌, min, Bool, true, false, if◌then◌else◌, List, [], ◌∷◌, ◌++◌, codes, decimal, Option, Some, None, slice_index}
 use Rattle.std.specs.Int.{from_bool}
 use Rattle.std.specs.List.{range_with_len}
-use Rattle.serde_json.specs.Data.{Data, string, boolean, object, Members, no_members, member}
+use Rattle.serde_json.specs.Data.{Data, string, boolean, object, no_members, member}
 use Rattle.ga_word.specs.Word.{hex6_of}
 use Rattle.ga_image.specs.Lines.{Text}
 use Rattle.ga_node.specs.Record.{NodeRecord}

@@ -1,4 +1,4 @@
-use Rattle.std.proofs.Common.{◌+◌, ℕ, ap, ◌∙◌, arith}
+use Rattle.std.proofs.Common.{ℕ, ap, ◌∙◌, arith}
 use Rattle.ga_adapter.specs.Shown.{variable_at}
 use Rattle.ga_adapter.specs.Variables.{data_of}
 use Rattle.ga_adapter.proofs.Lists.{range_step}
