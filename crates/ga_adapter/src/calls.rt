@@ -84,7 +84,13 @@ fn shift_by(lab: &Lab, walk: &mut Walk<'_>, node: NodeId, at: u32) -> Shift
     ensures walk { walk.new ≡ standing lab.now node walk.new.step }
     ensures order { at ≤ walk.new.step }
 {
-    let Some(Made::Own { kind: Kind::Run(code), .. }) = lab.told(node, at) else {
+    let Some(
+        Made::Own {
+            kind: Kind::Run(code),
+            ..
+        },
+    ) = lab.told(node, at)
+    else {
         return Shift::Stays;
     };
     match shift_of(Op::from_code(code % 32)) {
