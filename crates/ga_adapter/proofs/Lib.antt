@@ -1,1 +1,7 @@
 pub mod Lists
+pub mod Shifts
+pub mod Windows
+pub mod Standings
+pub mod SlotTexts
+pub mod FrameLists
+pub mod Comings

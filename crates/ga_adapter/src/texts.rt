@@ -7,6 +7,7 @@ ghost use Rattle.ga_grid.specs.Grid.{yxx_of};
 ghost use Rattle.ga_text.specs.Digits.{decimal3_of, hex2_of};
 ghost use Rattle.ga_adapter.specs.Doing.{negative_text, valued_word};
 ghost use Rattle.ga_adapter.specs.Variables.{memory_reference};
+ghost use Rattle.ga_adapter.specs.Disassembly.{hex3_of};
 
 use ga_grid::NodeId;
 use std::alloc::{AllocError, Global};
@@ -57,7 +58,7 @@ pub(crate) fn add_hex2(text: &mut String, byte: u8) -> Result<(), AllocError>
 }
 
 /// Adds six hexadecimal digits.
-fn add_hex6(text: &mut String, value: u32) -> Result<(), AllocError>
+pub(crate) fn add_hex6(text: &mut String, value: u32) -> Result<(), AllocError>
     ensures { OnOk result (string_bytes text.new ≡ string_bytes text.old ++ hex6_of value) }
 {
     text.push_str(digit(value / 1_048_576 % 16))?;
@@ -124,4 +125,13 @@ pub(crate) fn cell_name(alloc: Global, address: u8) -> Result<String, AllocError
     add_hex2(&mut text, address)?;
     text.push_str("]")?;
     Ok(text)
+}
+
+/// Adds three hexadecimal digits.
+pub(crate) fn add_hex3(text: &mut String, value: u32) -> Result<(), AllocError>
+    ensures { OnOk result (string_bytes text.new ≡ string_bytes text.old ++ hex3_of value) }
+{
+    text.push_str(digit(value / 256 % 16))?;
+    text.push_str(digit(value / 16 % 16))?;
+    text.push_str(digit(value % 16))
 }

@@ -1,0 +1,276 @@
+//! The frames of a node: where it stands, and the calls from which it did not come back.
+
+ghost use Rattle.std.specs.Prelude.{◌≡◌, ◌<◌, ◌≤◌, ◌^◌, ◌+◌, ◌-◌, ◌++◌, ◌==◌, if◌then◌else◌, min, ℕ, IfOk, OnOk, length, map, string_bytes, codes};
+ghost use Rattle.std.specs.List.{range_with_len, slice_get};
+ghost use Rattle.serde_json.specs.Data.{array};
+ghost use Rattle.serde_json.specs.View.{view, items_view};
+ghost use Rattle.ga_adapter.specs.Calls.{open_calls};
+ghost use Rattle.ga_adapter.specs.Frames.{source_object, lined_frame, bare_frame, outside_frame, place_words, frame_name, frame_on, frame, call_spot, level_spot, stack_object, stack_trace};
+ghost use Rattle.ga_adapter.specs.Variables.{memory_reference, places_asked};
+
+use crate::calls::{OpenCall, open_calls};
+use crate::labels::{add_cell, line_at};
+use crate::numbers::{chip_address, frame_of};
+use crate::spots::{Spot, spot_behind};
+use crate::texts::{add_node, address_text};
+use ga_grid::NodeId;
+use ga_lab::Lab;
+use ga_notes::Notes;
+use serde_json::{Value, json, push};
+use std::alloc::{AllocError, Global};
+
+/// The file of the source, as a client opens it.
+#[derive(Clone, Copy)]
+pub struct SourceFile<'f> {
+    pub name: &'f str,
+    pub path: &'f str,
+}
+
+/// The file of the source (Debug Adapter Protocol, "Source").
+#[tactic(auto, unfolding(crate::specs::Frames::source_object))]
+pub(crate) fn source_object(alloc: Global, file: SourceFile<'_>) -> Result<Value, AllocError>
+    ensures { IfOk result (λ v. view v ≡ source_object file.entry) }
+{
+    let name = file.name;
+    let path = file.path;
+    json!(in alloc; {"name": name, "path": path})
+}
+
+#[tactic(auto, unfolding(crate::specs::Frames::lined_frame))]
+fn lined_frame(
+    alloc: Global,
+    source: &Value,
+    id: u64,
+    name: &str,
+    pointer: &str,
+    line: u32,
+) -> Result<Value, AllocError>
+    ensures { IfOk result (λ v. view v ≡ lined_frame (view source.now) id name.now pointer.now line) }
+{
+    json!(in alloc; {"column": 1u64, "id": id, "instructionPointerReference": pointer, "line": line, "name": name, "source": source})
+}
+
+#[tactic(auto, unfolding(crate::specs::Frames::bare_frame))]
+fn bare_frame(alloc: Global, id: u64, name: &str, pointer: &str) -> Result<Value, AllocError>
+    ensures { IfOk result (λ v. view v ≡ bare_frame id name.now pointer.now) }
+{
+    json!(in alloc; {"column": 0u64, "id": id, "instructionPointerReference": pointer, "line": 0u64, "name": name})
+}
+
+#[tactic(auto, unfolding(crate::specs::Frames::outside_frame))]
+fn outside_frame(alloc: Global, id: u64, name: &str) -> Result<Value, AllocError>
+    ensures { IfOk result (λ v. view v ≡ outside_frame id name.now) }
+{
+    json!(in alloc; {"column": 0u64, "id": id, "line": 0u64, "name": name, "presentationHint": "subtle"})
+}
+
+/// Adds where in a node that is.
+fn add_place(
+    alloc: Global,
+    text: &mut String,
+    notes: &Notes,
+    node: NodeId,
+    spot: Option<Spot>,
+) -> Result<(), AllocError>
+    ensures { OnOk result (string_bytes text.new ≡ string_bytes text.old ++ place_words notes.now node spot) }
+{
+    match spot {
+        Some(spot) => add_cell(alloc, text, notes, node, spot.cell),
+        None => text.push_str("outside its memory"),
+    }
+}
+
+fn frame_name(
+    alloc: Global,
+    notes: &Notes,
+    node: NodeId,
+    spot: Option<Spot>,
+) -> Result<String, AllocError>
+    ensures { IfOk result (λ text. string_bytes text ≡ frame_name notes.now node spot) }
+{
+    let mut text = String::new(alloc);
+    add_node(&mut text, node)?;
+    text.push_str(" ")?;
+    add_place(alloc, &mut text, notes, node, spot)?;
+    Ok(text)
+}
+
+/// A frame at a cell, on a line where the source has one.
+fn frame_on(
+    alloc: Global,
+    file: SourceFile<'_>,
+    id: u64,
+    name: &str,
+    address: u32,
+    line: Option<u32>,
+) -> Result<Value, AllocError>
+    requires { address < 2 ^ 24 }
+    ensures { IfOk result (λ v. view v ≡ frame_on file.entry id name.now (memory_reference address) line) }
+{
+    let pointer = address_text(alloc, address)?;
+    match line {
+        None => bare_frame(alloc, id, name, pointer.as_str()),
+        Some(line) => {
+            let source = source_object(alloc, file)?;
+            lined_frame(alloc, &source, id, name, pointer.as_str(), line)
+        }
+    }
+}
+
+/// A frame of a node.
+fn frame(
+    alloc: Global,
+    file: SourceFile<'_>,
+    notes: &Notes,
+    node: NodeId,
+    level: u8,
+    spot: Option<Spot>,
+) -> Result<Value, AllocError>
+    requires { level < 16 }
+    ensures { IfOk result (λ v. view v ≡ frame file.entry notes.now node level spot) }
+{
+    let name = frame_name(alloc, notes, node, spot)?;
+    let id = frame_of(node, level);
+    match spot {
+        None => outside_frame(alloc, id, name.as_str()),
+        Some(spot) => {
+            let line = line_at(notes, node, spot);
+            frame_on(
+                alloc,
+                file,
+                id,
+                name.as_str(),
+                chip_address(node, spot.cell),
+                line,
+            )
+        }
+    }
+}
+
+/// Where a call stands, of those in a list.
+fn call_spot(calls: &[OpenCall], place: u8) -> Option<Spot>
+    ensures { result ≡ call_spot (slice_get calls.now place) }
+{
+    match calls.get(usize::from(place)) {
+        Some(call) => call.at,
+        None => None,
+    }
+}
+
+/// Where the frame of a level stands.
+fn level_spot(lab: &Lab, node: NodeId, calls: &[OpenCall], level: u8) -> Option<Spot>
+    requires { calls.now ≡ open_calls lab.now node }
+    ensures { result ≡ level_spot lab.now node level }
+{
+    if level == 0 {
+        return spot_behind(lab, node, lab.steps(node));
+    }
+    call_spot(calls, level - 1)
+}
+
+/// The frames from one level on and before another.
+fn frames(
+    alloc: Global,
+    file: SourceFile<'_>,
+    lab: &Lab,
+    notes: &Notes,
+    node: NodeId,
+    calls: &[OpenCall],
+    first: u8,
+    end: u8,
+) -> Result<Vec<Value>, AllocError>
+    requires calls { calls.now ≡ open_calls lab.now node }
+    requires order { first ≤ end }
+    requires few { end ≤ 16 }
+    ensures { IfOk result (λ list. map view list.items
+        ≡ map (λ k. frame file.entry notes.now node k (level_spot lab.now node k)) (range_with_len first (end - first))) }
+{
+    let mut list = Vec::new(alloc);
+    'levels: for level in first..end {
+        let spot = level_spot(lab, node, calls, level);
+        let value = frame(alloc, file, notes, node, level, spot)?;
+        push(&mut list, value)?;
+    }
+    Ok(list)
+}
+
+#[tactic(auto, unfolding(crate::specs::Frames::stack_object))]
+fn stack_object(alloc: Global, frames: Vec<Value>, total: u64) -> Result<Value, AllocError>
+    ensures { IfOk result (λ v. view v ≡ stack_object (array (items_view frames.items)) total) }
+{
+    let frames = Value::Array(frames);
+    json!(in alloc; {"stackFrames": frames, "totalFrames": total})
+}
+
+/// How many of those that are left are asked for.
+fn many_asked(left: u64, count: u64) -> u64
+    ensures value { result ≡ (if count == 0 then left else min count left) }
+    ensures within { result ≤ left }
+{
+    if count == 0 { left } else { count.min(left) }
+}
+
+/// The levels that are asked for: the first, and the one behind the last.
+#[tactic(auto, using(crate::proofs::FrameLists::places_so))]
+fn levels_asked(total: u64, start: u64, count: u64) -> (u8, u8)
+    requires { total ≤ 16 }
+    ensures places { range_with_len result.0 (result.1 - result.0) ≡ places_asked total start count }
+    ensures order { result.0 ≤ result.1 }
+    ensures within { result.1 ≤ total }
+{
+    let many = many_asked(total.saturating_sub(start), count);
+    let first = start.min(total);
+    let end = first + many;
+    (first as u8, end as u8)
+}
+
+/// The response, where these are the calls.
+fn stack_body(
+    alloc: Global,
+    file: SourceFile<'_>,
+    lab: &Lab,
+    notes: &Notes,
+    node: NodeId,
+    calls: &[OpenCall],
+    start: u64,
+    count: u64,
+) -> Result<Value, AllocError>
+    requires calls { calls.now ≡ open_calls lab.now node }
+    requires few { length calls.now ≤ 9 }
+    ensures { IfOk result (λ v. view v ≡ stack_trace file.entry notes.now lab.now node start count) }
+{
+    let total = calls.len() as u64 + 1;
+    let levels = levels_asked(total, start, count);
+    let list = frames(alloc, file, lab, notes, node, calls, levels.0, levels.1)?;
+    stack_object(alloc, list, total)
+}
+
+/// The body of the response to `stackTrace` (Debug Adapter Protocol, "StackTraceRequest") for a node: of the frames from one on so many,
+/// and all that are left where `count` is 0. Frame 0 is where the node stands; the others are the calls from which it did not come
+/// back. Takes memory for the response, and time by how many steps the node made since the oldest.
+///
+/// # Errors
+/// Memory was refused.
+pub fn stack_trace(
+    alloc: Global,
+    file: SourceFile<'_>,
+    lab: &Lab,
+    notes: &Notes,
+    node: NodeId,
+    start: u64,
+    count: u64,
+) -> Result<Value, AllocError>
+    ensures { IfOk result (λ v. view v ≡ stack_trace file.entry notes.now lab.now node start count) }
+{
+    let calls = open_calls(lab, node);
+    stack_body(
+        alloc,
+        file,
+        lab,
+        notes,
+        node,
+        calls.as_slice(),
+        start,
+        count,
+    )
+}

@@ -1,0 +1,90 @@
+//! Where a node stands.
+
+ghost use Rattle.std.specs.Prelude.{◌≡◌, ◌≤◌, option_map};
+ghost use Rattle.ga_node.specs.Record.{record_of};
+ghost use Rattle.ga_event.specs.Told.{steps_of};
+ghost use Rattle.ga_lab.specs.Machine.{standing};
+ghost use Rattle.ga_notes.specs.Source.{cell_of_address};
+ghost use Rattle.ga_adapter.specs.Spots.{spot, spot_behind};
+
+use ga_grid::NodeId;
+use ga_lab::{Lab, Walk};
+use ga_node::{Node, Place};
+use ga_origin::fetched_near;
+use ga_ports::{Target, classify};
+
+/// A slot of a cell.
+#[derive(Clone, Copy, PartialEq, Eq, Debug)]
+pub struct Spot {
+    /// 0 to 63 of RAM, 128 to 191 of ROM.
+    pub cell: u8,
+    /// 0 to 3.
+    pub slot: u8,
+}
+
+/// The cell of memory that an address names: of ROM from 128 on.
+pub(crate) fn cell_of(address: u32) -> Option<u8>
+    ensures { result ≡ cell_of_address address }
+{
+    match classify(address) {
+        Target::Ram(cell) => Some(cell),
+        Target::Rom(cell) => Some(128 + cell),
+        _ => None,
+    }
+}
+
+/// The slot that comes next, and P.
+#[tactic(auto, unfolding(ga_node::specs::Record::record_of))]
+fn slot_and_p(node: &Node) -> (u8, u32)
+    ensures slot { result.0 ≡ (record_of node.now).slot }
+    ensures p { result.1 ≡ (record_of node.now).p }
+{
+    (node.get(Place::Slot) as u8, node.get(Place::P))
+}
+
+/// Where a node stood when it had made as many steps as a walk of it has. Takes time by how many steps it made since the fetch of its
+/// instruction word.
+pub(crate) fn spot_at(lab: &Lab, walk: &Walk<'_>, node: NodeId) -> Option<Spot>
+    requires { walk.now ≡ standing lab.now node walk.now.step }
+    ensures { result ≡ spot_behind lab.now node walk.now.step }
+{
+    let step = walk.step();
+    let (slot, p) = slot_and_p(walk.node());
+    if slot == 4 {
+        return due_spot(p);
+    }
+    match fetched_near(lab, walk, node, node, step) {
+        Some(cell) => Some(Spot { cell, slot }),
+        None => None,
+    }
+}
+
+/// Where a node stands that is to fetch there.
+fn due_spot(p: u32) -> Option<Spot>
+    ensures { result ≡ option_map (spot 0) (cell_of_address p) }
+{
+    match cell_of(p) {
+        Some(cell) => Some(Spot { cell, slot: 0 }),
+        None => None,
+    }
+}
+
+/// The same behind so many steps, to which the node is walked back.
+pub(crate) fn spot_back(lab: &Lab, walk: &mut Walk<'_>, node: NodeId, step: u32) -> Option<Spot>
+    requires walk { walk.old ≡ standing lab.now node walk.old.step }
+    requires order { step ≤ walk.old.step }
+    ensures spot { result ≡ spot_behind lab.now node step }
+    ensures walk { walk.new ≡ standing lab.now node step }
+{
+    walk.back_to(step);
+    spot_at(lab, walk, node)
+}
+
+/// Where a node stood behind so many of its steps: the slot that it carried out next, or that of the cell that it fetched next. None
+/// where its code stood in no memory. Takes time by how many steps the node made since, or since the fetch before.
+pub fn spot_behind(lab: &Lab, node: NodeId, step: u32) -> Option<Spot>
+    requires { step ≤ steps_of node.number lab.now.kept }
+    ensures { result ≡ spot_behind lab.now node step }
+{
+    spot_at(lab, &lab.walk(node, step), node)
+}
