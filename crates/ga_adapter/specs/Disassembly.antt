@@ -10,7 +10,7 @@ use Rattle.ga_slots.specs.declared.op.Op.TheVariants.{Return, Execute, Jump, Cal
 use Rattle.ga_slots.specs.Codes.{name_of}
 use Rattle.ga_slots.specs.Slots.{opcode, target}
 use Rattle.ga_ports.specs.Address.{advanced}
-use Rattle.ga_image.specs.Lines.{Text}
+use Rattle.ga_text.specs.Lines.{Text}
 use Rattle.ga_grid.specs.declared.node_id.NodeId.{NodeId}
 use Rattle.ga_grid.specs.Chip.{record_at}
 use Rattle.ga_lab.specs.Machine.{State, chip_of, word_at}

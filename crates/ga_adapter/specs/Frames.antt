@@ -2,8 +2,8 @@
 use Rattle.std.specs.Prelude.{ℕ, zero, suc, ◌+◌, List, ◌++◌, length, map, codes, Option, Some, None}
 use Rattle.std.specs.List.{slice_get}
 use Rattle.serde_json.specs.Data.{Data, string, object, no_members, member}
-use Rattle.ga_image.specs.Lines.{Text}
-use Rattle.ga_image.specs.Spelling.{decimal3_of}
+use Rattle.ga_text.specs.Lines.{Text}
+use Rattle.ga_text.specs.Digits.{decimal3_of}
 use Rattle.ga_grid.specs.Grid.{yxx_of}
 use Rattle.ga_grid.specs.declared.node_id.NodeId.{NodeId}
 use Rattle.ga_lab.specs.Machine.{State}

@@ -2,8 +2,8 @@
 use Rattle.std.specs.Prelude.{ℕ, ◌-◌, ◌*◌, ◌/◌, ◌%◌, ◌==◌, Bool, false, ◌&&◌, if◌then◌else◌, List, [], ◌++◌, codes, decimal, Option, Some, None, position, option_map, option_and_then, unwrap_or}
 use Rattle.std.specs.List.{slice_get}
 use Rattle.std.specs.Str.Lossy.{utf8_lossy}
-use Rattle.ga_image.specs.Lines.{Text}
-use Rattle.ga_image.specs.Spelling.{hex2_of}
+use Rattle.ga_text.specs.Lines.{Text}
+use Rattle.ga_text.specs.Digits.{hex2_of}
 use Rattle.ga_grid.specs.declared.node_id.NodeId.{NodeId}
 use Rattle.ga_notes.specs.declared.notes.Name.{Name}
 use Rattle.ga_notes.specs.declared.notes.Note.{Note}
