@@ -16,7 +16,7 @@ use Rattle.ga_search.specs.declared.races.Race.{Race}
 use Rattle.ga_search.specs.Races.{races_asked, has_looks, first_ready}
 use Rattle.std.specs.List.{All}
 use Rattle.ga_search.specs.declared.readings.Reading.{Reading}
-use Rattle.ga_search.specs.Readings.{IsTold}
+use Rattle.ga_search.specs.Readings.{IsTold, NoneMissed}
 use Rattle.ga_explorer.specs.Races.{listed_text, TellsRaces}
 use Rattle.ga_explorer.specs.Texts.{effects_text, effects_answer}
 use Rattle.ga_explorer.specs.Waiting.{all_waiting, stuck_text, all_rings, idle_text}
@@ -47,12 +47,13 @@ who_told s chip marks idle first second third last e stuck greatest silent f g h
 }
 
 pub races_found : (s : State) (only : Option NodeId) (races : List Race) (readings : List Reading) (looks quiet : Bool) (text : List ℕ) → races ≡ races_asked s only
-    → All (IsTold s only) readings → looks ≡ has_looks (causes_of s) (chip_of s) → quiet ≡ is_none (first_ready (chip_of s))
+    → All (IsTold s only) readings → NoneMissed s only readings → looks ≡ has_looks (causes_of s) (chip_of s) → quiet ≡ is_none (first_ready (chip_of s))
     → text ≡ listed_text only races readings looks quiet → TellsRaces s only text
-races_found s only races readings looks quiet text r told l q t =
+races_found s only races readings looks quiet text r told found l q t =
     inl (
       readings,
       told,
+      found,
       t ∙ ap (λ (z : List Race). listed_text only z readings looks quiet) r ∙ ap (λ (z : Bool). listed_text only (races_asked s only) readings z quiet) l
           ∙ ap (listed_text only (races_asked s only) readings (has_looks (causes_of s) (chip_of s))) q,
     )

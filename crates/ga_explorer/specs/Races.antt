@@ -9,7 +9,7 @@ use Rattle.ga_lab.specs.Machine.{State, chip_of, causes_of}
 use Rattle.ga_lab.specs.declared.fault.LabFault.TheVariants.{Memory}
 use Rattle.ga_search.specs.declared.races.Race.{Race}
 use Rattle.ga_search.specs.declared.readings.Reading.{Reading}
-use Rattle.ga_search.specs.Readings.{back_of, IsTold}
+use Rattle.ga_search.specs.Readings.{back_of, IsTold, NoneMissed}
 use Rattle.ga_search.specs.Races.{races_asked, has_looks, first_ready}
 use Rattle.ga_text.specs.Names.{name_of_node, step_text}
 use Rattle.ga_console.specs.Texts.{refusal_text}
@@ -66,7 +66,7 @@ abbrev pub races_text : State → Option NodeId → List Reading → Text
 races_text s only readings =
     listed_text only (races_asked s only) readings (has_looks (causes_of s) (chip_of s)) (is_none (first_ready (chip_of s)))
 
--- all passes are told, and looks of which each could have read otherwise, or memory is wanting
+-- all passes are told, and looks of which each could have read otherwise, all that a near change leads to, or memory is wanting
 abbrev pub TellsRaces : State → Option NodeId → Text → Type 0
 TellsRaces s only answer =
-    ((readings : List Reading) × All (IsTold s only) readings × (answer ≡ races_text s only readings)) ⊎ (answer ≡ refusal_text Memory)
+    ((readings : List Reading) × All (IsTold s only) readings × NoneMissed s only readings × (answer ≡ races_text s only readings)) ⊎ (answer ≡ refusal_text Memory)

@@ -6,7 +6,7 @@ returns-in-Ok-clause-said g c = λ before said h.
     let done = c.say_found.ensures before said h in (
       done.0,
       races_found c.args.lab.now c.args.only c.in-Ok.races.list.items c.in-Ok.races.readings.items c.in-Ok.races.looks c.in-Ok.races.quiet done.0
-          c.in-Ok.ensures.list c.in-Ok.ensures.readings c.in-Ok.ensures.looks c.in-Ok.ensures.quiet done.1,
+          c.in-Ok.ensures.list c.in-Ok.ensures.readings c.in-Ok.ensures.none_missed c.in-Ok.ensures.looks c.in-Ok.ensures.quiet done.1,
       done.2,
     )
 
