@@ -151,7 +151,14 @@ fn instruction_text(
         return numbered(alloc, "word ", word.get());
     }
     let mut text = String::new(alloc);
-    add_slots(alloc, &mut text, notes, node, advance_p(u32::from(cell)), word)?;
+    add_slots(
+        alloc,
+        &mut text,
+        notes,
+        node,
+        advance_p(u32::from(cell)),
+        word,
+    )?;
     Ok(text)
 }
 
@@ -271,7 +278,11 @@ fn no_instruction(alloc: Global, address: u32) -> Result<Value, AllocError>
 fn cell_in_node(address: u32) -> Option<u8>
     ensures { result ≡ cell_in_node address }
 {
-    if address < 256 { cell_of(address) } else { None }
+    if address < 256 {
+        cell_of(address)
+    } else {
+        None
+    }
 }
 
 /// An address of a node on the chip.

@@ -12,7 +12,7 @@ use ga_grid::NodeId;
 use ga_notes::{Name, Note, Notes};
 use std::alloc::{AllocError, Global};
 
-fn is_same_cell(cell: u8, found: Option<u8>) -> bool
+pub(crate) fn is_same_cell(cell: u8, found: Option<u8>) -> bool
     ensures { result ≡ is_same_cell cell found }
 {
     match found {
@@ -97,7 +97,10 @@ pub(crate) fn add_cell(
         None => add_hex2(text, cell),
         Some(name) => {
             add_label(alloc, text, name)?;
-            add_behind(text, cell.saturating_sub(cell_of(name.address).unwrap_or(cell)))
+            add_behind(
+                text,
+                cell.saturating_sub(cell_of(name.address).unwrap_or(cell)),
+            )
         }
     }
 }
@@ -113,7 +116,9 @@ pub(crate) fn note_of_cell(notes: &Notes, node: NodeId, cell: u8) -> Option<&Not
 fn place_of_note(notes: &[Note], node: NodeId, cell: u8) -> Option<usize>
     ensures { result ≡ position (is_note_of node cell) notes.now }
 {
-    notes.iter().position(|note| note.node == node && note.cell == cell)
+    notes
+        .iter()
+        .position(|note| note.node == node && note.cell == cell)
 }
 
 /// The line of the source on which a slot stands.

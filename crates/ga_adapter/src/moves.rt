@@ -118,13 +118,7 @@ fn later_of(one: Option<u32>, other: Option<u32>) -> Option<u32>
         return other;
     };
     match other {
-        Some(b) => {
-            if a < b {
-                Some(b)
-            } else {
-                Some(a)
-            }
-        }
+        Some(b) => { if a < b { Some(b) } else { Some(a) } }
         None => Some(a),
     }
 }
