@@ -10,7 +10,7 @@ use Rattle.ga_adapter.specs.declared.calls.Shift.{Shift}
 use Rattle.ga_adapter.specs.Calls.{put_by}
 use Rattle.ga_adapter.specs.Spots.{spot_behind}
 use Rattle.ga_adapter.specs.kept.Shifts.{shift_at, entry_before}
-use Rattle.ga_adapter.specs.Stepping.{op_at, place_back, line_by, comes_on, begins_behind, beginning_from}
+use Rattle.ga_adapter.specs.Stepping.{op_at, place_back, line_on_spot, comes_on, begins_behind, beginning_from}
 use Rattle.ga_adapter.proofs.Shifts.{shifted}
 
 -- ---- one entry of the return stack
@@ -38,7 +38,7 @@ put_at_load s node left place first = ap (λ (z : ℕ). put_by s node z place) f
 -- ---- lines
 
 abbrev Comes : Notes → State → NodeId → ℕ → Option Spot → Option Spot → Option Op → Bool → Type 0
-Comes notes s node place before spot op begins = begins ≡ comes_on notes node before spot op (line_by notes node spot)
+Comes notes s node place before spot op begins = begins ≡ comes_on notes node before spot op (line_on_spot notes node spot)
 
 began_so : (notes : Notes) (s : State) (node : NodeId) (place left : ℕ) (there spot : Option Spot) (op : Option Op) (begins : Bool) → 0 < place → 0 < left
     → there ≡ spot_behind s node (place_back s node (place - 1)) → spot ≡ spot_behind s node place → op ≡ op_at s node (place - 1) → Comes notes s node place there spot op begins
@@ -52,9 +52,9 @@ began_so notes s node place left there spot op begins some more there_is spot_is
     let next : place ≡ k + 1 = omega arith in
     let begins_is : begins ≡ begins_behind notes s node k =
     comes
-    ∙ ap (λ (z : Option Spot). comes_on notes node z spot op (line_by notes node spot)) there_is
-    ∙ ap (λ (z : Option Spot). comes_on notes node (spot_behind s node (place_back s node k)) z op (line_by notes node z)) (spot_is ∙ ap (spot_behind s node) next)
-    ∙ ap (λ (z : Option Op). comes_on notes node (spot_behind s node (place_back s node k)) (spot_behind s node (k + 1)) z (line_by notes node (spot_behind s node (k + 1)))) op_is in
+    ∙ ap (λ (z : Option Spot). comes_on notes node z spot op (line_on_spot notes node spot)) there_is
+    ∙ ap (λ (z : Option Spot). comes_on notes node (spot_behind s node (place_back s node k)) z op (line_on_spot notes node z)) (spot_is ∙ ap (spot_behind s node) next)
+    ∙ ap (λ (z : Option Op). comes_on notes node (spot_behind s node (place_back s node k)) (spot_behind s node (k + 1)) z (line_on_spot notes node (spot_behind s node (k + 1)))) op_is in
     ap (λ (z : ℕ). beginning_from notes s node z left) at
     ∙ ap (beginning_from notes s node (suc k)) room
     ∙ ap (λ (b : Bool). cond b (suc k) (beginning_from notes s node (place_back s node k) m)) (sym begins_is)

@@ -26,9 +26,9 @@ abbrev pub op_told : Option Made → Option Op
 op_told (Some (made.Own node step (kind.Run code))) = Some (op_of (code % 32))
 op_told _ = None
 
-abbrev pub is_return : Option Op → Bool
-is_return (Some Return) = true
-is_return _ = false
+abbrev pub is_return_op : Option Op → Bool
+is_return_op (Some Return) = true
+is_return_op _ = false
 
 -- A jump. (`unext` stays in its cell.)
 abbrev pub is_jump : Option Op → Bool
@@ -50,12 +50,12 @@ abbrev pub over_call : State → NodeId → ℕ → ℕ → ℕ
 over_call s node k call = if is_calling s node call then call - 1 else k
 
 abbrev pub place_back : State → NodeId → ℕ → ℕ
-place_back s node k = if is_return (op_at s node k) then over_call s node k (put_by s node k 0) else k
+place_back s node k = if is_return_op (op_at s node k) then over_call s node k (put_by s node k 0) else k
 
 -- ---- where a line begins
 
-abbrev pub line_by : Notes → NodeId → Option Spot → Option ℕ
-line_by notes node spot = option_and_then (line_at notes node) spot
+abbrev pub line_on_spot : Notes → NodeId → Option Spot → Option ℕ
+line_on_spot notes node spot = option_and_then (line_at notes node) spot
 
 -- a slot is the first of the first word that a line begins
 abbrev pub begins_at : Notes → NodeId → ℕ → Spot → Bool
@@ -72,12 +72,12 @@ is_other_line line (Some other) = not (other == line)
 -- the node came to the line from another, or by a jump to its first slot
 abbrev pub comes_on : Notes → NodeId → Option Spot → Option Spot → Option Op → Option ℕ → Bool
 comes_on notes node before spot op None = false
-comes_on notes node before spot op (Some line) = is_other_line line (line_by notes node before) || is_jump op && begins_on notes node line spot
+comes_on notes node before spot op (Some line) = is_other_line line (line_on_spot notes node before) || is_jump op && begins_on notes node line spot
 
 -- a line begins behind the step after so many
 abbrev pub begins_behind : Notes → State → NodeId → ℕ → Bool
 begins_behind notes s node k =
-    comes_on notes node (spot_behind s node (place_back s node k)) (spot_behind s node (k + 1)) (op_at s node k) (line_by notes node (spot_behind s node (k + 1)))
+    comes_on notes node (spot_behind s node (place_back s node k)) (spot_behind s node (k + 1)) (op_at s node k) (line_on_spot notes node (spot_behind s node (k + 1)))
 
 -- the nearest beginning of a line at a place or before it, looked for at so many places at most; the load is one
 unfoldable pub beginning_from : Notes → State → NodeId → ℕ → ℕ → ℕ

@@ -7,7 +7,7 @@ ghost use Rattle.ga_event.specs.Told.{steps_of};
 ghost use Rattle.ga_lab.specs.Machine.{standing};
 ghost use Rattle.ga_adapter.specs.Calls.{put_by, is_calling};
 ghost use Rattle.ga_adapter.specs.kept.Shifts.{entry_before};
-ghost use Rattle.ga_adapter.specs.Stepping.{op_told, is_return, is_jump, place_back, line_by, begins_at, begins_on, is_other_line, comes_on, beginning_from, line_back, stepped_back_line};
+ghost use Rattle.ga_adapter.specs.Stepping.{op_told, is_return_op, is_jump, place_back, line_on_spot, begins_at, begins_on, is_other_line, comes_on, beginning_from, line_back, stepped_back_line};
 
 use crate::calls::{Shift, shift_by};
 use crate::labels::{is_same_cell, line_at};
@@ -34,8 +34,8 @@ fn op_told(told: &Option<Made>) -> Option<Op>
     }
 }
 
-fn is_return(op: Option<Op>) -> bool
-    ensures { result ≡ is_return op }
+fn is_return_op(op: Option<Op>) -> bool
+    ensures { result ≡ is_return_op op }
 {
     match op {
         Some(Op::Return) => true,
@@ -108,7 +108,7 @@ fn place_back(lab: &Lab, node: NodeId, place: u32) -> u32
     ensures value { result ≡ place_back lab.now node place }
     ensures within { result ≤ place }
 {
-    if !is_return(op_told(&lab.told(node, place))) {
+    if !is_return_op(op_told(&lab.told(node, place))) {
         return place;
     }
     let call = top_put_by(lab, node, place);
@@ -120,8 +120,8 @@ fn place_back(lab: &Lab, node: NodeId, place: u32) -> u32
 }
 
 /// The line on which a node stands there.
-fn line_by(notes: &Notes, node: NodeId, spot: Option<Spot>) -> Option<u32>
-    ensures { result ≡ line_by notes.now node spot }
+fn line_on_spot(notes: &Notes, node: NodeId, spot: Option<Spot>) -> Option<u32>
+    ensures { result ≡ line_on_spot notes.now node spot }
 {
     line_at(notes, node, spot?)
 }
@@ -148,7 +148,7 @@ fn comes_on(
     spot: Option<Spot>,
     op: Option<Op>,
 ) -> bool
-    ensures { result ≡ comes_on notes.now node before spot op (line_by notes.now node spot) }
+    ensures { result ≡ comes_on notes.now node before spot op (line_on_spot notes.now node spot) }
 {
     let Some(at) = spot else {
         return false;
@@ -156,7 +156,7 @@ fn comes_on(
     let Some(line) = line_at(notes, node, at) else {
         return false;
     };
-    match line_by(notes, node, before) {
+    match line_on_spot(notes, node, before) {
         Some(other) => other != line || is_jump(op) && begins_at(notes, node, line, at),
         None => true,
     }
