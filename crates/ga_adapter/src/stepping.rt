@@ -4,10 +4,9 @@ ghost use Rattle.std.specs.Prelude.{◌≡◌, ◌<◌, ◌≤◌, IfSome, optio
 ghost use Rattle.ga_notes.specs.Notes.{line_address};
 ghost use Rattle.ga_notes.specs.Source.{cell_of_address};
 ghost use Rattle.ga_event.specs.Told.{steps_of};
-ghost use Rattle.ga_lab.specs.Machine.{standing};
 ghost use Rattle.ga_adapter.specs.Calls.{put_by, is_calling};
 ghost use Rattle.ga_adapter.specs.kept.Shifts.{entry_before};
-ghost use Rattle.ga_adapter.specs.Stepping.{op_told, is_return_op, is_jump, place_back, line_on_spot, begins_at, begins_on, is_other_line, comes_on, beginning_from, line_back, stepped_back_line};
+ghost use Rattle.ga_adapter.specs.Stepping.{op_told, is_return_op, is_jump, place_back, line_on_spot, begins_at, comes_on, beginning_from, stepped_back_line};
 
 use crate::calls::{Shift, shift_by};
 use crate::labels::{is_same_cell, line_at};

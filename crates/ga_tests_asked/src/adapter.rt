@@ -14,7 +14,12 @@ use std::process::Abort;
 use std::test::Fail;
 
 /// Asserts that a body was made, and its text.
-pub(crate) fn assert_body(rt: &impl Abort, alloc: Global, body: &Result<Value, AllocError>, wanted: &str) {
+pub(crate) fn assert_body(
+    rt: &impl Abort,
+    alloc: Global,
+    body: &Result<Value, AllocError>,
+    wanted: &str,
+) {
     match body {
         Ok(value) => match value.to_string(alloc) {
             Ok(text) => assert_eq!(rt; text.as_str(), wanted),
