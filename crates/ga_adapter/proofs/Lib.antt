@@ -5,3 +5,4 @@ pub mod Standings
 pub mod SlotTexts
 pub mod FrameLists
 pub mod Comings
+pub mod Beginnings

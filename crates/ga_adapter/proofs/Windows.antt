@@ -1,15 +1,13 @@
 -- Entries of the return stack that are followed back over a step.
-use Rattle.std.proofs.Common.{◌≡◌, ◌≢◌, ◌<◌, ◌≤◌, ◌+◌, ◌-◌, ◌==◌, ◌++◌, length, ℕ, zero, suc, Bool, true, false, ◌&&◌, cond, List, [], ◌∷◌, map, Option, Some, None, refl, sym, ap, ◌∙◌, append-nil, append_assoc, arith}
+use Rattle.std.proofs.Common.{◌≡◌, ◌<◌, ◌+◌, ◌-◌, ◌==◌, ◌++◌, ℕ, zero, suc, Bool, true, false, ◌&&◌, cond, List, [], ◌∷◌, map, Option, Some, None, refl, sym, ap, ◌∙◌, append-nil, append_assoc, arith}
 use Rattle.std.specs.Prelude.{filter, option_map, unwrap_or}
 use Rattle.std.specs.List.{range_with_len}
 use Rattle.std.proofs.lemmas.Bool.{ne_eqb}
 use Rattle.std.proofs.lemmas.List.{map-append}
 use Rattle.std.proofs.lemmas.List.FromFn.{filter_of_map_range_with_len_more}
-use Rattle.ga_flow.specs.declared.part.Part.TheVariants.{Return}
 use Rattle.ga_grid.specs.declared.node_id.NodeId.{NodeId}
 use Rattle.ga_lab.specs.Machine.{State}
-use Rattle.ga_origin.specs.Origins.{flow_at}
-use Rattle.ga_adapter.specs.Calls.{kept_from, put_by, is_calling, open_call}
+use Rattle.ga_adapter.specs.Calls.{put_by, is_calling, open_call}
 use Rattle.ga_adapter.specs.declared.calls.OpenCall.{OpenCall}
 use Rattle.ga_adapter.specs.declared.calls.Window.{Window}
 use Rattle.ga_adapter.specs.declared.calls.Shift.{Shift}

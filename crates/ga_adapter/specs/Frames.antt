@@ -1,5 +1,5 @@
 -- The response to `stackTrace` (Debug Adapter Protocol, "StackTraceRequest", "StackFrame"): where a node stands, and the calls from which it did not come back.
-use Rattle.std.specs.Prelude.{ℕ, zero, suc, ◌+◌, List, ◌++◌, length, map, codes, Option, Some, None}
+use Rattle.std.specs.Prelude.{ℕ, zero, suc, ◌+◌, ◌++◌, length, codes, Option, Some, None}
 use Rattle.std.specs.List.{slice_get}
 use Rattle.serde_json.specs.Data.{Data, string, object, no_members, member}
 use Rattle.ga_text.specs.Lines.{Text}

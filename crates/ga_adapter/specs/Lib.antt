@@ -13,3 +13,4 @@ pub mod Labels
 pub mod Frames
 pub mod Disassembly
 pub mod Moves
+pub mod Stepping

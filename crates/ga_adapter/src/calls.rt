@@ -29,7 +29,7 @@ pub struct OpenCall {
 
 /// What a step does to the entries of the return stack.
 #[derive(Clone, Copy)]
-enum Shift {
+pub(crate) enum Shift {
     /// Each keeps its place.
     Stays,
     /// A call puts one on top.
@@ -77,7 +77,7 @@ fn counts_out(walk: &mut Walk<'_>, at: u32) -> bool
 }
 
 /// What the step at a place does to them. The node is walked back there only where R decides it.
-fn shift_by(lab: &Lab, walk: &mut Walk<'_>, node: NodeId, at: u32) -> Shift
+pub(crate) fn shift_by(lab: &Lab, walk: &mut Walk<'_>, node: NodeId, at: u32) -> Shift
     requires walk { walk.old ≡ standing lab.now node walk.old.step }
     requires order { at ≤ walk.old.step }
     ensures shift { result ≡ shift_at lab.now node.number at }

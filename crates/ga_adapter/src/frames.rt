@@ -1,6 +1,6 @@
 //! The frames of a node: where it stands, and the calls from which it did not come back.
 
-ghost use Rattle.std.specs.Prelude.{◌≡◌, ◌<◌, ◌≤◌, ◌^◌, ◌+◌, ◌-◌, ◌++◌, ◌==◌, if◌then◌else◌, min, ℕ, IfOk, OnOk, length, map, string_bytes, codes};
+ghost use Rattle.std.specs.Prelude.{◌≡◌, ◌<◌, ◌≤◌, ◌^◌, ◌+◌, ◌-◌, ◌++◌, ◌==◌, if◌then◌else◌, min, IfOk, OnOk, length, map, string_bytes};
 ghost use Rattle.std.specs.List.{range_with_len, slice_get};
 ghost use Rattle.serde_json.specs.Data.{array};
 ghost use Rattle.serde_json.specs.View.{view, items_view};

@@ -4,7 +4,7 @@ ghost use Rattle.std.specs.Prelude.{◌≡◌, ◌++◌, ◌/◌, ◌*◌, ◌%�
 ghost use Rattle.std.specs.Str.Lossy.{utf8_lossy};
 ghost use Rattle.ga_notes.specs.Notes.{is_note_of};
 ghost use Rattle.ga_notes.specs.Source.{nearest_found};
-ghost use Rattle.ga_adapter.specs.Labels.{is_same_cell, is_name_at, place_of_label, label_of_cell, label_near, behind_words, label_words, cell_words, note_of_cell, line_at};
+ghost use Rattle.ga_adapter.specs.Labels.{is_same_cell, is_name_at, place_of_label, label_of_cell, label_near, behind_words, cell_words, note_of_cell, line_at};
 
 use crate::spots::{Spot, cell_of};
 use crate::texts::add_hex2;
@@ -12,7 +12,7 @@ use ga_grid::NodeId;
 use ga_notes::{Name, Note, Notes};
 use std::alloc::{AllocError, Global};
 
-fn is_same_cell(cell: u8, found: Option<u8>) -> bool
+pub(crate) fn is_same_cell(cell: u8, found: Option<u8>) -> bool
     ensures { result ≡ is_same_cell cell found }
 {
     match found {

@@ -14,6 +14,7 @@ mod moves;
 mod numbers;
 mod scope;
 mod spots;
+mod stepping;
 mod texts;
 mod thread;
 mod values;
@@ -32,5 +33,6 @@ pub use numbers::{
 };
 pub use scope::Scope;
 pub use spots::{Spot, spot_behind};
+pub use stepping::step_back_line;
 pub use thread::{has_thread, threads};
 pub use variable::Variable;

@@ -2,7 +2,10 @@
 
 use crate::adapter::assert_body;
 use crate::asserts::same;
-use ga_adapter::{SourceFile, disassembled, open_calls, spot_behind, stack_trace};
+use ga_adapter::{
+    SourceFile, Spot, Watched, disassembled, open_calls, reverse_continue, spot_behind,
+    stack_trace, step_back, step_back_line,
+};
 use ga_grid::NodeId;
 use ga_lab::Lab;
 use ga_notes::{Notes, notes_of};
@@ -75,5 +78,22 @@ fn instructions_are_shown(rt: HostRuntime) -> Result<(), Fail> {
     let wanted =
         "{\"instructions\":[{\"address\":\"0x000fff\",\"instruction\":\"no memory\",\"presentationHint\":\"invalid\"},{\"address\":\"0x000000\",\"instruction\":\"@p call double\",\"instructionBytes\":\"005603\",\"line\":3,\"location\":{\"name\":\"calls.f18\",\"path\":\"/calls.f18\"},\"symbol\":\"main\"},{\"address\":\"0x000001\",\"instruction\":\"word 5\",\"instructionBytes\":\"000005\",\"line\":3,\"location\":{\"name\":\"calls.f18\",\"path\":\"/calls.f18\"}},{\"address\":\"0x000002\",\"instruction\":\"drop jump main\",\"instructionBytes\":\"03b700\",\"line\":3,\"location\":{\"name\":\"calls.f18\",\"path\":\"/calls.f18\"}}]}";
     assert_body(&rt, alloc, &body, wanted);
+    Ok(())
+}
+
+#[test]
+fn steps_are_taken_back(rt: HostRuntime) -> Result<(), Fail> {
+    let alloc = rt.alloc();
+    let node = NodeId::new(0);
+    let (mut lab, notes) = begun(&rt, alloc, 14)?;
+    // To the fetch of `2* ;`, then over the call of `quad` to that of its line, then before the call of `double`.
+    same(&rt, &step_back_line(&mut lab, &notes, node), &2);
+    same(&rt, &step_back_line(&mut lab, &notes, node), &9);
+    same(&rt, &step_back(&mut lab, node), &1);
+    same(&rt, &lab.steps(node), &2);
+    let (mut lab, _) = begun(&rt, alloc, 14)?;
+    let double = Watched::Comes(Spot { cell: 3, slot: 0 });
+    same(&rt, &reverse_continue(&mut lab, node, &[double]), &11);
+    same(&rt, &reverse_continue(&mut lab, node, &[double]), &3);
     Ok(())
 }

@@ -1,4 +1,4 @@
-use Rattle.std.proofs.Common.{◌≡◌, ◌-◌, ◌++◌, ℕ, List, [], ◌∷◌, length, map, Option, sym, ap, ◌∙◌, append-nil, arith}
+use Rattle.std.proofs.Common.{◌-◌, ◌++◌, ℕ, List, [], ◌∷◌, length, map, Option, sym, ap, ◌∙◌, append-nil, arith}
 use Rattle.ga_lab.specs.Machine.{Standing}
 use Rattle.ga_origin.proofs.Made.{stands_so}
 use Rattle.ga_adapter.specs.declared.calls.OpenCall.{OpenCall}

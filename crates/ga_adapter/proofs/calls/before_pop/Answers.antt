@@ -1,4 +1,4 @@
-use Rattle.std.proofs.Common.{ℕ, ◌+◌, ◌-◌, refl, arith}
+use Rattle.std.proofs.Common.{◌+◌, ◌-◌, refl, arith}
 use Rattle.ga_adapter.specs.declared.calls.Shift.TheVariants as shift
 use Rattle.ga_adapter.proofs.Windows.{all_before, last_copy, popped_up}
 use Rattle.ga_adapter.proofs.calls.before_pop.Goals as goal

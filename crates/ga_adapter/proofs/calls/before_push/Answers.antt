@@ -1,4 +1,4 @@
-use Rattle.std.proofs.Common.{ℕ, ◌-◌, refl, arith}
+use Rattle.std.proofs.Common.{◌-◌, refl, arith}
 use Rattle.ga_adapter.specs.declared.calls.Shift.TheVariants as shift
 use Rattle.ga_adapter.proofs.Windows.{first_new, all_before, none_first, pushed_first, pushed_down}
 use Rattle.ga_adapter.proofs.calls.before_push.Goals as goal

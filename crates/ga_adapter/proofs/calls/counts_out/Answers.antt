@@ -1,7 +1,7 @@
 use Rattle.std.proofs.Common.{◌≡◌, ◌==◌, ℕ, ap, ◌∙◌, arith}
-use Rattle.ga_node.specs.Record.{NodeRecord, record_of}
+use Rattle.ga_node.specs.Record.{record_of}
 use Rattle.ga_node.specs.Table.{r}
-use Rattle.ga_lab.specs.Machine.{Standing, standing}
+use Rattle.ga_lab.specs.Machine.{standing}
 use Rattle.ga_origin.proofs.Made.{stood_of}
 use Rattle.ga_adapter.proofs.calls.counts_out.Goals as goal
 

@@ -1,4 +1,4 @@
-use Rattle.std.proofs.Common.{◌≡◌, ◌++◌, ℕ, ap, sym, ◌∙◌, string_bytes, arith}
+use Rattle.std.proofs.Common.{◌++◌, ap, sym, ◌∙◌, string_bytes, arith}
 use Rattle.ga_slots.specs.declared.op.Op.{Op}
 use Rattle.ga_slots.specs.Codes.{name_of}
 use Rattle.ga_adapter.specs.Disassembly.{behind_blank, ends_word}

@@ -1,4 +1,4 @@
-use Rattle.std.proofs.Common.{◌+◌, ◌%◌, ℕ, ap, ◌∙◌, arith}
+use Rattle.std.proofs.Common.{◌%◌, ℕ, arith}
 use Rattle.ga_adapter.specs.Disassembly.{instruction_at}
 use Rattle.ga_adapter.proofs.Lists.{range_step}
 use Rattle.ga_adapter.proofs.disassembly.instructions.Goals as goal

@@ -1,4 +1,4 @@
-use Rattle.std.proofs.Common.{◌+◌, ℕ, ap, ◌∙◌, arith}
+use Rattle.std.proofs.Common.{ℕ, ap, ◌∙◌, arith}
 use Rattle.ga_adapter.specs.Frames.{frame, level_spot}
 use Rattle.ga_adapter.proofs.Lists.{range_step}
 use Rattle.ga_adapter.proofs.frames.frames.Goals as goal

@@ -1,4 +1,4 @@
-use Rattle.std.proofs.Common.{◌≡◌, ◌∙◌, ap, arith}
+use Rattle.std.proofs.Common.{◌∙◌, ap, arith}
 use Rattle.std.specs.Prelude.{option_map}
 use Rattle.ga_node.specs.Record.{record_of}
 use Rattle.ga_origin.specs.Origins.{node_after}

@@ -1,0 +1,203 @@
+//! A node gone back by lines of its source.
+
+ghost use Rattle.std.specs.Prelude.{◌≡◌, ◌<◌, ◌≤◌, IfSome, option_and_then};
+ghost use Rattle.ga_notes.specs.Notes.{line_address};
+ghost use Rattle.ga_notes.specs.Source.{cell_of_address};
+ghost use Rattle.ga_event.specs.Told.{steps_of};
+ghost use Rattle.ga_adapter.specs.Calls.{put_by, is_calling};
+ghost use Rattle.ga_adapter.specs.kept.Shifts.{entry_before};
+ghost use Rattle.ga_adapter.specs.Stepping.{op_told, is_return_op, is_jump, place_back, line_on_spot, begins_at, comes_on, beginning_from, stepped_back_line};
+
+use crate::calls::{Shift, shift_by};
+use crate::labels::{is_same_cell, line_at};
+use crate::moves::go_back;
+use crate::spots::{Spot, cell_of, spot_back};
+use ga_grid::NodeId;
+use ga_lab::{Lab, Made};
+use ga_node::Kind;
+use ga_notes::Notes;
+use ga_slots::Op;
+
+/// The opcode that a step of which this is told carried out.
+fn op_told(told: &Option<Made>) -> Option<Op>
+    ensures { result ≡ op_told told.now }
+{
+    match told {
+        Some(
+            Made::Own {
+                kind: Kind::Run(code),
+                ..
+            },
+        ) => Some(Op::from_code(*code % 32)),
+        _ => None,
+    }
+}
+
+fn is_return_op(op: Option<Op>) -> bool
+    ensures { result ≡ is_return_op op }
+{
+    match op {
+        Some(Op::Return) => true,
+        _ => false,
+    }
+}
+
+/// Whether it is a jump; `unext` stays in its cell.
+fn is_jump(op: Option<Op>) -> bool
+    ensures { result ≡ is_jump op }
+{
+    match op {
+        Some(Op::Return | Op::Execute | Op::Jump | Op::Call) => true,
+        Some(Op::Next | Op::If | Op::MinusIf) => true,
+        _ => false,
+    }
+}
+
+/// Where the entry stood before a step that stands at a place behind it.
+fn entry_before(shift: Shift, place: u8) -> Option<u8>
+    requires { place < 9 }
+    ensures value { result ≡ entry_before shift place }
+    ensures in_range { IfSome result (λ from. from < 9) }
+{
+    match shift {
+        Shift::Stays => Some(place),
+        Shift::Calls => place.checked_sub(1),
+        Shift::Pushes => place.checked_sub(1),
+        Shift::Pops => if place == 8 { None } else { Some(place + 1) },
+        Shift::Replaces => if place == 0 { None } else { Some(place) },
+    }
+}
+
+/// The step that put the entry on top of the return stack that stands there behind so many; 0 where it stood there at load.
+fn top_put_by(lab: &Lab, node: NodeId, step: u32) -> u32
+    requires { step ≤ steps_of node.number lab.now.kept }
+    ensures value { result ≡ put_by lab.now node step 0 }
+    ensures within { result ≤ step }
+{
+    let mut walk = lab.walk(node, step);
+    let mut left = step;
+    let mut place = 0;
+    'following: while left > 0 {
+        let shift = shift_by(lab, &mut walk, node, left - 1);
+        match entry_before(shift, place) {
+            Some(from) => place = from,
+            None => return left,
+        }
+        left -= 1;
+    }
+    0
+}
+
+/// Whether the step with this number is a call.
+fn is_calling(lab: &Lab, node: NodeId, step: u32) -> bool
+    ensures { result ≡ is_calling lab.now node step }
+{
+    if step == 0 {
+        return false;
+    }
+    match op_told(&lab.told(node, step - 1)) {
+        Some(Op::Call) => true,
+        _ => false,
+    }
+}
+
+/// Of the step at a place, the place before it; where it came back from a call, that of the call.
+fn place_back(lab: &Lab, node: NodeId, place: u32) -> u32
+    requires { place ≤ steps_of node.number lab.now.kept }
+    ensures value { result ≡ place_back lab.now node place }
+    ensures within { result ≤ place }
+{
+    if !is_return_op(op_told(&lab.told(node, place))) {
+        return place;
+    }
+    let call = top_put_by(lab, node, place);
+    if is_calling(lab, node, call) {
+        call.saturating_sub(1)
+    } else {
+        place
+    }
+}
+
+/// The line on which a node stands there.
+fn line_on_spot(notes: &Notes, node: NodeId, spot: Option<Spot>) -> Option<u32>
+    ensures { result ≡ line_on_spot notes.now node spot }
+{
+    line_at(notes, node, spot?)
+}
+
+/// Whether a slot is the first of the first word that a line begins.
+fn begins_at(notes: &Notes, node: NodeId, line: u32, spot: Spot) -> bool
+    ensures { result ≡ begins_at notes.now node line spot }
+{
+    spot.slot == 0 && is_same_cell(spot.cell, line_cell(notes, node, line))
+}
+
+/// The cell of the first word that a line begins.
+fn line_cell(notes: &Notes, node: NodeId, line: u32) -> Option<u8>
+    ensures { result ≡ option_and_then cell_of_address (line_address notes.now.notes.items node line) }
+{
+    cell_of(notes.line_address(node, line)?)
+}
+
+/// Whether a node that stands there, by this step, came to a line: from another, or by a jump to its first slot.
+fn comes_on(
+    notes: &Notes,
+    node: NodeId,
+    before: Option<Spot>,
+    spot: Option<Spot>,
+    op: Option<Op>,
+) -> bool
+    ensures { result ≡ comes_on notes.now node before spot op (line_on_spot notes.now node spot) }
+{
+    let Some(at) = spot else {
+        return false;
+    };
+    let Some(line) = line_at(notes, node, at) else {
+        return false;
+    };
+    match line_on_spot(notes, node, before) {
+        Some(other) => other != line || is_jump(op) && begins_at(notes, node, line, at),
+        None => true,
+    }
+}
+
+/// The nearest beginning of a line at a place or before it, looked for at so many places at most.
+fn beginning_from(lab: &Lab, notes: &Notes, node: NodeId, from: u32, most: u32) -> u32
+    requires { from ≤ steps_of node.number lab.now.kept }
+    ensures { result ≡ beginning_from notes.now lab.now node from most }
+{
+    let mut walk = lab.walk(node, from);
+    let mut spot = spot_back(lab, &mut walk, node, from);
+    let mut place = from;
+    let mut left = most;
+    'going: while left > 0 {
+        if place == 0 {
+            return 0;
+        }
+        let before = place_back(lab, node, place - 1);
+        let there = spot_back(lab, &mut walk, node, before);
+        let told = lab.told(node, place - 1);
+        let op = op_told(&told);
+        if comes_on(notes, node, there, spot, op) {
+            return place;
+        }
+        place = before;
+        spot = there;
+        left -= 1;
+    }
+    0
+}
+
+/// `stepBack` by a line (Debug Adapter Protocol, "SteppingGranularity"): takes a node back to where its line began, or the line before where it stands at
+/// the beginning of one, over calls, with all that depends on what goes, and says how many events that were.
+pub fn step_back_line(lab: &mut Lab, notes: &Notes, node: NodeId) -> u32
+    ensures { lab.new ≡ stepped_back_line notes.now lab.old node }
+{
+    let steps = lab.steps(node);
+    if steps == 0 {
+        return 0;
+    }
+    let from = place_back(lab, node, steps - 1);
+    let keeps = beginning_from(lab, notes, node, from, steps);
+    go_back(lab, node, keeps)
+}
