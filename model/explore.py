@@ -318,14 +318,14 @@ class Explorer(Machine):
         return lines
 
     def tails(self, passed):
-        """What the source says of the cell from which the word was fetched to which each step belongs, by node and step."""
+        """What the source says of the slot that each step ran, in the cell from which its word was fetched, by node and step."""
         cells, steps, tails = {}, {}, {}
         for event, told, before in passed:
             for node, held in zip(event, before):
                 steps[node] = steps.get(node, 0) + 1
                 if told.endswith(" fetch") or held.wait and held.wait[0] == "fetch":
                     cells[node] = target_of(held.p)
-                tails[node, steps[node]] = self.notes.tail(node, cells.get(node))
+                tails[node, steps[node]] = self.notes.tail(node, cells.get(node), held.slot)
         return tails
 
     def deed(self, node, told):

@@ -23,6 +23,18 @@ class Fault(Exception):
         self.line, self.text = line, text
 
 
+class At(int):
+    """The number of a line, with the column of a word in it, in bytes from 1 on."""
+
+    def __new__(cls, line, column):
+        at = super().__new__(cls, line)
+        at.column = column
+        return at
+
+    def __getnewargs__(self):
+        return int(self), self.column
+
+
 def fault(line, text):
     return Fault(line, text)
 
@@ -44,7 +56,7 @@ def shown(word):
 
 
 def words_of(source, goes_on=False):
-    """The words with their lines; a line at fault is a word that is a Fault, and the last one unless it goes on."""
+    """The words with their lines and columns; a line at fault is a word that is a Fault, and the last one unless it goes on."""
     for number, line in enumerate(lines_of(source), 1):
         if line == "end":
             return
@@ -54,7 +66,8 @@ def words_of(source, goes_on=False):
                 continue
             return
         within = False
-        for word in re.findall("[^ \t]+", line):
+        for found in re.finditer("[^ \t]+", line):
+            word = found[0]
             if within:
                 within = not word.endswith(")")
             elif word == "\\":
@@ -62,7 +75,7 @@ def words_of(source, goes_on=False):
             elif word == "(":
                 within = True
             else:
-                yield number, word
+                yield At(number, found.start() + 1), word
         if within:
             yield number, fault(number, "a comment without its )")
             if not goes_on:

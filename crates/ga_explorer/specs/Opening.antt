@@ -13,7 +13,7 @@ use Rattle.ga_source.specs.Asks.{AreAsked}
 use Rattle.ga_source.specs.Groups.{HasGroups}
 use Rattle.ga_source.specs.Made.{IsChipOfSource}
 use Rattle.ga_notes.specs.declared.notes.Notes.{Notes}
-use Rattle.ga_notes.specs.Source.{AreOfSource}
+use Rattle.ga_notes.specs.Notes.{AreOfSource}
 use Rattle.ga_lab.specs.Machine.{first}
 use Rattle.ga_text.specs.Input.{Unread}
 use Rattle.ga_text.specs.Image.{EndsAtEnd, HasNoEnd}

@@ -5,9 +5,11 @@ use Rattle.std.proofs.lemmas.List.{drop_more, drop_all}
 use Rattle.ga_grid.specs.declared.node_id.NodeId.{NodeId}
 use Rattle.ga_source.specs.declared.labels.Label.{Label}
 use Rattle.ga_source.specs.declared.item.Item.{Item}
-use Rattle.ga_source.specs.declared.item.Program.{Program}
 use Rattle.ga_source.specs.Reading.{p_behind}
-use Rattle.ga_notes.specs.Source.{Named, named_at, named_among, Noted, literal_noted, literals_noted}
+use Rattle.ga_source.specs.declared.scan.Token.{Token}
+use Rattle.ga_notes.specs.declared.slot_word.Begun.{Begun}
+use Rattle.ga_notes.specs.Source.{Named, named_at, named_among, literals_told}
+use Rattle.ga_notes.specs.Slots.{Worded, slot_worded, slots_worded}
 
 -- ---- joined with what was told before
 
@@ -46,29 +48,49 @@ among_all node labels addresses i past = elim (cases_lt i (length labels)) [
   | inl more ↦ ap (named_among node (drop i labels)) (drop_all i addresses (omega arith)) ∙ no_addresses node (drop i labels)
 ]
 
--- ---- notes of literals
+-- ---- items with their lines
 
--- one item more
-pub literals_more : (source : List ℕ) (program : Program) (p : ℕ) (items : List Item) (lines : List ℕ) (i : ℕ) (d : Item) → i < length items → i < length lines → literals_noted source program p (drop i items) (drop i lines) ≡ literal_noted source program p (get_or items i d) (get_or lines i 0) ++ literals_noted source program (p_behind p (get_or items i d)) (drop (i + 1) items) (drop (i + 1) lines)
-unfolding literals_noted
-literals_more source program p items lines i d within inside = ap₂ (literals_noted source program p) (drop_more items i d within) (drop_more lines i 0 inside)
+module _ {X : Type 0} (tell : ℕ → Item → ℕ → List X) where
+  -- one item more
+  told_of_item : (p : ℕ) (items : List Item) (lines : List ℕ) (i : ℕ) (d : Item) → i < length items → i < length lines → literals_told tell p (drop i items) (drop i lines) ≡ tell p (get_or items i d) (get_or lines i 0) ++ literals_told tell (p_behind p (get_or items i d)) (drop (i + 1) items) (drop (i + 1) lines)
+  unfolding literals_told
+  told_of_item p items lines i d within inside = ap₂ (literals_told tell p) (drop_more items i d within) (drop_more lines i 0 inside)
 
--- and its note was added
-pub literals_step : (source : List ℕ) (program : Program) (items : List Item) (lines : List ℕ) (told new all : List Noted) (n m p q : ℕ) (item : Item) (line : ℕ) → n < length items → n < length lines → item ≡ get_or items n item → line ≡ get_or lines n 0 → m ≡ n + 1 → q ≡ p_behind p item → new ≡ told ++ literal_noted source program p item line → told ++ literals_noted source program p (drop n items) (drop n lines) ≡ all → new ++ literals_noted source program q (drop m items) (drop m lines) ≡ all
-literals_step source program items lines told new all n m p q item line within inside is at next behind added before =
-    let parts : literals_noted source program p (drop n items) (drop n lines) ≡ literal_noted source program p item line ++ literals_noted source program q (drop m items) (drop m lines) =
-    rw (behind, is, at, next) (literals_more source program p items lines n item within inside) in
-    told_more told (literals_noted source program p (drop n items) (drop n lines)) all new (literal_noted source program p item line) (literals_noted source program q (drop m items) (drop m lines)) added parts before
+  -- and what is told of it was added
+  pub literals_step : (items : List Item) (lines : List ℕ) (told new all : List X) (n m p q : ℕ) (item : Item) (line : ℕ) → n < length items → n < length lines → item ≡ get_or items n item → line ≡ get_or lines n 0 → m ≡ n + 1 → q ≡ p_behind p item → new ≡ told ++ tell p item line → told ++ literals_told tell p (drop n items) (drop n lines) ≡ all → new ++ literals_told tell q (drop m items) (drop m lines) ≡ all
+  literals_step items lines told new all n m p q item line within inside is at next behind added before =
+      let parts : literals_told tell p (drop n items) (drop n lines) ≡ tell p item line ++ literals_told tell q (drop m items) (drop m lines) =
+      rw (behind, is, at, next) (told_of_item p items lines n item within inside) in
+      told_more told (literals_told tell p (drop n items) (drop n lines)) all new (tell p item line) (literals_told tell q (drop m items) (drop m lines)) added parts before
 
-no_lines : (source : List ℕ) (program : Program) (p : ℕ) (items : List Item) → literals_noted source program p items [] ≡ []
-unfolding literals_noted
-no_lines source program p [] = refl
-no_lines source program p (item ∷ items) = refl
+  no_lines : (p : ℕ) (items : List Item) → literals_told tell p items [] ≡ []
+  unfolding literals_told
+  no_lines p [] = refl
+  no_lines p (item ∷ items) = refl
+
+  -- none is left
+  pub literals_all : (p : ℕ) (items : List Item) (lines : List ℕ) (i : ℕ) → min (length items) (length lines) ≤ i → literals_told tell p (drop i items) (drop i lines) ≡ []
+  unfolding literals_told
+  literals_all p items lines i past = elim (cases_lt i (length items)) [
+    | inr few ↦ ap (λ (left : List Item). literals_told tell p left (drop i lines)) (drop_all i items few)
+    | inl more ↦ ap (literals_told tell p (drop i items)) (drop_all i lines (omega arith)) ∙ no_lines p (drop i items)
+  ]
+
+-- ---- the words of slots
+
+-- one slot more
+slot_more : (source : List ℕ) (words : List Token) (cell : Begun) (size slot : ℕ) (numbers : List ℕ) → slot < length numbers → slots_worded source words cell size slot (drop slot numbers) ≡ slot_worded source words cell size slot (get_or numbers slot 0) ∷ slots_worded source words cell size (slot + 1) (drop (slot + 1) numbers)
+unfolding slots_worded
+slot_more source words cell size slot numbers within = ap (slots_worded source words cell size slot) (drop_more numbers slot 0 within)
+
+-- and its word was added
+pub slot_step : (source : List ℕ) (words : List Token) (cell : Begun) (size slot number : ℕ) (numbers : List ℕ) (told new all : List Worded) → slot < length numbers → number ≡ get_or numbers slot 0 → new ≡ told ++ slot_worded source words cell size slot number ∷ [] → told ++ slots_worded source words cell size slot (drop slot numbers) ≡ all → new ++ slots_worded source words cell size (slot + 1) (drop (slot + 1) numbers) ≡ all
+slot_step source words cell size slot number numbers told new all within at added before =
+    let parts : slots_worded source words cell size slot (drop slot numbers) ≡ (slot_worded source words cell size slot number ∷ []) ++ slots_worded source words cell size (slot + 1) (drop (slot + 1) numbers) =
+    rw at (slot_more source words cell size slot numbers within) in
+    told_more told (slots_worded source words cell size slot (drop slot numbers)) all new (slot_worded source words cell size slot number ∷ []) (slots_worded source words cell size (slot + 1) (drop (slot + 1) numbers)) added parts before
 
 -- none is left
-pub literals_all : (source : List ℕ) (program : Program) (p : ℕ) (items : List Item) (lines : List ℕ) (i : ℕ) → min (length items) (length lines) ≤ i → literals_noted source program p (drop i items) (drop i lines) ≡ []
-unfolding literals_noted
-literals_all source program p items lines i past = elim (cases_lt i (length items)) [
-  | inr few ↦ ap (λ (left : List Item). literals_noted source program p left (drop i lines)) (drop_all i items few)
-  | inl more ↦ ap (literals_noted source program p (drop i items)) (drop_all i lines (omega arith)) ∙ no_lines source program p (drop i items)
-]
+pub slots_all : (source : List ℕ) (words : List Token) (cell : Begun) (size slot : ℕ) (numbers : List ℕ) → length numbers ≤ slot → slots_worded source words cell size slot (drop slot numbers) ≡ []
+unfolding slots_worded
+slots_all source words cell size slot numbers past = ap (slots_worded source words cell size slot) (drop_all slot numbers past)

@@ -1,3 +1,4 @@
 pub mod LineLemmas
 pub mod Labels
 pub mod Adding
+pub mod Nearest

@@ -1,10 +1,11 @@
 -- The lines of a source, as they are looked for.
 use Rattle.std.proofs.Common.{◌≡◌, ◌∙◌, ℕ, zero, suc, ◌+◌, ◌-◌, ◌<◌, ◌≤◌, false, List, [], ◌∷◌, length, get_or, drop, arith, ap, sym, refl, drop-drop, get_or-drop}
 use Rattle.std.specs.Str.{IsTrimAscii}
+use Rattle.std.proofs.lemmas.List.{drop_all}
 use Rattle.std.proofs.lemmas.Str.Ascii.{trim_ascii_is}
 use Rattle.ga_source.specs.Saying.{parted, is_feed, source_lines, unmarked}
 use Rattle.ga_source.proofs.Scanning.{no_end}
-use Rattle.ga_notes.specs.Source.{without_front, trimmed, line_in}
+use Rattle.ga_notes.specs.Source.{without_front, trimmed, bare_line}
 
 -- ---- the first line
 
@@ -47,11 +48,19 @@ none_left (b ∷ text) left none = absurd (omega arith)
 
 -- ---- a line by its number
 
--- the first line behind some, without white space at its ends
-pub line_found : (source rest first bare found : List ℕ) (before line : ℕ) → before ≡ line - 1 → source_lines rest ≡ drop before (source_lines source) → first ≡ get_or (source_lines rest) 0 [] → bare ≡ unmarked line first → IsTrimAscii bare found → found ≡ line_in source line
-line_found source rest first bare found before line e behind is own trims =
+-- the first line behind some
+pub line_found : (source rest first bare : List ℕ) (before line : ℕ) → before ≡ line - 1 → source_lines rest ≡ drop before (source_lines source) → first ≡ get_or (source_lines rest) 0 [] → bare ≡ unmarked line first → bare ≡ bare_line source line
+line_found source rest first bare before line e behind is own =
     let at : before + 0 ≡ line - 1 = omega arith in
     let same : first ≡ get_or (source_lines source) (line - 1) [] =
     is ∙ (ap (λ (lines : List (List ℕ)). get_or lines 0 []) behind
     ∙ (get_or-drop before (source_lines source) 0 [] ∙ ap (λ (n : ℕ). get_or (source_lines source) n []) at)) in
-    trim_ascii_is bare found (without_front bare) refl trims ∙ ap trimmed (own ∙ ap (unmarked line) same)
+    own ∙ ap (unmarked line) same
+
+-- without white space at its ends
+pub trimmed_line : (bare text found : List ℕ) → bare ≡ text → IsTrimAscii bare found → found ≡ trimmed text
+trimmed_line bare text found is trims = trim_ascii_is bare found (without_front bare) refl trims ∙ ap trimmed is
+
+-- nothing stands behind all of a text
+pub all_past : (count : ℕ) (text : List ℕ) → length text ≤ count → [] ≡ drop count text
+all_past count text past = sym (drop_all count text past)

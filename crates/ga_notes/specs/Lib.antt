@@ -1,3 +1,4 @@
 pub mod Notes
 pub mod Source
+pub mod Slots
 pub mod kept

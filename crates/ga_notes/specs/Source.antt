@@ -1,6 +1,6 @@
 -- What a source says of the cells that its programs give, and the names of their labels (docs/REFERENCE.md, "Exploring"; this project's
 -- own). A cell is 0 to 63 of RAM, 128 to 191 of ROM.
-use Rattle.std.specs.Prelude.{ℕ, ◌≡◌, ◌+◌, ◌-◌, ◌*◌, ◌/◌, ◌%◌, zero, suc, Bool, true, false, if◌then◌else◌, List, [], ◌∷◌, ◌++◌, map, length, take, drop, slice_get, slice_index, slice_index_or, flat_map, codes, decimal, Option, Some, None, option_and_then}
+use Rattle.std.specs.Prelude.{ℕ, ◌+◌, ◌-◌, ◌*◌, ◌/◌, ◌%◌, nat_lt, zero, suc, Bool, true, false, if◌then◌else◌, List, [], ◌∷◌, ◌++◌, length, take, drop, slice_get, slice_index, slice_index_or, flat_map, codes, decimal, Option, Some, None, option_and_then}
 use Rattle.std.specs.List.{prefix_len, suffix_len}
 use Rattle.std.specs.Option.{option_or}
 use Rattle.std.specs.Char.{is_ascii_whitespace}
@@ -21,7 +21,6 @@ use Rattle.ga_source.specs.Saying.{source_lines, unmarked, has_bytes}
 use Rattle.ga_source.specs.Reading.{are_both, p_behind}
 use Rattle.ga_notes.specs.declared.notes.Note.{Note}
 use Rattle.ga_notes.specs.declared.notes.Name.{Name}
-use Rattle.ga_notes.specs.declared.notes.Notes.{Notes}
 
 -- ---- the names of labels
 
@@ -106,23 +105,36 @@ without_back text = take (length text - suffix_len is_ascii_whitespace text) tex
 abbrev pub trimmed : List ℕ → List ℕ
 trimmed text = without_back (without_front text)
 
--- A line of the source by its number from 1 on, empty where there is none. (A carriage return at its end is white space.)
+-- A line of the source by its number from 1 on, empty where there is none.
+abbrev pub bare_line : List ℕ → ℕ → List ℕ
+bare_line source line = unmarked line (slice_index_or (source_lines source) (line - 1) [])
+
+-- (A carriage return at its end is white space.)
 abbrev pub line_in : List ℕ → ℕ → List ℕ
-line_in source line = trimmed (unmarked line (slice_index_or (source_lines source) (line - 1) []))
+line_in source line = trimmed (bare_line source line)
+
+-- a line of so many bytes is told whole, a longer one from a word on
+abbrev pub longest_whole_line : ℕ
+longest_whole_line = 40
+
+abbrev pub is_long_line : List ℕ → Bool
+is_long_line text = nat_lt longest_whole_line (length text)
 
 -- ---- notes
 
--- what is said of a cell of a node: P there, the line that gives it, whether it holds an instruction word, and a text
+-- what is said of a cell of a node: P there, the line that gives it, whether it holds an instruction word, a text, and whether that ends
+-- before a word
 pub record Noted : Type 0 where
   pub node : NodeId
   pub cell : ℕ
   pub address : ℕ
   pub line : ℕ
   pub is_code : Bool
+  pub is_long : Bool
   pub text : List ℕ
 
 abbrev pub noted_by : Note → Noted
-noted_by note = record { node = note.node; cell = note.cell; address = note.address; line = note.line; is_code = note.is_code; text = note.text.items }
+noted_by note = record { node = note.node; cell = note.cell; address = note.address; line = note.line; is_code = note.is_code; is_long = note.is_long; text = note.text.items }
 
 -- an address in three hexadecimal digits
 abbrev pub address_text : ℕ → List ℕ
@@ -133,15 +145,27 @@ abbrev pub label_text : Program → Option ℕ → List ℕ
 label_text program (Some label) = codes " " ++ label_name program label
 label_text program None = []
 
--- ` \ `, the address, the label, the line's number and the line
+-- a line with its number, unless it is long
+abbrev pub whole_line_text : List ℕ → ℕ → List ℕ
+whole_line_text source line = if is_long_line (line_in source line) then [] else decimal line ++ (codes ": " ++ line_in source line)
+
+-- ` \ `, the address, the label, and the line
 abbrev pub note_text : List ℕ → Program → ℕ → Option ℕ → ℕ → List ℕ
 note_text source program address label line =
-    codes " \\ " ++ (address_text address ++ (label_text program label ++ (codes " " ++ (decimal line ++ (codes ": " ++ line_in source line)))))
+    codes " \\ " ++ (address_text address ++ (label_text program label ++ (codes " " ++ whole_line_text source line)))
 
 -- the note of a cell that stands at an address
 abbrev pub note_at : List ℕ → Program → Bool → ℕ → ℕ → Option ℕ → List Noted
 note_at source program is_code line address (Some cell) =
-    record { node = program.node; cell = cell; address = address; line = line; is_code = is_code; text = note_text source program address (label_before program cell) line } ∷ []
+    record {
+      node = program.node;
+      cell = cell;
+      address = address;
+      line = line;
+      is_code = is_code;
+      is_long = is_long_line (line_in source line);
+      text = note_text source program address (label_before program cell) line;
+    } ∷ []
 note_at source program is_code line address None = []
 
 -- the note of the cell at an address, where it names one
@@ -158,17 +182,17 @@ abbrev pub literal_noted : List ℕ → Program → ℕ → Item → ℕ → Lis
 literal_noted source program p (Literal _) line = noted_at source program false p line
 literal_noted source program p _ line = []
 
--- the notes of the literals among items with these lines, from P on, in order
-unfoldable pub literals_noted : List ℕ → Program → ℕ → List Item → List ℕ → List Noted
-literals_noted source program p [] lines = []
-literals_noted source program p (item ∷ items) [] = []
-literals_noted source program p (item ∷ items) (line ∷ lines) = literal_noted source program p item line ++ literals_noted source program (p_behind p item) items lines
+-- what is told of each item with its line, P behind the literals before it, in order
+unfoldable pub literals_told : {X : Type 0} → (ℕ → Item → ℕ → List X) → ℕ → List Item → List ℕ → List X
+literals_told tell p [] lines = []
+literals_told tell p (item ∷ items) [] = []
+literals_told tell p (item ∷ items) (line ∷ lines) = tell p item line ++ literals_told tell (p_behind p item) items lines
 
 -- the notes of a group: of its own cell, by its first line, and of its literals behind it
 abbrev pub group_noted : List ℕ → Program → Group → List Noted
 group_noted source program group =
     noted_at source program (is_code group.items.items) group.address (slice_index group.lines.items 0)
-    ++ literals_noted source program (advanced group.address) group.items.items group.lines.items
+    ++ literals_told (literal_noted source program) (advanced group.address) group.items.items group.lines.items
 
 -- the notes of a program, and of each of some programs, in order
 abbrev pub notes_in : List ℕ → Program → List Noted
@@ -176,8 +200,3 @@ notes_in source program = flat_map (group_noted source program) program.groups.i
 
 abbrev pub notes_of : List ℕ → List Program → List Noted
 notes_of source programs = flat_map (notes_in source) programs
-
--- The notes are those that the source and its programs give: the names of the labels, and of each cell what the source says of it.
-pub record AreOfSource (source : List ℕ) (programs : List Program) (notes : Notes) : Type 0 where
-  pub labels : map named_by notes.names.items ≡ names_of programs
-  pub cells : map noted_by notes.notes.items ≡ notes_of source programs

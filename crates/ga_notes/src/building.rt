@@ -1,20 +1,22 @@
 //! The notes of a source.
 
 ghost use Rattle.std.specs.Prelude.{◌≡◌, ◌++◌, map, decimal, IfOk, OnOk};
-ghost use Rattle.ga_notes.specs.Source.{AreOfSource, named_by, named_at, names_in, label_text, address_text, note_text as note_text_of, noted_by, noted_at, is_code, group_noted, notes_in, literal_noted};
+ghost use Rattle.ga_notes.specs.Notes.{AreOfSource};
+ghost use Rattle.ga_notes.specs.Source.{named_by, named_at, names_in, label_text, address_text, note_text as note_text_of, whole_line_text, noted_by, noted_at, is_code, group_noted, notes_in, literal_noted};
 ghost use Rattle.ga_source.specs.Reading.{p_behind};
 ghost use Rattle.ga_notes.specs.kept.Marking.{IsMarked};
 
 use crate::label::{Marked, cell_of, name_of};
-use crate::line::Lines;
+use crate::line::{Lines, is_long};
 use crate::notes::{Name, Note, Notes};
+use crate::wording::slot_words;
 use ga_grid::NodeId;
 use ga_ports::advance_p;
 use ga_source::{Group, Item, Label, Program};
 use ga_word::Word18;
 use std::alloc::{AllocError, Global};
 
-/// What a source says of each cell that it gives, and the names of its labels.
+/// What a source says of each cell that it gives and of each slot, and the names of its labels.
 ///
 /// # Errors
 /// Memory is wanting.
@@ -28,7 +30,12 @@ pub fn notes_of(alloc: Global, source: &[u8], programs: &[Program<'_>]) -> Resul
         add_names(alloc, &mut names, program)?;
         add_cells(alloc, &mut notes, program, &mut lines)?;
     }
-    Ok(Notes { notes, names })
+    let words = slot_words(alloc, source)?;
+    Ok(Notes {
+        notes,
+        names,
+        words,
+    })
 }
 
 /// Adds the labels of a program that have a name.
@@ -117,7 +124,7 @@ fn add_group(
 }
 
 /// Whether a group is an instruction word, and no cell of data.
-fn is_code(group: &Group) -> bool
+pub(crate) fn is_code(group: &Group) -> bool
     ensures { result ≡ is_code group.now.items.items }
 {
     match group.items.as_slice() {
@@ -169,18 +176,20 @@ fn add_cell(
     };
     let label = marked.before(cell);
     let text = note_text(alloc, program, address, label, line, lines)?;
+    let is_long = is_long(lines.line(line));
     notes.push(Note {
         node: program.node,
         cell,
         address,
         line,
         is_code,
+        is_long,
         text,
     })?;
     Ok(())
 }
 
-/// ` \ `, an address, the label of its cell, and a line.
+/// ` \ `, an address, the label of its cell, and the line, unless that is long.
 fn note_text(
     alloc: Global,
     program: &Program<'_>,
@@ -197,10 +206,22 @@ fn note_text(
     text.extend_from_slice(&three_digits(address))?;
     push_label(&mut text, program, label)?;
     text.push(b' ')?;
-    push_number(&mut text, line)?;
-    text.extend_from_slice(b": ")?;
-    text.extend_from_slice(lines.line(line))?;
+    push_line(&mut text, line, lines)?;
     Ok(text)
+}
+
+/// Adds a line with its number, unless it is long.
+fn push_line(text: &mut Vec<u8>, line: u32, lines: &mut Lines<'_>) -> Result<(), AllocError>
+    ensures text { OnOk result (text.new.items ≡ text.old.items ++ whole_line_text lines.old line) }
+    ensures same { lines.new ≡ lines.old }
+{
+    let told = lines.line(line);
+    if is_long(told) {
+        return Ok(());
+    }
+    push_number(text, line)?;
+    text.extend_from_slice(b": ")?;
+    text.extend_from_slice(told)
 }
 
 /// Adds the name of a label behind a blank.
@@ -227,7 +248,7 @@ fn three_digits(address: u32) -> [u8; 3]
 }
 
 /// Adds a number in decimal digits.
-fn push_number(text: &mut Vec<u8>, number: u32) -> Result<(), AllocError>
+pub(crate) fn push_number(text: &mut Vec<u8>, number: u32) -> Result<(), AllocError>
     ensures { OnOk result (text.new.items ≡ text.old.items ++ decimal number) }
 {
     let mut buffer = itoa::Buffer::new();

@@ -1,5 +1,5 @@
-//! What a source says of the cells of its chip: the line and the label of each, for answers that name one;
-//! and what standard error is told of a source.
+//! What a source says of the cells of its chip: the line and the label of each, and the word of each slot; and what standard error
+//! is told of a source.
 #![tactic(auto)]
 
 mod building;
@@ -8,9 +8,12 @@ mod faults;
 mod label;
 mod line;
 mod notes;
+mod slot_word;
+mod wording;
 
 pub use building::notes_of;
 pub use edited::{Edited, edited_image, edited_source, tell_edited};
 pub use faults::{push_fault, tell_fault, tell_long, tell_memory, tell_stores, tell_unsaid};
 pub use line::Lines;
 pub use notes::{Name, Note, Notes};
+pub use slot_word::{SlotWord, ToldWord};

@@ -2,10 +2,21 @@
 
 ghost use Rattle.std.specs.Prelude.{◌≡◌, [], drop, slice_index_or};
 ghost use Rattle.ga_source.specs.Saying.{source_lines};
-ghost use Rattle.ga_notes.specs.Source.{line_in};
+ghost use Rattle.ga_notes.specs.Source.{bare_line, line_in, is_long_line};
+ghost use Rattle.ga_notes.specs.Slots.{quoted_from};
 
 use ga_source::unmarked;
 use std::marker::Model;
+
+/// How many bytes of a line are told whole.
+const LONGEST_WHOLE_LINE: usize = 40;
+
+/// Whether a line is told from a word on.
+pub(crate) fn is_long(text: &[u8]) -> bool
+    ensures { result ≡ is_long_line text.now }
+{
+    text.len() > LONGEST_WHOLE_LINE
+}
 
 /// The lines of a source. One that doesn't stand before the line that was asked for last is looked for from there on.
 #[derive(Drop)]
@@ -45,11 +56,41 @@ impl<'s> Lines<'s> {
         ensures line { result.now ≡ line_in self.old number }
         ensures same { self.new ≡ self.old }
     {
+        self.bare(number).trim_ascii()
+    }
+
+    /// A line by its number from a column on, without blanks around that. Columns are counted in bytes from 1 on, behind a byte order
+    /// mark.
+    pub fn from_column(&mut self, number: u32, column: u32) -> &'s [u8]
+        ensures line { result.now ≡ quoted_from self.old number column }
+        ensures same { self.new ≡ self.old }
+    {
+        past(self.bare(number), column.saturating_sub(1)).trim_ascii()
+    }
+
+    /// A line by its number, as it stands; the first without a byte order mark.
+    fn bare(&mut self, number: u32) -> &'s [u8]
+        ensures line { result.now ≡ bare_line self.old number }
+        ensures same { self.new ≡ self.old }
+    {
         let before = number.saturating_sub(1);
         self.rest = behind(self.source, self.before, self.rest, before);
         self.before = before;
         let (first, _) = first_line(self.rest);
-        unmarked(number, first).trim_ascii()
+        unmarked(number, first)
+    }
+}
+
+/// What stands behind so many bytes.
+#[tactic(auto, using(crate::proofs::LineLemmas::all_past))]
+fn past(text: &[u8], count: u32) -> &[u8]
+    ensures { result.now ≡ drop count text.now }
+{
+    let count = count as usize;
+    if count < text.len() {
+        text.split_at(count).1
+    } else {
+        &[]
     }
 }
 

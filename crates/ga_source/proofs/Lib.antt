@@ -10,6 +10,7 @@ pub mod Loaded
 pub mod Steady
 pub mod Empty
 pub mod Scanning
+pub mod Columns
 pub mod Numbers
 pub mod Ranges
 pub mod Hearing

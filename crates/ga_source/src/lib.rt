@@ -24,7 +24,7 @@ mod vocabulary;
 pub use fault::{Fault, SourceCause};
 pub use item::{Asked, Given, Group, Item, Operand, Program, Registers, Request};
 pub use labels::Label;
-pub use mending::{MOST_FAULTS, Mended, assemble_behind_faults};
+pub use mending::{MOST_FAULTS, Mended, assemble_behind_faults, assemble_numbered};
 pub use program::{Assembled, assemble, assemble_words};
 pub use scan::{Token, TokenKind, source_words, unmarked};
 pub use stores::{Store, stores_over_code};

@@ -41,6 +41,7 @@ fn with_number<'s>(word: &Token<'s>, number: u32) -> Token<'s>
 {
     Token {
         line: number,
+        column: word.column,
         text: word.text,
         kind: word.kind,
     }
@@ -199,6 +200,17 @@ fn is_memory(fault: Fault<'_>) -> bool
         SourceCause::Memory => true,
         _ => false,
     }
+}
+
+/// The chip of words. What is told of a line is told of the number of a word, from 1 on.
+///
+/// # Errors
+/// A fault of the first node that has one: the first of its words, or else of its names, or else of its cells.
+pub fn assemble_numbered<'s>(alloc: Global, words: &[Token<'s>]) -> Result<Assembled<'s>, Fault<'s>>
+    ensures { IfOk result (IsAssembledOf (with_numbers 1 words.now)) }
+{
+    let numbered = number(alloc, words)?;
+    assemble_words(alloc, numbered.as_slice())
 }
 
 /// What can be assembled of words: a word at fault is passed over with those that go with it, and again, until none is at fault.

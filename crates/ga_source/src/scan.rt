@@ -1,8 +1,9 @@
 //! A text as words.
 
-ghost use Rattle.std.specs.Prelude.{◌≡◌, ◌<◌, [], ◌∷◌, ◌++◌, length, IsOkAnd, IsErrAnd, IfOk, OnOk};
+ghost use Rattle.std.specs.Prelude.{◌≡◌, ◌<◌, ◌+◌, ◌-◌, [], ◌∷◌, ◌++◌, length, IsOkAnd, IsErrAnd, IfOk, OnOk};
 ghost use Rattle.std.specs.List.{list_all};
 ghost use Rattle.ga_source.specs.Saying.{source_lines, is_blank as is_blank_byte, parted, closes as closes_comment, unmarked as without_mark, bare as bare_line, without_return as without_end, said_by, is_word, all_in, said_in, all_said};
+ghost use Rattle.ga_source.specs.Columns.{columns_by, columns_in, columns_of};
 ghost use Rattle.ga_source.specs.declared.scan.TokenKind.TheVariants.{Word, LongLine, OpenComment};
 ghost use Rattle.ga_source.specs.declared.fault.SourceCause.TheVariants.{LongLine as TooLong, OpenComment as LeftOpen};
 
@@ -13,6 +14,8 @@ use std::alloc::{AllocError, Global};
 #[derive(Clone, Copy)]
 pub struct Token<'s> {
     pub line: u32,
+    /// That of the word's first byte, in bytes from 1 on, behind a byte order mark; 1 where the line is at fault.
+    pub column: u32,
     /// Empty where the line is at fault.
     pub text: &'s [u8],
     pub kind: TokenKind,
@@ -64,6 +67,7 @@ fn closes(word: &[u8]) -> bool
 fn first_part(text: &[u8]) -> (&[u8], &[u8])
     requires { 0 < length text.now }
     ensures splits { parted is_blank_byte text.now ≡ result.0.now ∷ parted is_blank_byte result.1.now }
+    ensures left { length result.1.now ≡ length text.now - (length result.0.now + 1) }
     ensures shorter { length result.1.now < length text.now }
 {
     for (i, byte) in text.iter().enumerate() {
@@ -77,16 +81,18 @@ fn first_part(text: &[u8]) -> (&[u8], &[u8])
 /// Adds the words of a line, and then its fault where it has one. True where it has none.
 fn scan_line<'s>(tokens: &mut Vec<Token<'s>>, line: u32, text: &'s [u8]) -> Result<bool, AllocError>
     ensures says { OnOk result (all_said tokens.new.items ≡ all_said tokens.old.items ++ said_by line text.now) }
+    ensures columns { OnOk result (columns_of tokens.new.items ≡ columns_of tokens.old.items ++ columns_by text.now) }
     ensures whole { IfOk result (λ whole. whole ≡ list_all is_word (said_by line text.now)) }
 {
     if text.len() > LONGEST {
-        push(tokens, line, &[], TokenKind::LongLine)?;
+        push(tokens, line, 1, &[], TokenKind::LongLine)?;
         return Ok(false);
     }
     let mut is_open = false;
     let mut rest = text;
     while !rest.is_empty() {
         let (part, behind) = first_part(rest);
+        let column = (text.len() - rest.len()) as u32 + 1;
         if is_open {
             is_open = !closes(part);
         } else if part == b"\\".as_slice() {
@@ -94,12 +100,12 @@ fn scan_line<'s>(tokens: &mut Vec<Token<'s>>, line: u32, text: &'s [u8]) -> Resu
         } else if part == b"(".as_slice() {
             is_open = true;
         } else if !part.is_empty() {
-            push(tokens, line, part, TokenKind::Word)?;
+            push(tokens, line, column, part, TokenKind::Word)?;
         }
         rest = behind;
     }
     if is_open {
-        push(tokens, line, &[], TokenKind::OpenComment)?;
+        push(tokens, line, 1, &[], TokenKind::OpenComment)?;
         return Ok(false);
     }
     Ok(true)
@@ -108,12 +114,19 @@ fn scan_line<'s>(tokens: &mut Vec<Token<'s>>, line: u32, text: &'s [u8]) -> Resu
 fn push<'s>(
     tokens: &mut Vec<Token<'s>>,
     line: u32,
+    column: u32,
     text: &'s [u8],
     kind: TokenKind,
 ) -> Result<(), AllocError>
-    ensures { OnOk result (all_said tokens.new.items ≡ all_said tokens.old.items ++ record { line = line; text = text.now; kind = kind } ∷ []) }
+    ensures says { OnOk result (all_said tokens.new.items ≡ all_said tokens.old.items ++ record { line = line; text = text.now; kind = kind } ∷ []) }
+    ensures column { OnOk result (columns_of tokens.new.items ≡ columns_of tokens.old.items ++ column ∷ []) }
 {
-    tokens.push(Token { line, text, kind })?;
+    tokens.push(Token {
+        line,
+        column,
+        text,
+        kind,
+    })?;
     Ok(())
 }
 
@@ -163,7 +176,8 @@ fn bare(line: u32, text: &[u8]) -> &[u8]
 /// # Errors
 /// Memory was refused.
 pub fn source_words(alloc: Global, source: &[u8]) -> Result<Vec<Token<'_>>, AllocError>
-    ensures { IfOk result (λ words. all_said words.items ≡ all_in source.now) }
+    ensures says { IfOk result (λ words. all_said words.items ≡ all_in source.now) }
+    ensures columns { IfOk result (λ words. columns_of words.items ≡ columns_in source.now) }
 {
     let mut words = Vec::new(alloc);
     let mut rest = source;

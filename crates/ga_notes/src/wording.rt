@@ -1,0 +1,271 @@
+//! The words of the slots of a source.
+
+ghost use Rattle.std.specs.Prelude.{◌≡◌, ◌<◌, ◌++◌, ◌∷◌, [], map, length, slice_index, drop, decimal, codes, IfOk, OnOk};
+ghost use Rattle.ga_source.specs.Reading.{p_behind};
+ghost use Rattle.ga_source.specs.Saying.{all_said, all_in};
+ghost use Rattle.ga_source.specs.Columns.{columns_of, columns_in};
+ghost use Rattle.ga_notes.specs.Slots.{word_line as line_by_number, word_column as column_by_number, quoted_word, quoted_if_long, worded_by, last_slot as last_slot_of, slot_worded, slots_worded, address_worded, literal_worded, group_worded, program_worded, all_worded, AreSlotWords};
+
+use crate::building::{is_code, push_number};
+use crate::label::cell_of;
+use crate::line::{Lines, is_long};
+use crate::slot_word::{Begun, SlotWord, ToldWord};
+use ga_grid::NodeId;
+use ga_ports::advance_p;
+use ga_source::{Group, Item, Program, Token, assemble_numbered, source_words};
+use std::alloc::{AllocError, Global};
+
+/// The words of the slots that a source gives: it is assembled with the numbers of its words in the place of their lines.
+///
+/// # Errors
+/// Memory is wanting, or the source can't be assembled.
+pub(crate) fn slot_words(alloc: Global, source: &[u8]) -> Result<Vec<ToldWord>, AllocError>
+    ensures { IfOk result (λ told. AreSlotWords source.now told.items) }
+{
+    let words = source_words(alloc, source)?;
+    let Ok(all) = assemble_numbered(alloc, words.as_slice()) else {
+        return Err(AllocError);
+    };
+    let mut lines = Lines::new(source);
+    let told = add_programs(alloc, all.programs.as_slice(), words.as_slice(), &mut lines)?;
+    Ok(told)
+}
+
+/// Those of programs.
+fn add_programs(
+    alloc: Global,
+    programs: &[Program<'_>],
+    words: &[Token<'_>],
+    lines: &mut Lines<'_>,
+) -> Result<Vec<ToldWord>, AllocError>
+    ensures words { IfOk result (λ told. map worded_by told.items ≡ all_worded lines.old words.now programs.now) }
+    ensures same { lines.new ≡ lines.old }
+{
+    let mut told = Vec::new(alloc);
+    for program in programs {
+        add_program(alloc, &mut told, program, words, lines)?;
+    }
+    Ok(told)
+}
+
+/// Adds those of a program.
+fn add_program(
+    alloc: Global,
+    told: &mut Vec<ToldWord>,
+    program: &Program<'_>,
+    words: &[Token<'_>],
+    lines: &mut Lines<'_>,
+) -> Result<(), AllocError>
+    ensures words { OnOk result (map worded_by told.new.items ≡ map worded_by told.old.items ++ program_worded lines.old words.now program.now) }
+    ensures same { lines.new ≡ lines.old }
+{
+    for group in &program.groups {
+        add_group(alloc, told, program.node, group, words, lines)?;
+    }
+    Ok(())
+}
+
+/// Adds those of a group: of its own cell, and of its literals.
+fn add_group(
+    alloc: Global,
+    told: &mut Vec<ToldWord>,
+    node: NodeId,
+    group: &Group,
+    words: &[Token<'_>],
+    lines: &mut Lines<'_>,
+) -> Result<(), AllocError>
+    ensures words { OnOk result (map worded_by told.new.items ≡ map worded_by told.old.items ++ group_worded lines.old words.now node group.now) }
+    ensures same { lines.new ≡ lines.old }
+{
+    let is_code = is_code(group);
+    let numbers = group.lines.as_slice();
+    add_cell(
+        alloc,
+        told,
+        node,
+        is_code,
+        group.address,
+        numbers,
+        words,
+        lines,
+    )?;
+    let mut p = advance_p(group.address);
+    for (item, number) in group.items.iter().zip(&group.lines) {
+        p = add_literal(alloc, told, node, p, *item, *number, words, lines)?;
+    }
+    Ok(())
+}
+
+/// Adds that of an item's literal, where it has one, from P on, and tells P behind it.
+fn add_literal(
+    alloc: Global,
+    told: &mut Vec<ToldWord>,
+    node: NodeId,
+    p: u32,
+    item: Item,
+    number: u32,
+    words: &[Token<'_>],
+    lines: &mut Lines<'_>,
+) -> Result<u32, AllocError>
+    ensures p { IfOk result (λ behind. behind ≡ p_behind p item) }
+    ensures words { OnOk result (map worded_by told.new.items ≡ map worded_by told.old.items ++ literal_worded lines.old words.now node p item number) }
+    ensures same { lines.new ≡ lines.old }
+{
+    let Item::Literal(_) = item else {
+        return Ok(p);
+    };
+    add_cell(alloc, told, node, false, p, &[number], words, lines)?;
+    Ok(advance_p(p))
+}
+
+/// Adds those of the cell at an address, where it names one, whose items have these words.
+fn add_cell(
+    alloc: Global,
+    told: &mut Vec<ToldWord>,
+    node: NodeId,
+    is_code: bool,
+    address: u32,
+    numbers: &[u32],
+    words: &[Token<'_>],
+    lines: &mut Lines<'_>,
+) -> Result<(), AllocError>
+    ensures words { OnOk result (map worded_by told.new.items ≡ map worded_by told.old.items ++ address_worded lines.old words.now node is_code address numbers.now) }
+    ensures same { lines.new ≡ lines.old }
+{
+    let Some(cell) = cell_of(address) else {
+        return Ok(());
+    };
+    let line = word_line(words, first_of(numbers));
+    let cell = Begun {
+        node,
+        cell,
+        is_code,
+        line,
+    };
+    add_slots(alloc, told, cell, numbers, words, lines)
+}
+
+/// The first of some numbers, 0 where there is none.
+fn first_of(numbers: &[u32]) -> u32
+    ensures { result ≡ slice_index numbers.now 0 }
+{
+    match numbers {
+        [first, ..] => *first,
+        [] => 0,
+    }
+}
+
+/// Adds those of the items of a cell.
+fn add_slots(
+    alloc: Global,
+    told: &mut Vec<ToldWord>,
+    cell: Begun,
+    numbers: &[u32],
+    words: &[Token<'_>],
+    lines: &mut Lines<'_>,
+) -> Result<(), AllocError>
+    ensures words { OnOk result (map worded_by told.new.items ≡ map worded_by told.old.items ++ slots_worded lines.old words.now cell (length numbers.now) 0 numbers.now) }
+    ensures same { lines.new ≡ lines.old }
+{
+    let size = numbers.len();
+    let mut slot = 0usize;
+    while slot < size {
+        add_slot(alloc, told, cell, size, slot, numbers[slot], words, lines)?;
+        slot += 1;
+    }
+    Ok(())
+}
+
+/// Adds that of the item in a slot of a cell with so many items.
+fn add_slot(
+    alloc: Global,
+    told: &mut Vec<ToldWord>,
+    cell: Begun,
+    size: usize,
+    slot: usize,
+    number: u32,
+    words: &[Token<'_>],
+    lines: &mut Lines<'_>,
+) -> Result<(), AllocError>
+    requires { slot < size }
+    ensures words { OnOk result (map worded_by told.new.items ≡ map worded_by told.old.items ++ slot_worded lines.old words.now cell size slot number ∷ []) }
+    ensures same { lines.new ≡ lines.old }
+{
+    let line = word_line(words, number);
+    let column = word_column(words, number);
+    let text = quoted(alloc, cell.line, line, column, lines)?;
+    let word = SlotWord {
+        node: cell.node,
+        cell: cell.cell,
+        is_code: cell.is_code,
+        first: slot,
+        last: last_slot(size, slot),
+        line,
+        column,
+    };
+    told.push(ToldWord { word, text })?;
+    Ok(())
+}
+
+/// The last slot that has the word of this one.
+fn last_slot(size: usize, slot: usize) -> usize
+    requires { slot < size }
+    ensures { result ≡ last_slot_of size slot }
+{
+    if slot + 1 == size { 3 } else { slot }
+}
+
+/// The line of the word with a number, 0 where there is none.
+fn word_line(words: &[Token<'_>], number: u32) -> u32
+    ensures { result ≡ line_by_number words.now number }
+{
+    match words.get(number.saturating_sub(1) as usize) {
+        Some(word) => word.line,
+        None => 0,
+    }
+}
+
+/// Its column, 0 where there is none.
+fn word_column(words: &[Token<'_>], number: u32) -> u32
+    ensures { result ≡ column_by_number words.now number }
+{
+    match words.get(number.saturating_sub(1) as usize) {
+        Some(word) => word.column,
+        None => 0,
+    }
+}
+
+/// How the word at a column of a line is told, where the line is long that begins its cell.
+fn quoted(
+    alloc: Global,
+    begun: u32,
+    line: u32,
+    column: u32,
+    lines: &mut Lines<'_>,
+) -> Result<Vec<u8>, AllocError>
+    ensures text { IfOk result (λ text. text.items ≡ quoted_if_long lines.old begun line column) }
+    ensures same { lines.new ≡ lines.old }
+{
+    let mut text = Vec::new(alloc);
+    if is_long(lines.line(begun)) {
+        push_quoted(&mut text, line, column, lines)?;
+    }
+    Ok(text)
+}
+
+/// Adds the line, the column, and the text from there on.
+fn push_quoted(
+    text: &mut Vec<u8>,
+    line: u32,
+    column: u32,
+    lines: &mut Lines<'_>,
+) -> Result<(), AllocError>
+    ensures text { OnOk result (text.new.items ≡ text.old.items ++ quoted_word lines.old line column) }
+    ensures same { lines.new ≡ lines.old }
+{
+    push_number(text, line)?;
+    text.push(b':')?;
+    push_number(text, column)?;
+    text.extend_from_slice(b": ")?;
+    text.extend_from_slice(lines.from_column(line, column))
+}
