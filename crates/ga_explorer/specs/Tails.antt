@@ -1,7 +1,7 @@
 -- What is explored, and what a source says of cells and slots behind the lines that name them (docs/REFERENCE.md, "Exploring"; this project's
 -- own).
 use Rattle.std.specs.Prelude.{ℕ, ◌+◌, ◌-◌, ◌%◌, ◌==◌, min, if◌then◌else◌, [], ◌++◌, codes, Option, Some, None}
-use Rattle.ga_image.specs.Lines.{Text}
+use Rattle.ga_text.specs.Lines.{Text}
 use Rattle.ga_grid.specs.declared.node_id.NodeId.{NodeId}
 use Rattle.ga_event.specs.Told.{steps_of}
 use Rattle.ga_lab.specs.Machine.{State}

@@ -1,5 +1,5 @@
 use Rattle.std.proofs.Common.{List, ℕ, ◌++◌, ◌∙◌, ap}
-use Rattle.ga_console.proofs.SaidLemmas.{cut_here, cut_within}
+use Rattle.ga_text.proofs.SaidLemmas.{cut_here, cut_within}
 use Rattle.ga_explorer.specs.Tails.{noted_cell, noted_slot, noted_text}
 use Rattle.ga_explorer.proofs.Told.{told_as}
 use Rattle.ga_explorer.proofs.Saying.{joined_said}

@@ -1,5 +1,5 @@
 use Rattle.std.proofs.Common.{◌++◌, codes, refl}
-use Rattle.ga_console.proofs.SaidLemmas.{cut_here, cut_within}
+use Rattle.ga_text.proofs.SaidLemmas.{cut_here, cut_within}
 use Rattle.ga_explorer.specs.Tails.{noted_text, tail_text}
 use Rattle.ga_explorer.proofs.Saying.{joined_said}
 use Rattle.ga_explorer.proofs.tail_text.say_tail.Goals as goal
