@@ -65,7 +65,11 @@ fn orders(alloc: Global, image: &[u8], runs: u64) -> Result<Tally, Fail> {
 }
 
 fn bounds(runs: u64) -> Bounds {
-    Bounds { runs, choices: 100 }
+    Bounds {
+        runs,
+        choices: 100,
+        steps: 10_000,
+    }
 }
 
 // The lab at the end of an order.
