@@ -167,7 +167,10 @@ fn ends_are_counted_by_kinds(rt: HostRuntime) -> Result<(), Fail> {
         assert_eq!(&rt; is_stopped, kind.nodes[19] == Fate::Stopped(2));
     }
     let lock = orders(alloc, LOCK_WRONG, 1000)?;
-    assert_eq!(&rt; told(alloc, &lock.kinds)?, vec![in alloc; (1u64, 1u64), (2, 1)]?);
+    assert_eq!(&rt;
+        told(alloc, &lock.kinds)?,
+        vec![in alloc; (1u64, 1u64), (2, 1)]?
+    );
     assert_eq!(&rt; ended(&lock, 101, Fate::Quiet), 2u64);
     assert_eq!(&rt; ended(&lock, 19, Fate::Quiet), 1u64);
     Ok(())
@@ -195,7 +198,10 @@ fn an_order_is_reached(rt: HostRuntime) -> Result<(), Fail> {
         assert_eq!(&rt; check(alloc, &mut lab, bounds(1000), asked)?.asked, asked);
         assert_eq!(&rt; lab.counts().kept, 0u32);
     }
-    assert_eq!(&rt; check(alloc, &mut lab, bounds(1000), 2).err(), Some(Stop::Reached));
+    assert_eq!(&rt;
+        check(alloc, &mut lab, bounds(1000), 2).err(),
+        Some(Stop::Reached)
+    );
     assert!(&rt; lab.counts().kept > 144);
     let end = check(alloc, &mut lab, bounds(1000), 0)?;
     assert_eq!(&rt; end.orders, 1u64);
