@@ -1,7 +1,7 @@
 //! Every order of small programs: servers that take words from whoever comes first, and clients that send them.
 
 use ga_check::orders::{Bounds, check};
-use ga_check::tally::Tally;
+use ga_check::tally::{EndKind, Fate, Stop, Tally};
 use ga_grid::NodeId;
 use ga_image::parse;
 use ga_lab::Lab;
@@ -56,6 +56,9 @@ const POLL_1X1: &[u8] =
 const TIMEOUT_3: &[u8] =
     b"ga144 1\nnode 101\np 000000\nram 00 0048b2 000002 004b07 00015d 008000 03f30b 03acef 0001d5\nram 08 029f12 000115 02f5b2 03b002 005dbd 03ffff 000115\nnode 100\np 000000\nram 00 004b12 0001d5 000007 02e9b2 00427c 000003 005b12 000005\nram 08 000115 02f5b2\nend\n";
 
+/// A node that jumps without end.
+const ENDLESS: &[u8] = b"ga144 1\nnode 000\np 000000\nram 00 010000\nend\n";
+
 // All orders of a program, or as many as may be met.
 fn orders(alloc: Global, image: &[u8], runs: u64) -> Result<Tally, Fail> {
     let chip = parse(alloc, image)?;
@@ -65,7 +68,11 @@ fn orders(alloc: Global, image: &[u8], runs: u64) -> Result<Tally, Fail> {
 }
 
 fn bounds(runs: u64) -> Bounds {
-    Bounds { runs, choices: 100 }
+    Bounds {
+        runs,
+        choices: 100,
+        steps: 10_000,
+    }
 }
 
 // The lab at the end of an order.
@@ -121,6 +128,100 @@ fn a_stop_shows_in_four_orders_of_six(rt: HostRuntime) -> Result<(), Fail> {
 fn a_deadlock_shows_in_one_order_of_two(rt: HostRuntime) -> Result<(), Fail> {
     let tally = orders(rt.alloc(), LOCK_WRONG, 1000)?;
     assert_eq!(&rt; tally.orders, 2);
+    Ok(())
+}
+
+// How many orders end so that a node does this.
+fn ended(tally: &Tally, node: usize, fate: Fate) -> u64 {
+    let mut orders = 0u64;
+    for kind in &tally.kinds {
+        if node < 144 && kind.nodes[node] == fate {
+            orders = orders.saturating_add(kind.orders);
+        }
+    }
+    orders
+}
+
+// The numbers of the first order of each kind, and how many there are of it.
+fn told(alloc: Global, kinds: &[EndKind]) -> Result<Vec<(u64, u64)>, Fail> {
+    let mut told = Vec::new(alloc);
+    for kind in kinds {
+        told.push((kind.first, kind.orders))?;
+    }
+    Ok(told)
+}
+
+// Of the server with two clients that send an address and a value each, as the orders were enumerated by hand: the server takes the
+// values apart from their addresses in four of six.
+#[test]
+fn ends_are_counted_by_kinds(rt: HostRuntime) -> Result<(), Fail> {
+    let alloc = rt.alloc();
+    let pair = orders(alloc, PAIR_2, 1000)?;
+    assert_eq!(&rt; pair.kinds.len(), 2);
+    assert_eq!(&rt; ended(&pair, 19, Fate::Stopped(2)), 4u64);
+    assert_eq!(&rt; ended(&pair, 19, Fate::Quiet), 2u64);
+    assert!(&rt; !pair.alike);
+    for kind in &pair.kinds {
+        let lab = at_end(alloc, PAIR_2, kind.first)?;
+        let is_stopped = lab.node(NodeId::new(19)).stop() == 2;
+        assert_eq!(&rt; is_stopped, kind.nodes[19] == Fate::Stopped(2));
+    }
+    let lock = orders(alloc, LOCK_WRONG, 1000)?;
+    assert_eq!(&rt;
+        told(alloc, &lock.kinds)?,
+        vec![in alloc; (1u64, 1u64), (2, 1)]?
+    );
+    assert_eq!(&rt; ended(&lock, 101, Fate::Quiet), 2u64);
+    assert_eq!(&rt; ended(&lock, 19, Fate::Quiet), 1u64);
+    Ok(())
+}
+
+// The words that a server stores tell the order, and their sum doesn't.
+#[test]
+fn ends_on_one_chip_are_told(rt: HostRuntime) -> Result<(), Fail> {
+    let alloc = rt.alloc();
+    for (image, is_alike) in [(SERVER_3X2, false), (SUM_3X2, true)] {
+        let tally = orders(alloc, image, 1000)?;
+        assert_eq!(&rt; tally.alike, is_alike);
+        assert_eq!(&rt; told(alloc, &tally.kinds)?, vec![in alloc; (1u64, 90u64)]?);
+    }
+    Ok(())
+}
+
+// The lab is left at the end of the order that is asked for, or as it was.
+#[test]
+fn an_order_is_reached(rt: HostRuntime) -> Result<(), Fail> {
+    let alloc = rt.alloc();
+    let chip = parse(alloc, SERVER_2X1)?;
+    let mut lab = Lab::new(alloc, chip, LIMIT)?;
+    for asked in [0u64, 3] {
+        assert_eq!(&rt; check(alloc, &mut lab, bounds(1000), asked)?.asked, asked);
+        assert_eq!(&rt; lab.counts().kept, 0u32);
+    }
+    assert_eq!(&rt;
+        check(alloc, &mut lab, bounds(1000), 2).err(),
+        Some(Stop::Reached)
+    );
+    assert!(&rt; lab.counts().kept > 144);
+    let end = check(alloc, &mut lab, bounds(1000), 0)?;
+    assert_eq!(&rt; end.orders, 1u64);
+    Ok(())
+}
+
+#[test]
+fn a_node_that_goes_on_for_ever_ends_by_its_bound(rt: HostRuntime) -> Result<(), Fail> {
+    let alloc = rt.alloc();
+    let chip = parse(alloc, ENDLESS)?;
+    let mut lab = Lab::new(alloc, chip, LIMIT)?;
+    let bounds = Bounds {
+        runs: 1000,
+        choices: 100,
+        steps: 50,
+    };
+    let tally = check(alloc, &mut lab, bounds, 0)?;
+    assert_eq!(&rt; (tally.orders, tally.left), (0u64, 999u64));
+    assert!(&rt; !tally.whole);
+    assert!(&rt; lab.counts().made < 1000);
     Ok(())
 }
 
