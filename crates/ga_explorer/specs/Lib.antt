@@ -13,6 +13,8 @@ pub mod Saved
 pub mod Races
 pub mod Answers
 pub mod Opening
+pub mod OrderTexts
+pub mod EveryOrder
 pub mod Front
 pub mod Session
 pub mod kept

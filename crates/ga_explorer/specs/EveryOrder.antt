@@ -1,0 +1,98 @@
+-- What `ga144 check` may write, and how it may end (docs/REFERENCE.md, "Every order"; this project's own). Orders are those of
+-- Mazurkiewicz, "Trace theory", 1987; each is run once, and no list of them is kept: Flanagan and Godefroid, "Dynamic partial-order
+-- reduction for model checking software", 2005.
+use Rattle.std.specs.Prelude.{◌≡◌, ℕ, ◌==◌, ◌⊎◌, Bool, true, false, not, ◌&&◌, ◌||◌, if◌then◌else◌, List, ◌++◌, Result, Ok, Err}
+use Rattle.std.specs.List.{list_any}
+use Rattle.ga_image.specs.Lines.{Bytes, Text}
+use Rattle.ga_event.specs.declared.event.Event.{Event}
+use Rattle.ga_lab.specs.Machine.{State, chip_of}
+use Rattle.ga_lab.specs.declared.fault.LabFault.TheVariants as fault
+use Rattle.ga_check.specs.Every.{IsSomeOrders, IsEveryOrder, ends_of}
+use Rattle.ga_check.specs.Reached.{IsEndReached}
+use Rattle.ga_check.specs.Tallies.{IsTally}
+use Rattle.ga_check.specs.declared.tally.Tally.{Tally}
+use Rattle.ga_check.specs.declared.tally.EndKind.{EndKind}
+use Rattle.ga_check.specs.declared.tally.Fate.{Fate}
+use Rattle.ga_check.specs.declared.tally.Fate.TheVariants.{Quiet, Reads, Writes, Stopped}
+use Rattle.ga_check.specs.declared.tally.Stop.{Stop}
+use Rattle.ga_check.specs.declared.tally.Stop.TheVariants.{Reached, Memory}
+use Rattle.ga_console.specs.Output.{Begins}
+use Rattle.ga_console.specs.Texts.{refusal_text}
+use Rattle.ga_console.specs.declared.run.Status.{Status}
+use Rattle.ga_console.specs.declared.run.Status.TheVariants.{ImageRefused, StreamFault}
+use Rattle.ga_explorer.specs.Opening.{OpensExploring, IsFront, Unbegun}
+use Rattle.ga_explorer.specs.OrderTexts.{orders_text, no_order_text}
+use Rattle.ga_explorer.specs.Saved.{saved_text}
+use Rattle.ga_explorer.specs.Tails.{Exploring}
+use Rattle.ga_explorer.specs.declared.every_order.Verdict.{Verdict}
+use Rattle.ga_explorer.specs.declared.every_order.Verdict.TheVariants.{Alike, Several, Open, Ended}
+
+-- A tally tells orders of the machine's chip, and of all of them where it says so.
+pub record IsTallyOf (s : State) (tally : Tally) : Type 0 where
+  pub runs : List (List Event)
+  pub orders : IsSomeOrders (chip_of s) runs
+  pub told : IsTally tally (ends_of (chip_of s) runs)
+  pub all : tally.whole ≡ true → IsEveryOrder (chip_of s) runs
+
+-- What is found on a machine: such a tally; or the machine at the end of the order that is asked for; or there is no memory.
+abbrev pub IsFound : State → Result Tally Stop → State → Type 0
+IsFound s (Ok tally) last = IsTallyOf s tally
+IsFound s (Err Reached) last = IsEndReached s last
+IsFound s (Err Memory) last = Unit {0}
+
+-- a node is stopped at such an end
+abbrev pub is_stop : Fate → Bool
+is_stop Quiet = false
+is_stop Reads = false
+is_stop Writes = false
+is_stop (Stopped code) = true
+
+abbrev pub has_stop : EndKind → Bool
+has_stop kind = list_any is_stop kind.nodes
+
+-- all orders end on one chip, and no node is stopped there
+abbrev pub is_faultless : Tally → Bool
+is_faultless tally = tally.alike && not (list_any has_stop tally.kinds.items)
+
+abbrev pub verdict_of : Tally → Verdict
+verdict_of tally = if tally.whole then (if is_faultless tally then Alike else Several) else Open
+
+-- there is no such order, or there may be
+abbrev pub no_order_verdict : Tally → Verdict
+no_order_verdict tally = if tally.whole then Ended ImageRefused else Open
+
+-- what is said of what was found, where an order is asked for by its number, or none (0), and the verdict
+abbrev pub found_text : ℕ → Result Tally Stop → State → Text
+found_text asked (Ok tally) last = if asked == 0 then orders_text tally else no_order_text asked tally
+found_text asked (Err Reached) last = saved_text last
+found_text asked (Err Memory) last = refusal_text fault.Memory
+
+abbrev pub found_verdict : ℕ → Result Tally Stop → Verdict
+found_verdict asked (Ok tally) = if asked == 0 then verdict_of tally else no_order_verdict tally
+found_verdict asked (Err Reached) = Alike
+found_verdict asked (Err Memory) = Ended ImageRefused
+
+-- a text was written whole, or that failed
+abbrev pub IsTold : Text → Verdict → Text → Verdict → Type 0
+IsTold whole verdict text end = ((text ≡ whole) × (end ≡ verdict)) ⊎ (Begins whole text × (end ≡ Ended StreamFault))
+
+pub record TellsOrders (asked : ℕ) (s : State) (text : Text) (verdict : Verdict) : Type 0 where
+  pub found : Result Tally Stop
+  pub last : State
+  pub is_found : IsFound s found last
+  pub told : IsTold (found_text asked found last) (found_verdict asked found) text verdict
+
+-- An image or source was accepted, and what was found on its machine was told. Nothing is done with what was read behind it.
+pub record ChecksText (limit asked : ℕ) (read rest : Bytes) (written : Text) (verdict : Verdict) : Type 0 where
+  pub text : Text
+  pub ahead : Bytes
+  pub begun : Exploring
+  pub splits : read ≡ text ++ ahead
+  pub front : IsFront text (ahead ++ rest)
+  pub opens : OpensExploring text limit begun
+  pub tells : TellsOrders asked begun.lab written verdict
+
+-- What may have been written, where read was read of the input and rest is left of it, and the verdict.
+pub data ChecksOrders (limit asked : ℕ) (read rest : Bytes) (written : Text) (verdict : Verdict) : Type 0 where
+  checked : ChecksText limit asked read rest written verdict → ChecksOrders limit asked read rest written verdict
+  unbegun : (status : Status) → verdict ≡ Ended status → Unbegun read rest written status → ChecksOrders limit asked read rest written verdict
