@@ -15,3 +15,4 @@ pub mod Trees
 pub mod Rings
 pub mod Finding
 pub mod Alternatives
+pub mod OrdersOut

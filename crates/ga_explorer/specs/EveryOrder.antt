@@ -28,27 +28,25 @@ use Rattle.ga_explorer.specs.declared.every_order.Verdict.{Verdict}
 use Rattle.ga_explorer.specs.declared.every_order.Verdict.TheVariants.{Alike, Several, Open, Ended}
 
 -- A tally tells orders of the machine's chip, and of all of them where it says so.
-pub record IsTallyOf (s : State) (tally : Tally) : Type 0 where
-  pub runs : List (List Event)
-  pub orders : IsSomeOrders (chip_of s) runs
-  pub told : IsTally tally (ends_of (chip_of s) runs)
-  pub all : tally.whole ≡ true → IsEveryOrder (chip_of s) runs
+abbrev pub IsTallyOf : State → Tally → Type 0
+IsTallyOf s tally = (runs : List (List Event)) × IsSomeOrders (chip_of s) runs × IsTally tally (ends_of (chip_of s) runs)
+    × (tally.whole ≡ true → IsEveryOrder (chip_of s) runs)
 
 -- What is found on a machine: such a tally; or the machine at the end of the order that is asked for; or there is no memory.
-abbrev pub IsFound : State → Result Tally Stop → State → Type 0
-IsFound s (Ok tally) last = IsTallyOf s tally
-IsFound s (Err Reached) last = IsEndReached s last
-IsFound s (Err Memory) last = Unit {0}
+abbrev pub IsSearched : State → Result Tally Stop → State → Type 0
+IsSearched s (Ok tally) last = IsTallyOf s tally
+IsSearched s (Err Reached) last = IsEndReached s last
+IsSearched s (Err Memory) last = Unit {0}
 
 -- a node is stopped at such an end
-abbrev pub is_stop : Fate → Bool
-is_stop Quiet = false
-is_stop Reads = false
-is_stop Writes = false
-is_stop (Stopped code) = true
+abbrev pub is_stop_fate : Fate → Bool
+is_stop_fate Quiet = false
+is_stop_fate Reads = false
+is_stop_fate Writes = false
+is_stop_fate (Stopped code) = true
 
 abbrev pub has_stop : EndKind → Bool
-has_stop kind = list_any is_stop kind.nodes
+has_stop kind = list_any is_stop_fate kind.nodes
 
 -- all orders end on one chip, and no node is stopped there
 abbrev pub is_faultless : Tally → Bool
@@ -61,26 +59,33 @@ verdict_of tally = if tally.whole then (if is_faultless tally then Alike else Se
 abbrev pub no_order_verdict : Tally → Verdict
 no_order_verdict tally = if tally.whole then Ended ImageRefused else Open
 
--- what is said of what was found, where an order is asked for by its number, or none (0), and the verdict
+-- what is said of a tally where an order is asked for by its number, or none (0), and the verdict
+abbrev pub tally_text : ℕ → Tally → Text
+tally_text asked tally = if asked == 0 then orders_text tally else no_order_text asked tally
+
+abbrev pub tally_verdict : ℕ → Tally → Verdict
+tally_verdict asked tally = if asked == 0 then verdict_of tally else no_order_verdict tally
+
+-- of what was found; last is the machine behind the search
 abbrev pub found_text : ℕ → Result Tally Stop → State → Text
-found_text asked (Ok tally) last = if asked == 0 then orders_text tally else no_order_text asked tally
+found_text asked (Ok tally) last = tally_text asked tally
 found_text asked (Err Reached) last = saved_text last
 found_text asked (Err Memory) last = refusal_text fault.Memory
 
 abbrev pub found_verdict : ℕ → Result Tally Stop → Verdict
-found_verdict asked (Ok tally) = if asked == 0 then verdict_of tally else no_order_verdict tally
+found_verdict asked (Ok tally) = tally_verdict asked tally
 found_verdict asked (Err Reached) = Alike
 found_verdict asked (Err Memory) = Ended ImageRefused
 
 -- a text was written whole, or that failed
-abbrev pub IsTold : Text → Verdict → Text → Verdict → Type 0
-IsTold whole verdict text end = ((text ≡ whole) × (end ≡ verdict)) ⊎ (Begins whole text × (end ≡ Ended StreamFault))
+abbrev pub IsTextOut : Text → Verdict → Text → Verdict → Type 0
+IsTextOut whole verdict text end = ((text ≡ whole) × (end ≡ verdict)) ⊎ (Begins whole text × (end ≡ Ended StreamFault))
 
 pub record TellsOrders (asked : ℕ) (s : State) (text : Text) (verdict : Verdict) : Type 0 where
   pub found : Result Tally Stop
   pub last : State
-  pub is_found : IsFound s found last
-  pub told : IsTold (found_text asked found last) (found_verdict asked found) text verdict
+  pub is_searched : IsSearched s found last
+  pub told : IsTextOut (found_text asked found last) (found_verdict asked found) text verdict
 
 -- An image or source was accepted, and what was found on its machine was told. Nothing is done with what was read behind it.
 pub record ChecksText (limit asked : ℕ) (read rest : Bytes) (written : Text) (verdict : Verdict) : Type 0 where

@@ -67,11 +67,11 @@ abbrev pub verb_text : ℕ → Text
 verb_text orders = if orders == 1 then codes " ends " else codes " end "
 
 -- so many orders end so, the first of them with this number
-abbrev pub end_line : ℕ → Text → ℕ → Text
-end_line orders end first = decimal orders ++ verb_text orders ++ end ++ codes ": --session " ++ decimal first ++ codes "\n"
+abbrev pub end_kind_line : ℕ → Text → ℕ → Text
+end_kind_line orders end first = decimal orders ++ verb_text orders ++ end ++ codes ": --session " ++ decimal first ++ codes "\n"
 
 abbrev pub end_kind_text : EndKind → Text
-end_kind_text kind = end_line kind.orders (end_text (stop_items kind.nodes) (waiting_items kind.nodes)) kind.first
+end_kind_text kind = end_kind_line kind.orders (end_text (stop_items kind.nodes) (waiting_items kind.nodes)) kind.first
 
 -- a line of all, and one for each of these kinds
 abbrev pub orders_with : Tally → List EndKind → Text

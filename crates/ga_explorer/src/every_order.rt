@@ -7,7 +7,7 @@ ghost use Rattle.ga_console.specs.Output.{IsSaidOrCut};
 ghost use Rattle.ga_console.specs.Texts.{refusal_text};
 ghost use Rattle.ga_explorer.specs.Saved.{saved_text};
 ghost use Rattle.ga_explorer.specs.OrderTexts.{orders_text, no_order_text};
-ghost use Rattle.ga_explorer.specs.EveryOrder.{TellsOrders, ChecksOrders, IsTold, has_stop, is_faultless, is_stop, verdict_of, no_order_verdict};
+ghost use Rattle.ga_explorer.specs.EveryOrder.{TellsOrders, ChecksOrders, IsTextOut, has_stop, is_faultless, is_stop_fate, verdict_of, no_order_verdict, tally_text, tally_verdict};
 ghost use Rattle.ga_explorer.specs.declared.every_order.Verdict.TheVariants.{Alike, Ended};
 ghost use Rattle.ga_console.specs.declared.run.Status.TheVariants.{ImageRefused};
 
@@ -71,15 +71,22 @@ fn tell_orders<W: Write>(
         (text : Bytes) × (W.contents writer.new ≡ Some (before ++ text)) × TellsOrders asked lab.old text result }
 {
     match check(alloc, lab, bounds, asked) {
-        Ok(tally) => {
-            if asked == 0 {
-                tell_all(&tally, writer)
-            } else {
-                tell_none(asked, &tally, writer)
-            }
-        }
+        Ok(tally) => tell_tally(asked, &tally, writer),
         Err(Stop::Reached) => tell_session(lab, writer),
         Err(Stop::Memory) => tell_no_memory(writer),
+    }
+}
+
+/// Tells how many orders there are, and how they end, or that there is none of the number that is asked for.
+fn tell_tally<W: Write>(asked: u64, tally: &Tally, writer: &mut W) -> Verdict
+    ensures { (before : Bytes) → W.contents writer.old ≡ Some before →
+        (text : Bytes) × (W.contents writer.new ≡ Some (before ++ text))
+        × IsTextOut (tally_text asked tally.now) (tally_verdict asked tally.now) text result }
+{
+    if asked == 0 {
+        tell_all(tally, writer)
+    } else {
+        tell_none(asked, tally, writer)
     }
 }
 
@@ -87,7 +94,7 @@ fn tell_orders<W: Write>(
 fn tell_all<W: Write>(tally: &Tally, writer: &mut W) -> Verdict
     ensures { (before : Bytes) → W.contents writer.old ≡ Some before →
         (text : Bytes) × (W.contents writer.new ≡ Some (before ++ text))
-        × IsTold (orders_text tally.now) (verdict_of tally.now) text result }
+        × IsTextOut (orders_text tally.now) (verdict_of tally.now) text result }
 {
     let mut output = Output::new();
     let said = say_orders(tally, &mut output, writer);
@@ -98,7 +105,7 @@ fn tell_all<W: Write>(tally: &Tally, writer: &mut W) -> Verdict
 fn tell_none<W: Write>(asked: u64, tally: &Tally, writer: &mut W) -> Verdict
     ensures { (before : Bytes) → W.contents writer.old ≡ Some before →
         (text : Bytes) × (W.contents writer.new ≡ Some (before ++ text))
-        × IsTold (no_order_text asked tally.now) (no_order_verdict tally.now) text result }
+        × IsTextOut (no_order_text asked tally.now) (no_order_verdict tally.now) text result }
 {
     let mut output = Output::new();
     let said = say_no_order(asked, tally, &mut output, writer);
@@ -108,7 +115,7 @@ fn tell_none<W: Write>(asked: u64, tally: &Tally, writer: &mut W) -> Verdict
 /// Tells the session that leads to where a lab stands.
 fn tell_session<W: Write>(lab: &Lab, writer: &mut W) -> Verdict
     ensures { (before : Bytes) → W.contents writer.old ≡ Some before →
-        (text : Bytes) × (W.contents writer.new ≡ Some (before ++ text)) × IsTold (saved_text lab.now) Alike text result }
+        (text : Bytes) × (W.contents writer.new ≡ Some (before ++ text)) × IsTextOut (saved_text lab.now) Alike text result }
 {
     let mut output = Output::new();
     let said = say_saved(lab, &mut output, writer);
@@ -119,7 +126,7 @@ fn tell_session<W: Write>(lab: &Lab, writer: &mut W) -> Verdict
 fn tell_no_memory<W: Write>(writer: &mut W) -> Verdict
     ensures { (before : Bytes) → W.contents writer.old ≡ Some before →
         (text : Bytes) × (W.contents writer.new ≡ Some (before ++ text))
-        × IsTold (refusal_text Memory) (Ended ImageRefused) text result }
+        × IsTextOut (refusal_text Memory) (Ended ImageRefused) text result }
 {
     let mut output = Output::new();
     let said = output.say(writer, refusal_text(LabFault::Memory));
@@ -139,7 +146,7 @@ fn sent<W: Write>(
     writer: &mut W,
 ) -> Verdict
     ensures { (before whole : Bytes) → IsSaidOrCut said (W.contents writer.old) before whole output.old →
-        (text : Bytes) × (W.contents writer.new ≡ Some (before ++ text)) × IsTold whole verdict text result }
+        (text : Bytes) × (W.contents writer.new ≡ Some (before ++ text)) × IsTextOut whole verdict text result }
 {
     match said {
         Ok(()) => match output.send(writer) {
@@ -178,7 +185,7 @@ fn has_stop(kind: &EndKind) -> bool
 }
 
 fn is_stop(fate: Fate) -> bool
-    ensures { result ≡ is_stop fate }
+    ensures { result ≡ is_stop_fate fate }
 {
     match fate {
         Fate::Quiet => false,

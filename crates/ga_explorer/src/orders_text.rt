@@ -5,7 +5,7 @@ ghost use Rattle.arrayvec.specs.ArrayVec.{array_vec_len};
 ghost use Rattle.ga_image.specs.Lines.{Bytes};
 ghost use Rattle.ga_console.specs.Output.{IsSaid, IsSaidOrCut};
 ghost use Rattle.ga_console.specs.kept.Output.{Says};
-ghost use Rattle.ga_explorer.specs.OrderTexts.{counted_text, alike_text, kinds_head, bound_text, orders_head, fate_at, stop_item, waiting_item, stop_items, waiting_items, waiting_tail, end_text, verb_text, end_line, end_kind_text, orders_with, orders_text, no_order_text};
+ghost use Rattle.ga_explorer.specs.OrderTexts.{counted_text, alike_text, kinds_head, bound_text, orders_head, fate_at, stop_item, waiting_item, stop_items, waiting_items, waiting_tail, end_text, verb_text, end_kind_line, end_kind_text, orders_with, orders_text, no_order_text};
 ghost use Rattle.ga_explorer.specs.Waiting.{name_text};
 
 use arrayvec::ArrayVec;
@@ -33,12 +33,19 @@ const ALL_WAITING_ROOM: usize = 144 * WAITING_ROOM;
 type AllWaiting = ArrayVec<u8, ALL_WAITING_ROOM>;
 
 /// The most bytes of what the nodes do at an end.
-const END_ROOM: usize =
-    b"with".len() + STOPS_ROOM + b",".len() + ALL_WAITING_ROOM + b" waiting".len();
+const END_ROOM: usize = b"with".len()
+    + STOPS_ROOM
+    + b",".len()
+    + ALL_WAITING_ROOM
+    + b" waiting".len();
 
 /// The most bytes of the line of a kind of end.
-const KIND_ROOM: usize =
-    NUMBER_ROOM + b" ends ".len() + END_ROOM + b": --session ".len() + NUMBER_ROOM + b"\n".len();
+const KIND_ROOM: usize = NUMBER_ROOM
+    + b" ends ".len()
+    + END_ROOM
+    + b": --session ".len()
+    + NUMBER_ROOM
+    + b"\n".len();
 
 /// The text of that line.
 type KindLine = ArrayVec<u8, KIND_ROOM>;
@@ -196,7 +203,7 @@ fn kind_line(kind: &EndKind) -> KindLine
 fn line_of_end(orders: u64, stops: &[u8], waiting: &[u8], first: u64) -> KindLine
     requires stops { length stops.now ≤ STOPS_ROOM }
     requires waiting { length waiting.now ≤ ALL_WAITING_ROOM }
-    ensures { result.items ≡ end_line orders (end_text stops.now waiting.now) first }
+    ensures { result.items ≡ end_kind_line orders (end_text stops.now waiting.now) first }
 {
     let mut out = ArrayVec::new();
     push_number(&mut out, orders);
