@@ -1,5 +1,5 @@
 -- What was told of orders, under other names.
-use Rattle.std.proofs.Common.{◌≡◌, ℕ, zero, suc, ◌==◌, Bool, false, List, refl, subst}
+use Rattle.std.proofs.Common.{◌≡◌, ℕ, List, subst}
 use Rattle.ga_explorer.specs.EveryOrder.{IsTextOut}
 use Rattle.ga_explorer.specs.declared.every_order.Verdict.{Verdict}
 
@@ -8,8 +8,3 @@ pub out_as : (whole other text : List ℕ) (verdict its end : Verdict) → whole
 out_as whole other text verdict its end e f h =
     let P : List ℕ → Type 0 = λ t. IsTextOut t its text end in
     let Q : Verdict → Type 0 = λ v. IsTextOut whole v text end in subst P e (subst Q f h)
-
--- a number that isn't 0
-pub past_none : (asked : ℕ) (P : Bool → Type 0) → (asked ≡ 0 → ⊥) → P false → P (asked == 0)
-past_none zero P e h = absurd (e refl)
-past_none (suc n) P e h = h

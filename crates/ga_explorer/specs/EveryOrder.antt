@@ -1,14 +1,14 @@
 -- What `ga144 check` may write, and how it may end (docs/REFERENCE.md, "Every order"; this project's own). Orders are those of
 -- Mazurkiewicz, "Trace theory", 1987; each is run once, and no list of them is kept: Flanagan and Godefroid, "Dynamic partial-order
 -- reduction for model checking software", 2005.
-use Rattle.std.specs.Prelude.{◌≡◌, ℕ, ◌==◌, ◌⊎◌, Bool, true, false, not, ◌&&◌, ◌||◌, if◌then◌else◌, List, ◌++◌, Result, Ok, Err}
+use Rattle.std.specs.Prelude.{◌≡◌, ℕ, nat_lt, ◌⊎◌, Bool, true, false, not, ◌&&◌, ◌||◌, if◌then◌else◌, List, ◌++◌, Result, Ok, Err}
 use Rattle.std.specs.List.{list_any}
 use Rattle.ga_image.specs.Lines.{Bytes, Text}
 use Rattle.ga_event.specs.declared.event.Event.{Event}
 use Rattle.ga_lab.specs.Machine.{State, chip_of}
 use Rattle.ga_lab.specs.declared.fault.LabFault.TheVariants as fault
 use Rattle.ga_check.specs.Every.{IsSomeOrders, IsEveryOrder, ends_of}
-use Rattle.ga_check.specs.Reached.{IsEndReached}
+use Rattle.ga_check.specs.Reached.{IsOrderReached}
 use Rattle.ga_check.specs.Tallies.{IsTally}
 use Rattle.ga_check.specs.declared.tally.Tally.{Tally}
 use Rattle.ga_check.specs.declared.tally.EndKind.{EndKind}
@@ -32,11 +32,12 @@ abbrev pub IsTallyOf : State → Tally → Type 0
 IsTallyOf s tally = (runs : List (List Event)) × IsSomeOrders (chip_of s) runs × IsTally tally (ends_of (chip_of s) runs)
     × (tally.whole ≡ true → IsEveryOrder (chip_of s) runs)
 
--- What is found on a machine: such a tally; or the machine at the end of the order that is asked for; or there is no memory.
-abbrev pub IsSearched : State → Result Tally Stop → State → Type 0
-IsSearched s (Ok tally) last = IsTallyOf s tally
-IsSearched s (Err Reached) last = IsEndReached s last
-IsSearched s (Err Memory) last = Unit {0}
+-- What is found on a machine: such a tally; or the end of the order that is asked for, and last the machine there; or there is no
+-- memory.
+abbrev pub IsSearched : ℕ → State → Result Tally Stop → State → Type 0
+IsSearched asked s (Ok tally) last = IsTallyOf s tally
+IsSearched asked s (Err Reached) last = IsOrderReached s asked last
+IsSearched asked s (Err Memory) last = Unit {0}
 
 -- a node is stopped at such an end
 abbrev pub is_stop_fate : Fate → Bool
@@ -59,14 +60,14 @@ verdict_of tally = if tally.whole then (if is_faultless tally then Alike else Se
 abbrev pub no_order_verdict : Tally → Verdict
 no_order_verdict tally = if tally.whole then Ended ImageRefused else Open
 
--- what is said of a tally where an order is asked for by its number, or none (0), and the verdict
+-- what is said of a tally where an order is asked for by its number, of which there may be fewer, or none (0); and the verdict
 abbrev pub tally_text : ℕ → Tally → Text
-tally_text asked tally = if asked == 0 then orders_text tally else no_order_text asked tally
+tally_text asked tally = if nat_lt tally.orders asked then no_order_text asked tally else orders_text tally
 
 abbrev pub tally_verdict : ℕ → Tally → Verdict
-tally_verdict asked tally = if asked == 0 then verdict_of tally else no_order_verdict tally
+tally_verdict asked tally = if nat_lt tally.orders asked then no_order_verdict tally else verdict_of tally
 
--- of what was found; last is the machine behind the search
+-- of what was found
 abbrev pub found_text : ℕ → Result Tally Stop → State → Text
 found_text asked (Ok tally) last = tally_text asked tally
 found_text asked (Err Reached) last = saved_text last
@@ -84,7 +85,7 @@ IsTextOut whole verdict text end = ((text ≡ whole) × (end ≡ verdict)) ⊎ (
 pub record TellsOrders (asked : ℕ) (s : State) (text : Text) (verdict : Verdict) : Type 0 where
   pub found : Result Tally Stop
   pub last : State
-  pub is_searched : IsSearched s found last
+  pub is_searched : IsSearched asked s found last
   pub told : IsTextOut (found_text asked found last) (found_verdict asked found) text verdict
 
 -- An image or source was accepted, and what was found on its machine was told. Nothing is done with what was read behind it.

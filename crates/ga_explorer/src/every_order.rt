@@ -1,6 +1,6 @@
 //! Every order of a program's nodes, and what is told of them.
 
-ghost use Rattle.std.specs.Prelude.{◌≡◌, ◌++◌, Some};
+ghost use Rattle.std.specs.Prelude.{◌≡◌, ◌++◌, Some, nat_lt};
 ghost use Rattle.ga_image.specs.Lines.{Bytes};
 ghost use Rattle.ga_lab.specs.declared.fault.LabFault.TheVariants.{Memory};
 ghost use Rattle.ga_console.specs.Output.{IsSaidOrCut};
@@ -83,11 +83,18 @@ fn tell_tally<W: Write>(asked: u64, tally: &Tally, writer: &mut W) -> Verdict
         (text : Bytes) × (W.contents writer.new ≡ Some (before ++ text))
         × IsTextOut (tally_text asked tally.now) (tally_verdict asked tally.now) text result }
 {
-    if asked == 0 {
-        tell_all(tally, writer)
-    } else {
+    if is_missing(asked, tally) {
         tell_none(asked, tally, writer)
+    } else {
+        tell_all(tally, writer)
     }
+}
+
+/// Whether there are fewer orders than this number.
+fn is_missing(asked: u64, tally: &Tally) -> bool
+    ensures { result ≡ nat_lt tally.now.orders asked }
+{
+    tally.orders < asked
 }
 
 /// Tells how many orders there are, and how they end.

@@ -77,21 +77,17 @@ fn say_kinds<W: Write>(
 {
     output.say_blocks(writer, head_line(tally, kinds.len()).as_slice())?;
     'kinds: for kind in kinds {
-        say_kind(kind, output, writer)?;
+        say_kind(*kind, output, writer)?;
     }
     Ok(())
 }
 
 /// Says a kind of end.
-fn say_kind<W: Write>(
-    kind: &EndKind,
-    output: &mut Output,
-    writer: &mut W,
-) -> Result<(), WriteFailed>
+fn say_kind<W: Write>(kind: EndKind, output: &mut Output, writer: &mut W) -> Result<(), WriteFailed>
     ensures { (before said : Bytes) → IsSaid (W.contents writer.old) before said output.old →
-        IsSaidOrCut result (W.contents writer.new) before (said ++ end_kind_text kind.now) output.new }
+        IsSaidOrCut result (W.contents writer.new) before (said ++ end_kind_text kind) output.new }
 {
-    output.say_blocks(writer, kind_line(kind).as_slice())
+    output.say_blocks(writer, kind_line(&kind).as_slice())
 }
 
 /// Says that there is no order of this number, and how many there are.
@@ -265,9 +261,16 @@ fn stops_among(nodes: &[Fate; 144]) -> Stops
     let mut out = ArrayVec::new();
     'nodes: for number in 0..144u8 {
         let node = NodeId::new(number);
-        push_stop(&mut out, nodes[node.index()], node);
+        push_stop(&mut out, fate_at(nodes, node), node);
     }
     out
+}
+
+/// What a node does at an end.
+fn fate_at(nodes: &[Fate; 144], node: NodeId) -> Fate
+    ensures { result ≡ fate_at nodes.now node.number }
+{
+    nodes[node.index()]
 }
 
 /// Adds a node that is stopped.
@@ -291,7 +294,7 @@ fn waiting_among(nodes: &[Fate; 144]) -> AllWaiting
     let mut out = ArrayVec::new();
     'nodes: for number in 0..144u8 {
         let node = NodeId::new(number);
-        push_waiting_node(&mut out, nodes[node.index()], node);
+        push_waiting_node(&mut out, fate_at(nodes, node), node);
     }
     out
 }

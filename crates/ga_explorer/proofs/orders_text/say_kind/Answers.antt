@@ -5,5 +5,5 @@ use Rattle.ga_explorer.proofs.orders_text.say_kind.Goals as goal
 
 pub returns : goal.returns
 returns g c = λ before said h.
-    told_as c.say_blocks.result _ before said c.as_slice.result.now (end_kind_text c.args.kind.now) c.say_blocks.new.self
+    told_as c.say_blocks.result _ before said c.as_slice.result.now (end_kind_text c.args.kind) c.say_blocks.new.self
     (c.as_slice.ensures.value ∙ c.kind_line.ensures) (c.say_blocks.ensures before said h)

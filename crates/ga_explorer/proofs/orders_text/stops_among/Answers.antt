@@ -8,7 +8,8 @@ pub nodes-preserved : goal.nodes-preserved
 nodes-preserved c = record {
   len = omega (arith, c.push_stop.ensures.len, c.nodes.invariant.len);
   text = next_added (λ n. stop_item (fate_at c.args.nodes.now n) n) c.nodes.number c.new-node.result.number c.nodes.out.items c.push_stop.new.out.items _
-      (omega arith) c.new-node.ensures c.push_stop.ensures.text c.nodes.invariant.text;
+      (omega arith) c.new-node.ensures
+      (c.push_stop.ensures.text ∙ ap (λ (f : Fate). c.nodes.out.items ++ stop_item f c.new-node.result.number) c.fate_at.ensures) c.nodes.invariant.text;
 }
 
 pub returns : goal.returns
