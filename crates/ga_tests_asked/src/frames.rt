@@ -56,12 +56,18 @@ fn returned_calls_are_closed(rt: HostRuntime) -> Result<(), Fail> {
     let alloc = rt.alloc();
     let node = NodeId::new(0);
     let (lab, _) = begun(&rt, alloc, 14)?;
+    same(
+        &rt,
+        &spot_behind(&lab, node, 0),
+        &Some(Spot { cell: 0, slot: 0 }),
+    );
     let calls = open_calls(&lab, node);
     same(&rt, &calls.len(), &1);
     match calls.first() {
         Some(call) => {
             same(&rt, &call.step, &3);
-            same(&rt, &call.at, &spot_behind(&lab, node, 2));
+            // `call` stands in slot 1 of cell 0.
+            same(&rt, &call.at, &Some(Spot { cell: 0, slot: 1 }));
         }
         None => assert!(&rt; false),
     }
