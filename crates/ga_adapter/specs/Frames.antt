@@ -14,7 +14,7 @@ use Rattle.ga_adapter.specs.declared.calls.OpenCall.{OpenCall}
 use Rattle.ga_adapter.specs.declared.frames.SourceFile.{SourceFile}
 use Rattle.ga_adapter.specs.Calls.{open_calls}
 use Rattle.ga_adapter.specs.Json.{whole_number, array_of}
-use Rattle.ga_adapter.specs.Labels.{cell_words, word_at}
+use Rattle.ga_adapter.specs.Labels.{cell_words, spot_word}
 use Rattle.ga_adapter.specs.Numbers.{frame_of, chip_address}
 use Rattle.ga_adapter.specs.Spots.{present_spot}
 use Rattle.ga_adapter.specs.Variables.{memory_reference, places_asked}
@@ -55,7 +55,7 @@ frame_on file id name pointer (Some word) = lined_frame (source_object file) id 
 
 abbrev pub frame_at : SourceFile → Notes → NodeId → ℕ → Text → Option Spot → Data
 frame_at file notes node id name None = outside_frame id name
-frame_at file notes node id name (Some spot) = frame_on file id name (memory_reference (chip_address node.number spot.cell)) (word_at notes node spot)
+frame_at file notes node id name (Some spot) = frame_on file id name (memory_reference (chip_address node.number spot.cell)) (spot_word notes node spot)
 
 abbrev pub frame : SourceFile → Notes → NodeId → ℕ → Option Spot → Data
 frame file notes node level spot = frame_at file notes node (frame_of node.number level) (frame_name notes node spot) spot

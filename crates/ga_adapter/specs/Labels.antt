@@ -48,11 +48,11 @@ abbrev pub note_of_cell : Notes → NodeId → ℕ → Option Note
 note_of_cell notes node cell = option_and_then (slice_get notes.notes.items) (position (is_note_of node cell) notes.notes.items)
 
 -- the word of the source from which a slot comes, and the line on which it stands
-abbrev pub word_at : Notes → NodeId → Spot → Option SlotWord
-word_at notes node spot = slot_word_of notes.words.items node spot.cell spot.slot
+abbrev pub spot_word : Notes → NodeId → Spot → Option SlotWord
+spot_word notes node spot = slot_word_of notes.words.items node spot.cell spot.slot
 
 abbrev pub line_at : Notes → NodeId → Spot → Option ℕ
-line_at notes node spot = option_map (λ (word : SlotWord). word.line) (word_at notes node spot)
+line_at notes node spot = option_map (λ (word : SlotWord). word.line) (spot_word notes node spot)
 
 -- the first word of a line from which a slot of an instruction word of the node comes
 abbrev pub is_on_line : NodeId → ℕ → ToldWord → Bool

@@ -9,7 +9,7 @@ ghost use Rattle.ga_adapter.specs.Frames.{source_object, lined_frame, bare_frame
 ghost use Rattle.ga_adapter.specs.Variables.{memory_reference, places_asked};
 
 use crate::calls::{OpenCall, open_calls};
-use crate::labels::{add_cell, word_at};
+use crate::labels::{add_cell, spot_word};
 use crate::numbers::{chip_address, frame_of};
 use crate::spots::{Spot, spot_behind};
 use crate::texts::{add_node, address_text};
@@ -136,7 +136,7 @@ fn frame(
     match spot {
         None => outside_frame(alloc, id, name.as_str()),
         Some(spot) => {
-            let word = word_at(notes, node, spot);
+            let word = spot_word(notes, node, spot);
             frame_on(
                 alloc,
                 file,

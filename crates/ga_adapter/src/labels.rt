@@ -4,7 +4,7 @@ ghost use Rattle.std.specs.Prelude.{◌≡◌, ◌++◌, ◌/◌, ◌*◌, ◌%�
 ghost use Rattle.std.specs.Str.Lossy.{utf8_lossy};
 ghost use Rattle.ga_notes.specs.Notes.{is_note_of};
 ghost use Rattle.ga_notes.specs.Source.{nearest_found};
-ghost use Rattle.ga_adapter.specs.Labels.{is_same_cell, is_name_at, place_of_label, label_of_cell, label_near, behind_words, cell_words, note_of_cell, word_at, line_at, is_on_line, line_start};
+ghost use Rattle.ga_adapter.specs.Labels.{is_same_cell, is_name_at, place_of_label, label_of_cell, label_near, behind_words, cell_words, note_of_cell, spot_word, line_at, is_on_line, line_start};
 
 use crate::spots::{Spot, cell_of};
 use crate::texts::add_hex2;
@@ -122,8 +122,8 @@ fn place_of_note(notes: &[Note], node: NodeId, cell: u8) -> Option<usize>
 }
 
 /// The word of the source from which a slot comes.
-pub(crate) fn word_at(notes: &Notes, node: NodeId, spot: Spot) -> Option<SlotWord>
-    ensures { result ≡ word_at notes.now node spot }
+pub(crate) fn spot_word(notes: &Notes, node: NodeId, spot: Spot) -> Option<SlotWord>
+    ensures { result ≡ spot_word notes.now node spot }
 {
     notes.slot_word(node, spot.cell, usize::from(spot.slot))
 }
@@ -132,7 +132,7 @@ pub(crate) fn word_at(notes: &Notes, node: NodeId, spot: Spot) -> Option<SlotWor
 pub(crate) fn line_at(notes: &Notes, node: NodeId, spot: Spot) -> Option<u32>
     ensures { result ≡ line_at notes.now node spot }
 {
-    match word_at(notes, node, spot) {
+    match spot_word(notes, node, spot) {
         Some(word) => Some(word.line),
         None => None,
     }
