@@ -36,5 +36,6 @@ pub use beginning::begin;
 pub use explorer::Explorer;
 pub use front::{close, is_cut_off};
 pub use request::ExplorerCommand;
+pub use saved_text::say_saved;
 pub use session::explore;
 pub use which::Which;
