@@ -27,17 +27,3 @@ moments_next s place next causes moments moment up l is made i from within =
 
 pub moments_all : (s : State) (place : ℕ) (causes : List Cause) (moments : List Moment) → place ≤ 0 → length moments ≡ length causes → AreMomentsFrom s place causes moments → AreMoments s causes moments
 moments_all s place causes moments low size made = record { size = size; each = λ i from within. made i (omega (arith, low)) within }
-
-one_most : (b : Bool) → cond {A = ℕ} b 1 0 ≤ 1
-one_most true = omega arith
-one_most false = omega arith
-
--- a node makes no more steps than there are events
-pub steps_few : (n : ℕ) (es : List Event) (p : ℕ) → steps_of n (take p es) ≤ p
-steps_few n es zero = omega arith
-steps_few n [] (suc p) = omega arith
-steps_few n (e ∷ es) (suc p) =
-    let x = steps-cons n e (take p es) in
-    let y = one_most (touches e n) in
-    let z = steps_few n es p in
-    omega (arith, x, y, z)

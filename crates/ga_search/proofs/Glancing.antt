@@ -37,7 +37,6 @@ use Rattle.ga_search.specs.declared.glances.Glance.{Glance}
 use Rattle.ga_search.specs.declared.readings.Reading.{Reading}
 use Rattle.ga_search.proofs.Acting.{Made, made_at, cause_at, cause_there, causes_are, causes_long}
 use Rattle.ga_search.proofs.NearReadings.{kept_caused, one_place}
-use Rattle.ga_search.proofs.AtMoments.{steps_few}
 use Rattle.ga_search.proofs.Placed.{steps_at}
 use Rattle.ga_search.proofs.Posted.{stood_alike}
 use Rattle.ga_search.proofs.Standing.{Stands, stands_somewhere}
@@ -57,21 +56,6 @@ beside_first {w} {r} n is on = ap first_part is ∙ sym (ap (λ (b : Bool). cond
 
 pub beside_last : {e : Event} {w r : NodeId} {side : Side} (n : ℕ) → e ≡ Pass w r side → are_linked n w.number ≡ false → last_part e ≡ part_beside e n
 beside_last {w} {r} n is off = ap last_part is ∙ sym (ap (λ (b : Bool). cond {A = NodeId} b w r) off) ∙ sym (ap (λ (z : Event). part_beside z n) is)
-
--- before its event a node made fewer steps than there are events
-pub few_before : (s : State) (causes : List Cause) (moments : List Moment) (p : ℕ) (e : Cause) (at : Moment) → AreMoments s causes moments → p < length causes → e ≡ get_or causes p e → at ≡ get_or moments p no_moment → at.first ≤ p
-few_before s causes moments p e at known l is told =
-    let m : IsMoment s p e at = moment_is s causes moments p e at known l is told in
-    let q : at.first ≡ steps_of (first_part e.event).number (take p s.kept) = m.first in
-    let few = steps_few (first_part e.event).number s.kept p in
-    omega (arith, q, few)
-
-pub few_beside : (s : State) (causes : List Cause) (moments : List Moment) (p n before : ℕ) (e : Cause) (at : Moment) → AreMoments s causes moments → p < length causes → e ≡ get_or causes p e → at ≡ get_or moments p no_moment
-    → ((s : State) (p : ℕ) → IsMoment s p e at → before ≡ steps_of (part_beside e.event n).number (take p s.kept)) → before ≤ p
-few_beside s causes moments p n before e at known l is told count =
-    let q = count s p (moment_is s causes moments p e at known l is told) in
-    let few = steps_few (part_beside e.event n).number s.kept p in
-    omega (arith, q, few)
 
 -- as the code reads them
 pub glanced : (s : State) (last : List NodeRecord) (causes : List Cause) (moments : List Moment) (near : Near) (e f : Cause) (at by : Moment) (node neighbour : NodeId) (before : ℕ)
