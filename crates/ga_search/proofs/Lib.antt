@@ -31,3 +31,7 @@ pub mod Earlier
 pub mod Fronts
 pub mod Backing
 pub mod FoundSteps
+pub mod AtMoments
+pub mod Glancing
+pub mod Showing
+pub mod Lefts

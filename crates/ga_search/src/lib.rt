@@ -2,15 +2,18 @@
 #![tactic(auto)]
 
 mod acts;
+mod around;
 mod condition;
 mod counting;
 mod edges;
 mod effects;
 mod freed;
+mod glances;
 mod going_back;
 mod idle;
 pub mod laws;
 mod left;
+mod moments;
 mod needs;
 mod numbers;
 mod offers;
