@@ -1,18 +1,16 @@
 //! A node gone back by lines of its source.
 
-ghost use Rattle.std.specs.Prelude.{◌≡◌, ◌<◌, ◌≤◌, map, IfSome, option_and_then};
+ghost use Rattle.std.specs.Prelude.{◌≡◌, ◌<◌, ◌≤◌, map, IfSome};
 ghost use Rattle.std.specs.List.{range_with_len};
-ghost use Rattle.ga_notes.specs.Notes.{line_address};
-ghost use Rattle.ga_notes.specs.Source.{cell_of_address};
 ghost use Rattle.ga_event.specs.Told.{steps_of};
 ghost use Rattle.ga_adapter.specs.Calls.{put_by, is_calling, entries_from};
 ghost use Rattle.ga_adapter.specs.kept.Shifts.{entry_before};
 ghost use Rattle.ga_adapter.specs.Stepping.{op_told, is_return_op, is_jump, place_back, line_on_spot, begins_at, comes_on, begins_behind, beginning_from, stepped_back_line};
 
 use crate::calls::{Shift, shift_by};
-use crate::labels::{is_same_cell, line_at};
+use crate::labels::{line_at, line_start};
 use crate::moves::go_back;
-use crate::spots::{Spot, cell_of, spot_back};
+use crate::spots::{Spot, spot_back};
 use ga_grid::NodeId;
 use ga_lab::{Lab, Made};
 use ga_node::Kind;
@@ -155,18 +153,14 @@ fn line_on_spot(notes: &Notes, node: NodeId, spot: Option<Spot>) -> Option<u32>
     line_at(notes, node, spot?)
 }
 
-/// Whether a slot is the first of the first word that a line begins.
+/// Whether a slot is the first of a line.
 fn begins_at(notes: &Notes, node: NodeId, line: u32, spot: Spot) -> bool
     ensures { result ≡ begins_at notes.now node line spot }
 {
-    spot.slot == 0 && is_same_cell(spot.cell, line_cell(notes, node, line))
-}
-
-/// The cell of the first word that a line begins.
-fn line_cell(notes: &Notes, node: NodeId, line: u32) -> Option<u8>
-    ensures { result ≡ option_and_then cell_of_address (line_address notes.now.notes.items node line) }
-{
-    cell_of(notes.line_address(node, line)?)
+    match line_start(notes, node, line) {
+        Some(word) => word.cell == spot.cell && word.first == usize::from(spot.slot),
+        None => false,
+    }
 }
 
 /// Whether a node that stands there, by this step, came to a line: from another, or by a jump to its first slot.
