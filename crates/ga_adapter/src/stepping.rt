@@ -192,6 +192,9 @@ pub fn begins_behind(lab: &Lab, notes: &Notes, node: NodeId, step: u32) -> bool
     requires { step < steps_of node.number lab.now.kept }
     ensures { result ≡ begins_behind notes.now lab.now node step }
 {
+    // It is less than the node's steps, so that one more can be counted.
+    let steps = lab.steps(node);
+    prove!(step < steps);
     let before = place_back(lab, node, step);
     let mut walk = lab.walk(node, step + 1);
     let spot = spot_back(lab, &mut walk, node, step + 1);

@@ -12,15 +12,15 @@ use Rattle.ga_search.specs.Watched.{told_first, first_moved, after_first, Watchi
 use Rattle.ga_breakpoints.specs.declared.breakpoint.Breakpoint.{Breakpoint}
 use Rattle.ga_breakpoints.specs.declared.going.Halt.{Halt}
 use Rattle.ga_breakpoints.specs.declared.going.Halt.TheVariants as the_halt
-use Rattle.ga_breakpoints.specs.Breakpoints.{first_hit, is_stopping, halts}
-use Rattle.ga_breakpoints.specs.Going.{Going, halts_told, halts_behind, NeverHalts, IsFirst, HasWent}
+use Rattle.ga_breakpoints.specs.Breakpoints.{first_hit, is_stopping, ends_early}
+use Rattle.ga_breakpoints.specs.Going.{Course, halts_told, halts_behind, NeverHalts, IsFirst, HasWent}
 use Rattle.ga_breakpoints.specs.kept.Halting.{halt_hit, halt_by, halt_of}
 
 -- the watch ends a run where the move halts
-abbrev pub AreAlike : {W : Type 0} → Watching W → W → Running → Going → Type 0
+abbrev pub AreAlike : {W : Type 0} → Watching W → W → Running → Course → Type 0
 AreAlike by w r g = (k : ℕ) → ends_behind by w r k ≡ halts_behind g r k
 
-never_so : {W : Type 0} (by : Watching W) (w : W) (r : Running) (g : Going) (n : ℕ) → AreAlike by w r g → NeverEnds by w r n → NeverHalts g r n
+never_so : {W : Type 0} (by : Watching W) (w : W) (r : Running) (g : Course) (n : ℕ) → AreAlike by w r g → NeverEnds by w r n → NeverHalts g r n
 never_so by w r g n alike never k l = sym (alike k) ∙ never k l
 
 -- by an event that hits, stops or moves
@@ -29,7 +29,7 @@ or_right true b c h k is = absurd (cc)
 or_right false true c h k is = absurd (cc)
 or_right false false c h k is = is
 
-hit_so : (g : Going) (r : Running) (most n k : ℕ) (told : Made) (s : State) (hit : Option ℕ) (stopping : Bool) → s ≡ (first_moved g.node (after_first g.node r k)).state → IsFirst g r n k told
+hit_so : (g : Course) (r : Running) (most n k : ℕ) (told : Made) (s : State) (hit : Option ℕ) (stopping : Bool) → s ≡ (first_moved g.node (after_first g.node r k)).state → IsFirst g r n k told
     → first_hit g.breakpoints told s ≡ hit → is_stopping g.stops g.node told ≡ stopping → ((is_some hit || stopping) || g.ends k told s) ≡ true
     → HasWent g r most n (halt_hit stopping told hit)
 hit_so g r most n k told s (Some which) stopping at first is stop ends = (k, first, ap (first_hit g.breakpoints told) (sym at) ∙ is)
@@ -40,7 +40,7 @@ hit_so g r most n k told s None false at first is stop ends =
 after_more : (first : Option NodeId) (r : Running) (n k : ℕ) → n ≡ k + 1 → after_first first r n ≡ first_moved first (after_first first r k)
 after_more first r n k e = ap (after_first first r) (e ∙ add-one k)
 
-pub went_so : {W : Type 0} (ends : W → Made → State → Bool) (seen : W → Made → State → W) (w : W) (r now : Running) (g : Going) (most n : ℕ) (end : WatchedEnd) (halt : Halt)
+pub went_so : {W : Type 0} (ends : W → Made → State → Bool) (seen : W → Made → State → W) (w : W) (r now : Running) (g : Course) (most n : ℕ) (end : WatchedEnd) (halt : Halt)
     → AreAlike (watching g.node ends seen) w r g → now ≡ after_first g.node r n → HasEndedWatched (watching g.node ends seen) w r most n end
     → halt ≡ halt_of g.breakpoints g.stops g.node now.state end → HasWent g r most n halt
 went_so ends seen w r now g most n (the_end.Seen told) halt alike at h is =

@@ -1,2 +1,3 @@
 pub mod Present
 pub mod Halting
+pub mod Moving

@@ -40,12 +40,12 @@ breakpoint_of_address node address = option_map (λ cell. on_slot node cell 0) (
 
 -- Behind what was made, on the machine that it left: the node came to the slot by this step, or stored in the cell of RAM, of which each has two
 -- addresses.
-abbrev pub does : Watched → NodeId → Made → State → Bool
-does (Comes at) node told s = is_step_of node.number told && comes_to s node at (steps_of node.number s.kept - 1)
-does (Writes address) node told s = holds (condition.Writes node (address % 64) None) told s
+abbrev pub has_done : Watched → NodeId → Made → State → Bool
+has_done (Comes at) node told s = is_step_of node.number told && comes_to s node at (steps_of node.number s.kept - 1)
+has_done (Writes address) node told s = holds (condition.Writes node (address % 64) None) told s
 
 abbrev pub is_hit : Made → State → Breakpoint → Bool
-is_hit told s one = does one.watched one.node told s
+is_hit told s one = has_done one.watched one.node told s
 
 -- the place of the first of some breakpoints that is hit
 abbrev pub first_hit : List Breakpoint → Made → State → Option ℕ
@@ -61,5 +61,5 @@ is_stop_at (Some node) told = is_own_at node.number is_stop told
 abbrev pub is_stopping : Bool → Option NodeId → Made → Bool
 is_stopping stops node told = stops && is_own is_stop told || is_stop_at node told
 
-abbrev pub halts : List Breakpoint → Bool → Option NodeId → Made → State → Bool
-halts breakpoints stops node told s = is_some (first_hit breakpoints told s) || is_stopping stops node told
+abbrev pub ends_early : List Breakpoint → Bool → Option NodeId → Made → State → Bool
+ends_early breakpoints stops node told s = is_some (first_hit breakpoints told s) || is_stopping stops node told

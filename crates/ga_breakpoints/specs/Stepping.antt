@@ -1,7 +1,7 @@
 -- Steps of one node (Debug Adapter Protocol, "NextRequest", "StepInRequest", "StepOutRequest", "SteppingGranularity"). A line begins forward where it
 -- does backward: `begins_behind` of ga_adapter.
-use Rattle.std.specs.Prelude.{ℕ, zero, suc, ◌+◌, ◌-◌, ◌==◌, Bool, true, false, ◌&&◌, not, if◌then◌else◌, List, [], ◌∷◌, map, slice_index_or, position, Option, Some, None, option_map}
-use Rattle.std.specs.List.{range_with_len, list_any}
+use Rattle.std.specs.Prelude.{ℕ, zero, suc, ◌-◌, ◌==◌, Bool, true, false, ◌&&◌, if◌then◌else◌, is_none, position, Option, Some, None, option_map}
+use Rattle.std.specs.List.{range_with_len}
 use Rattle.ga_grid.specs.declared.node_id.NodeId.{NodeId}
 use Rattle.ga_event.specs.declared.made.Made.{Made}
 use Rattle.ga_event.specs.Told.{steps_of}
@@ -16,32 +16,26 @@ use Rattle.ga_breakpoints.specs.declared.stepping.Grain.{Grain}
 use Rattle.ga_breakpoints.specs.declared.stepping.Grain.TheVariants.{Instruction, Line}
 use Rattle.ga_breakpoints.specs.declared.stepping.Stepping.{Stepping}
 
--- ---- the calls that a move goes over: of each place of the return stack whether the entry there is such a call's
+-- ---- the call from which the node is to come back first, by the place of the return stack at which its entry stands
 
-abbrev pub no_calls : List Bool
-no_calls = map (λ place. false) (range_with_len 0 9)
+abbrev pub is_from : ℕ → Option ℕ → Bool
+is_from place None = false
+is_from place (Some from) = from == place
 
--- an entry that the step put there is one where that is said, and any other where it was one before
-abbrev pub stays_marked : List Bool → Bool → Option ℕ → Bool
-stays_marked calls new None = new
-stays_marked calls new (Some place) = slice_index_or calls place false
-
--- behind the step after so many of a node, where the calls that it makes are gone over or not
-abbrev pub calls_behind : State → NodeId → ℕ → Bool → List Bool → List Bool
-calls_behind s node k over calls = map (stays_marked calls (over && is_calling s node (k + 1))) (entries_from s node k)
-
-abbrev pub is_within : List Bool → Bool
-is_within calls = list_any (λ marked. marked) calls
+-- behind the node's newest step: an entry is followed; and a call that is made is one, where calls are gone over
+abbrev pub call_behind : State → NodeId → Bool → Option ℕ → Option ℕ
+call_behind s node over (Some place) = position (is_from place) (entries_from s node (steps_of node.number s.kept - 1))
+call_behind s node over None = if over && is_calling s node (steps_of node.number s.kept) then Some 0 else None
 
 -- ---- the moves
 
 -- to the node's next step, or to where a line of its source begins
 abbrev pub step_in : NodeId → Grain → Stepping
-step_in node grain = record { node = node; grain = grain; over = false; calls = no_calls }
+step_in node grain = record { node = node; grain = grain; over = false; call = None }
 
 -- the same over the calls that it makes
 abbrev pub step_over : NodeId → Grain → Stepping
-step_over node grain = record { node = node; grain = grain; over = true; calls = no_calls }
+step_over node grain = record { node = node; grain = grain; over = true; call = None }
 
 -- back from the newest call that is open: to where its entry stands no more on the return stack
 abbrev pub is_open_at : State → NodeId → ℕ → Bool
@@ -51,7 +45,7 @@ abbrev pub open_place : State → NodeId → Option ℕ
 open_place s node = position (is_open_at s node) (range_with_len 0 9)
 
 abbrev pub out_from : NodeId → ℕ → Stepping
-out_from node newest = record { node = node; grain = Instruction; over = false; calls = map (λ place. place == newest) (range_with_len 0 9) }
+out_from node newest = record { node = node; grain = Instruction; over = false; call = Some newest }
 
 abbrev pub step_out : State → NodeId → Option Stepping
 step_out s node = option_map (out_from node) (open_place s node)
@@ -60,21 +54,18 @@ step_out s node = option_map (out_from node) (open_place s node)
 
 -- the move behind what was made, on the machine that it left
 abbrev pub step_seen : Stepping → Made → State → Stepping
-step_seen by told s =
-    if is_step_of by.node.number told
-    then record by { calls = calls_behind s by.node (steps_of by.node.number s.kept - 1) by.over by.calls }
-    else by
+step_seen by told s = if is_step_of by.node.number told then record by { call = call_behind s by.node by.over by.call } else by
 
 -- the newest step of the node is one by which a move of that grain can end
 abbrev pub reaches_end : Grain → Notes → NodeId → State → ℕ → Bool
 reaches_end Instruction notes node s k = true
 reaches_end Line notes node s k = begins_behind notes s node k
 
--- the move came to its end: the node made a step, behind which it is within none of the calls
+-- the move came to its end: the node made a step, and no call is to come back
 abbrev pub is_moved : Notes → Stepping → Made → State → Bool
 is_moved notes by told s =
     is_step_of by.node.number told
-    && (not (is_within (step_seen by told s).calls) && reaches_end by.grain notes by.node s (steps_of by.node.number s.kept - 1))
+    && (is_none (call_behind s by.node by.over by.call) && reaches_end by.grain notes by.node s (steps_of by.node.number s.kept - 1))
 
 -- ---- the node's events, and others while it has none
 

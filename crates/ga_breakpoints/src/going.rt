@@ -2,7 +2,7 @@
 
 ghost use Rattle.std.specs.Prelude.{◌≡◌, ◌≤◌};
 ghost use Rattle.ga_search.specs.Running.{running, after_events};
-ghost use Rattle.ga_search.specs.Watched.{IsNewest, IsNewestSeen};
+ghost use Rattle.ga_search.specs.Watched.{IsNewestMade, IsNewestSeen};
 ghost use Rattle.ga_breakpoints.specs.Going.{HasWent, going_on};
 ghost use Rattle.ga_breakpoints.specs.kept.Halting.{halt_by, halt_of};
 
@@ -42,7 +42,7 @@ pub struct Went {
 
 /// Why a move ended by the newest event of a lab.
 fn halt_by(lab: &Lab, halts: &Halts<'_>, node: Option<NodeId>, made: Made) -> Halt
-    requires { IsNewest lab.now made }
+    requires { IsNewestMade lab.now made }
     ensures { result ≡ halt_by halts.now.breakpoints.now halts.now.stops node made lab.now }
 {
     if let Some(which) = first_hit(halts.breakpoints, &made, lab) {

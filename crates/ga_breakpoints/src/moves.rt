@@ -1,11 +1,12 @@
 //! A move of one node.
 
-ghost use Rattle.std.specs.Prelude.{◌≡◌, ◌-◌, ◌+◌, ◌<◌, ◌≤◌, Some, true, map, length};
+ghost use Rattle.std.specs.Prelude.{◌≡◌, ◌-◌, ◌<◌, ◌≤◌, ◌&&◌, Some, true, position};
 ghost use Rattle.ga_event.specs.Told.{steps_of};
 ghost use Rattle.ga_search.specs.Conditions.{is_step_of};
 ghost use Rattle.ga_search.specs.Running.{running};
-ghost use Rattle.ga_search.specs.Watched.{IsNewest, after_first};
-ghost use Rattle.ga_breakpoints.specs.Stepping.{stays_marked, calls_behind, is_within, step_seen, reaches_end, is_moved, stepped_on};
+ghost use Rattle.ga_search.specs.Watched.{IsNewestMade, after_first};
+ghost use Rattle.ga_adapter.specs.Calls.{is_calling, entries_from};
+ghost use Rattle.ga_breakpoints.specs.Stepping.{is_from, call_behind, step_seen, reaches_end, is_moved, stepped_on};
 ghost use Rattle.ga_breakpoints.specs.Going.{HasWent, stepping_on};
 
 use crate::going::{Went, went};
@@ -25,56 +26,51 @@ struct Steps<'a> {
     stepping: Stepping,
 }
 
-/// Whether an entry of the return stack is one that is marked, by where it stood before; a new one is where that is said.
-fn stays_marked(calls: &[bool; 9], new: bool, from: Option<u8>) -> bool
-    ensures { result ≡ stays_marked calls.now new from }
+/// Whether an entry of the return stack stood at this place before.
+fn is_from(from: Option<u8>, place: usize) -> bool
+    ensures { result ≡ is_from place from }
 {
     match from {
-        Some(place) => match calls.get(place as usize) {
-            Some(marked) => *marked,
-            None => false,
-        },
-        None => new,
+        Some(from) => usize::from(from) == place,
+        None => false,
     }
 }
 
-/// The marks behind a step of a node.
-fn calls_behind(lab: &Lab, node: NodeId, step: u32, over: bool, calls: &[bool; 9]) -> [bool; 9]
-    requires { step < steps_of node.number lab.now.kept }
-    ensures { result ≡ calls_behind lab.now node step over calls.now }
+/// Where the entry stands behind the node's newest step that stood at a place before.
+fn place_behind(lab: &Lab, node: NodeId, place: usize) -> Option<usize>
+    ensures { result ≡ position (is_from place) (entries_from lab.now node (steps_of node.number lab.now.kept - 1)) }
 {
-    let new = over && is_calling(lab, node, step + 1);
-    let from = entries_from(lab, node, step);
-    marks_from(calls, new, &from)
+    let steps = lab.steps(node);
+    let entries = entries_from(lab, node, steps.saturating_sub(1));
+    entries.iter().position(|from| is_from(*from, place))
 }
 
-/// The marks by where each entry stood before.
-fn marks_from(calls: &[bool; 9], new: bool, from: &[Option<u8>; 9]) -> [bool; 9]
-    ensures { result ≡ map (stays_marked calls.now new) from.now }
+/// Whether the node's newest step was a call, where calls are gone over.
+fn is_gone_over(lab: &Lab, node: NodeId, over: bool) -> bool
+    ensures { result ≡ (over && is_calling lab.now node (steps_of node.number lab.now.kept)) }
 {
-    [
-        stays_marked(calls, new, from[0]),
-        stays_marked(calls, new, from[1]),
-        stays_marked(calls, new, from[2]),
-        stays_marked(calls, new, from[3]),
-        stays_marked(calls, new, from[4]),
-        stays_marked(calls, new, from[5]),
-        stays_marked(calls, new, from[6]),
-        stays_marked(calls, new, from[7]),
-        stays_marked(calls, new, from[8]),
-    ]
+    over && is_calling(lab, node, lab.steps(node))
 }
 
-/// Whether a node is within a call that is marked.
-fn is_within(calls: &[bool; 9]) -> bool
-    ensures { result ≡ is_within calls.now }
+/// The call from which the node is to come back first, behind its newest step.
+fn call_behind(lab: &Lab, node: NodeId, over: bool, call: Option<usize>) -> Option<usize>
+    ensures { result ≡ call_behind lab.now node over call }
 {
-    calls.iter().any(|marked| *marked)
+    match call {
+        Some(place) => place_behind(lab, node, place),
+        None => {
+            if is_gone_over(lab, node, over) {
+                Some(0)
+            } else {
+                None
+            }
+        }
+    }
 }
 
 /// By how many steps of a node its newest one was preceded, where the newest event is one.
 fn newest_step(lab: &Lab, made: &Made, node: NodeId) -> u32
-    requires newest { IsNewest lab.now made.now }
+    requires newest { IsNewestMade lab.now made.now }
     requires own { is_step_of node.number made.now ≡ true }
     ensures step { result ≡ steps_of node.number lab.now.kept - 1 }
     ensures within { result < steps_of node.number lab.now.kept }
@@ -86,15 +82,13 @@ fn newest_step(lab: &Lab, made: &Made, node: NodeId) -> u32
 
 /// A move behind the newest event.
 fn step_seen(lab: &Lab, by: Stepping, made: &Made) -> Stepping
-    requires { IsNewest lab.now made.now }
     ensures { result ≡ step_seen by made.now lab.now }
 {
     if !is_step_of(made, by.node) {
         return by;
     }
-    let step = newest_step(lab, made, by.node);
-    let calls = calls_behind(lab, by.node, step, by.over, &by.calls);
-    Stepping { calls, ..by }
+    let call = call_behind(lab, by.node, by.over, by.call);
+    Stepping { call, ..by }
 }
 
 /// Whether a move of this grain can end by a step of a node.
@@ -108,16 +102,16 @@ fn reaches_end(lab: &Lab, notes: &Notes, node: NodeId, grain: Grain, step: u32) 
     }
 }
 
-/// Whether a move comes to its end by the newest event, behind which these are its marks.
-fn is_moved(lab: &Lab, notes: &Notes, by: &Stepping, calls: &[bool; 9], made: &Made) -> bool
-    requires newest { IsNewest lab.now made.now }
-    requires calls { calls.now ≡ (step_seen by.now made.now lab.now).calls }
+/// Whether a move comes to its end by the newest event, behind which this call is to come back.
+fn is_moved(lab: &Lab, notes: &Notes, by: &Stepping, call: Option<usize>, made: &Made) -> bool
+    requires newest { IsNewestMade lab.now made.now }
+    requires call { is_step_of by.now.node.number made.now ≡ true → call ≡ call_behind lab.now by.now.node by.now.over by.now.call }
     ensures { result ≡ is_moved notes.now by.now made.now lab.now }
 {
     if !is_step_of(made, by.node) {
         return false;
     }
-    if is_within(calls) {
+    if call.is_some() {
         return false;
     }
     let step = newest_step(lab, made, by.node);
@@ -126,10 +120,10 @@ fn is_moved(lab: &Lab, notes: &Notes, by: &Stepping, calls: &[bool; 9], made: &M
 
 impl<'a> Watch for Steps<'a> {
     ghost use Rattle.std.specs.Prelude.{Some, ◌||◌};
-    ghost use Rattle.ga_breakpoints.specs.Breakpoints.{halts};
+    ghost use Rattle.ga_breakpoints.specs.Breakpoints.{ends_early};
     ghost use Rattle.ga_breakpoints.specs.Stepping.{step_seen, is_moved};
 
-    ghost ends = { λ w told s. halts w.halts.breakpoints.now w.halts.stops (Some w.stepping.node) told s || is_moved w.notes.now w.stepping told s };
+    ghost ends = { λ w told s. ends_early w.halts.breakpoints.now w.halts.stops (Some w.stepping.node) told s || is_moved w.notes.now w.stepping told s };
 
     ghost seen = { λ w told s. record w { stepping = step_seen w.stepping told s } };
 
@@ -138,7 +132,7 @@ impl<'a> Watch for Steps<'a> {
         let next = step_seen(lab, by, made);
         self.stepping = next;
         is_halting(&self.halts, Some(by.node), made, lab)
-            || is_moved(lab, self.notes, &by, &next.calls, made)
+            || is_moved(lab, self.notes, &by, next.call, made)
     }
 }
 

@@ -1,31 +1,27 @@
 //! A node as it stands.
 
-ghost use Rattle.std.specs.Prelude.{◌≡◌, false, true};
-ghost use Rattle.ga_grid.specs.Chip.{record_at};
+ghost use Rattle.std.specs.Prelude.{◌≡◌, false};
+ghost use Rattle.ga_node.specs.Record.{record_of};
 ghost use Rattle.ga_event.specs.Told.{steps_of};
-ghost use Rattle.ga_lab.specs.Machine.{chip_of};
 ghost use Rattle.ga_notes.specs.Source.{cell_of_address};
 ghost use Rattle.ga_adapter.specs.Labels.{is_same_cell};
 ghost use Rattle.ga_adapter.specs.Moves.{is_at_spot};
 ghost use Rattle.ga_adapter.specs.Spots.{spot_behind};
+ghost use Rattle.ga_breakpoints.specs.kept.Standing.{may_be};
 
 use crate::breakpoint::cell_of;
 use ga_adapter::Spot;
 use ga_grid::NodeId;
 use ga_lab::Lab;
-use ga_node::Place;
+use ga_node::{Node, Place};
 
-/// The slot that comes next; 4 where a fetch is due.
-fn slot_of(lab: &Lab, node: NodeId) -> u32
-    ensures { result ≡ (record_at (chip_of lab.now) node.number).slot }
+/// The slot that comes next, 4 where a fetch is due, and P.
+#[tactic(auto, unfolding(ga_node::specs::Record::record_of))]
+fn slot_and_p(node: &Node) -> (u8, u32)
+    ensures slot { result.0 ≡ (record_of node.now).slot }
+    ensures p { result.1 ≡ (record_of node.now).p }
 {
-    lab.node(node).get(Place::Slot)
-}
-
-fn p_of(lab: &Lab, node: NodeId) -> u32
-    ensures { result ≡ (record_at (chip_of lab.now) node.number).p }
-{
-    lab.node(node).get(Place::P)
+    (node.get(Place::Slot) as u8, node.get(Place::P))
 }
 
 /// Whether an address names the cell.
@@ -38,14 +34,22 @@ fn names(address: u32, cell: u8) -> bool
     }
 }
 
+/// Whether a node may stand at a slot, by the slot that comes next and P.
+fn may_be(slot: u8, p: u32, at: Spot) -> bool
+    ensures { result ≡ may_be slot p at }
+{
+    if slot == 4 {
+        at.slot == 0 && names(p, at.cell)
+    } else {
+        slot == at.slot
+    }
+}
+
 /// Whether a node may stand at a slot, by what comes next in it: where it doesn't, no word has to be looked back for.
 pub(crate) fn may_stand(lab: &Lab, node: NodeId, at: Spot) -> bool
     ensures { result ≡ false → is_at_spot at (spot_behind lab.now node (steps_of node.number lab.now.kept)) ≡ false }
 {
-    let slot = slot_of(lab, node);
-    if slot == 4 {
-        at.slot == 0 && names(p_of(lab, node), at.cell)
-    } else {
-        slot == u32::from(at.slot)
-    }
+    let now = lab.node(node);
+    let (slot, p) = slot_and_p(now);
+    may_be(slot, p, at)
 }

@@ -3,7 +3,7 @@
 ghost use Rattle.std.specs.Prelude.{◌≡◌, ◌==◌, ◌-◌, ◌<◌, map, IfSome};
 ghost use Rattle.std.specs.List.{range_with_len};
 ghost use Rattle.ga_event.specs.Told.{steps_of};
-ghost use Rattle.ga_breakpoints.specs.Stepping.{is_open_at, open_place, no_calls};
+ghost use Rattle.ga_breakpoints.specs.Stepping.{is_open_at, open_place};
 
 use ga_adapter::{is_calling, put_by};
 use ga_grid::NodeId;
@@ -27,32 +27,8 @@ pub struct Stepping {
     pub grain: Grain,
     /// Whether the calls that it makes are gone over.
     pub over: bool,
-    /// Of each place of the return stack whether the entry there is that of a call which is to come back first.
-    pub calls: [bool; 9],
-}
-
-/// No place of the return stack.
-fn no_places() -> [bool; 9]
-    ensures { result ≡ no_calls }
-{
-    [false; 9]
-}
-
-/// One place of the return stack.
-fn one_place(newest: u8) -> [bool; 9]
-    ensures { result ≡ map (λ place. place == newest) (range_with_len 0 9) }
-{
-    [
-        0 == newest,
-        1 == newest,
-        2 == newest,
-        3 == newest,
-        4 == newest,
-        5 == newest,
-        6 == newest,
-        7 == newest,
-        8 == newest,
-    ]
+    /// The place of the return stack, from 0 on, at which the entry of a call stands from which the node is to come back first.
+    pub call: Option<usize>,
 }
 
 /// Whether the entry at a place of the return stack of a node is that of a call.
@@ -65,15 +41,10 @@ fn is_open_at(lab: &Lab, node: NodeId, place: u8) -> bool
 }
 
 /// The place of the newest call from which a node did not come back.
-fn open_place(lab: &Lab, node: NodeId) -> Option<u8>
+fn open_place(lab: &Lab, node: NodeId) -> Option<usize>
     ensures { result ≡ open_place lab.now node }
 {
-    'looking: for place in 0..9u8 {
-        if is_open_at(lab, node, place) {
-            return Some(place);
-        }
-    }
-    None
+    (0..9).position(|place| is_open_at(lab, node, place))
 }
 
 impl Stepping {
@@ -88,7 +59,7 @@ impl Stepping {
             node,
             grain,
             over: false,
-            calls: no_places(),
+            call: None,
         }
     }
 
@@ -100,19 +71,19 @@ impl Stepping {
             node,
             grain,
             over: true,
-            calls: no_places(),
+            call: None,
         }
     }
 
     /// Back from a call by where its entry stands.
-    fn out_from(node: NodeId, newest: u8) -> Self
+    fn out_from(node: NodeId, newest: usize) -> Self
         ensures { result ≡ out_from node newest }
     {
         Stepping {
             node,
             grain: Grain::Instruction,
             over: false,
-            calls: one_place(newest),
+            call: Some(newest),
         }
     }
 
