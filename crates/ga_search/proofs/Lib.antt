@@ -5,6 +5,7 @@ pub mod Rounds
 pub mod Looking
 pub mod Stepping
 pub mod Events
+pub mod WatchedEvents
 pub mod Stuck
 pub mod Taking
 pub mod Freeing

@@ -1,7 +1,7 @@
 use Rattle.std.proofs.Common.{◌≡◌, ◌≤◌, ◌<◌}
 use Rattle.ga_lab.specs.Machine.{standing}
 use Rattle.ga_adapter.specs.Calls.{put_by}
-use Rattle.ga_adapter.proofs.stepping.top_put_by.Given as goal
+use Rattle.ga_adapter.proofs.stepping.put_by.Given as goal
 
 abbrev pub invariant-following : goal.invariant-following
 invariant-following l = record {
@@ -9,7 +9,7 @@ invariant-following l = record {
   order : l.left ≤ l.walk.step;
   within : l.left ≤ l.step;
   place : l.place < 9;
-  same : put_by l.lab l.node l.step 0 ≡ put_by l.lab l.node l.left l.place;
+  same : put_by l.lab l.node l.step l.behind ≡ put_by l.lab l.node l.left l.place;
 }
 
 abbrev pub decreases-following : goal.decreases-following
