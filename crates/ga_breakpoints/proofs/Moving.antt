@@ -17,7 +17,7 @@ use Rattle.ga_breakpoints.proofs.Halting.{AreAlike}
 -- ---- `continue`
 
 abbrev pub by_halts : Watching Halts
-by_halts = watching None (λ w told s. ends_early w.breakpoints.now w.stops None told s) (λ w told s. w)
+by_halts = watching None (λ (w : Halts) (told : Made) (s : State). ends_early w.breakpoints.now w.stops None told s) (λ (w : Halts) (told : Made) (s : State). w)
 
 stays_told : (w : Halts) (o : Option Made) (s : State) → seen_told by_halts w o s ≡ w
 stays_told w None s = refl
@@ -48,8 +48,8 @@ go_alike w r k =
 
 abbrev pub by_steps : NodeId → Watching Steps
 by_steps node =
-    watching (Some node) (λ w told s. ends_early w.halts.breakpoints.now w.halts.stops (Some w.stepping.node) told s || is_moved w.notes.now w.stepping told s)
-    (λ w told s. record w { stepping = step_seen w.stepping told s })
+    watching (Some node) (λ (w : Steps) (told : Made) (s : State). ends_early w.halts.breakpoints.now w.halts.stops (Some w.stepping.node) told s || is_moved w.notes.now w.stepping told s)
+    (λ (w : Steps) (told : Made) (s : State). record w { stepping = step_seen w.stepping told s })
 
 abbrev with_stepping : Steps → Stepping → Steps
 with_stepping w by = record w { stepping = by }

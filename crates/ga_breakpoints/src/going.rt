@@ -69,7 +69,7 @@ fn halt_of(lab: &Lab, halts: &Halts<'_>, node: Option<NodeId>, end: WatchedEnd) 
 }
 
 /// How a move went by a run that was watched.
-pub(crate) fn went(lab: &Lab, run: WatchedRun, halts: &Halts<'_>, node: Option<NodeId>) -> Went
+pub(crate) fn went_by(lab: &Lab, run: WatchedRun, halts: &Halts<'_>, node: Option<NodeId>) -> Went
     requires { IsNewestSeen lab.now run.end }
     ensures events { result.events ≡ run.events }
     ensures halt { result.halt ≡ halt_of halts.now.breakpoints.now halts.now.stops node lab.now run.end }
@@ -92,5 +92,5 @@ pub fn go_on(lab: &mut Lab, schedule: Schedule, halts: Halts<'_>, most: u64) -> 
 {
     let mut watch = halts;
     let run = run_watched(lab, schedule, None, most, &mut watch);
-    went(lab, run, &halts, None)
+    went_by(lab, run, &halts, None)
 }

@@ -9,7 +9,7 @@ ghost use Rattle.ga_adapter.specs.Calls.{is_calling, entries_from};
 ghost use Rattle.ga_breakpoints.specs.Stepping.{is_from, call_behind, step_seen, reaches_end, is_moved, stepped_on};
 ghost use Rattle.ga_breakpoints.specs.Going.{HasWent, stepping_on};
 
-use crate::going::{Went, went};
+use crate::going::{Went, went_by};
 use crate::halts::{Halts, is_halting};
 use crate::hits::is_step_of;
 use crate::stepping::{Grain, Stepping};
@@ -20,6 +20,7 @@ use ga_notes::Notes;
 use ga_search::{Schedule, Watch, run_watched};
 
 /// What watches a move.
+#[derive(Clone, Copy)]
 struct Steps<'a> {
     notes: &'a Notes,
     halts: Halts<'a>,
@@ -161,5 +162,5 @@ pub fn step_on(
     };
     let run = run_watched(lab, schedule, Some(node), most, &mut watch);
     *stepping = watch.stepping;
-    went(lab, run, &halts, Some(node))
+    went_by(lab, run, &halts, Some(node))
 }
