@@ -45,6 +45,8 @@ fn main(rt: HostRuntime) -> ExitCode {
             );
             exit(&rt, status)
         }
+        Ok(Settings::Check { .. }) => refused(&rt, "error: 'check' is not built\n"),
+        Ok(Settings::Dap) => refused(&rt, "error: 'dap' is not built\n"),
         Ok(Settings::Explore { limit, file }) => served(&rt, Work::Explore { limit }, &file),
         Ok(Settings::Assemble { file }) => served(&rt, Work::Assemble, &file),
         Ok(Settings::List { file }) => served(&rt, Work::List, &file),

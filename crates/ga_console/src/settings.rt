@@ -1,5 +1,5 @@
 //! The command line.
-ghost use Rattle.std.specs.Prelude.{IfOk};
+ghost use Rattle.std.specs.Prelude.{IfOk, IfSome};
 ghost use Rattle.ga_console.specs.Settings.{AreInRange, Within};
 
 use clap::builder::ValueParser;
@@ -76,6 +76,24 @@ Reads an image (lines `ga144 1` to `end`) from standard input. Worker w, from 0 
 
 Exit status: 0 done, 1 image refused, 2 a stream failed, 3 command line refused, 4 race not finished.";
 
+/// What `ga144 check --help` says behind the options.
+const ORDERS: &str = "\
+Reads an image or source as explore does, and nothing behind its line `end`. Runs it in every order of its nodes: two orders are one
+where they differ by swaps of steps that are free of one another.
+
+Tells how many orders there are and, of each kind of end, how many end so, which nodes stop or wait for words, and which order is the first.
+`at least N orders`: there may be others, as a run was cut by a bound or where a node would look at its neighbours.
+With --session K it writes instead the lines `step NNN` that lead to the end of the Kth order.
+
+Exit status: 0 all end on one chip where none stops, or a session is told, 1 image or source refused, 2 a stream failed,
+3 command line refused, 5 they end on several chips or a node stops, 6 there may be other orders.";
+
+/// What `ga144 dap --help` says.
+const EDITOR: &str = "\
+An editor starts it (docs/EDITORS.md). It is a server of the Debug Adapter Protocol over standard input and output.
+
+Exit status: 0 done, 1 out of memory, 2 a stream failed or a frame was broken, 3 command line refused.";
+
 /// What `ga144 draw --help` says behind the options.
 const PICTURES: &str = "\
 Reads what explore reads: an image or source, from FILE where one is given, then commands, one a line. Carries them out without an answer,
@@ -86,6 +104,9 @@ Exit status: 0 done, 1 image or step refused, 2 a stream failed, 3 command line 
 
 /// How many events are kept where no limit is given.
 const DEFAULT_LIMIT: u32 = 1_000_000;
+
+/// How many runs are made at most where no number is given.
+const DEFAULT_MOST: u32 = 1_000_000;
 
 /// From how many own steps on a run is drawn as one mark, where no number is given.
 const DEFAULT_FOLD: u32 = 3;
@@ -131,6 +152,15 @@ pub enum Settings {
         calls: u32,
         limit: u32,
     },
+    /// Run every order of a program's nodes, in at most `most` runs, 1 to 4294967295, and tell how they end; or tell the session of
+    /// one of them, whose number counts from 1.
+    Check {
+        most: u32,
+        session: Option<u32>,
+        file: Option<String>,
+    },
+    /// Serve an editor, by the Debug Adapter Protocol.
+    Dap,
     /// Assemble source into an image.
     Assemble {
         file: Option<String>,
@@ -209,6 +239,8 @@ fn program<'a>(alloc: Global) -> Result<Command<'a>, AllocError> {
         .subcommand(debug_line(alloc)?)?
         .subcommand(explore_line(alloc)?)?
         .subcommand(race_line(alloc)?)?
+        .subcommand(check_line(alloc)?)?
+        .subcommand(editor_line(alloc)?)?
         .subcommand(source_line(alloc)?)?
         .subcommand(list_line(alloc)?)?
         .subcommand(image_line(alloc)?)?
@@ -249,6 +281,34 @@ fn race_line<'a>(alloc: Global) -> Result<Command<'a>, AllocError> {
         )
         .required(true))?
         .arg(limit_option(alloc))
+}
+
+fn check_line<'a>(alloc: Global) -> Result<Command<'a>, AllocError> {
+    Command::new(alloc, "check")
+        .about("Run every order of the nodes of a program, and tell how they end")
+        .after_help(ORDERS)
+        .arg(number_option(
+            alloc,
+            "most",
+            "How many runs are made at most, 1 to 4294967295 [default: 1000000]",
+            u32::MAX,
+        )
+        .value_name("N"))?
+        .arg(number_option(
+            alloc,
+            "session",
+            "Tell the session of the Kth order, counted from 1",
+            u32::MAX,
+        )
+        .value_name("K"))?
+        .arg(file_argument(alloc, "An image or source"))
+}
+
+fn editor_line<'a>(alloc: Global) -> Result<Command<'a>, AllocError> {
+    let line = Command::new(alloc, "dap")
+        .about("Serve an editor, which debugs source in its own windows")
+        .after_help(EDITOR);
+    Ok(line)
 }
 
 fn source_line<'a>(alloc: Global) -> Result<Command<'a>, AllocError> {
@@ -392,6 +452,8 @@ fn chosen(alloc: Global, matches: &ArgMatches<'_>) -> Result<Settings, LineFault
                 limit: limit(race)?,
             })
         }
+        Some(("check", check)) => checked(alloc, check),
+        Some(("dap", _)) => Ok(Settings::Dap),
         Some(("asm", source)) => Ok(Settings::Assemble {
             file: file(alloc, source)?,
         }),
@@ -403,6 +465,28 @@ fn chosen(alloc: Global, matches: &ArgMatches<'_>) -> Result<Settings, LineFault
         }),
         Some(("draw", draw)) => drawn(alloc, draw),
         _ => Err(LineFault::Memory),
+    }
+}
+
+/// Which orders are to be run, and what is to be told of them.
+fn checked(alloc: Global, check: &ArgMatches<'_>) -> Result<Settings, LineFault>
+    ensures in_range { IfOk result AreInRange }
+{
+    let most = place(check.get_str("most"), DEFAULT_MOST)?;
+    Ok(Settings::Check {
+        most,
+        session: order(check.get_str("session"))?,
+        file: file(alloc, check)?,
+    })
+}
+
+/// The number of an order, counted from 1, where one is given.
+fn order(text: Option<&str>) -> Result<Option<u32>, LineFault>
+    ensures in_range { IfOk result (λ order. IfSome order (λ n. Within 1 4294967295 n)) }
+{
+    match text {
+        None => Ok(None),
+        given => Ok(Some(number(given, u32::MAX)?)),
     }
 }
 
@@ -446,7 +530,7 @@ fn limit(matches: &ArgMatches<'_>) -> Result<u32, LineFault>
     }
 }
 
-/// A place of a list, counted from 1, or this one where none is given.
+/// A number from 1 on, or this one where none is given.
 fn place(text: Option<&str>, usual: u32) -> Result<u32, LineFault>
     requires { Within 1 4294967295 usual }
     ensures in_range { IfOk result (λ n. Within 1 4294967295 n) }

@@ -21,13 +21,13 @@ use std::io::Write;
 ///
 /// # Errors
 /// A write failed.
-pub(crate) fn say_saved<W: Write>(
+pub fn say_saved<W: Write>(
     lab: &Lab,
     output: &mut Output,
     writer: &mut W,
 ) -> Result<(), WriteFailed>
-    ensures { Says result (λ text. text ≡ saved_text lab.now)
-        (W.contents writer.old) output.old (W.contents writer.new) output.new }
+    ensures { (before said : Bytes) → IsSaid (W.contents writer.old) before said output.old →
+        IsSaidOrCut result (W.contents writer.new) before (said ++ saved_text lab.now) output.new }
 {
     // So the kept events are those that are listed.
     let _chip = lab.chip();

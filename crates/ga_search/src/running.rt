@@ -47,7 +47,7 @@ pub struct Ran {
 
 // Makes this node's next event, and looks at what that may have changed.
 #[inline(always)]
-fn make(
+pub(crate) fn make(
     lab: &mut Lab,
     ready: &mut Numbers,
     alone: &mut Option<NodeId>,

@@ -20,10 +20,12 @@ fn asks(rt: &impl Abort, alloc: Global, words: &[&str], wanted: Option<Settings>
 }
 
 /// Command lines that are refused.
-static REFUSED: [&[&str]; 3] = [
+static REFUSED: [&[&str]; 5] = [
     &["ga144"],
     &["ga144", "debug", "--limit", "0"],
     &["ga144", "race", "--workers", "17", "--calls", "1"],
+    &["ga144", "check", "--session", "0"],
+    &["ga144", "dap", "fault.f18"],
 ];
 
 #[test]
@@ -34,6 +36,8 @@ fn refused(rt: HostRuntime) {
 }
 
 static RACE: [&str; 6] = ["ga144", "race", "--workers", "2", "--calls", "4"];
+
+static ORDERS: [&str; 7] = ["ga144", "check", "-", "--session", "7", "--most", "9"];
 
 static PART: [&str; 16] = [
     "ga144", "draw", "--to", "9", "--rewind", "717", "0", "--from=2", "--cause", "001", "10",
@@ -55,6 +59,13 @@ fn command_lines(rt: HostRuntime) {
         limit: 1_000_000,
     };
     asks(&rt, rt.alloc(), &RACE, Some(race));
+    let orders = Settings::Check {
+        most: 9,
+        session: Some(7),
+        file: None,
+    };
+    asks(&rt, rt.alloc(), &ORDERS, Some(orders));
+    asks(&rt, rt.alloc(), &["ga144", "dap"], Some(Settings::Dap));
     let part = Settings::Draw {
         cause: Some((NodeId::new(1), 10)),
         rewind: Some((NodeId::new(143), 0)),

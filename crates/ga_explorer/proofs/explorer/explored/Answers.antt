@@ -1,4 +1,5 @@
 use Rattle.std.proofs.Common.{◌∙◌, length, refl}
+use Rattle.ga_explorer.specs.Saved.{saved_text}
 use Rattle.ga_explorer.specs.Texts.{run_text, chip_text}
 use Rattle.ga_explorer.proofs.Done.{run_done, back_done, effects_done, words_done, writes_done, at_done, whence_done, because_done, races_done, who_done, save_done, chip_done, help_done, help_of_done}
 use Rattle.ga_explorer.proofs.Told.{told_as}
@@ -71,9 +72,11 @@ returns-in-Who g c = λ before said h.
     (done.0, who_done c.args.lab.now c.args.notes.now c.args.asked done.0 c.in-Who.is done.1, done.2)
 
 pub returns-in-Save : goal.returns-in-Save
-returns-in-Save g c = λ before said h.
-    let done = c.say_saved.ensures before said h in
-    (done.0, save_done c.args.lab.now c.args.notes.now c.args.asked done.0 c.in-Save.is done.1, done.2)
+returns-in-Save g c = λ before said h. (
+  saved_text c.args.lab.now,
+  save_done c.args.lab.now c.args.notes.now c.args.asked (saved_text c.args.lab.now) c.in-Save.is refl,
+  c.say_saved.ensures before said h,
+)
 
 pub returns-in-Chip : goal.returns-in-Chip
 returns-in-Chip g c = λ before said h. (
