@@ -12,8 +12,8 @@ use Rattle.ga_search.specs.Ready.{can_go}
 use Rattle.ga_search.specs.Running.{Running, chosen, told_by_step, moved_by, IsQuiet, IsRefusedFor}
 
 -- this is told of the newest event that is kept
-abbrev pub IsNewest : State → Made → Type 0
-IsNewest s made = made_in (told_of_kept s) (length s.kept - 1) ≡ Some made
+abbrev pub IsNewestMade : State → Made → Type 0
+IsNewestMade s made = made_in (told_of_kept s) (length s.kept - 1) ≡ Some made
 
 -- ---- a node goes first
 
@@ -81,7 +81,7 @@ IsHaltedFirst first r the_end.Made = ⊥
 
 -- the event behind which the watch ended it is the newest of the machine
 abbrev pub IsNewestSeen : State → WatchedEnd → Type 0
-IsNewestSeen s (the_end.Seen made) = IsNewest s made
+IsNewestSeen s (the_end.Seen made) = IsNewestMade s made
 IsNewestSeen s the_end.Made = Unit {0}
 IsNewestSeen s the_end.Quiet = Unit {0}
 IsNewestSeen s (the_end.Refused why) = Unit {0}

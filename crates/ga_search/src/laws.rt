@@ -26,7 +26,7 @@ ghost use Rattle.ga_search.specs.declared.running.End.{End};
 ghost use Rattle.ga_search.specs.declared.watched.WatchedEnd.{WatchedEnd};
 ghost use Rattle.ga_search.specs.Watched.{after_first, watching, watch_after, NeverEnds, HasEndedWatched};
 
-use crate::watched::Watch;
+use crate::watch::Watch;
 
 /// An event changes what the next event of a node is at the nodes that it touches and at their neighbours alone.
 pub fn next_changes_near_alone()

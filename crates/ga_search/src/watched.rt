@@ -1,37 +1,22 @@
 //! Events up to the first one behind which a watch says so.
 
-ghost use Rattle.std.specs.Prelude.{◌≡◌, ◌≤◌, ◌%◌, Bool, Ok, Some, None, IfOk, IfErr, IfSome, IsSome, OnOk, OnErr};
+ghost use Rattle.std.specs.Prelude.{◌≡◌, ◌≤◌, ◌%◌, Ok, Some, None, IfOk, IfErr, IfSome, IsSome, OnOk, OnErr};
 ghost use Rattle.ga_event.specs.Apply.{replay};
-ghost use Rattle.ga_event.specs.declared.made.Made.{Made};
-ghost use Rattle.ga_lab.specs.Machine.{State, chip_of};
+ghost use Rattle.ga_lab.specs.Machine.{chip_of};
 ghost use Rattle.ga_search.specs.declared.condition.Condition.TheVariants.{Writes};
 ghost use Rattle.ga_search.specs.Conditions.{holds};
 ghost use Rattle.ga_search.specs.kept.Ready.{HoldsReady, IsAlone};
 ghost use Rattle.ga_search.specs.Running.{running};
-ghost use Rattle.ga_search.specs.Watched.{IsNewest, chosen_first, told_first, first_moved, after_first, AreMadeFirst, watching, watch_after, IsHaltedFirst, IsNewestSeen, HasEndedWatched};
+ghost use Rattle.ga_search.specs.Watched.{IsNewestMade, chosen_first, told_first, first_moved, after_first, AreMadeFirst, watching, watch_after, IsHaltedFirst, IsNewestSeen, HasEndedWatched};
 
 use crate::edges::writes;
 use crate::numbers::Numbers;
 use crate::ready::{next_from, ready_nodes};
 use crate::running::make;
 use crate::schedule::Schedule;
+use crate::watch::Watch;
 use ga_grid::NodeId;
 use ga_lab::{Lab, LabFault, Made};
-
-/// What ends a run: it is shown each event right behind it, and may count and remember.
-pub trait Watch {
-    // Whether it ends the run behind what was made, on the machine that this left.
-    ghost ends: { Self → Made → State → Bool };
-
-    // The watch behind what was made, on the machine that this left.
-    ghost seen: { Self → Made → State → Self };
-
-    /// Looks at the newest event of a lab, and says whether the run ends behind it.
-    fn sees(&mut self, made: &Made, lab: &Lab) -> bool
-        requires { IsNewest lab.now made.now }
-        ensures answer { result ≡ ends self.old made.now lab.now }
-        ensures behind { self.new ≡ seen self.old made.now lab.now };
-}
 
 /// Why no more events were made.
 #[derive(Clone, Copy, PartialEq, Eq, Debug)]
@@ -99,7 +84,7 @@ fn go(
     ensures moved { OnOk result (running lab.new schedule.new ≡ first_moved first (running lab.old schedule.old)) }
     ensures ready { OnOk result (HoldsReady (chip_of lab.new) ready.new) }
     ensures alone { OnOk result (IfSome alone.new (IsAlone ready.new)) }
-    ensures newest { IfOk result (λ made. IsNewest lab.new made) }
+    ensures newest { IfOk result (λ made. IsNewestMade lab.new made) }
     ensures replays { OnOk result (IsSome (replay lab.new.load lab.new.kept)) }
     ensures halted { IfErr result (IsHaltedFirst first (running lab.old schedule.old)) }
     ensures same { OnErr result (lab.new ≡ lab.old) }
@@ -166,7 +151,7 @@ pub fn run_watched<W: Watch>(
 
 /// Whether the newest event of a lab stored in a cell of RAM of a node, which the low six bits of an address name.
 pub fn has_written(lab: &Lab, made: &Made, node: NodeId, address: u8) -> bool
-    requires { IsNewest lab.now made.now }
+    requires { IsNewestMade lab.now made.now }
     ensures { result ≡ holds (Writes node (address % 64) None) made.now lab.now }
 {
     writes(made, lab, node, address % 64, None)
