@@ -1,19 +1,31 @@
 -- A node followed back to where a line of its source began.
-use Rattle.std.proofs.Common.{◌≡◌, ◌<◌, ◌+◌, ◌-◌, ℕ, zero, suc, Bool, true, false, cond, Option, Some, None, refl, sym, ap, ◌∙◌, arith}
+use Rattle.std.proofs.Common.{◌≡◌, ◌<◌, ◌+◌, ◌-◌, ℕ, zero, suc, Bool, true, false, cond, List, [], ◌∷◌, map, Option, Some, None, refl, sym, ap, ◌∙◌, arith}
 use Rattle.std.specs.Prelude.{option_map, unwrap_or}
+use Rattle.std.specs.List.{range_with_len}
 use Rattle.ga_slots.specs.declared.op.Op.{Op}
 use Rattle.ga_grid.specs.declared.node_id.NodeId.{NodeId}
 use Rattle.ga_lab.specs.Machine.{State}
+use Rattle.ga_flow.specs.declared.part.Part.TheVariants as part
+use Rattle.ga_origin.specs.Origins.{flow_at}
 use Rattle.ga_notes.specs.declared.notes.Notes.{Notes}
 use Rattle.ga_adapter.specs.declared.spots.Spot.{Spot}
 use Rattle.ga_adapter.specs.declared.calls.Shift.{Shift}
-use Rattle.ga_adapter.specs.Calls.{put_by}
+use Rattle.ga_adapter.specs.Calls.{put_by, kept_from, entries_from}
 use Rattle.ga_adapter.specs.Spots.{spot_behind}
 use Rattle.ga_adapter.specs.kept.Shifts.{shift_at, entry_before}
 use Rattle.ga_adapter.specs.Stepping.{op_at, place_back, line_on_spot, comes_on, begins_behind, beginning_from}
 use Rattle.ga_adapter.proofs.Shifts.{shifted}
 
--- ---- one entry of the return stack
+-- ---- entries of the return stack
+
+same_map : {A : Type 0} {B : Type 0} (f g : A → B) → ((x : A) → f x ≡ g x) → (xs : List A) → map f xs ≡ map g xs
+same_map f g same [] = refl
+same_map {A} {B} f g same (x ∷ xs) = ap (λ (z : B). z ∷ map f xs) (same x) ∙ ap (λ (z : List B). g x ∷ z) (same_map f g same xs)
+
+pub entries_so : (s : State) (node : NodeId) (k : ℕ) (by : Shift) → by ≡ shift_at s node.number k → map (entry_before by) (range_with_len 0 9) ≡ entries_from s node k
+entries_so s node k by is =
+    ap (λ (z : Shift). map (entry_before z) (range_with_len 0 9)) is
+    ∙ same_map (entry_before (shift_at s node.number k)) (λ p. kept_from (flow_at s node.number k (part.Return p)) p) (λ p. sym (shifted s node.number k p)) (range_with_len 0 9)
 
 put_so : (s : State) (node : NodeId) (left place : ℕ) (by : Shift) (came : Option ℕ) → 0 < left → by ≡ shift_at s node.number (left - 1) → came ≡ entry_before by place
     → put_by s node left place ≡ unwrap_or (option_map (put_by s node (left - 1)) came) left
@@ -59,6 +71,16 @@ began_so notes s node place left there spot op begins some more there_is spot_is
     ∙ ap (beginning_from notes s node (suc k)) room
     ∙ ap (λ (b : Bool). cond b (suc k) (beginning_from notes s node (place_back s node k) m)) (sym begins_is)
     ∙ ap (λ (z : ℕ). cond begins z (beginning_from notes s node (place_back s node k) m)) (sym at)
+
+-- behind one step
+pub begins_so : (notes : Notes) (s : State) (node : NodeId) (k before : ℕ) (there spot : Option Spot) (op : Option Op) (begins : Bool) → before ≡ place_back s node k
+    → there ≡ spot_behind s node before → spot ≡ spot_behind s node (k + 1) → op ≡ op_at s node k → Comes notes s node (k + 1) there spot op begins
+    → begins ≡ begins_behind notes s node k
+begins_so notes s node k before there spot op begins place there_is spot_is op_is comes =
+    comes
+    ∙ ap (λ (z : Option Spot). comes_on notes node z spot op (line_on_spot notes node spot)) (there_is ∙ ap (spot_behind s node) place)
+    ∙ ap (λ (z : Option Spot). comes_on notes node (spot_behind s node (place_back s node k)) z op (line_on_spot notes node z)) spot_is
+    ∙ ap (λ (z : Option Op). comes_on notes node (spot_behind s node (place_back s node k)) (spot_behind s node (k + 1)) z (line_on_spot notes node (spot_behind s node (k + 1)))) op_is
 
 pub began_here : (notes : Notes) (s : State) (node : NodeId) (place left : ℕ) (there spot : Option Spot) (op : Option Op) (begins : Bool) → 0 < place → 0 < left
     → there ≡ spot_behind s node (place_back s node (place - 1)) → spot ≡ spot_behind s node place → op ≡ op_at s node (place - 1) → Comes notes s node place there spot op begins

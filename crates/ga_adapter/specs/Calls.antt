@@ -23,6 +23,10 @@ abbrev pub kept_from : Flow → ℕ → Option ℕ
 kept_from (Same (part.Return from)) place = if place == 8 && from == 1 then None else Some from
 kept_from _ place = None
 
+-- of each place where the entry that stands there behind the step after so many of a node stood before it
+abbrev pub entries_from : State → NodeId → ℕ → List (Option ℕ)
+entries_from s node k = map (λ place. kept_from (flow_at s node.number k (part.Return place)) place) (range_with_len 0 9)
+
 -- Which of so many steps of a node put the entry that stands at a place behind them; 0 where it stood there at load.
 abbrev pub put_by : State → NodeId → ℕ → ℕ → ℕ
 put_by s node zero place = 0

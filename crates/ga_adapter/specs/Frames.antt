@@ -8,12 +8,13 @@ use Rattle.ga_grid.specs.Grid.{yxx_of}
 use Rattle.ga_grid.specs.declared.node_id.NodeId.{NodeId}
 use Rattle.ga_lab.specs.Machine.{State}
 use Rattle.ga_notes.specs.declared.notes.Notes.{Notes}
+use Rattle.ga_notes.specs.declared.slot_word.SlotWord.{SlotWord}
 use Rattle.ga_adapter.specs.declared.spots.Spot.{Spot}
 use Rattle.ga_adapter.specs.declared.calls.OpenCall.{OpenCall}
 use Rattle.ga_adapter.specs.declared.frames.SourceFile.{SourceFile}
 use Rattle.ga_adapter.specs.Calls.{open_calls}
 use Rattle.ga_adapter.specs.Json.{whole_number, array_of}
-use Rattle.ga_adapter.specs.Labels.{cell_words, line_at}
+use Rattle.ga_adapter.specs.Labels.{cell_words, spot_word}
 use Rattle.ga_adapter.specs.Numbers.{frame_of, chip_address}
 use Rattle.ga_adapter.specs.Spots.{present_spot}
 use Rattle.ga_adapter.specs.Variables.{memory_reference, places_asked}
@@ -22,10 +23,10 @@ use Rattle.ga_adapter.specs.Variables.{memory_reference, places_asked}
 unfoldable pub source_object : SourceFile → Data
 source_object file = object (member (codes "name") (string file.name.now) (member (codes "path") (string file.path.now) no_members))
 
--- on a line of the source
-unfoldable pub lined_frame : Data → ℕ → Text → Text → ℕ → Data
-lined_frame source id name pointer line =
-    object (member (codes "column") (whole_number 1) (member (codes "id") (whole_number id) (member (codes "instructionPointerReference") (string pointer)
+-- at a word of the source, of so many bytes from the beginning of its line
+unfoldable pub lined_frame : Data → ℕ → Text → Text → ℕ → ℕ → Data
+lined_frame source id name pointer line column =
+    object (member (codes "column") (whole_number column) (member (codes "id") (whole_number id) (member (codes "instructionPointerReference") (string pointer)
     (member (codes "line") (whole_number line) (member (codes "name") (string name) (member (codes "source") source no_members))))))
 
 -- in memory that the source says nothing of
@@ -48,13 +49,13 @@ place_words notes node (Some spot) = cell_words notes node spot.cell
 abbrev pub frame_name : Notes → NodeId → Option Spot → Text
 frame_name notes node spot = decimal3_of (yxx_of node.number) ++ codes " " ++ place_words notes node spot
 
-abbrev pub frame_on : SourceFile → ℕ → Text → Text → Option ℕ → Data
+abbrev pub frame_on : SourceFile → ℕ → Text → Text → Option SlotWord → Data
 frame_on file id name pointer None = bare_frame id name pointer
-frame_on file id name pointer (Some line) = lined_frame (source_object file) id name pointer line
+frame_on file id name pointer (Some word) = lined_frame (source_object file) id name pointer word.line word.column
 
 abbrev pub frame_at : SourceFile → Notes → NodeId → ℕ → Text → Option Spot → Data
 frame_at file notes node id name None = outside_frame id name
-frame_at file notes node id name (Some spot) = frame_on file id name (memory_reference (chip_address node.number spot.cell)) (line_at notes node spot)
+frame_at file notes node id name (Some spot) = frame_on file id name (memory_reference (chip_address node.number spot.cell)) (spot_word notes node spot)
 
 abbrev pub frame : SourceFile → Notes → NodeId → ℕ → Option Spot → Data
 frame file notes node level spot = frame_at file notes node (frame_of node.number level) (frame_name notes node spot) spot

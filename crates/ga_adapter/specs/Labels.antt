@@ -8,7 +8,9 @@ use Rattle.ga_grid.specs.declared.node_id.NodeId.{NodeId}
 use Rattle.ga_notes.specs.declared.notes.Name.{Name}
 use Rattle.ga_notes.specs.declared.notes.Note.{Note}
 use Rattle.ga_notes.specs.declared.notes.Notes.{Notes}
-use Rattle.ga_notes.specs.Notes.{is_note_of}
+use Rattle.ga_notes.specs.declared.slot_word.SlotWord.{SlotWord}
+use Rattle.ga_notes.specs.declared.slot_word.ToldWord.{ToldWord}
+use Rattle.ga_notes.specs.Notes.{is_note_of, slot_word_of}
 use Rattle.ga_notes.specs.Source.{cell_of_address, nearest_found}
 use Rattle.ga_adapter.specs.declared.spots.Spot.{Spot}
 
@@ -41,9 +43,21 @@ label_words cell (Some name) = utf8_lossy name.text.items ++ behind_words (cell 
 abbrev pub cell_words : Notes → NodeId → ℕ → Text
 cell_words notes node cell = label_words cell (label_near notes.names.items node cell)
 
--- what the source says of a cell, and the line that gives it
+-- what the source says of a cell
 abbrev pub note_of_cell : Notes → NodeId → ℕ → Option Note
 note_of_cell notes node cell = option_and_then (slice_get notes.notes.items) (position (is_note_of node cell) notes.notes.items)
 
+-- the word of the source from which a slot comes, and the line on which it stands
+abbrev pub spot_word : Notes → NodeId → Spot → Option SlotWord
+spot_word notes node spot = slot_word_of notes.words.items node spot.cell spot.slot
+
 abbrev pub line_at : Notes → NodeId → Spot → Option ℕ
-line_at notes node spot = option_map (λ (note : Note). note.line) (note_of_cell notes node spot.cell)
+line_at notes node spot = option_map (λ (word : SlotWord). word.line) (spot_word notes node spot)
+
+-- the first word of a line from which a slot of an instruction word of the node comes
+abbrev pub is_on_line : NodeId → ℕ → ToldWord → Bool
+is_on_line node line told = told.word.is_code && told.word.node.number == node.number && told.word.line == line
+
+abbrev pub line_start : Notes → NodeId → ℕ → Option SlotWord
+line_start notes node line =
+    option_map (λ (told : ToldWord). told.word) (option_and_then (slice_get notes.words.items) (position (is_on_line node line) notes.words.items))

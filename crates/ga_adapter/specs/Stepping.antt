@@ -11,11 +11,10 @@ use Rattle.ga_event.specs.declared.made.Made.TheVariants as made
 use Rattle.ga_event.specs.Told.{steps_of}
 use Rattle.ga_lab.specs.Machine.{State, history_of}
 use Rattle.ga_notes.specs.declared.notes.Notes.{Notes}
-use Rattle.ga_notes.specs.Notes.{line_address}
-use Rattle.ga_notes.specs.Source.{cell_of_address}
+use Rattle.ga_notes.specs.declared.slot_word.SlotWord.{SlotWord}
 use Rattle.ga_adapter.specs.declared.spots.Spot.{Spot}
 use Rattle.ga_adapter.specs.Calls.{put_by, is_calling}
-use Rattle.ga_adapter.specs.Labels.{is_same_cell, line_at}
+use Rattle.ga_adapter.specs.Labels.{line_at, line_start}
 use Rattle.ga_adapter.specs.Moves.{gone_back}
 use Rattle.ga_adapter.specs.Spots.{spot_behind}
 
@@ -57,9 +56,13 @@ place_back s node k = if is_return_op (op_at s node k) then over_call s node k (
 abbrev pub line_on_spot : Notes → NodeId → Option Spot → Option ℕ
 line_on_spot notes node spot = option_and_then (line_at notes node) spot
 
--- a slot is the first of the first word that a line begins
+-- a slot is the first of a line
+abbrev pub is_first_of : Spot → Option SlotWord → Bool
+is_first_of spot None = false
+is_first_of spot (Some word) = word.cell == spot.cell && word.first == spot.slot
+
 abbrev pub begins_at : Notes → NodeId → ℕ → Spot → Bool
-begins_at notes node line spot = spot.slot == 0 && is_same_cell spot.cell (option_and_then cell_of_address (line_address notes.notes.items node line))
+begins_at notes node line spot = is_first_of spot (line_start notes node line)
 
 abbrev pub begins_on : Notes → NodeId → ℕ → Option Spot → Bool
 begins_on notes node line None = false

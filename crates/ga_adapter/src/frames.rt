@@ -9,13 +9,13 @@ ghost use Rattle.ga_adapter.specs.Frames.{source_object, lined_frame, bare_frame
 ghost use Rattle.ga_adapter.specs.Variables.{memory_reference, places_asked};
 
 use crate::calls::{OpenCall, open_calls};
-use crate::labels::{add_cell, line_at};
+use crate::labels::{add_cell, spot_word};
 use crate::numbers::{chip_address, frame_of};
 use crate::spots::{Spot, spot_behind};
 use crate::texts::{add_node, address_text};
 use ga_grid::NodeId;
 use ga_lab::Lab;
-use ga_notes::Notes;
+use ga_notes::{Notes, SlotWord};
 use serde_json::{Value, json, push};
 use std::alloc::{AllocError, Global};
 
@@ -43,11 +43,13 @@ fn lined_frame(
     id: u64,
     name: &str,
     pointer: &str,
-    line: u32,
+    word: SlotWord,
 ) -> Result<Value, AllocError>
-    ensures { IfOk result (λ v. view v ≡ lined_frame (view source.now) id name.now pointer.now line) }
+    ensures { IfOk result (λ v. view v ≡ lined_frame (view source.now) id name.now pointer.now word.line word.column) }
 {
-    json!(in alloc; {"column": 1u64, "id": id, "instructionPointerReference": pointer, "line": line, "name": name, "source": source})
+    let line = word.line;
+    let column = word.column;
+    json!(in alloc; {"column": column, "id": id, "instructionPointerReference": pointer, "line": line, "name": name, "source": source})
 }
 
 #[tactic(auto, unfolding(crate::specs::Frames::bare_frame))]
@@ -95,24 +97,24 @@ fn frame_name(
     Ok(text)
 }
 
-/// A frame at a cell, on a line where the source has one.
+/// A frame at a cell, with the word of the source where one is.
 fn frame_on(
     alloc: Global,
     file: SourceFile<'_>,
     id: u64,
     name: &str,
     address: u32,
-    line: Option<u32>,
+    word: Option<SlotWord>,
 ) -> Result<Value, AllocError>
     requires { address < 2 ^ 24 }
-    ensures { IfOk result (λ v. view v ≡ frame_on file.entry id name.now (memory_reference address) line) }
+    ensures { IfOk result (λ v. view v ≡ frame_on file.entry id name.now (memory_reference address) word) }
 {
     let pointer = address_text(alloc, address)?;
-    match line {
+    match word {
         None => bare_frame(alloc, id, name, pointer.as_str()),
-        Some(line) => {
+        Some(word) => {
             let source = source_object(alloc, file)?;
-            lined_frame(alloc, &source, id, name, pointer.as_str(), line)
+            lined_frame(alloc, &source, id, name, pointer.as_str(), word)
         }
     }
 }
@@ -134,14 +136,14 @@ fn frame(
     match spot {
         None => outside_frame(alloc, id, name.as_str()),
         Some(spot) => {
-            let line = line_at(notes, node, spot);
+            let word = spot_word(notes, node, spot);
             frame_on(
                 alloc,
                 file,
                 id,
                 name.as_str(),
                 chip_address(node, spot.cell),
-                line,
+                word,
             )
         }
     }

@@ -4,15 +4,15 @@ ghost use Rattle.std.specs.Prelude.{◌≡◌, ◌++◌, ◌/◌, ◌*◌, ◌%�
 ghost use Rattle.std.specs.Str.Lossy.{utf8_lossy};
 ghost use Rattle.ga_notes.specs.Notes.{is_note_of};
 ghost use Rattle.ga_notes.specs.Source.{nearest_found};
-ghost use Rattle.ga_adapter.specs.Labels.{is_same_cell, is_name_at, place_of_label, label_of_cell, label_near, behind_words, cell_words, note_of_cell, line_at};
+ghost use Rattle.ga_adapter.specs.Labels.{is_same_cell, is_name_at, place_of_label, label_of_cell, label_near, behind_words, cell_words, note_of_cell, spot_word, line_at, is_on_line, line_start};
 
 use crate::spots::{Spot, cell_of};
 use crate::texts::add_hex2;
 use ga_grid::NodeId;
-use ga_notes::{Name, Note, Notes};
+use ga_notes::{Name, Note, Notes, SlotWord, ToldWord};
 use std::alloc::{AllocError, Global};
 
-pub(crate) fn is_same_cell(cell: u8, found: Option<u8>) -> bool
+fn is_same_cell(cell: u8, found: Option<u8>) -> bool
     ensures { result ≡ is_same_cell cell found }
 {
     match found {
@@ -121,12 +121,44 @@ fn place_of_note(notes: &[Note], node: NodeId, cell: u8) -> Option<usize>
         .position(|note| note.node == node && note.cell == cell)
 }
 
+/// The word of the source from which a slot comes.
+pub(crate) fn spot_word(notes: &Notes, node: NodeId, spot: Spot) -> Option<SlotWord>
+    ensures { result ≡ spot_word notes.now node spot }
+{
+    notes.slot_word(node, spot.cell, usize::from(spot.slot))
+}
+
 /// The line of the source on which a slot stands.
 pub(crate) fn line_at(notes: &Notes, node: NodeId, spot: Spot) -> Option<u32>
     ensures { result ≡ line_at notes.now node spot }
 {
-    match note_of_cell(notes, node, spot.cell) {
-        Some(note) => Some(note.line),
+    match spot_word(notes, node, spot) {
+        Some(word) => Some(word.line),
         None => None,
     }
+}
+
+/// The first word of a line from which a slot of an instruction word of the node comes.
+pub(crate) fn line_start(notes: &Notes, node: NodeId, line: u32) -> Option<SlotWord>
+    ensures { result ≡ line_start notes.now node line }
+{
+    let place = place_on_line(notes.words.as_slice(), node, line)?;
+    match notes.words.get(place) {
+        Some(told) => Some(told.word),
+        None => None,
+    }
+}
+
+fn place_on_line(words: &[ToldWord], node: NodeId, line: u32) -> Option<usize>
+    ensures { result ≡ position (is_on_line node line) words.now }
+{
+    words.iter().position(|told| is_on_line(told, node, line))
+}
+
+/// Whether a slot of an instruction word of the node comes from a word, and that stands on the line.
+fn is_on_line(told: &ToldWord, node: NodeId, line: u32) -> bool
+    ensures { result ≡ is_on_line node line told.now }
+{
+    let word = told.word;
+    word.is_code && word.node == node && word.line == line
 }

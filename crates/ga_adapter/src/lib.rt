@@ -26,13 +26,13 @@ pub use evaluating::{asked_variable, evaluate};
 pub use exceptions::exception_info;
 pub use frames::{SourceFile, stack_trace};
 pub use listing::{scopes, variables};
-pub use moves::{Watched, go_back, reverse_continue, step_back};
+pub use moves::{Watched, comes_to, go_back, reverse_continue, step_back};
 pub use numbers::{
     cell_of_chip, chip_address, frame_of, node_of_frame, node_of_thread, reference_of, referred,
     thread_of,
 };
 pub use scope::Scope;
 pub use spots::{Spot, spot_behind};
-pub use stepping::step_back_line;
+pub use stepping::{begins_behind, entries_from, is_calling, put_by, step_back_line};
 pub use thread::{has_thread, threads};
 pub use variable::Variable;

@@ -68,8 +68,8 @@ fn is_at_spot(at: Spot, found: Option<Spot>) -> bool
     }
 }
 
-/// Whether the step at a place is one by which a node came to a slot. The node is walked back to right behind it.
-fn comes_to(lab: &Lab, walk: &mut Walk<'_>, node: NodeId, at: Spot, place: u32) -> bool
+/// Whether the step of a node after so many is one by which it came to a slot. The node is walked back to right behind it.
+pub fn comes_to(lab: &Lab, walk: &mut Walk<'_>, node: NodeId, at: Spot, place: u32) -> bool
     requires walk { walk.old ≡ standing lab.now node walk.old.step }
     requires order { place < walk.old.step }
     ensures comes { result ≡ comes_to lab.now node at place }

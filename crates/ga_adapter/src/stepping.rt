@@ -1,17 +1,16 @@
 //! A node gone back by lines of its source.
 
-ghost use Rattle.std.specs.Prelude.{◌≡◌, ◌<◌, ◌≤◌, IfSome, option_and_then};
-ghost use Rattle.ga_notes.specs.Notes.{line_address};
-ghost use Rattle.ga_notes.specs.Source.{cell_of_address};
+ghost use Rattle.std.specs.Prelude.{◌≡◌, ◌<◌, ◌≤◌, map, IfSome};
+ghost use Rattle.std.specs.List.{range_with_len};
 ghost use Rattle.ga_event.specs.Told.{steps_of};
-ghost use Rattle.ga_adapter.specs.Calls.{put_by, is_calling};
+ghost use Rattle.ga_adapter.specs.Calls.{put_by, is_calling, entries_from};
 ghost use Rattle.ga_adapter.specs.kept.Shifts.{entry_before};
-ghost use Rattle.ga_adapter.specs.Stepping.{op_told, is_return_op, is_jump, place_back, line_on_spot, begins_at, comes_on, beginning_from, stepped_back_line};
+ghost use Rattle.ga_adapter.specs.Stepping.{op_told, is_return_op, is_jump, place_back, line_on_spot, begins_at, comes_on, begins_behind, beginning_from, stepped_back_line};
 
 use crate::calls::{Shift, shift_by};
-use crate::labels::{is_same_cell, line_at};
+use crate::labels::{line_at, line_start};
 use crate::moves::go_back;
-use crate::spots::{Spot, cell_of, spot_back};
+use crate::spots::{Spot, spot_back};
 use ga_grid::NodeId;
 use ga_lab::{Lab, Made};
 use ga_node::Kind;
@@ -68,15 +67,44 @@ fn entry_before(shift: Shift, place: u8) -> Option<u8>
     }
 }
 
-/// The step that put the entry on top of the return stack that stands there behind so many; 0 where it stood there at load.
-fn top_put_by(lab: &Lab, node: NodeId, step: u32) -> u32
+/// Where each entry stood before a shift; none where it is new, or a copy in the last place.
+fn entries_before(shift: Shift) -> [Option<u8>; 9]
+    ensures { result ≡ map (entry_before shift) (range_with_len 0 9) }
+{
+    [
+        entry_before(shift, 0),
+        entry_before(shift, 1),
+        entry_before(shift, 2),
+        entry_before(shift, 3),
+        entry_before(shift, 4),
+        entry_before(shift, 5),
+        entry_before(shift, 6),
+        entry_before(shift, 7),
+        entry_before(shift, 8),
+    ]
+}
+
+/// Of each place of the return stack where the entry that stands there behind a step of a node stood before it, by how many steps it had made; none
+/// where the step put it there.
+pub fn entries_from(lab: &Lab, node: NodeId, step: u32) -> [Option<u8>; 9]
     requires { step ≤ steps_of node.number lab.now.kept }
-    ensures value { result ≡ put_by lab.now node step 0 }
+    ensures { result ≡ entries_from lab.now node step }
+{
+    let mut walk = lab.walk(node, step);
+    entries_before(shift_by(lab, &mut walk, node, step))
+}
+
+/// The number of the step that put the entry that stands at a place of the return stack behind so many steps of a node; 0 where it stood there at load.
+/// Takes time by how many steps the node made since.
+pub fn put_by(lab: &Lab, node: NodeId, step: u32, behind: u8) -> u32
+    requires step { step ≤ steps_of node.number lab.now.kept }
+    requires place { behind < 9 }
+    ensures value { result ≡ put_by lab.now node step behind }
     ensures within { result ≤ step }
 {
     let mut walk = lab.walk(node, step);
     let mut left = step;
-    let mut place = 0;
+    let mut place = behind;
     'following: while left > 0 {
         let shift = shift_by(lab, &mut walk, node, left - 1);
         match entry_before(shift, place) {
@@ -88,8 +116,8 @@ fn top_put_by(lab: &Lab, node: NodeId, step: u32) -> u32
     0
 }
 
-/// Whether the step with this number is a call.
-fn is_calling(lab: &Lab, node: NodeId, step: u32) -> bool
+/// Whether the step of a node with this number is a call.
+pub fn is_calling(lab: &Lab, node: NodeId, step: u32) -> bool
     ensures { result ≡ is_calling lab.now node step }
 {
     if step == 0 {
@@ -110,7 +138,7 @@ fn place_back(lab: &Lab, node: NodeId, place: u32) -> u32
     if !is_return_op(op_told(&lab.told(node, place))) {
         return place;
     }
-    let call = top_put_by(lab, node, place);
+    let call = put_by(lab, node, place, 0);
     if is_calling(lab, node, call) {
         call.saturating_sub(1)
     } else {
@@ -125,18 +153,14 @@ fn line_on_spot(notes: &Notes, node: NodeId, spot: Option<Spot>) -> Option<u32>
     line_at(notes, node, spot?)
 }
 
-/// Whether a slot is the first of the first word that a line begins.
+/// Whether a slot is the first of a line.
 fn begins_at(notes: &Notes, node: NodeId, line: u32, spot: Spot) -> bool
     ensures { result ≡ begins_at notes.now node line spot }
 {
-    spot.slot == 0 && is_same_cell(spot.cell, line_cell(notes, node, line))
-}
-
-/// The cell of the first word that a line begins.
-fn line_cell(notes: &Notes, node: NodeId, line: u32) -> Option<u8>
-    ensures { result ≡ option_and_then cell_of_address (line_address notes.now.notes.items node line) }
-{
-    cell_of(notes.line_address(node, line)?)
+    match line_start(notes, node, line) {
+        Some(word) => word.cell == spot.cell && word.first == usize::from(spot.slot),
+        None => false,
+    }
 }
 
 /// Whether a node that stands there, by this step, came to a line: from another, or by a jump to its first slot.
@@ -159,6 +183,24 @@ fn comes_on(
         Some(other) => other != line || is_jump(op) && begins_at(notes, node, line, at),
         None => true,
     }
+}
+
+/// Whether a line of the source begins for a node behind its step after so many: it came there from another line, over the call where it came back from
+/// one, or by a jump to the first slot of the first word that the line begins. Takes time by how many steps the node made since, since the fetch before,
+/// and since the call.
+pub fn begins_behind(lab: &Lab, notes: &Notes, node: NodeId, step: u32) -> bool
+    requires { step < steps_of node.number lab.now.kept }
+    ensures { result ≡ begins_behind notes.now lab.now node step }
+{
+    // It is less than the node's steps, so that one more can be counted.
+    let steps = lab.steps(node);
+    prove!(step < steps);
+    let before = place_back(lab, node, step);
+    let mut walk = lab.walk(node, step + 1);
+    let spot = spot_back(lab, &mut walk, node, step + 1);
+    let there = spot_back(lab, &mut walk, node, before);
+    let told = lab.told(node, step);
+    comes_on(notes, node, there, spot, op_told(&told))
 }
 
 /// The nearest beginning of a line at a place or before it, looked for at so many places at most.

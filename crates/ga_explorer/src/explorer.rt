@@ -1,10 +1,12 @@
 //! What answers the lines of a session of exploring.
 
-ghost use Rattle.std.specs.Prelude.{◌≡◌, ◌≤◌, length, Some, None, IfSome, IfNone, IsTrue, false};
+ghost use Rattle.std.specs.Prelude.{◌≡◌, ◌≤◌, ◌++◌, length, Some, None, IfSome, IfNone, IsTrue, false};
+ghost use Rattle.ga_text.specs.Lines.{Bytes};
+ghost use Rattle.ga_text.specs.Output.{IsSaid, IsSaidOrCut};
 ghost use Rattle.ga_text.specs.kept.Output.{Says};
 ghost use Rattle.ga_explorer.specs.Reading.{request_in};
 ghost use Rattle.ga_explorer.specs.kept.Exploring.{exploring};
-ghost use Rattle.ga_explorer.specs.Answers.{Explored, AnswersOther, IsOfDebugger, IsNoCommand};
+ghost use Rattle.ga_explorer.specs.Answers.{Explored, ExploresOrQuits, AnswersOther, IsOfDebugger, IsNoCommand};
 ghost use Rattle.ga_console.specs.kept.Turns.{Turns};
 
 use crate::at_text::say_around;
@@ -91,13 +93,7 @@ impl Responder for Explorer {
         output: &mut Output,
         writer: &mut W,
     ) -> Result<Turn, WriteFailed> {
-        match asked_by(&self.notes, line) {
-            Some(asked) => {
-                explored(alloc, &mut self.lab, &self.notes, asked, output, writer)?;
-                Ok(Turn::Answered)
-            }
-            None => answer_other(alloc, &mut self.lab, line, output, writer),
-        }
+        answer_line(alloc, &mut self.lab, &self.notes, line, output, writer)
     }
 
     #[inline(always)]
@@ -109,6 +105,31 @@ impl Responder for Explorer {
         writer: &mut W,
     ) -> Result<(), WriteFailed> {
         self.lab.obey(alloc, command, output, writer)
+    }
+}
+
+/// Answers a line, of which at least the first 201 bytes are here, to who explores a lab with these notes of its cells.
+///
+/// # Errors
+/// A write failed.
+pub fn answer_line<W: Write>(
+    alloc: Global,
+    lab: &mut Lab,
+    notes: &Option<Notes>,
+    line: &[u8],
+    output: &mut Output,
+    writer: &mut W,
+) -> Result<Turn, WriteFailed>
+    ensures { (before said : Bytes) → IsSaid (W.contents writer.old) before said output.old →
+        (answer : Bytes) × ExploresOrQuits (record { lab = lab.old; notes = notes.now }) line.now (record { lab = lab.new; notes = notes.now }) result answer
+        × IsSaidOrCut result (W.contents writer.new) before (said ++ answer) output.new }
+{
+    match asked_by(notes, line) {
+        Some(asked) => {
+            explored(alloc, lab, notes, asked, output, writer)?;
+            Ok(Turn::Answered)
+        }
+        None => answer_other(alloc, lab, line, output, writer),
     }
 }
 

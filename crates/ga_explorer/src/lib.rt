@@ -33,7 +33,7 @@ mod words_text;
 mod writes_text;
 
 pub use beginning::begin;
-pub use explorer::Explorer;
+pub use explorer::{Explorer, answer_line};
 pub use front::{close, is_cut_off};
 pub use request::ExplorerCommand;
 pub use saved_text::say_saved;

@@ -72,10 +72,8 @@ fn release(journal: &mut Journal, going: &Visited) -> u32
     let mut events = 0;
     'nodes: for n in going.first()..going.past() {
         let node = NodeId::new(n);
-        if going.count(node) > 0 {
-            'marks: while journal.mark_of(node) < journal.steps_of(node) {
-                events = let_stay(journal, node, events);
-            }
+        'marks: while journal.going_of(node) > 0 {
+            events = let_stay(journal, node, events);
         }
     }
     events

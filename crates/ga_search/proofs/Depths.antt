@@ -1,6 +1,6 @@
 -- On how many of a node's steps the newest event of each node depends, and how many steps of another are left where each is taken back.
 use Rattle.std.proofs.Common.{◌≡◌, ℕ, zero, suc, ◌+◌, ◌-◌, ◌<◌, ◌≤◌, max, cond, Bool, true, false, ◌||◌, inl, inr, List, [], ◌∷◌, length, take, drop, get_or, Option, Some, None, refl, sym, ◌∙◌, ap, ap₂, subst, arith, lt-ltb, le-ltb}
-use Rattle.std.specs.Prelude.{nat_lt, option_map}
+use Rattle.std.specs.Prelude.{nat_lt, option_map, Result, Ok, Err, IfOk}
 use Rattle.std.specs.List.{list_any}
 use Rattle.std.proofs.Math.Path.{fun_ext}
 use Rattle.std.proofs.lemmas.Bool.{cases_Bool, cases_lt, or_left, both_ways}
@@ -16,7 +16,8 @@ use Rattle.ga_causal.proofs.Runs.{kept}
 use Rattle.ga_causal.proofs.Refusals.{place-first, place-touched, place-other}
 use Rattle.ga_causal.proofs.Places.{touching-cons, touching_no}
 use Rattle.ga_races.proofs.Blind.{no_touch}
-use Rattle.ga_search.specs.kept.Left.{greatest, greater_with, depth, AreLeft, IsFilled}
+use Rattle.ga_search.specs.kept.Left.{greatest, greater_with, depth, AreLeft, IsFilled, IsTaken}
+use Rattle.ga_search.specs.declared.left.LeftOf.{LeftOf}
 
 -- ---- the greatest of some nodes
 
@@ -356,6 +357,22 @@ going_more all r m known next made count then more_count left filled e es g is f
             either true = refl
             either false = refl
 
+-- as one more event is taken in
+pub going_taken : (all : List Cause) (r m : ℕ) (known next : ℕ → ℕ) (made then : ℕ) (old new : LeftOf) (e : Cause) (es : List Cause) → old.node.number ≡ m
+    → IsGoing all r m known made old.count old.list.items (e ∷ es) → IsBehindOne known next r made e → IsTaken old new e (depth known r made e)
+    → then ≡ made + cond (cause_touches e r) 1 0 → IsGoing all r m next then new.count new.list.items es
+going_taken all r m known next made then old new e es of g is taken steps =
+    going_more all r m known next made old.count then new.count old.list.items new.list.items e es g is filled steps (taken.count ∙ ap (λ (z : ℕ). old.count + cond {A = ℕ} (cause_touches e z) 1 0) of)
+  where
+    to : (b : Bool) → cause_touches e m ≡ b → cond b (depth known r made e) (length old.list.items) ≡ next m
+    to true t = sym (is m ∙ ap (λ (z : Bool). cond z (depth known r made e) (known m)) t)
+    to false f = g.size ∙ sym (is m ∙ ap (λ (z : Bool). cond z (depth known r made e) (known m)) f)
+
+    filled : IsFilled old.list.items new.list.items (next m) old.count
+    filled =
+        subst (λ (z : ℕ). IsFilled old.list.items new.list.items z old.count)
+        (ap (λ (z : ℕ). cond (cause_touches e z) (depth known r made e) (length old.list.items)) of ∙ to (cause_touches e m) refl) taken.list
+
 pub going_last : (all : List Cause) (r m : ℕ) (known : ℕ → ℕ) (made count : ℕ) (left filled : List ℕ) → IsGoing all r m known made count left [] → made ≡ touching r all
     → IsFilled left filled made count → AreLeft all r m filled
 going_last all r m known made count left filled g all_made fill = record { size = size ∙ all_made; each = each }
@@ -392,3 +409,33 @@ pub going_end : (all : List Cause) (r m : ℕ) (known : ℕ → ℕ) (made count
     → made ≡ touching r (take i all) → IsFilled left filled made count → AreLeft all r m filled
 going_end all r m known made count i left filled past g counted fill =
     going_last all r m known made count left filled (subst (IsGoing all r m known made count left) (drop_all i all past) g) (counted ∙ ap (touching r) (take_all i all past)) fill
+
+-- where no event came yet
+pub going_none : (all : List Cause) (r m : ℕ) (known : ℕ → ℕ) (left : LeftOf) → ((n : ℕ) → known n ≡ 0) → left.count ≡ 0 → left.list.items ≡ [] → IsGoing all r m known 0 left.count left.list.items all
+going_none all r m known left none count list =
+    subst (λ (z : ℕ). IsGoing all r m known 0 z left.list.items all) (sym count)
+    (subst (λ (z : List ℕ). IsGoing all r m known 0 0 z all) (sym list) (going_first all r m known none))
+
+pub one_most : (b : Bool) (x y i : ℕ) → y ≡ x + cond {A = ℕ} b 1 0 → x ≤ i → y ≤ i + 1
+one_most true x y i q l = omega (arith, q, l)
+one_most false x y i q l = omega (arith, q, l)
+
+pub if_ok : {T E : Type 0} {A B : T → Type 0} → (r : Result T E) → ((x : T) → A x → B x) → IfOk r A → IfOk r B
+if_ok (Ok x) f h = f x h
+if_ok (Err e) f h = h
+
+-- an event that isn't one of its steps is passed by
+pub passed_by : (left : LeftOf) (e : Cause) (d : ℕ) → cause_touches e left.node.number ≡ false → IsTaken left left e d
+passed_by left e d off = record {
+  node = refl;
+  count = (let q : left.count ≡ left.count + 0 = omega arith in q) ∙ ap (λ (b : Bool). left.count + cond {A = ℕ} b 1 0) (sym off);
+  list = subst (λ (b : Bool). IsFilled left.list.items left.list.items (cond b d (length left.list.items)) left.count) (sym off)
+      (record { size = omega arith; same = λ k l. refl; more = λ k l m. absurd (omega (arith, l, m)) });
+}
+
+pub taken_by : (old new : LeftOf) (e : Cause) (d : ℕ) → cause_touches e old.node.number ≡ true → new.node ≡ old.node → new.count ≡ old.count + 1 → IsFilled old.list.items new.list.items d old.count → IsTaken old new e d
+taken_by old new e d on node count filled = record {
+  node = node;
+  count = count ∙ ap (λ (b : Bool). old.count + cond {A = ℕ} b 1 0) (sym on);
+  list = subst (λ (b : Bool). IsFilled old.list.items new.list.items (cond b d (length old.list.items)) old.count) (sym on) filled;
+}

@@ -5,6 +5,7 @@ pub mod Rounds
 pub mod Looking
 pub mod Stepping
 pub mod Events
+pub mod WatchedEvents
 pub mod Stuck
 pub mod Taking
 pub mod Freeing
@@ -31,3 +32,7 @@ pub mod Earlier
 pub mod Fronts
 pub mod Backing
 pub mod FoundSteps
+pub mod AtMoments
+pub mod Glancing
+pub mod Showing
+pub mod Lefts

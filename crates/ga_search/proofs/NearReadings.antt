@@ -1,7 +1,7 @@
 -- No look is left out that could have read another word where a change that is near to it comes on its other side.
 use Rattle.std.proofs.Common.{◌≡◌, ◌≢◌, ℕ, zero, suc, ◌+◌, ◌/◌, ◌%◌, ◌<◌, ◌≤◌, ◌⊎◌, cond, Bool, true, false, ◌||◌, ◌&&◌, inl, inr, List, [], ◌∷◌, ◌++◌, length, take, get_or, Contains, Option, Some, None, IsSome, refl, sym, ◌∙◌, ap, ap₂, subst, arith, true≢false, eq-eqb}
 use Rattle.std.specs.Prelude.{nat_lt, is_some, Result, Ok, Err, IfSome}
-use Rattle.std.proofs.lemmas.Bool.{cases_Bool, cases_lt, or_cases, or_left, or_right, and_from}
+use Rattle.std.proofs.lemmas.Bool.{cases_Bool, cases_eq, cases_lt, or_cases, or_left, or_right, and_from}
 use Rattle.std.proofs.lemmas.List.{take_all, take_more, get_or_default, length-map}
 use Rattle.std.proofs.lemmas.List.Elements.{Contains-push_cases}
 use Rattle.ga_ports.specs.declared.side.Side.{Side}
@@ -37,14 +37,16 @@ use Rattle.ga_search.specs.Near.{are_linked}
 use Rattle.ga_search.specs.Races.{looks_next, has_look}
 use Rattle.ga_search.specs.Readings.{back_of, IsOtherwise, IsNearReading, IsTold}
 use Rattle.ga_search.specs.kept.Readings.{part_beside, IsAtNear}
+use Rattle.ga_search.specs.kept.Glances.{taken_of, IsGlance, AreGlanced, IsShownBy, AreRead}
 use Rattle.ga_search.specs.declared.readings.Reading.{Reading}
-use Rattle.ga_search.proofs.Acting.{Made, made_at, is_at, causes_are, cause_there}
+use Rattle.ga_search.specs.declared.glances.Glance.{Glance}
+use Rattle.ga_search.proofs.Acting.{Made, made_at, causes_long, causes_are, cause_there}
 use Rattle.ga_search.proofs.Behind.{stands_within}
 
 -- ---- steps and places
 
 -- a step has one place
-one_place : (es : List Cause) (n k p q : ℕ) → IsStep es n k p → IsStep es n k q → p ≡ q
+pub one_place : (es : List Cause) (n k p q : ℕ) → IsStep es n k p → IsStep es n k q → p ≡ q
 one_place es n k p q a b = elim (cases_lt p q) [
   | inl l ↦ absurd (let u = touching_before es n p q l a.within a.touched in let x : touching n (take p es) + 1 ≡ k = a.before in let y : touching n (take q es) + 1 ≡ k = b.before in omega (arith, u, x, y))
   | inr g ↦ elim (cases_lt q p) [
@@ -145,43 +147,37 @@ pub record IsSaidOf (reading : Reading) (who : NodeId) (at : ℕ) (beside : Node
   pub early : first ≡ reading.early
 
 -- the event of the look
-pub looked_there : (s : State) (causes : List Cause) (near : Near) (e : Cause) (reading : Reading) → causes ≡ causes_of s → near.look < length causes → e ≡ get_or causes near.look e
-    → IsOtherwise s reading → IsAtNear s near reading → e ≡ record { event = Own reading.node; look = true }
-looked_there s causes near e reading all l is o a =
-    let same : o.place ≡ near.look = one_place (causes_of s) reading.node.number reading.step o.place near.look o.stands a.looks in
-    is ∙ sym (get_or_default causes near.look no_cause e l) ∙ ap (λ z. event_at z near.look) all ∙ ap (event_at (causes_of s)) (sym same) ∙ o.looked
+looked_there : (s : State) (near : Near) (reading : Reading) → IsOtherwise s reading → IsAtNear s near reading → event_at (causes_of s) near.look ≡ record { event = Own reading.node; look = true }
+looked_there s near reading o a = ap (event_at (causes_of s)) (sym (one_place (causes_of s) reading.node.number reading.step o.place near.look o.stands a.looks)) ∙ o.looked
 
-pub said_of : (s : State) (causes : List Cause) (near : Near) (e f : Cause) (node neighbour : NodeId) (before_look before_change : ℕ) (reading : Reading) → replay s.load s.kept ≡ Some (chip_of s) → causes ≡ causes_of s
-    → near.look < length causes → near.change < length causes → e ≡ get_or causes near.look e → f ≡ get_or causes near.change f
-    → e ≡ record { event = Own node; look = true } → neighbour ≡ part_beside f.event node.number
-    → before_look ≡ touching node.number (take near.look causes) → before_change ≡ touching neighbour.number (take near.change causes)
-    → IsOtherwise s reading → IsAtNear s near reading → IsSaidOf reading node (before_look + 1) neighbour (before_change + 1) (nat_lt near.look near.change)
-said_of s causes near e f node neighbour before_look before_change reading led all l m is isf own part looks changes o a = record {
+pub said_of : (s : State) (near : Near) (glance : Glance) (reading : Reading) → replay s.load s.kept ≡ Some (chip_of s) → IsGlance s near glance → IsOtherwise s reading → IsAtNear s near reading
+    → IsSaidOf reading glance.node glance.step glance.neighbour glance.change glance.early
+said_of s near glance reading led g o a = record {
   node = node_is;
-  step = ap (λ (z : ℕ). z + 1) (looks ∙ ap₂ (λ (x : NodeId) (z : List Cause). touching x.number (take near.look z)) node_is all) ∙ a.looks.before;
+  step = g.step ∙ ap (λ (x : NodeId). touching x.number (take near.look (causes_of s)) + 1) node_is ∙ a.looks.before;
   neighbour = beside_is;
-  change = ap (λ (z : ℕ). z + 1) (changes ∙ ap₂ (λ (x : NodeId) (z : List Cause). touching x.number (take near.change z)) beside_is all) ∙ a.changes.before;
-  early = sym a.order;
+  change = g.change ∙ ap (λ (x : NodeId). touching x.number (take near.change (causes_of s)) + 1) beside_is ∙ a.changes.before;
+  early = g.early ∙ sym a.order;
 }
   where
     node_of : Event → NodeId → NodeId
     node_of (Own x) other = x
     node_of (Pass w r side) other = other
 
-    node_is : node ≡ reading.node
-    node_is = ap (λ (z : Cause). node_of z.event node) (sym own ∙ looked_there s causes near e reading all l is o a)
+    node_is : glance.node ≡ reading.node
+    node_is = ap (λ (z : Cause). node_of z.event glance.node) (sym g.looked ∙ looked_there s near reading o a)
 
-    there : event_at (causes_of s) near.change ≡ f
-    there = ap (λ z. event_at z near.change) (sym all) ∙ get_or_default causes near.change no_cause f m ∙ sym isf
+    f : Cause
+    f = event_at (causes_of s) near.change
 
-    touch : touches f.event reading.neighbour.number ≡ true
-    touch = ap (λ (z : Cause). touches z.event reading.neighbour.number) (sym there) ∙ a.changes.touched
+    within : near.change < length s.kept
+    within = (let l : near.change < length (causes_of s) = g.change_at in let long = causes_long s (chip_of s) led in omega (arith, l, long))
 
     made : Made s near.change f.event
-    made = made_at s (chip_of s) near.change f led (is_at s (chip_of s) causes near.change f led all m isf)
+    made = made_at s (chip_of s) near.change f led (record { within = within; is = refl })
 
-    beside_is : neighbour ≡ reading.neighbour
-    beside_is = part ∙ ap (λ (x : NodeId). part_beside f.event x.number) node_is ∙ the_part _ f.event reading.node reading.neighbour a.side made.can touch a.beside
+    beside_is : glance.neighbour ≡ reading.neighbour
+    beside_is = g.neighbour ∙ ap (λ (x : NodeId). part_beside f.event x.number) node_is ∙ the_part _ f.event reading.node reading.neighbour a.side made.can a.changes.touched a.beside
 
 pub back_stands : (s : State) (near : Near) (reading : Reading) → events_in (causes_of s) ≡ s.kept → IsAtNear s near reading → (early : Bool)
     → (let back : NodeId × ℕ = cond early (reading.node, reading.step) (reading.neighbour, reading.change) in stands s back.0.number back.1 ≡ true)
@@ -285,25 +281,44 @@ at_near s reading n = record { looks = n.looks; changes = n.changes; side = n.si
 
 -- ---- one of the list more
 
-abbrev pub AreFound : State → Option NodeId → List Near → List Reading → Type 0
-AreFound s only nears list = (reading : Reading) (near : Near) → Contains nears near → IsTold s only reading → IsAtNear s near reading → Contains list reading
+-- the look is there, where it is told
+pub look_there : (s : State) (near : Near) (reading : Reading) → IsOtherwise s reading → IsAtNear s near reading → event_at (causes_of s) near.look ≡ record { event = Own reading.node; look = true }
+look_there s near reading o a = looked_there s near reading o a
 
-pub found_first : (s : State) (only : Option NodeId) (list : List Reading) → AreFound s only [] list
-found_first s only list reading near h told at = absurd (let l : h.0 < 0 = h.1 in omega (arith, l))
+-- it is of the node that was asked for
+pub asked_of : (s : State) (only : Option NodeId) (near : Near) (glance : Glance) (reading : Reading) → replay s.load s.kept ≡ Some (chip_of s) → IsGlance s near glance → IsTold s only reading → IsAtNear s near reading
+    → IfSome only (λ it. glance.node ≡ it)
+asked_of s only near glance reading led g t a = subst (λ (z : NodeId). IfSome only (λ it. z ≡ it)) (sym (said_of s near glance reading led g t.0 a).node) t.1
 
-pub found_more : (s : State) (only : Option NodeId) (nears : List Near) (i : ℕ) (one : Near) (old new : List Reading) → i < length nears → one ≡ get_or nears i one
-    → ((reading : Reading) → Contains old reading → Contains new reading) → ((reading : Reading) → IsTold s only reading → IsAtNear s one reading → Contains new reading)
-    → AreFound s only (take i nears) old → AreFound s only (take (i + 1) nears) new
-found_more s only nears i one old new l is kept here before reading near h told at =
+pub glanced_first : (s : State) (only : Option NodeId) (list : List Glance) → AreGlanced s only [] list
+glanced_first s only list reading near h told at = absurd (let l : h.0 < 0 = h.1 in omega (arith, l))
+
+pub glanced_next : (s : State) (only : Option NodeId) (nears : List Near) (i : ℕ) (one : Near) (old new : List Glance) → i < length nears → one ≡ get_or nears i one
+    → ((glance : Glance) → Contains old glance → Contains new glance) → ((reading : Reading) → IsTold s only reading → IsAtNear s one reading → IsShownBy s one new)
+    → AreGlanced s only (take i nears) old → AreGlanced s only (take (i + 1) nears) new
+glanced_next s only nears i one old new l is kept here before reading near h told at =
     elim (Contains-push_cases (take i nears) one near (subst (λ (z : List Near). Contains z near) (take_more nears i one l ∙ ap (λ (z : Near). take i nears ++ z ∷ []) (sym is)) h)) [
-      | inl u ↦ kept reading (before reading near u told at)
-      | inr q ↦ here reading told (subst (λ (z : Near). IsAtNear s z reading) (sym q) at)
+      | inl u ↦ (let g = before reading near u told at in (g.0, kept g.0 g.1, g.2))
+      | inr q ↦ subst (λ (z : Near). IsShownBy s z new) q (here reading told (subst (λ (z : Near). IsAtNear s z reading) (sym q) at))
     ]
 
--- as the loop has it, on a machine that is the same
-pub found_next : {one : Near} (s t : State) (only : Option NodeId) (nears : List Near) (i : ℕ) (old new : List Reading) → t ≡ s
-    → ((reading : Reading) → IsTold t only reading → IsAtNear t one reading → Contains new reading) → ((reading : Reading) → Contains old reading → Contains new reading)
-    → i < length nears → one ≡ get_or nears i one → AreFound s only (take i nears) old → AreFound s only (take (i + 1) nears) new
-found_next {one} s t only nears i old new same here kept l is before =
-    found_more s only nears i one old new l is kept
-    (subst (λ (z : State). (reading : Reading) → IsTold z only reading → IsAtNear z one reading → Contains new reading) same here) before
+-- of the first so many looks none is left out
+abbrev pub AreReadUpto : State → Option NodeId → List Glance → ℕ → List Reading → Type 0
+AreReadUpto s only glances place list = (near : Near) (i : ℕ) (glance : Glance) (reading : Reading) → i < place → glance ≡ get_or glances i glance → IsGlance s near glance → IsTold s only reading → IsAtNear s near reading
+    → Contains list reading
+
+pub read_first : (s : State) (only : Option NodeId) (glances : List Glance) (list : List Reading) → AreReadUpto s only glances 0 list
+read_first s only glances list near i glance reading l is g told at = absurd (omega (arith, l))
+
+pub read_next : (s : State) (only : Option NodeId) (glances : List Glance) (place : ℕ) (one : Glance) (old new : List Reading) → place < length glances → one ≡ get_or glances place one
+    → ((reading : Reading) → Contains old reading → Contains new reading) → ((near : Near) (reading : Reading) → IsGlance s near one → IsTold s only reading → IsAtNear s near reading → Contains new reading)
+    → AreReadUpto s only glances place old → AreReadUpto s only glances (place + 1) new
+read_next s only glances place one old new within there kept here before near i glance reading l is g told at = elim (cases_eq i place) [
+  | inl q ↦ here near reading (subst (IsGlance s near) (is ∙ ap (λ (z : ℕ). get_or glances z glance) q ∙ get_or_default glances place glance one within ∙ sym there) g) told at
+  | inr ne ↦ kept reading (before near i glance reading (omega (arith, l, ne)) is g told at)
+]
+
+pub read_all : (s : State) (only : Option NodeId) (glances : List Glance) (place : ℕ) (list : List Reading) → length glances ≤ place → AreReadUpto s only glances place list → AreRead s only glances list
+read_all s only glances place list past upto near glance reading has g told at =
+    let l : has.0 < length glances = has.1 in
+    upto near has.0 glance reading (omega (arith, l, past)) (sym has.2) g told at

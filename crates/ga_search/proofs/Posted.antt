@@ -134,12 +134,12 @@ told_word mid e (made.Pass w i x j word) o r side can touch of carried near = go
 
 -- ---- in the machine
 
-some_within : (xs : List Made) (i : ℕ) (m : Made) → slice_get xs i ≡ Some m → i < length xs
+pub some_within : (xs : List Made) (i : ℕ) (m : Made) → slice_get xs i ≡ Some m → i < length xs
 some_within [] i m h = absurd (cc)
 some_within (x ∷ xs) zero m h = omega arith
 some_within (x ∷ xs) (suc i) m h = let l = some_within xs i m h in omega (arith, l)
 
-none_within : (xs : List Made) (i : ℕ) → slice_get xs i ≡ None → length xs ≤ i
+pub none_within : (xs : List Made) (i : ℕ) → slice_get xs i ≡ None → length xs ≤ i
 none_within [] i h = omega arith
 none_within (x ∷ xs) zero h = absurd (cc)
 none_within (x ∷ xs) (suc i) h = let l = none_within xs i h in omega (arith, l)
@@ -157,17 +157,21 @@ posted_told s runs o r side steps place m size told near count =
     led : replay s.load s.kept ≡ Some runs.last
     led = ap (λ (o : Option (List NodeRecord × List (Cause × Told))). option_map (λ z. z.0) o) runs.run_is
 
-pub posted_last : (s : State) (last : List NodeRecord) (o : ℕ) (side : Side) (steps place : ℕ) (now : NodeRecord) → replay s.load s.kept ≡ Some last → length (history_of s o) ≡ steps_of o s.kept
-    → None ≡ slice_get (history_of s o) steps → now ≡ record_at (chip_of s) o → steps_of o (take place s.kept) ≡ steps
-    → posted now side ≡ posted (record_at (chip_of (earlier s place)) o) side
-posted_last s last o side steps place now h size none is count =
+-- past its last step it stands as it does
+pub last_stood : (s : State) (last : List NodeRecord) (o steps place : ℕ) (now : NodeRecord) → replay s.load s.kept ≡ Some last → length (history_of s o) ≡ steps_of o s.kept
+    → None ≡ slice_get (history_of s o) steps → now ≡ record_at (chip_of s) o → steps_of o (take place s.kept) ≡ steps → now ≡ record_at (chip_of (earlier s place)) o
+last_stood s last o steps place now h size none is count =
     let past = none_within (history_of s o) steps (sym none) in
     let most = steps_take o s.kept place in
     let whole : take (length s.kept) s.kept ≡ s.kept = take_all (length s.kept) s.kept (omega arith) in
     let all : steps_of o (take (length s.kept) s.kept) ≡ steps_of o s.kept = ap (steps_of o) whole in
-    ap (λ (z : NodeRecord). posted z side)
-    (is ∙ ap (λ (z : List Event). record_at (unwrap_or (replay s.load z) []) o) (sym whole)
-    ∙ stood_alike s last o (length s.kept) place h (omega (arith, all, past, most, size, count)))
+    is ∙ ap (λ (z : List Event). record_at (unwrap_or (replay s.load z) []) o) (sym whole)
+    ∙ stood_alike s last o (length s.kept) place h (omega (arith, all, past, most, size, count))
+
+pub posted_last : (s : State) (last : List NodeRecord) (o : ℕ) (side : Side) (steps place : ℕ) (now : NodeRecord) → replay s.load s.kept ≡ Some last → length (history_of s o) ≡ steps_of o s.kept
+    → None ≡ slice_get (history_of s o) steps → now ≡ record_at (chip_of s) o → steps_of o (take place s.kept) ≡ steps
+    → posted now side ≡ posted (record_at (chip_of (earlier s place)) o) side
+posted_last s last o side steps place now h size none is count = ap (λ (z : NodeRecord). posted z side) (last_stood s last o steps place now h size none is count)
 
 and_true : (a b : Bool) → b ≡ true → (a && b) ≡ a
 and_true true b h = h

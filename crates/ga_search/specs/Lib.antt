@@ -3,6 +3,7 @@ pub mod Conditions
 pub mod Near
 pub mod Ready
 pub mod Running
+pub mod Watched
 pub mod Backward
 pub mod Stuck
 pub mod Effects

@@ -10,3 +10,5 @@ pub mod Acts
 pub mod Backward
 pub mod Left
 pub mod Besides
+pub mod Around
+pub mod Glances

@@ -1,25 +1,38 @@
 //! The kept events of a lab with what they changed of what neighbours are shown.
 
-ghost use Rattle.std.specs.Prelude.{◌≡◌, ◌≢◌, ◌<◌, ◌+◌, ◌++◌, ◌∷◌, [], ℕ, Some, take, slice_index, length, IfOk, OnOk, IfErr};
+ghost use Rattle.std.specs.Prelude.{◌≡◌, ◌≢◌, ◌<◌, ◌+◌, ◌++◌, ◌∷◌, [], ℕ, true, Some, take, slice_index, length, IfOk, OnOk, IfErr};
+ghost use Rattle.ga_node.specs.Io.{io_word};
 ghost use Rattle.ga_node.specs.Waits.{wait_of, IsWaitCode};
+ghost use Rattle.ga_grid.specs.Grid.{neighbour_of};
 ghost use Rattle.ga_ports.specs.declared.side.Side.{Side};
 ghost use Rattle.ga_grid.specs.Chip.{record_at};
-ghost use Rattle.ga_event.specs.Apply.{writes_to, shows, replay};
+ghost use Rattle.ga_event.specs.Apply.{writes_to, shows, beside_in, seen_from, replay};
 ghost use Rattle.ga_event.specs.Told.{steps_of};
 ghost use Rattle.ga_races.specs.HappensBefore.{causes_in, actions};
 ghost use Rattle.ga_races.specs.Acts.{actions_in};
 ghost use Rattle.ga_races.specs.kept.Changed.{shown_as, is_changed, changed_sides, AreAlike};
-ghost use Rattle.ga_lab.specs.Machine.{chip_of, causes_of, earlier};
-ghost use Rattle.ga_search.specs.kept.Acts.{StoodSo, AllStood, IsAt, IsActAt};
+ghost use Rattle.ga_lab.specs.Machine.{State, chip_of, causes_of, earlier};
+ghost use Rattle.ga_search.specs.kept.Acts.{StoodSo, AllStood, IsAt, IsActAt, IsMoment, AreMoments};
 
+use crate::moments::{Moment, first_part, last_part, no_moments};
 use crate::writers::reads_by;
 use ga_event::{Cause, Event};
-use ga_grid::NodeId;
+use ga_grid::{NodeId, neighbour};
 use ga_lab::{Lab, LabFault};
-use ga_node::Place;
+use ga_node::{Beside, Place, Seen};
 use ga_ports::Side;
 use ga_races::{EventAccess, Sides};
+use ga_word::Word18;
 use std::alloc::Global;
+
+/// The kept events in order.
+#[derive(Drop)]
+pub(crate) struct Acts {
+    /// Each with what it changed of what the neighbours of its nodes are shown.
+    pub(crate) list: Vec<EventAccess>,
+    /// What was before each.
+    pub(crate) moments: Vec<Moment>,
+}
 
 // Of each node the number of its wait, and how many steps it had made, behind so many of the kept events.
 #[derive(Drop)]
@@ -62,6 +75,20 @@ fn shown(wait: u32, side: Side) -> u8
         2
     } else {
         0
+    }
+}
+
+/// What a node whose wait has this number shows on a side.
+pub(crate) fn shown_by(code: u32, side: Side) -> Beside
+    requires { IsWaitCode code }
+    ensures { result ≡ shows (wait_of code) side }
+{
+    if reads_by(code, side) {
+        Beside::Reading
+    } else if writes_by(code, side) {
+        Beside::Writing
+    } else {
+        Beside::Idle
     }
 }
 
@@ -153,6 +180,57 @@ impl Behind {
         let at = node.index();
         self.waits[at] = wait;
         self.steps[at] = step;
+    }
+
+    // What stands on a side of a node.
+    fn beside(&self, node: NodeId, side: Side) -> Beside
+        requires { (m : ℕ) → m < 144 → IsWaitCode (slice_index self.now.waits m) }
+        ensures { (s : State) (p : ℕ) → AllStood s p self.now.waits self.now.steps →
+            result ≡ beside_in (chip_of (earlier s p)) side (neighbour_of node.number side) }
+    {
+        match neighbour(node, side) {
+            Some(other) => shown_by(self.wait_at(other), side),
+            None => Beside::Nobody,
+        }
+    }
+
+    // What stands on each of its sides.
+    #[tactic(auto, unfolding(ga_event::specs::Apply::seen_from))]
+    fn seen(&self, node: NodeId) -> Seen
+        requires { (m : ℕ) → m < 144 → IsWaitCode (slice_index self.now.waits m) }
+        ensures { (s : State) (p : ℕ) → AllStood s p self.now.waits self.now.steps → result ≡ seen_from (chip_of (earlier s p)) node.number }
+    {
+        Seen {
+            right: self.beside(node, Side::Right),
+            down: self.beside(node, Side::Down),
+            left: self.beside(node, Side::Left),
+            up: self.beside(node, Side::Up),
+        }
+    }
+
+    // The word that a node reads in `io`, if it looks.
+    fn word(&self, node: NodeId, look: bool) -> Word18
+        requires { (m : ℕ) → m < 144 → IsWaitCode (slice_index self.now.waits m) }
+        ensures { look ≡ true → (s : State) (p : ℕ) → AllStood s p self.now.waits self.now.steps →
+            result ≡ io_word (seen_from (chip_of (earlier s p)) node.number) }
+    {
+        if !look {
+            return Word18::truncated(0);
+        }
+        self.seen(node).io_word()
+    }
+
+    // What is before this event.
+    fn moment(&self, cause: &Cause) -> Moment
+        requires { (m : ℕ) → m < 144 → IsWaitCode (slice_index self.now.waits m) }
+        ensures { (s : State) (p : ℕ) → AllStood s p self.now.waits self.now.steps → IsMoment s p cause.now result }
+    {
+        let node = first_part(cause.event);
+        let other = last_part(cause.event);
+        let first = self.steps_at(node);
+        let last = self.steps_at(other);
+        let word = self.word(node, cause.look);
+        Moment { first, last, word }
     }
 
     // Goes back by the last step of a node, and says on which sides it changed what the node shows.
@@ -266,29 +344,33 @@ fn plain_acts(alloc: Global, causes: &[Cause]) -> Result<Vec<EventAccess>, LabFa
     Ok(acts)
 }
 
-/// The kept events in order, each with what it changed of what the neighbours of its nodes are shown. Takes memory and time by these.
+/// The kept events in order, each with what it changed of what the neighbours of its nodes are shown, and with what was before it.
+/// Takes memory and time by these.
 ///
 /// # Errors
 /// `Memory` alone.
-pub(crate) fn acts_of(
-    alloc: Global,
-    lab: &Lab,
-    causes: &[Cause],
-) -> Result<Vec<EventAccess>, LabFault>
+pub(crate) fn acts_of(alloc: Global, lab: &Lab, causes: &[Cause]) -> Result<Acts, LabFault>
     requires all { causes.now ≡ causes_of lab.now }
-    ensures size { IfOk result (λ acts. length acts.items ≡ length causes.now) }
-    ensures alike { IfOk result (λ acts. AreAlike (actions_in acts.items) (actions lab.now.load lab.now.kept)) }
+    ensures size { IfOk result (λ acts. length acts.list.items ≡ length causes.now) }
+    ensures alike { IfOk result (λ acts. AreAlike (actions_in acts.list.items) (actions lab.now.load lab.now.kept)) }
+    ensures moments { IfOk result (λ acts. AreMoments lab.now causes.now acts.moments.items) }
     ensures err { IfErr result (λ why. why ≡ LabFault.Memory) }
 {
     let _stands = lab.node(NodeId::new(0));
     let mut acts = plain_acts(alloc, causes)?;
+    let mut moments = no_moments(alloc, causes.len())?;
     let mut behind = Behind::of(lab);
     let mut place = acts.len();
     'back: while place > 0 {
         place -= 1;
         let cause = causes[place];
         let act = behind.back_by(lab, cause);
+        let moment = behind.moment(&cause);
         acts[place] = act;
+        moments[place] = moment;
     }
-    Ok(acts)
+    Ok(Acts {
+        list: acts,
+        moments,
+    })
 }

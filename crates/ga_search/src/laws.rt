@@ -23,6 +23,10 @@ ghost use Rattle.ga_search.specs.Backward.{is_asked_held, newest_held, IsNewestH
 ghost use Rattle.ga_search.specs.Running.{Running, after_events, NeverHolds, HasEnded};
 ghost use Rattle.ga_search.specs.declared.condition.Condition.{Condition};
 ghost use Rattle.ga_search.specs.declared.running.End.{End};
+ghost use Rattle.ga_search.specs.declared.watched.WatchedEnd.{WatchedEnd};
+ghost use Rattle.ga_search.specs.Watched.{after_first, watching, watch_after, NeverEnds, HasEndedWatched};
+
+use crate::watch::Watch;
 
 /// An event changes what the next event of a node is at the nodes that it touches and at their neighbours alone.
 pub fn next_changes_near_alone()
@@ -105,6 +109,21 @@ pub fn slices_are_one_run()
     ensures events { (r : Running) (first second : ℕ) → after_events (after_events r first) second ≡ after_events r (first + second) }
     ensures end { (r : Running) (until : List Condition) (first most second : ℕ) (end : End) → NeverHolds until r first →
         HasEnded (after_events r first) most until second end → HasEnded r (first + most) until (first + second) end }
+{}
+
+/// Two watched runs, the second by the schedule that the first hands back and with the watch as it then is, are one: where the watch did not end the
+/// first, the second ends as the one does. Where no node goes first, such a run makes the events of a run in the order of its schedule.
+pub fn watched_slices_are_one_run<W: Watch>()
+    ensures events { (node : Option NodeId) (r : Running) (first second : ℕ) →
+        after_first node (after_first node r first) second ≡ after_first node r (first + second) }
+    ensures watch { (node : Option NodeId) (w : W) (r : Running) (first second : ℕ) →
+        let by = watching node W.ends W.seen in
+        watch_after by (watch_after by w r first) (after_first node r first) second ≡ watch_after by w r (first + second) }
+    ensures end { (node : Option NodeId) (w : W) (r : Running) (first most second : ℕ) (end : WatchedEnd) →
+        let by = watching node W.ends W.seen in
+        NeverEnds by w r first → HasEndedWatched by (watch_after by w r first) (after_first node r first) most second end →
+        HasEndedWatched by w r (first + most) (first + second) end }
+    ensures order { (r : Running) (events : ℕ) → after_first None r events ≡ after_events r events }
 {}
 
 /// What is found going back is the newest event behind which one of the conditions held, of those that are asked; and where none is

@@ -13,9 +13,9 @@ use ga_ports::Side;
 use std::alloc::Global;
 use std::marker::Model;
 
-// Of each node, on how many steps of one node its newest event depends: on the first so many.
+/// Of each node, on how many steps of one node its newest event depends: on the first so many.
 #[derive(Drop)]
-struct Depths {
+pub(crate) struct Depths {
     steps: [u32; 144],
 }
 
@@ -36,8 +36,8 @@ impl Depths {
     ghost use Rattle.ga_causal.specs.Dependence.{cause_touches};
     ghost use Rattle.ga_search.specs.kept.Left.{greatest, greater_with, depth};
 
-    // Where nothing was made.
-    fn none() -> Self
+    /// Where nothing was made.
+    pub(crate) fn none() -> Self
         ensures { (n : ℕ) → slice_index result n ≡ 0 }
     {
         Depths { steps: [0; NODES] }
@@ -50,8 +50,9 @@ impl Depths {
         self.steps[node.index()]
     }
 
-    // That of an event, where so many steps of the one node were made before it.
-    fn of(&self, cause: &Cause, node: NodeId, made: u32) -> u32
+    /// That of an event, where so many steps of the one node were made before it.
+    #[inline(always)]
+    pub(crate) fn of(&self, cause: &Cause, node: NodeId, made: u32) -> u32
         requires { made + 1 < 2 ^ 32 }
         ensures { result ≡ depth (slice_index self.now) node.number made cause.now }
     {
@@ -101,8 +102,9 @@ impl Depths {
         }
     }
 
-    // Puts a number to the nodes that an event touches.
-    fn put(&mut self, cause: &Cause, steps: u32)
+    /// Puts a number to the nodes that an event touches.
+    #[inline(always)]
+    pub(crate) fn put(&mut self, cause: &Cause, steps: u32)
         ensures { (n : ℕ) → slice_index self.new n ≡ (if cause_touches cause.now n then steps else slice_index self.old n) }
     {
         match cause.event {
@@ -123,8 +125,9 @@ impl Depths {
     }
 }
 
-// One more where the event touches the node.
-fn with_step(steps: u32, cause: &Cause, node: NodeId) -> u32
+/// One more where the event touches the node.
+#[inline(always)]
+pub(crate) fn with_step(steps: u32, cause: &Cause, node: NodeId) -> u32
     requires { steps + 1 < 2 ^ 32 }
     ensures { result ≡ steps + (if cause_touches cause.now node.number then 1 else 0) }
 {
@@ -157,6 +160,64 @@ fn fill(list: &mut Vec<u32>, to: u32, number: u32) -> Result<(), LabFault>
     Ok(())
 }
 
+/// Of the first steps of one node, how many steps of another would be left, were each taken back: as far as the events have gone.
+#[derive(Drop)]
+pub(crate) struct LeftOf {
+    node: NodeId,
+    count: u32,
+    list: Vec<u32>,
+}
+
+impl LeftOf {
+    ghost use Rattle.std.specs.Prelude.{◌≡◌, ◌<◌, ◌+◌, [], ◌^◌, OnOk, IfOk, IfErr};
+    ghost use Rattle.ga_search.specs.kept.Left.{IsFilled, IsTaken};
+
+    /// Where there was no event.
+    pub(crate) fn none(alloc: Global, node: NodeId) -> Self
+        ensures node { result.node ≡ node }
+        ensures count { result.count ≡ 0 }
+        ensures list { result.list.items ≡ [] }
+    {
+        LeftOf {
+            node,
+            count: 0,
+            list: Vec::new(alloc),
+        }
+    }
+
+    /// Goes on by an event, which depends on so many of the steps.
+    ///
+    /// # Errors
+    /// `Memory` alone.
+    #[inline(always)]
+    pub(crate) fn take(&mut self, cause: &Cause, depth: u32) -> Result<(), LabFault>
+        requires { self.old.count + 1 < 2 ^ 32 }
+        ensures ok { OnOk result (IsTaken self.old self.new cause.now depth) }
+        ensures err { IfErr result (λ why. why ≡ LabFault.Memory) }
+    {
+        if !touches(cause.event, self.node) {
+            return Ok(());
+        }
+        fill(&mut self.list, depth, self.count)?;
+        self.count += 1;
+        Ok(())
+    }
+
+    /// The list where there are no more events, and so many steps.
+    ///
+    /// # Errors
+    /// `Memory` alone.
+    pub(crate) fn end(self, made: u32) -> Result<Vec<u32>, LabFault>
+        ensures ok { IfOk result (λ list. IsFilled self.list.items list.items made self.count) }
+        ensures err { IfErr result (λ why. why ≡ LabFault.Memory) }
+    {
+        let LeftOf { count, list, .. } = self;
+        let mut list = list;
+        fill(&mut list, made, count)?;
+        Ok(list)
+    }
+}
+
 /// Of each step of a node, how many steps of another would be left, were it taken back with all that depends on it. Takes memory for
 /// these, and time by the events.
 ///
@@ -172,19 +233,16 @@ pub(crate) fn steps_left(
     ensures left { IfOk result (λ left. AreLeft causes.now node.number other.number left.items) }
     ensures err { IfErr result (λ why. why ≡ LabFault.Memory) }
 {
-    let mut left = Vec::new(alloc);
+    let mut left = LeftOf::none(alloc, other);
     let mut depths = Depths::none();
     let mut made = 0u32;
-    let mut count = 0u32;
     'causes: for cause in causes {
         let depth = depths.of(cause, node, made);
         depths.put(cause, depth);
-        fill(&mut left, depths.at(other), count)?;
+        left.take(cause, depth)?;
         made = with_step(made, cause, node);
-        count = with_step(count, cause, other);
     }
-    fill(&mut left, made, count)?;
-    Ok(left)
+    left.end(made)
 }
 
 // The same of the neighbour on a side, where that is asked for; of no step else.

@@ -2,15 +2,18 @@
 #![tactic(auto)]
 
 mod acts;
+mod around;
 mod condition;
 mod counting;
 mod edges;
 mod effects;
 mod freed;
+mod glances;
 mod going_back;
 mod idle;
 pub mod laws;
 mod left;
+mod moments;
 mod needs;
 mod numbers;
 mod offers;
@@ -20,6 +23,8 @@ mod readings;
 mod ready;
 mod running;
 mod schedule;
+mod watch;
+mod watched;
 mod watching;
 mod words;
 mod writers;
@@ -35,5 +40,7 @@ pub use races::{Race, Races, find_races};
 pub use readings::Reading;
 pub use running::{End, Ran, run_schedule};
 pub use schedule::{Order, Schedule};
+pub use watch::Watch;
+pub use watched::{WatchedEnd, WatchedRun, has_written, run_watched};
 pub use watching::{MOST_CONDITIONS, conditions_asked};
 pub use words::{Sent, Words};

@@ -371,7 +371,9 @@ fn find_taken(
 
 /// The steps of a node, or of all, by which it took a word where another neighbour could have given it one. Nothing is taken back.
 /// Takes memory for the list, and for a while for a list of all kept events and four numbers for each step of a node; and time by these
-/// events, and again by these for each neighbour of a node that ever waited to write to it, where there are two.
+/// events, and again by these for each neighbour of a node that ever waited to write to it, where there are two. Where events look, also
+/// memory for some numbers of each event and five of each step of a node, and time by the events for each node that looks and again for
+/// each of its neighbours.
 ///
 /// # Errors
 /// `Memory` alone.

@@ -1,30 +1,30 @@
 //! Looks that could have read another word.
 
-ghost use Rattle.std.specs.Prelude.{◌≡◌, ◌≢◌, ◌<◌, ◌≤◌, ◌+◌, ◌^◌, ◌++◌, ◌∷◌, [], ℕ, true, false, length, take, slice_index, if◌then◌else◌, Contains, Some, IsSome, IfSome, IfOk, OnOk, IfErr};
+ghost use Rattle.std.specs.Prelude.{◌≡◌, ◌<◌, ◌+◌, ◌^◌, ◌++◌, ◌∷◌, [], ℕ, List, length, take, Contains, Some, IsSome, IfSome, IfOk, OnOk, IfErr, None, slice_index_or};
 ghost use Rattle.std.specs.List.{All};
-ghost use Rattle.ga_node.specs.Record.{record_of};
-ghost use Rattle.ga_node.specs.Io.{io_word};
 ghost use Rattle.ga_grid.specs.Grid.{neighbour_of};
 ghost use Rattle.ga_grid.specs.Chip.{record_at};
 ghost use Rattle.ga_event.specs.Apply.{shows, beside_in, seen_from};
 ghost use Rattle.ga_event.specs.Told.{steps_of};
-ghost use Rattle.ga_causal.specs.Dependence.{event_at};
-ghost use Rattle.ga_causal.specs.Steps.{touching, IsStep};
-ghost use Rattle.ga_lab.specs.Machine.{State, chip_of, causes_of, earlier, rewound, stands};
-ghost use Rattle.ga_search.specs.Races.{looks_next, has_look};
+ghost use Rattle.ga_event.specs.declared.event.Cause.{Cause};
+ghost use Rattle.ga_races.specs.declared.near.Near.{Near};
+ghost use Rattle.ga_lab.specs.Machine.{chip_of, causes_of, earlier, rewound};
+ghost use Rattle.ga_search.specs.declared.glances.Glance.{Glance};
+ghost use Rattle.ga_search.specs.Races.{has_look};
 ghost use Rattle.ga_search.specs.Readings.{IsOtherwise, IsTold, NoneMissed};
-ghost use Rattle.ga_search.specs.kept.Readings.{AreGone, IsAtNear, part_beside};
+ghost use Rattle.ga_search.specs.kept.Readings.{IsAtNear};
+ghost use Rattle.ga_search.specs.kept.Around.{IsAround, AreAround};
+ghost use Rattle.ga_search.specs.kept.Glances.{taken_of, IsGlance, IsGlanced, IsAroundOf, HasStep, AreKnown, IsOtherWord, AreRead};
 
-use crate::acts::acts_of;
-use crate::counting::are_linked;
-use crate::offers::behind;
-use ga_event::{Cause, Event, is_reading, is_writing, touches};
+use crate::acts::{acts_of, shown_by};
+use crate::around::{Around, LeftAround};
+use crate::glances::{Glance, glance_at, glances_of};
+use ga_event::{Cause, is_reading, is_writing};
 use ga_grid::{NodeId, neighbour};
-use ga_lab::{Lab, LabFault};
-use ga_node::{Beside, Node, Seen, Wait};
+use ga_lab::{Lab, LabFault, Made};
+use ga_node::{Beside, Place, Seen, Wait};
 use ga_ports::Side;
-use ga_races::{Near, find_near};
-use ga_rollback::Visited;
+use ga_races::find_near;
 use ga_word::Word18;
 use std::alloc::Global;
 
@@ -47,21 +47,6 @@ pub struct Reading {
     pub other: Word18,
 }
 
-// How many of the first events touch the node.
-fn steps_before(causes: &[Cause], place: u32, node: NodeId) -> u32
-    requires { place ≤ length causes.now }
-    ensures counted { result ≡ touching node.number (take place causes.now) }
-    ensures few { result ≤ place }
-{
-    let mut steps = 0u32;
-    'causes: for at in 0..place {
-        if touches(causes[at as usize].event, node) {
-            steps += 1;
-        }
-    }
-    steps
-}
-
 // What a node that waits so shows on a side.
 fn shows(wait: &Wait, side: Side) -> Beside
     ensures { result ≡ shows wait.now side }
@@ -75,217 +60,100 @@ fn shows(wait: &Wait, side: Side) -> Beside
     }
 }
 
-// A node as it stood when so many of the kept events had been made.
-fn node_before(lab: &Lab, causes: &[Cause], place: u32, node: NodeId) -> Node
-    requires all { causes.now ≡ causes_of lab.now }
-    requires within { place ≤ length causes.now }
-    ensures { record_of result ≡ record_at (chip_of (earlier lab.now place)) node.number }
+// What a node showed on a side when it had made so many steps, of which the next wrote over its wait, if that is kept.
+fn shown_before(lab: &Lab, node: NodeId, steps: u32, side: Side) -> Beside
+    ensures { (place : ℕ) → steps_of node.number (take place lab.now.kept) ≡ steps →
+        result ≡ shows (record_at (chip_of (earlier lab.now place)) node.number).wait side }
 {
-    let _caused = lab.stands((node, 0));
-    match lab.peek(node, steps_before(causes, place, node)) {
-        Some(then) => then,
-        None => lab.node(node).copy(),
+    let now = lab.node(node);
+    match lab.overwritten(node, steps, Place::Wait) {
+        Some(code) => shown_by(code, side),
+        None => match lab.peek(node, steps) {
+            Some(then) => shows(&then.wait(), side),
+            None => shows(&now.wait(), side),
+        },
     }
 }
 
-// What stood on a side of the node then.
-fn beside_before(lab: &Lab, causes: &[Cause], place: u32, node: NodeId, side: Side) -> Beside
-    requires all { causes.now ≡ causes_of lab.now }
-    requires within { place ≤ length causes.now }
-    ensures { result ≡ beside_in (chip_of (earlier lab.now place)) side (neighbour_of node.number side) }
+// The same of any steps: a node whose next step is its own waits for nothing.
+fn shown_at(lab: &Lab, node: NodeId, steps: u32, side: Side) -> Beside
+    ensures { (place : ℕ) → steps_of node.number (take place lab.now.kept) ≡ steps →
+        result ≡ shows (record_at (chip_of (earlier lab.now place)) node.number).wait side }
 {
+    let now = lab.node(node);
+    let _many = lab.steps(node);
+    match lab.told(node, steps) {
+        Some(Made::Own { .. }) => Beside::Idle,
+        Some(Made::Pass { .. }) => shown_before(lab, node, steps, side),
+        None => shows(&now.wait(), side),
+    }
+}
+
+// What would stand on a side of the node where so many steps of each neighbour were left.
+fn beside_behind(lab: &Lab, around: &Around, node: NodeId, side: Side) -> Beside
+    ensures { (b k : ℕ) → IsAround (causes_of lab.now) b k node.number around.now →
+        result ≡ beside_in (chip_of (rewound lab.now b k)) side (neighbour_of node.number side) }
+{
+    let _stands = lab.node(node);
     match neighbour(node, side) {
-        Some(other) => {
-            let then = node_before(lab, causes, place, other);
-            shows(&then.wait(), side)
-        }
-        None => Beside::Nobody,
-    }
-}
-
-// What stood on each of its sides then.
-#[tactic(auto, unfolding(ga_event::specs::Apply::seen_from))]
-fn seen_before(lab: &Lab, causes: &[Cause], place: u32, node: NodeId) -> Seen
-    requires all { causes.now ≡ causes_of lab.now }
-    requires within { place ≤ length causes.now }
-    ensures { result ≡ seen_from (chip_of (earlier lab.now place)) node.number }
-{
-    Seen {
-        right: beside_before(lab, causes, place, node, Side::Right),
-        down: beside_before(lab, causes, place, node, Side::Down),
-        left: beside_before(lab, causes, place, node, Side::Left),
-        up: beside_before(lab, causes, place, node, Side::Up),
-    }
-}
-
-// What would stand on a side of the node where so many steps of each node went.
-fn beside_behind(lab: &Lab, steps: &Visited, node: NodeId, side: Side) -> Beside
-    requires { (m : ℕ) → slice_index steps.now m ≤ steps_of m lab.now.kept }
-    ensures { (n k : ℕ) → AreGone lab.now n k steps.now →
-        result ≡ beside_in (chip_of (rewound lab.now n k)) side (neighbour_of node.number side) }
-{
-    match neighbour(node, side) {
-        Some(other) => {
-            let then = behind(lab, steps, other);
-            shows(&then.wait(), side)
-        }
+        Some(other) => shown_at(lab, other, around.over(side), side),
         None => Beside::Nobody,
     }
 }
 
 // What would stand on each of its sides.
 #[tactic(auto, unfolding(ga_event::specs::Apply::seen_from))]
-fn seen_behind(lab: &Lab, steps: &Visited, node: NodeId) -> Seen
-    requires { (m : ℕ) → slice_index steps.now m ≤ steps_of m lab.now.kept }
-    ensures { (n k : ℕ) → AreGone lab.now n k steps.now → result ≡ seen_from (chip_of (rewound lab.now n k)) node.number }
+fn seen_behind(lab: &Lab, around: &Around, node: NodeId) -> Seen
+    ensures { (b k : ℕ) → IsAround (causes_of lab.now) b k node.number around.now →
+        result ≡ seen_from (chip_of (rewound lab.now b k)) node.number }
 {
     Seen {
-        right: beside_behind(lab, steps, node, Side::Right),
-        down: beside_behind(lab, steps, node, Side::Down),
-        left: beside_behind(lab, steps, node, Side::Left),
-        up: beside_behind(lab, steps, node, Side::Up),
+        right: beside_behind(lab, around, node, Side::Right),
+        down: beside_behind(lab, around, node, Side::Down),
+        left: beside_behind(lab, around, node, Side::Left),
+        up: beside_behind(lab, around, node, Side::Up),
     }
 }
 
-// Whether the next event of the node would be a look of its own, its step of this number.
-fn looks_behind(lab: &Lab, steps: &Visited, node: NodeId, step: u32) -> bool
-    requires { (m : ℕ) → slice_index steps.now m ≤ steps_of m lab.now.kept }
-    ensures next { result ≡ true → (n k : ℕ) → AreGone lab.now n k steps.now → looks_next (chip_of (rewound lab.now n k)) node.number ≡ true }
-    ensures step { result ≡ true → (n k : ℕ) → AreGone lab.now n k steps.now →
-        steps_of node.number (rewound lab.now n k).kept + 1 ≡ step }
-    ensures none { result ≡ false → (n k : ℕ) → AreGone lab.now n k steps.now → looks_next (chip_of (rewound lab.now n k)) node.number ≡ true →
-        steps_of node.number (rewound lab.now n k).kept + 1 ≢ step }
+// The word that a look would read, were its step or the change taken back, if all steps of its node before it would be left: then it
+// comes next.
+fn other_word(lab: &Lab, glance: &Glance, around: &Around) -> Option<Word18>
+    requires glance { (near : Near) × IsGlance lab.now near glance.now }
+    requires around { IsAroundOf (causes_of lab.now) glance.now around.now }
+    ensures is { IfSome result (λ word. IsOtherWord lab.now glance.now word) }
+    ensures some { steps_of glance.now.node.number (rewound lab.now (taken_of glance.now).0.number (taken_of glance.now).1).kept + 1 ≡ glance.now.step →
+        IsSome result }
 {
-    let left = lab.steps(node) - steps.count(node);
-    if left >= step || step - left != 1 {
-        return false;
+    let _stands = lab.node(glance.node);
+    if around.node >= glance.step || glance.step - around.node != 1 {
+        return None;
     }
-    let at = behind(lab, steps, node);
-    match at.not_ready() {
-        Some(_) => false,
-        None => at.looks(),
-    }
-}
-
-// The word that the node would read in `io`, were a step taken back with all that depends on it, if its next event were then a look,
-// its step of this number.
-fn read_behind(lab: &mut Lab, back: (NodeId, u32), node: NodeId, step: u32) -> Option<Word18>
-    ensures word { IfSome result (λ word.
-        word ≡ io_word (seen_from (chip_of (rewound lab.old back.0.number back.1)) node.number)) }
-    ensures next { IfSome result (λ word. looks_next (chip_of (rewound lab.old back.0.number back.1)) node.number ≡ true) }
-    ensures step { IfSome result (λ word. steps_of node.number (rewound lab.old back.0.number back.1).kept + 1 ≡ step) }
-    ensures some { stands lab.old back.0.number back.1 ≡ true → looks_next (chip_of (rewound lab.old back.0.number back.1)) node.number ≡ true →
-        steps_of node.number (rewound lab.old back.0.number back.1).kept + 1 ≡ step → IsSome result }
-    ensures same { lab.new ≡ lab.old }
-{
-    match lab.would_rewind(back.0, back.1) {
-        Ok(going) => {
-            if looks_behind(lab, &going.steps, node, step) {
-                Some(seen_behind(lab, &going.steps, node).io_word())
-            } else {
-                None
-            }
-        }
-        Err(_) => None,
-    }
-}
-
-// The node of a look.
-fn looking(cause: &Cause) -> Option<NodeId>
-    ensures node { IfSome result (λ node. cause.now ≡ record { event = Event.Own node; look = true }) }
-    ensures found { (node : NodeId) → cause.now ≡ record { event = Event.Own node; look = true } → result ≡ Some node }
-{
-    match cause.event {
-        Event::Own(node) => { if cause.look { Some(node) } else { None } }
-        Event::Pass { .. } => None,
-    }
-}
-
-// Which node of an event is beside another.
-fn part_beside(event: Event, node: NodeId) -> NodeId
-    ensures { result ≡ part_beside event node.number }
-{
-    match event {
-        Event::Own(own) => own,
-        Event::Pass { writer, reader, .. } => {
-            if are_linked(node, writer) {
-                writer
-            } else {
-                reader
-            }
-        }
-    }
-}
-
-// The word that a look would read, were it taken back, where it came before the change, or else the change.
-fn other_word(
-    lab: &mut Lab,
-    early: bool,
-    look: (NodeId, u32),
-    change: (NodeId, u32),
-) -> Option<Word18>
-    ensures word { IfSome result (λ word.
-        let back = if early then look else change in
-        word ≡ io_word (seen_from (chip_of (rewound lab.old back.0.number back.1)) look.0.number)) }
-    ensures next { IfSome result (λ word.
-        let back = if early then look else change in
-        looks_next (chip_of (rewound lab.old back.0.number back.1)) look.0.number ≡ true) }
-    ensures step { IfSome result (λ word.
-        let back = if early then look else change in
-        steps_of look.0.number (rewound lab.old back.0.number back.1).kept + 1 ≡ look.1) }
-    ensures some { let back = if early then look else change in
-        stands lab.old back.0.number back.1 ≡ true → looks_next (chip_of (rewound lab.old back.0.number back.1)) look.0.number ≡ true →
-        steps_of look.0.number (rewound lab.old back.0.number back.1).kept + 1 ≡ look.1 → IsSome result }
-    ensures same { lab.new ≡ lab.old }
-{
-    if early {
-        read_behind(lab, look, look.0, look.1)
-    } else {
-        read_behind(lab, change, look.0, look.1)
-    }
+    Some(seen_behind(lab, around, glance.node).io_word())
 }
 
 // A look and a change, as they are told, if the look reads another word.
-fn reading_of(lab: &mut Lab, causes: &[Cause], near: Near) -> Option<Reading>
-    requires all { causes.now ≡ causes_of lab.old }
-    requires few { length causes.now < 2 ^ 32 }
-    requires look { near.look < length causes.now }
-    requires change { near.change < length causes.now }
-    ensures told { IfSome result (λ reading. IsOtherwise lab.old reading) }
-    ensures found { (reading : Reading) → IsOtherwise lab.old reading → IsAtNear lab.old near reading → result ≡ Some reading }
-    ensures same { lab.new ≡ lab.old }
+fn reading_of(lab: &Lab, glance: &Glance, around: &Around) -> Option<Reading>
+    requires glance { (near : Near) × IsGlance lab.now near glance.now }
+    requires around { IsAroundOf (causes_of lab.now) glance.now around.now }
+    ensures told { IfSome result (λ reading. IsOtherwise lab.now reading) }
+    ensures node { IfSome result (λ reading. reading.node ≡ glance.now.node) }
+    ensures found { (near : Near) (reading : Reading) → IsGlance lab.now near glance.now → IsOtherwise lab.now reading →
+        IsAtNear lab.now near reading → result ≡ Some reading }
 {
-    let _stands = lab.node(NodeId::new(0));
-    let node = looking(&causes[near.look as usize])?;
-    let step = steps_before(causes, near.look, node) + 1;
-    let word = seen_before(lab, causes, near.look, node).io_word();
-    let neighbour = part_beside(causes[near.change as usize].event, node);
-    let change = steps_before(causes, near.change, neighbour) + 1;
-    let early = near.look < near.change;
-    let other = other_word(lab, early, (node, step), (neighbour, change))?;
-    if other.get() == word.get() {
+    let _stands = lab.node(glance.node);
+    let other = other_word(lab, glance, around)?;
+    if other.get() == glance.word.get() {
         return None;
     }
     Some(Reading {
-        node,
-        step,
-        word,
-        neighbour,
-        change,
-        early,
+        node: glance.node,
+        step: glance.step,
+        word: glance.word,
+        neighbour: glance.neighbour,
+        change: glance.change,
+        early: glance.early,
         other,
     })
-}
-
-// Whether it is the node that was asked for.
-fn is_asked(only: Option<NodeId>, node: NodeId) -> bool
-    ensures asked { result ≡ true → IfSome only (λ it. node ≡ it) }
-    ensures other { result ≡ false → IfSome only (λ it. node ≡ it) → ⊥ }
-{
-    match only {
-        Some(it) => it.number == node.number,
-        None => true,
-    }
 }
 
 // Puts a reading at the end of a list.
@@ -299,65 +167,182 @@ fn add(list: &mut Vec<Reading>, reading: Reading) -> Result<(), LabFault>
     }
 }
 
-// Adds those of a look and a change, where it is told.
-fn add_near(
+// Adds that of a look and a change, where it is told.
+fn add_reading(
     list: &mut Vec<Reading>,
-    lab: &mut Lab,
-    causes: &[Cause],
-    near: Near,
+    lab: &Lab,
+    glance: &Glance,
+    around: &Around,
     only: Option<NodeId>,
 ) -> Result<(), LabFault>
-    requires all { causes.now ≡ causes_of lab.old }
-    requires few { length causes.now < 2 ^ 32 }
-    requires told { All (IsTold lab.old only) list.old.items }
-    ensures told { OnOk result (All (IsTold lab.old only) list.new.items) }
+    requires glance { IsGlanced lab.now only glance.now }
+    requires around { IsAroundOf (causes_of lab.now) glance.now around.now }
+    requires told { All (IsTold lab.now only) list.old.items }
+    ensures told { OnOk result (All (IsTold lab.now only) list.new.items) }
     ensures kept { OnOk result ((reading : Reading) → Contains list.old.items reading → Contains list.new.items reading) }
-    ensures found { OnOk result ((reading : Reading) → IsTold lab.old only reading → IsAtNear lab.old near reading → Contains list.new.items reading) }
+    ensures found { OnOk result ((near : Near) (reading : Reading) → IsGlance lab.now near glance.now → IsTold lab.now only reading →
+        IsAtNear lab.now near reading → Contains list.new.items reading) }
     ensures err { IfErr result (λ why. why ≡ LabFault.Memory) }
-    ensures same { lab.new ≡ lab.old }
 {
-    if near.look as usize >= causes.len() || near.change as usize >= causes.len() {
-        return Ok(());
-    }
-    match reading_of(lab, causes, near) {
-        Some(reading) if is_asked(only, reading.node) => add(list, reading),
-        _ => Ok(()),
+    match reading_of(lab, glance, around) {
+        Some(reading) => add(list, reading),
+        None => Ok(()),
     }
 }
 
+// Puts at the end of a list that nothing is known.
+fn add_unknown(list: &mut Vec<Option<Around>>) -> Result<(), LabFault>
+    ensures ok { OnOk result (list.new.items ≡ list.old.items ++ None ∷ []) }
+    ensures err { IfErr result (λ why. why ≡ LabFault.Memory) }
+{
+    match list.push(None) {
+        Ok(()) => Ok(()),
+        Err(_) => Err(LabFault::Memory),
+    }
+}
+
+// Of so many looks, nothing yet.
+fn none_known(alloc: Global, many: usize) -> Result<Vec<Option<Around>>, LabFault>
+    ensures size { IfOk result (λ known. length known.items ≡ many) }
+    ensures none { IfOk result (λ known. All (λ around. around ≡ None) known.items) }
+    ensures err { IfErr result (λ why. why ≡ LabFault.Memory) }
+{
+    let mut known = match Vec::with_capacity(alloc, many) {
+        Ok(known) => known,
+        Err(_) => return Err(LabFault::Memory),
+    };
+    'many: for _place in 0..many {
+        add_unknown(&mut known)?;
+    }
+    Ok(known)
+}
+
+// Notes how many steps around a look would be left, where it hangs together with the one of which these lists are.
+fn note(known: &mut Vec<Option<Around>>, lists: &LeftAround, of: &Glance, other: &Glance, at: usize)
+    requires within { at < length known.old.items }
+    requires first { 0 < (taken_of other.now).1 }
+    ensures size { length known.new.items ≡ length known.old.items }
+    ensures known { (causes : List Cause) (glances : List Glance) → AreAround causes (taken_of of.now).0.number of.now.node.number lists.now →
+        HasStep causes other.now → at < length glances → other.now ≡ slice_index_or glances at other.now →
+        AreKnown causes glances known.old.items → AreKnown causes glances known.new.items }
+{
+    if other.hangs_with(of) {
+        let step = other.taken().1;
+        let around = lists.at(step);
+        known[at] = Some(around);
+    }
+}
+
+// How many steps around a look would be left, and around each from its place on that hangs together with it, by passes over the events
+// for all of these.
+fn learn(
+    alloc: Global,
+    causes: &[Cause],
+    glances: &[Glance],
+    known: &mut Vec<Option<Around>>,
+    place: usize,
+) -> Result<Around, LabFault>
+    requires few { length causes.now < 2 ^ 32 }
+    requires steps { All (HasStep causes.now) glances.now }
+    requires within { place < length glances.now }
+    requires size { length known.old.items ≡ length glances.now }
+    requires known { AreKnown causes.now glances.now known.old.items }
+    ensures around { IfOk result (λ around. (glance : Glance) → glance ≡ slice_index_or glances.now place glance → IsAroundOf causes.now glance around) }
+    ensures size { OnOk result (length known.new.items ≡ length glances.now) }
+    ensures known { OnOk result (AreKnown causes.now glances.now known.new.items) }
+    ensures err { IfErr result (λ why. why ≡ LabFault.Memory) }
+{
+    let of = glance_at(glances, place);
+    let taken = of.taken();
+    let lists = LeftAround::of(alloc, causes, taken.0, of.node)?;
+    'others: for at in place..glances.len() {
+        let other = glance_at(glances, at);
+        note(known, &lists, &of, &other, at);
+    }
+    Ok(lists.at(taken.1))
+}
+
+// How many steps around a look would be left.
+fn around_of(
+    alloc: Global,
+    causes: &[Cause],
+    glances: &[Glance],
+    known: &mut Vec<Option<Around>>,
+    place: usize,
+) -> Result<Around, LabFault>
+    requires few { length causes.now < 2 ^ 32 }
+    requires steps { All (HasStep causes.now) glances.now }
+    requires within { place < length glances.now }
+    requires size { length known.old.items ≡ length glances.now }
+    requires known { AreKnown causes.now glances.now known.old.items }
+    ensures around { IfOk result (λ around. (glance : Glance) → glance ≡ slice_index_or glances.now place glance → IsAroundOf causes.now glance around) }
+    ensures size { OnOk result (length known.new.items ≡ length glances.now) }
+    ensures known { OnOk result (AreKnown causes.now glances.now known.new.items) }
+    ensures err { IfErr result (λ why. why ≡ LabFault.Memory) }
+{
+    match known[place] {
+        Some(around) => Ok(around),
+        None => learn(alloc, causes, glances, known, place),
+    }
+}
+
+// The readings of some looks and changes, in order.
+fn readings_of(
+    alloc: Global,
+    lab: &Lab,
+    causes: &[Cause],
+    glances: &[Glance],
+    only: Option<NodeId>,
+) -> Result<Vec<Reading>, LabFault>
+    requires all { causes.now ≡ causes_of lab.now }
+    requires few { length causes.now < 2 ^ 32 }
+    requires glances { All (IsGlanced lab.now only) glances.now }
+    ensures told { IfOk result (λ list. All (IsTold lab.now only) list.items) }
+    ensures found { IfOk result (λ list. AreRead lab.now only glances.now list.items) }
+    ensures err { IfErr result (λ why. why ≡ LabFault.Memory) }
+{
+    let _stands = lab.node(NodeId::new(0));
+    let mut known = none_known(alloc, glances.len())?;
+    let mut list = Vec::new(alloc);
+    'glances: for place in 0..glances.len() {
+        let glance = glance_at(glances, place);
+        let around = around_of(alloc, causes, glances, &mut known, place)?;
+        add_reading(&mut list, lab, &glance, &around, only)?;
+    }
+    Ok(list)
+}
+
 /// The looks of a node, or of all, that could have read another word: each with a change that stands before or behind it, with nothing
-/// between that would keep their order. Nothing is taken back. Takes memory for a while for a list of all kept events, and time by
-/// these for each node that looks, and again for each that is told. Where none of the events looks there is none, and nothing is done.
+/// between that would keep their order. Nothing is taken back. Takes memory for a while for a list of all kept events and for some
+/// numbers of each, and time by these; and again by these, and by what is told, for each node that looks and each of its neighbours
+/// that changes what it shows to that. Where none of the events looks there is none, and nothing is done.
 ///
 /// # Errors
 /// `Memory` alone.
 pub(crate) fn find_readings(
     alloc: Global,
-    lab: &mut Lab,
+    lab: &Lab,
     causes: &[Cause],
     looks: bool,
     only: Option<NodeId>,
 ) -> Result<Vec<Reading>, LabFault>
-    requires all { causes.now ≡ causes_of lab.old }
+    requires all { causes.now ≡ causes_of lab.now }
     requires few { length causes.now < 2 ^ 32 }
     requires looks { looks ≡ has_look causes.now }
-    ensures told { IfOk result (λ list. All (IsTold lab.old only) list.items) }
-    ensures found { IfOk result (λ list. NoneMissed lab.old only list.items) }
+    ensures told { IfOk result (λ list. All (IsTold lab.now only) list.items) }
+    ensures found { IfOk result (λ list. NoneMissed lab.now only list.items) }
     ensures err { IfErr result (λ why. why ≡ LabFault.Memory) }
-    ensures same { lab.new ≡ lab.old }
 {
     if !looks {
         return Ok(Vec::new(alloc));
     }
     let _stands = lab.node(NodeId::new(0));
     let acts = acts_of(alloc, lab, causes)?;
-    let nears = match find_near(alloc, acts.as_slice()) {
+    let nears = match find_near(alloc, acts.list.as_slice()) {
         Ok(nears) => nears,
         Err(_) => return Err(LabFault::Memory),
     };
-    let mut list = Vec::new(alloc);
-    'nears: for near in nears.as_slice() {
-        add_near(&mut list, lab, causes, *near, only)?;
-    }
-    Ok(list)
+    let events = (causes, acts.moments.as_slice());
+    let glances = glances_of(alloc, lab, events, nears.as_slice(), only)?;
+    readings_of(alloc, lab, causes, glances.as_slice(), only)
 }

@@ -38,6 +38,7 @@ impl<L: Ledger> Locked<L> {
     ///
     /// # Errors
     /// `Memory` alone; then nothing changed.
+    #[inline(always)]
     pub fn call(&mut self, seat: &mut Seat<L>, call: Call) -> Result<Receipt, SharedFault>
         ensures makes { IfOk result (λ receipt. Makes self.old self.new seat.old seat.new call receipt) }
         ensures place { seat.old.calls ≤ length self.old.log }
@@ -65,6 +66,7 @@ impl<L: Ledger> Locked<L> {
 }
 
 /// Makes a call of the lab.
+#[inline(always)]
 fn answer(lab: &mut Lab, call: Call) -> Result<Answer, SharedFault>
     ensures answer { IfOk result (λ answer. answer ≡ call_answer lab.old call) }
     ensures given { IfOk result (λ answer. answer ≢ Answer.Refused 4) }

@@ -10,6 +10,8 @@ mod because;
 #[cfg(test)]
 mod explore;
 #[cfg(test)]
+mod forward;
+#[cfg(test)]
 mod frames;
 #[cfg(test)]
 mod idle;

@@ -8,7 +8,7 @@ impl Journal {
     ghost use Rattle.std.specs.Prelude.{◌≡◌, ◌<◌, ◌+◌, ◌^◌, ℕ, Some, length, true, false, IfSome, IfNone};
     ghost use Rattle.ga_journal.specs.Work.{no_work};
     ghost use Rattle.ga_journal.specs.Histories.{history};
-    ghost use Rattle.ga_journal.specs.Marks.{AreMarks, mark_of, waits, numbers_of_position, partner_at, counted_at, ticked, lowered, raised, taken_up};
+    ghost use Rattle.ga_journal.specs.Marks.{AreMarks, mark_of, going_of, waits, numbers_of_position, partner_at, counted_at, ticked, lowered, raised, taken_up};
     ghost use Rattle.ga_journal.specs.Marks.{CanTakeBack, IsTakenBack};
     ghost use Rattle.ga_journal.specs.Looks.{IsLookToGo, SawNoneToGo, IsSought};
 
@@ -44,6 +44,15 @@ impl Journal {
         ensures sound { AreMarks self.now }
     {
         self.histories.count(node) - self.going[node.index()]
+    }
+
+    /// How many of a node's entries are to go, at the end of its history.
+    #[inline(always)]
+    pub fn going_of(&self, node: NodeId) -> u32
+        ensures value { result ≡ going_of self.now node.number }
+        ensures sound { AreMarks self.now }
+    {
+        self.going[node.index()]
     }
 
     /// The position of the newest look of `looker` that is to stay so far, where it came after an entry of `node` that is

@@ -13,6 +13,7 @@ use Rattle.ga_event.specs.declared.made.Made.TheVariants.{Own, Pass}
 use Rattle.ga_causal.specs.Dependence.{cause_touches, rewound_list}
 use Rattle.ga_causal.specs.Steps.{touching}
 use Rattle.ga_search.specs.declared.left.LeftBeside.{LeftBeside}
+use Rattle.ga_search.specs.declared.left.LeftOf.{LeftOf}
 
 -- the greatest of the numbers of some nodes
 abbrev pub greatest : (ℕ → ℕ) → List ℕ → ℕ
@@ -43,6 +44,12 @@ pub record IsFilled (old new : List ℕ) (to number : ℕ) : Type 0 where
   pub size : length new ≡ max (length old) to
   pub same : (k : ℕ) → k < length old → slice_index new k ≡ slice_index old k
   pub more : (k : ℕ) → length old ≤ k → k < length new → slice_index new k ≡ number
+
+-- One more event was taken in, which depends on so many steps: where it is a step of the node, more of these are left without it.
+pub record IsTaken (old new : LeftOf) (cause : Cause) (depth : ℕ) : Type 0 where
+  pub node : new.node ≡ old.node
+  pub count : new.count ≡ old.count + (if cause_touches cause old.node.number then 1 else 0)
+  pub list : IsFilled old.list.items new.list.items (if cause_touches cause old.node.number then depth else length old.list.items) old.count
 
 -- the word that a node waits to write over the side
 abbrev pub posted : NodeRecord → Side → Option ℕ

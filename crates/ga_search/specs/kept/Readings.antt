@@ -12,10 +12,6 @@ use Rattle.ga_lab.specs.Machine.{State, causes_of, rewound}
 use Rattle.ga_search.specs.Near.{are_linked}
 use Rattle.ga_search.specs.declared.readings.Reading.{Reading}
 
--- of each node so many steps would go with the step k of node n
-abbrev pub AreGone : State → ℕ → ℕ → List ℕ → Type 0
-AreGone s n k steps = (m : ℕ) → slice_index steps m + steps_of m (rewound s n k).kept ≡ steps_of m s.kept
-
 -- which node of an event stands beside another, of a pass the writer if that does
 abbrev pub part_beside : Event → ℕ → NodeId
 part_beside (Own own) n = own

@@ -1,16 +1,13 @@
-use Rattle.std.proofs.Common.{ℕ, Option, slice_index, ◌∙◌, ap}
-use Rattle.ga_node.specs.Record.{NodeRecord, record_of}
-use Rattle.ga_event.specs.Apply.{shows, beside_in}
+use Rattle.std.proofs.Common.{ℕ, Option, ◌∙◌, sym, ap}
+use Rattle.std.specs.Prelude.{is_some}
+use Rattle.ga_event.specs.Apply.{beside_in}
 use Rattle.ga_lab.specs.Machine.{chip_of, rewound}
-use Rattle.ga_search.proofs.Standing.{is_rewound}
+use Rattle.ga_search.proofs.Showing.{rewound_shows}
 use Rattle.ga_search.proofs.readings.beside_behind.Goals as goal
 
 pub returns-in-Some : goal.returns-in-Some
-returns-in-Some c = λ n k gone.
+returns-in-Some c = λ b k around.
     let s = c.args.lab.now in
-    let m = c.in-Some.other.number in
-    let at = record_of c.behind-then.result in
-    c.shows.ensures
-    ∙ ap (λ w. shows w c.args.side) (c.wait.ensures.value ∙ ap (λ (z : NodeRecord). z.wait)
-    (is_rewound s n k m (slice_index c.args.steps.now m) at c.behind-then.ensures.replays (gone m) c.behind-then.ensures.value))
-    ∙ ap (λ (o : Option ℕ). beside_in (chip_of (rewound s n k)) c.args.side o) c.in-Some.ensures.value
+    rewound_shows s b k c.in-Some.other.number c.over.result c.args.side c.shown_at.result (ap is_some c.node-stands.ensures.replays)
+    (c.over.ensures ∙ around.beside c.args.side c.in-Some.other.number (sym c.in-Some.ensures.value)) c.shown_at.ensures
+    ∙ ap (λ (o : Option ℕ). beside_in (chip_of (rewound s b k)) c.args.side o) c.in-Some.ensures.value

@@ -1,18 +1,23 @@
-use Rattle.std.proofs.Common.{◌≡◌, ◌+◌, ℕ, cond, Bool, true, Option, IsSome, sym, subst}
-use Rattle.ga_grid.specs.declared.node_id.NodeId.{NodeId}
+use Rattle.std.proofs.Common.{◌≡◌, ◌+◌, ◌∙◌, ℕ, ap, sym, arith}
+use Rattle.ga_node.specs.Io.{io_word}
 use Rattle.ga_event.specs.Told.{steps_of}
-use Rattle.ga_lab.specs.Machine.{State, chip_of, rewound, stands}
-use Rattle.ga_search.specs.Races.{looks_next}
+use Rattle.ga_causal.specs.Dependence.{rewound_list}
+use Rattle.ga_causal.proofs.Places.{touching_in}
+use Rattle.ga_lab.specs.Machine.{chip_of, causes_of, rewound}
+use Rattle.ga_search.specs.kept.Glances.{taken_of}
+use Rattle.ga_search.proofs.Glancing.{looks_again}
 use Rattle.ga_search.proofs.readings.other_word.Goals as goal
 
-abbrev IsFoundBehind : State → NodeId × ℕ → Option ℕ → NodeId × ℕ → Type 0
-IsFoundBehind s look word back = stands s back.0.number back.1 ≡ true → looks_next (chip_of (rewound s back.0.number back.1)) look.0.number ≡ true
-    → steps_of look.0.number (rewound s back.0.number back.1).kept + 1 ≡ look.1 → IsSome word
-
-pub returns-then-early-clause-some : goal.returns-then-early-clause-some
-returns-then-early-clause-some c =
-    subst (λ (b : Bool). IsFoundBehind c.args.lab.now c.args.look c.read_behind.result (cond b c.args.look c.args.change)) (sym c.if-early.true) c.read_behind.ensures.some
-
-pub returns-else-early-clause-some : goal.returns-else-early-clause-some
-returns-else-early-clause-some c =
-    subst (λ (b : Bool). IsFoundBehind c.args.lab.now c.args.look c.read_behind-else-early.result (cond b c.args.look c.args.change)) (sym c.if-early.false) c.read_behind-else-early.ensures.some
+pub returns-clause-is : goal.returns-clause-is
+returns-clause-is c =
+    let s = c.args.lab.now in
+    let g = c.args.glance.now in
+    let b = (taken_of g).0.number in
+    let k = (taken_of g).1 in
+    let left : c.args.around.now.node ≡ steps_of g.node.number (rewound s b k).kept = c.requires.around.node ∙ touching_in g.node.number (rewound_list (causes_of s) b k) in
+    let one : steps_of g.node.number (rewound s b k).kept + 1 ≡ g.step = omega (arith, left) in
+    record {
+      is = c.io_word.ensures ∙ ap io_word (c.seen_behind.ensures b k c.requires.around);
+      next = looks_again s (chip_of s) c.requires.glance.0 g b k c.node-stands.ensures.replays c.requires.glance.1 one;
+      step = one;
+    }

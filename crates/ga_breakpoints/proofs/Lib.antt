@@ -1,0 +1,3 @@
+pub mod Present
+pub mod Halting
+pub mod Moving

@@ -1,0 +1,112 @@
+-- A node as it stands is the one behind all its steps.
+use Rattle.std.proofs.Common.{◌≡◌, ◌≢◌, ℕ, zero, suc, ◌+◌, ◌-◌, ◌≤◌, ◌<◌, ◌==◌, Bool, true, false, ◌&&◌, cond, List, [], ◌∷◌, length, take, Option, Some, None, IsSome, inl, inr, refl, sym, ◌∙◌, ap, subst, arith}
+use Rattle.std.specs.Prelude.{option_map, option_and_then, unwrap_or}
+use Rattle.std.specs.List.{slice_get}
+use Rattle.ga_event.specs.declared.made.Made.{Made}
+use Rattle.std.proofs.Math.Bool.{and_comm}
+use Rattle.std.proofs.lemmas.Bool.{ne_eqb}
+use Rattle.std.proofs.lemmas.Bool.Decides.{eqb_tells}
+use Rattle.std.proofs.lemmas.Option.{same_Some}
+use Rattle.ga_node.specs.Record.{NodeRecord}
+use Rattle.ga_grid.specs.declared.node_id.NodeId.{NodeId}
+use Rattle.ga_grid.specs.Chip.{record_at}
+use Rattle.ga_event.specs.declared.event.Event.{Event}
+use Rattle.ga_event.specs.declared.event.Cause.{Cause}
+use Rattle.ga_event.specs.Touches.{touches}
+use Rattle.ga_event.specs.Apply.{Told, apply, run, replay}
+use Rattle.ga_event.specs.Told.{steps_of}
+use Rattle.ga_causal.proofs.Runs.{FirstOf, first_of_run, keeps_of}
+use Rattle.ga_causal.proofs.Swaps.{replay-cons}
+use Rattle.ga_lab.specs.Machine.{State, chip_of, earlier, history_of}
+use Rattle.ga_origin.specs.Fetched.{fetched_cell}
+use Rattle.ga_origin.proofs.Made.{none_past}
+use Rattle.ga_lab.proofs.Called.{Runs, runs_of, chip_is}
+use Rattle.ga_notes.specs.Source.{cell_of_address}
+use Rattle.ga_origin.specs.Origins.{place_after, node_after}
+use Rattle.ga_search.proofs.Standing.{steps-cons}
+use Rattle.ga_adapter.specs.declared.spots.Spot.{Spot}
+use Rattle.ga_adapter.specs.Labels.{is_same_cell}
+use Rattle.ga_adapter.specs.Moves.{is_at_spot}
+use Rattle.ga_adapter.specs.Moves.{arrives, comes_to}
+use Rattle.ga_adapter.specs.Spots.{spot, spot_by, spot_behind}
+use Rattle.ga_breakpoints.specs.kept.Standing.{may_be}
+
+-- ---- events that are no steps of a node leave it
+
+none_of : (b : Bool) (x y : ℕ) → y ≡ cond b 1 0 + x → y ≡ 0 → (b ≡ false) × (x ≡ 0)
+none_of true x y h none = absurd (omega arith)
+none_of false x y h none = (refl, omega arith)
+
+untouched : (es : List Event) (c last : List NodeRecord) (ts : List (Cause × Told)) (n : ℕ) → run c es ≡ Some (last, ts) → steps_of n es ≡ 0 → record_at c n ≡ record_at last n
+untouched [] c last ts n is none = ap (λ (z : List NodeRecord × List (Cause × Told)). record_at z.0 n) (same_Some (c, []) (last, ts) is)
+untouched (e ∷ es) c last ts n is none =
+    let f : FirstOf c e es last ts = first_of_run c e es last ts is in
+    let p : (touches e n ≡ false) × (steps_of n es ≡ 0) = none_of (touches e n) (steps_of n es) (steps_of n (e ∷ es)) (steps-cons n e es) none in
+    (keeps_of c e f.mid f.told f.first).same n p.0 ∙ untouched es f.mid last f.others n f.then p.1
+
+-- the node behind the events that hold all its steps
+abbrev At : List NodeRecord → List NodeRecord → List Event → ℕ → ℕ → Type 0
+At c last es n k = record_at (unwrap_or (replay c (take (place_after es n k) es)) []) n ≡ record_at last n
+
+one_less : (b : Bool) (x k : ℕ) → suc k ≡ cond b 1 0 + x → cond b k (suc k) ≡ x
+one_less true x k h = omega (arith, h)
+one_less false x k h = omega (arith, h)
+
+stands_at : (es : List Event) (c last : List NodeRecord) (ts : List (Cause × Told)) (n k : ℕ) → run c es ≡ Some (last, ts) → k ≡ steps_of n es → At c last es n k
+stands_at [] c last ts n k is all = ap (λ (z : List NodeRecord × List (Cause × Told)). record_at z.0 n) (same_Some (c, []) (last, ts) is)
+stands_at (e ∷ es) c last ts n zero is all = untouched (e ∷ es) c last ts n is (sym all)
+stands_at (e ∷ es) c last ts n (suc k) is all =
+    let f : FirstOf c e es last ts = first_of_run c e es last ts is in
+    let left : ℕ = cond (touches e n) k (suc k) in
+    let front : List Event = take (place_after es n left) es in
+    ap (λ (o : Option (List NodeRecord)). record_at (unwrap_or o []) n)
+    (replay-cons c e front ∙ ap (λ (o : Option (List NodeRecord × Told)). option_and_then (λ first. replay first.0 front) o) f.first)
+    ∙ stands_at es f.mid last f.others n left f.then (one_less (touches e n) (steps_of n es) k (all ∙ steps-cons n e es))
+
+pub node_now : (s : State) (n : ℕ) → IsSome (replay s.load s.kept) → node_after s n (steps_of n s.kept) ≡ record_at (chip_of s) n
+node_now s n some =
+    let r : Runs s = runs_of s some in
+    stands_at s.kept s.load r.last r.told n (steps_of n s.kept) r.run_is refl ∙ sym (ap (λ (z : List NodeRecord). record_at z n) (chip_is s r))
+
+-- ---- where it may stand, by the slot and P
+
+eq_sym : (a b : ℕ) → (a == b) ≡ (b == a)
+eq_sym a b = elim (eqb_tells a b) [
+  | inl same ↦ ap (λ (z : ℕ). a == z) (sym same.1) ∙ ap (λ (z : ℕ). z == a) same.1
+  | inr other ↦ other.0 ∙ sym (ne_eqb b a (λ h. other.1 (sym h)))
+]
+
+and_false : (a b : Bool) → b ≡ false → (a && b) ≡ false
+and_false true b h = h
+and_false false b h = refl
+
+due : (at : Spot) (o : Option ℕ) → (at.slot == 0 && is_same_cell at.cell o) ≡ false → is_at_spot at (option_map (spot 0) o) ≡ false
+due at None h = refl
+due at (Some cell) h = and_comm (cell == at.cell) (0 == at.slot) ∙ ap (λ (b : Bool). b && (cell == at.cell)) (eq_sym 0 at.slot) ∙ h
+
+within : (at : Spot) (slot : ℕ) (o : Option ℕ) → (slot == at.slot) ≡ false → is_at_spot at (option_map (spot slot) o) ≡ false
+within at slot None h = refl
+within at slot (Some cell) h = and_false (cell == at.cell) (slot == at.slot) h
+
+elsewhere : (b : Bool) (slot p : ℕ) (at : Spot) (fetched : Option ℕ) → cond b (at.slot == 0 && is_same_cell at.cell (cell_of_address p)) (slot == at.slot) ≡ false
+    → is_at_spot at (cond b (option_map (spot 0) (cell_of_address p)) (option_map (spot slot) fetched)) ≡ false
+elsewhere true slot p at fetched h = due at (cell_of_address p) h
+elsewhere false slot p at fetched h = within at slot fetched h
+
+pub stands_elsewhere : (s : State) (node : NodeId) (at : Spot) → IsSome (replay s.load s.kept)
+    → may_be (record_at (chip_of s) node.number).slot (record_at (chip_of s) node.number).p at ≡ false
+    → is_at_spot at (spot_behind s node (steps_of node.number s.kept)) ≡ false
+stands_elsewhere s node at some h =
+    let n : NodeRecord = record_at (chip_of s) node.number in
+    let fetched : Option ℕ = fetched_cell s node (steps_of node.number s.kept) in
+    ap (λ (z : NodeRecord). is_at_spot at (spot_by z fetched)) (node_now s node.number some) ∙ elsewhere (n.slot == 4) n.slot n.p at fetched h
+
+-- so it didn't come there
+pub not_come : (s : State) (node : NodeId) (at : Spot) (k n : ℕ) → n ≡ k + 1 → is_at_spot at (spot_behind s node n) ≡ false → false ≡ comes_to s node at k
+not_come s node at k n e h =
+    let came : Bool = arrives (slice_get (history_of s node.number) k) in
+    sym (ap (λ (z : ℕ). came && is_at_spot at (spot_behind s node z)) (sym e) ∙ and_false came (is_at_spot at (spot_behind s node n)) h)
+
+pub none_came : (s : State) (node : NodeId) (at : Spot) (k : ℕ) → length (history_of s node.number) ≤ k → false ≡ comes_to s node at k
+none_came s node at k past =
+    sym (ap (λ (o : Option Made). arrives o && is_at_spot at (spot_behind s node (k + 1))) (none_past (history_of s node.number) k past))

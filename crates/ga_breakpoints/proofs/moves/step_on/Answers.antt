@@ -1,0 +1,40 @@
+use Rattle.std.proofs.Common.{◌≡◌, ◌∙◌, ◌||◌, ℕ, Option, Some, ap, sym, subst}
+use Rattle.ga_grid.specs.declared.node_id.NodeId.{NodeId}
+use Rattle.ga_event.specs.declared.made.Made.{Made}
+use Rattle.ga_lab.specs.Machine.{State}
+use Rattle.ga_search.specs.Running.{Running, running}
+use Rattle.ga_search.specs.Watched.{after_first}
+use Rattle.ga_breakpoints.specs.Breakpoints.{ends_early}
+use Rattle.ga_breakpoints.specs.Stepping.{step_seen, is_moved, stepped_on}
+use Rattle.ga_breakpoints.specs.Going.{HasWent, stepping_on}
+use Rattle.ga_breakpoints.specs.declared.moves.Steps.{Steps}
+use Rattle.ga_breakpoints.specs.declared.stepping.Stepping.{Stepping}
+use Rattle.ga_breakpoints.proofs.Halting.{went_so}
+use Rattle.ga_breakpoints.proofs.Moving.{goes_after, step_alike}
+use Rattle.ga_breakpoints.proofs.moves.step_on.Goals as goal
+
+pub returns-clause-state : goal.returns-clause-state
+returns-clause-state c =
+    let start : Running = running c.args.lab.now c.args.schedule in
+    ap (running c.run_watched-run.new.lab) c.went.ensures.schedule
+    ∙ c.run_watched-run.ensures.state
+    ∙ ap (after_first (Some c.args.stepping.now.node) start) (sym c.went.ensures.events)
+
+pub returns-clause-stepping : goal.returns-clause-stepping
+returns-clause-stepping c =
+    let start : Running = running c.args.lab.now c.args.schedule in
+    let watch : Steps = record { notes = c.args.notes; halts = c.args.halts; stepping = c.args.stepping.now } in
+    ap (λ (z : Steps). z.stepping) (c.run_watched-run.ensures.watch ∙ goes_after watch start c.run_watched-run.result.events)
+    ∙ ap (stepped_on c.args.stepping.now start) (sym c.went.ensures.events)
+
+pub returns-clause-end : goal.returns-clause-end
+returns-clause-end c =
+    let start : Running = running c.args.lab.now c.args.schedule in
+    let watch : Steps = record { notes = c.args.notes; halts = c.args.halts; stepping = c.args.stepping.now } in
+    let g = stepping_on c.args.notes.now c.args.halts.breakpoints.now c.args.halts.stops c.args.stepping.now start in
+    subst (λ (z : ℕ). HasWent g start c.args.most z c.went.result.halt) (sym c.went.ensures.events)
+    (went_so
+    (λ (w : Steps) (told : Made) (s : State). ends_early w.halts.breakpoints.now w.halts.stops (Some w.stepping.node) told s || is_moved w.notes.now w.stepping told s)
+    (λ (w : Steps) (told : Made) (s : State). record w { stepping = step_seen w.stepping told s }) watch start
+    (running c.run_watched-run.new.lab c.run_watched-run.result.schedule) g c.args.most c.run_watched-run.result.events c.run_watched-run.result.end c.went.result.halt
+    (step_alike watch start) c.run_watched-run.ensures.state c.run_watched-run.ensures.end c.went.ensures.halt)

@@ -1,0 +1,65 @@
+-- How a move ends (Debug Adapter Protocol, "ContinueRequest", "NextRequest", "StepInRequest", "StepOutRequest", "StoppedEvent"): right behind the first
+-- event that hits a breakpoint, is a stop that ends it, or brings it to its end; or where no event follows.
+use Rattle.std.specs.Prelude.{◌≡◌, ℕ, suc, ◌+◌, ◌<◌, Bool, true, false, ◌||◌, List, Option, Some, None}
+use Rattle.ga_grid.specs.declared.node_id.NodeId.{NodeId}
+use Rattle.ga_event.specs.declared.made.Made.{Made}
+use Rattle.ga_lab.specs.Machine.{State}
+use Rattle.ga_notes.specs.declared.notes.Notes.{Notes}
+use Rattle.ga_search.specs.declared.watched.WatchedEnd.TheVariants as the_end
+use Rattle.ga_search.specs.Running.{Running}
+use Rattle.ga_search.specs.Watched.{told_first, first_moved, after_first, IsHaltedFirst}
+use Rattle.ga_breakpoints.specs.declared.breakpoint.Breakpoint.{Breakpoint}
+use Rattle.ga_breakpoints.specs.declared.stepping.Stepping.{Stepping}
+use Rattle.ga_breakpoints.specs.declared.going.Halt.{Halt}
+use Rattle.ga_breakpoints.specs.declared.going.Halt.TheVariants as the_halt
+use Rattle.ga_breakpoints.specs.Breakpoints.{first_hit, is_stopping, ends_early}
+use Rattle.ga_breakpoints.specs.Stepping.{is_moved, stepped_on}
+
+-- A move: the node that is moved and goes first, where it is that of one; the breakpoints; whether the stop of each node ends it; and whether it comes to
+-- its end behind the event after so many, by what was made and the machine that this left.
+pub record Course : Type 0 where
+  pub node : Option NodeId
+  pub breakpoints : List Breakpoint
+  pub stops : Bool
+  pub ends : ℕ → Made → State → Bool
+
+-- it ends behind the event after so many
+abbrev pub halts_told : Course → ℕ → Option Made → State → Bool
+halts_told by k None s = false
+halts_told by k (Some told) s = ends_early by.breakpoints by.stops by.node told s || by.ends k told s
+
+abbrev pub halts_behind : Course → Running → ℕ → Bool
+halts_behind by r k = halts_told by k (told_first by.node (after_first by.node r k)) (first_moved by.node (after_first by.node r k)).state
+
+abbrev pub NeverHalts : Course → Running → ℕ → Type 0
+NeverHalts by r events = (k : ℕ) → k < events → halts_behind by r k ≡ false
+
+-- the event after so many, of which this is told, is the first behind which it ends, and the last that was made
+pub record IsFirst (by : Course) (r : Running) (events k : ℕ) (told : Made) : Type 0 where
+  pub last : events ≡ k + 1
+  pub before : NeverHalts by r k
+  pub made : told_first by.node (after_first by.node r k) ≡ Some told
+
+-- how it ended after so many events, of which no more were asked for
+abbrev pub HasWent : Course → Running → ℕ → ℕ → Halt → Type 0
+HasWent by r most events (the_halt.Hit told which) =
+    (k : ℕ) × IsFirst by r events k told × (first_hit by.breakpoints told (first_moved by.node (after_first by.node r k)).state ≡ Some which)
+HasWent by r most events (the_halt.Stopped told) =
+    (k : ℕ) × IsFirst by r events k told × (first_hit by.breakpoints told (first_moved by.node (after_first by.node r k)).state ≡ None)
+    × (is_stopping by.stops by.node told ≡ true)
+HasWent by r most events (the_halt.Moved told) =
+    (k : ℕ) × IsFirst by r events k told × (first_hit by.breakpoints told (first_moved by.node (after_first by.node r k)).state ≡ None)
+    × (is_stopping by.stops by.node told ≡ false) × (by.ends k told (first_moved by.node (after_first by.node r k)).state ≡ true)
+HasWent by r most events the_halt.Cut = (events ≡ most) × NeverHalts by r events
+HasWent by r most events the_halt.Quiet = (events < most) × NeverHalts by r events × IsHaltedFirst by.node (after_first by.node r events) the_end.Quiet
+HasWent by r most events (the_halt.Refused why) =
+    (events < most) × NeverHalts by r events × IsHaltedFirst by.node (after_first by.node r events) (the_end.Refused why)
+
+-- `continue`: by breakpoints and stops alone
+abbrev pub going_on : List Breakpoint → Bool → Course
+going_on breakpoints stops = record { node = None; breakpoints = breakpoints; stops = stops; ends = λ k told s. false }
+
+-- a move of a node, that is so when a run begins
+abbrev pub stepping_on : Notes → List Breakpoint → Bool → Stepping → Running → Course
+stepping_on notes breakpoints stops by r =
+    record { node = Some by.node; breakpoints = breakpoints; stops = stops; ends = λ k told s. is_moved notes (stepped_on by r k) told s }

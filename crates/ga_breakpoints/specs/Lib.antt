@@ -1,0 +1,4 @@
+pub mod Breakpoints
+pub mod Stepping
+pub mod Going
+pub mod kept

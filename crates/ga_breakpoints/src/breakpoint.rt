@@ -1,0 +1,88 @@
+//! Breakpoints, and where they stand.
+
+ghost use Rattle.std.specs.Prelude.{◌≡◌};
+ghost use Rattle.ga_notes.specs.Notes.{worded_slot};
+ghost use Rattle.ga_notes.specs.Source.{cell_of_address};
+ghost use Rattle.ga_breakpoints.specs.Breakpoints.{on_slot, on_word, breakpoint_of_line, breakpoint_of_address};
+
+use ga_adapter::{Spot, Watched};
+use ga_grid::NodeId;
+use ga_notes::{Notes, SlotWord};
+use ga_ports::{Target, classify};
+
+/// What a node is watched for.
+#[derive(Clone, Copy, PartialEq, Eq, Debug)]
+pub struct Breakpoint {
+    /// The node.
+    pub node: NodeId,
+    /// That it comes to a slot, or writes a cell of its RAM.
+    pub watched: Watched,
+}
+
+/// A breakpoint on a line of the source.
+#[derive(Clone, Copy, PartialEq, Eq, Debug)]
+pub struct LineBreakpoint {
+    /// On the first slot of the line.
+    pub breakpoint: Breakpoint,
+    /// The line on which it stands, from 1 on: the one that was asked for, or a later one.
+    pub line: u32,
+}
+
+/// That a node comes to a slot of a cell.
+fn on_slot(node: NodeId, cell: u8, slot: u8) -> Breakpoint
+    ensures { result ≡ on_slot node cell slot }
+{
+    Breakpoint {
+        node,
+        watched: Watched::Comes(Spot { cell, slot }),
+    }
+}
+
+/// The slot that a word begins.
+fn slot_of(first: usize) -> u8
+    ensures { result ≡ worded_slot first }
+{
+    if first < 4 { first as u8 } else { 0 }
+}
+
+/// On the first slot of a word.
+fn on_word(word: SlotWord) -> LineBreakpoint
+    ensures { result ≡ on_word word }
+{
+    LineBreakpoint {
+        breakpoint: on_slot(word.node, word.cell, slot_of(word.first)),
+        line: word.line,
+    }
+}
+
+/// The breakpoint of a line of the source (Debug Adapter Protocol, "SetBreakpointsRequest"): on the first slot of the line, or of the next line that has
+/// code in a node, with that line; none where no line from there on has. Takes time by the words of the source.
+pub fn breakpoint_of_line(notes: &Notes, line: u32) -> Option<LineBreakpoint>
+    ensures { result ≡ breakpoint_of_line notes.now line }
+{
+    match notes.first_word(line) {
+        Some(word) => Some(on_word(word)),
+        None => None,
+    }
+}
+
+/// The cell of memory that an address names: 0 to 63 of RAM, 128 to 191 of ROM.
+pub(crate) fn cell_of(address: u32) -> Option<u8>
+    ensures { result ≡ cell_of_address address }
+{
+    match classify(address) {
+        Target::Ram(cell) => Some(cell),
+        Target::Rom(cell) => Some(128 + cell),
+        _ => None,
+    }
+}
+
+/// The breakpoint of an address of a node, as of a label: on the first slot of its cell; none where the address names no cell of memory.
+pub fn breakpoint_of_address(node: NodeId, address: u32) -> Option<Breakpoint>
+    ensures { result ≡ breakpoint_of_address node address }
+{
+    match cell_of(address) {
+        Some(cell) => Some(on_slot(node, cell, 0)),
+        None => None,
+    }
+}

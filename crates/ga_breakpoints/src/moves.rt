@@ -1,0 +1,165 @@
+//! A move of one node.
+
+ghost use Rattle.std.specs.Prelude.{◌≡◌, ◌-◌, ◌<◌, ◌≤◌, ◌&&◌, Some, true, position};
+ghost use Rattle.ga_event.specs.Told.{steps_of};
+ghost use Rattle.ga_search.specs.Conditions.{is_step_of};
+ghost use Rattle.ga_search.specs.Running.{running};
+ghost use Rattle.ga_search.specs.Watched.{IsNewestMade, after_first};
+ghost use Rattle.ga_adapter.specs.Calls.{is_calling, entries_from};
+ghost use Rattle.ga_breakpoints.specs.Stepping.{is_from, call_behind, step_seen, reaches_end, is_moved, stepped_on};
+ghost use Rattle.ga_breakpoints.specs.Going.{HasWent, stepping_on};
+
+use crate::going::{Went, went};
+use crate::halts::{Halts, is_halting};
+use crate::hits::is_step_of;
+use crate::stepping::{Grain, Stepping};
+use ga_adapter::{begins_behind, entries_from, is_calling};
+use ga_grid::NodeId;
+use ga_lab::{Lab, Made};
+use ga_notes::Notes;
+use ga_search::{Schedule, Watch, run_watched};
+
+/// What watches a move.
+struct Steps<'a> {
+    notes: &'a Notes,
+    halts: Halts<'a>,
+    stepping: Stepping,
+}
+
+/// Whether an entry of the return stack stood at this place before.
+fn is_from(from: Option<u8>, place: usize) -> bool
+    ensures { result ≡ is_from place from }
+{
+    match from {
+        Some(from) => usize::from(from) == place,
+        None => false,
+    }
+}
+
+/// Where the entry stands behind the node's newest step that stood at a place before.
+fn place_behind(lab: &Lab, node: NodeId, place: usize) -> Option<usize>
+    ensures { result ≡ position (is_from place) (entries_from lab.now node (steps_of node.number lab.now.kept - 1)) }
+{
+    let steps = lab.steps(node);
+    let entries = entries_from(lab, node, steps.saturating_sub(1));
+    entries.iter().position(|from| is_from(*from, place))
+}
+
+/// Whether the node's newest step was a call, where calls are gone over.
+fn is_gone_over(lab: &Lab, node: NodeId, over: bool) -> bool
+    ensures { result ≡ (over && is_calling lab.now node (steps_of node.number lab.now.kept)) }
+{
+    over && is_calling(lab, node, lab.steps(node))
+}
+
+/// The call from which the node is to come back first, behind its newest step.
+fn call_behind(lab: &Lab, node: NodeId, over: bool, call: Option<usize>) -> Option<usize>
+    ensures { result ≡ call_behind lab.now node over call }
+{
+    match call {
+        Some(place) => place_behind(lab, node, place),
+        None => {
+            if is_gone_over(lab, node, over) {
+                Some(0)
+            } else {
+                None
+            }
+        }
+    }
+}
+
+/// By how many steps of a node its newest one was preceded, where the newest event is one.
+fn newest_step(lab: &Lab, made: &Made, node: NodeId) -> u32
+    requires newest { IsNewestMade lab.now made.now }
+    requires own { is_step_of node.number made.now ≡ true }
+    ensures step { result ≡ steps_of node.number lab.now.kept - 1 }
+    ensures within { result < steps_of node.number lab.now.kept }
+{
+    // It is asked for what its contract says alone: the kept events can be replayed.
+    lab.chip();
+    lab.steps(node).saturating_sub(1)
+}
+
+/// A move behind the newest event.
+fn step_seen(lab: &Lab, by: Stepping, made: &Made) -> Stepping
+    ensures { result ≡ step_seen by made.now lab.now }
+{
+    if !is_step_of(made, by.node) {
+        return by;
+    }
+    let call = call_behind(lab, by.node, by.over, by.call);
+    Stepping { call, ..by }
+}
+
+/// Whether a move of this grain can end by a step of a node.
+fn reaches_end(lab: &Lab, notes: &Notes, node: NodeId, grain: Grain, step: u32) -> bool
+    requires { step < steps_of node.number lab.now.kept }
+    ensures { result ≡ reaches_end grain notes.now node lab.now step }
+{
+    match grain {
+        Grain::Instruction => true,
+        Grain::Line => begins_behind(lab, notes, node, step),
+    }
+}
+
+/// Whether a move comes to its end by the newest event, behind which this call is to come back.
+fn is_moved(lab: &Lab, notes: &Notes, by: &Stepping, call: Option<usize>, made: &Made) -> bool
+    requires newest { IsNewestMade lab.now made.now }
+    requires call { is_step_of by.now.node.number made.now ≡ true → call ≡ call_behind lab.now by.now.node by.now.over by.now.call }
+    ensures { result ≡ is_moved notes.now by.now made.now lab.now }
+{
+    if !is_step_of(made, by.node) {
+        return false;
+    }
+    if call.is_some() {
+        return false;
+    }
+    let step = newest_step(lab, made, by.node);
+    reaches_end(lab, notes, by.node, by.grain, step)
+}
+
+impl<'a> Watch for Steps<'a> {
+    ghost use Rattle.std.specs.Prelude.{Some, ◌||◌};
+    ghost use Rattle.ga_breakpoints.specs.Breakpoints.{ends_early};
+    ghost use Rattle.ga_breakpoints.specs.Stepping.{step_seen, is_moved};
+
+    ghost ends = { λ w told s. ends_early w.halts.breakpoints.now w.halts.stops (Some w.stepping.node) told s || is_moved w.notes.now w.stepping told s };
+
+    ghost seen = { λ w told s. record w { stepping = step_seen w.stepping told s } };
+
+    fn sees(&mut self, made: &Made, lab: &Lab) -> bool {
+        let by = self.stepping;
+        let next = step_seen(lab, by, made);
+        self.stepping = next;
+        is_halting(&self.halts, Some(by.node), made, lab)
+            || is_moved(lab, self.notes, &by, next.call, made)
+    }
+}
+
+/// A slice of a move of a node, of at most so many events, in which the node makes each event that it has, and others theirs, in the order of the schedule,
+/// only while it has none: up to the first behind which the move comes to its end, a breakpoint is hit at any node, or a stop ends it. Where it was cut,
+/// it is gone on with by the same move and the schedule that is handed back. Takes time by the events that are made, by the breakpoints, and for a move
+/// by lines by how long the words and the calls of the node are.
+pub fn step_on(
+    lab: &mut Lab,
+    schedule: Schedule,
+    stepping: &mut Stepping,
+    notes: &Notes,
+    halts: Halts<'_>,
+    most: u64,
+) -> Went
+    ensures state { running lab.new result.schedule ≡ after_first (Some stepping.old.node) (running lab.old schedule) result.events }
+    ensures stepping { stepping.new ≡ stepped_on stepping.old (running lab.old schedule) result.events }
+    ensures most { result.events ≤ most }
+    ensures end { HasWent (stepping_on notes.now halts.breakpoints.now halts.stops stepping.old (running lab.old schedule)) (running lab.old schedule) most result.events result.halt }
+{
+    let node = stepping.node;
+    let mut watch = Steps {
+        notes,
+        halts,
+        stepping: *stepping,
+    };
+    let run = run_watched(lab, schedule, Some(node), most, &mut watch);
+    *stepping = watch.stepping;
+    went(lab, run, &halts, Some(node))
+}

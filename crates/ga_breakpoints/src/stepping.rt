@@ -1,0 +1,100 @@
+//! Steps of one node.
+
+ghost use Rattle.std.specs.Prelude.{◌≡◌, ◌==◌, ◌-◌, ◌<◌, map, IfSome};
+ghost use Rattle.std.specs.List.{range_with_len};
+ghost use Rattle.ga_event.specs.Told.{steps_of};
+ghost use Rattle.ga_breakpoints.specs.Stepping.{is_open_at, open_place};
+
+use ga_adapter::{is_calling, put_by};
+use ga_grid::NodeId;
+use ga_lab::Lab;
+
+/// How far a step goes (Debug Adapter Protocol, "SteppingGranularity").
+#[derive(Clone, Copy, PartialEq, Eq, Debug)]
+pub enum Grain {
+    /// To the node's next step.
+    Instruction,
+    /// To where a line of its source begins: another line, or the same anew behind a jump.
+    Line,
+}
+
+/// A move of a node that is under way. It is kept from one slice of it to the next.
+#[derive(Clone, Copy, PartialEq, Eq, Debug)]
+pub struct Stepping {
+    /// The node.
+    pub node: NodeId,
+    /// How far it goes.
+    pub grain: Grain,
+    /// Whether the calls that it makes are gone over.
+    pub over: bool,
+    /// The place of the return stack, from 0 on, at which the entry of a call stands from which the node is to come back first.
+    pub call: Option<usize>,
+}
+
+/// Whether the entry at a place of the return stack of a node is that of a call.
+fn is_open_at(lab: &Lab, node: NodeId, place: u8) -> bool
+    requires { place < 9 }
+    ensures { result ≡ is_open_at lab.now node place }
+{
+    let step = put_by(lab, node, lab.steps(node), place);
+    is_calling(lab, node, step)
+}
+
+/// The place of the newest call from which a node did not come back.
+fn open_place(lab: &Lab, node: NodeId) -> Option<usize>
+    ensures { result ≡ open_place lab.now node }
+{
+    (0..9).position(|place| is_open_at(lab, node, place))
+}
+
+impl Stepping {
+    ghost use Rattle.std.specs.Prelude.{◌≡◌};
+    ghost use Rattle.ga_breakpoints.specs.Stepping.{step_in, step_over, out_from, step_out};
+
+    /// `stepIn` (Debug Adapter Protocol, "StepInRequest").
+    pub fn step_in(node: NodeId, grain: Grain) -> Self
+        ensures { result ≡ step_in node grain }
+    {
+        Stepping {
+            node,
+            grain,
+            over: false,
+            call: None,
+        }
+    }
+
+    /// `next` (Debug Adapter Protocol, "NextRequest"): the same over the calls that the node makes.
+    pub fn next(node: NodeId, grain: Grain) -> Self
+        ensures { result ≡ step_over node grain }
+    {
+        Stepping {
+            node,
+            grain,
+            over: true,
+            call: None,
+        }
+    }
+
+    /// Back from a call by where its entry stands.
+    fn out_from(node: NodeId, newest: usize) -> Self
+        ensures { result ≡ out_from node newest }
+    {
+        Stepping {
+            node,
+            grain: Grain::Instruction,
+            over: false,
+            call: Some(newest),
+        }
+    }
+
+    /// `stepOut` (Debug Adapter Protocol, "StepOutRequest"): to where the node came back from the newest call that is open; none where no call is. Takes
+    /// time by how many steps the node made since that call, or since the load.
+    pub fn step_out(lab: &Lab, node: NodeId) -> Option<Self>
+        ensures { result ≡ step_out lab.now node }
+    {
+        match open_place(lab, node) {
+            Some(newest) => Some(Stepping::out_from(node, newest)),
+            None => None,
+        }
+    }
+}
