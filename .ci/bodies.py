@@ -199,17 +199,40 @@ def can_be_copied(edit):
     return not edit.function.is_of_trait and not names_itself(edit.function, original(edit))
 
 
+@cache
+def proofs_of(folder):
+    """The texts of a crate's proofs, by their paths."""
+    files = [f"{at}/{it}" for at, _, files in os.walk(f"{folder}/proofs") for it in files]
+    return {os.path.relpath(it, folder): read(it) for it in sorted(files) if it.endswith(".antt")}
+
+
+def written_proof(folder, function):
+    """What is written of the proof of a function alone."""
+    return "".join(text for path, text in proofs_of(folder).items() if path.startswith(f"proofs/{'/'.join(function.place())}/"))
+
+
+def stands_apart(folder, function, whole):
+    """Whether the written proof of a function is named nowhere but in itself, and of no cycle of calls. Then that of a copy is the same text
+    with another name in it, which holds as it does."""
+    named = re.compile(rf"\bproofs\.{re.escape('.'.join(function.place()))}\b")
+    own = f"proofs/{'/'.join(function.place())}/"
+    return not CYCLE.search(whole) and not any(named.search(text) for path, text in proofs_of(folder).items() if not path.startswith(own))
+
+
 def copies_of(folder, edits, those):
-    """A copy with each edit that isn't tried in its place, and one of each edited function as it is, where something is written of its
-    proof or an edit asks to be tried in its place; but for what can't be copied."""
-    wrong, plain = [], {}
+    """A copy with each edit that isn't tried in its place. And copies of edited functions as they are, of which something is written of their
+    proofs or an edit asks to be tried in its place, but for what can't be copied: of each that doesn't stand apart, and of the one of
+    them with the shortest proof, which shows that copies are proved."""
+    wrong, plain, apart = [], {}, {}
     for number, edit in enumerate(edits):
         function, place, whole = edit.function, edit.function.place(), original(edit)
         if edit not in those and os.path.isdir(f"{folder}/proofs/{'/'.join(place)}") or edit.is_alone and can_be_copied(edit):
-            plain[tuple(place)] = Copy(function, whole, "as_it_is", None)
+            found = apart if stands_apart(folder, function, whole) else plain
+            found[tuple(place)] = Copy(function, whole, "as_it_is", None)
         if edit not in those:
             wrong.append(Copy(function, edit.body, f"wrong_{number}", edit))
-    return wrong, [*plain.values()]
+    shown = sorted(apart.values(), key=lambda it: (len(written_proof(folder, it.function)), len(it.text)))[:1]
+    return wrong, [*plain.values(), *shown]
 
 
 def write_bodies(folder, copies, edits):

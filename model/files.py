@@ -107,7 +107,7 @@ def opened(path):
     with open(path, encoding="latin-1", newline="") as file:
         lines = file.read().removesuffix("\n").split("\n")
     past = lines.index("end") + 1 if "end" in lines else len(lines)
-    kind = Explorer if "explore" in path.split(os.sep) else Machine
+    kind = Explorer if {"explore", "check"} & {*path.split(os.sep)} else Machine
     load, notes = lines[:past], Notes()
     if kind is Explorer and not load[0].startswith("ga144"):
         source = "".join(f"{line}\n" for line in load)

@@ -413,7 +413,7 @@ def difference(program, number):
 
 def compared(row):
     """In what a picture of docs/pictures differs from what its session asks for, or None: by a row of .ci/files."""
-    shown, session, *words = row.split()
+    shown, session, *words = row.replace("=", " ").split()
     machine, commands = opened(session)
     for line in commands:
         if line.startswith(("step ", "back", "run")):

@@ -1,5 +1,5 @@
 //! `ga144 debug`: a session with a GA144 over standard input and output. `ga144 explore`: one that runs up to a condition.
-//! `ga144 race`: workers that race for its nodes. `ga144 draw`: a session's picture.
+//! `ga144 race`: workers that race for its nodes. `ga144 check`: every order of its nodes. `ga144 draw`: a session's picture.
 //! `ga144 asm`, `ga144 list`, `ga144 dis`: source made into an image, listed, and made of an image. Where a file is named, it is read
 //! before standard input.
 #![tactic(auto)]
@@ -7,9 +7,11 @@
 ghost use Rattle.std.specs.Prelude.{IfOk};
 ghost use Rattle.ga_console.specs.Settings.{AreInRange};
 
+use ga_check::orders::Bounds;
 use ga_console::{LineFault, Settings, Status, arguments, race_report, session};
 use ga_explorer::{close, explore, is_cut_off};
 use ga_listing::{assemble_source, disassemble, list_source};
+use ga_orders::{Verdict, check_orders};
 use ga_picture::{View, draw_session};
 use std::fs::File;
 use std::io::{Chain, ErrorKind, Read, Stdin, Take};
@@ -18,6 +20,15 @@ use std::{env, io};
 
 /// How many events are kept at most where a session is drawn.
 const DRAWN_LIMIT: u32 = 1_000_000;
+
+/// How many events a run of `check` has at most.
+const RUN_LIMIT: u32 = 1_000_000;
+
+/// How many choices of what a node takes first it has at most.
+const MOST_CHOICES: u32 = 1000;
+
+/// How many steps a node makes in it at most.
+const MOST_STEPS: u32 = 100_000;
 
 /// The most bytes of a file: the bound of an input.
 const LONGEST_FILE: u64 = 16_777_216;
@@ -45,7 +56,13 @@ fn main(rt: HostRuntime) -> ExitCode {
             );
             exit(&rt, status)
         }
-        Ok(Settings::Check { .. }) => refused(&rt, "error: 'check' is not built\n"),
+        Ok(
+            Settings::Check {
+                most,
+                session,
+                file,
+            },
+        ) => checked(&rt, most, session.unwrap_or(0), &file),
         Ok(Settings::Dap) => refused(&rt, "error: 'dap' is not built\n"),
         Ok(Settings::Explore { limit, file }) => served(&rt, Work::Explore { limit }, &file),
         Ok(Settings::Assemble { file }) => served(&rt, Work::Assemble, &file),
@@ -209,6 +226,36 @@ fn served(rt: &HostRuntime, work: Work, file: &Option<String>) -> ExitCode {
         Work::Draw(view) => draw_session(alloc, input, output, told, view, DRAWN_LIMIT),
     };
     exit(rt, status)
+}
+
+/// Reads a file, where one is named, or standard input, and runs every order of its nodes.
+fn checked(rt: &HostRuntime, most: u32, asked: u32, file: &Option<String>) -> ExitCode {
+    let front = match front_of(rt, file) {
+        Ok(front) => front,
+        Err(code) => return code,
+    };
+    let bounds = Bounds {
+        runs: u64::from(most),
+        choices: MOST_CHOICES,
+        steps: MOST_STEPS,
+    };
+    let mut reader = front.reader(rt);
+    let (mut writer, mut errors) = (rt.stdout(), rt.stderr());
+    let verdict = check_orders(
+        rt.alloc(),
+        &mut reader,
+        &mut writer,
+        &mut errors,
+        RUN_LIMIT,
+        bounds,
+        u64::from(asked),
+    );
+    match verdict {
+        Verdict::Alike => ExitCode::from(0),
+        Verdict::Several => ExitCode::from(5),
+        Verdict::Open => ExitCode::from(6),
+        Verdict::Ended(status) => exit(rt, status),
+    }
 }
 
 /// Writes the help that was asked for.

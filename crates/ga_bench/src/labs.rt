@@ -1,37 +1,19 @@
 //! The steps and undos of a lab.
 
+use crate::programs::load;
 use ga_grid::{Chip, NodeId};
 use ga_lab::Lab;
-use ga_node::Place;
-use ga_slots::{Op, encode};
-use ga_word::Word18;
 use std::alloc::Global;
 use std::io;
 use std::time::Instant;
 
-/// `@p push . .`, a count, `dup + . unext` and `jump 0`, from cell 0 of a node on.
-fn load(chip: &mut Chip, node: NodeId) {
-    let words = [
-        encode([Op::FetchP, Op::Push, Op::Nop, Op::Nop]),
-        Some(Word18::truncated(0x3ffff)),
-        encode([Op::Dup, Op::Plus, Op::Nop, Op::Unext]),
-        Some(Word18::truncated(0x10000)),
-    ];
-    let at = chip.node_mut(node);
-    at.set(Place::P, 0);
-    for cell in 0..4u8 {
-        if let Some(word) = words[cell as usize] {
-            at.set(Place::Ram(cell), word.get());
-        }
-    }
-}
-
-/// A lab in which each of the first so many nodes adds without end.
-fn loaded(alloc: Global, nodes: u8) -> Option<Lab> {
+/// A lab in which each of the first so many nodes adds without end: `@p push . .`, a count, `dup + . unext` and `jump 0`.
+pub fn adding(alloc: Global, nodes: u8) -> Option<Lab> {
     let mut chip = Chip::new(alloc).ok()?;
     for number in 0..144u8 {
         if number < nodes {
-            load(&mut chip, NodeId::new(number));
+            let words = [0x048b2, 0x3ffff, 0x241b4, 0x10000];
+            load(&mut chip, NodeId::new(number), &words);
         }
     }
     Lab::new(alloc, chip, u32::MAX).ok()
@@ -83,49 +65,27 @@ fn undos(lab: &mut Lab, count: u32) -> u32 {
     undone
 }
 
-/// What the steps and the undos of a lab took, in nanoseconds: steps into fresh memory, undos, and steps into warm memory.
+/// What is made of a lab.
 #[derive(Clone, Copy)]
-pub struct LabTimes {
-    pub fresh: u128,
-    pub undo: u128,
-    pub warm: u128,
-    pub made: u32,
-    pub undone: u32,
+pub enum Act {
+    Step,
+    StepInlined,
+    Undo,
 }
 
-/// Makes so many steps, inlined or by calls.
-fn steps_made(lab: &mut Lab, nodes: u8, count: u32, is_inlined: bool) -> u32 {
-    if is_inlined {
-        steps_inlined(lab, nodes, count)
-    } else {
-        steps(lab, nodes, count)
-    }
-}
-
-/// The times of so many steps of the first nodes in turn, of as many undos, and of the steps again; none without memory.
-pub fn time_lab(
+/// The nanoseconds that so many steps of the first nodes in turn took, or so many undos, and how many were made.
+pub fn time_act(
     rt: &HostRuntime,
+    lab: &mut Lab,
+    act: Act,
     nodes: u8,
     count: u32,
-    is_inlined: bool,
-) -> io::Result<Option<LabTimes>> {
-    let Some(mut lab) = loaded(rt.alloc(), nodes) else {
-        return Ok(None);
+) -> io::Result<(u128, u32)> {
+    let start = Instant::now(rt)?;
+    let made = match act {
+        Act::Step => steps(lab, nodes, count),
+        Act::StepInlined => steps_inlined(lab, nodes, count),
+        Act::Undo => undos(lab, count),
     };
-    let start = Instant::now(rt)?;
-    let made = steps_made(&mut lab, nodes, count, is_inlined);
-    let fresh = start.elapsed(rt)?.as_nanos();
-    let start = Instant::now(rt)?;
-    let undone = undos(&mut lab, count);
-    let undo = start.elapsed(rt)?.as_nanos();
-    let start = Instant::now(rt)?;
-    steps_made(&mut lab, nodes, count, is_inlined);
-    let warm = start.elapsed(rt)?.as_nanos();
-    Ok(Some(LabTimes {
-        fresh,
-        undo,
-        warm,
-        made,
-        undone,
-    }))
+    Ok((start.elapsed(rt)?.as_nanos(), made))
 }

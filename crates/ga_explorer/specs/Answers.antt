@@ -1,6 +1,7 @@
 -- What exploring answers to a line (docs/REFERENCE.md, "Exploring"; this project's own).
-use Rattle.std.specs.Prelude.{◌≡◌, ℕ, ◌<◌, ◌≤◌, ◌⊎◌, Bool, IsOk, List, length, Some, None}
+use Rattle.std.specs.Prelude.{◌≡◌, ◌≢◌, ℕ, ◌+◌, ◌<◌, ◌≤◌, ◌⊎◌, Bool, IsOk, List, [], length, take, Some, None, Result, Ok, Err}
 use Rattle.ga_text.specs.Lines.{longest, Text, Line}
+use Rattle.ga_text.specs.declared.output.WriteFailed.{WriteFailed}
 use Rattle.ga_grid.specs.declared.node_id.NodeId.{NodeId}
 use Rattle.ga_lab.specs.Machine.{State, chip_of, rewind_answer}
 use Rattle.ga_lab.specs.declared.fault.LabFault.TheVariants.{Memory}
@@ -17,6 +18,9 @@ use Rattle.ga_search.specs.declared.running.End.{End}
 use Rattle.ga_console.specs.Texts.{refusal_text}
 use Rattle.ga_console.specs.Replies.{LineAnswer}
 use Rattle.ga_console.specs.Commands.{SpellsCommand}
+use Rattle.ga_console.specs.Turns.{quit_line}
+use Rattle.ga_console.specs.declared.responder.Turn.{Turn}
+use Rattle.ga_console.specs.declared.responder.Turn.TheVariants.{Answered, Quit}
 use Rattle.ga_console.specs.declared.command.Command.{Command}
 use Rattle.ga_explorer.specs.Which.{step_meant}
 use Rattle.ga_explorer.specs.Reading.{request_in}
@@ -96,3 +100,13 @@ AnswersOther s line answer new = (IsOfDebugger line × LineAnswer s line answer 
 pub data Explores (e : Exploring) (line answer : Text) (new : Exploring) : Type 0 where
   explored : (asked : ExplorerCommand) → length line ≤ longest → request_in e.notes line ≡ Some asked → Explored e asked answer new → Explores e line answer new
   debugged : (length line ≤ longest → request_in e.notes line ≡ None) → AnswersOther e.lab line answer new.lab → new.notes ≡ e.notes → Explores e line answer new
+
+-- a line, of which the first `longest + 1` bytes are here, is answered and isn't quit
+abbrev pub ExploresPart : Exploring → Line → Text → Exploring → Type 0
+ExploresPart e line answer new = (part : Line) → line ≡ take (longest + 1) part → Explores e part answer new × (part ≢ quit_line)
+
+-- it is answered, as far as the answer can be written, or ends the session
+abbrev pub ExploresOrQuits : Exploring → Line → Exploring → Result Turn WriteFailed → Text → Type 0
+ExploresOrQuits e line new (Ok Answered) answer = ExploresPart e line answer new
+ExploresOrQuits e line new (Ok Quit) answer = (line ≡ quit_line) × (new ≡ e) × (answer ≡ [])
+ExploresOrQuits e line new (Err failed) answer = ExploresPart e line answer new

@@ -1,10 +1,12 @@
 //! What answers the lines of a session of exploring.
 
-ghost use Rattle.std.specs.Prelude.{◌≡◌, ◌≤◌, length, Some, None, IfSome, IfNone, IsTrue, false};
+ghost use Rattle.std.specs.Prelude.{◌≡◌, ◌≤◌, ◌++◌, length, Some, None, IfSome, IfNone, IsTrue, false};
+ghost use Rattle.ga_text.specs.Lines.{Bytes};
+ghost use Rattle.ga_text.specs.Output.{IsSaid, IsSaidOrCut};
 ghost use Rattle.ga_text.specs.kept.Output.{Says};
 ghost use Rattle.ga_explorer.specs.Reading.{request_in};
 ghost use Rattle.ga_explorer.specs.kept.Exploring.{exploring};
-ghost use Rattle.ga_explorer.specs.Answers.{Explored, Explores, AnswersOther, IsOfDebugger, IsNoCommand};
+ghost use Rattle.ga_explorer.specs.Answers.{Explored, ExploresOrQuits, AnswersOther, IsOfDebugger, IsNoCommand};
 ghost use Rattle.ga_console.specs.kept.Turns.{Turns};
 
 use crate::at_text::say_around;
@@ -118,8 +120,9 @@ pub fn answer_line<W: Write>(
     output: &mut Output,
     writer: &mut W,
 ) -> Result<Turn, WriteFailed>
-    ensures { Says result (Turns Explores (exploring lab.old notes.now) line.now (exploring lab.new notes.now) result)
-        (W.contents writer.old) output.old (W.contents writer.new) output.new }
+    ensures { (before said : Bytes) → IsSaid (W.contents writer.old) before said output.old →
+        (answer : Bytes) × ExploresOrQuits (record { lab = lab.old; notes = notes.now }) line.now (record { lab = lab.new; notes = notes.now }) result answer
+        × IsSaidOrCut result (W.contents writer.new) before (said ++ answer) output.new }
 {
     match asked_by(notes, line) {
         Some(asked) => {

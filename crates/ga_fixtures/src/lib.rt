@@ -1,8 +1,6 @@
-//! What tests of several crates share: programs that they load, images.
+//! What tests of several crates share: programs that they load.
 #![tactic(auto)]
 
-mod images;
 mod programs;
 
-pub use images::{RACING, SENDER_AND_TAKER, WAITING};
-pub use programs::{load, reader_of_io, sender, taker};
+pub use programs::{load, sender, taker};

@@ -14,11 +14,6 @@ pub fn taker(ports: u32) -> [u32; 5] {
     [0x4b02, ports, 0, 0, 0x10000]
 }
 
-/// `@b . . .` in a loop, where B holds `io` from the load on.
-pub fn reader_of_io() -> [u32; 5] {
-    [0x9b2, 0x10000, 0, 0, 0]
-}
-
 /// Puts the words from cell 0 on, and P at cell 0.
 pub fn load(chip: &mut Chip, node: NodeId, words: [u32; 5]) {
     let node = chip.node_mut(node);

@@ -1,5 +1,5 @@
 //! Runs in which one growth is refused. Standard input names a run and which of its growths is to be refused, from 1 on, as
-//! `lab 7`, or none by `lab 0`. The run asks again at once for what was refused, and one line says how it came out.
+//! `shared 7`, or none by `shared 0`. The run asks again at once for what was refused, and one line says how it came out.
 //!
 //! The refusal comes from outside: the process's growth 1000 has to fail (`.ci/growths` sees to it, or `rt try --fail-alloc 1000`),
 //! and the growths before the run are made so many that this is the run's. A run is over only where the refused growth is still
@@ -7,8 +7,6 @@
 #![tactic(auto)]
 
 mod causes;
-mod images;
-mod labs;
 mod messages;
 mod outcome;
 mod shared;
@@ -73,12 +71,7 @@ fn grow(alloc: Global, count: u32) -> bool {
 /// Makes the run of this name.
 fn run_of<R: Threads + Wait + Sync>(rt: &R, alloc: Global, run: &str) -> Outcome {
     match run {
-        "chip" => images::chip(alloc),
-        "parse" => images::parse_first(alloc),
-        "parse-format-2" => images::parse_second(alloc),
-        "print" => images::printed(alloc),
         "causes" => causes::causes(alloc),
-        "lab" => labs::lab(alloc),
         "messages" => messages::messages(alloc),
         "shared" => shared::calls_repeated(rt, alloc),
         "shared-broken-off" => shared::calls_broken_off(rt, alloc),

@@ -2,9 +2,9 @@
 
 ghost use Rattle.std.specs.Prelude.{◌≡◌, ◌<◌, ◌^◌, All, IfOk, vec_len};
 
-use crate::labs::{LIMIT, linked};
 use crate::outcome::Outcome;
-use ga_grid::NodeId;
+use ga_fixtures::{load, sender};
+use ga_grid::{Chip, Memory, NodeId};
 use ga_lab::Made;
 use ga_node::Kind;
 use ga_shared::{Answer, Call, Closed, Free, RaceFault, Receipt, Seat, Shared, race};
@@ -14,8 +14,18 @@ use std::sync::Wait;
 use std::sync::ledger::{Blank, Ledger};
 use std::thread::Threads;
 
+/// How many events may be kept.
+const LIMIT: u32 = 1_000_000;
+
 /// How many calls are made.
 const CALLS: usize = 9;
+
+/// A chip whose node 000 sends a word to the right.
+fn linked(alloc: Global) -> Result<Chip, Memory> {
+    let mut chip = Chip::new(alloc)?;
+    load(&mut chip, NodeId::new(0), sender(0x1d5, 0x2a));
+    Ok(chip)
+}
 
 /// What is asked of the shared chip: four steps, a rollback to the third, both steps again, a rollback to a step that does not
 /// stand, and one to the first step.
@@ -68,7 +78,7 @@ fn opened<L: Ledger, R: Wait>(rt: &R, alloc: Global, blank: Blank, goes_on: bool
     requires ledger { (blank.name ≡ L.name) × (blank.parts ≡ L.parts) }
     requires parts { blank.parts ≡ 1 }
 {
-    let Some(chip) = linked(alloc) else {
+    let Ok(chip) = linked(alloc) else {
         return Outcome::Refused("chip");
     };
     let Ok((shared, mut seats)) = Shared::<L>::new(alloc, blank, chip, LIMIT, 1) else {
@@ -155,7 +165,7 @@ fn is_closed(closed: &Closed, count: usize) -> Outcome {
 
 /// A race of one worker, which takes its own step back.
 pub fn race_of_one<R: Threads + Wait + Sync>(rt: &R, alloc: Global) -> Outcome {
-    let Some(chip) = linked(alloc) else {
+    let Ok(chip) = linked(alloc) else {
         return Outcome::Refused("chip");
     };
     let Ok(lists) = one_list(alloc) else {

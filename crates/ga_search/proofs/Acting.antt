@@ -1,10 +1,10 @@
 -- Going back over the kept events, node by node.
-use Rattle.std.proofs.Common.{◌≡◌, ◌≢◌, ℕ, zero, suc, ◌+◌, ◌<◌, ◌≤◌, ◌==◌, Bool, true, false, ◌||◌, cond, inl, inr, List, [], ◌∷◌, ◌++◌, length, take, get_or, set, Option, Some, refl, sym, ◌∙◌, ap, ap₂, subst, arith, eq-eqb, ne_eqb, length-append, get_or-set_other}
+use Rattle.std.proofs.Common.{◌≡◌, ◌≢◌, ℕ, zero, suc, ◌+◌, ◌<◌, ◌≤◌, ◌==◌, Bool, true, false, ◌||◌, cond, inl, inr, List, [], ◌∷◌, ◌++◌, length, take, get_or, set, Option, Some, refl, sym, ◌∙◌, ap, ap₂, subst, arith, ne_eqb, length-append, get_or-set_other}
 use Rattle.std.specs.Prelude.{map, unwrap_or, slice_index}
 use Rattle.std.proofs.Math.Seq.{take-append_seam, take-append-add}
 use Rattle.std.proofs.lemmas.List.{get_or-map, length-map, length-set, get_or-set_same, map-append, take_more, take_all}
 use Rattle.std.proofs.lemmas.List.Sums.{sum_by-append}
-use Rattle.std.proofs.lemmas.Bool.{cases_eq, cases_lt, or_from, or_left, or_right, cond-true}
+use Rattle.std.proofs.lemmas.Bool.{cases_eq, or_from}
 use Rattle.ga_node.specs.Record.{NodeRecord}
 use Rattle.ga_node.specs.Waits.{wait_of, IsWaitCode}
 use Rattle.ga_ports.specs.declared.side.Side.{Side}

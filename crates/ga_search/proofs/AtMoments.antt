@@ -1,16 +1,12 @@
 -- What was before each of the kept events.
-use Rattle.std.proofs.Common.{◌≡◌, ◌≢◌, ℕ, zero, suc, ◌+◌, ◌<◌, ◌≤◌, cond, Bool, true, false, inl, inr, List, [], ◌∷◌, length, take, get_or, set, refl, sym, ◌∙◌, ap, subst, arith, get_or-set_other}
+use Rattle.std.proofs.Common.{◌≡◌, ℕ, ◌+◌, ◌<◌, ◌≤◌, inl, inr, List, length, get_or, set, sym, subst, arith, get_or-set_other}
 use Rattle.std.proofs.lemmas.List.{length-set, get_or-set_same}
 use Rattle.std.proofs.lemmas.Bool.{cases_eq}
-use Rattle.ga_event.specs.declared.event.Event.{Event}
 use Rattle.ga_event.specs.declared.event.Cause.{Cause}
-use Rattle.ga_event.specs.Touches.{touches}
-use Rattle.ga_event.specs.Told.{steps_of}
 use Rattle.ga_causal.specs.Dependence.{event_at}
 use Rattle.ga_lab.specs.Machine.{State}
 use Rattle.ga_search.specs.declared.moments.Moment.{Moment}
 use Rattle.ga_search.specs.kept.Acts.{IsMoment, AreMomentsFrom, AreMoments, no_moment}
-use Rattle.ga_search.proofs.Standing.{steps-cons}
 
 pub moments_none : (s : State) (place : ℕ) (causes : List Cause) (moments : List Moment) → length moments ≤ place → AreMomentsFrom s place causes moments
 moments_none s place causes moments past i from within = absurd (omega (arith, past, from, within))

@@ -1,5 +1,5 @@
 -- A step that is taken back: the event that it was, and that its node stands behind the rollback as it did before that event.
-use Rattle.std.proofs.Common.{◌≡◌, ℕ, zero, suc, ◌+◌, ◌==◌, cond, Bool, true, false, ◌||◌, List, [], ◌∷◌, ◌++◌, Option, Some, None, refl, sym, ◌∙◌, ap, subst, ◌&&◌, ◌<◌, ◌≤◌, arith}
+use Rattle.std.proofs.Common.{◌≡◌, ℕ, zero, suc, ◌+◌, ◌==◌, cond, Bool, true, false, List, [], ◌∷◌, ◌++◌, Option, Some, None, refl, sym, ◌∙◌, ap, subst, ◌&&◌, ◌<◌, ◌≤◌, arith}
 use Rattle.std.specs.Prelude.{option_map, option_and_then, option_to_list, unwrap_or, is_some, take}
 use Rattle.std.specs.List.{slice_get}
 use Rattle.std.proofs.lemmas.Option.{same_Some}
@@ -17,7 +17,7 @@ use Rattle.ga_event.specs.declared.event.Cause.{Cause}
 use Rattle.ga_event.specs.declared.made.Made.{Made}
 use Rattle.ga_event.specs.declared.made.Made.TheVariants as made
 use Rattle.ga_event.specs.Touches.{touches}
-use Rattle.ga_event.specs.Apply.{Told, Did, Carried, apply, after, unless, refusal_of, cause_of, run, replay}
+use Rattle.ga_event.specs.Apply.{Told, apply, after, unless, refusal_of, cause_of, run, replay}
 use Rattle.ga_event.specs.Agree.{Agree}
 use Rattle.ga_event.specs.Told.{steps_of, made_after, mades_after, mades_of}
 use Rattle.ga_event.proofs.Locality.{Agree-sym}

@@ -1,5 +1,5 @@
 -- On how many of a node's steps the newest event of each node depends, and how many steps of another are left where each is taken back.
-use Rattle.std.proofs.Common.{◌≡◌, ℕ, zero, suc, ◌+◌, ◌-◌, ◌<◌, ◌≤◌, max, cond, Bool, true, false, ◌||◌, inl, inr, List, [], ◌∷◌, length, take, drop, get_or, Option, Some, None, refl, sym, ◌∙◌, ap, ap₂, subst, arith, lt-ltb, le-ltb}
+use Rattle.std.proofs.Common.{◌≡◌, ℕ, suc, ◌+◌, ◌-◌, ◌<◌, ◌≤◌, max, cond, Bool, true, false, ◌||◌, inl, inr, List, [], ◌∷◌, length, take, drop, get_or, Option, Some, None, refl, sym, ◌∙◌, ap, ap₂, subst, arith, lt-ltb, le-ltb}
 use Rattle.std.specs.Prelude.{nat_lt, option_map, Result, Ok, Err, IfOk}
 use Rattle.std.specs.List.{list_any}
 use Rattle.std.proofs.Math.Path.{fun_ext}
@@ -10,7 +10,7 @@ use Rattle.ga_ports.specs.declared.side.Side.TheVariants.{Right, Down, Left, Up}
 use Rattle.ga_grid.specs.Grid.{neighbour_of}
 use Rattle.ga_event.specs.declared.event.Cause.{Cause}
 use Rattle.ga_event.specs.Touches.{with_some, neighbours, seen_by, meets}
-use Rattle.ga_causal.specs.Dependence.{cause_touches, dependents_after, rest, rest_from, place_of, rewound_list}
+use Rattle.ga_causal.specs.Dependence.{cause_touches, rest_from, place_of, rewound_list}
 use Rattle.ga_causal.specs.Steps.{touching}
 use Rattle.ga_causal.proofs.Runs.{kept}
 use Rattle.ga_causal.proofs.Refusals.{place-first, place-touched, place-other}

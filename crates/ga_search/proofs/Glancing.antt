@@ -1,5 +1,5 @@
 -- What is told of a look and a change at two places.
-use Rattle.std.proofs.Common.{◌≡◌, ◌≢◌, ℕ, ◌+◌, ◌<◌, ◌≤◌, cond, Bool, true, false, inl, inr, List, [], ◌∷◌, length, take, get_or, Option, Some, None, IsSome, refl, sym, ◌∙◌, ap, subst, arith, true≢false}
+use Rattle.std.proofs.Common.{◌≡◌, ◌≢◌, ℕ, ◌+◌, ◌<◌, ◌≤◌, cond, Bool, true, false, inl, inr, List, length, take, get_or, Option, Some, None, IsSome, refl, sym, ◌∙◌, ap, subst, arith, true≢false}
 use Rattle.std.specs.Prelude.{nat_lt, is_some, is_none, ◌&&◌}
 use Rattle.std.proofs.lemmas.Bool.{cases_Bool}
 use Rattle.std.specs.List.{All}
@@ -17,11 +17,10 @@ use Rattle.ga_event.specs.declared.event.Cause.{Cause}
 use Rattle.ga_event.specs.Touches.{touches}
 use Rattle.ga_event.specs.Apply.{replay, cause_of}
 use Rattle.ga_event.specs.Told.{steps_of, events_in}
-use Rattle.ga_causal.specs.Dependence.{cause_touches, event_at, no_cause, rewound_list}
-use Rattle.ga_causal.specs.Steps.{touching, IsStep}
-use Rattle.ga_causal.proofs.Places.{touching_in, touching_before}
-use Rattle.ga_races.specs.Orders.{CanBe}
-use Rattle.ga_races.specs.HappensBefore.{Action, actions, action_at, action_of}
+use Rattle.ga_causal.specs.Dependence.{cause_touches, event_at}
+use Rattle.ga_causal.specs.Steps.{touching}
+use Rattle.ga_causal.proofs.Places.{touching_before}
+use Rattle.ga_races.specs.HappensBefore.{Action, actions}
 use Rattle.ga_races.specs.declared.near.Near.{Near}
 use Rattle.ga_races.proofs.Frees.{touches_own, touches_writer, touches_reader}
 use Rattle.ga_races.proofs.Before.{actions_length}
@@ -29,14 +28,13 @@ use Rattle.ga_lab.specs.Machine.{State, chip_of, causes_of, earlier, rewound}
 use Rattle.ga_search.specs.Near.{are_linked}
 use Rattle.ga_search.specs.Races.{looks_next}
 use Rattle.ga_search.specs.Readings.{IsOtherwise}
-use Rattle.ga_search.specs.kept.Acts.{IsMoment, AreMoments, IsAt, first_part, last_part, no_moment}
-use Rattle.ga_search.specs.kept.Readings.{part_beside, IsAtNear}
-use Rattle.ga_search.specs.kept.Glances.{taken_of, IsGlance, IsGlanced, IsOtherWord, HasStep}
+use Rattle.ga_search.specs.kept.Acts.{IsMoment, AreMoments, first_part, last_part, no_moment}
+use Rattle.ga_search.specs.kept.Readings.{part_beside}
+use Rattle.ga_search.specs.kept.Glances.{IsGlance, IsGlanced, IsOtherWord, HasStep}
 use Rattle.ga_search.specs.declared.moments.Moment.{Moment}
 use Rattle.ga_search.specs.declared.glances.Glance.{Glance}
-use Rattle.ga_search.specs.declared.readings.Reading.{Reading}
 use Rattle.ga_search.proofs.Acting.{Made, made_at, cause_at, cause_there, causes_are, causes_long}
-use Rattle.ga_search.proofs.NearReadings.{kept_caused, one_place}
+use Rattle.ga_search.proofs.NearReadings.{kept_caused}
 use Rattle.ga_search.proofs.Placed.{steps_at}
 use Rattle.ga_search.proofs.Posted.{stood_alike}
 use Rattle.ga_search.proofs.Standing.{Stands, stands_somewhere}

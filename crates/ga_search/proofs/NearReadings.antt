@@ -1,7 +1,7 @@
 -- No look is left out that could have read another word where a change that is near to it comes on its other side.
-use Rattle.std.proofs.Common.{◌≡◌, ◌≢◌, ℕ, zero, suc, ◌+◌, ◌/◌, ◌%◌, ◌<◌, ◌≤◌, ◌⊎◌, cond, Bool, true, false, ◌||◌, ◌&&◌, inl, inr, List, [], ◌∷◌, ◌++◌, length, take, get_or, Contains, Option, Some, None, IsSome, refl, sym, ◌∙◌, ap, ap₂, subst, arith, true≢false, eq-eqb}
-use Rattle.std.specs.Prelude.{nat_lt, is_some, Result, Ok, Err, IfSome}
-use Rattle.std.proofs.lemmas.Bool.{cases_Bool, cases_eq, cases_lt, or_cases, or_left, or_right, and_from}
+use Rattle.std.proofs.Common.{◌≡◌, ◌≢◌, ℕ, zero, suc, ◌+◌, ◌/◌, ◌%◌, ◌<◌, ◌≤◌, ◌⊎◌, cond, Bool, true, false, ◌||◌, ◌&&◌, inl, inr, List, [], ◌∷◌, ◌++◌, length, take, get_or, Contains, Option, Some, None, IsSome, refl, sym, ◌∙◌, ap, subst, arith, true≢false, eq-eqb}
+use Rattle.std.specs.Prelude.{is_some, Err, IfSome}
+use Rattle.std.proofs.lemmas.Bool.{cases_Bool, cases_eq, cases_lt, or_cases, or_left, or_right}
 use Rattle.std.proofs.lemmas.List.{take_all, take_more, get_or_default, length-map}
 use Rattle.std.proofs.lemmas.List.Elements.{Contains-push_cases}
 use Rattle.ga_ports.specs.declared.side.Side.{Side}
@@ -17,17 +17,17 @@ use Rattle.ga_event.specs.declared.event.Cause.{Cause}
 use Rattle.ga_event.specs.Touches.{touches}
 use Rattle.ga_event.specs.Apply.{is_number, seen_from, replay}
 use Rattle.ga_event.specs.Told.{steps_of, events_in}
-use Rattle.ga_causal.specs.Dependence.{no_cause, event_at, place_of}
+use Rattle.ga_causal.specs.Dependence.{event_at, place_of}
 use Rattle.ga_causal.specs.Steps.{touching, IsStep}
 use Rattle.ga_causal.proofs.Places.{touching_before, touching_in}
 use Rattle.ga_races.specs.Orders.{CanBe}
 use Rattle.ga_races.specs.declared.act.EventAccess.{EventAccess}
 use Rattle.ga_races.specs.declared.near.Near.{Near}
-use Rattle.ga_races.specs.HappensBefore.{Action, action_at, actions, AreNear}
-use Rattle.ga_races.specs.Acts.{action_in, actions_in, is_own_of, is_look_of, IsNearLook}
+use Rattle.ga_races.specs.HappensBefore.{action_at, actions, AreNear}
+use Rattle.ga_races.specs.Acts.{action_in, actions_in, is_own_of, IsNearLook}
 use Rattle.ga_races.specs.kept.Changed.{AreAlike}
 use Rattle.ga_races.proofs.Likeness.{alike-sym, near_alike}
-use Rattle.ga_races.proofs.Rivals.{Open, open_of, number_of, at_node, at_two}
+use Rattle.ga_races.proofs.Rivals.{open_of, number_of, at_node, at_two}
 use Rattle.ga_lab.specs.Machine.{State, chip_of, causes_of, rest_answer, rewind_answer, earlier, rewound, stands}
 use Rattle.ga_lab.specs.declared.fault.LabFault.{LabFault}
 use Rattle.ga_lab.proofs.Called.{Runs, runs_of, causes_is, events_run}
@@ -37,7 +37,7 @@ use Rattle.ga_search.specs.Near.{are_linked}
 use Rattle.ga_search.specs.Races.{looks_next, has_look}
 use Rattle.ga_search.specs.Readings.{back_of, IsOtherwise, IsNearReading, IsTold}
 use Rattle.ga_search.specs.kept.Readings.{part_beside, IsAtNear}
-use Rattle.ga_search.specs.kept.Glances.{taken_of, IsGlance, AreGlanced, IsShownBy, AreRead}
+use Rattle.ga_search.specs.kept.Glances.{IsGlance, AreGlanced, IsShownBy, AreRead}
 use Rattle.ga_search.specs.declared.readings.Reading.{Reading}
 use Rattle.ga_search.specs.declared.glances.Glance.{Glance}
 use Rattle.ga_search.proofs.Acting.{Made, made_at, causes_long, causes_are, cause_there}

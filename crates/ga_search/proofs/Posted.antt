@@ -10,7 +10,6 @@ use Rattle.ga_ports.specs.declared.side.Side.TheVariants.{Right, Down, Left, Up}
 use Rattle.ga_node.specs.Record.{NodeRecord}
 use Rattle.ga_node.specs.Table.{t}
 use Rattle.ga_node.specs.declared.wait.Wait.{Wait}
-use Rattle.ga_node.specs.declared.wait.Wait.TheVariants.{Nothing}
 use Rattle.ga_grid.specs.declared.node_id.NodeId.{NodeId}
 use Rattle.ga_grid.specs.Grid.{neighbour_of}
 use Rattle.ga_grid.specs.Chip.{record_at}
@@ -30,7 +29,7 @@ use Rattle.ga_races.specs.Orders.{CanBe}
 use Rattle.ga_races.proofs.Frees.{first_of, replay_more, stays}
 use Rattle.ga_races.proofs.Rivals.{Open, open_of, back, number_of, wait_at, at_node, at_two, one_side, one_way}
 use Rattle.ga_lab.specs.Machine.{State, chip_of, causes_of, history_of, earlier, rewound}
-use Rattle.ga_lab.proofs.Called.{Runs, runs_some}
+use Rattle.ga_lab.proofs.Called.{Runs}
 use Rattle.ga_search.specs.Offered.{offered_by, offered}
 use Rattle.ga_search.specs.kept.Left.{posted, word_between}
 use Rattle.ga_search.proofs.Standing.{steps-cons, stands_somewhere}

@@ -1,8 +1,8 @@
 -- Races put one behind another.
 use Rattle.std.proofs.Common.{◌≡◌, ◌≢◌, ℕ, zero, suc, ◌+◌, ◌<◌, ◌≤◌, ◌%◌, ◌^◌, ◌==◌, cond, Bool, true, false, ◌||◌, List, [], ◌∷◌, ◌++◌, length, drop, get_or, Option, Some, None, refl, sym, ◌∙◌, ap, append_assoc, eq-eqb, arith}
-use Rattle.std.specs.Prelude.{IfSome, is_none}
+use Rattle.std.specs.Prelude.{IfSome}
 use Rattle.std.specs.List.{slice_get}
-use Rattle.std.proofs.lemmas.Bool.{cases_Bool, eqb-true}
+use Rattle.std.proofs.lemmas.Bool.{eqb-true}
 use Rattle.std.proofs.lemmas.Option.{same_Some}
 use Rattle.std.proofs.lemmas.List.{append-nil, drop_more, drop_all}
 use Rattle.std.proofs.Math.Nat.{mod-eq_of_lt}
@@ -12,12 +12,11 @@ use Rattle.ga_grid.specs.Grid.{node_id, neighbour_of}
 use Rattle.ga_grid.proofs.NodeIds.{node_id-number}
 use Rattle.ga_event.specs.declared.event.Cause.{Cause}
 use Rattle.ga_event.specs.declared.made.Made.{Made}
-use Rattle.ga_event.specs.Told.{steps_of}
 use Rattle.ga_ports.specs.declared.side.Side.{Side}
 use Rattle.ga_lab.specs.Machine.{State, chip_of, history_of, rewound}
 use Rattle.ga_search.specs.Offered.{offered}
 use Rattle.ga_search.specs.declared.races.Race.{Race}
-use Rattle.ga_search.specs.Races.{race_from, races_over, races_told, races_at, races_before, races_of, races_below, has_look, looks_next, has_next_look}
+use Rattle.ga_search.specs.Races.{race_from, races_over, races_told, races_before, races_of, races_below, has_look, looks_next, has_next_look}
 
 pub added : (r : NodeId) (k : ℕ) (w : NodeId) (word : ℕ) (other : NodeId) (offer : Option ℕ) (o cut : ℕ) → offer ≡ Some o → other.number ≢ w.number → cut ≡ o % (2 ^ 18)
     → IfSome offer (λ z. z < 2 ^ 18) → race_from r k w word (Some other.number) offer ≡ record { reader = r; step = k; writer = w; word = word; other = other; offered = cut } ∷ []

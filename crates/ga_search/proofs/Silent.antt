@@ -1,5 +1,5 @@
 -- A neighbour that never waited to write gives no word, whatever is taken back.
-use Rattle.std.proofs.Common.{◌≡◌, ℕ, Bool, true, false, ◌&&◌, cond, List, Option, Some, None, IsSome, zero, suc, ◌+◌, ◌-◌, ◌<◌, ◌≤◌, [], ◌∷◌, inl, inr, subst, arith, refl, sym, ◌∙◌, ap}
+use Rattle.std.proofs.Common.{◌≡◌, ℕ, Bool, true, false, ◌&&◌, cond, List, Option, Some, None, IsSome, zero, suc, ◌+◌, ◌-◌, ◌≤◌, [], ◌∷◌, inl, inr, subst, arith, refl, sym, ◌∙◌, ap}
 use Rattle.std.specs.Prelude.{take}
 use Rattle.ga_ports.specs.declared.side.Side.{Side}
 use Rattle.ga_node.specs.Record.{NodeRecord}
@@ -8,7 +8,6 @@ use Rattle.ga_grid.specs.Grid.{neighbour_of}
 use Rattle.ga_grid.specs.Chip.{record_at}
 use Rattle.ga_event.specs.Apply.{writes_to, reads_from, replay}
 use Rattle.ga_event.specs.declared.event.Event.{Event}
-use Rattle.ga_event.specs.Touches.{touches}
 use Rattle.std.proofs.lemmas.Bool.{cases_eq}
 use Rattle.ga_event.specs.Told.{steps_of}
 use Rattle.ga_lab.specs.Machine.{State, Standing, standing, chip_of, earlier, rewound, stands}
@@ -18,7 +17,6 @@ use Rattle.ga_grid.specs.declared.node_id.NodeId.{NodeId}
 use Rattle.ga_lab.proofs.Called.{Runs}
 use Rattle.ga_lab.proofs.Reasons.{stands_counted}
 use Rattle.ga_search.specs.Races.{race_from, races_over}
-use Rattle.ga_search.specs.declared.races.Race.{Race}
 use Rattle.ga_search.proofs.Standing.{stands_somewhere, steps-cons}
 use Rattle.ga_search.proofs.Behind.{TakenBack, taken_back, stands_many}
 

@@ -1,113 +1,134 @@
-//! What an event needs so that the only condition of a run can hold right after it. Most events lack it, and that is seen by a
-//! comparison or two.
+//! What an own event needs so that one of the conditions of a run can hold right after it. Most events lack it, and that is seen by
+//! a few comparisons, whatever the conditions are.
 
-ghost use Rattle.std.specs.Prelude.{◌≡◌, ◌∷◌, [], ◌&&◌, ◌==◌, true, None};
-ghost use Rattle.ga_grid.specs.Chip.{record_at};
-ghost use Rattle.ga_lab.specs.Machine.{chip_of};
-ghost use Rattle.ga_search.specs.Conditions.{is_own, is_step_of};
-ghost use Rattle.ga_search.specs.kept.Needs.{lacks, is_storing, IsNeeded};
+ghost use Rattle.std.specs.Prelude.{◌≡◌};
+ghost use Rattle.ga_search.specs.kept.Needs.{IsNeeded};
 
-use crate::condition::{Condition, stops};
-use crate::edges::{is_of, slot_of};
+use crate::condition::Condition;
+use crate::edges::slot_of;
 use ga_grid::NodeId;
-use ga_lab::{Lab, Made};
+use ga_lab::Lab;
 use ga_node::Kind;
 
-/// What an event needs.
+// The opcodes that store are this one and the three behind it: `!p`, `!+`, `!b`, `!`.
+const STORE_P: u8 = 0x0c;
+
+const STORES: u32 = 4;
+
+// So many opcodes are all that a code can tell.
+const ALL: u32 = 256;
+
+/// What an own event needs: to be a wait or a stop, or one of these.
 #[derive(Clone, Copy)]
-pub(crate) enum Need {
-    /// That it is a step of this node behind which it fetches next.
-    FetchOf(NodeId),
-    /// That it is an opcode that stores.
-    Store,
-    /// That it is a stop.
-    Stop,
-    /// Nothing that is known.
-    Unknown,
+pub(crate) struct Needs {
+    // One of so many opcodes from `!p` on; of all of them a fetch does too.
+    opcodes: u32,
+    // Any after which its node fetches next.
+    fetches: bool,
 }
 
-impl Condition {
-    // What an event needs where this is the only condition.
-    fn need(&self) -> Need
-        ensures { IsNeeded result (self.now ∷ []) }
+impl Needs {
+    ghost use Rattle.std.specs.Prelude.{◌≡◌, ◌≤◌, ◌&&◌, not, true};
+    ghost use Rattle.ga_grid.specs.Chip.{record_at};
+    ghost use Rattle.ga_lab.specs.Machine.{chip_of};
+    ghost use Rattle.ga_search.specs.kept.Needs.{is_one_of, may_fetch, lacks, Covers};
+
+    // The same, and what this condition needs.
+    fn with(self, condition: &Condition) -> Self
+        ensures covers { Covers result condition.now }
+        ensures opcodes { self.opcodes ≤ result.opcodes }
+        ensures fetches { self.fetches ≡ true → result.fetches ≡ true }
     {
-        match self {
-            Condition::Reaches { node, .. } => Need::FetchOf(*node),
-            Condition::Writes { .. } => Need::Store,
-            Condition::Stops => Need::Stop,
-            Condition::Never => Need::Unknown,
-            Condition::Passes { .. } => Need::Unknown,
-            Condition::PassesNumber { .. } => Need::Unknown,
-            Condition::Steps { .. } => Need::Unknown,
-            Condition::StopsAt(_) => Need::Unknown,
-            Condition::WaitsAt(_) => Need::Unknown,
-            Condition::Holds { .. } => Need::Unknown,
-            Condition::ComesTo { .. } => Need::Unknown,
+        match condition {
+            Condition::Reaches { .. } => Needs {
+                fetches: true,
+                ..self
+            },
+            Condition::Writes { .. } => self.with_opcodes(STORES),
+            Condition::Steps { .. } => self.with_opcodes(ALL),
+            Condition::Holds { .. } => self.with_opcodes(ALL),
+            Condition::ComesTo { .. } => self.with_opcodes(ALL),
+            Condition::Never => self,
+            Condition::Passes { .. } => self,
+            Condition::PassesNumber { .. } => self,
+            Condition::Stops => self,
+            Condition::StopsAt(_) => self,
+            Condition::WaitsAt(_) => self,
+        }
+    }
+
+    // The same, and so many opcodes.
+    fn with_opcodes(self, opcodes: u32) -> Self
+        ensures asked { opcodes ≤ result.opcodes }
+        ensures opcodes { self.opcodes ≤ result.opcodes }
+        ensures fetches { result.fetches ≡ self.fetches }
+    {
+        if self.opcodes < opcodes {
+            Needs { opcodes, ..self }
+        } else {
+            self
+        }
+    }
+
+    // Whether it is one of the opcodes.
+    #[inline(always)]
+    fn has_opcode(&self, code: u8) -> bool
+        ensures { result ≡ is_one_of self.now.opcodes code }
+    {
+        u32::from(code.wrapping_sub(STORE_P)) < self.opcodes
+    }
+
+    // Whether the node fetches next, and that does.
+    #[inline(always)]
+    fn may_fetch(&self, lab: &Lab, node: NodeId) -> bool
+        ensures { result ≡ may_fetch self.now (record_at (chip_of lab.now) node.number) }
+    {
+        self.fetches && slot_of(lab, node) == 4
+    }
+
+    // Whether an opcode lacks what it needs.
+    #[inline(always)]
+    fn lacks_opcode(&self, lab: &Lab, node: NodeId, code: u8) -> bool
+        ensures { result ≡ (not (is_one_of self.now.opcodes code) && not (may_fetch self.now (record_at (chip_of lab.now) node.number))) }
+    {
+        !self.has_opcode(code) && !self.may_fetch(lab, node)
+    }
+
+    // Whether an event of any kind does.
+    #[inline(never)]
+    fn lacks_any(&self, lab: &Lab, node: NodeId, kind: Kind) -> bool
+        ensures { result ≡ lacks self.now (record_at (chip_of lab.now) node.number) kind }
+    {
+        match kind {
+            Kind::Run(code) => self.lacks_opcode(lab, node, code),
+            Kind::Fetch => self.opcodes < ALL && !self.may_fetch(lab, node),
+            Kind::Wait => false,
+            Kind::Stop(_) => false,
+        }
+    }
+
+    /// Whether the newest event, of this kind and the node's own, lacks what it needs.
+    #[inline(always)]
+    pub(crate) fn lacks(&self, lab: &Lab, node: NodeId, kind: Kind) -> bool
+        ensures { result ≡ lacks self.now (record_at (chip_of lab.now) node.number) kind }
+    {
+        match kind {
+            Kind::Run(code) => self.lacks_opcode(lab, node, code),
+            _ => self.lacks_any(lab, node, kind),
         }
     }
 }
 
-// What an event needs so that one of these conditions can hold.
-pub(crate) fn need_of(until: &[Condition]) -> Need
+// What an own event needs so that one of these conditions can hold.
+pub(crate) fn needs_of(until: &[Condition]) -> Needs
     ensures { IsNeeded result until.now }
 {
-    match until.first() {
-        None => Need::Unknown,
-        Some(only) => {
-            if until.len() == 1 {
-                only.need()
-            } else {
-                Need::Unknown
-            }
-        }
+    let mut needs = Needs {
+        opcodes: 0,
+        fetches: false,
+    };
+    for condition in until {
+        needs = needs.with(condition);
     }
-}
-
-// Whether the event was a step of the node behind which it fetches next.
-#[inline(always)]
-fn is_before_fetch(made: &Made, lab: &Lab, of: NodeId) -> bool
-    ensures { result ≡ (is_step_of of.number made.now && ((record_at (chip_of lab.now) of.number).slot == 4)) }
-{
-    match made {
-        // Its own node is at hand.
-        Made::Own { node, .. } => slot_of(lab, *node) == 4 && node.number == of.number,
-        Made::Pass { .. } => is_of(made, of) && slot_of(lab, of) == 4,
-    }
-}
-
-// Whether an opcode of this kind stores: `!p`, `!+`, `!b`, `!`.
-#[inline(always)]
-fn is_storing(kind: Kind) -> bool
-    ensures { result ≡ is_storing kind }
-{
-    match kind {
-        Kind::Run(code) => code > 0x0b && code < 0x10,
-        Kind::Fetch => false,
-        Kind::Wait => false,
-        Kind::Stop(_) => false,
-    }
-}
-
-// Whether the event was an opcode that stores.
-#[inline(always)]
-fn stores(made: &Made) -> bool
-    ensures { result ≡ is_own is_storing made.now }
-{
-    match made {
-        Made::Own { kind, .. } => is_storing(*kind),
-        Made::Pass { .. } => false,
-    }
-}
-
-/// Whether the event lacks what it needs.
-#[inline(always)]
-pub(crate) fn lacks(need: Need, made: &Made, lab: &Lab) -> bool
-    ensures { result ≡ lacks need made.now lab.now }
-{
-    match need {
-        Need::FetchOf(node) => !is_before_fetch(made, lab, node),
-        Need::Store => !stores(made),
-        Need::Stop => !stops(made),
-        Need::Unknown => false,
-    }
+    needs
 }

@@ -5,16 +5,18 @@ ghost use Rattle.ga_event.specs.Apply.{replay};
 ghost use Rattle.ga_lab.specs.Machine.{chip_of, step_answer, stepped};
 ghost use Rattle.ga_search.specs.Words.{one_over, word_count};
 ghost use Rattle.ga_search.specs.kept.Ready.{HoldsReady, IsAlone};
-ghost use Rattle.ga_search.specs.kept.Counted.{newest_told};
+ghost use Rattle.ga_search.specs.kept.Counted.{AreCounted, newest_told};
+ghost use Rattle.ga_search.specs.kept.Needs.{IsNeeded};
+ghost use Rattle.ga_search.specs.Conditions.{first_held};
 ghost use Rattle.ga_search.specs.Schedules.{passed_on};
 ghost use Rattle.ga_search.specs.Running.{running, told, run_moved, after_events, AreMade, IsRefusedFor, IsHalted, HasEnded};
 
 use crate::condition::Condition;
-use crate::needs::need_of;
+use crate::needs::{Needs, needs_of};
 use crate::numbers::Numbers;
 use crate::ready::{next_from, ready_nodes, refresh};
 use crate::schedule::Schedule;
-use crate::watching::{count_all, count_on, first_held};
+use crate::watching::{LinkCounts, count_all, first_held};
 use ga_grid::NodeId;
 use ga_lab::{Lab, LabFault, Made};
 
@@ -44,6 +46,7 @@ pub struct Ran {
 }
 
 // Makes this node's next event, and looks at what that may have changed.
+#[inline(always)]
 pub(crate) fn make(
     lab: &mut Lab,
     ready: &mut Numbers,
@@ -69,41 +72,106 @@ pub(crate) fn make(
 {
     match lab.step_inlined(node) {
         Ok(made) => {
-            refresh(ready, alone, lab.chip(), &made);
             *schedule = schedule.pass_on(node);
+            refresh(ready, alone, lab.chip(), &made);
             Ok(made)
         }
         Err(why) => Err(why),
     }
 }
 
-// Makes the next event of the schedule, where nothing halts it.
-fn advance(
+// The same, out of the way of a node that runs.
+#[inline(never)]
+fn make_by_wait(
     lab: &mut Lab,
     ready: &mut Numbers,
     alone: &mut Option<NodeId>,
     schedule: &mut Schedule,
-) -> Result<Made, End>
+    node: NodeId,
+) -> Result<Made, LabFault>
     requires ready { HoldsReady (chip_of lab.old) ready.old }
     requires alone { IfSome alone.old (IsAlone ready.old) }
     requires replays { IsSome (replay lab.old.load lab.old.kept) }
-    ensures told { IfOk result (λ made. told (running lab.old schedule.old) ≡ Some made) }
-    ensures moved { OnOk result (running lab.new schedule.new ≡ run_moved (running lab.old schedule.old)) }
+    ensures ok { IfOk result (λ made. step_answer lab.old node ≡ Ok made) }
+    ensures state { OnOk result (lab.new ≡ stepped lab.old node) }
+    ensures schedule { OnOk result (schedule.new ≡ passed_on schedule.old node) }
     ensures ready { OnOk result (HoldsReady (chip_of lab.new) ready.new) }
     ensures alone { OnOk result (IfSome alone.new (IsAlone ready.new)) }
     ensures words { IfOk result (λ made. (writer reader : ℕ) →
         word_count lab.new writer reader ≡ word_count lab.old writer reader + one_over writer reader made) }
     ensures newest { IfOk result (λ made. newest_told lab.new ≡ Some made) }
     ensures replays { OnOk result (IsSome (replay lab.new.load lab.new.kept)) }
+    ensures refused { IfErr result (λ why. IsRefusedFor why (step_answer lab.old node)) }
+    ensures same { OnErr result (lab.new ≡ lab.old) }
+    ensures stays { OnErr result (schedule.new ≡ schedule.old) }
+{
+    match lab.step(node) {
+        Ok(made) => {
+            *schedule = schedule.pass_on(node);
+            refresh(ready, alone, lab.chip(), &made);
+            Ok(made)
+        }
+        Err(why) => Err(why),
+    }
+}
+
+// What was made, and the place of the first condition that holds right after it.
+#[derive(Clone, Copy)]
+struct Seen {
+    made: Made,
+    held: Option<u8>,
+}
+
+// Makes the next event of the schedule, where nothing halts it. A node that runs goes on here, and any other out of the way.
+#[inline(always)]
+fn advance(
+    lab: &mut Lab,
+    ready: &mut Numbers,
+    alone: &mut Option<NodeId>,
+    schedule: &mut Schedule,
+    until: &[Condition],
+    needs: &Needs,
+    words: &mut LinkCounts,
+) -> Result<Seen, End>
+    requires ready { HoldsReady (chip_of lab.old) ready.old }
+    requires alone { IfSome alone.old (IsAlone ready.old) }
+    requires replays { IsSome (replay lab.old.load lab.old.kept) }
+    requires needed { IsNeeded needs.now until.now }
+    requires most { length until.now ≤ 8 }
+    requires size { length words.old ≡ 8 }
+    requires counted { AreCounted until.now lab.old words.old }
+    ensures told { IfOk result (λ seen. told (running lab.old schedule.old) ≡ Some seen.made) }
+    ensures moved { OnOk result (running lab.new schedule.new ≡ run_moved (running lab.old schedule.old)) }
+    ensures held { IfOk result (λ seen. seen.held ≡ first_held until.now seen.made lab.new) }
+    ensures ready { OnOk result (HoldsReady (chip_of lab.new) ready.new) }
+    ensures alone { OnOk result (IfSome alone.new (IsAlone ready.new)) }
+    ensures replays { OnOk result (IsSome (replay lab.new.load lab.new.kept)) }
+    ensures size { OnOk result (length words.new ≡ 8) }
+    ensures counted { OnOk result (AreCounted until.now lab.new words.new) }
     ensures halted { IfErr result (IsHalted (running lab.old schedule.old)) }
     ensures same { OnErr result (lab.new ≡ lab.old) }
     ensures stays { OnErr result (schedule.new ≡ schedule.old) }
 {
     match next_from(ready, alone, schedule.turn) {
-        Some(node) => match make(lab, ready, alone, schedule, node) {
-            Ok(made) => Ok(made),
-            Err(why) => Err(End::Refused(why)),
-        },
+        Some(node) => {
+            if lab.node(node).not_ready().is_none() {
+                match make(lab, ready, alone, schedule, node) {
+                    Ok(made) => {
+                        let held = first_held(until, needs, words, &made, lab);
+                        Ok(Seen { made, held })
+                    }
+                    Err(why) => Err(End::Refused(why)),
+                }
+            } else {
+                match make_by_wait(lab, ready, alone, schedule, node) {
+                    Ok(made) => {
+                        let held = first_held(until, needs, words, &made, lab);
+                        Ok(Seen { made, held })
+                    }
+                    Err(why) => Err(End::Refused(why)),
+                }
+            }
+        }
         None => Err(End::Quiet),
     }
 }
@@ -120,22 +188,32 @@ pub fn run_schedule(lab: &mut Lab, mut schedule: Schedule, most: u64, until: &[C
 {
     let mut ready = ready_nodes(lab.chip());
     let mut alone = None;
-    let need = need_of(until);
+    let needs = needs_of(until);
     let mut words = count_all(until, lab);
     let mut events = 0;
     while events < most {
-        match advance(lab, &mut ready, &mut alone, &mut schedule) {
-            Ok(made) => {
-                events += 1;
-                count_on(until, &mut words, &made, lab);
-                if let Some(which) = first_held(until, need, &words, &made, lab) {
-                    let end = End::Reached { made, which };
+        match advance(
+            lab,
+            &mut ready,
+            &mut alone,
+            &mut schedule,
+            until,
+            &needs,
+            &mut words,
+        ) {
+            Ok(seen) => {
+                if let Some(which) = seen.held {
+                    let end = End::Reached {
+                        made: seen.made,
+                        which,
+                    };
                     return Ran {
-                        events,
+                        events: events + 1,
                         end,
                         schedule,
                     };
                 }
+                events += 1;
             }
             Err(end) => {
                 return Ran {

@@ -6,7 +6,7 @@ ghost use Rattle.ga_search.specs.kept.Counted.{AreCounted, WereCounted, newest_t
 ghost use Rattle.ga_search.specs.kept.Needs.{IsNeeded};
 
 use crate::condition::Condition;
-use crate::needs::{Need, lacks};
+use crate::needs::Needs;
 use ga_lab::{Lab, Made};
 
 /// So many conditions at most are watched at once.
@@ -41,28 +41,21 @@ pub(crate) fn count_all(until: &[Condition], lab: &Lab) -> LinkCounts
     words
 }
 
-// The same right after an event, where so many were kept before.
-#[inline(always)]
-pub(crate) fn count_on(until: &[Condition], words: &mut LinkCounts, made: &Made, lab: &Lab)
+// The same right after a pass, where so many were kept before.
+fn count_on(until: &[Condition], words: &mut LinkCounts, made: &Made, lab: &Lab)
     requires most { length until.now ≤ 8 }
     requires size { length words.old ≡ 8 }
     requires counted { WereCounted until.now lab.now made.now words.old }
     ensures size { length words.new ≡ 8 }
     ensures counted { AreCounted until.now lab.now words.new }
 {
-    match made {
-        // It carries no word.
-        Made::Own { .. } => {}
-        Made::Pass { .. } => {
-            for (place, condition) in until.iter().enumerate() {
-                words[place] = condition.count_on(words[place], made, lab);
-            }
-        }
+    for (place, condition) in until.iter().enumerate() {
+        words[place] = condition.count_on(words[place], made, lab);
     }
 }
 
 // The place of the first that holds right after what was made, which is the newest event, where so many words are kept.
-#[inline(always)]
+#[inline(never)]
 fn first_asked(until: &[Condition], words: &LinkCounts, made: &Made, lab: &Lab) -> Option<u8>
     requires most { length until.now ≤ 8 }
     requires size { length words.now ≡ 8 }
@@ -78,27 +71,41 @@ fn first_asked(until: &[Condition], words: &LinkCounts, made: &Made, lab: &Lab) 
     None
 }
 
-// The same, where it is known what an event needs.
+// The same right after an event, where so many words were kept before, and it is known what an event needs.
 #[inline(always)]
 pub(crate) fn first_held(
     until: &[Condition],
-    need: Need,
-    words: &LinkCounts,
+    needs: &Needs,
+    words: &mut LinkCounts,
     made: &Made,
     lab: &Lab,
 ) -> Option<u8>
-    requires needed { IsNeeded need until.now }
+    requires needed { IsNeeded needs.now until.now }
     requires most { length until.now ≤ 8 }
-    requires size { length words.now ≡ 8 }
-    requires counted { AreCounted until.now lab.now words.now }
+    requires size { length words.old ≡ 8 }
+    requires counted { WereCounted until.now lab.now made.now words.old }
     requires newest { newest_told lab.now ≡ Some made.now }
-    ensures { result ≡ first_held until.now made.now lab.now }
+    ensures first { result ≡ first_held until.now made.now lab.now }
+    ensures size { length words.new ≡ 8 }
+    ensures counted { AreCounted until.now lab.now words.new }
 {
     if until.is_empty() {
         return None;
     }
-    if lacks(need, made, lab) {
-        return None;
+    match made {
+        // It carries no word.
+        Made::Own { node, kind, .. } => {
+            if needs.lacks(lab, *node, *kind) {
+                None
+            } else {
+                let seen = *made;
+                first_asked(until, words, &seen, lab)
+            }
+        }
+        Made::Pass { .. } => {
+            let seen = *made;
+            count_on(until, words, &seen, lab);
+            first_asked(until, words, &seen, lab)
+        }
     }
-    first_asked(until, words, made, lab)
 }

@@ -1,4 +1,5 @@
-//! The tests of what is asked of a lab: runs and who waits, where values come from, a chip that threads share.
+//! The tests of what is asked of a lab: what a client of the Debug Adapter Protocol is shown, a chip that threads share, and calls that no session
+//! makes. What sessions show stands in the folder `sessions` at the top.
 #![tactic(auto)]
 
 #[cfg(test)]
@@ -6,16 +7,14 @@ mod adapter;
 #[cfg(test)]
 mod asserts;
 #[cfg(test)]
-mod because;
-#[cfg(test)]
-mod explore;
+mod chains;
 #[cfg(test)]
 mod forward;
 #[cfg(test)]
 mod frames;
 #[cfg(test)]
-mod idle;
+mod notes;
 #[cfg(test)]
 mod shared;
 #[cfg(test)]
-mod whence;
+mod ticks;

@@ -3,8 +3,6 @@ ghost use Rattle.std.specs.Prelude.{◌≡◌, ◌<◌, ◌^◌, All, IfOk, vec_
 use crate::asserts::same;
 use ga_fixtures::{load, sender, taker};
 use ga_grid::{Chip, NodeId};
-use ga_lab::Made;
-use ga_node::Kind;
 use ga_shared::{
     Answer, Call, CloseFault, Closed, Entry, Free, Gate, Receipt, Seat, Shared, race,
     receipts_match,
@@ -48,49 +46,22 @@ fn counts(rt: &impl Abort, closed: &Closed, calls: usize, kept: u32, made: u64) 
     same(rt, &(counts.kept, counts.made), &(kept, made));
 }
 
+/// The race of two workers, each of whom makes four steps of its node, past a gate.
+fn raced<G: Gate + Sync, R: Threads + Wait + Sync + AllocGlobal>(
+    rt: &R,
+    gate: &G,
+) -> Result<Closed, Fail> {
+    let alloc = rt.alloc();
+    let lists = two_lists(alloc)?;
+    let closed = race(rt, alloc, linked(alloc)?, 1000000, lists, gate)?;
+    Ok(closed)
+}
+
 // The race that reports eight calls, whatever the schedule.
 #[test]
 fn close_always_disagrees(rt: HostRuntime) -> Result<(), Fail> {
-    let alloc = rt.alloc();
-    let lists = two_lists(alloc)?;
-    let closed = race(&rt, alloc, linked(alloc)?, 1000000, lists, &Free)?;
+    let closed = raced(&rt, &Free)?;
     counts(&rt, &closed, 8, 8, 8);
-    Ok(())
-}
-
-/// A step of node 000, that step back, and the step again, for one worker.
-fn one_list(alloc: Global) -> Result<Vec<Vec<Call>>, Fail>
-    ensures { IfOk result (λ lists. (vec_len lists ≡ 1) × All (λ l. vec_len l < 2 ^ 32) lists.items) }
-{
-    let node = NodeId::new(0);
-    let calls = [Call::Step(node), Call::Rewind(node, 1), Call::Step(node)];
-    let mut lists = Vec::new(alloc);
-    lists.push(calls.as_slice().to_vec(alloc)?)?;
-    Ok(lists)
-}
-
-/// The answers to the calls of worker 0.
-fn is_answered(rt: &impl Abort, closed: &Closed, answers: &[Answer]) {
-    for (entry, answer) in closed.log.iter().zip(answers) {
-        same(rt, &entry.worker, &0);
-        assert!(rt; entry.answer == *answer);
-    }
-}
-
-// One worker takes its own step back.
-#[test]
-fn own_step_back(rt: HostRuntime) -> Result<(), Fail> {
-    let alloc = rt.alloc();
-    let lists = one_list(alloc)?;
-    let closed = race(&rt, alloc, linked(alloc)?, 1000000, lists, &Free)?;
-    let node = NodeId::new(0);
-    let made = Answer::Made(Made::Own {
-        node,
-        step: 1,
-        kind: Kind::Fetch,
-    });
-    is_answered(&rt, &closed, &[made, Answer::Removed(1), made]);
-    counts(&rt, &closed, 3, 1, 2);
     Ok(())
 }
 
@@ -125,14 +96,12 @@ impl Gate for Holds {
 
 /// Whether a race ends well in which call 1 of one worker waits for call 1 of the other.
 fn held_race<R: Threads + Wait + Sync + AllocGlobal>(rt: &R, held: u32) -> Result<bool, Fail> {
-    let alloc = rt.alloc();
-    let lists = two_lists(alloc)?;
     let gate = Holds {
         held,
         is_answered: AtomicBool::new(false),
         has_failed: AtomicBool::new(false),
     };
-    let closed = race(rt, alloc, linked(alloc)?, 1000000, lists, &gate)?;
+    let closed = raced(rt, &gate)?;
     Ok(closed.log.len() == 8 && !gate.has_failed.load(Ordering::SeqCst))
 }
 

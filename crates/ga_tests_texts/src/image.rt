@@ -1,14 +1,12 @@
-//! Images that are read, refused and printed.
+//! Images that are read and refused. Others stand in `.ci/images` at the top.
 
 mod bytes;
-mod faults;
-mod lines;
-mod printing;
-mod values;
 
-use ga_image::parse;
+use crate::asserts::same;
+use ga_image::{ImageCause, ImageFault, parse};
 use std::alloc::Global;
 use std::process::Abort;
+use std::test::Fail;
 
 /// The number and the line of a refusal, or nothing where a text is accepted.
 type Refusal = Option<(u8, u32)>;
@@ -23,22 +21,31 @@ fn assert_refusal(rt: &impl Abort, alloc: Global, text: &[u8], wanted: Refusal) 
     assert_eq!(rt; refusal(alloc, text), wanted, "at {text:?}");
 }
 
-/// Asserts how each text of a table is refused.
-fn assert_refusals(rt: &impl Abort, alloc: Global, table: &[(&[u8], Refusal)]) {
-    for (text, wanted) in table {
-        assert_refusal(rt, alloc, text, *wanted);
+/// Lines behind the end, which a session reads as commands.
+const BEHIND: [(&[u8], Refusal); 3] = [
+    (b"ga144 1\nend\n\n", Some((12, 3))),
+    (b"ga144 1\nend\nend", Some((12, 3))),
+    (
+        b"ga144 1\nend\nxxxxxxxxxxxxxxxxxxxxxxxxxxxxxxxxxxxxxxxxxxxxxxxxxxxxxxxxxxxxxxxxxxxxxxxxxxxxxxxxxxxxxxxxxxxxxxxxxxxxxxxxxxxxxxxxxxxxxxxxxxxxxxxxxxxxxxxxxxxxxxxxxxxxxxxxxxxxxxxxxxxxxxxxxxxxxxxxxxxxxxxxxxxxxxxxxxxxxxxxx\nend\n",
+        Some((18, 3)),
+    ),
+];
+
+#[test]
+fn lines_behind_the_end(rt: HostRuntime) {
+    for (text, wanted) in BEHIND {
+        assert_refusal(&rt, rt.alloc(), text, wanted);
     }
 }
 
-/// Asserts how the first bytes of a text are refused, for each count of them. Each answer comes from its count of bytes on.
-fn assert_fronts(rt: &impl Abort, alloc: Global, text: &[u8], answers: &[(usize, Refusal)]) {
-    for count in 0..=text.len() {
-        let mut wanted = None;
-        for (from, answer) in answers {
-            if *from <= count {
-                wanted = *answer;
-            }
-        }
-        assert_refusal(rt, alloc, text.split_at(count).0, wanted);
-    }
+#[test]
+fn shown(rt: HostRuntime) -> Result<(), Fail> {
+    let fault = ImageFault {
+        line: 3,
+        cause: ImageCause::Word,
+    };
+    let text = fault.to_string(rt.alloc())?;
+    let wanted = "line 3: a number is too great for its place";
+    same(&rt, &text.as_str(), &wanted);
+    Ok(())
 }

@@ -1,4 +1,4 @@
-//! The tests of images, source with its notes and an editor's messages, through what their crates offer to others.
+//! The tests of images, of what is written and of an editor's messages, through what their crates offer to others.
 #![tactic(auto)]
 
 #[cfg(test)]
@@ -6,8 +6,6 @@ mod asserts;
 #[cfg(test)]
 mod image;
 #[cfg(test)]
-mod notes;
+mod output;
 #[cfg(test)]
 mod protocol;
-#[cfg(test)]
-mod source;

@@ -1,34 +1,42 @@
--- What an event needs so that the only condition of a run can hold right after it.
-use Rattle.std.specs.Prelude.{◌≡◌, ℕ, ◌==◌, nat_lt, Bool, false, ◌&&◌, not, List, [], ◌∷◌, Option}
+-- What an own event needs so that one of the conditions of a run can hold right after it.
+use Rattle.std.specs.Prelude.{◌≡◌, ℕ, ◌+◌, ◌%◌, ◌≤◌, ◌==◌, nat_lt, Bool, true, false, ◌&&◌, not, List, Some}
+use Rattle.std.specs.List.{slice_get}
+use Rattle.ga_node.specs.Record.{NodeRecord}
 use Rattle.ga_node.specs.declared.kind.Kind.{Kind}
 use Rattle.ga_node.specs.declared.kind.Kind.TheVariants as kind
-use Rattle.ga_grid.specs.declared.node_id.NodeId.{NodeId}
-use Rattle.ga_grid.specs.Chip.{record_at}
-use Rattle.ga_event.specs.declared.made.Made.{Made}
-use Rattle.ga_lab.specs.Machine.{State, chip_of}
-use Rattle.ga_search.specs.Conditions.{is_own, is_step_of, is_stop}
 use Rattle.ga_search.specs.declared.condition.Condition.{Condition}
-use Rattle.ga_search.specs.declared.condition.Condition.TheVariants.{Stops, Reaches, Writes}
-use Rattle.ga_search.specs.declared.needs.Need.{Need}
-use Rattle.ga_search.specs.declared.needs.Need.TheVariants.{FetchOf, Store, Stop, Unknown}
+use Rattle.ga_search.specs.declared.condition.Condition.TheVariants.{Never, Passes, PassesNumber, Steps, Stops, StopsAt, WaitsAt, Holds, ComesTo, Reaches, Writes}
+use Rattle.ga_search.specs.declared.needs.Needs.{Needs}
 
--- an opcode that stores: `!p`, `!+`, `!b`, `!`
-abbrev pub is_storing : Kind → Bool
-is_storing kind.Fetch = false
-is_storing (kind.Run code) = nat_lt 0x0b code && nat_lt code 0x10
-is_storing kind.Wait = false
-is_storing (kind.Stop code) = false
+-- one of so many opcodes from `!p` on, from the last code of a byte on to the first one: of four those that store, of 256 all
+abbrev pub is_one_of : ℕ → ℕ → Bool
+is_one_of opcodes code = nat_lt ((code + 244) % 256) opcodes
 
--- an event, with the machine that it left, lacks what it needs
-abbrev pub lacks : Need → Made → State → Bool
-lacks (FetchOf node) told s = not (is_step_of node.number told && ((record_at (chip_of s) node.number).slot == 4))
-lacks Store told s = not (is_own is_storing told)
-lacks Stop told s = not (is_own is_stop told)
-lacks Unknown told s = false
+-- the node, as an event left it, fetches next, and that may do
+abbrev pub may_fetch : Needs → NodeRecord → Bool
+may_fetch needs n = needs.fetches && (n.slot == 4)
 
--- it is what one of these conditions needs
-abbrev pub IsNeeded : Need → List Condition → Type 0
-IsNeeded (FetchOf node) until = (address : ℕ) × (until ≡ Reaches node address ∷ [])
-IsNeeded Store until = (node : NodeId) × (address : ℕ) × (word : Option ℕ) × (until ≡ Writes node address word ∷ [])
-IsNeeded Stop until = until ≡ Stops ∷ []
-IsNeeded Unknown until = Unit
+-- an own event of this kind, which left its node so, lacks what it needs
+abbrev pub lacks : Needs → NodeRecord → Kind → Bool
+lacks needs n kind.Fetch = nat_lt needs.opcodes 256 && not (may_fetch needs n)
+lacks needs n (kind.Run code) = not (is_one_of needs.opcodes code) && not (may_fetch needs n)
+lacks needs n kind.Wait = false
+lacks needs n (kind.Stop code) = false
+
+-- what a condition needs is among it
+abbrev pub Covers : Needs → Condition → Type 0
+Covers needs Never = Unit
+Covers needs (Passes writer reader word) = Unit
+Covers needs (PassesNumber writer reader number) = Unit
+Covers needs (Steps node step) = 256 ≤ needs.opcodes
+Covers needs Stops = Unit
+Covers needs (StopsAt node) = Unit
+Covers needs (WaitsAt node) = Unit
+Covers needs (Holds node address word) = 256 ≤ needs.opcodes
+Covers needs (ComesTo node address) = 256 ≤ needs.opcodes
+Covers needs (Reaches node address) = needs.fetches ≡ true
+Covers needs (Writes node address word) = 4 ≤ needs.opcodes
+
+-- and of each of some conditions
+abbrev pub IsNeeded : Needs → List Condition → Type 0
+IsNeeded needs until = (k : ℕ) (one : Condition) → slice_get until k ≡ Some one → Covers needs one

@@ -1,14 +1,13 @@
 -- What private contracts, invariants and bridges cite.
-use Rattle.std.specs.Prelude.{◌≡◌, ℕ, ◌+◌, nat_lt, true, if◌then◌else◌, List, slice_index, Some}
+use Rattle.std.specs.Prelude.{◌≡◌, ℕ, nat_lt, if◌then◌else◌, Some}
 use Rattle.ga_ports.specs.declared.side.Side.{Side}
 use Rattle.ga_grid.specs.declared.node_id.NodeId.{NodeId}
 use Rattle.ga_grid.specs.Grid.{neighbour_of}
 use Rattle.ga_event.specs.declared.event.Event.{Event}
 use Rattle.ga_event.specs.declared.event.Event.TheVariants.{Own, Pass}
-use Rattle.ga_event.specs.Told.{steps_of}
 use Rattle.ga_causal.specs.Steps.{IsStep}
 use Rattle.ga_races.specs.declared.near.Near.{Near}
-use Rattle.ga_lab.specs.Machine.{State, causes_of, rewound}
+use Rattle.ga_lab.specs.Machine.{State, causes_of}
 use Rattle.ga_search.specs.Near.{are_linked}
 use Rattle.ga_search.specs.declared.readings.Reading.{Reading}
 

@@ -1,8 +1,8 @@
 //! What a gate is told of the calls of a race.
 
-use super::{linked, two_lists};
+use super::raced;
 use crate::asserts::same;
-use ga_shared::{Closed, Gate, race};
+use ga_shared::{Closed, Gate};
 use std::process::Abort;
 use std::sync::atomic::{AtomicBool, AtomicU32, Ordering};
 use std::test::Fail;
@@ -47,20 +47,12 @@ impl Gate for Told {
 
 #[test]
 fn gates_are_told_of_each_call(rt: HostRuntime) -> Result<(), Fail> {
-    let alloc = rt.alloc();
     let gate = Told {
         first: AtomicU32::new(0),
         second: AtomicU32::new(0),
         has_failed: AtomicBool::new(false),
     };
-    let _closed = race(
-        &rt,
-        alloc,
-        linked(alloc)?,
-        1000000,
-        two_lists(alloc)?,
-        &gate,
-    )?;
+    let _closed = raced(&rt, &gate)?;
     assert!(rt; !gate.has_failed.load(Ordering::SeqCst));
     same(&rt, &gate.first.load(Ordering::SeqCst), &8);
     same(&rt, &gate.second.load(Ordering::SeqCst), &8);
@@ -115,20 +107,12 @@ fn is_log_of(rt: &impl Abort, closed: &Closed, workers: &[u32]) {
 
 #[test]
 fn gates_are_told_after_the_call(rt: HostRuntime) -> Result<(), Fail> {
-    let alloc = rt.alloc();
     let gate = OneFirst {
         is_told: AtomicBool::new(false),
         is_done: AtomicBool::new(false),
         has_failed: AtomicBool::new(false),
     };
-    let closed = race(
-        &rt,
-        alloc,
-        linked(alloc)?,
-        1000000,
-        two_lists(alloc)?,
-        &gate,
-    )?;
+    let closed = raced(&rt, &gate)?;
     assert!(rt; !gate.has_failed.load(Ordering::SeqCst));
     is_log_of(&rt, &closed, &[0, 1, 1, 1, 1, 0, 0, 0]);
     Ok(())

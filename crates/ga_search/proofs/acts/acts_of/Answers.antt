@@ -1,4 +1,4 @@
-use Rattle.std.proofs.Common.{◌-◌, ◌≡◌, ◌+◌, ◌<◌, ◌≤◌, ℕ, refl, sym, ◌∙◌, subst, arith}
+use Rattle.std.proofs.Common.{◌-◌, ◌∙◌, subst, arith}
 use Rattle.std.proofs.lemmas.List.{length-set}
 use Rattle.ga_lab.specs.Machine.{chip_of}
 use Rattle.ga_search.proofs.Acting.{plain_causes, plain_size, acts_next, causes_next, all_alike, is_at, cause_at, stood_from, whole_list, none_made}

@@ -1,4 +1,4 @@
-use Rattle.std.proofs.Common.{◌≡◌, ◌∙◌, ◌++◌, List, [], ◌∷◌, Contains, sym, subst}
+use Rattle.std.proofs.Common.{List, [], ◌∷◌, Contains, sym, subst}
 use Rattle.std.specs.List.{All}
 use Rattle.std.proofs.lemmas.List.Elements.{All-push, Contains-push, Contains-append_left}
 use Rattle.ga_search.specs.declared.glances.Glance.{Glance}

@@ -1,5 +1,4 @@
-use Rattle.std.proofs.Common.{◌≡◌, ◌∙◌, Some, sym, ap}
-use Rattle.ga_event.specs.declared.event.Cause.{Cause}
+use Rattle.std.proofs.Common.{◌∙◌, sym, ap}
 use Rattle.ga_causal.specs.Dependence.{event_at}
 use Rattle.ga_lab.specs.Machine.{chip_of}
 use Rattle.ga_search.proofs.Acting.{cause_at}

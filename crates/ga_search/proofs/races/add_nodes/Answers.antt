@@ -1,6 +1,6 @@
-use Rattle.std.proofs.Common.{◌≡◌, ◌∙◌, ◌+◌, ◌++◌, ℕ, refl, ap, sym, arith}
+use Rattle.std.proofs.Common.{◌∙◌, ◌++◌, refl, ap, arith}
 use Rattle.ga_lab.specs.Machine.{State}
-use Rattle.ga_search.specs.Races.{races_of, races_below}
+use Rattle.ga_search.specs.Races.{races_of}
 use Rattle.ga_search.proofs.Racing.{node_more, none_below}
 use Rattle.ga_search.proofs.races.add_nodes.Goals as goal
 

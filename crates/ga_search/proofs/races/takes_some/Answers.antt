@@ -1,4 +1,4 @@
-use Rattle.std.proofs.Common.{◌≡◌, ◌+◌, [], ℕ, sym, ◌∙◌, ap, arith}
+use Rattle.std.proofs.Common.{◌≡◌, ◌+◌, [], sym, ◌∙◌, ap, arith}
 use Rattle.ga_event.specs.Told.{steps_of}
 use Rattle.ga_search.specs.Races.{races_before}
 use Rattle.ga_search.proofs.Racing.{one_more, none_before}

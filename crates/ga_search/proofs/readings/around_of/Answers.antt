@@ -1,4 +1,4 @@
-use Rattle.std.proofs.Common.{◌≡◌, ◌∙◌, ◌<◌, None, length, sym, arith}
+use Rattle.std.proofs.Common.{◌∙◌, None, sym, arith}
 use Rattle.std.proofs.lemmas.List.{get_or_default}
 use Rattle.ga_search.proofs.readings.around_of.Goals as goal
 

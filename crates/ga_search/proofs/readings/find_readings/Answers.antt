@@ -1,4 +1,4 @@
-use Rattle.std.proofs.Common.{◌≡◌, ◌∙◌, List, sym, ap, subst, Contains}
+use Rattle.std.proofs.Common.{◌∙◌, List, sym, ap, subst, Contains}
 use Rattle.std.specs.Prelude.{Result, Ok, Err, IfOk}
 use Rattle.ga_races.specs.declared.near.Near.{Near}
 use Rattle.ga_races.specs.declared.act.EventAccess.{EventAccess}

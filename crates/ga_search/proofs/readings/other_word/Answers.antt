@@ -1,4 +1,4 @@
-use Rattle.std.proofs.Common.{◌≡◌, ◌+◌, ◌∙◌, ℕ, ap, sym, arith}
+use Rattle.std.proofs.Common.{◌≡◌, ◌+◌, ◌∙◌, ap, arith}
 use Rattle.ga_node.specs.Io.{io_word}
 use Rattle.ga_event.specs.Told.{steps_of}
 use Rattle.ga_causal.specs.Dependence.{rewound_list}

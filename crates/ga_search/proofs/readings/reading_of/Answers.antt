@@ -1,4 +1,4 @@
-use Rattle.std.proofs.Common.{◌≡◌, ◌≢◌, ◌∙◌, ℕ, Some, sym, ap}
+use Rattle.std.proofs.Common.{◌≢◌, ◌∙◌, Some, sym, ap}
 use Rattle.std.specs.Prelude.{is_some}
 use Rattle.ga_search.proofs.Glancing.{otherwise}
 use Rattle.ga_search.proofs.NearReadings.{said_of, read_again, word_there, same_reading, kept_caused, no_some}

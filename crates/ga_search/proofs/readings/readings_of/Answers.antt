@@ -1,10 +1,8 @@
-use Rattle.std.proofs.Common.{◌≡◌, ◌+◌, ◌∙◌, ◌<◌, List, length, get_or, sym, subst, arith}
+use Rattle.std.proofs.Common.{List, sym, subst, arith}
 use Rattle.std.specs.List.{All}
 use Rattle.std.proofs.lemmas.List.Elements.{All-nil, All-get_or}
 use Rattle.ga_event.specs.declared.event.Cause.{Cause}
-use Rattle.ga_lab.specs.Machine.{chip_of}
 use Rattle.ga_search.specs.Readings.{IsTold}
-use Rattle.ga_search.specs.declared.glances.Glance.{Glance}
 use Rattle.ga_search.specs.declared.readings.Reading.{Reading}
 use Rattle.ga_search.specs.kept.Glances.{IsGlanced, IsAroundOf}
 use Rattle.ga_search.proofs.Glancing.{all_steps}

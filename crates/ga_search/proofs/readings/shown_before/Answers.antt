@@ -1,4 +1,4 @@
-use Rattle.std.proofs.Common.{◌≡◌, ◌<◌, ◌∙◌, refl, ap, sym, arith}
+use Rattle.std.proofs.Common.{◌<◌, ◌∙◌, refl, ap, sym, arith}
 use Rattle.ga_node.specs.Record.{NodeRecord}
 use Rattle.ga_event.specs.Apply.{shows}
 use Rattle.ga_event.specs.Told.{steps_of}

@@ -1,6 +1,7 @@
 use Rattle.std.proofs.Common.{◌≡◌, ◌∙◌, Some, sym}
 use Rattle.ga_lab.specs.Machine.{chip_of}
 use Rattle.ga_search.specs.Running.{running, chosen}
+use Rattle.ga_search.proofs.WordCounts.{all_counted_on}
 use Rattle.ga_search.proofs.Stepping.{choice_is, nothing_past, quiet_is}
 use Rattle.ga_search.proofs.Events.{told_is, moved_is}
 use Rattle.ga_search.proofs.running.advance.Goals as goal
@@ -8,10 +9,12 @@ use Rattle.ga_search.proofs.running.advance.Goals as goal
 pub next_from-requires-clause-past : goal.next_from-requires-clause-past
 next_from-requires-clause-past c = nothing_past (chip_of c.args.lab.now) c.args.ready.now c.requires.ready
 
-pub returns-in-None-clause-halted : goal.returns-in-None-clause-halted
-returns-in-None-clause-halted c =
-    quiet_is (chip_of c.args.lab.now) c.args.schedule.now.turn.number c.args.schedule.now.turn.in_range
-    (sym (choice_is (chip_of c.args.lab.now) c.args.ready.now c.args.schedule.now.turn.number c.requires.ready) ∙ sym c.in-None.ensures.first)
+pub first_held-held-requires-clause-counted : goal.first_held-held-requires-clause-counted
+first_held-held-requires-clause-counted c = all_counted_on c.args.until.now c.args.lab.now c.make.new.lab c.in-Ok.made c.args.words.now c.in-Ok.ensures.words c.requires.counted
+
+pub first_held-held-requires-in-Ok-make_by_wait-clause-counted : goal.first_held-held-requires-in-Ok-make_by_wait-clause-counted
+first_held-held-requires-in-Ok-make_by_wait-clause-counted c =
+    all_counted_on c.args.until.now c.args.lab.now c.make_by_wait.new.lab c.in-Ok-make_by_wait.made c.args.words.now c.in-Ok-make_by_wait.ensures.words c.requires.counted
 
 pub returns-in-Ok-clause-told : goal.returns-in-Ok-clause-told
 returns-in-Ok-clause-told c =
@@ -30,3 +33,26 @@ returns-in-Err-clause-halted c =
     let who : chosen (running c.args.lab.now c.args.schedule.now) ≡ Some c.in-Some.node =
     sym (choice_is (chip_of c.args.lab.now) c.args.ready.now c.args.schedule.now.turn.number c.requires.ready) ∙ sym c.in-Some.ensures.first in
     (c.in-Some.node, who, c.in-Err.ensures.refused)
+
+pub returns-in-Ok-make_by_wait-clause-told : goal.returns-in-Ok-make_by_wait-clause-told
+returns-in-Ok-make_by_wait-clause-told c =
+    let who : chosen (running c.args.lab.now c.args.schedule.now) ≡ Some c.in-Some.node =
+    sym (choice_is (chip_of c.args.lab.now) c.args.ready.now c.args.schedule.now.turn.number c.requires.ready) ∙ sym c.in-Some.ensures.first in
+    told_is c.args.lab.now c.args.schedule.now c.in-Some.node c.in-Ok-make_by_wait.made who c.in-Ok-make_by_wait.ensures.ok
+
+pub returns-in-Ok-make_by_wait-clause-moved : goal.returns-in-Ok-make_by_wait-clause-moved
+returns-in-Ok-make_by_wait-clause-moved c =
+    let who : chosen (running c.args.lab.now c.args.schedule.now) ≡ Some c.in-Some.node =
+    sym (choice_is (chip_of c.args.lab.now) c.args.ready.now c.args.schedule.now.turn.number c.requires.ready) ∙ sym c.in-Some.ensures.first in
+    moved_is c.args.lab.now c.make_by_wait.new.lab c.args.schedule.now c.make_by_wait.new.schedule c.in-Some.node who c.in-Ok-make_by_wait.ensures.state c.in-Ok-make_by_wait.ensures.schedule
+
+pub returns-in-Err-make_by_wait-clause-halted : goal.returns-in-Err-make_by_wait-clause-halted
+returns-in-Err-make_by_wait-clause-halted c =
+    let who : chosen (running c.args.lab.now c.args.schedule.now) ≡ Some c.in-Some.node =
+    sym (choice_is (chip_of c.args.lab.now) c.args.ready.now c.args.schedule.now.turn.number c.requires.ready) ∙ sym c.in-Some.ensures.first in
+    (c.in-Some.node, who, c.in-Err-make_by_wait.ensures.refused)
+
+pub returns-in-None-clause-halted : goal.returns-in-None-clause-halted
+returns-in-None-clause-halted c =
+    quiet_is (chip_of c.args.lab.now) c.args.schedule.now.turn.number c.args.schedule.now.turn.in_range
+    (sym (choice_is (chip_of c.args.lab.now) c.args.ready.now c.args.schedule.now.turn.number c.requires.ready) ∙ sym c.in-None.ensures.first)

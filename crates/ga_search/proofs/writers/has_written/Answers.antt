@@ -1,4 +1,4 @@
-use Rattle.std.proofs.Common.{◌∙◌, ◌+◌, ◌≡◌, ℕ, ap, sym, arith}
+use Rattle.std.proofs.Common.{◌∙◌, ◌+◌, ◌≡◌, ap, sym, arith}
 use Rattle.std.specs.Prelude.{is_some}
 use Rattle.ga_node.specs.Record.{record_of}
 use Rattle.ga_event.specs.Apply.{writes_to}

@@ -1,4 +1,4 @@
-use Rattle.std.proofs.Common.{◌≡◌, ◌-◌, ◌∙◌, ℕ, sym, ap₂, subst, arith}
+use Rattle.std.proofs.Common.{◌-◌, ◌∙◌, ℕ, sym, ap₂, subst, arith}
 use Rattle.ga_node.specs.Waits.{wait_of, IsWaitCode}
 use Rattle.ga_races.specs.kept.Changed.{changed_sides}
 use Rattle.ga_search.proofs.Acting.{stood_before}

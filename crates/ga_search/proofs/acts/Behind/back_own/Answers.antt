@@ -1,5 +1,4 @@
-use Rattle.std.proofs.Common.{true, ◌∙◌, ap}
-use Rattle.ga_grid.specs.declared.node_id.NodeId.{NodeId}
+use Rattle.std.proofs.Common.{◌∙◌, ap}
 use Rattle.ga_lab.specs.Machine.{chip_of}
 use Rattle.ga_event.specs.declared.event.Event.{Event}
 use Rattle.ga_event.specs.Touches.{touches}

@@ -1,5 +1,5 @@
-use Rattle.std.proofs.Common.{◌<◌, true, ◌∙◌, sym, ap, subst}
-use Rattle.std.specs.Prelude.{ℕ, slice_index}
+use Rattle.std.proofs.Common.{◌<◌, ◌∙◌, sym, ap, subst}
+use Rattle.std.specs.Prelude.{ℕ}
 use Rattle.ga_lab.specs.Machine.{chip_of}
 use Rattle.ga_node.specs.Waits.{IsWaitCode}
 use Rattle.ga_event.specs.declared.event.Event.{Event}

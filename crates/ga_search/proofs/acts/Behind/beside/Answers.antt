@@ -1,4 +1,4 @@
-use Rattle.std.proofs.Common.{◌≡◌, ℕ, Option, sym, ◌∙◌, ap, subst}
+use Rattle.std.proofs.Common.{ℕ, Option, sym, ◌∙◌, ap, subst}
 use Rattle.ga_node.specs.Waits.{wait_of, IsWaitCode}
 use Rattle.ga_event.specs.Apply.{shows, beside_in}
 use Rattle.ga_lab.specs.Machine.{chip_of, earlier}

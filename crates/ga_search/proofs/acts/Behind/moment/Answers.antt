@@ -1,4 +1,4 @@
-use Rattle.std.proofs.Common.{◌∙◌, ℕ, slice_index, ap, sym}
+use Rattle.std.proofs.Common.{◌∙◌, ap}
 use Rattle.ga_node.specs.Io.{io_word}
 use Rattle.ga_grid.specs.declared.node_id.NodeId.{NodeId}
 use Rattle.ga_event.specs.Apply.{seen_from}

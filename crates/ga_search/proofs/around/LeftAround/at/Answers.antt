@@ -1,7 +1,5 @@
-use Rattle.std.proofs.Common.{◌≡◌, ◌∙◌, ◌-◌, ℕ, List, ap}
+use Rattle.std.proofs.Common.{◌∙◌, ◌-◌, ℕ, List, ap}
 use Rattle.std.specs.Prelude.{slice_index}
-use Rattle.ga_ports.specs.declared.side.Side.{Side}
-use Rattle.ga_search.specs.kept.Around.{around_over, lists_over}
 use Rattle.ga_search.proofs.Lefts.{around_at, by_sides}
 use Rattle.ga_search.proofs.around.LeftAround.at.Goals as goal
 

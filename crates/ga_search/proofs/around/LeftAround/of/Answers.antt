@@ -1,8 +1,8 @@
-use Rattle.std.proofs.Common.{◌≡◌, ◌+◌, ◌∙◌, ◌<◌, ◌≤◌, ℕ, cond, Bool, List, length, refl, drop, get_or, sym, ap, subst, arith}
+use Rattle.std.proofs.Common.{◌+◌, ◌∙◌, ◌<◌, ℕ, cond, length, refl, drop, get_or, sym, ap, subst, arith}
 use Rattle.ga_causal.specs.Dependence.{cause_touches}
 use Rattle.ga_search.specs.kept.Around.{AreTaken}
-use Rattle.ga_search.proofs.Depths.{touching_next, behind_here, one_most, if_ok}
-use Rattle.ga_search.proofs.Lefts.{AreGoing, AreMost, are_first, none_most, are_taken, are_most, are_few, are_ended}
+use Rattle.ga_search.proofs.Depths.{touching_next, behind_here, one_most}
+use Rattle.ga_search.proofs.Lefts.{AreGoing, are_first, none_most, are_taken, are_most, are_few, are_ended}
 use Rattle.ga_search.proofs.around.LeftAround.of.Goals as goal
 
 pub causes-init : goal.causes-init

@@ -1,0 +1,3 @@
+pub mod OrdersOut
+pub mod Verdicts
+pub mod GoodEnds

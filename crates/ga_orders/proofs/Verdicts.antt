@@ -1,0 +1,65 @@
+-- What a verdict says of what was found.
+use Rattle.std.proofs.Common.{◌≡◌, ◌≤◌, ◌⊎◌, inl, inr, ℕ, ◌+◌, Bool, true, false, ◌&&◌, not, cond, List, [], ◌∷◌, ◌++◌, length, Result, Ok, Err, refl, sym, ap, ◌∙◌, arith, length-append}
+use Rattle.std.specs.Prelude.{nat_lt}
+use Rattle.std.proofs.lemmas.Bool.{le-ltb}
+use Rattle.ga_event.specs.declared.event.Event.{Event}
+use Rattle.ga_lab.specs.Machine.{State, chip_of}
+use Rattle.ga_check.specs.Every.{IsEveryOrder, ends_of}
+use Rattle.ga_check.specs.Tallies.{IsTally}
+use Rattle.ga_check.specs.declared.tally.Tally.{Tally}
+use Rattle.ga_check.specs.declared.tally.Stop.{Stop}
+use Rattle.ga_check.specs.declared.tally.Stop.TheVariants.{Reached, Memory}
+use Rattle.ga_console.specs.declared.run.Status.TheVariants.{ImageRefused, StreamFault}
+use Rattle.ga_orders.specs.OrderTexts.{orders_text, no_order_text}
+use Rattle.ga_orders.specs.EveryOrder.{IsSearched, IsTextOut, is_faultless, verdict_of, no_order_verdict, found_text, found_verdict, TellsOrders, TellsEvery}
+use Rattle.ga_orders.specs.declared.every_order.Verdict.{Verdict}
+use Rattle.ga_orders.specs.declared.every_order.Verdict.TheVariants.{Alike, Several, Open, Ended}
+
+-- all orders were told, and the verdict is that of their tally
+pub record IsToldSo (s : State) (text : List ℕ) (verdict : Verdict) : Type 0 where
+  pub every : TellsEvery s text
+  pub verdict_is : verdict ≡ verdict_of every.tally
+
+none_below : (n : ℕ) → nat_lt n 0 ≡ false
+none_below n = le-ltb n 0 (omega arith)
+
+whole_by : (whole faultless : Bool) (verdict : Verdict) → verdict ≡ cond whole (cond faultless Alike Several) Open → (verdict ≡ Alike) ⊎ (verdict ≡ Several) → whole ≡ true
+whole_by true faultless verdict is told = refl
+whole_by false faultless verdict is (inl e) = absurd (cc)
+whole_by false faultless verdict is (inr e) = absurd (cc)
+
+faultless_by : (whole faultless : Bool) → Alike ≡ cond whole (cond faultless Alike Several) Open → faultless ≡ true
+faultless_by true true is = refl
+faultless_by true false is = absurd (cc)
+faultless_by false faultless is = absurd (cc)
+
+pub faultless_told : (tally : Tally) → Alike ≡ verdict_of tally → is_faultless tally ≡ true
+faultless_told tally is = faultless_by tally.whole (is_faultless tally) is
+
+ended_not : (verdict : Verdict) → (verdict ≡ Ended ImageRefused) ⊎ (verdict ≡ Ended StreamFault) → (verdict ≡ Alike) ⊎ (verdict ≡ Several) → ⊥
+ended_not verdict (inl a) (inl e) = cc
+ended_not verdict (inl a) (inr e) = cc
+ended_not verdict (inr a) (inl e) = cc
+ended_not verdict (inr a) (inr e) = cc
+
+told_by : (s last : State) (found : Result Tally Stop) (text : List ℕ) (verdict : Verdict) → IsSearched 0 s found last
+    → IsTextOut (found_text 0 found last) (found_verdict 0 found) text verdict → (verdict ≡ Alike) ⊎ (verdict ≡ Several) → IsToldSo s text verdict
+told_by s last (Ok tally) text verdict is (inl out) told =
+    let none : nat_lt tally.orders 0 ≡ false = none_below tally.orders in
+    let so : verdict ≡ verdict_of tally = out.1 ∙ ap (λ (b : Bool). cond b (no_order_verdict tally) (verdict_of tally)) none in record {
+      every = record {
+        runs = is.0;
+        tally = tally;
+        every = is.3 (whole_by tally.whole (is_faultless tally) verdict so told);
+        counted = is.2;
+        told = out.0 ∙ ap (λ (b : Bool). cond b (no_order_text 0 tally) (orders_text tally)) none;
+      };
+      verdict_is = so;
+    }
+told_by s last (Err Reached) text verdict is (inl out) told =
+    absurd (let n = is.last in let k = length-append is.others (is.run ∷ []) in omega (arith, n, k))
+told_by s last (Err Memory) text verdict is (inl out) told = absurd (ended_not verdict (inl out.1) told)
+told_by s last found text verdict is (inr out) told = absurd (ended_not verdict (inr out.1) told)
+
+pub told_so : (s : State) (text : List ℕ) (verdict : Verdict) → TellsOrders 0 s text verdict → (verdict ≡ Alike) ⊎ (verdict ≡ Several) → IsToldSo s text verdict
+told_so s text verdict h told = told_by s h.last h.found text verdict h.is_searched h.told told

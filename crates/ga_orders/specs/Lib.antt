@@ -1,0 +1,2 @@
+pub mod OrderTexts
+pub mod EveryOrder

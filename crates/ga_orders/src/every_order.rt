@@ -1,0 +1,222 @@
+//! Every order of a program's nodes, and what is told of them.
+
+ghost use Rattle.std.specs.Prelude.{◌≡◌, ◌++◌, Some, nat_lt};
+ghost use Rattle.std.specs.List.{list_any};
+ghost use Rattle.ga_text.specs.Lines.{Bytes};
+ghost use Rattle.ga_lab.specs.declared.fault.LabFault.TheVariants.{Memory};
+ghost use Rattle.ga_text.specs.Output.{IsSaidOrCut};
+ghost use Rattle.ga_console.specs.Texts.{refusal_text};
+ghost use Rattle.ga_explorer.specs.Saved.{saved_text};
+ghost use Rattle.ga_orders.specs.OrderTexts.{orders_text, no_order_text};
+ghost use Rattle.ga_orders.specs.EveryOrder.{TellsOrders, ChecksOrders, IsTextOut, has_stop, is_faultless, is_stop_fate, verdict_of, no_order_verdict, tally_text, tally_verdict};
+ghost use Rattle.ga_orders.specs.declared.every_order.Verdict.TheVariants.{Alike, Ended};
+ghost use Rattle.ga_console.specs.declared.run.Status.TheVariants.{ImageRefused};
+
+use crate::orders_text::{say_no_order, say_orders};
+use ga_check::orders::{Bounds, check};
+use ga_check::tally::{EndKind, Fate, Stop, Tally};
+use ga_console::{Status, refusal_text};
+use ga_explorer::{begin, say_saved};
+use ga_lab::{Lab, LabFault};
+use ga_text::{Input, Output, WriteFailed};
+use std::alloc::Global;
+use std::io::{Read, Write};
+
+/// What came of every order of a program.
+#[derive(Clone, Copy, PartialEq, Eq, Debug)]
+pub enum Verdict {
+    /// All end on one chip, where no node is stopped; or the session of an order was told.
+    Alike,
+    /// They end on several chips, or with a node that is stopped.
+    Several,
+    /// There may be others than were met.
+    Open,
+    /// No orders were told, or a write failed.
+    Ended(Status),
+}
+
+/// Reads an image or source, as `explore` does, and nothing behind its line `end`. Tells in how many orders its nodes can run, and
+/// how these end; or, where an order is asked for by its number from 1 on, the lines `step NNN` that lead to its end. A run has at
+/// most `limit` events. Source that has a fault is told to `errors`, a refused image and want of memory to `writer`.
+pub fn check_orders<R: Read, W: Write, E: Write>(
+    alloc: Global,
+    reader: &mut R,
+    writer: &mut W,
+    errors: &mut E,
+    limit: u32,
+    bounds: Bounds,
+    asked: u64,
+) -> Verdict
+    // Where the streams tell their bytes: what was read, and what was written for it by the verdict.
+    ensures { (left before : Bytes) →
+        R.remaining reader.old ≡ Some left → W.contents writer.old ≡ Some before →
+        (read rest text : Bytes) × (left ≡ read ++ rest) × (R.remaining reader.new ≡ Some rest)
+        × (W.contents writer.new ≡ Some (before ++ text)) × ChecksOrders limit asked read rest text result }
+{
+    let mut input = Input::new();
+    match begin(alloc, &mut input, reader, writer, errors, limit) {
+        Ok(begun) => tell_orders(alloc, &mut begun.into_lab(), bounds, asked, writer),
+        Err(status) => Verdict::Ended(status),
+    }
+}
+
+/// Tells how the orders of a lab's chip end, or the session of one.
+fn tell_orders<W: Write>(
+    alloc: Global,
+    lab: &mut Lab,
+    bounds: Bounds,
+    asked: u64,
+    writer: &mut W,
+) -> Verdict
+    ensures { (before : Bytes) → W.contents writer.old ≡ Some before →
+        (text : Bytes) × (W.contents writer.new ≡ Some (before ++ text)) × TellsOrders asked lab.old text result }
+{
+    match check(alloc, lab, bounds, asked) {
+        Ok(tally) => tell_tally(asked, &tally, writer),
+        Err(Stop::Reached) => tell_session(lab, writer),
+        Err(Stop::Memory) => tell_no_memory(writer),
+    }
+}
+
+/// Tells how many orders there are, and how they end, or that there is none of the number that is asked for.
+fn tell_tally<W: Write>(asked: u64, tally: &Tally, writer: &mut W) -> Verdict
+    ensures { (before : Bytes) → W.contents writer.old ≡ Some before →
+        (text : Bytes) × (W.contents writer.new ≡ Some (before ++ text))
+        × IsTextOut (tally_text asked tally.now) (tally_verdict asked tally.now) text result }
+{
+    if is_missing(asked, tally) {
+        tell_none(asked, tally, writer)
+    } else {
+        tell_all(tally, writer)
+    }
+}
+
+/// Whether there are fewer orders than this number.
+fn is_missing(asked: u64, tally: &Tally) -> bool
+    ensures { result ≡ nat_lt tally.now.orders asked }
+{
+    tally.orders < asked
+}
+
+/// Tells how many orders there are, and how they end.
+fn tell_all<W: Write>(tally: &Tally, writer: &mut W) -> Verdict
+    ensures { (before : Bytes) → W.contents writer.old ≡ Some before →
+        (text : Bytes) × (W.contents writer.new ≡ Some (before ++ text))
+        × IsTextOut (orders_text tally.now) (verdict_of tally.now) text result }
+{
+    let mut output = Output::new();
+    let said = say_orders(tally, &mut output, writer);
+    sent(said, verdict_of(tally), &mut output, writer)
+}
+
+/// Tells that there is no order of this number.
+fn tell_none<W: Write>(asked: u64, tally: &Tally, writer: &mut W) -> Verdict
+    ensures { (before : Bytes) → W.contents writer.old ≡ Some before →
+        (text : Bytes) × (W.contents writer.new ≡ Some (before ++ text))
+        × IsTextOut (no_order_text asked tally.now) (no_order_verdict tally.now) text result }
+{
+    let mut output = Output::new();
+    let said = say_no_order(asked, tally, &mut output, writer);
+    sent(said, no_order_verdict(tally), &mut output, writer)
+}
+
+/// Tells the session that leads to where a lab stands.
+fn tell_session<W: Write>(lab: &Lab, writer: &mut W) -> Verdict
+    ensures { (before : Bytes) → W.contents writer.old ≡ Some before →
+        (text : Bytes) × (W.contents writer.new ≡ Some (before ++ text)) × IsTextOut (saved_text lab.now) Alike text result }
+{
+    let mut output = Output::new();
+    let said = say_saved(lab, &mut output, writer);
+    sent(said, Verdict::Alike, &mut output, writer)
+}
+
+/// Tells that memory was wanting.
+fn tell_no_memory<W: Write>(writer: &mut W) -> Verdict
+    ensures { (before : Bytes) → W.contents writer.old ≡ Some before →
+        (text : Bytes) × (W.contents writer.new ≡ Some (before ++ text))
+        × IsTextOut (refusal_text Memory) (Ended ImageRefused) text result }
+{
+    let mut output = Output::new();
+    let said = output.say(writer, refusal_text(LabFault::Memory));
+    sent(
+        said,
+        Verdict::Ended(Status::ImageRefused),
+        &mut output,
+        writer,
+    )
+}
+
+/// Writes what is pending of what was said, and answers a verdict, or that a write failed.
+fn sent<W: Write>(
+    said: Result<(), WriteFailed>,
+    verdict: Verdict,
+    output: &mut Output,
+    writer: &mut W,
+) -> Verdict
+    ensures { (before whole : Bytes) → IsSaidOrCut said (W.contents writer.old) before whole output.old →
+        (text : Bytes) × (W.contents writer.new ≡ Some (before ++ text)) × IsTextOut whole verdict text result }
+{
+    match said {
+        Ok(()) => match output.send(writer) {
+            Ok(()) => verdict,
+            Err(_) => Verdict::Ended(Status::StreamFault),
+        },
+        Err(_) => Verdict::Ended(Status::StreamFault),
+    }
+}
+
+/// What came of orders that were told.
+fn verdict_of(tally: &Tally) -> Verdict
+    ensures { result ≡ verdict_of tally.now }
+{
+    if !tally.whole {
+        Verdict::Open
+    } else if is_faultless(tally) {
+        Verdict::Alike
+    } else {
+        Verdict::Several
+    }
+}
+
+/// Whether all orders end on one chip, where no node is stopped.
+fn is_faultless(tally: &Tally) -> bool
+    ensures { result ≡ is_faultless tally.now }
+{
+    tally.alike && !has_stops(tally.kinds.as_slice())
+}
+
+/// Whether a node is stopped at one of these ends.
+fn has_stops(kinds: &[EndKind]) -> bool
+    ensures { result ≡ list_any has_stop kinds.now }
+{
+    kinds.iter().any(|kind| has_stop(kind))
+}
+
+/// Whether a node is stopped at such an end.
+fn has_stop(kind: &EndKind) -> bool
+    ensures { result ≡ has_stop kind.now }
+{
+    kind.nodes.iter().any(|fate| is_stop(*fate))
+}
+
+fn is_stop(fate: Fate) -> bool
+    ensures { result ≡ is_stop_fate fate }
+{
+    match fate {
+        Fate::Quiet => false,
+        Fate::Reads => false,
+        Fate::Writes => false,
+        Fate::Stopped(_) => true,
+    }
+}
+
+/// What came of it where there is no order of the number that is asked for.
+fn no_order_verdict(tally: &Tally) -> Verdict
+    ensures { result ≡ no_order_verdict tally.now }
+{
+    if tally.whole {
+        Verdict::Ended(Status::ImageRefused)
+    } else {
+        Verdict::Open
+    }
+}
