@@ -1,3 +1,3 @@
-pub mod Present
+pub mod NodesNow
 pub mod Halting
 pub mod Moving

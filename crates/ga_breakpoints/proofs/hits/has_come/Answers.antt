@@ -2,7 +2,7 @@ use Rattle.std.proofs.Common.{◌≡◌, ◌∙◌, ℕ, ◌-◌, ◌≤◌, len
 use Rattle.ga_event.specs.Told.{steps_of}
 use Rattle.ga_lab.specs.Machine.{history_of}
 use Rattle.ga_adapter.specs.Moves.{comes_to}
-use Rattle.ga_breakpoints.proofs.Present.{not_come, none_came}
+use Rattle.ga_breakpoints.proofs.NodesNow.{not_come, none_came}
 use Rattle.ga_breakpoints.proofs.hits.has_come.Goals as goal
 
 pub returns-then-steps-eq0 : goal.returns-then-steps-eq0

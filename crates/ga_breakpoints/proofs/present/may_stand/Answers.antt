@@ -4,7 +4,7 @@ use Rattle.ga_node.specs.Record.{NodeRecord, record_of}
 use Rattle.ga_grid.specs.Chip.{record_at}
 use Rattle.ga_lab.specs.Machine.{chip_of}
 use Rattle.ga_breakpoints.specs.kept.Standing.{may_be}
-use Rattle.ga_breakpoints.proofs.Present.{stands_elsewhere}
+use Rattle.ga_breakpoints.proofs.NodesNow.{stands_elsewhere}
 use Rattle.ga_breakpoints.proofs.present.may_stand.Goals as goal
 
 pub returns : goal.returns
