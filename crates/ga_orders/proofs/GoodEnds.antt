@@ -1,12 +1,10 @@
 -- Orders that end on one chip, where no node is stopped.
-use Rattle.std.proofs.Common.{◌≡◌, ℕ, ◌+◌, ◌<◌, ◌==◌, Bool, true, false, ◌&&◌, ◌||◌, not, cond, IsTrue, List, [], ◌∷◌, map, Some, refl, sym, ap, ap₂, ◌∙◌, subst, arith, eqb-true}
-use Rattle.std.specs.Prelude.{nat_lt, unwrap_or, All, Contains}
+use Rattle.std.proofs.Common.{◌≡◌, ℕ, ◌+◌, ◌==◌, Bool, true, false, ◌&&◌, ◌||◌, not, cond, IsTrue, List, [], ◌∷◌, map, Some, refl, sym, ap, ap₂, ◌∙◌, subst, arith, eqb-true}
+use Rattle.std.specs.Prelude.{nat_lt, unwrap_or, All}
 use Rattle.std.specs.List.{list_any}
 use Rattle.std.proofs.lemmas.Bool.{lt-ltb}
 use Rattle.std.proofs.lemmas.List.Elements.{All-nil, All-cons, All-head, All-tail, All-contains}
 use Rattle.ga_node.specs.Record.{NodeRecord}
-use Rattle.ga_node.specs.declared.wait.Wait.{Wait}
-use Rattle.ga_node.specs.declared.wait.Wait.TheVariants as wait
 use Rattle.ga_event.specs.declared.event.Event.{Event}
 use Rattle.ga_event.specs.Apply.{replay}
 use Rattle.ga_races.specs.Orders.{IsAtEnd}

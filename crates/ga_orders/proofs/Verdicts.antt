@@ -1,11 +1,8 @@
 -- What a verdict says of what was found.
-use Rattle.std.proofs.Common.{◌≡◌, ◌≤◌, ◌⊎◌, inl, inr, ℕ, ◌+◌, Bool, true, false, ◌&&◌, not, cond, List, [], ◌∷◌, ◌++◌, length, Result, Ok, Err, refl, sym, ap, ◌∙◌, arith, length-append}
+use Rattle.std.proofs.Common.{◌≡◌, ◌⊎◌, inl, inr, ℕ, Bool, true, false, cond, List, [], ◌∷◌, Result, Ok, Err, refl, ap, ◌∙◌, arith, length-append}
 use Rattle.std.specs.Prelude.{nat_lt}
 use Rattle.std.proofs.lemmas.Bool.{le-ltb}
-use Rattle.ga_event.specs.declared.event.Event.{Event}
-use Rattle.ga_lab.specs.Machine.{State, chip_of}
-use Rattle.ga_check.specs.Every.{IsEveryOrder, ends_of}
-use Rattle.ga_check.specs.Tallies.{IsTally}
+use Rattle.ga_lab.specs.Machine.{State}
 use Rattle.ga_check.specs.declared.tally.Tally.{Tally}
 use Rattle.ga_check.specs.declared.tally.Stop.{Stop}
 use Rattle.ga_check.specs.declared.tally.Stop.TheVariants.{Reached, Memory}

@@ -1,4 +1,4 @@
-use Rattle.std.proofs.Common.{ℕ, ◌-◌, ◌++◌, ◌∙◌, ap, arith}
+use Rattle.std.proofs.Common.{◌-◌, ◌++◌, ◌∙◌, ap, arith}
 use Rattle.ga_check.specs.declared.tally.Fate.{Fate}
 use Rattle.ga_orders.specs.OrderTexts.{fate_at, stop_item}
 use Rattle.ga_explorer.proofs.WaitingLines.{next_added, all_added}
