@@ -88,7 +88,7 @@ pub(crate) fn went_by(lab: &Lab, run: WatchedRun, halts: &Halts<'_>, node: Optio
 pub fn go_on(lab: &mut Lab, schedule: Schedule, halts: Halts<'_>, most: u64) -> Went
     ensures state { running lab.new result.schedule ≡ after_events (running lab.old schedule) result.events }
     ensures most { result.events ≤ most }
-    ensures end { HasWent (going_on halts.breakpoints.now halts.stops) (running lab.old schedule) most result.events result.halt }
+    ensures end { HasWent (going_on halts.entry.breakpoints.now halts.entry.stops) (running lab.old schedule) most result.events result.halt }
 {
     let mut watch = halts;
     let run = run_watched(lab, schedule, None, most, &mut watch);

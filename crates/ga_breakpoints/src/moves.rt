@@ -152,7 +152,7 @@ pub fn step_on(
     ensures state { running lab.new result.schedule ≡ after_first (Some stepping.old.node) (running lab.old schedule) result.events }
     ensures stepping { stepping.new ≡ stepped_on stepping.old (running lab.old schedule) result.events }
     ensures most { result.events ≤ most }
-    ensures end { HasWent (stepping_on notes.now halts.breakpoints.now halts.stops stepping.old (running lab.old schedule)) (running lab.old schedule) most result.events result.halt }
+    ensures end { HasWent (stepping_on notes.now halts.entry.breakpoints.now halts.entry.stops stepping.old (running lab.old schedule)) (running lab.old schedule) most result.events result.halt }
 {
     let node = stepping.node;
     let mut watch = Steps {
