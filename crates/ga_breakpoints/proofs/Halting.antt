@@ -1,20 +1,17 @@
 -- How a move ends, by how its run did.
-use Rattle.std.proofs.Common.{◌≡◌, ℕ, zero, suc, ◌+◌, ◌<◌, Bool, true, false, ◌||◌, cond, List, Option, Some, None, refl, sym, ◌∙◌, ap, subst, arith, add-one}
+use Rattle.std.proofs.Common.{◌≡◌, ℕ, ◌+◌, Bool, true, false, ◌||◌, Option, Some, None, refl, sym, ◌∙◌, ap, subst, add-one}
 use Rattle.std.specs.Prelude.{is_some}
 use Rattle.ga_grid.specs.declared.node_id.NodeId.{NodeId}
 use Rattle.ga_event.specs.declared.made.Made.{Made}
 use Rattle.ga_lab.specs.Machine.{State}
-use Rattle.ga_notes.specs.declared.notes.Notes.{Notes}
 use Rattle.ga_search.specs.declared.watched.WatchedEnd.{WatchedEnd}
 use Rattle.ga_search.specs.declared.watched.WatchedEnd.TheVariants as the_end
 use Rattle.ga_search.specs.Running.{Running}
-use Rattle.ga_search.specs.Watched.{told_first, first_moved, after_first, Watching, watching, seen_told, ends_told, watch_after, ends_behind, NeverEnds, HasEndedWatched}
-use Rattle.ga_breakpoints.specs.declared.breakpoint.Breakpoint.{Breakpoint}
+use Rattle.ga_search.specs.Watched.{told_first, first_moved, after_first, Watching, watching, ends_behind, NeverEnds, HasEndedWatched}
 use Rattle.ga_breakpoints.specs.declared.going.Halt.{Halt}
-use Rattle.ga_breakpoints.specs.declared.going.Halt.TheVariants as the_halt
-use Rattle.ga_breakpoints.specs.Breakpoints.{first_hit, is_stopping, ends_early}
+use Rattle.ga_breakpoints.specs.Breakpoints.{first_hit, is_stopping}
 use Rattle.ga_breakpoints.specs.Going.{Course, halts_told, halts_behind, NeverHalts, IsFirst, HasWent}
-use Rattle.ga_breakpoints.specs.kept.Halting.{halt_hit, halt_by, halt_of}
+use Rattle.ga_breakpoints.specs.kept.Halting.{halt_hit, halt_of}
 
 -- the watch ends a run where the move halts
 abbrev pub AreAlike : {W : Type 0} → Watching W → W → Running → Course → Type 0

@@ -1,5 +1,5 @@
 -- The watches of the moves end a run where the moves halt.
-use Rattle.std.proofs.Common.{◌≡◌, ℕ, zero, suc, Bool, true, false, ◌||◌, cond, Option, Some, None, refl, sym, ◌∙◌, ap}
+use Rattle.std.proofs.Common.{◌≡◌, ℕ, zero, suc, Bool, true, false, ◌||◌, cond, Option, Some, None, refl, ◌∙◌, ap}
 use Rattle.ga_grid.specs.declared.node_id.NodeId.{NodeId}
 use Rattle.ga_event.specs.declared.made.Made.{Made}
 use Rattle.ga_lab.specs.Machine.{State}
@@ -11,7 +11,7 @@ use Rattle.ga_breakpoints.specs.declared.moves.Steps.{Steps}
 use Rattle.ga_breakpoints.specs.declared.stepping.Stepping.{Stepping}
 use Rattle.ga_breakpoints.specs.Breakpoints.{ends_early}
 use Rattle.ga_breakpoints.specs.Stepping.{call_behind, step_seen, is_moved, step_told, stepped_on}
-use Rattle.ga_breakpoints.specs.Going.{Course, halts_told, going_on, stepping_on}
+use Rattle.ga_breakpoints.specs.Going.{halts_told, going_on, stepping_on}
 use Rattle.ga_breakpoints.proofs.Halting.{AreAlike}
 
 -- ---- `continue`

@@ -1,5 +1,5 @@
 -- A node as it stands is the one behind all its steps.
-use Rattle.std.proofs.Common.{◌≡◌, ◌≢◌, ℕ, zero, suc, ◌+◌, ◌-◌, ◌≤◌, ◌<◌, ◌==◌, Bool, true, false, ◌&&◌, cond, List, [], ◌∷◌, length, take, Option, Some, None, IsSome, inl, inr, refl, sym, ◌∙◌, ap, subst, arith}
+use Rattle.std.proofs.Common.{◌≡◌, ℕ, zero, suc, ◌+◌, ◌≤◌, ◌==◌, Bool, true, false, ◌&&◌, cond, List, [], ◌∷◌, length, take, Option, Some, None, IsSome, inl, inr, refl, sym, ◌∙◌, ap, arith}
 use Rattle.std.specs.Prelude.{option_map, option_and_then, unwrap_or}
 use Rattle.std.specs.List.{slice_get}
 use Rattle.ga_event.specs.declared.made.Made.{Made}
@@ -13,11 +13,11 @@ use Rattle.ga_grid.specs.Chip.{record_at}
 use Rattle.ga_event.specs.declared.event.Event.{Event}
 use Rattle.ga_event.specs.declared.event.Cause.{Cause}
 use Rattle.ga_event.specs.Touches.{touches}
-use Rattle.ga_event.specs.Apply.{Told, apply, run, replay}
+use Rattle.ga_event.specs.Apply.{Told, run, replay}
 use Rattle.ga_event.specs.Told.{steps_of}
 use Rattle.ga_causal.proofs.Runs.{FirstOf, first_of_run, keeps_of}
 use Rattle.ga_causal.proofs.Swaps.{replay-cons}
-use Rattle.ga_lab.specs.Machine.{State, chip_of, earlier, history_of}
+use Rattle.ga_lab.specs.Machine.{State, chip_of, history_of}
 use Rattle.ga_origin.specs.Fetched.{fetched_cell}
 use Rattle.ga_origin.proofs.Made.{none_past}
 use Rattle.ga_lab.proofs.Called.{Runs, runs_of, chip_is}

@@ -1,6 +1,6 @@
 -- How a move ends (Debug Adapter Protocol, "ContinueRequest", "NextRequest", "StepInRequest", "StepOutRequest", "StoppedEvent"): right behind the first
 -- event that hits a breakpoint, is a stop that ends it, or brings it to its end; or where no event follows.
-use Rattle.std.specs.Prelude.{◌≡◌, ℕ, suc, ◌+◌, ◌<◌, Bool, true, false, ◌||◌, List, Option, Some, None}
+use Rattle.std.specs.Prelude.{◌≡◌, ℕ, ◌+◌, ◌<◌, Bool, true, false, ◌||◌, List, Option, Some, None}
 use Rattle.ga_grid.specs.declared.node_id.NodeId.{NodeId}
 use Rattle.ga_event.specs.declared.made.Made.{Made}
 use Rattle.ga_lab.specs.Machine.{State}

@@ -42,7 +42,7 @@ fn frames_are_shown(rt: HostRuntime) -> Result<(), Fail> {
     let (lab, notes) = begun(&rt, alloc, 7)?;
     let body = stack_trace(alloc, FILE, &lab, &notes, NodeId::new(0), 0, 0);
     let wanted =
-        "{\"stackFrames\":[{\"column\":3,\"id\":1,\"instructionPointerReference\":\"0x000005\",\"line\":9,\"name\":\"000 quad\",\"source\":{\"name\":\"calls.f18\",\"path\":\"/calls.f18\"}},{\"column\":3,\"id\":2,\"instructionPointerReference\":\"0x000003\",\"line\":6,\"name\":\"000 double\",\"source\":{\"name\":\"calls.f18\",\"path\":\"/calls.f18\"}},{\"column\":5,\"id\":3,\"instructionPointerReference\":\"0x000000\",\"line\":3,\"name\":\"000 main\",\"source\":{\"name\":\"calls.f18\",\"path\":\"/calls.f18\"}}],\"totalFrames\":3}";
+        "{\"stackFrames\":[{\"column\":7,\"id\":1,\"instructionPointerReference\":\"0x000005\",\"line\":9,\"name\":\"000 quad\",\"source\":{\"name\":\"calls.f18\",\"path\":\"/calls.f18\"}},{\"column\":3,\"id\":2,\"instructionPointerReference\":\"0x000003\",\"line\":6,\"name\":\"000 double\",\"source\":{\"name\":\"calls.f18\",\"path\":\"/calls.f18\"}},{\"column\":5,\"id\":3,\"instructionPointerReference\":\"0x000000\",\"line\":3,\"name\":\"000 main\",\"source\":{\"name\":\"calls.f18\",\"path\":\"/calls.f18\"}}],\"totalFrames\":3}";
     assert_body(&rt, alloc, &body, wanted);
     let body = stack_trace(alloc, FILE, &lab, &notes, NodeId::new(1), 0, 0);
     let wanted =

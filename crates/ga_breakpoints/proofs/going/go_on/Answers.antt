@@ -1,14 +1,11 @@
-use Rattle.std.proofs.Common.{◌≡◌, ◌∙◌, ℕ, None, ap, sym, subst}
+use Rattle.std.proofs.Common.{◌∙◌, ℕ, None, ap, sym, subst}
 use Rattle.ga_event.specs.declared.made.Made.{Made}
 use Rattle.ga_lab.specs.Machine.{State}
 use Rattle.ga_search.specs.Running.{Running, running, after_events}
-use Rattle.ga_search.specs.Watched.{after_first}
 use Rattle.ga_search.proofs.WatchedEvents.{after_none}
 use Rattle.ga_breakpoints.specs.Breakpoints.{ends_early}
 use Rattle.ga_breakpoints.specs.Going.{Course, HasWent, going_on}
-use Rattle.ga_breakpoints.specs.declared.going.Halt.{Halt}
 use Rattle.ga_breakpoints.specs.declared.halts.Halts.{Halts}
-use Rattle.ga_breakpoints.specs.kept.Halting.{halt_of}
 use Rattle.ga_breakpoints.proofs.Halting.{went_so}
 use Rattle.ga_breakpoints.proofs.Moving.{go_alike}
 use Rattle.ga_breakpoints.proofs.going.go_on.Goals as goal

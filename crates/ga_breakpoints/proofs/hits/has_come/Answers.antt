@@ -1,4 +1,4 @@
-use Rattle.std.proofs.Common.{◌≡◌, ◌∙◌, ℕ, ◌-◌, ◌≤◌, length, ap, sym, arith}
+use Rattle.std.proofs.Common.{◌∙◌, ℕ, ◌-◌, ◌≤◌, length, ap, arith}
 use Rattle.ga_event.specs.Told.{steps_of}
 use Rattle.ga_lab.specs.Machine.{history_of}
 use Rattle.ga_adapter.specs.Moves.{comes_to}

@@ -1,4 +1,4 @@
-use Rattle.std.proofs.Common.{◌≡◌, ◌+◌, ◌<◌, ap, arith}
+use Rattle.std.proofs.Common.{ap, arith}
 use Rattle.std.specs.Prelude.{is_some}
 use Rattle.ga_search.proofs.Newest.{newest_steps}
 use Rattle.ga_breakpoints.proofs.moves.newest_step.Goals as goal

@@ -1,5 +1,4 @@
-use Rattle.std.proofs.Common.{◌≡◌, ◌∙◌, ◌||◌, ℕ, Option, Some, ap, sym, subst}
-use Rattle.ga_grid.specs.declared.node_id.NodeId.{NodeId}
+use Rattle.std.proofs.Common.{◌∙◌, ◌||◌, ℕ, Some, ap, sym, subst}
 use Rattle.ga_event.specs.declared.made.Made.{Made}
 use Rattle.ga_lab.specs.Machine.{State}
 use Rattle.ga_search.specs.Running.{Running, running}
@@ -8,7 +7,6 @@ use Rattle.ga_breakpoints.specs.Breakpoints.{ends_early}
 use Rattle.ga_breakpoints.specs.Stepping.{step_seen, is_moved, stepped_on}
 use Rattle.ga_breakpoints.specs.Going.{Course, HasWent, stepping_on}
 use Rattle.ga_breakpoints.specs.declared.moves.Steps.{Steps}
-use Rattle.ga_breakpoints.specs.declared.stepping.Stepping.{Stepping}
 use Rattle.ga_breakpoints.proofs.Halting.{went_so}
 use Rattle.ga_breakpoints.proofs.Moving.{goes_after, step_alike}
 use Rattle.ga_breakpoints.proofs.moves.step_on.Goals as goal

@@ -1,8 +1,6 @@
-use Rattle.std.proofs.Common.{◌≡◌, ◌∙◌, ℕ, Bool, false, ap, sym}
+use Rattle.std.proofs.Common.{◌≡◌, ◌∙◌, ℕ, false, ap, sym}
 use Rattle.std.specs.Prelude.{is_some}
 use Rattle.ga_node.specs.Record.{NodeRecord, record_of}
-use Rattle.ga_grid.specs.Chip.{record_at}
-use Rattle.ga_lab.specs.Machine.{chip_of}
 use Rattle.ga_breakpoints.specs.kept.Standing.{may_be}
 use Rattle.ga_breakpoints.proofs.NodesNow.{stands_elsewhere}
 use Rattle.ga_breakpoints.proofs.present.may_stand.Goals as goal
