@@ -63,7 +63,6 @@ fn main(rt: HostRuntime) -> ExitCode {
                 file,
             },
         ) => checked(&rt, most, session.unwrap_or(0), &file),
-        Ok(Settings::Dap) => refused(&rt, "error: 'dap' is not built\n"),
         Ok(Settings::Explore { limit, file }) => served(&rt, Work::Explore { limit }, &file),
         Ok(Settings::Assemble { file }) => served(&rt, Work::Assemble, &file),
         Ok(Settings::List { file }) => served(&rt, Work::List, &file),

@@ -1,18 +1,35 @@
 -- A command in front of a text.
-use Rattle.std.proofs.Common.{◌≡◌, ◌≢◌, ◌<◌, ℕ, ◌+◌, ◌*◌, ◌/◌, ◌%◌, ◌≤◌, false, List, [], ◌∷◌, ◌++◌, length, take, drop, suc, drop-cons, length-take, length-drop, take-append-drop, get_or, refl, sym, ap, ◌∙◌, arith, append_assoc, inl, inr, eq-zero-or-pos, ◌-◌}
+use Rattle.std.proofs.Common.{◌≡◌, ◌≢◌, ◌<◌, ℕ, ◌+◌, ◌*◌, ◌/◌, ◌%◌, ◌≤◌, false, List, [], ◌∷◌, ◌++◌, length, take, drop, suc, drop-cons, length-take, length-drop, take-append-drop, get_or, refl, sym, ap, ◌∙◌, arith, append_assoc, inl, inr, eq-zero-or-pos, ◌-◌, decimal, subst}
+use Rattle.std.specs.Prelude.{codes}
 use Rattle.std.proofs.lemmas.List.{take_all}
-use Rattle.std.proofs.lemmas.List.Elements.{All-from_recursion}
+use Rattle.std.proofs.lemmas.List.Elements.{All-from_recursion, All-append}
 use Rattle.ga_grid.specs.Grid.{yxx_of}
 use Rattle.ga_grid.specs.declared.node_id.NodeId.{NodeId}
 use Rattle.ga_text.specs.Names.{name_of_node}
 use Rattle.ga_text.specs.Lines.{HasNoFeed, ends_line}
 use Rattle.ga_console.specs.Turns.{quit_line}
 use Rattle.ga_console.specs.Commands.{SpellsCommand}
-use Rattle.ga_console.specs.kept.Ahead.{IsAhead, IsLineAhead}
+use Rattle.ga_console.specs.kept.Ahead.{IsAhead, IsLineAhead, IsNumberAhead}
 use Rattle.ga_console.specs.declared.command.Command.{Command}
-use Rattle.ga_console.specs.declared.command.Command.TheVariants.{Step, Quit}
+use Rattle.ga_console.specs.declared.command.Command.TheVariants.{Step, Rewind, Count, Quit}
 use Rattle.std.proofs.Math.Seq.{drop-append-add}
 use Rattle.ga_text.proofs.PartLemmas.{not_feed}
+
+-- bytes that are the same number are the same
+pub same_bytes : (a b c d e f g h : ℕ) → a < 256 → b < 256 → c < 256 → d < 256 → e < 256 → f < 256 → g < 256 → h < 256
+    → a + 256 * b + 65536 * c + 16777216 * d ≡ e + 256 * f + 65536 * g + 16777216 * h → (a ≡ e) × (b ≡ f) × (c ≡ g) × (d ≡ h)
+same_bytes a b c d e f g h ka kb kc kd ke kf kg kh sums =
+    let one : a ≡ e = omega arith in
+    let two : b ≡ f = omega arith in
+    let three : c ≡ g = omega arith in (one, two, three, omega arith)
+
+-- a line in front of a text, and what stands behind its line feed
+line_splits : (text : List ℕ) (count : ℕ) → IsLineAhead text count → text ≡ take count text ++ 10 ∷ drop (count + 1) text
+line_splits text count h =
+    let next : suc count ≡ count + 1 = omega arith in
+    sym (take-append-drop count text)
+    ∙ ap (λ (t : List ℕ). take count text ++ t)
+    (drop-cons text count 0 h.below ∙ ap (λ (b : ℕ). b ∷ drop (suc count) text) h.feed ∙ ap (λ (n : ℕ). 10 ∷ drop n text) next)
 
 -- the first nine of some bytes
 nine : (text : List ℕ) → 9 ≤ length text
@@ -52,13 +69,92 @@ step_front text node long b0 b1 b2 b3 b4 name = record {
   not_quit = λ q. absurd (let bad = q in cc);
 }
 
--- bytes that are the same number are the same
-pub same_bytes : (a b c d e f g h : ℕ) → a < 256 → b < 256 → c < 256 → d < 256 → e < 256 → f < 256 → g < 256 → h < 256
-    → a + 256 * b + 65536 * c + 16777216 * d ≡ e + 256 * f + 65536 * g + 16777216 * h → (a ≡ e) × (b ≡ f) × (c ≡ g) × (d ≡ h)
-same_bytes a b c d e f g h ka kb kc kd ke kf kg kh sums =
-    let one : a ≡ e = omega arith in
-    let two : b ≡ f = omega arith in
-    let three : c ≡ g = omega arith in (one, two, three, omega arith)
+-- the first eleven of some bytes
+eleven : (text : List ℕ) → 11 ≤ length text
+    → text ≡ get_or text 0 0 ∷ get_or text 1 0 ∷ get_or text 2 0 ∷ get_or text 3 0 ∷ get_or text 4 0 ∷ get_or text 5 0 ∷ get_or text 6 0 ∷ get_or text 7 0 ∷ get_or text 8 0 ∷ get_or text 9 0 ∷ get_or text 10 0 ∷ drop 11 text
+eleven [] h = absurd (omega arith)
+eleven (a ∷ []) h = absurd (omega arith)
+eleven (a ∷ b ∷ []) h = absurd (omega arith)
+eleven (a ∷ b ∷ c ∷ []) h = absurd (omega arith)
+eleven (a ∷ b ∷ c ∷ d ∷ []) h = absurd (omega arith)
+eleven (a ∷ b ∷ c ∷ d ∷ e ∷ []) h = absurd (omega arith)
+eleven (a ∷ b ∷ c ∷ d ∷ e ∷ f ∷ []) h = absurd (omega arith)
+eleven (a ∷ b ∷ c ∷ d ∷ e ∷ f ∷ g ∷ []) h = absurd (omega arith)
+eleven (a ∷ b ∷ c ∷ d ∷ e ∷ f ∷ g ∷ i ∷ []) h = absurd (omega arith)
+eleven (a ∷ b ∷ c ∷ d ∷ e ∷ f ∷ g ∷ i ∷ j ∷ []) h = absurd (omega arith)
+eleven (a ∷ b ∷ c ∷ d ∷ e ∷ f ∷ g ∷ i ∷ j ∷ k ∷ []) h = absurd (omega arith)
+eleven (a ∷ b ∷ c ∷ d ∷ e ∷ f ∷ g ∷ i ∷ j ∷ k ∷ l ∷ text) h = refl
+
+-- the first six of some bytes
+six : (text : List ℕ) → 6 ≤ length text
+    → take 6 text ≡ get_or text 0 0 ∷ get_or text 1 0 ∷ get_or text 2 0 ∷ get_or text 3 0 ∷ get_or text 4 0 ∷ get_or text 5 0 ∷ []
+six [] h = absurd (omega arith)
+six (a ∷ []) h = absurd (omega arith)
+six (a ∷ b ∷ []) h = absurd (omega arith)
+six (a ∷ b ∷ c ∷ []) h = absurd (omega arith)
+six (a ∷ b ∷ c ∷ d ∷ []) h = absurd (omega arith)
+six (a ∷ b ∷ c ∷ d ∷ e ∷ []) h = absurd (omega arith)
+six (a ∷ b ∷ c ∷ d ∷ e ∷ f ∷ text) h = refl
+
+-- they are these, where the second to the fifth are these in one number
+pub six_are : (text : List ℕ) (b0 b1 b2 b3 b4 b5 : ℕ) → 6 ≤ length text → b1 < 256 → b2 < 256 → b3 < 256 → b4 < 256
+    → get_or text 1 0 < 256 → get_or text 2 0 < 256 → get_or text 3 0 < 256 → get_or text 4 0 < 256 → get_or text 0 0 ≡ b0 → get_or text 5 0 ≡ b5
+    → get_or text 1 0 + 256 * get_or text 2 0 + 65536 * get_or text 3 0 + 16777216 * get_or text 4 0 ≡ b1 + 256 * b2 + 65536 * b3 + 16777216 * b4
+    → take 6 text ≡ b0 ∷ b1 ∷ b2 ∷ b3 ∷ b4 ∷ b5 ∷ []
+six_are text b0 b1 b2 b3 b4 b5 long k1 k2 k3 k4 l1 l2 l3 l4 first last word =
+    let same = same_bytes (get_or text 1 0) (get_or text 2 0) (get_or text 3 0) (get_or text 4 0) b1 b2 b3 b4 l1 l2 l3 l4 k1 k2 k3 k4 word in
+    six text long ∙ rw (first, same.0, same.1, same.2, same.3, last) refl
+
+-- `count` and a line feed
+pub count_front : (text : List ℕ) → take 6 text ≡ codes "count\n" → IsAhead text Count 5
+count_front text front = record {
+  line = codes "count";
+  more = drop 6 text;
+  splits = sym (take-append-drop 6 text) ∙ ap (λ (t : List ℕ). t ++ drop 6 text) front;
+  no_feed = All-from_recursion (λ b. ends_line b ≡ false) (codes "count") (refl, (refl, (refl, (refl, (refl, tt)))));
+  counts = refl;
+  short = omega arith;
+  spelled = refl;
+  not_quit = λ q. absurd (let bad = q in cc);
+}
+
+rewind_head : NodeId → List ℕ
+rewind_head node = 114 ∷ 101 ∷ 119 ∷ 105 ∷ 110 ∷ 100 ∷ 32 ∷ (name_of_node node ++ 32 ∷ [])
+
+head_feeds : (node : NodeId) → HasNoFeed (rewind_head node)
+unfolding rewind_head
+head_feeds node = All-from_recursion (λ b. ends_line b ≡ false) (rewind_head node)
+    (refl, (refl, (refl, (refl, (refl, (refl, (refl, (not_feed _ (omega arith), (not_feed _ (omega arith), (not_feed _ (omega arith), (refl, tt)))))))))))
+
+-- a number behind the head of a rewind
+pub rewind_front : (text : List ℕ) (node : NodeId) (k digits : ℕ) → 11 ≤ length text → take 6 text ≡ codes "rewind" → (get_or text 6 0 ≡ 32) → (get_or text 10 0 ≡ 32)
+    → (name_of_node node ++ 10 ∷ []) ≡ (get_or text 7 0 ∷ get_or text 8 0 ∷ get_or text 9 0 ∷ 10 ∷ [])
+    → IsNumberAhead (drop 11 text) k digits → IsAhead text (Rewind node k) (11 + digits)
+unfolding rewind_head
+rewind_front text node k digits long front b6 b10 name h =
+    let bytes = sym (six text (omega arith)) ∙ front in
+    let b0 : get_or text 0 0 ≡ 114 = ap (λ (t : List ℕ). get_or t 0 0) bytes in
+    let b1 : get_or text 1 0 ≡ 101 = ap (λ (t : List ℕ). get_or t 1 0) bytes in
+    let b2 : get_or text 2 0 ≡ 119 = ap (λ (t : List ℕ). get_or t 2 0) bytes in
+    let b3 : get_or text 3 0 ≡ 105 = ap (λ (t : List ℕ). get_or t 3 0) bytes in
+    let b4 : get_or text 4 0 ≡ 110 = ap (λ (t : List ℕ). get_or t 4 0) bytes in
+    let b5 : get_or text 5 0 ≡ 100 = ap (λ (t : List ℕ). get_or t 5 0) bytes in
+    let named : name_of_node node ≡ get_or text 7 0 ∷ get_or text 8 0 ∷ get_or text 9 0 ∷ [] = ap (take 3) name in
+    let rest : drop 11 text ≡ decimal k ++ 10 ∷ drop (digits + 1) (drop 11 text) =
+    line_splits (drop 11 text) digits h.line ∙ ap (λ (t : List ℕ). t ++ 10 ∷ drop (digits + 1) (drop 11 text)) h.spelled in
+    let size : length (decimal k) ≡ digits = ap length (sym h.spelled) ∙ (omega (arith, length-take digits (drop 11 text), h.line.below)) in
+    record {
+      line = rewind_head node ++ decimal k;
+      more = drop (digits + 1) (drop 11 text);
+      splits = eleven text long ∙ rw (b0, b1, b2, b3, b4, b5, b6, b10)
+          (ap (λ (t : List ℕ). 114 ∷ 101 ∷ 119 ∷ 105 ∷ 110 ∷ 100 ∷ 32 ∷ (t ++ 32 ∷ drop 11 text)) (sym named)
+          ∙ ap (λ (t : List ℕ). 114 ∷ 101 ∷ 119 ∷ 105 ∷ 110 ∷ 100 ∷ 32 ∷ (name_of_node node ++ 32 ∷ t)) rest);
+      no_feed = All-append (λ b. ends_line b ≡ false) (rewind_head node) (decimal k) (head_feeds node) (subst HasNoFeed h.spelled h.line.no_feed);
+      counts = omega (arith, size);
+      short = omega (arith, h.few);
+      spelled = (h.fits, refl);
+      not_quit = λ q. absurd (let bad = q in cc);
+    }
 
 -- four zeros are no name and space
 pub guess_is_node : (guess : ℕ) (four : List ℕ) (word : ℕ) → (144 ≤ guess → four ≡ 0 ∷ 0 ∷ 0 ∷ 0 ∷ [])
@@ -78,14 +174,6 @@ name_same node four row tens ones feed e kr kt ko kf sums =
     let whole : 48 + n / 100 + 256 * (48 + n / 10 % 10) + 65536 * (48 + n % 10) + 16777216 * 32 ≡ row + 256 * tens + 65536 * ones + 16777216 * feed + 369098752 = rw e at sums in
     let same = same_bytes (48 + n / 100) (48 + n / 10 % 10) (48 + n % 10) 10 row tens ones feed (omega arith) (omega arith) (omega arith) (omega arith) kr kt ko kf (omega arith) in
     rw (← same.0, ← same.1, ← same.2, ← same.3) refl
-
--- a line in front of a text, and what stands behind its line feed
-line_splits : (text : List ℕ) (count : ℕ) → IsLineAhead text count → text ≡ take count text ++ 10 ∷ drop (count + 1) text
-line_splits text count h =
-    let next : suc count ≡ count + 1 = omega arith in
-    sym (take-append-drop count text)
-    ∙ ap (λ (t : List ℕ). take count text ++ t)
-    (drop-cons text count 0 h.below ∙ ap (λ (b : ℕ). b ∷ drop (suc count) text) h.feed ∙ ap (λ (n : ℕ). 10 ∷ drop n text) next)
 
 -- where it spells a command
 pub line_front : (text : List ℕ) (asked : Command) (count : ℕ) → IsLineAhead text count

@@ -1,12 +1,12 @@
 //! A line that was read whole, found where it stands.
-ghost use Rattle.std.specs.Prelude.{◌≡◌, ◌+◌, ◌*◌, [], ◌∷◌, ◌++◌, IfSome, codes};
+ghost use Rattle.std.specs.Prelude.{◌≡◌, ◌+◌, ◌*◌, [], ◌∷◌, ◌++◌, IfSome, codes, take};
 ghost use Rattle.ga_text.specs.Names.{name_of_node};
-ghost use Rattle.ga_console.specs.kept.Ahead.{IsLineAhead, StandsAhead};
+ghost use Rattle.ga_console.specs.kept.Ahead.{IsAhead, IsLineAhead, IsNumberAhead, StandsAhead};
 
 use super::command::{Command, command_of};
 use ga_grid::NodeId;
 use ga_image::LINE_LIMIT;
-use ga_text::{feed_at, name_numbered};
+use ga_text::{NUMBER_ROOM, feed_at, name_numbered, number_in};
 
 /// The bytes of a line `step NNN`.
 const STEP_LINE: usize = b"step NNN".len();
@@ -14,8 +14,19 @@ const STEP_LINE: usize = b"step NNN".len();
 /// The bytes of a line `back`.
 const BACK_LINE: usize = b"back".len();
 
+/// The bytes of a line `count`.
+const COUNT_LINE: usize = b"count".len();
+
+/// The bytes of a line `rewind NNN K` before its number.
+const REWIND_HEAD: usize = b"rewind NNN ".len();
+
 /// `step`, as `word_of` reads it.
 const STEP: u64 = 0x7065_7473;
+
+/// `ewin` and `ount`, read so.
+const EWIN: u64 = 0x6e69_7765;
+
+const OUNT: u64 = 0x746e_756f;
 
 /// What a space has more than a line feed, as the fourth byte.
 const SPACE_FOR_FEED: u64 = 0x1600_0000;
@@ -63,7 +74,52 @@ pub enum Ahead {
     Nothing,
 }
 
-/// What stands in front of a text. `step` and `back` are told before the line feed is looked for.
+/// The number that a text begins with, where a line feed stands behind it, and how many digits it has.
+#[inline(always)]
+fn number_ahead(text: &[u8]) -> Option<(u32, usize)>
+    ensures { IfSome result (λ found. IsNumberAhead text.now found.0 found.1) }
+{
+    let digits = feed_at(text)?;
+    if digits > NUMBER_ROOM {
+        return None;
+    }
+    let number = number_in(&text[..digits])?;
+    Some((number, digits))
+}
+
+/// The `rewind` that the line in front of a text spells, and how many bytes the line has.
+#[inline(always)]
+fn rewind_ahead(text: &[u8]) -> Option<(Command, usize)>
+    requires { take 6 text.now ≡ codes "rewind" }
+    ensures { IfSome result (λ told. IsAhead text.now told.0 told.1) }
+{
+    let [_, _, _, _, _, _, b' ', row, tens, ones, b' ', ..] = text else {
+        return None;
+    };
+    let node = node_ahead(*row, *tens, *ones, b'\n')?;
+    let (step, digits) = number_ahead(&text[REWIND_HEAD..])?;
+    Some((Command::Rewind(node, step), REWIND_HEAD + digits))
+}
+
+/// The same of a `count` too. Four bytes tell which it may be, from the second on: by the first four a `step` was told.
+#[inline(always)]
+fn soon_ahead(text: &[u8]) -> Option<(Command, usize)>
+    ensures { IfSome result (λ told. IsAhead text.now told.0 told.1) }
+{
+    let [first, second, third, fourth, fifth, sixth, ..] = text else {
+        return None;
+    };
+    let word = word_of(*second, *third, *fourth, *fifth);
+    if word == EWIN && *first == b'r' && *sixth == b'd' {
+        return rewind_ahead(text);
+    }
+    if word == OUNT && *first == b'c' && *sixth == b'\n' {
+        return Some((Command::Count, COUNT_LINE));
+    }
+    None
+}
+
+/// What stands in front of a text. `step`, `back`, `count` and `rewind` are told before the line feed is looked for.
 #[inline(always)]
 pub fn ahead_of(text: &[u8]) -> Ahead
     ensures { StandsAhead text.now result }
@@ -85,7 +141,10 @@ fn other_ahead(text: &[u8]) -> Ahead
 {
     match text {
         [b'b', b'a', b'c', b'k', b'\n', ..] => Ahead::Spelled(Command::Back, BACK_LINE),
-        _ => line_ahead(text),
+        _ => match soon_ahead(text) {
+            Some(told) => Ahead::Spelled(told.0, told.1),
+            None => line_ahead(text),
+        },
     }
 }
 

@@ -1,6 +1,7 @@
 -- A line that was read whole and is not taken yet.
-use Rattle.std.specs.Prelude.{◌≡◌, ◌≢◌, ◌≤◌, ◌<◌, ℕ, ◌∷◌, ◌++◌, length, take, slice_index}
+use Rattle.std.specs.Prelude.{◌≡◌, ◌≢◌, ◌≤◌, ◌<◌, ℕ, ◌∷◌, ◌++◌, length, take, slice_index, decimal}
 use Rattle.ga_text.specs.Lines.{Bytes, Line, longest, HasNoFeed}
+use Rattle.ga_text.specs.Parsing.{IsNumber}
 use Rattle.ga_console.specs.Commands.{SpellsCommand}
 use Rattle.ga_console.specs.Turns.{quit_line}
 use Rattle.ga_console.specs.declared.command.Command.{Command}
@@ -24,6 +25,13 @@ pub record IsLineAhead (bytes : Bytes) (count : ℕ) : Type 0 where
   pub no_feed : HasNoFeed (take count bytes)
   pub feed : slice_index bytes count ≡ 10
   pub short : count ≤ longest
+
+-- a number of so many digits stands in front of the bytes, with a line feed behind it
+pub record IsNumberAhead (bytes : Bytes) (number digits : ℕ) : Type 0 where
+  pub line : IsLineAhead bytes digits
+  pub few : digits ≤ 20
+  pub fits : IsNumber number
+  pub spelled : take digits bytes ≡ decimal number
 
 -- what stands in front of the bytes
 abbrev pub StandsAhead : Bytes → Ahead → Type 0
