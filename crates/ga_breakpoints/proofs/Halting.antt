@@ -10,7 +10,7 @@ use Rattle.ga_search.specs.Running.{Running}
 use Rattle.ga_search.specs.Watched.{told_first, first_moved, after_first, Watching, watching, ends_behind, NeverEnds, HasEndedWatched}
 use Rattle.ga_breakpoints.specs.declared.going.Halt.{Halt}
 use Rattle.ga_breakpoints.specs.Breakpoints.{first_hit, is_stopping}
-use Rattle.ga_breakpoints.specs.Going.{Course, halts_told, halts_behind, NeverHalts, IsFirst, HasWent}
+use Rattle.ga_breakpoints.specs.Going.{Course, halts_told, halts_behind, NeverHalts, IsFirst, HasGone}
 use Rattle.ga_breakpoints.specs.kept.Halting.{halt_hit, halt_of}
 
 -- the watch ends a run where the move halts
@@ -28,7 +28,7 @@ or_right false false c h k is = is
 
 hit_so : (g : Course) (r : Running) (most n k : ℕ) (told : Made) (s : State) (hit : Option ℕ) (stopping : Bool) → s ≡ (first_moved g.node (after_first g.node r k)).state → IsFirst g r n k told
     → first_hit g.breakpoints told s ≡ hit → is_stopping g.stops g.node told ≡ stopping → ((is_some hit || stopping) || g.ends k told s) ≡ true
-    → HasWent g r most n (halt_hit stopping told hit)
+    → HasGone g r most n (halt_hit stopping told hit)
 hit_so g r most n k told s (Some which) stopping at first is stop ends = (k, first, ap (first_hit g.breakpoints told) (sym at) ∙ is)
 hit_so g r most n k told s None true at first is stop ends = (k, first, ap (first_hit g.breakpoints told) (sym at) ∙ is, stop)
 hit_so g r most n k told s None false at first is stop ends =
@@ -39,7 +39,7 @@ after_more first r n k e = ap (after_first first r) (e ∙ add-one k)
 
 pub went_so : {W : Type 0} (ends : W → Made → State → Bool) (seen : W → Made → State → W) (w : W) (r now : Running) (g : Course) (most n : ℕ) (end : WatchedEnd) (halt : Halt)
     → AreAlike (watching g.node ends seen) w r g → now ≡ after_first g.node r n → HasEndedWatched (watching g.node ends seen) w r most n end
-    → halt ≡ halt_of g.breakpoints g.stops g.node now.state end → HasWent g r most n halt
+    → halt ≡ halt_of g.breakpoints g.stops g.node now.state end → HasGone g r most n halt
 went_so ends seen w r now g most n (the_end.Seen told) halt alike at h is =
     let by = watching g.node ends seen in
     let k : ℕ = h.0 in
@@ -48,12 +48,12 @@ went_so ends seen w r now g most n (the_end.Seen told) halt alike at h is =
     let says : halts_told g k (told_first g.node (after_first g.node r k)) next.state ≡ true = sym (alike k) ∙ h.4 in
     let ends_so : halts_told g k (Some told) now.state ≡ true =
     ap (λ (z : Running). halts_told g k (Some told) z.state) here ∙ sym (ap (λ (o : Option Made). halts_told g k o next.state) h.3) ∙ says in
-    subst (HasWent g r most n) (sym is)
+    subst (HasGone g r most n) (sym is)
     (hit_so g r most n k told now.state (first_hit g.breakpoints told now.state) (is_stopping g.stops g.node told) (ap (λ (z : Running). z.state) here)
     (record { last = h.1; before = never_so by w r g k alike h.2; made = h.3 }) refl refl ends_so)
 went_so ends seen w r now g most n the_end.Made halt alike at h is =
-    subst (HasWent g r most n) (sym is) (h.0, never_so (watching g.node ends seen) w r g n alike h.1)
+    subst (HasGone g r most n) (sym is) (h.0, never_so (watching g.node ends seen) w r g n alike h.1)
 went_so ends seen w r now g most n the_end.Quiet halt alike at h is =
-    subst (HasWent g r most n) (sym is) (h.0, never_so (watching g.node ends seen) w r g n alike h.1, h.2)
+    subst (HasGone g r most n) (sym is) (h.0, never_so (watching g.node ends seen) w r g n alike h.1, h.2)
 went_so ends seen w r now g most n (the_end.Refused why) halt alike at h is =
-    subst (HasWent g r most n) (sym is) (h.0, never_so (watching g.node ends seen) w r g n alike h.1, h.2)
+    subst (HasGone g r most n) (sym is) (h.0, never_so (watching g.node ends seen) w r g n alike h.1, h.2)

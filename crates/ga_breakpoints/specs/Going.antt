@@ -41,18 +41,18 @@ pub record IsFirst (by : Course) (r : Running) (events k : ℕ) (told : Made) : 
   pub made : told_first by.node (after_first by.node r k) ≡ Some told
 
 -- how it ended after so many events, of which no more were asked for
-abbrev pub HasWent : Course → Running → ℕ → ℕ → Halt → Type 0
-HasWent by r most events (the_halt.Hit told which) =
+abbrev pub HasGone : Course → Running → ℕ → ℕ → Halt → Type 0
+HasGone by r most events (the_halt.Hit told which) =
     (k : ℕ) × IsFirst by r events k told × (first_hit by.breakpoints told (first_moved by.node (after_first by.node r k)).state ≡ Some which)
-HasWent by r most events (the_halt.Stopped told) =
+HasGone by r most events (the_halt.Stopped told) =
     (k : ℕ) × IsFirst by r events k told × (first_hit by.breakpoints told (first_moved by.node (after_first by.node r k)).state ≡ None)
     × (is_stopping by.stops by.node told ≡ true)
-HasWent by r most events (the_halt.Moved told) =
+HasGone by r most events (the_halt.Moved told) =
     (k : ℕ) × IsFirst by r events k told × (first_hit by.breakpoints told (first_moved by.node (after_first by.node r k)).state ≡ None)
     × (is_stopping by.stops by.node told ≡ false) × (by.ends k told (first_moved by.node (after_first by.node r k)).state ≡ true)
-HasWent by r most events the_halt.Cut = (events ≡ most) × NeverHalts by r events
-HasWent by r most events the_halt.Quiet = (events < most) × NeverHalts by r events × IsHaltedFirst by.node (after_first by.node r events) the_end.Quiet
-HasWent by r most events (the_halt.Refused why) =
+HasGone by r most events the_halt.Cut = (events ≡ most) × NeverHalts by r events
+HasGone by r most events the_halt.Quiet = (events < most) × NeverHalts by r events × IsHaltedFirst by.node (after_first by.node r events) the_end.Quiet
+HasGone by r most events (the_halt.Refused why) =
     (events < most) × NeverHalts by r events × IsHaltedFirst by.node (after_first by.node r events) (the_end.Refused why)
 
 -- `continue`: by breakpoints and stops alone

@@ -3,7 +3,7 @@
 ghost use Rattle.std.specs.Prelude.{◌≡◌, ◌≤◌};
 ghost use Rattle.ga_search.specs.Running.{running, after_events};
 ghost use Rattle.ga_search.specs.Watched.{IsNewestMade, IsNewestSeen};
-ghost use Rattle.ga_breakpoints.specs.Going.{HasWent, going_on};
+ghost use Rattle.ga_breakpoints.specs.Going.{HasGone, going_on};
 ghost use Rattle.ga_breakpoints.specs.kept.Halting.{halt_by, halt_of};
 
 use crate::halts::{Halts, is_stopping};
@@ -88,7 +88,7 @@ pub(crate) fn went_by(lab: &Lab, run: WatchedRun, halts: &Halts<'_>, node: Optio
 pub fn go_on(lab: &mut Lab, schedule: Schedule, halts: Halts<'_>, most: u64) -> Went
     ensures state { running lab.new result.schedule ≡ after_events (running lab.old schedule) result.events }
     ensures most { result.events ≤ most }
-    ensures end { HasWent (going_on halts.entry.breakpoints.now halts.entry.stops) (running lab.old schedule) most result.events result.halt }
+    ensures end { HasGone (going_on halts.entry.breakpoints.now halts.entry.stops) (running lab.old schedule) most result.events result.halt }
 {
     let mut watch = halts;
     let run = run_watched(lab, schedule, None, most, &mut watch);

@@ -7,7 +7,7 @@ ghost use Rattle.ga_search.specs.Running.{running};
 ghost use Rattle.ga_search.specs.Watched.{IsNewestMade, after_first};
 ghost use Rattle.ga_adapter.specs.Calls.{is_calling, entries_from};
 ghost use Rattle.ga_breakpoints.specs.Stepping.{is_from, call_behind, step_seen, reaches_end, is_moved, stepped_on};
-ghost use Rattle.ga_breakpoints.specs.Going.{HasWent, stepping_on};
+ghost use Rattle.ga_breakpoints.specs.Going.{HasGone, stepping_on};
 
 use crate::going::{Went, went_by};
 use crate::halts::{Halts, is_halting};
@@ -152,7 +152,7 @@ pub fn step_on(
     ensures state { running lab.new result.schedule ≡ after_first (Some stepping.old.node) (running lab.old schedule) result.events }
     ensures stepping { stepping.new ≡ stepped_on stepping.old (running lab.old schedule) result.events }
     ensures most { result.events ≤ most }
-    ensures end { HasWent (stepping_on notes.now halts.entry.breakpoints.now halts.entry.stops stepping.old (running lab.old schedule)) (running lab.old schedule) most result.events result.halt }
+    ensures end { HasGone (stepping_on notes.now halts.entry.breakpoints.now halts.entry.stops stepping.old (running lab.old schedule)) (running lab.old schedule) most result.events result.halt }
 {
     let node = stepping.node;
     let mut watch = Steps {

@@ -20,7 +20,7 @@ halt_by breakpoints stops node told s = halt_hit (is_stopping stops node told) t
 
 -- by this end
 abbrev pub halt_of : List Breakpoint → Bool → Option NodeId → State → WatchedEnd → Halt
-halt_of breakpoints stops node s (the_end.Seen told) = halt_by breakpoints stops node told s
-halt_of breakpoints stops node s the_end.Made = Cut
-halt_of breakpoints stops node s the_end.Quiet = Quiet
-halt_of breakpoints stops node s (the_end.Refused why) = Refused why
+halt_of breakpoints stops first s (the_end.Seen told) = halt_by breakpoints stops first told s
+halt_of breakpoints stops first s the_end.Made = Cut
+halt_of breakpoints stops first s the_end.Quiet = Quiet
+halt_of breakpoints stops first s (the_end.Refused why) = Refused why

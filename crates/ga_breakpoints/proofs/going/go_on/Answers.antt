@@ -4,7 +4,7 @@ use Rattle.ga_lab.specs.Machine.{State}
 use Rattle.ga_search.specs.Running.{Running, running, after_events}
 use Rattle.ga_search.proofs.WatchedEvents.{after_none}
 use Rattle.ga_breakpoints.specs.Breakpoints.{ends_early}
-use Rattle.ga_breakpoints.specs.Going.{Course, HasWent, going_on}
+use Rattle.ga_breakpoints.specs.Going.{Course, HasGone, going_on}
 use Rattle.ga_breakpoints.specs.declared.halts.Halts.{Halts}
 use Rattle.ga_breakpoints.proofs.Halting.{went_so}
 use Rattle.ga_breakpoints.proofs.Moving.{go_alike}
@@ -22,7 +22,7 @@ pub returns-clause-end : goal.returns-clause-end
 returns-clause-end c =
     let start : Running = running c.args.lab.now c.args.schedule in
     let g : Course = going_on c.args.halts.breakpoints.now c.args.halts.stops in
-    subst (λ (z : ℕ). HasWent g start c.args.most z c.went_by.result.halt) (sym c.went_by.ensures.events)
+    subst (λ (z : ℕ). HasGone g start c.args.most z c.went_by.result.halt) (sym c.went_by.ensures.events)
     (went_so (λ (w : Halts) (told : Made) (s : State). ends_early w.breakpoints.now w.stops None told s) (λ (w : Halts) (told : Made) (s : State). w) c.args.halts start
     (running c.run_watched-run.new.lab c.run_watched-run.result.schedule) g c.args.most c.run_watched-run.result.events c.run_watched-run.result.end c.went_by.result.halt
     (go_alike c.args.halts start) c.run_watched-run.ensures.state c.run_watched-run.ensures.end c.went_by.ensures.halt)

@@ -5,7 +5,7 @@ use Rattle.ga_search.specs.Running.{Running, running}
 use Rattle.ga_search.specs.Watched.{after_first}
 use Rattle.ga_breakpoints.specs.Breakpoints.{ends_early}
 use Rattle.ga_breakpoints.specs.Stepping.{step_seen, is_moved, stepped_on}
-use Rattle.ga_breakpoints.specs.Going.{Course, HasWent, stepping_on}
+use Rattle.ga_breakpoints.specs.Going.{Course, HasGone, stepping_on}
 use Rattle.ga_breakpoints.specs.declared.moves.Steps.{Steps}
 use Rattle.ga_breakpoints.proofs.Halting.{went_so}
 use Rattle.ga_breakpoints.proofs.Moving.{goes_after, step_alike}
@@ -30,7 +30,7 @@ returns-clause-end c =
     let start : Running = running c.args.lab.now c.args.schedule in
     let watch : Steps = record { notes = c.args.notes; halts = c.args.halts; stepping = c.args.stepping.now } in
     let g : Course = stepping_on c.args.notes.now c.args.halts.breakpoints.now c.args.halts.stops c.args.stepping.now start in
-    subst (λ (z : ℕ). HasWent g start c.args.most z c.went_by.result.halt) (sym c.went_by.ensures.events)
+    subst (λ (z : ℕ). HasGone g start c.args.most z c.went_by.result.halt) (sym c.went_by.ensures.events)
     (went_so
     (λ (w : Steps) (told : Made) (s : State). ends_early w.halts.breakpoints.now w.halts.stops (Some w.stepping.node) told s || is_moved w.notes.now w.stepping told s)
     (λ (w : Steps) (told : Made) (s : State). record w { stepping = step_seen w.stepping told s }) watch start
