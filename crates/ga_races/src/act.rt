@@ -40,8 +40,11 @@ pub struct EventAccess {
 fn leads_over(from: NodeId, side: Side, has: bool, to: NodeId) -> bool
     ensures { result ≡ (has && is_number (neighbour_of from.number side) to.number) }
 {
+    if !has {
+        return false;
+    }
     match neighbour(from, side) {
-        Some(other) => has && other.number == to.number,
+        Some(other) => other.number == to.number,
         None => false,
     }
 }

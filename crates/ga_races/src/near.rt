@@ -41,8 +41,11 @@ struct Reached {
 fn is_marked_over(marks: &Nodes, node: NodeId, side: Side, has: bool) -> bool
     ensures { result ≡ (has && any_of (is_marked marks.now) (neighbour_of node.number side)) }
 {
+    if !has {
+        return false;
+    }
     match neighbour(node, side) {
-        Some(other) => has && marks.has(other),
+        Some(other) => marks.has(other),
         None => false,
     }
 }
@@ -386,9 +389,12 @@ fn add_look_over(
     ensures { OnOk result (IsMore acts.now (OverSide acts.now change over.0.number over.1 over.2) list.old.items list.new.items) }
 {
     let (from, side, has) = over;
+    if !has {
+        return Ok(());
+    }
     match neighbour(from, side) {
         Some(node) => {
-            if !both(has, looked.has(node)) {
+            if !looked.has(node) {
                 return Ok(());
             }
             add_look(list, acts, change, node)
