@@ -81,7 +81,6 @@ pub(crate) fn make(
 }
 
 // The same, out of the way of a node that runs.
-#[inline(never)]
 fn make_by_wait(
     lab: &mut Lab,
     ready: &mut Numbers,
