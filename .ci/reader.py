@@ -10,6 +10,14 @@ from collections import defaultdict
 
 TOP = os.path.dirname(os.path.dirname(os.path.abspath(__file__)))
 CRATES = f"{TOP}/crates"
+# The promises that a reader may want to follow to the last definition, and whose clauses they are; the functions of a file that others
+# see, where none is named.
+PROMISES = {
+    "Lab": [(f"ga_lab/src/{it}.rt", {"Lab", "Walk", "Backward"}) for it in ("lab", "lab/backward", "lab/explaining", "lab/listing", "lab/steps", "lab/walking")],
+    "session": [("ga_console/src/run.rt", {"session"})],
+    "Shared": [(f"ga_shared/src/{it}.rt", None) for it in ("shared", "seat", "gate", "locked", "workers", "racing", "closing")],
+    "race": [("ga_console/src/race.rt", None)],
+}
 NAME = r"[^\W\d]['\w-]*"
 WORD = re.compile(rf"{NAME}(?:\.{NAME})*")
 HEAD = re.compile(rf"(?:abbrev |unfoldable )?pub (?:(?:data|record) )?({NAME}|◌\S+◌)(?= *(?:[:({{]|$))", re.M)
@@ -31,7 +39,7 @@ class Module:
     """A file of definitions, or of code: what its `use` lines bring, and its own definitions with their texts."""
 
     def __init__(self, path, name=None):
-        self.name = name
+        self.name, self.path = name, path
         self.text = re.sub(r"--.*|^ *//.*", "", read(path), flags=re.M)
         self.brought, self.aliases, self.own = defaultdict(list), {}, {}
         for use in USE.finditer(self.text):
@@ -103,6 +111,19 @@ class Reader:
                 todo += self.named(self.modules[module], self.modules[module].own[name])
         return seen
 
+    def reached(self):
+        """Of each of `PROMISES` the definitions that its clauses stand on."""
+        return {promise: self.closed([it for path, only in places for it in self.clauses(path, only)]) for promise, places in PROMISES.items()}
+
+    def in_order(self, modules):
+        """Files of definitions in an order to read: each behind those that it imports, else as crates.txt and the alphabet have them."""
+        crates = named_crates()
+        left, found = sorted(modules, key=lambda it: (crates.index(it.split(".")[1]), it)), []
+        while left:
+            found.append(next(it for it in left if not (self.modules[it].imports() - {it}) & {*left}))
+            left.remove(found[-1])
+        return found
+
     def exported(self, path):
         """The items of a file that other crates see: what the crate's root passes on, or all of a public module."""
         root = self.code.get(path.split("/")[0] + "/src/lib.rt")
@@ -158,6 +179,18 @@ def signature(text, at):
             depth += {"(": 1, "[": 1, ")": -1, "]": -1}.get(text[at], 0)
             at += 1
     return at, clauses
+
+
+def named_crates():
+    """The crates as crates.txt has them."""
+    return [row.split(":")[0].split()[0] for row in read(f"{TOP}/crates.txt").split("\n") if row.split("#")[0].strip()]
+
+
+def grouped(definitions):
+    files = defaultdict(set)
+    for module, name in definitions:
+        files[module].add(name)
+    return files
 
 
 def short(module):
