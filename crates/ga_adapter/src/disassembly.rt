@@ -16,7 +16,7 @@ use crate::frames::{SourceFile, source_object};
 use crate::json::object_with;
 use crate::labels::{add_label, label_of_cell, note_of_cell};
 use crate::numbers::chip_address;
-use crate::spots::cell_of;
+use crate::spots::memory_cell;
 use crate::texts::{add_hex3, add_hex6, address_text, numbered};
 use ga_grid::NodeId;
 use ga_lab::Lab;
@@ -51,7 +51,7 @@ fn ends_word(op: Op) -> bool
 fn target_label(notes: &Notes, node: NodeId, address: u32) -> Option<&Name>
     ensures { option_map (λ name. name.now) result ≡ option_and_then (label_of_cell notes.now.names.items node) (cell_of_address address) }
 {
-    let cell = cell_of(address)?;
+    let cell = memory_cell(address)?;
     label_of_cell(notes, node, cell)
 }
 
@@ -278,7 +278,7 @@ fn cell_in_node(address: u32) -> Option<u8>
     ensures { result ≡ cell_in_node address }
 {
     if address < 256 {
-        cell_of(address)
+        memory_cell(address)
     } else {
         None
     }

@@ -6,7 +6,7 @@ ghost use Rattle.ga_notes.specs.Notes.{is_note_of};
 ghost use Rattle.ga_notes.specs.Source.{nearest_found};
 ghost use Rattle.ga_adapter.specs.Labels.{is_same_cell, is_name_at, place_of_label, label_of_cell, label_near, behind_words, cell_words, note_of_cell, spot_word, line_at, is_on_line, line_start};
 
-use crate::spots::{Spot, cell_of};
+use crate::spots::{Spot, memory_cell};
 use crate::texts::add_hex2;
 use ga_grid::NodeId;
 use ga_notes::{Name, Note, Notes, SlotWord, ToldWord};
@@ -25,7 +25,7 @@ fn is_same_cell(cell: u8, found: Option<u8>) -> bool
 fn is_name_at(name: &Name, node: NodeId, cell: u8) -> bool
     ensures { result ≡ is_name_at node cell name.now }
 {
-    name.node == node && is_same_cell(cell, cell_of(name.address))
+    name.node == node && is_same_cell(cell, memory_cell(name.address))
 }
 
 fn place_of_label(names: &[Name], node: NodeId, cell: u8) -> Option<usize>
@@ -99,7 +99,7 @@ pub(crate) fn add_cell(
             add_label(alloc, text, name)?;
             add_behind(
                 text,
-                cell.saturating_sub(cell_of(name.address).unwrap_or(cell)),
+                cell.saturating_sub(memory_cell(name.address).unwrap_or(cell)),
             )
         }
     }

@@ -32,7 +32,7 @@ pub use numbers::{
     thread_of,
 };
 pub use scope::Scope;
-pub use spots::{Spot, spot_behind};
+pub use spots::{Spot, memory_cell, slot_and_p, spot_behind};
 pub use stepping::{begins_behind, entries_from, is_calling, put_by, step_back_line};
 pub use thread::{has_thread, threads};
 pub use variable::Variable;

@@ -23,7 +23,7 @@ pub struct Spot {
 }
 
 /// The cell of memory that an address names: of ROM from 128 on.
-pub(crate) fn cell_of(address: u32) -> Option<u8>
+pub fn memory_cell(address: u32) -> Option<u8>
     ensures { result ≡ cell_of_address address }
 {
     match classify(address) {
@@ -33,9 +33,9 @@ pub(crate) fn cell_of(address: u32) -> Option<u8>
     }
 }
 
-/// The slot that comes next, and P.
+/// The slot that comes next in a node, 4 where a fetch is due, and P.
 #[tactic(auto, unfolding(ga_node::specs::Record::record_of))]
-fn slot_and_p(node: &Node) -> (u8, u32)
+pub fn slot_and_p(node: &Node) -> (u8, u32)
     ensures slot { result.0 ≡ (record_of node.now).slot }
     ensures p { result.1 ≡ (record_of node.now).p }
 {
@@ -63,7 +63,7 @@ pub(crate) fn spot_at(lab: &Lab, walk: &Walk<'_>, node: NodeId) -> Option<Spot>
 fn due_spot(p: u32) -> Option<Spot>
     ensures { result ≡ option_map (spot 0) (cell_of_address p) }
 {
-    match cell_of(p) {
+    match memory_cell(p) {
         Some(cell) => Some(Spot { cell, slot: 0 }),
         None => None,
     }

@@ -2,13 +2,11 @@
 
 ghost use Rattle.std.specs.Prelude.{◌≡◌};
 ghost use Rattle.ga_notes.specs.Notes.{worded_slot};
-ghost use Rattle.ga_notes.specs.Source.{cell_of_address};
 ghost use Rattle.ga_breakpoints.specs.Breakpoints.{on_slot, on_word, breakpoint_of_line, breakpoint_of_address};
 
-use ga_adapter::{Spot, Watched};
+use ga_adapter::{Spot, Watched, memory_cell};
 use ga_grid::NodeId;
 use ga_notes::{Notes, SlotWord};
-use ga_ports::{Target, classify};
 
 /// What a node is watched for.
 #[derive(Clone, Copy, PartialEq, Eq, Debug)]
@@ -66,22 +64,11 @@ pub fn breakpoint_of_line(notes: &Notes, line: u32) -> Option<LineBreakpoint>
     }
 }
 
-/// The cell of memory that an address names: 0 to 63 of RAM, 128 to 191 of ROM.
-pub(crate) fn cell_of(address: u32) -> Option<u8>
-    ensures { result ≡ cell_of_address address }
-{
-    match classify(address) {
-        Target::Ram(cell) => Some(cell),
-        Target::Rom(cell) => Some(128 + cell),
-        _ => None,
-    }
-}
-
 /// The breakpoint of an address of a node, as of a label: on the first slot of its cell; none where the address names no cell of memory.
 pub fn breakpoint_of_address(node: NodeId, address: u32) -> Option<Breakpoint>
     ensures { result ≡ breakpoint_of_address node address }
 {
-    match cell_of(address) {
+    match memory_cell(address) {
         Some(cell) => Some(on_slot(node, cell, 0)),
         None => None,
     }

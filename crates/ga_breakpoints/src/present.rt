@@ -1,7 +1,6 @@
 //! A node as it stands.
 
 ghost use Rattle.std.specs.Prelude.{◌≡◌, false};
-ghost use Rattle.ga_node.specs.Record.{record_of};
 ghost use Rattle.ga_event.specs.Told.{steps_of};
 ghost use Rattle.ga_notes.specs.Source.{cell_of_address};
 ghost use Rattle.ga_adapter.specs.Labels.{is_same_cell};
@@ -9,26 +8,15 @@ ghost use Rattle.ga_adapter.specs.Moves.{is_at_spot};
 ghost use Rattle.ga_adapter.specs.Spots.{spot_behind};
 ghost use Rattle.ga_breakpoints.specs.kept.Standing.{may_be};
 
-use crate::breakpoint::cell_of;
-use ga_adapter::Spot;
+use ga_adapter::{Spot, memory_cell, slot_and_p};
 use ga_grid::NodeId;
 use ga_lab::Lab;
-use ga_node::{Node, Place};
-
-/// The slot that comes next, 4 where a fetch is due, and P.
-#[tactic(auto, unfolding(ga_node::specs::Record::record_of))]
-fn slot_and_p(node: &Node) -> (u8, u32)
-    ensures slot { result.0 ≡ (record_of node.now).slot }
-    ensures p { result.1 ≡ (record_of node.now).p }
-{
-    (node.get(Place::Slot) as u8, node.get(Place::P))
-}
 
 /// Whether an address names the cell.
 fn names(address: u32, cell: u8) -> bool
     ensures { result ≡ is_same_cell cell (cell_of_address address) }
 {
-    match cell_of(address) {
+    match memory_cell(address) {
         Some(named) => named == cell,
         None => false,
     }
