@@ -342,26 +342,27 @@ few_steps = 3
 abbrev pub most_steps : ℕ
 most_steps = 99
 
-abbrev pub steps_around : NodeId → Which → ℕ → Option ExplorerCommand
-steps_around node which around = if nat_le around most_steps then Some (At node which around) else None
+abbrev pub with_steps : Which → ℕ → Option (Which × ℕ)
+with_steps which many = if nat_le many most_steps then Some (which, many) else None
 
--- `K` or `K N` behind a node
-abbrev pub around_cut : NodeId → Option (Line × Line) → Line → Option ExplorerCommand
-around_cut node None text = option_map (λ which. At node which few_steps) (which_in text)
-around_cut node (Some parts) text = do
+abbrev pub steps_cut : Option (Line × Line) → Line → Option (Which × ℕ)
+steps_cut None text = option_map (λ which. (which, few_steps)) (which_in text)
+steps_cut (Some parts) text = do
   which ← which_in parts.0
-  around ← number_in parts.1
-  steps_around node which around
+  many ← number_in parts.1
+  with_steps which many
 
-abbrev pub around_in : NodeId → Line → Option ExplorerCommand
-around_in node text = around_cut node (cut text) text
+-- `K` or `K N`: a step, and how many are told besides
+abbrev pub step_and_more : Line → Option (Which × ℕ)
+step_and_more text = steps_cut (cut text) text
 
 -- `NNN K` or `NNN K N`
 unfoldable pub at_in : Line → Option ExplorerCommand
 at_in text = do
   parts ← cut text
   node ← node_in parts.0
-  around_in node parts.1
+  asked ← step_and_more parts.1
+  Some (At node asked.0 asked.1)
 
 -- `NNN K`
 unfoldable pub whence_in : Line → Option ExplorerCommand
@@ -371,26 +372,13 @@ whence_in text = do
   which ← which_in parts.1
   Some (Whence node which)
 
-abbrev pub decided_upto : NodeId → Which → ℕ → Option ExplorerCommand
-decided_upto node which most = if nat_le most most_steps then Some (Because node which most) else None
-
--- `K` or `K N` behind a node
-abbrev pub decided_cut : NodeId → Option (Line × Line) → Line → Option ExplorerCommand
-decided_cut node None text = option_map (λ which. Because node which few_steps) (which_in text)
-decided_cut node (Some parts) text = do
-  which ← which_in parts.0
-  most ← number_in parts.1
-  decided_upto node which most
-
-abbrev pub decided_in : NodeId → Line → Option ExplorerCommand
-decided_in node text = decided_cut node (cut text) text
-
 -- `NNN K` or `NNN K N`
 unfoldable pub because_in : Line → Option ExplorerCommand
 because_in text = do
   parts ← cut text
   node ← node_in parts.0
-  decided_in node parts.1
+  asked ← step_and_more parts.1
+  Some (Because node asked.0 asked.1)
 
 -- `NNN`
 unfoldable pub races_in : Line → Option ExplorerCommand

@@ -1,7 +1,7 @@
 //! The commands of exploring, as lines spell them.
 
 ghost use Rattle.std.specs.Prelude.{◌≡◌};
-ghost use Rattle.ga_explorer.specs.Reading.{request_in, lone_request, named_request, effects_in, words_request, writes_in, at_in, around_in, whence_in, because_in, decided_in, races_in, help_in};
+ghost use Rattle.ga_explorer.specs.Reading.{request_in, lone_request, named_request, effects_in, words_request, writes_in, at_in, step_and_more, whence_in, because_in, races_in, help_in};
 
 use crate::back_request::back_of;
 use crate::commands::place_of;
@@ -185,32 +185,30 @@ fn at_of(text: &[u8]) -> Option<ExplorerCommand>
     ensures { result ≡ at_in text.now }
 {
     let (node, rest) = cut(text)?;
-    around_of(node_in(node)?, rest)
+    let node = node_in(node)?;
+    let (which, around) = step_and_more(rest)?;
+    Some(ExplorerCommand::At {
+        node,
+        which,
+        around,
+    })
 }
 
-/// `K` or `K N` behind a node
-fn around_of(node: NodeId, text: &[u8]) -> Option<ExplorerCommand>
-    ensures { result ≡ around_in node text.now }
+/// `K` or `K N`: a step, and how many are told besides
+fn step_and_more(text: &[u8]) -> Option<(Which, u32)>
+    ensures { result ≡ step_and_more text.now }
 {
     match cut(text) {
-        Some((step, around)) => {
+        Some((step, many)) => {
             let which = Which::spelled(step)?;
-            let around = number_in(around)?;
-            if around <= MOST_STEPS {
-                Some(ExplorerCommand::At {
-                    node,
-                    which,
-                    around,
-                })
+            let many = number_in(many)?;
+            if many <= MOST_STEPS {
+                Some((which, many))
             } else {
                 None
             }
         }
-        None => Some(ExplorerCommand::At {
-            node,
-            which: Which::spelled(text)?,
-            around: FEW_STEPS,
-        }),
+        None => Some((Which::spelled(text)?, FEW_STEPS)),
     }
 }
 
@@ -232,29 +230,9 @@ fn because_of(text: &[u8]) -> Option<ExplorerCommand>
     ensures { result ≡ because_in text.now }
 {
     let (node, rest) = cut(text)?;
-    decided_of(node_in(node)?, rest)
-}
-
-/// `K` or `K N` behind a node
-fn decided_of(node: NodeId, text: &[u8]) -> Option<ExplorerCommand>
-    ensures { result ≡ decided_in node text.now }
-{
-    match cut(text) {
-        Some((step, most)) => {
-            let which = Which::spelled(step)?;
-            let most = number_in(most)?;
-            if most <= MOST_STEPS {
-                Some(ExplorerCommand::Because { node, which, most })
-            } else {
-                None
-            }
-        }
-        None => Some(ExplorerCommand::Because {
-            node,
-            which: Which::spelled(text)?,
-            most: FEW_STEPS,
-        }),
-    }
+    let node = node_in(node)?;
+    let (which, most) = step_and_more(rest)?;
+    Some(ExplorerCommand::Because { node, which, most })
 }
 
 /// `NNN`
