@@ -1,5 +1,4 @@
 pub mod AheadLemmas
-pub mod Pieces
 pub mod Spelled
 pub mod Heads
 pub mod ReplyLemmas

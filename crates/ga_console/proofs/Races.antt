@@ -18,7 +18,7 @@ use Rattle.ga_image.specs.Fault.{no_memory}
 use Rattle.ga_image.specs.declared.fault.ImageFault.{ImageFault}
 use Rattle.ga_image.specs.declared.fault.ImageCause.TheVariants.{Memory}
 use Rattle.ga_lab.specs.Machine.{State}
-use Rattle.ga_console.specs.Texts.{image_fault_text}
+use Rattle.ga_display.specs.Texts.{image_fault_text}
 use Rattle.ga_console.specs.Run.{IsReadAlone, Refuses}
 use Rattle.ga_console.specs.Race.{calls_by, IsRaceOfWorkers, Reports, report_text}
 use Rattle.ga_console.specs.kept.Race.{Writes, Races}

@@ -12,7 +12,7 @@ use Rattle.ga_event.specs.Told.{made_in}
 use Rattle.ga_lab.specs.Machine.{State, chip_of, step_answer, stepped, undone, rewind_answer, rewound, undo_answer, dropped_answer, history_of, told_of_kept, why_answer}
 use Rattle.ga_lab.specs.declared.fault.LabFault.{LabFault}
 use Rattle.ga_lab.specs.declared.fault.LabFault.TheVariants as fault
-use Rattle.ga_console.specs.Texts.{made_text, removed_text, refusal_text, chain_text, independent}
+use Rattle.ga_display.specs.Texts.{made_text, removed_text, refusal_text, chain_text, independent}
 use Rattle.ga_console.specs.Replies.{Reply, Does, step_reply, back_reply, rewind_reply, steps_text, told_text, link_text, why_text}
 use Rattle.ga_console.specs.declared.command.Command.TheVariants.{Step, Back, Rewind, Trace, Why, Dump}
 

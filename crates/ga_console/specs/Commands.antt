@@ -4,14 +4,9 @@ use Rattle.std.specs.Prelude.{◌≡◌, List, [], ◌∷◌, ◌++◌, codes, d
 use Rattle.ga_text.specs.Lines.{Text, Line}
 use Rattle.ga_text.specs.Names.{name_of_node}
 use Rattle.ga_text.specs.Parsing.{IsNumber, SpellsAddress}
+use Rattle.ga_display.specs.Texts.{spaced}
 use Rattle.ga_console.specs.declared.command.Command.{Command}
 use Rattle.ga_console.specs.declared.command.Command.TheVariants.{Step, Back, Rewind, Node, Memory, Trace, Why, Count, Dump, Quit}
-
--- words with one space between two of them
-abbrev pub spaced : List Text → Text
-spaced [] = []
-spaced (word ∷ []) = word
-spaced (word ∷ more) = word ++ 32 ∷ spaced more
 
 -- the line spells the command; numbers are decimal, without leading zeros
 abbrev pub SpellsCommand : Command → Line → Type 0

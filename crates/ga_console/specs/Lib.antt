@@ -1,4 +1,3 @@
-pub mod Texts
 pub mod Commands
 pub mod Turns
 pub mod Replies

@@ -16,7 +16,7 @@ use Rattle.ga_shared.specs.Race.{calls_of}
 use Rattle.ga_text.specs.Output.{Begins}
 use Rattle.ga_text.specs.Image.{HasNoEnd}
 use Rattle.ga_console.specs.Run.{IsReadAlone}
-use Rattle.ga_console.specs.Texts.{image_fault_text}
+use Rattle.ga_display.specs.Texts.{image_fault_text}
 use Rattle.ga_console.specs.declared.run.Status.{Status}
 use Rattle.ga_console.specs.declared.run.Status.TheVariants.{Done, ImageRefused, StreamFault, NotFinished}
 

@@ -10,7 +10,7 @@ use Rattle.ga_event.specs.declared.made.Made.{Made}
 use Rattle.ga_lab.specs.Machine.{State, chip_of, step_answer, stepped, undo_answer, undone, rewind_answer, rewound, word_at, history_of, told_of_kept, why_answer}
 use Rattle.ga_lab.specs.declared.fault.LabFault.{LabFault}
 use Rattle.ga_lab.specs.declared.fault.LabFault.TheVariants as fault
-use Rattle.ga_console.specs.Texts.{made_text, removed_text, refusal_text, node_text, memory_text, counts_text, trace_text, chain_text, independent, no_syntax, no_long}
+use Rattle.ga_display.specs.Texts.{made_text, removed_text, refusal_text, node_text, memory_text, counts_text, trace_text, chain_text, independent, no_syntax, no_long}
 use Rattle.ga_console.specs.Commands.{SpellsCommand}
 use Rattle.ga_console.specs.declared.command.Command.{Command}
 use Rattle.ga_console.specs.declared.command.Command.TheVariants.{Step, Back, Rewind, Node, Memory, Trace, Why, Count, Dump, Quit}

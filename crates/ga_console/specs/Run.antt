@@ -12,7 +12,7 @@ use Rattle.ga_text.specs.Input.{input_limit, block_size}
 use Rattle.ga_text.specs.Output.{Begins, ready}
 use Rattle.ga_text.specs.Image.{EndsAtEnd, HasNoEnd}
 use Rattle.ga_lab.specs.Machine.{State, first}
-use Rattle.ga_console.specs.Texts.{image_fault_text}
+use Rattle.ga_display.specs.Texts.{image_fault_text}
 use Rattle.ga_console.specs.Turns.{Answering}
 use Rattle.ga_console.specs.Session.{Serves, Written}
 use Rattle.ga_console.specs.Replies.{LineAnswer}

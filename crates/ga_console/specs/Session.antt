@@ -4,7 +4,7 @@ use Rattle.std.specs.Prelude.{◌≡◌, ◌≢◌, ℕ, ◌+◌, ◌<◌, ◌�
 use Rattle.std.specs.List.{AllByRecursion}
 use Rattle.ga_text.specs.Lines.{Bytes, Text, Line, lines_of, ended_lines}
 use Rattle.ga_text.specs.Output.{Begins}
-use Rattle.ga_console.specs.Texts.{no_input}
+use Rattle.ga_display.specs.Texts.{no_input}
 use Rattle.ga_console.specs.Turns.{Answering, quit_line}
 use Rattle.ga_console.specs.declared.commands.Ending.{Ending}
 use Rattle.ga_console.specs.declared.commands.Ending.TheVariants.{Ended, Quit, Past, ReadFailed}

@@ -3,8 +3,7 @@ ghost use Rattle.ga_text.specs.kept.Output.{Says};
 ghost use Rattle.ga_console.specs.Replies.{Does};
 ghost use Rattle.ga_console.specs.declared.command.Command.TheVariants.{Step, Back, Rewind};
 
-use super::event::refusal_text;
-use super::saying::{say_made, say_removed};
+use ga_display::{refusal_text, say_made, say_removed};
 use ga_grid::NodeId;
 use ga_lab::Lab;
 use ga_text::{Output, WriteFailed};

@@ -1,12 +1,13 @@
 //! The commands that read the machine and leave it as it is.
 ghost use Rattle.std.specs.Prelude.{◌≡◌, ◌++◌, length, flat_map};
 ghost use Rattle.ga_text.specs.kept.Output.{Says};
-ghost use Rattle.ga_console.specs.Texts.{made_text, chain_text};
+ghost use Rattle.ga_display.specs.Texts.{made_text, chain_text};
 ghost use Rattle.ga_console.specs.Replies.{Does, steps_text};
 ghost use Rattle.ga_console.specs.declared.command.Command.TheVariants.{Node, Memory, Trace, Why, Count, Dump};
 
-use super::event::refusal_text;
-use super::saying::{say_chain_count, say_counts, say_made, say_memory, say_node, say_trace};
+use ga_display::{
+    refusal_text, say_chain_count, say_counts, say_made, say_memory, say_node, say_trace,
+};
 use ga_grid::NodeId;
 use ga_image::print;
 use ga_lab::{Lab, LabFault, Made};

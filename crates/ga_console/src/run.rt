@@ -7,8 +7,8 @@ ghost use Rattle.ga_console.specs.Run.{Runs, RunsBy, Refuses, Opens, IsFault, st
 ghost use Rattle.ga_console.specs.kept.Run.{AfterImage};
 
 use super::commands::{Ending, serve};
-use super::fault_text::put_fault;
 use super::responder::Responder;
+use ga_display::put_fault;
 use ga_image::{ImageCause, ImageFault, parse};
 use ga_lab::Lab;
 use ga_text::{ImageEnd, Input, Output, TextBuffer, WriteFailed, read_image, write_all};

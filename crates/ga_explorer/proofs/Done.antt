@@ -9,17 +9,18 @@ use Rattle.ga_search.specs.Running.{Running, running, after_events, AreMade, Has
 use Rattle.ga_search.specs.declared.schedule.Schedule.{Schedule}
 use Rattle.ga_search.specs.declared.condition.Condition.{Condition}
 use Rattle.ga_search.specs.declared.running.End.{End}
-use Rattle.ga_explorer.specs.Texts.{run_text, back_text, link_words_text, chip_text}
+use Rattle.ga_answers.specs.Texts.{run_text, back_text, link_words_text, chip_text}
 use Rattle.ga_explorer.specs.Forms.{rows, form_rows_text, command_text}
-use Rattle.ga_explorer.specs.Saved.{saved_text}
-use Rattle.ga_explorer.specs.Writing.{writes_text}
-use Rattle.ga_explorer.specs.Around.{around_text}
-use Rattle.ga_explorer.specs.Trees.{TellsWhence}
-use Rattle.ga_explorer.specs.Because.{because_text}
-use Rattle.ga_explorer.specs.Races.{TellsRaces}
+use Rattle.ga_answers.specs.Saved.{saved_text}
+use Rattle.ga_answers.specs.Writing.{writes_text}
+use Rattle.ga_answers.specs.Around.{around_text}
+use Rattle.ga_answers.specs.Trees.{TellsWhence}
+use Rattle.ga_answers.specs.Because.{because_text}
+use Rattle.ga_answers.specs.Races.{TellsRaces}
 use Rattle.ga_notes.specs.declared.notes.Notes.{Notes}
 use Rattle.ga_explorer.specs.kept.Exploring.{exploring}
-use Rattle.ga_explorer.specs.Answers.{TellsEffects, TellsWho, Explored}
+use Rattle.ga_answers.specs.Telling.{TellsEffects, TellsWho}
+use Rattle.ga_explorer.specs.Answers.{Explored}
 use Rattle.ga_explorer.specs.declared.which.Which.{Which}
 use Rattle.ga_explorer.specs.Which.{step_meant}
 use Rattle.ga_explorer.specs.declared.request.ExplorerCommand.{ExplorerCommand}

@@ -6,7 +6,7 @@ use Rattle.ga_text.specs.Input.{input_limit, Unread}
 use Rattle.ga_text.specs.Image.{HasNoEnd}
 use Rattle.ga_console.specs.Run.{IsReadAlone, IsFault}
 use Rattle.ga_console.specs.declared.run.Status.{Status}
-use Rattle.ga_explorer.specs.Tails.{Exploring}
+use Rattle.ga_explorer.specs.Exploring.{Exploring}
 use Rattle.ga_explorer.specs.Opening.{begins_as_image, OpensExploring, IsFront, IsRefusedImage, IsBegun}
 use Rattle.ga_explorer.specs.Opening.Unbegun.{image_refused, source_refused}
 use Rattle.ga_explorer.specs.kept.Opening.{IsOpened}

@@ -15,7 +15,7 @@ use Rattle.ga_console.specs.declared.responder.Turn.{Turn}
 use Rattle.ga_console.specs.declared.responder.Turn.TheVariants as turn
 use Rattle.ga_notes.specs.declared.notes.Notes.{Notes}
 use Rattle.ga_explorer.specs.Reading.{request_in}
-use Rattle.ga_explorer.specs.Tails.{Exploring}
+use Rattle.ga_explorer.specs.Exploring.{Exploring}
 use Rattle.ga_explorer.specs.kept.Exploring.{exploring}
 use Rattle.ga_explorer.specs.Answers.{Explores, Explored, AnswersOther, IsOfDebugger}
 use Rattle.ga_explorer.specs.Forms.{no_command}

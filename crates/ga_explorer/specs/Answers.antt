@@ -1,21 +1,14 @@
 -- What exploring answers to a line (docs/REFERENCE.md, "Exploring"; this project's own).
-use Rattle.std.specs.Prelude.{◌≡◌, ◌≢◌, ℕ, ◌+◌, ◌<◌, ◌≤◌, ◌⊎◌, Bool, IsOk, List, [], length, take, Some, None, Result, Ok, Err}
+use Rattle.std.specs.Prelude.{◌≡◌, ◌≢◌, ℕ, ◌+◌, ◌<◌, ◌≤◌, ◌⊎◌, List, [], length, take, Some, None, Result, Ok, Err}
 use Rattle.ga_text.specs.Lines.{longest, Text, Line}
 use Rattle.ga_text.specs.declared.output.WriteFailed.{WriteFailed}
-use Rattle.ga_grid.specs.declared.node_id.NodeId.{NodeId}
-use Rattle.ga_lab.specs.Machine.{State, chip_of, rewind_answer}
-use Rattle.ga_lab.specs.declared.fault.LabFault.TheVariants.{Memory}
-use Rattle.ga_search.specs.Effects.{effects_of}
-use Rattle.ga_search.specs.Stuck.{AreStuck}
-use Rattle.ga_search.specs.Freed.{IsSubset}
-use Rattle.ga_search.specs.Idle.{MarksIdle}
+use Rattle.ga_lab.specs.Machine.{State}
 use Rattle.ga_search.specs.Conditions.{conditions_asked}
 use Rattle.ga_search.specs.Backward.{newest_held, left_from, gone_from}
 use Rattle.ga_search.specs.Running.{running, after_events, AreMade, HasEnded}
 use Rattle.ga_search.specs.declared.schedule.Schedule.{Schedule}
 use Rattle.ga_search.specs.declared.condition.Condition.{Condition}
 use Rattle.ga_search.specs.declared.running.End.{End}
-use Rattle.ga_console.specs.Texts.{refusal_text}
 use Rattle.ga_console.specs.Replies.{LineAnswer}
 use Rattle.ga_console.specs.Commands.{SpellsCommand}
 use Rattle.ga_console.specs.Turns.{quit_line}
@@ -24,16 +17,16 @@ use Rattle.ga_console.specs.declared.responder.Turn.TheVariants.{Answered, Quit}
 use Rattle.ga_console.specs.declared.command.Command.{Command}
 use Rattle.ga_explorer.specs.Which.{step_meant}
 use Rattle.ga_explorer.specs.Reading.{request_in}
-use Rattle.ga_explorer.specs.Tails.{Exploring}
-use Rattle.ga_explorer.specs.Texts.{run_text, back_text, effects_answer, link_words_text, chip_text}
+use Rattle.ga_explorer.specs.Exploring.{Exploring}
+use Rattle.ga_answers.specs.Texts.{run_text, back_text, link_words_text, chip_text}
 use Rattle.ga_explorer.specs.Forms.{rows, form_rows_text, command_text, no_command}
-use Rattle.ga_explorer.specs.Waiting.{who_text}
-use Rattle.ga_explorer.specs.Saved.{saved_text}
-use Rattle.ga_explorer.specs.Writing.{writes_text}
-use Rattle.ga_explorer.specs.Around.{around_text}
-use Rattle.ga_explorer.specs.Trees.{TellsWhence}
-use Rattle.ga_explorer.specs.Because.{because_text}
-use Rattle.ga_explorer.specs.Races.{TellsRaces}
+use Rattle.ga_answers.specs.Telling.{TellsEffects, TellsWho}
+use Rattle.ga_answers.specs.Saved.{saved_text}
+use Rattle.ga_answers.specs.Writing.{writes_text}
+use Rattle.ga_answers.specs.Around.{around_text}
+use Rattle.ga_answers.specs.Trees.{TellsWhence}
+use Rattle.ga_answers.specs.Because.{because_text}
+use Rattle.ga_answers.specs.Races.{TellsRaces}
 use Rattle.ga_explorer.specs.declared.request.ExplorerCommand.{ExplorerCommand}
 use Rattle.ga_explorer.specs.declared.request.ExplorerCommand.TheVariants.{Run, BackUntil, Effects, Words, Writes, At, Whence, Because, Races, Who, Chip, Save, Help, HelpOf}
 
@@ -47,22 +40,6 @@ pub record IsRun (s : State) (schedule : Schedule) (most : ℕ) (until : List Co
   pub ended : HasEnded (running s schedule) most until events end
   pub state : new ≡ (after_events (running s schedule) events).state
   pub text : answer ≡ run_text (length until) events end
-
--- It is told what a rollback would take, or memory is wanting where one could be made.
-abbrev pub TellsEffects : State → NodeId → ℕ → Text → Type 0
-TellsEffects s node step answer =
-    (answer ≡ effects_answer (effects_of s node.number step) (rewind_answer s node.number step))
-    ⊎ (IsOk (rewind_answer s node.number step) × (answer ≡ refusal_text Memory))
-
--- Of each node that waits it is told for whom, unless it is idle, and which nodes can never go on: of all such sets of nodes the
--- greatest.
-pub record TellsWho (s : State) (answer : Text) : Type 0 where
-  pub marks : ℕ → Bool
-  pub stuck : AreStuck (chip_of s) marks
-  pub greatest : (others : ℕ → Bool) → AreStuck (chip_of s) others → IsSubset others marks
-  pub idle : ℕ → Bool
-  pub silent : MarksIdle s idle
-  pub text : answer ≡ who_text (chip_of s) marks idle
 
 -- what is answered to a command of exploring, and what is explored then
 abbrev pub Explored : Exploring → ExplorerCommand → Text → Exploring → Type 0

@@ -8,7 +8,7 @@ use Rattle.ga_console.specs.Session.{Serves, Written}
 use Rattle.ga_console.specs.declared.commands.Ending.{Ending}
 use Rattle.ga_text.specs.declared.output.WriteFailed.{WriteFailed}
 use Rattle.ga_console.specs.declared.run.Status.{Status}
-use Rattle.ga_explorer.specs.Tails.{Exploring}
+use Rattle.ga_explorer.specs.Exploring.{Exploring}
 use Rattle.ga_explorer.specs.Answers.{Explores}
 use Rattle.ga_explorer.specs.Opening.{OpensExploring, IsFront, Unbegun}
 

@@ -9,20 +9,12 @@ ghost use Rattle.ga_explorer.specs.kept.Exploring.{exploring};
 ghost use Rattle.ga_explorer.specs.Answers.{Explored, ExploresOrQuits, AnswersOther, IsOfDebugger, IsNoCommand};
 ghost use Rattle.ga_console.specs.kept.Turns.{Turns};
 
-use crate::at_text::say_around;
-use crate::back_text::say_back;
-use crate::because_text::say_because;
-use crate::chip_text::glance;
-use crate::effects_text::say_effects;
 use crate::forms::{say_command, say_help, say_no_command};
-use crate::races_text::say_races;
 use crate::request::{ExplorerCommand, request_of};
-use crate::run_text::ran_text;
-use crate::saved_text::say_saved;
-use crate::whence_text::say_whence;
-use crate::who_text::say_who;
-use crate::words_text::say_words;
-use crate::writes_text::say_writes;
+use ga_answers::{
+    glance, ran_text, say_around, say_back, say_because, say_effects, say_races, say_saved,
+    say_whence, say_who, say_words, say_writes,
+};
 use ga_console::{Command, Responder, Turn, command_of};
 use ga_image::LINE_LIMIT;
 use ga_lab::Lab;
@@ -41,7 +33,7 @@ pub struct Explorer {
 }
 
 impl Model for Explorer {
-    ghost use Rattle.ga_explorer.specs.Tails.{Exploring};
+    ghost use Rattle.ga_explorer.specs.Exploring.{Exploring};
     ghost use Rattle.ga_explorer.specs.kept.Exploring.{exploring};
 
     ghost Value = { Exploring };

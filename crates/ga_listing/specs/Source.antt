@@ -21,7 +21,7 @@ use Rattle.ga_source.specs.Sound.{IsSoundSource}
 use Rattle.ga_text.specs.Image.{HasNoEnd}
 use Rattle.ga_text.specs.Whole.{IsReadWhole}
 use Rattle.ga_text.specs.Output.{Begins}
-use Rattle.ga_console.specs.Texts.{image_fault_text}
+use Rattle.ga_display.specs.Texts.{image_fault_text}
 use Rattle.ga_console.specs.Run.{Refused}
 use Rattle.ga_console.specs.Race.{OfImage, IsCutShort}
 use Rattle.ga_console.specs.declared.run.Status.{Status}

@@ -17,13 +17,13 @@ use Rattle.ga_check.specs.declared.tally.Fate.TheVariants.{Quiet, Reads, Writes,
 use Rattle.ga_check.specs.declared.tally.Stop.{Stop}
 use Rattle.ga_check.specs.declared.tally.Stop.TheVariants.{Reached, Memory}
 use Rattle.ga_text.specs.Output.{Begins}
-use Rattle.ga_console.specs.Texts.{refusal_text}
+use Rattle.ga_display.specs.Texts.{refusal_text}
 use Rattle.ga_console.specs.declared.run.Status.{Status}
 use Rattle.ga_console.specs.declared.run.Status.TheVariants.{ImageRefused, StreamFault}
 use Rattle.ga_explorer.specs.Opening.{OpensExploring, IsFront, Unbegun}
 use Rattle.ga_orders.specs.OrderTexts.{orders_text, no_order_text}
-use Rattle.ga_explorer.specs.Saved.{saved_text}
-use Rattle.ga_explorer.specs.Tails.{Exploring}
+use Rattle.ga_answers.specs.Saved.{saved_text}
+use Rattle.ga_explorer.specs.Exploring.{Exploring}
 use Rattle.ga_orders.specs.declared.every_order.Verdict.{Verdict}
 use Rattle.ga_orders.specs.declared.every_order.Verdict.TheVariants.{Alike, Several, Open, Ended}
 

@@ -6,7 +6,7 @@ ghost use Rattle.ga_text.specs.Lines.{Bytes};
 ghost use Rattle.ga_text.specs.Output.{IsSaid, IsSaidOrCut};
 ghost use Rattle.ga_text.specs.kept.Output.{Says};
 ghost use Rattle.ga_orders.specs.OrderTexts.{counted_text, alike_text, kinds_head, bound_text, orders_head, fate_at, stop_item, waiting_item, stop_items, waiting_items, waiting_tail, end_text, verb_text, end_kind_line, end_kind_text, orders_with, orders_text, no_order_text};
-ghost use Rattle.ga_explorer.specs.Waiting.{name_text};
+ghost use Rattle.ga_answers.specs.Waiting.{name_text};
 
 use arrayvec::ArrayVec;
 use ga_check::tally::{EndKind, Fate, Tally};

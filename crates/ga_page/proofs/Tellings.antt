@@ -1,7 +1,7 @@
 -- What was told, of the machine that was reached.
 use Rattle.std.proofs.Common.{◌≡◌, ◌++◌, ℕ, List, length, take, Ok, ◌⊎◌, inl, inr, subst}
 use Rattle.ga_lab.specs.Machine.{State}
-use Rattle.ga_explorer.specs.Tails.{Exploring}
+use Rattle.ga_explorer.specs.Exploring.{Exploring}
 use Rattle.ga_picture.specs.Following.{FollowsTo}
 use Rattle.ga_page.specs.kept.Makers.{makers_of}
 

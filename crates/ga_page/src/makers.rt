@@ -2,7 +2,7 @@
 
 ghost use Rattle.std.specs.Prelude.{◌≡◌, ◌++◌, ◌⊎◌, ℕ, List, Ok, IfSome, length, map, take};
 ghost use Rattle.ga_text.specs.Lines.{Bytes};
-ghost use Rattle.ga_explorer.specs.Tails.{Exploring};
+ghost use Rattle.ga_explorer.specs.Exploring.{Exploring};
 ghost use Rattle.ga_picture.specs.Following.{FollowsTo};
 ghost use Rattle.ga_page.specs.kept.Makers.{maker_of, makers_of};
 

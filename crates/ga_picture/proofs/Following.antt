@@ -1,6 +1,6 @@
 -- From a session that says nothing to one whose answers are dropped.
 use Rattle.std.proofs.Common.{◌≡◌, ℕ, List, [], ◌∷◌, ◌++◌, false, inl, inr, sym, ap, ◌∙◌, Result, Ok, Err}
-use Rattle.ga_explorer.specs.Tails.{Exploring}
+use Rattle.ga_explorer.specs.Exploring.{Exploring}
 use Rattle.ga_console.specs.Run.{status_of}
 use Rattle.ga_console.specs.Session.{Answers, Script, Serves}
 use Rattle.ga_console.specs.declared.commands.Ending.{Ending}

@@ -2,7 +2,7 @@
 use Rattle.std.proofs.Common.{◌≡◌, ◌↔◌, ℕ, List, [], ◌++◌, Bool, false, true≢false, IsTrue, Some, length, arith, inl, inr, refl, sym, ap, subst, ◌∙◌, Ok}
 use Rattle.std.proofs.lemmas.List.{append-nil}
 use Rattle.std.proofs.lemmas.Option.{same_Some}
-use Rattle.ga_explorer.specs.Tails.{Exploring}
+use Rattle.ga_explorer.specs.Exploring.{Exploring}
 use Rattle.ga_text.specs.Output.{IsSaid}
 use Rattle.ga_console.specs.kept.Turns.{Turns}
 use Rattle.ga_console.specs.declared.responder.Turn.{Turn}

@@ -6,7 +6,8 @@ ghost use Rattle.ga_picture.specs.Following.{FollowsTo, Declines};
 ghost use Rattle.ga_picture.specs.kept.Following.{Goes, Ends};
 
 use super::silent::Silent;
-use ga_console::{Status, refusal_text, serve, status_of};
+use ga_console::{Status, serve, status_of};
+use ga_display::refusal_text;
 use ga_explorer::{Explorer, begin};
 use ga_lab::LabFault;
 use ga_text::{Input, Output, write_all};

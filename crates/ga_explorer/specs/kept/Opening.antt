@@ -4,7 +4,7 @@ use Rattle.ga_text.specs.Lines.{Text}
 use Rattle.ga_console.specs.Run.{IsFault, Refuses}
 use Rattle.ga_console.specs.declared.run.Status.{Status}
 use Rattle.ga_console.specs.declared.run.Status.TheVariants.{ImageRefused}
-use Rattle.ga_explorer.specs.Tails.{Exploring}
+use Rattle.ga_explorer.specs.Exploring.{Exploring}
 use Rattle.ga_explorer.specs.Opening.{begins_as_image, OpensExploring}
 use Rattle.ga_explorer.specs.declared.opening.Unopened.{Unopened}
 use Rattle.ga_explorer.specs.declared.opening.Unopened.TheVariants.{Image, Source}

@@ -4,7 +4,7 @@ use Rattle.ga_text.specs.Lines.{Bytes, Text}
 use Rattle.ga_image.specs.declared.fault.ImageFault.{ImageFault}
 use Rattle.ga_text.specs.Image.{HasNoEnd}
 use Rattle.ga_text.specs.Output.{Begins}
-use Rattle.ga_console.specs.Texts.{image_fault_text}
+use Rattle.ga_display.specs.Texts.{image_fault_text}
 use Rattle.ga_console.specs.Run.{IsFault}
 use Rattle.ga_console.specs.Race.{IsCutShort}
 use Rattle.ga_console.specs.declared.run.Status.{Status}

@@ -1,5 +1,5 @@
 use Rattle.std.proofs.Common.{refl}
-use Rattle.ga_console.specs.Texts.{removed_text}
+use Rattle.ga_display.specs.Texts.{removed_text}
 use Rattle.ga_console.proofs.ReplyLemmas.{back_done, back_refused}
 use Rattle.ga_console.proofs.changes.back.Goals as goal
 

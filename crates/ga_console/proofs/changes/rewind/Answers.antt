@@ -1,5 +1,5 @@
 use Rattle.std.proofs.Common.{refl}
-use Rattle.ga_console.specs.Texts.{removed_text}
+use Rattle.ga_display.specs.Texts.{removed_text}
 use Rattle.ga_console.proofs.ReplyLemmas.{rewind_done, rewind_refused}
 use Rattle.ga_console.proofs.changes.rewind.Goals as goal
 

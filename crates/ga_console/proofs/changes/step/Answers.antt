@@ -1,5 +1,5 @@
 use Rattle.std.proofs.Common.{refl}
-use Rattle.ga_console.specs.Texts.{made_text}
+use Rattle.ga_display.specs.Texts.{made_text}
 use Rattle.ga_console.proofs.ReplyLemmas.{step_made, step_refused}
 use Rattle.ga_console.proofs.changes.step.Goals as goal
 

@@ -4,7 +4,7 @@ use Rattle.std.specs.Result.{IsErr}
 use Rattle.ga_console.specs.kept.Ahead.{IsAhead, IsLineAhead}
 use Rattle.ga_console.specs.Turns.{Answering}
 use Rattle.ga_console.specs.Session.{Serves, ServesCut}
-use Rattle.ga_console.specs.Texts.{no_input}
+use Rattle.ga_display.specs.Texts.{no_input}
 use Rattle.ga_text.specs.declared.output.WriteFailed.{WriteFailed}
 use Rattle.ga_console.specs.declared.commands.Ending.{Ending}
 use Rattle.ga_console.specs.declared.commands.Ending.TheVariants.{Ended, Past}

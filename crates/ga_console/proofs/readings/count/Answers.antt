@@ -1,5 +1,5 @@
 use Rattle.std.proofs.Common.{ℕ, length, ◌∙◌, ap, inl, refl}
-use Rattle.ga_console.specs.Texts.{counts_text}
+use Rattle.ga_display.specs.Texts.{counts_text}
 use Rattle.ga_console.proofs.ReplyLemmas.{replies}
 use Rattle.ga_console.proofs.readings.count.Goals as goal
 

@@ -1,5 +1,5 @@
 use Rattle.std.proofs.Common.{ap, inl, refl}
-use Rattle.ga_console.specs.Texts.{memory_text}
+use Rattle.ga_display.specs.Texts.{memory_text}
 use Rattle.ga_console.proofs.ReplyLemmas.{replies}
 use Rattle.ga_console.proofs.readings.memory.Goals as goal
 

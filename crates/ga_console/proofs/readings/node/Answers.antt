@@ -1,6 +1,6 @@
 use Rattle.std.proofs.Common.{ap, inl, refl}
 use Rattle.ga_node.specs.Record.{record_of}
-use Rattle.ga_console.specs.Texts.{node_text}
+use Rattle.ga_display.specs.Texts.{node_text}
 use Rattle.ga_console.proofs.ReplyLemmas.{replies}
 use Rattle.ga_console.proofs.readings.node.Goals as goal
 

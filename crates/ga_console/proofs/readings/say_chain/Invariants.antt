@@ -1,7 +1,7 @@
 use Rattle.std.proofs.Common.{ℕ, List, ◌++◌, length, take}
 use Rattle.std.specs.Prelude.{flat_map}
 use Rattle.ga_text.specs.Output.{IsSaid}
-use Rattle.ga_console.specs.Texts.{made_text, chain_text}
+use Rattle.ga_display.specs.Texts.{made_text, chain_text}
 use Rattle.ga_console.proofs.readings.say_chain.Given as goal
 
 abbrev pub invariant-events : goal.invariant-events

@@ -1,4 +1,4 @@
-use Rattle.ga_console.specs.Texts.{independent}
+use Rattle.ga_display.specs.Texts.{independent}
 use Rattle.ga_console.proofs.ReplyLemmas.{why_independent, why_told, why_refused}
 use Rattle.ga_console.proofs.readings.why.Goals as goal
 

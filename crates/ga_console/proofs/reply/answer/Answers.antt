@@ -2,7 +2,7 @@ use Rattle.std.proofs.Common.{◌≡◌, ◌≢◌, ◌<◌, ◌≤◌, ◌++◌
 use Rattle.std.specs.Result.{IsErr}
 use Rattle.std.proofs.lemmas.List.{take_all}
 use Rattle.ga_lab.specs.Machine.{State}
-use Rattle.ga_console.specs.Texts.{no_long, no_syntax}
+use Rattle.ga_display.specs.Texts.{no_long, no_syntax}
 use Rattle.ga_console.specs.Commands.{SpellsCommand}
 use Rattle.ga_console.specs.Replies.{LineAnswer, Does}
 use Rattle.ga_console.specs.kept.Turns.{Turns, AnswersLine}

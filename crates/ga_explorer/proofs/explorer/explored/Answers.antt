@@ -1,8 +1,8 @@
 use Rattle.std.proofs.Common.{◌∙◌, length, refl}
-use Rattle.ga_explorer.specs.Saved.{saved_text}
-use Rattle.ga_explorer.specs.Texts.{run_text, chip_text}
+use Rattle.ga_answers.specs.Saved.{saved_text}
+use Rattle.ga_answers.specs.Texts.{run_text, chip_text}
 use Rattle.ga_explorer.proofs.Done.{run_done, back_done, effects_done, words_done, writes_done, at_done, whence_done, because_done, races_done, who_done, save_done, chip_done, help_done, help_of_done}
-use Rattle.ga_explorer.proofs.Told.{told_as}
+use Rattle.ga_answers.proofs.Told.{told_as}
 use Rattle.ga_explorer.proofs.explorer.explored.Goals as goal
 
 pub returns-in-Run : goal.returns-in-Run

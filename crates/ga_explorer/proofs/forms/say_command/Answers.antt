@@ -5,7 +5,7 @@ use Rattle.ga_text.proofs.SaidLemmas.{said_as, said_pending}
 use Rattle.ga_explorer.specs.Forms.{CommandForm, rows, about_text, about_found, command_text}
 use Rattle.ga_explorer.specs.kept.Forms.{entry_of}
 use Rattle.ga_explorer.specs.declared.commands.Row.{Row}
-use Rattle.ga_explorer.proofs.Told.{told_as}
+use Rattle.ga_answers.proofs.Told.{told_as}
 use Rattle.ga_explorer.proofs.forms.say_command.Goals as goal
 
 pub returns-in-Some : goal.returns-in-Some

@@ -1,7 +1,7 @@
 use Rattle.std.proofs.Common.{subst}
 use Rattle.ga_console.specs.kept.Turns.{Turns}
 use Rattle.ga_explorer.specs.Answers.{Explores}
-use Rattle.ga_explorer.specs.Tails.{Exploring}
+use Rattle.ga_explorer.specs.Exploring.{Exploring}
 use Rattle.ga_explorer.specs.kept.Exploring.{exploring}
 use Rattle.ga_explorer.proofs.explorer.ExplorerResponder.answer.Goals as goal
 

@@ -1,5 +1,5 @@
 use Rattle.std.proofs.Common.{[], Some, Ok, true≢false, ap, sym, subst}
-use Rattle.ga_explorer.specs.Tails.{Exploring}
+use Rattle.ga_explorer.specs.Exploring.{Exploring}
 use Rattle.ga_console.specs.kept.Turns.{Turns}
 use Rattle.ga_console.specs.declared.responder.Turn.TheVariants.{Answered}
 use Rattle.ga_console.proofs.RunLemmas.{said_fresh}

@@ -1,5 +1,5 @@
 use Rattle.std.proofs.Common.{[], Some, true≢false, ap, sym, subst}
-use Rattle.ga_explorer.specs.Tails.{Exploring}
+use Rattle.ga_explorer.specs.Exploring.{Exploring}
 use Rattle.ga_console.specs.kept.Turns.{AnswersCommand}
 use Rattle.ga_console.proofs.RunLemmas.{said_fresh}
 use Rattle.ga_explorer.specs.Answers.{Explores}

@@ -1,0 +1,16 @@
+use Rattle.std.proofs.Common.{◌≡◌, ◌-◌, ℕ, List}
+use Rattle.ga_text.specs.Output.{IsSaid}
+use Rattle.ga_lab.specs.Machine.{standing}
+use Rattle.ga_answers.specs.Because.{decisions_text}
+use Rattle.ga_answers.proofs.Saying.{IsSaidUpTo}
+use Rattle.ga_answers.proofs.because_text.say_decisions.Given as goal
+
+abbrev pub invariant-telling : goal.invariant-telling
+invariant-telling g l = record {
+  decisions : l.decisions ≡ standing l.lab l.node l.decisions.step;
+  said : (before said : List ℕ) → IsSaid (g.W.Write.contents l.fn.writer) before said l.fn.output
+      → IsSaidUpTo (g.W.Write.contents l.writer) before said (decisions_text l.notes l.lab l.node l.most (l.near.step - 1)) (decisions_text l.notes l.lab l.node l.left l.decisions.step) l.output;
+}
+
+abbrev pub decreases-telling : goal.decreases-telling
+decreases-telling g l = l.left

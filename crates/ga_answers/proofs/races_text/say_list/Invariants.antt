@@ -1,0 +1,10 @@
+use Rattle.std.proofs.Common.{ℕ, List, drop}
+use Rattle.std.specs.Prelude.{flat_map}
+use Rattle.ga_text.specs.Output.{IsSaid}
+use Rattle.ga_answers.specs.Races.{race_text, race_lines_text}
+use Rattle.ga_answers.proofs.Saying.{IsSaidUpTo}
+use Rattle.ga_answers.proofs.races_text.say_list.Given as goal
+
+abbrev pub invariant-races : goal.invariant-races
+invariant-races g l = (before said : List ℕ) → IsSaid (g.W.Write.contents l.fn.writer) before said l.fn.output
+    → IsSaidUpTo (g.W.Write.contents l.writer) before said (race_lines_text l.races l.count) (flat_map race_text (drop l.race-index l.races)) l.output

@@ -1,0 +1,44 @@
+use Rattle.std.proofs.Common.{ℕ, List, ◌++◌, [], refl, arith}
+use Rattle.ga_grid.specs.Chip.{records_of}
+use Rattle.ga_causal.specs.Dependence.{is_marked}
+use Rattle.ga_text.proofs.SaidLemmas.{cut_here, said_pending}
+use Rattle.ga_answers.specs.Waiting.{ring_text, all_rings}
+use Rattle.ga_answers.proofs.Saying.{line_said, line_cut, all_said}
+use Rattle.ga_answers.proofs.WaitingLines.{next_node, all_told}
+use Rattle.ga_answers.proofs.ring_text.say_rings.Goals as goal
+
+pub nodes-init : goal.nodes-init
+nodes-init g c = λ before said h. record { front = []; splits = refl; is_said = said_pending _ before said _ h }
+
+pub returns-in_err-say_ring : goal.returns-in_err-say_ring
+returns-in_err-say_ring g c = λ before said h.
+    let chip = records_of c.args.chip.now in
+    let marks = is_marked c.args.stuck.now in
+    let whole : List ℕ = all_rings chip marks in
+    let done = c.nodes.invariant before said h in (
+      whole,
+      refl,
+      cut_here c.from_residual.result _ before (said ++ whole) _ c.from_residual.ensures.0
+          (line_cut _ before said whole _ (ring_text chip marks c.new.result.number) _ done.front
+          (next_node (ring_text chip marks) c.nodes.number c.new.result.number (omega arith) c.new.ensures) done.splits
+          (c.in_err-say_ring.ensures before (said ++ done.front) done.is_said)),
+    )
+
+pub nodes-preserved : goal.nodes-preserved
+nodes-preserved g c = λ before said h.
+    let chip = records_of c.args.chip.now in
+    let marks = is_marked c.args.stuck.now in
+    let done = c.nodes.invariant before said h in
+    line_said _ before said (all_rings chip marks) _ (ring_text chip marks c.new.result.number) _ done.front _
+    (next_node (ring_text chip marks) c.nodes.number c.new.result.number (omega arith) c.new.ensures) done.splits
+    (c.in_ok-say_ring.ensures before (said ++ done.front) done.is_said)
+
+pub returns : goal.returns
+returns g c = λ before said h.
+    let chip = records_of c.args.chip.now in
+    let marks = is_marked c.args.stuck.now in
+    let whole : List ℕ = all_rings chip marks in (
+      whole,
+      refl,
+      all_said _ before said whole _ _ (all_told (ring_text chip marks) c.nodes.number _ (omega arith)) (c.nodes.invariant before said h),
+    )

@@ -1,0 +1,12 @@
+use Rattle.std.proofs.Common.{ℕ, ◌-◌, List}
+use Rattle.ga_grid.specs.Chip.{records_of}
+use Rattle.ga_causal.specs.Dependence.{is_marked}
+use Rattle.ga_text.specs.Output.{IsSaid}
+use Rattle.ga_answers.specs.Waiting.{ring_text, each_node, all_rings}
+use Rattle.ga_answers.proofs.Saying.{IsSaidUpTo}
+use Rattle.ga_answers.proofs.ring_text.say_rings.Given as goal
+
+abbrev pub invariant-nodes : goal.invariant-nodes
+invariant-nodes g l = (before said : List ℕ) → IsSaid (g.W.Write.contents l.fn.writer) before said l.fn.output
+    → IsSaidUpTo (g.W.Write.contents l.writer) before said (all_rings (records_of l.chip) (is_marked l.stuck))
+    (each_node (ring_text (records_of l.chip) (is_marked l.stuck)) l.number (144 - l.number)) l.output

@@ -1,0 +1,12 @@
+use Rattle.std.proofs.Common.{ℕ, List}
+use Rattle.ga_text.specs.Output.{IsSaid}
+use Rattle.ga_answers.specs.Trees.{blanks}
+use Rattle.ga_answers.proofs.Saying.{IsSaidUpTo}
+use Rattle.ga_answers.proofs.whence_text.say_blanks.Given as goal
+
+abbrev pub invariant-levels : goal.invariant-levels
+invariant-levels g l = (before said : List ℕ) → IsSaid (g.W.Write.contents l.fn.writer) before said l.fn.output
+    → IsSaidUpTo (g.W.Write.contents l.writer) before said (blanks l.levels) (blanks l.left) l.output
+
+abbrev pub decreases-levels : goal.decreases-levels
+decreases-levels g l = l.left

@@ -1,0 +1,10 @@
+use Rattle.std.proofs.Common.{ℕ, List, drop}
+use Rattle.std.specs.Prelude.{flat_map}
+use Rattle.ga_text.specs.Output.{IsSaid}
+use Rattle.ga_answers.specs.Trees.{tree_row_text}
+use Rattle.ga_answers.proofs.Saying.{IsSaidUpTo}
+use Rattle.ga_answers.proofs.whence_text.say_lines.Given as goal
+
+abbrev pub invariant-rows : goal.invariant-rows
+invariant-rows g l = (before said : List ℕ) → IsSaid (g.W.Write.contents l.fn.writer) before said l.fn.output
+    → IsSaidUpTo (g.W.Write.contents l.writer) before said (flat_map (tree_row_text l.notes l.lab l.deeper) l.rows) (flat_map (tree_row_text l.notes l.lab l.deeper) (drop l.row-index l.rows)) l.output

@@ -1,0 +1,17 @@
+use Rattle.std.proofs.Common.{◌≡◌, ℕ, List}
+use Rattle.ga_event.specs.Told.{steps_of}
+use Rattle.ga_text.specs.Output.{IsSaid}
+use Rattle.ga_origin.specs.Writes.{search}
+use Rattle.ga_answers.specs.Writing.{cell_writes}
+use Rattle.ga_answers.proofs.Saying.{IsSaidUpTo}
+use Rattle.ga_answers.proofs.writes_text.say_cell.Given as goal
+
+abbrev pub invariant-going : goal.invariant-going
+invariant-going g l = record {
+  writes : l.writes ≡ search l.lab l.node l.cell l.writes.step;
+  said : (before said : List ℕ) → IsSaid (g.W.Write.contents l.fn.writer) before said l.fn.output
+      → IsSaidUpTo (g.W.Write.contents l.writer) before said (cell_writes l.lab l.node l.cell (steps_of l.node.number l.lab.kept)) (cell_writes l.lab l.node l.cell l.writes.step) l.output;
+}
+
+abbrev pub decreases-going : goal.decreases-going
+decreases-going g l = l.writes.step

@@ -1,0 +1,12 @@
+pub mod Texts
+pub mod Deeds
+pub mod Writing
+pub mod Tails
+pub mod Around
+pub mod Trees
+pub mod Because
+pub mod Waiting
+pub mod Telling
+pub mod Saved
+pub mod Races
+pub mod kept

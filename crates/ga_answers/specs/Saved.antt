@@ -1,0 +1,27 @@
+-- What `save` tells: the kept events as commands of the debugger (docs/REFERENCE.md, "Exploring"; this project's own).
+use Rattle.std.specs.Prelude.{List, [], ◌∷◌, ◌++◌, codes, map, flat_map}
+use Rattle.ga_text.specs.Lines.{Text, Line}
+use Rattle.ga_grid.specs.declared.node_id.NodeId.{NodeId}
+use Rattle.ga_event.specs.declared.event.Event.{Event}
+use Rattle.ga_lab.specs.Machine.{State}
+use Rattle.ga_lab.specs.Forward.{actor_of}
+use Rattle.ga_text.specs.Names.{name_of_node}
+use Rattle.ga_display.specs.Texts.{spaced}
+
+-- a step of a node
+abbrev pub step_line : NodeId → Text
+step_line node = spaced (codes "step" ∷ name_of_node node ∷ [])
+
+-- one for each kept event: of its node, of a pass of the writer
+abbrev pub saved_line : Event → Text
+saved_line e = step_line (actor_of e)
+
+abbrev pub saved_lines : State → List Line
+saved_lines s = map saved_line s.kept
+
+-- each ended by a line feed
+abbrev pub with_feed : Text → Text
+with_feed line = line ++ codes "\n"
+
+abbrev pub saved_text : State → Text
+saved_text s = flat_map with_feed (saved_lines s)

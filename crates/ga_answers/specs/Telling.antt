@@ -1,0 +1,29 @@
+-- What `effects` and `who` tell (docs/REFERENCE.md, "Exploring"; this project's own).
+use Rattle.std.specs.Prelude.{◌≡◌, ℕ, ◌⊎◌, Bool, IsOk}
+use Rattle.ga_text.specs.Lines.{Text}
+use Rattle.ga_grid.specs.declared.node_id.NodeId.{NodeId}
+use Rattle.ga_lab.specs.Machine.{State, chip_of, rewind_answer}
+use Rattle.ga_lab.specs.declared.fault.LabFault.TheVariants.{Memory}
+use Rattle.ga_search.specs.Effects.{effects_of}
+use Rattle.ga_search.specs.Stuck.{AreStuck}
+use Rattle.ga_search.specs.Freed.{IsSubset}
+use Rattle.ga_search.specs.Idle.{MarksIdle}
+use Rattle.ga_display.specs.Texts.{refusal_text}
+use Rattle.ga_answers.specs.Texts.{effects_answer}
+use Rattle.ga_answers.specs.Waiting.{who_text}
+
+-- It is told what a rollback would take, or memory is wanting where one could be made.
+abbrev pub TellsEffects : State → NodeId → ℕ → Text → Type 0
+TellsEffects s node step answer =
+    (answer ≡ effects_answer (effects_of s node.number step) (rewind_answer s node.number step))
+    ⊎ (IsOk (rewind_answer s node.number step) × (answer ≡ refusal_text Memory))
+
+-- Of each node that waits it is told for whom, unless it is idle, and which nodes can never go on: of all such sets of nodes the
+-- greatest.
+pub record TellsWho (s : State) (answer : Text) : Type 0 where
+  pub marks : ℕ → Bool
+  pub stuck : AreStuck (chip_of s) marks
+  pub greatest : (others : ℕ → Bool) → AreStuck (chip_of s) others → IsSubset others marks
+  pub idle : ℕ → Bool
+  pub silent : MarksIdle s idle
+  pub text : answer ≡ who_text (chip_of s) marks idle

@@ -1,0 +1,23 @@
+-- What private contracts cite.
+use Rattle.std.specs.Prelude.{[], Option, Some, None}
+use Rattle.ga_text.specs.Lines.{Text}
+use Rattle.ga_grid.specs.declared.node_id.NodeId.{NodeId}
+use Rattle.ga_event.specs.declared.event.Event.{Event}
+use Rattle.ga_event.specs.declared.event.Cause.{Cause}
+use Rattle.ga_event.specs.declared.made.Made.{Made}
+use Rattle.ga_event.specs.declared.made.Made.TheVariants.{Own, Pass}
+use Rattle.ga_answers.specs.Saved.{saved_line, with_feed}
+
+-- the node whose step was told so
+abbrev pub actor_in : Made → NodeId
+actor_in (Own node step kind) = node
+actor_in (Pass writer k reader j word) = writer
+
+-- the line of an event, where there is one
+abbrev pub line_at : Option Event → Text
+line_at None = []
+line_at (Some e) = with_feed (saved_line e)
+
+-- the line of an event that is listed with its cause
+abbrev pub cause_line : Cause → Text
+cause_line cause = with_feed (saved_line cause.event)

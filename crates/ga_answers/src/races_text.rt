@@ -1,0 +1,202 @@
+//! Steps that could have come out otherwise, told line by line.
+
+ghost use Rattle.std.specs.Prelude.{◌≡◌, ◌≤◌, ◌++◌, length, flat_map};
+ghost use Rattle.ga_text.specs.Lines.{Bytes};
+ghost use Rattle.ga_text.specs.Output.{IsSaid, IsSaidOrCut};
+ghost use Rattle.ga_text.specs.kept.Output.{Says};
+ghost use Rattle.ga_search.specs.Readings.{back_of};
+ghost use Rattle.ga_answers.specs.Races.{race_text, reading_text, before_or_behind, races_head, race_lines_text, last_line, listed_text, TellsRaces};
+
+use arrayvec::ArrayVec;
+use ga_display::refusal_text;
+use ga_grid::NodeId;
+use ga_lab::Lab;
+use ga_search::{Race, Races, Reading, find_races};
+use ga_text::{
+    Output, TextBuffer, WriteFailed, push_node, push_number, push_step, push_text, push_word,
+};
+use std::alloc::Global;
+use std::io::Write;
+
+/// `races` or `races NNN`: tells the steps that could have come out otherwise, of all nodes or of one, and what holds of other orders.
+/// Nothing is taken back.
+///
+/// # Errors
+/// A write failed.
+pub fn say_races<W: Write>(
+    alloc: Global,
+    lab: &mut Lab,
+    only: Option<NodeId>,
+    output: &mut Output,
+    writer: &mut W,
+) -> Result<(), WriteFailed>
+    ensures said { (before said : Bytes) → IsSaid (W.contents writer.old) before said output.old →
+        (text : Bytes) × TellsRaces lab.old only text
+        × IsSaidOrCut result (W.contents writer.new) before (said ++ text) output.new }
+    ensures same { lab.new ≡ lab.old }
+{
+    match find_races(alloc, lab, only) {
+        Ok(races) => say_found(only, &races, output, writer),
+        Err(fault) => output.say(writer, refusal_text(fault)),
+    }
+}
+
+/// Says the lines of these, and the last one.
+fn say_found<W: Write>(
+    only: Option<NodeId>,
+    races: &Races,
+    output: &mut Output,
+    writer: &mut W,
+) -> Result<(), WriteFailed>
+    ensures { Says result (λ text. text ≡ listed_text only races.now.list.items races.now.readings.items races.now.looks races.now.quiet)
+        (W.contents writer.old) output.old (W.contents writer.new) output.new }
+{
+    let list = races.list.as_slice();
+    let readings = races.readings.as_slice();
+    let count = list.len() as u64 + readings.len() as u64;
+    say_list(list, count, output, writer)?;
+    let last = last_line(only, list, races.looks, races.quiet);
+    say_rest(readings, last, output, writer)
+}
+
+/// Says that so many lines follow, then each of these.
+fn say_list<W: Write>(
+    races: &[Race],
+    count: u64,
+    output: &mut Output,
+    writer: &mut W,
+) -> Result<(), WriteFailed>
+    ensures { Says result (λ text. text ≡ race_lines_text races.now count)
+        (W.contents writer.old) output.old (W.contents writer.new) output.new }
+{
+    output.say_blocks(writer, head_line(count).as_slice())?;
+    'races: for race in races {
+        say_race(*race, output, writer)?;
+    }
+    Ok(())
+}
+
+/// Says each of these, and the last line.
+fn say_rest<W: Write>(
+    readings: &[Reading],
+    last: &'static [u8],
+    output: &mut Output,
+    writer: &mut W,
+) -> Result<(), WriteFailed>
+    ensures { Says result (λ text. text ≡ flat_map reading_text readings.now ++ last.now)
+        (W.contents writer.old) output.old (W.contents writer.new) output.new }
+{
+    'readings: for reading in readings {
+        say_reading(*reading, output, writer)?;
+    }
+    output.say_blocks(writer, last)
+}
+
+/// Says one of them.
+fn say_reading<W: Write>(
+    reading: Reading,
+    output: &mut Output,
+    writer: &mut W,
+) -> Result<(), WriteFailed>
+    ensures { (before said : Bytes) → IsSaid (W.contents writer.old) before said output.old →
+        IsSaidOrCut result (W.contents writer.new) before (said ++ reading_text reading) output.new }
+{
+    output.say_blocks(writer, reading_line(reading).as_slice())
+}
+
+/// Says one of them.
+fn say_race<W: Write>(race: Race, output: &mut Output, writer: &mut W) -> Result<(), WriteFailed>
+    ensures { (before said : Bytes) → IsSaid (W.contents writer.old) before said output.old →
+        IsSaidOrCut result (W.contents writer.new) before (said ++ race_text race) output.new }
+{
+    output.say_blocks(writer, race_line(race).as_slice())
+}
+
+/// How many lines of steps follow.
+fn head_line(count: u64) -> TextBuffer
+    ensures { result.items ≡ races_head count }
+{
+    let mut out = ArrayVec::new();
+    push_text(&mut out, b"races ");
+    push_number(&mut out, count);
+    push_text(&mut out, b"\n");
+    out
+}
+
+/// A look with the word that it read, another that it could have read, the change before or behind which it would have, and the
+/// commands that make it read that.
+fn reading_line(reading: Reading) -> TextBuffer
+    ensures { result.items ≡ reading_text reading }
+{
+    let (node, step) = back_of(&reading);
+    let mut out = ArrayVec::new();
+    push_step(&mut out, reading.node, reading.step);
+    push_text(&mut out, b" reads ");
+    push_word(&mut out, reading.word);
+    push_text(&mut out, b", or ");
+    push_word(&mut out, reading.other);
+    push_text(&mut out, side_of(reading.early));
+    push_step(&mut out, reading.neighbour, reading.change);
+    push_text(&mut out, b": rewind ");
+    push_step(&mut out, node, step);
+    push_text(&mut out, b", step ");
+    push_node(&mut out, reading.node);
+    push_text(&mut out, b"\n");
+    out
+}
+
+/// On which side of the change a look would have read the other word.
+fn side_of(early: bool) -> &'static [u8]
+    ensures text { result.now ≡ before_or_behind early }
+    ensures len { length result.now ≤ 8 }
+{
+    if early { b" behind " } else { b" before " }
+}
+
+/// The step that is taken back for a look to read the other word.
+fn back_of(reading: &Reading) -> (NodeId, u32)
+    ensures { result ≡ back_of reading.now }
+{
+    if reading.early {
+        (reading.node, reading.step)
+    } else {
+        (reading.neighbour, reading.change)
+    }
+}
+
+/// A step with its word, another that it could have taken, and the commands that make it take that.
+fn race_line(race: Race) -> TextBuffer
+    ensures { result.items ≡ race_text race }
+{
+    let mut out = ArrayVec::new();
+    push_step(&mut out, race.reader, race.step);
+    push_text(&mut out, b" takes ");
+    push_word(&mut out, race.word);
+    push_text(&mut out, b" from ");
+    push_node(&mut out, race.writer);
+    push_text(&mut out, b", or ");
+    push_word(&mut out, race.offered);
+    push_text(&mut out, b" from ");
+    push_node(&mut out, race.other);
+    push_text(&mut out, b": rewind ");
+    push_step(&mut out, race.reader, race.step);
+    push_text(&mut out, b", step ");
+    push_node(&mut out, race.other);
+    push_text(&mut out, b"\n");
+    out
+}
+
+/// What holds of other orders.
+fn last_line(only: Option<NodeId>, races: &[Race], looks: bool, quiet: bool) -> &'static [u8]
+    ensures { result.now ≡ last_line only races.now looks quiet }
+{
+    if looks {
+        b"looks are kept or come next: there may be other races\n"
+    } else if only.is_some() || !races.is_empty() {
+        b""
+    } else if quiet {
+        b"every order ends on this chip\n"
+    } else {
+        b"no other order, as long as no node makes more steps\n"
+    }
+}

@@ -1,0 +1,232 @@
+//! Where a value came from, told line by line.
+
+ghost use Rattle.std.specs.Prelude.{◌≡◌, ◌≤◌, ◌<◌, ◌+◌, ◌++◌, ◌⊎◌, Some, flat_map};
+ghost use Rattle.ga_text.specs.Lines.{Bytes};
+ghost use Rattle.arrayvec.specs.ArrayVec.{array_vec_len};
+ghost use Rattle.ga_flow.specs.Flow.{IsPart};
+ghost use Rattle.ga_lab.specs.Machine.{stands, standing};
+ghost use Rattle.ga_event.specs.Told.{steps_of};
+ghost use Rattle.ga_text.specs.Output.{IsSaid, IsSaidOrCut};
+ghost use Rattle.ga_text.specs.kept.Output.{Says};
+ghost use Rattle.ga_answers.specs.Trees.{blanks, tree_row_text, rows_by, value_text, did_text, head_text, more_text, TellsAsked, TellsWhence};
+ghost use Rattle.ga_answers.specs.kept.Trees.{is_first};
+
+use crate::deed_text::{DEED_ROOM, push_deed};
+use crate::part_text::{push_mark, push_part};
+use crate::tail_text::{say_value_tail, say_walk_tail};
+use arrayvec::ArrayVec;
+use ga_display::refusal_text;
+use ga_grid::NodeId;
+use ga_lab::{Lab, LabFault, Walk};
+use ga_notes::Notes;
+use ga_origin::{Row, Value, asked_behind, whence_near};
+use ga_text::{Output, STEP_ROOM, TextBuffer, WriteFailed, push_node, push_step, push_text};
+use std::alloc::Global;
+use std::io::Write;
+
+/// How many lines a tree has at most.
+const MOST_ROWS: u32 = 100;
+
+/// The most bytes of a step with what it did.
+const DID_ROOM: usize = STEP_ROOM + 1 + DEED_ROOM;
+
+/// `whence NNN K`: tells the steps whose values went into what a step made, as a tree. The node is walked back to the step once, and
+/// what is told of it is found from there.
+///
+/// # Errors
+/// A write failed.
+pub fn say_whence<W: Write>(
+    alloc: Global,
+    lab: &Lab,
+    notes: &Option<Notes>,
+    node: NodeId,
+    step: u32,
+    output: &mut Output,
+    writer: &mut W,
+) -> Result<(), WriteFailed>
+    ensures { (before said : Bytes) → IsSaid (W.contents writer.old) before said output.old →
+        (text : Bytes) × TellsWhence notes.now lab.now node step text
+        × IsSaidOrCut result (W.contents writer.new) before (said ++ text) output.new }
+{
+    if !lab.stands((node, step)) {
+        return output.say(writer, refusal_text(LabFault::NoStep));
+    }
+    let near = lab.walk(node, step);
+    match asked_behind(lab, &near, node) {
+        Some(value) => say_asked(alloc, lab, notes, &near, node, value, output, writer),
+        None => say_head(lab, notes, &near, node, output, writer),
+    }
+}
+
+/// Says the tree of a value, which is asked for where the step is named to which its node is walked back.
+fn say_asked<W: Write>(
+    alloc: Global,
+    lab: &Lab,
+    notes: &Option<Notes>,
+    near: &Walk<'_>,
+    node: NodeId,
+    value: Value,
+    output: &mut Output,
+    writer: &mut W,
+) -> Result<(), WriteFailed>
+    requires part { IsPart value.part }
+    requires near { near.now ≡ standing lab.now node near.now.step }
+    ensures { Says result (λ text. TellsAsked notes.now lab.now node near.now.step (Some value) text)
+        (W.contents writer.old) output.old (W.contents writer.new) output.new }
+{
+    match whence_near(alloc, lab, near, node, value, MOST_ROWS) {
+        Ok(listing) => {
+            let rows = listing.rows.as_slice();
+            say_rows(lab, notes, near, node, rows, output, writer)?;
+            output.say_blocks(writer, more(listing.is_whole))
+        }
+        Err(_) => output.say(writer, refusal_text(LabFault::Memory)),
+    }
+}
+
+/// What is told behind the rows, where these are not all.
+fn more(is_whole: bool) -> &'static [u8]
+    ensures { result.now ≡ more_text is_whole }
+{
+    if is_whole { b"" } else { b"more\n" }
+}
+
+/// Whether the first of some rows is of this step.
+fn is_first(step: u32, rows: &[Row]) -> bool
+    ensures { result ≡ is_first step rows.now }
+{
+    match rows {
+        [first, ..] => first.value.step == step,
+        [] => false,
+    }
+}
+
+/// Says the rows, behind the step asked for where this isn't the first of them.
+fn say_rows<W: Write>(
+    lab: &Lab,
+    notes: &Option<Notes>,
+    near: &Walk<'_>,
+    node: NodeId,
+    rows: &[Row],
+    output: &mut Output,
+    writer: &mut W,
+) -> Result<(), WriteFailed>
+    requires { near.now ≡ standing lab.now node near.now.step }
+    ensures { Says result (λ text. text ≡ rows_by notes.now lab.now node near.now.step (is_first near.now.step rows.now) rows.now)
+        (W.contents writer.old) output.old (W.contents writer.new) output.new }
+{
+    if is_first(near.step(), rows) {
+        return say_lines(lab, notes, near, node, 0, rows, output, writer);
+    }
+    say_head(lab, notes, near, node, output, writer)?;
+    say_lines(lab, notes, near, node, 1, rows, output, writer)
+}
+
+/// Says the step asked for, to which its node is walked back.
+fn say_head<W: Write>(
+    lab: &Lab,
+    notes: &Option<Notes>,
+    near: &Walk<'_>,
+    node: NodeId,
+    output: &mut Output,
+    writer: &mut W,
+) -> Result<(), WriteFailed>
+    requires { near.now ≡ standing lab.now node near.now.step }
+    ensures { Says result (λ text. text ≡ head_text notes.now lab.now node near.now.step)
+        (W.contents writer.old) output.old (W.contents writer.new) output.new }
+{
+    output.say_blocks(writer, head_line(lab, node, near.step()).as_slice())?;
+    say_walk_tail(lab, notes, node, near, output, writer)
+}
+
+/// Says the lines of some rows, each so much deeper, by where a walk of some node stands.
+fn say_lines<W: Write>(
+    lab: &Lab,
+    notes: &Option<Notes>,
+    near: &Walk<'_>,
+    at: NodeId,
+    deeper: u8,
+    rows: &[Row],
+    output: &mut Output,
+    writer: &mut W,
+) -> Result<(), WriteFailed>
+    requires { near.now ≡ standing lab.now at near.now.step }
+    ensures { Says result (λ text. text ≡ flat_map (tree_row_text notes.now lab.now deeper) rows.now)
+        (W.contents writer.old) output.old (W.contents writer.new) output.new }
+{
+    'rows: for row in rows {
+        say_row(lab, notes, near, at, deeper, *row, output, writer)?;
+    }
+    Ok(())
+}
+
+/// Says the line of a row.
+pub(crate) fn say_row<W: Write>(
+    lab: &Lab,
+    notes: &Option<Notes>,
+    near: &Walk<'_>,
+    at: NodeId,
+    deeper: u8,
+    row: Row,
+    output: &mut Output,
+    writer: &mut W,
+) -> Result<(), WriteFailed>
+    requires { near.now ≡ standing lab.now at near.now.step }
+    ensures { (before said : Bytes) → IsSaid (W.contents writer.old) before said output.old →
+        IsSaidOrCut result (W.contents writer.new) before (said ++ tree_row_text notes.now lab.now deeper row) output.new }
+{
+    say_blanks(u64::from(row.depth) + u64::from(deeper), output, writer)?;
+    output.say_blocks(writer, value_line(lab, row.value).as_slice())?;
+    say_value_tail(lab, notes, near, at, row.value, output, writer)
+}
+
+/// Says two blanks for each level.
+fn say_blanks<W: Write>(levels: u64, output: &mut Output, writer: &mut W) -> Result<(), WriteFailed>
+    ensures { (before said : Bytes) → IsSaid (W.contents writer.old) before said output.old →
+        IsSaidOrCut result (W.contents writer.new) before (said ++ blanks levels) output.new }
+{
+    let mut left = levels;
+    'levels: while left > 0 {
+        output.say(writer, b"  ")?;
+        left -= 1;
+    }
+    Ok(())
+}
+
+/// A step of a node, with what it did.
+fn head_line(lab: &Lab, node: NodeId, step: u32) -> TextBuffer
+    ensures { result.items ≡ did_text lab.now node step }
+{
+    let mut out = ArrayVec::new();
+    push_did(&mut out, lab, node, step);
+    out
+}
+
+/// The step that made a value, or that it was loaded.
+fn value_line(lab: &Lab, value: Value) -> TextBuffer
+    ensures { result.items ≡ value_text lab.now value }
+{
+    let mut out = ArrayVec::new();
+    if value.step == 0 {
+        push_node(&mut out, value.node);
+        push_text(&mut out, b" load ");
+        push_part(&mut out, value.part);
+    } else {
+        push_did(&mut out, lab, value.node, value.step);
+        push_mark(&mut out, value.part);
+    }
+    out
+}
+
+/// Adds a step of a node, with what it did.
+fn push_did(out: &mut TextBuffer, lab: &Lab, node: NodeId, step: u32)
+    requires { array_vec_len out.old + DID_ROOM ≤ 256 }
+    ensures text { out.new.items ≡ out.old.items ++ did_text lab.now node step }
+    ensures len { array_vec_len out.new ≤ array_vec_len out.old + DID_ROOM }
+{
+    push_step(out, node, step);
+    push_text(out, b" ");
+    if let Some(made) = lab.told(node, step.saturating_sub(1)) {
+        push_deed(out, made, node);
+    }
+}

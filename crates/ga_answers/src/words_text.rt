@@ -1,0 +1,105 @@
+//! The words that went over a link, told line by line.
+
+ghost use Rattle.std.specs.Prelude.{◌≡◌, ◌++◌};
+ghost use Rattle.ga_text.specs.Lines.{Bytes};
+ghost use Rattle.ga_text.specs.Output.{IsSaid, IsSaidOrCut};
+ghost use Rattle.ga_text.specs.kept.Output.{Says};
+ghost use Rattle.ga_answers.specs.Texts.{sent_text, words_head, linked_text, link_words_text};
+
+use arrayvec::ArrayVec;
+use ga_grid::NodeId;
+use ga_lab::Lab;
+use ga_search::{Sent, Words, are_linked, count_words};
+use ga_text::{
+    Output, TextBuffer, WriteFailed, push_node, push_number, push_spaced, push_step, push_text,
+};
+use std::io::Write;
+
+/// `words NNN MMM`: tells the words that went from one node to another. Takes no memory.
+///
+/// # Errors
+/// A write failed.
+pub fn say_words<W: Write>(
+    lab: &Lab,
+    from: NodeId,
+    to: NodeId,
+    output: &mut Output,
+    writer: &mut W,
+) -> Result<(), WriteFailed>
+    ensures { (before said : Bytes) → IsSaid (W.contents writer.old) before said output.old →
+        (text : Bytes) × (text ≡ link_words_text lab.now from to)
+        × IsSaidOrCut result (W.contents writer.new) before (said ++ text) output.new }
+{
+    if are_linked(from, to) {
+        say_linked(lab, from, to, output, writer)
+    } else {
+        output.say(writer, b"no 34 nolink\n")
+    }
+}
+
+/// Says how many there are, then each of them.
+fn say_linked<W: Write>(
+    lab: &Lab,
+    from: NodeId,
+    to: NodeId,
+    output: &mut Output,
+    writer: &mut W,
+) -> Result<(), WriteFailed>
+    ensures { Says result (λ text. text ≡ linked_text lab.now from to)
+        (W.contents writer.old) output.old (W.contents writer.new) output.new }
+{
+    let count = count_words(lab, from, to);
+    output.say_blocks(writer, head_line(from, to, count).as_slice())?;
+    let mut words = Words::new(from, to);
+    'telling: for _ in 0..count {
+        let Some(sent) = words.next(lab) else {
+            return Ok(());
+        };
+        say_sent(from, to, &sent, output, writer)?;
+    }
+    Ok(())
+}
+
+/// Says one of them.
+fn say_sent<W: Write>(
+    from: NodeId,
+    to: NodeId,
+    sent: &Sent,
+    output: &mut Output,
+    writer: &mut W,
+) -> Result<(), WriteFailed>
+    ensures { (before said : Bytes) → IsSaid (W.contents writer.old) before said output.old →
+        IsSaidOrCut result (W.contents writer.new) before (said ++ sent_text from to sent.now) output.new }
+{
+    output.say_blocks(writer, sent_line(from, to, sent).as_slice())
+}
+
+/// The link, and how many words of it are kept.
+fn head_line(from: NodeId, to: NodeId, count: u32) -> TextBuffer
+    ensures { result.items ≡ words_head from to count }
+{
+    let mut out = ArrayVec::new();
+    push_text(&mut out, b"words ");
+    push_node(&mut out, from);
+    push_text(&mut out, b" ");
+    push_node(&mut out, to);
+    push_text(&mut out, b" ");
+    push_number(&mut out, u64::from(count));
+    push_text(&mut out, b"\n");
+    out
+}
+
+/// A word: its number, the steps of both ends and itself.
+fn sent_line(from: NodeId, to: NodeId, sent: &Sent) -> TextBuffer
+    ensures { result.items ≡ sent_text from to sent.now }
+{
+    let mut out = ArrayVec::new();
+    push_number(&mut out, u64::from(sent.number));
+    push_text(&mut out, b" ");
+    push_step(&mut out, from, sent.writer_step);
+    push_text(&mut out, b" ");
+    push_step(&mut out, to, sent.reader_step);
+    push_spaced(&mut out, sent.word);
+    push_text(&mut out, b"\n");
+    out
+}

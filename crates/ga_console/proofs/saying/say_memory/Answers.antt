@@ -1,9 +1,0 @@
-use Rattle.std.proofs.Common.{◌++◌}
-use Rattle.ga_console.specs.Texts.{memory_text}
-use Rattle.ga_text.proofs.SaidLemmas.{cut_more, cut_here}
-use Rattle.ga_console.proofs.saying.say_memory.Goals as goal
-
-pub returns-in_err-make_room : goal.returns-in_err-make_room
-returns-in_err-make_room g c = λ before said h.
-    cut_here c.from_residual.result _ before (said ++ memory_text c.args.node c.args.address c.args.word) _ c.from_residual.ensures.0
-    (cut_more _ before said (memory_text c.args.node c.args.address c.args.word) (c.in_err-make_room.ensures.said before said h))

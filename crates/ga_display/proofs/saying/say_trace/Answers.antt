@@ -1,0 +1,9 @@
+use Rattle.std.proofs.Common.{◌++◌}
+use Rattle.ga_display.specs.Texts.{trace_text}
+use Rattle.ga_text.proofs.SaidLemmas.{cut_more, cut_here}
+use Rattle.ga_display.proofs.saying.say_trace.Goals as goal
+
+pub returns-in_err-make_room : goal.returns-in_err-make_room
+returns-in_err-make_room g c = λ before said h.
+    cut_here c.from_residual.result _ before (said ++ trace_text c.args.node c.args.count) _ c.from_residual.ensures.0
+    (cut_more _ before said (trace_text c.args.node c.args.count) (c.in_err-make_room.ensures.said before said h))

@@ -1,0 +1,136 @@
+-- The texts of answers, each ended by a line feed (docs/REFERENCE.md, "Sessions"; this project's own).
+use Rattle.std.specs.Prelude.{ℕ, ◌==◌, if◌then◌else◌, List, [], ◌∷◌, ◌++◌, codes, decimal}
+use Rattle.std.specs.Int.{from_bool}
+use Rattle.ga_text.specs.Lines.{Text}
+use Rattle.ga_word.specs.Word.{hex6_of}
+use Rattle.ga_ports.specs.Address.{only, has_side}
+use Rattle.ga_ports.specs.declared.side.Side.{Side}
+use Rattle.ga_ports.specs.declared.side.Side.TheVariants.{Right, Down, Left, Up}
+use Rattle.ga_node.specs.Record.{NodeRecord}
+use Rattle.ga_node.specs.declared.wait.Wait.{Wait}
+use Rattle.ga_node.specs.declared.wait.Wait.TheVariants as wait
+use Rattle.ga_node.specs.declared.kind.Kind.{Kind}
+use Rattle.ga_node.specs.declared.kind.Kind.TheVariants as kind
+use Rattle.ga_grid.specs.declared.node_id.NodeId.{NodeId}
+use Rattle.ga_image.specs.Fault.{cause_number, cause_word}
+use Rattle.ga_text.specs.Digits.{decimal3_of, hex2_of, words_text}
+use Rattle.ga_image.specs.declared.fault.ImageFault.{ImageFault}
+use Rattle.ga_event.specs.declared.made.Made.{Made}
+use Rattle.ga_event.specs.declared.made.Made.TheVariants.{Own, Pass}
+use Rattle.ga_lab.specs.declared.fault.LabFault.{LabFault}
+use Rattle.ga_lab.specs.declared.fault.LabFault.TheVariants.{Waiting, Stopped, Full, Memory, Empty, NoStep, Spent}
+use Rattle.ga_text.specs.Names.{name_of_node, step_text}
+
+-- words with one space between two of them
+abbrev pub spaced : List Text → Text
+spaced [] = []
+spaced (word ∷ []) = word
+spaced (word ∷ more) = word ++ 32 ∷ spaced more
+
+-- ---- events
+
+abbrev pub kind_text : Kind → Text
+kind_text kind.Fetch = codes " fetch"
+kind_text (kind.Run code) = codes " run " ++ hex2_of code
+kind_text kind.Wait = codes " wait"
+kind_text (kind.Stop number) = codes " stop " ++ decimal number
+
+-- a node's own event, or a word that went from its writer to its reader
+abbrev pub made_text : Made → Text
+made_text (Own node step kind) = step_text node step ++ kind_text kind ++ codes "\n"
+made_text (Pass writer writer_step reader reader_step word) =
+    codes "pass " ++ step_text writer writer_step ++ codes " " ++ step_text reader reader_step ++ codes " " ++ hex6_of word ++ codes "\n"
+
+-- ---- the list of kept events
+
+-- how many events were removed, and how many are kept
+abbrev pub removed_text : ℕ → ℕ → Text
+removed_text removed kept = codes "removed " ++ decimal removed ++ codes " kept " ++ decimal kept ++ codes "\n"
+
+abbrev pub counts_text : ℕ → ℕ → ℕ → Text
+counts_text kept made limit = codes "kept " ++ decimal kept ++ codes " made " ++ decimal made ++ codes " limit " ++ decimal limit ++ codes "\n"
+
+-- what stands before the texts of a node's steps
+abbrev pub trace_text : NodeId → ℕ → Text
+trace_text node count = codes "trace " ++ name_of_node node ++ codes " " ++ decimal count ++ codes "\n"
+
+-- what stands before the texts of a chain's events
+abbrev pub chain_text : ℕ → Text
+chain_text count = codes "chain " ++ decimal count ++ codes "\n"
+
+-- no chain leads from the one step to the other
+abbrev pub independent : Text
+independent = codes "independent\n"
+
+-- ---- a node
+
+-- the side's letter, where the set has it
+abbrev pub side_text : ℕ → Side → Text → Text
+side_text sides side letter = if has_side sides side then letter else codes "-"
+
+-- right, down, left, up
+abbrev pub sides_text : ℕ → Text
+sides_text sides =
+    side_text sides Right (codes "r")
+    ++ side_text sides Down (codes "d")
+    ++ side_text sides Left (codes "l")
+    ++ side_text sides Up (codes "u")
+
+abbrev pub state_text : Wait → ℕ → Text
+state_text (wait.Fetch sides) stop = codes "fetch " ++ sides_text sides
+state_text (wait.Read sides) stop = codes "read " ++ sides_text sides
+state_text (wait.Write side) stop = codes "write " ++ sides_text (only side)
+state_text wait.Nothing stop = if stop == 0 then codes "run" else codes "stop " ++ decimal stop
+
+-- a register: its name and its value
+abbrev pub register_text : Text → ℕ → Text
+register_text name value = codes " " ++ name ++ (codes " " ++ hex6_of value)
+
+abbrev pub registers_text : NodeRecord → Text
+registers_text node =
+    register_text (codes "p") node.p
+    ++ register_text (codes "a") node.a
+    ++ register_text (codes "b") node.b
+    ++ register_text (codes "i") node.i
+
+abbrev pub flags_text : NodeRecord → Text
+flags_text node = codes " slot " ++ decimal node.slot ++ codes " carry " ++ decimal (from_bool node.carry) ++ codes " io " ++ hex6_of node.io
+
+-- the words of data and those of returns, the top of each first
+abbrev pub stacks_text : NodeRecord → Text
+stacks_text node = codes " d" ++ words_text node.d ++ codes " r" ++ words_text node.r
+
+abbrev pub node_text : NodeId → NodeRecord → Text
+node_text node at =
+    codes "node " ++ name_of_node node ++ codes " " ++ state_text at.wait at.stop ++ registers_text at ++ flags_text at ++ stacks_text at ++ codes "\n"
+
+-- the word at an address of a node's memory
+abbrev pub memory_text : NodeId → ℕ → ℕ → Text
+memory_text node address word = codes "mem " ++ name_of_node node ++ codes " " ++ hex2_of address ++ codes " " ++ hex6_of word ++ codes "\n"
+
+-- ---- refusals
+
+abbrev pub refusal_text : LabFault → Text
+refusal_text Waiting = codes "no 1 waiting\n"
+refusal_text Stopped = codes "no 2 stopped\n"
+refusal_text Full = codes "no 3 full\n"
+refusal_text Memory = codes "no 4 memory\n"
+refusal_text Empty = codes "no 5 empty\n"
+refusal_text NoStep = codes "no 6 nostep\n"
+refusal_text Spent = codes "no 7 spent\n"
+
+-- the line spells no command
+abbrev pub no_syntax : Text
+no_syntax = codes "no 31 syntax\n"
+
+-- the line has more than 200 bytes
+abbrev pub no_long : Text
+no_long = codes "no 32 long\n"
+
+-- the input goes past its bound
+abbrev pub no_input : Text
+no_input = codes "no 33 input\n"
+
+-- how an image is refused
+abbrev pub image_fault_text : ImageFault → Text
+image_fault_text fault = codes "no " ++ decimal (cause_number fault.cause) ++ codes " " ++ cause_word fault.cause ++ codes " line " ++ decimal fault.line ++ codes "\n"

@@ -1,0 +1,196 @@
+//! The texts of events and of the list that keeps them.
+ghost use Rattle.std.specs.Prelude.{◌≡◌, ◌+◌, ◌≤◌, ◌<◌, ◌++◌, length, codes};
+ghost use Rattle.arrayvec.specs.ArrayVec.{array_vec_len};
+ghost use Rattle.ga_event.specs.declared.made.Made.TheVariants.{Own, Pass};
+ghost use Rattle.ga_display.specs.Texts.{made_text, kind_text, removed_text, counts_text, trace_text, chain_text, refusal_text};
+
+use arrayvec::ArrayVec;
+use ga_grid::NodeId;
+use ga_lab::{Counts, LabFault, Made};
+use ga_node::Kind;
+use ga_text::{
+    LINE_ROOM, NUMBER_ROOM, hex2, push_eight, push_node, push_node_spaced, push_number,
+    push_spaced, push_step, push_text,
+};
+use ga_word::Word18;
+
+/// What a fetch is told as, and the end of its line.
+static FETCH: [u8; 7] = *b" fetch\n";
+
+/// The most bytes of what an event of a node's own was, with its line feed.
+const KIND_ROOM: usize = b" stop \n".len() + NUMBER_ROOM;
+
+/// Adds the text of an event.
+#[inline(always)]
+pub fn push_made<const ROOM: usize>(out: &mut ArrayVec<u8, ROOM>, made: Made)
+    requires { array_vec_len out.old + LINE_ROOM ≤ ROOM }
+    ensures { out.new.items ≡ out.old.items ++ made_text made }
+{
+    match made {
+        Made::Own { node, step, kind } => {
+            if step < 100_000_000 {
+                push_near(out, node, step, kind);
+            } else {
+                push_far(out, node, step, kind);
+            }
+        }
+        Made::Pass {
+            writer,
+            writer_step,
+            reader,
+            reader_step,
+            word,
+        } => push_pass(out, (writer, writer_step), (reader, reader_step), word),
+    }
+}
+
+/// Adds the text of an event of a node's own, whose number has at most eight digits: it goes without a call.
+#[inline(always)]
+fn push_near<const ROOM: usize>(out: &mut ArrayVec<u8, ROOM>, node: NodeId, step: u32, kind: Kind)
+    requires small { step < 100000000 }
+    requires room { array_vec_len out.old + LINE_ROOM ≤ ROOM }
+    ensures { out.new.items ≡ out.old.items ++ made_text (Own node step kind) }
+{
+    push_node_spaced(out, node);
+    push_eight(out, u64::from(step));
+    push_kind(out, kind);
+}
+
+/// The same with a number of any length.
+#[inline(never)]
+fn push_far<const ROOM: usize>(out: &mut ArrayVec<u8, ROOM>, node: NodeId, step: u32, kind: Kind)
+    requires { array_vec_len out.old + LINE_ROOM ≤ ROOM }
+    ensures { out.new.items ≡ out.old.items ++ made_text (Own node step kind) }
+{
+    push_step(out, node, step);
+    push_kind(out, kind);
+}
+
+/// Adds the text of a pass, by both of its steps and the word.
+fn push_pass<const ROOM: usize>(
+    out: &mut ArrayVec<u8, ROOM>,
+    writer: (NodeId, u32),
+    reader: (NodeId, u32),
+    word: Word18,
+)
+    requires { array_vec_len out.old + LINE_ROOM ≤ ROOM }
+    ensures { out.new.items ≡ out.old.items ++ made_text (Pass writer.0 writer.1 reader.0 reader.1 word) }
+{
+    push_text(out, b"pass ");
+    push_step(out, writer.0, writer.1);
+    push_text(out, b" ");
+    push_step(out, reader.0, reader.1);
+    push_spaced(out, word);
+    push_text(out, b"\n");
+}
+
+/// Adds what an event of a node's own was, and the end of its line.
+#[inline(always)]
+fn push_kind<const ROOM: usize>(out: &mut ArrayVec<u8, ROOM>, kind: Kind)
+    requires { array_vec_len out.old + KIND_ROOM ≤ ROOM }
+    ensures text { out.new.items ≡ out.old.items ++ (kind_text kind ++ codes "\n") }
+{
+    match kind {
+        Kind::Run(code) => {
+            let [high, low] = hex2(code);
+            push_text(out, &[b' ', b'r', b'u', b'n', b' ', high, low, b'\n']);
+        }
+        Kind::Fetch => push_text(out, &fetch()),
+        other => push_end(out, other),
+    }
+}
+
+/// The same by value, which is copied without a look whether it overlaps.
+#[inline(always)]
+fn fetch() -> [u8; 7]
+    ensures { result ≡ codes " fetch\n" }
+{
+    [
+        FETCH[0], FETCH[1], FETCH[2], FETCH[3], FETCH[4], FETCH[5], FETCH[6],
+    ]
+}
+
+/// The same of a wait or a stop.
+#[inline(never)]
+fn push_end<const ROOM: usize>(out: &mut ArrayVec<u8, ROOM>, kind: Kind)
+    requires { array_vec_len out.old + KIND_ROOM ≤ ROOM }
+    ensures text { out.new.items ≡ out.old.items ++ (kind_text kind ++ codes "\n") }
+{
+    match kind {
+        Kind::Fetch => push_text(out, b" fetch\n"),
+        Kind::Run(code) => {
+            let [high, low] = hex2(code);
+            push_text(out, &[b' ', b'r', b'u', b'n', b' ', high, low, b'\n']);
+        }
+        Kind::Wait => push_text(out, b" wait\n"),
+        Kind::Stop(number) => {
+            push_text(out, b" stop ");
+            push_number(out, u64::from(number));
+            push_text(out, b"\n");
+        }
+    }
+}
+
+/// Adds how many events were removed, and how many are kept.
+pub fn push_removed<const ROOM: usize>(out: &mut ArrayVec<u8, ROOM>, removed: u32, kept: u32)
+    requires { array_vec_len out.old + LINE_ROOM ≤ ROOM }
+    ensures { out.new.items ≡ out.old.items ++ removed_text removed kept }
+{
+    push_text(out, b"removed ");
+    push_number(out, u64::from(removed));
+    push_text(out, b" kept ");
+    push_number(out, u64::from(kept));
+    push_text(out, b"\n");
+}
+
+/// Adds how many events are kept, how many were ever made, and how many may be kept.
+pub fn push_counts<const ROOM: usize>(out: &mut ArrayVec<u8, ROOM>, counts: Counts)
+    requires { array_vec_len out.old + LINE_ROOM ≤ ROOM }
+    ensures { out.new.items ≡ out.old.items ++ counts_text counts.kept counts.made counts.limit }
+{
+    push_text(out, b"kept ");
+    push_number(out, u64::from(counts.kept));
+    push_text(out, b" made ");
+    push_number(out, counts.made);
+    push_text(out, b" limit ");
+    push_number(out, u64::from(counts.limit));
+    push_text(out, b"\n");
+}
+
+/// Adds the line before so many steps of a node.
+pub fn push_trace<const ROOM: usize>(out: &mut ArrayVec<u8, ROOM>, node: NodeId, count: usize)
+    requires { array_vec_len out.old + LINE_ROOM ≤ ROOM }
+    ensures { out.new.items ≡ out.old.items ++ trace_text node count }
+{
+    push_text(out, b"trace ");
+    push_node(out, node);
+    push_text(out, b" ");
+    push_number(out, count as u64);
+    push_text(out, b"\n");
+}
+
+/// Adds the line before a chain of so many events.
+pub fn push_chain<const ROOM: usize>(out: &mut ArrayVec<u8, ROOM>, count: usize)
+    requires { array_vec_len out.old + LINE_ROOM ≤ ROOM }
+    ensures { out.new.items ≡ out.old.items ++ chain_text count }
+{
+    push_text(out, b"chain ");
+    push_number(out, count as u64);
+    push_text(out, b"\n");
+}
+
+/// The text of a refused call.
+pub fn refusal_text(fault: LabFault) -> &'static [u8]
+    ensures text { result.now ≡ refusal_text fault }
+    ensures len { length result.now ≤ LINE_ROOM }
+{
+    match fault {
+        LabFault::Waiting => b"no 1 waiting\n",
+        LabFault::Stopped => b"no 2 stopped\n",
+        LabFault::Full => b"no 3 full\n",
+        LabFault::Memory => b"no 4 memory\n",
+        LabFault::Empty => b"no 5 empty\n",
+        LabFault::NoStep => b"no 6 nostep\n",
+        LabFault::Spent => b"no 7 spent\n",
+    }
+}

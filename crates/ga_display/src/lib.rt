@@ -1,0 +1,13 @@
+//! How events, nodes, counts and refusals are written.
+#![tactic(auto)]
+
+mod event;
+mod fault_text;
+mod node_text;
+mod saying;
+
+pub use event::{push_made, refusal_text};
+pub use fault_text::put_fault;
+pub use saying::{
+    say_chain_count, say_counts, say_made, say_memory, say_node, say_removed, say_trace,
+};

@@ -1,0 +1,211 @@
+//! The texts of a node and of its memory.
+ghost use Rattle.std.specs.Prelude.{◌≡◌, ◌<◌, ◌+◌, ◌≤◌, ◌^◌, ◌++◌, length, codes};
+ghost use Rattle.arrayvec.specs.ArrayVec.{array_vec_len};
+ghost use Rattle.ga_word.specs.Word.{hex6_of};
+ghost use Rattle.ga_node.specs.Record.{record_of};
+ghost use Rattle.ga_text.specs.Digits.{words_text};
+ghost use Rattle.ga_display.specs.Texts.{node_text, memory_text, state_text, sides_text, register_text, registers_text, flags_text, stacks_text};
+
+use arrayvec::ArrayVec;
+use ga_grid::NodeId;
+use ga_node::{Node, Place, Wait};
+use ga_text::{
+    LINE_ROOM, NUMBER_ROOM, WORD_ROOM, push_byte, push_digit, push_node, push_number, push_spaced,
+    push_text, push_word,
+};
+use ga_word::Word18;
+
+/// How many words the data stack has.
+const DATA_WORDS: u8 = 10;
+
+/// How many words the return stack has.
+const RETURN_WORDS: u8 = 9;
+
+/// The bytes of a set of sides.
+const SET_ROOM: usize = b"rdlu".len();
+
+/// The most bytes of whether a node runs, waits or is stopped.
+const STATE_ROOM: usize = b"stop ".len() + NUMBER_ROOM;
+
+/// The bytes of a register: a space, its name, a space and a word.
+const REGISTER_ROOM: usize = b" p ".len() + WORD_ROOM;
+
+/// The bytes of P, A, B and I.
+const REGISTERS_ROOM: usize = 4 * REGISTER_ROOM;
+
+/// The bytes of the slot, the carry and `io`.
+const FLAGS_ROOM: usize = b" slot 4 carry 1 io ".len() + WORD_ROOM;
+
+/// The bytes of the words of each stack, each behind a space.
+const DATA_ROOM: usize = 10 * (1 + WORD_ROOM);
+
+const RETURNS_ROOM: usize = 9 * (1 + WORD_ROOM);
+
+/// The bytes of both stacks, each behind its name.
+const STACKS_ROOM: usize = b" d".len() + DATA_ROOM + b" r".len() + RETURNS_ROOM;
+
+/// Adds the text of a node.
+pub fn push_node_line<const ROOM: usize>(out: &mut ArrayVec<u8, ROOM>, node: NodeId, at: &Node)
+    requires { array_vec_len out.old + LINE_ROOM ≤ ROOM }
+    ensures { out.new.items ≡ out.old.items ++ node_text node (record_of at.now) }
+{
+    push_text(out, b"node ");
+    push_node(out, node);
+    push_text(out, b" ");
+    push_state(out, at);
+    push_registers(out, at);
+    push_flags(out, at);
+    push_stacks(out, at);
+    push_text(out, b"\n");
+}
+
+/// Adds the word at an address of a node's memory.
+pub fn push_memory_line<const ROOM: usize>(
+    out: &mut ArrayVec<u8, ROOM>,
+    node: NodeId,
+    address: u8,
+    word: Word18,
+)
+    requires { array_vec_len out.old + LINE_ROOM ≤ ROOM }
+    ensures { out.new.items ≡ out.old.items ++ memory_text node address word }
+{
+    push_text(out, b"mem ");
+    push_node(out, node);
+    push_text(out, b" ");
+    push_byte(out, address);
+    push_text(out, b" ");
+    push_word(out, word);
+    push_text(out, b"\n");
+}
+
+/// Adds whether the node runs, what it waits for, or how it is stopped.
+fn push_state<const ROOM: usize>(out: &mut ArrayVec<u8, ROOM>, node: &Node)
+    requires { array_vec_len out.old + STATE_ROOM ≤ ROOM }
+    ensures text { out.new.items ≡ out.old.items ++ state_text (record_of node.now).wait (record_of node.now).stop }
+    ensures len { array_vec_len out.new ≤ array_vec_len out.old + STATE_ROOM }
+{
+    match node.wait() {
+        Wait::Nothing => push_stop(out, node.stop()),
+        Wait::Fetch(sides) => {
+            push_text(out, b"fetch ");
+            push_set(out, sides.get());
+        }
+        Wait::Read(sides) => {
+            push_text(out, b"read ");
+            push_set(out, sides.get());
+        }
+        Wait::Write(side) => {
+            push_text(out, b"write ");
+            push_set(out, side.bit());
+        }
+    }
+}
+
+fn push_stop<const ROOM: usize>(out: &mut ArrayVec<u8, ROOM>, stop: u8)
+    requires { array_vec_len out.old + STATE_ROOM ≤ ROOM }
+    ensures text { out.new.items ≡ out.old.items ++ state_text Wait.Nothing stop }
+    ensures len { array_vec_len out.new ≤ array_vec_len out.old + STATE_ROOM }
+{
+    if stop == 0 {
+        push_text(out, b"run");
+    } else {
+        push_text(out, b"stop ");
+        push_number(out, u64::from(stop));
+    }
+}
+
+/// Adds a set of sides, given by its number.
+fn push_set<const ROOM: usize>(out: &mut ArrayVec<u8, ROOM>, sides: u8)
+    requires { array_vec_len out.old + SET_ROOM ≤ ROOM }
+    ensures text { out.new.items ≡ out.old.items ++ sides_text sides }
+    ensures len { array_vec_len out.new ≡ array_vec_len out.old + SET_ROOM }
+{
+    let letters = [
+        if sides / 8 % 2 == 1 { b'r' } else { b'-' },
+        if sides / 4 % 2 == 1 { b'd' } else { b'-' },
+        if sides / 2 % 2 == 1 { b'l' } else { b'-' },
+        if sides % 2 == 1 { b'u' } else { b'-' },
+    ];
+    push_text(out, &letters);
+}
+
+/// Adds P, A, B and I.
+#[tactic(auto, unfolding(ga_node::specs::Record::record_of))]
+fn push_registers<const ROOM: usize>(out: &mut ArrayVec<u8, ROOM>, node: &Node)
+    requires { array_vec_len out.old + REGISTERS_ROOM ≤ ROOM }
+    ensures text { out.new.items ≡ out.old.items ++ registers_text (record_of node.now) }
+    ensures len { array_vec_len out.new ≡ array_vec_len out.old + REGISTERS_ROOM }
+{
+    push_register(out, b"p", node.get(Place::P));
+    push_register(out, b"a", node.get(Place::A));
+    push_register(out, b"b", node.get(Place::B));
+    push_register(out, b"i", node.get(Place::I));
+}
+
+/// Adds a register: its name, and its value as a word.
+fn push_register<const ROOM: usize>(out: &mut ArrayVec<u8, ROOM>, name: &[u8; 1], value: u32)
+    requires small { value < 2 ^ 18 }
+    requires room { array_vec_len out.old + REGISTER_ROOM ≤ ROOM }
+    ensures text { out.new.items ≡ out.old.items ++ register_text name.now value }
+    ensures len { array_vec_len out.new ≡ array_vec_len out.old + REGISTER_ROOM }
+{
+    push_text(out, &[b' ', name[0]]);
+    push_value(out, value);
+}
+
+/// Adds the slot, the carry and `io`.
+#[tactic(auto, unfolding(ga_node::specs::Record::record_of))]
+fn push_flags<const ROOM: usize>(out: &mut ArrayVec<u8, ROOM>, node: &Node)
+    requires { array_vec_len out.old + FLAGS_ROOM ≤ ROOM }
+    ensures text { out.new.items ≡ out.old.items ++ flags_text (record_of node.now) }
+    ensures len { array_vec_len out.new ≡ array_vec_len out.old + FLAGS_ROOM }
+{
+    push_text(out, b" slot ");
+    push_digit(out, node.get(Place::Slot) as u8);
+    push_text(out, b" carry ");
+    push_digit(out, node.get(Place::Carry) as u8);
+    push_text(out, b" io ");
+    push_word(out, Word18::truncated(node.get(Place::Io)));
+}
+
+/// Adds both stacks, the top of each first.
+fn push_stacks<const ROOM: usize>(out: &mut ArrayVec<u8, ROOM>, node: &Node)
+    requires { array_vec_len out.old + STACKS_ROOM ≤ ROOM }
+    ensures text { out.new.items ≡ out.old.items ++ stacks_text (record_of node.now) }
+    ensures len { array_vec_len out.new ≡ array_vec_len out.old + STACKS_ROOM }
+{
+    push_text(out, b" d");
+    push_data(out, node);
+    push_text(out, b" r");
+    push_returns(out, node);
+}
+
+fn push_data<const ROOM: usize>(out: &mut ArrayVec<u8, ROOM>, node: &Node)
+    requires { array_vec_len out.old + DATA_ROOM ≤ ROOM }
+    ensures text { out.new.items ≡ out.old.items ++ words_text (record_of node.now).d }
+    ensures len { array_vec_len out.new ≡ array_vec_len out.old + DATA_ROOM }
+{
+    'words: for place in 0..DATA_WORDS {
+        push_value(out, node.d(place));
+    }
+}
+
+fn push_returns<const ROOM: usize>(out: &mut ArrayVec<u8, ROOM>, node: &Node)
+    requires { array_vec_len out.old + RETURNS_ROOM ≤ ROOM }
+    ensures text { out.new.items ≡ out.old.items ++ words_text (record_of node.now).r }
+    ensures len { array_vec_len out.new ≡ array_vec_len out.old + RETURNS_ROOM }
+{
+    'words: for place in 0..RETURN_WORDS {
+        push_value(out, node.r(place));
+    }
+}
+
+/// Adds a space, and a value of at most 18 bits as a word.
+fn push_value<const ROOM: usize>(out: &mut ArrayVec<u8, ROOM>, value: u32)
+    requires small { value < 2 ^ 18 }
+    requires room { array_vec_len out.old + 1 + WORD_ROOM ≤ ROOM }
+    ensures text { out.new.items ≡ out.old.items ++ (codes " " ++ hex6_of value) }
+    ensures len { array_vec_len out.new ≡ array_vec_len out.old + 1 + WORD_ROOM }
+{
+    push_spaced(out, Word18::truncated(value));
+}

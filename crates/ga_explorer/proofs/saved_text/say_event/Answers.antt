@@ -1,9 +1,0 @@
-use Rattle.std.proofs.Common.{ap, ◌∙◌}
-use Rattle.ga_explorer.specs.Saved.{step_line, with_feed}
-use Rattle.ga_explorer.proofs.Told.{told_as}
-use Rattle.ga_explorer.proofs.saved_text.say_event.Goals as goal
-
-pub returns : goal.returns
-returns g c = λ before said h.
-    told_as c.say_blocks.result _ before said c.as_slice.result.now _ c.say_blocks.new.self
-    (c.as_slice.ensures.value ∙ c.step_line.ensures ∙ ap (λ z. with_feed (step_line z)) c.actor_of.ensures) (c.say_blocks.ensures before said h)

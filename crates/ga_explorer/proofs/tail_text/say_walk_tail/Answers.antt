@@ -1,9 +1,0 @@
-use Rattle.std.proofs.Common.{ap}
-use Rattle.ga_explorer.specs.Tails.{step_tail}
-use Rattle.ga_explorer.proofs.Told.{told_as}
-use Rattle.ga_explorer.proofs.tail_text.say_walk_tail.Goals as goal
-
-pub returns : goal.returns
-returns g c = λ before said h.
-    let tail = step_tail c.args.notes.now c.args.lab.now c.args.node in
-    told_as c.say_step_tail.result _ before said (tail c.step.result) (tail c.args.walk.now.step) _ (ap tail c.step.ensures.value) (c.say_step_tail.ensures before said h)
