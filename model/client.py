@@ -18,6 +18,7 @@ from editing import Session
 from machine import name
 from node import neighbour
 from shown import SIDE_NAMES, address_of, node_of_thread, thread_of
+from source import asm
 
 sys.path.append("/usr/lib/python3/dist-packages")
 try:
@@ -247,7 +248,7 @@ class Client:
 
 # ---- generated sessions
 
-BODIES = ("5 2*", "dup +", "over over +", "drop dup", "push pop", "7 . -", "2* 2/ dup", "dup or", "1 +")
+BODIES = ("5 2*", "4 a!", "dup 3 b! !b", "dup +", "over over +", "drop dup", "push pop", "7 . -", "2* 2/ dup", "dup or", "1 +")
 LOOPS = ("2 for\n  {}\n  next", "3 for\n  dup\n  unext", "1 for dup unext", "dup if\n  {}\n  then", "dup -if {} else\n  {} then", "begin\n  {}\n  dup if drop {} then 0 until")
 
 
@@ -268,23 +269,34 @@ class Generator:
             return self.random.choice(("@", "dup !b", "dup ! @b", "dup\n  !b"))
         return self.random.choice(BODIES)
 
-    def word(self, name, end):
+    def word(self, name, *ends):
         lines = [self.body(name) for _ in range(self.random.choice((1, 2, 3)))]
         stop = ["0x150 a! !"] if self.random.random() < 0.06 else []
-        return [f": {name} {lines[0]}"] + [f"  {it}" for it in lines[1:] + stop] + [f"  {end}"]
+        return [f": {name} {lines[0]}"] + [f"  {it}" for it in lines[1:] + stop] + [f"  {self.random.choice(ends)}"]
+
+    def text(self):
+        """A source, or now and then its image."""
+        source = self.source()
+        return source if self.random.random() < 0.9 else asm(source)[0]
 
     def source(self):
         lines = []
         for node in self.random.choice(((0, 1), (0, 1, 2), (1, 19), (20, 21, 38))):
             beside = [label for side, label in SIDE_NAMES.items() if neighbour(node, side) is not None]
             lines += [f"node {name(node)}", f"/a {self.random.choice(beside)}", f"/b {self.random.choice(beside)}"]
-            lines += self.word("main", "main ;") + self.word("one", ";") + self.word("two", self.random.choice((";", "dup ;")))
+            lines += ["/p right"] if self.random.random() < 0.05 else []
+            lines += self.word("main", *["main ;"] * 7, f"{beside[0]} push ;") + self.word("one", ";")
+            lines += self.random.choice(([], ["org 0x80"], [": data 7 , -1 ,"])) + self.word("two", ";", "dup ;", "dup ;", "ex dup ;")
         return "\n".join(lines) + "\n"
 
-    def move(self, thread):
-        how = self.random.choice((("next", None), ("next", "line"), ("next", "instruction"), ("stepIn", "line"), ("stepIn", None), ("stepIn", "instruction"),
-                                  ("stepOut", None), ("stepBack", "line"), ("stepBack", None), ("stepBack", "instruction"), ("continue", None), ("reverseContinue", None)))
-        return how[0], {"threadId": thread} | ({"granularity": how[1]} if how[1] else {})
+    def move(self, thread, is_full, is_within):
+        """A move of a node; back, where no more events can be kept, and often out of a call where it is within some."""
+        if is_within and self.random.random() < 0.4:
+            return "stepOut", {"threadId": thread}
+        back = (("stepBack", "line"), ("stepBack", None), ("stepBack", "instruction"), ("reverseContinue", None))
+        forward = (("next", "line"), ("next", None), ("next", "instruction"), ("stepIn", "line"), ("stepIn", None), ("stepIn", "instruction"), ("stepOut", None), ("continue", None))
+        command, grain = self.random.choice(back if is_full else forward + back)
+        return command, {"threadId": thread} | ({"granularity": grain} if grain else {})
 
     def look(self, thread):
         node = node_of_thread(thread) or 0
@@ -292,12 +304,12 @@ class Generator:
         return self.random.choice((
             ("threads", None),
             ("stackTrace", {"threadId": thread, "startFrame": draw(3), "levels": draw(4)}),
-            ("scopes", {"frameId": 1 + 16 * node + draw(3)}),
+            ("scopes", {"frameId": 16 * node + draw(18)}),
             ("variables", {"variablesReference": 1 + 8 * node + draw(8), "start": draw(70), "count": draw(6)}),
             ("variables", {"variablesReference": 1 + 8 * node + draw(4)}),
-            ("disassemble", {"memoryReference": address_of(node, draw(8)), "instructionOffset": draw(5) - 2, "instructionCount": draw(9)}),
+            ("disassemble", {"memoryReference": address_of(node, draw(8) + draw(2) * 0x80), "instructionOffset": draw(5) - 2, "instructionCount": draw(20)}),
             ("exceptionInfo", {"threadId": thread}),
-            ("evaluate", {"expression": self.random.choice(("t", "[05]", "[Bf]", "slot", "state", "who", "chip", "count", f"whence {name(node)} last", f"at {name(node)} 2", "zzz", "step 001", "back", "run 3", f"rewind {name(node)} 2")), "context": "repl", "frameId": 1 + 16 * node}),
+            ("evaluate", {"expression": self.random.choice(("t", "[05]", "[43]", "[80]", "[C1]", "slot", "state", "who", "chip", "count", f"whence {name(node)} last", f"at {name(node)} 2", "zzz", "step 001", "back", "run 3", f"rewind {name(node)} 2")), "context": "repl", "frameId": 1 + 16 * node}),
         ))
 
 
@@ -314,15 +326,20 @@ def asked_of(number, path, can):
 
     draw = make.random
     ask("initialize", {"adapterID": "ga144"})
-    ask("launch", {"program": path, "limit": draw.choice((20, 120, 300)), "order": draw.choice(("rounds", "greedy", "random")), "seed": draw.randrange(1 << 30)})
-    ask("setBreakpoints", {"source": {"path": path}, "breakpoints": [{"line": draw.randrange(1, 40)} for _ in range(draw.randrange(3))]})
+    ask("launch", {"program": path, "limit": draw.choice((20, 200, 400)), "order": draw.choice(("rounds", "greedy", "random")), "seed": draw.randrange(1 << 30)})
+    ask("setBreakpoints", {"source": {"path": path}, "breakpoints": [{"line": draw.randrange(1, 50)} for _ in range(draw.randrange(5))]})
+    for command, member, some in (("setFunctionBreakpoints", "name", ("one", "000 main", "001:two", "102 one", "foo")), ("setDataBreakpoints", "dataId", ("0x000005", "0x001043", "0x102000", "0x001080")),
+                                  ("setInstructionBreakpoints", "instructionReference", ("0x000002", "0x001001", "0x102081", "0x018000"))):
+        if draw.random() < 0.3:
+            ask(command, {"breakpoints": [{member: it} for it in draw.sample(some, 2)]})
     ask("setExceptionBreakpoints", {"filters": draw.choice((["stop", "stuck"], ["stuck"], ["stop"], []))})
     ask("configurationDone")
     mirrored = 0
     for _ in range(14):
         nodes = session.shown.nodes()
         thread = thread_of(draw.choice(nodes)) if nodes and draw.random() < 0.97 else 999
-        ask(*make.move(thread))
+        machine, node = session.machine, node_of_thread(thread)
+        ask(*make.move(thread, len(machine.events) == machine.limit, node is not None and len(machine.calls(node)) > 1))
         ask("evaluate", {"expression": "dump", "context": "repl"})
         ask("stackTrace", {"threadId": thread})
         ask(*make.look(thread))

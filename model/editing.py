@@ -5,14 +5,22 @@ import re
 from explore import mixed
 from files import answer, load_of
 from machine import NODES, name
-from shown import SCOPES, Places, Shown, Watched, address_of, node_of_frame, node_of_thread, thread_of
+from shown import SCOPES, Places, Shown, Watched, address_of, cell_of, node_of_frame, node_of_thread, thread_of
 from source import NODE_NAMES, asm, programs_of
 from words import words_of
 
 MOST = 4000000
 SLICE = 4096
-ABLE = ("ConfigurationDoneRequest", "DisassembleRequest", "EvaluateForHovers", "ExceptionInfoRequest", "StepBack", "SteppingGranularity", "TerminateRequest")
+ABLE = ("ConfigurationDoneRequest", "DataBreakpoints", "DisassembleRequest", "EvaluateForHovers", "ExceptionInfoRequest", "FunctionBreakpoints")
+ABLE += ("InstructionBreakpoints", "StepBack", "SteppingGranularity", "TerminateRequest")
 FULL = "full: as many events are kept as may be"
+
+
+def address_in(text, offset=0):
+    """The node and the address in it of an address of the chip, or None."""
+    digits = re.fullmatch("0x([0-9a-fA-F]+)", text)
+    found = digits and re.fullmatch("([0-7](?:0[0-9]|1[0-7]))0([0-9a-f]{2})", f"{int(digits[1], 16) + offset:06x}")
+    return found and (NODE_NAMES[found[1]], int(found[2], 16))
 
 
 class Refused(Exception):
@@ -137,40 +145,59 @@ class Session:
         self.respond()
 
     def do_setBreakpoints(self):
-        is_ours = self.arguments["source"].get("path") == self.shown.path
-        if is_ours:
-            self.points = [it for it in self.points if it["set"] != "lines"]
-        found = []
-        for asked in self.arguments.get("breakpoints", []):
-            at = self.notes.stands(asked["line"]) if is_ours else None
+        if self.arguments["source"].get("path") == self.shown.path:
+            return self.set_points("lines", "no code stands on this line or behind it", self.on_line)
+        elsewhere = {"message": "the program is another file", "verified": False}
+        return self.respond({"breakpoints": [elsewhere for _ in self.arguments["breakpoints"]]})
+
+    def do_setFunctionBreakpoints(self):
+        self.set_points("functions", "no node has this label", self.at_label)
+
+    def do_setInstructionBreakpoints(self):
+        self.set_points("instructions", "no such memory", self.at_address)
+
+    def do_setDataBreakpoints(self):
+        self.set_points("data", "no such cell of RAM", self.of_cell)
+
+    def set_points(self, kind, why, place):
+        """The breakpoints of a kind are those that are asked for, with a number each. `place` says where one stands, and what is told."""
+        self.points, told = [it for it in self.points if it["set"] != kind], []
+        for asked in self.arguments["breakpoints"]:
             self.ids += 1
-            if at is None:
-                why = "no code stands on this line or behind it" if is_ours else "the program is another file"
-                found.append({"id": self.ids, "message": why, "verified": False})
-                continue
-            line, node, spot = at
-            self.points.append({"id": self.ids, "set": "lines", "node": node, "spot": spot})
-            found.append({"id": self.ids, "line": int(line), "source": self.shown.source, "verified": True})
-        self.respond({"breakpoints": found})
+            found, more = place(asked) or (None, {"message": why, "verified": False})
+            told.append({"id": self.ids, "verified": True} | more)
+            self.points += [found | {"id": self.ids, "set": kind}] if found else []
+        self.respond({"breakpoints": told})
+
+    def on_line(self, asked):
+        at = self.notes.stands(asked["line"])
+        return at and ({"node": at[1], "spot": at[2]}, {"line": int(at[0]), "source": self.shown.source})
+
+    def at_label(self, asked):
+        found = re.fullmatch("(?:([0-7](?:0[0-9]|1[0-7]))[: ])?(.*)", asked["name"])
+        for node, names in self.notes.names.items():
+            for label, cell in names:
+                if label == found[2] and found[1] in (None, name(node)):
+                    return cell is not None and ({"node": node, "spot": (cell, 0)}, {})
+        return None
+
+    @staticmethod
+    def at_address(asked):
+        at = address_in(asked["instructionReference"], asked.get("offset", 0))
+        return at and ({"node": at[0], "spot": (cell_of(at[1]), 0)}, {})
+
+    @staticmethod
+    def of_cell(asked):
+        at = address_in(asked["dataId"])
+        return at and at[1] < 128 and ({"node": at[0], "cell": at[1] % 64}, {})
 
     def do_dataBreakpointInfo(self):
         at = divmod(self.arguments.get("variablesReference", 0) - 1, 8)
-        cell = re.fullmatch(r"\[([0-9a-f]{2})\]", self.arguments["name"])
+        cell = re.fullmatch(r"\[([0-9a-fA-F]{2})\]", self.arguments["name"])
         if not cell or at[1] != SCOPES["RAM"] or not 0 <= at[0] < NODES:
             return self.respond({"dataId": None, "description": "only cells of RAM are watched"})
-        where = {"dataId": address_of(at[0], int(cell[1], 16)), "description": f"node {name(at[0])}, cell {cell[1]}"}
+        where = {"dataId": address_of(at[0], int(cell[1], 16)), "description": f"node {name(at[0])}, cell {cell[1].lower()}"}
         return self.respond(where | {"accessTypes": ["write"], "canPersist": True})
-
-    def do_setDataBreakpoints(self):
-        self.points = [it for it in self.points if it["set"] != "data"]
-        found = []
-        for asked in self.arguments["breakpoints"]:
-            self.ids += 1
-            at = re.fullmatch("0x([0-7](?:0[0-9]|1[0-7]))0([0-7][0-9a-f])", asked["dataId"])
-            if at:
-                self.points.append({"id": self.ids, "set": "data", "node": NODE_NAMES[at[1]], "cell": int(at[2], 16) % 64})
-            found.append({"id": self.ids, "verified": True} if at else {"id": self.ids, "message": "only cells of RAM are watched", "verified": False})
-        self.respond({"breakpoints": found})
 
     def does(self, point, node, step):
         """Whether a step of a node is one by which it comes to a breakpoint (a slot that it carried out, or a word that went over), or
@@ -211,11 +238,11 @@ class Session:
         self.respond(self.shown.exception(self.node()))
 
     def do_disassemble(self):
-        digits = re.fullmatch("0x([0-7])(0[0-9]|1[0-7])([0-9a-f]{3})", self.arguments["memoryReference"])
-        if not digits:
+        at = address_in(self.arguments["memoryReference"])
+        if not at:
             raise Refused("disassemble: no such memory")
-        first = int(digits[3], 16) + self.arguments.get("instructionOffset", 0)
-        self.respond(self.shown.disassembled(NODE_NAMES[digits[1] + digits[2]], first % 4096, self.arguments["instructionCount"]))
+        first = at[1] + self.arguments.get("instructionOffset", 0)
+        self.respond(self.shown.disassembled(at[0], first % 4096, self.arguments["instructionCount"]))
 
     # ---- moves
 
@@ -272,11 +299,9 @@ class Session:
 
     def mover(self):
         """The node that is to make steps."""
-        node = node_of_thread(self.arguments.get("threadId"))
-        if node is None:
-            raise Refused("no such thread")
+        node = self.node()
         if self.machine.chip[node].stop:
-            raise Refused("the node is stopped")
+            raise Refused(f"{self.command}: the node is stopped")
         return node
 
     def by_line(self):

@@ -66,7 +66,7 @@ class Places(Notes):
 
     def __init__(self, source=None):
         super().__init__(source)
-        self.given, self.names, self.is_data, self.slots = {}, {}, set(), []
+        self.given, self.words, self.names, self.is_data, self.slots = {}, {}, {}, set(), []
         for of, (_, words, layout) in (programs_of(words_of(source)) if source is not None else {}).items():
             node = NODE_NAMES[of]
             self.names[node] = [(it, cell_of(layout.labels[it])) for it in words.lines]
@@ -74,23 +74,26 @@ class Places(Notes):
                 self.give(node, group)
 
     def give(self, node, group):
-        """The lines of a word and of its literals, and of each slot of the word."""
-        address = group.address
-        for place, line in enumerate([group.slots[0][0]] + [line for line, _ in group.literals]):
-            self.given[node, cell_of(address)] = line
-            if place or group.data:
-                self.is_data.add((node, cell_of(address)))
+        """The words of the slots of a cell and of its literals: the last word has the slots behind it too."""
+        address, words = group.address, [it for it, *_ in group.slots]
+        for place, word in enumerate([words[0]] + [it for it, _ in group.literals]):
+            cell, is_code = cell_of(address), not place and not group.data
+            self.given[node, cell] = word
+            for slot in range(4):
+                self.words[node, (cell, slot)] = words[min(slot, len(words) - 1)] if is_code else word
+            if is_code:
+                self.slots += [(it, node, (cell, slot)) for slot, it in enumerate(words)]
             else:
-                self.slots += [(line, node, (cell_of(address), slot)) for slot, (line, *_) in enumerate(group.slots)]
+                self.is_data.add((node, cell))
             address = advanced(address)
 
     def stands(self, line):
         """Where a breakpoint on a line stands: its line, node and spot, those of the next line that has code; or None."""
         return min((it for it in self.slots if it[0] >= line), key=lambda it: it[0], default=None)
 
-    def line(self, node, spot):
-        """The line that gives the cell of a spot."""
-        return self.given.get((node, spot[0])) if spot else None
+    def word(self, node, spot):
+        """The word from which the slot of a spot comes: a line with a column."""
+        return self.words.get((node, spot))
 
     def named(self, node, cell):
         """The first label that stands at a cell."""
@@ -105,9 +108,8 @@ class Places(Notes):
         return f"{cell:02x}"
 
     def begins_at(self, node, line, spot):
-        """Whether a spot is the first slot of the first word that a line begins."""
-        address = self.begun(node, line)
-        return address is not None and spot == (cell_of(address), 0)
+        """Whether a spot is the first slot of a line of a node."""
+        return next((it for word, of, it in self.slots if (word, of) == (line, node)), None) == spot
 
 
 class Watched(Explorer):
@@ -178,8 +180,8 @@ class Shown:
         if spot is None:
             return frame | {"name": f"{name(node)} outside its memory", "presentationHint": "subtle"}
         frame |= {"instructionPointerReference": address_of(node, spot[0]), "name": f"{name(node)} {self.notes.near(node, spot[0])}"}
-        line = self.notes.line(node, spot)
-        return frame if line is None else frame | {"column": 1, "line": int(line), "source": self.source}
+        word = self.notes.word(node, spot)
+        return frame if word is None else frame | {"column": word.column, "line": int(word), "source": self.source}
 
     def stack(self, node, start=0, count=0):
         spots = [self.machine.spot(node, self.machine.steps[node])] + [self.machine.spot(node, it - 1) for it in self.machine.calls(node)]
@@ -287,11 +289,11 @@ class Shown:
     def begins(self, node, step):
         """Whether a line begins behind a step: the node came to it from another, or by a jump to its first slot."""
         spot = self.machine.spot(node, step)
-        line = self.notes.line(node, spot)
+        line = self.notes.word(node, spot)
         if line is None:
             return False
         before = self.machine.spot(node, self.place_back(node, step))
-        return self.notes.line(node, before) != line or op_of(self.machine.kept[node][step][0]) in JUMP_OPS and self.notes.begins_at(node, line, spot)
+        return self.notes.word(node, before) != line or op_of(self.machine.kept[node][step][0]) in JUMP_OPS and self.notes.begins_at(node, line, spot)
 
     def line_back(self, node):
         """How many steps of a node stay where its line began, or the line before."""
