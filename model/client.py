@@ -350,7 +350,8 @@ def asked_of(number, path, can):
 
 
 def mirror(session, ask, node, count):
-    """Some lines of a node forward, and back: what stands there has to be the same, as long as no call is left that was open."""
+    """Some lines of a node forward, and back: what stands there has to be the same, as long as calls are left by `;` alone, and none that was
+    open. Says how many lines."""
     machine, shown, stood = session.machine, session.shown, []
     open_calls = machine.calls(node)
     if machine.steps[node] and not shown.begins(node, machine.steps[node]):
@@ -358,18 +359,16 @@ def mirror(session, ask, node, count):
     for _ in range(count):
         here = machine.steps[node], shown.frame(node, 0, machine.spot(node, machine.steps[node]))
         if ask("next", {"threadId": thread_of(node)})[-1].get("body", {}).get("reason") != "step":
-            break
-        if [it for it in open_calls if it not in machine.calls(node)]:
-            break
+            return 0
+        left = [it for it in range(here[0], machine.steps[node]) if machine.leaves_call(node, it + 1)]
+        if left or [it for it in open_calls if it not in machine.calls(node)]:
+            return 0
         stood.append(here)
-    else:
-        for here in reversed(stood):
-            ask("stepBack", {"threadId": thread_of(node)})
-            now = machine.steps[node], shown.frame(node, 0, machine.spot(node, machine.steps[node]))
-            if now != here:
-                raise Wrong(f"forward and back over lines: {here} and then {now}")
-        return len(stood)
-    return 0
+    for here in reversed(stood):
+        ask("stepBack", {"threadId": thread_of(node)})
+        now = machine.steps[node], shown.frame(node, 0, machine.spot(node, machine.steps[node]))
+        demand(now == here, f"forward and back over lines: {here} and then {now}")
+    return len(stood)
 
 
 def messages_of(session, command, arguments):

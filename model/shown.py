@@ -147,6 +147,11 @@ class Watched(Explorer):
             cell = cell_of(it.p)
         return None if cell is None else (cell, it.slot % FETCH_DUE)
 
+    def leaves_call(self, node, step):
+        """Whether a step is one by which a node leaves a call otherwise than by `;`."""
+        (*_, before), (told, *_, behind) = self.kept[node][step - 1 : step + 1]
+        return bool({*before} - {*behind, None}) and op_of(told) != CODE[";"]
+
     def calls(self, node):
         """The steps by which a node called and from which it did not come back, the newest first."""
         return [it for it in self.kept[node][-1][3] if it]
