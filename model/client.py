@@ -193,7 +193,11 @@ class Client:
         if arguments is not None:
             request["arguments"] = arguments
         self.schema.message(request)
-        self.raw(framed(text_of(request)))
+        data = framed(text_of(request))
+        # (in two parts, cut elsewhere each time)
+        cut = 37 * self.sent % len(data)
+        self.raw(data[:cut])
+        self.raw(data[cut:])
         return self.sent
 
     def next(self, seconds=None):
