@@ -3,22 +3,17 @@ shortest with the members in order, and that it is what the protocol's schema sa
 
 The schema is that of Debian's python3-pydevd, which is generated from the protocol's own: a class for each message and each type, with the
 schema of its members in `__props__`, and those that it has to have as parameters of its constructor. Where that isn't installed, the
-schema is not checked. A member that the schema doesn't name is told by `Schema.unnamed`, and is no fault.
+schema is not checked. A message or a member that it doesn't name is a fault, but for those in `LATER`, and for the arguments of `launch`,
+which each server has of its own.
 """
 
 import inspect
 import json
 import queue
-import random
+import re
 import subprocess
 import sys
 import threading
-
-from editing import Session
-from machine import name
-from node import neighbour
-from shown import SIDE_NAMES, address_of, node_of_thread, thread_of
-from source import asm
 
 sys.path.append("/usr/lib/python3/dist-packages")
 try:
@@ -27,6 +22,9 @@ try:
 except ImportError:
     base = None
 
+# What the protocol has and that schema, which is of 2021, has not.
+LATER = {"response disassemble.body.instructions.presentationHint"}
+FREE = "request launch.arguments"
 HEADER = b"Content-Length: "
 KINDS = {
     "integer": lambda it: isinstance(it, int) and not isinstance(it, bool),
@@ -76,9 +74,6 @@ class Schema:
 
     is_there = base is not None
 
-    def __init__(self):
-        self.unnamed = set()
-
     def message(self, message):
         if not self.is_there:
             return
@@ -87,9 +82,7 @@ class Schema:
         table = {"request": base._requests_to_types, "response": base._responses_to_types, "event": base._event_to_types}[kind]
         name = message.get("event" if kind == "event" else "command")
         of = base._all_messages["ErrorResponse"] if message.get("success") is False else table.get(name)
-        if of is None:
-            self.unnamed.add(f"{kind} {name}")
-            of = base._all_messages[kind.capitalize()]
+        demand(of is not None, f"there is no {kind} {name}")
         needs = [it for it in self.needed(of) if it != "body" or kind != "response" or self.has_needed_body(of)]
         for it in [*needs, "seq"]:
             demand(it in message, f"{kind} {name} lacks {it}")
@@ -111,7 +104,7 @@ class Schema:
             if name in props:
                 self.value(props[name], it, f"{at}.{name}")
             else:
-                self.unnamed.add(f"{at}.{name}")
+                demand(at == FREE or re.sub(r"\[[0-9]+\]", "", f"{at}.{name}") in LATER, f"{at} has no member {name}")
 
     def value(self, schema, value, at):
         kind = schema.get("type")
@@ -248,133 +241,3 @@ class Client:
         self.reader.join()
         self.server.stdin.close()
         self.server.stdout.close()
-
-
-# ---- generated sessions
-
-BODIES = ("5 2*", "4 a!", "dup 3 b! !b", "dup +", "over over +", "drop dup", "push pop", "7 . -", "2* 2/ dup", "dup or", "1 +")
-LOOPS = ("2 for\n  {}\n  next", "3 for\n  dup\n  unext", "1 for dup unext", "dup if\n  {}\n  then", "dup -if {} else\n  {} then", "begin\n  {}\n  dup if drop {} then 0 until")
-
-
-class Generator:
-    """Requests by a seed, over a small program of some nodes beside one another: lines with loops, calls, words that go over, and stops."""
-
-    def __init__(self, number):
-        self.random = random.Random(number)
-
-    def body(self, name, depth=1):
-        draw = self.random.random()
-        if draw < 0.25 and depth:
-            shape = self.random.choice(LOOPS)
-            return shape.format(*(self.body(name, depth - 1) for _ in range(shape.count("{}"))))
-        if draw < 0.4:
-            return self.random.choice(("one", "two one", "one\n  two") if name == "main" else ("two",) if name == "one" else ("dup",))
-        if draw < 0.6:
-            return self.random.choice(("@", "dup !b", "dup ! @b", "dup\n  !b"))
-        return self.random.choice(BODIES)
-
-    def word(self, name, *ends):
-        lines = [self.body(name) for _ in range(self.random.choice((1, 2, 3)))]
-        stop = ["0x150 a! !"] if self.random.random() < 0.06 else []
-        return [f": {name} {lines[0]}"] + [f"  {it}" for it in lines[1:] + stop] + [f"  {self.random.choice(ends)}"]
-
-    def text(self):
-        """A source, or now and then its image."""
-        source = self.source()
-        return source if self.random.random() < 0.9 else asm(source)[0]
-
-    def source(self):
-        lines = []
-        for node in self.random.choice(((0, 1), (0, 1, 2), (1, 19), (20, 21, 38))):
-            beside = [label for side, label in SIDE_NAMES.items() if neighbour(node, side) is not None]
-            lines += [f"node {name(node)}", f"/a {self.random.choice(beside)}", f"/b {self.random.choice(beside)}"]
-            lines += ["/p right"] if self.random.random() < 0.05 else []
-            lines += self.word("main", *["main ;"] * 7, f"{beside[0]} push ;") + self.word("one", ";")
-            lines += self.random.choice(([], ["org 0x80"], [": data 7 , -1 ,"])) + self.word("two", ";", "dup ;", "dup ;", "ex dup ;")
-        return "\n".join(lines) + "\n"
-
-    def move(self, thread, is_full, is_within):
-        """A move of a node; back, where no more events can be kept, and often out of a call where it is within some."""
-        if is_within and self.random.random() < 0.4:
-            return "stepOut", {"threadId": thread}
-        back = (("stepBack", "line"), ("stepBack", None), ("stepBack", "instruction"), ("reverseContinue", None))
-        forward = (("next", "line"), ("next", None), ("next", "instruction"), ("stepIn", "line"), ("stepIn", None), ("stepIn", "instruction"), ("stepOut", None), ("continue", None))
-        command, grain = self.random.choice(back if is_full else forward + back)
-        return command, {"threadId": thread} | ({"granularity": grain} if grain else {})
-
-    def look(self, thread):
-        node = node_of_thread(thread) or 0
-        draw = self.random.randrange
-        return self.random.choice((
-            ("threads", None),
-            ("stackTrace", {"threadId": thread, "startFrame": draw(3), "levels": draw(4)}),
-            ("scopes", {"frameId": 16 * node + draw(18)}),
-            ("variables", {"variablesReference": 1 + 8 * node + draw(8), "start": draw(70), "count": draw(6)}),
-            ("variables", {"variablesReference": 1 + 8 * node + draw(4)}),
-            ("disassemble", {"memoryReference": address_of(node, draw(8) + draw(2) * 0x80), "instructionOffset": draw(5) - 2, "instructionCount": draw(20)}),
-            ("exceptionInfo", {"threadId": thread}),
-            ("evaluate", {"expression": self.random.choice(("t", "[05]", "[43]", "[80]", "[C1]", "slot", "state", "who", "chip", "count", f"whence {name(node)} last", f"at {name(node)} 2", "zzz", "step 001", "back", "run 3", f"rewind {name(node)} 2")), "context": "repl", "frameId": 1 + 16 * node}),
-        ))
-
-
-def asked_of(number, path, can):
-    """The requests of a generated session with the messages of each, as this reading answers them; and how many lines were gone back over.
-    `can` says which requests may be asked."""
-    make, session, found = Generator(number), Session(), []
-
-    def ask(command, arguments=None):
-        if not can(command):
-            return [{}]
-        found.append(({"command": command} | ({"arguments": arguments} if arguments is not None else {}), messages_of(session, command, arguments)))
-        return session.out
-
-    draw = make.random
-    ask("initialize", {"adapterID": "ga144"})
-    ask("launch", {"program": path, "limit": draw.choice((20, 200, 400)), "order": draw.choice(("rounds", "greedy", "random")), "seed": draw.randrange(1 << 30)})
-    ask("setBreakpoints", {"source": {"path": path}, "breakpoints": [{"line": draw.randrange(1, 50)} for _ in range(draw.randrange(5))]})
-    for command, member, some in (("setFunctionBreakpoints", "name", ("one", "000 main", "001:two", "102 one", "foo")), ("setDataBreakpoints", "dataId", ("0x000005", "0x001043", "0x102000", "0x001080")),
-                                  ("setInstructionBreakpoints", "instructionReference", ("0x000002", "0x001001", "0x102081", "0x018000"))):
-        if draw.random() < 0.3:
-            ask(command, {"breakpoints": [{member: it} for it in draw.sample(some, 2)]})
-    ask("setExceptionBreakpoints", {"filters": draw.choice((["stop", "stuck"], ["stuck"], ["stop"], []))})
-    ask("configurationDone")
-    mirrored = 0
-    for _ in range(14):
-        nodes = session.shown.nodes()
-        thread = thread_of(draw.choice(nodes)) if nodes and draw.random() < 0.97 else 999
-        machine, node = session.machine, node_of_thread(thread)
-        ask(*make.move(thread, len(machine.events) == machine.limit, node is not None and len(machine.calls(node)) > 1))
-        ask("evaluate", {"expression": "dump", "context": "repl"})
-        ask("stackTrace", {"threadId": thread})
-        ask(*make.look(thread))
-        if draw.random() < 0.3 and thread != 999 and can("stepBack"):
-            mirrored += mirror(session, ask, node_of_thread(thread), draw.randrange(1, 8))
-    ask("evaluate", {"expression": "save", "context": "repl"})
-    return found, mirrored
-
-
-def mirror(session, ask, node, count):
-    """Some lines of a node forward, and back: what stands there has to be the same, as long as calls are left by `;` alone, and none that was
-    open. Says how many lines."""
-    machine, shown, stood = session.machine, session.shown, []
-    open_calls = machine.calls(node)
-    if machine.steps[node] and not shown.begins(node, machine.steps[node]):
-        return 0
-    for _ in range(count):
-        here = machine.steps[node], shown.frame(node, 0, machine.spot(node, machine.steps[node]))
-        if ask("next", {"threadId": thread_of(node)})[-1].get("body", {}).get("reason") != "step":
-            return 0
-        left = [it for it in range(here[0], machine.steps[node]) if machine.leaves_call(node, it + 1)]
-        if left or [it for it in open_calls if it not in machine.calls(node)]:
-            return 0
-        stood.append(here)
-    for here in reversed(stood):
-        ask("stepBack", {"threadId": thread_of(node)})
-        now = machine.steps[node], shown.frame(node, 0, machine.spot(node, machine.steps[node]))
-        demand(now == here, f"forward and back over lines: {here} and then {now}")
-    return len(stood)
-
-
-def messages_of(session, command, arguments):
-    """What this reading answers, as texts."""
-    return [text_of(it) for it in session.answer(command, arguments)]

@@ -11,6 +11,8 @@ from words import words_of
 
 MOST = 4000000
 SLICE = 4096
+# how many addresses a node has
+ADDRESSES = 4096
 ABLE = ("ConfigurationDoneRequest", "DataBreakpoints", "DisassembleRequest", "EvaluateForHovers", "ExceptionInfoRequest", "FunctionBreakpoints")
 ABLE += ("InstructionBreakpoints", "StepBack", "SteppingGranularity", "TerminateRequest")
 FULL = "full: as many events are kept as may be"
@@ -31,7 +33,7 @@ class Session:
     """What is answered to each request: messages without their numbers."""
 
     def __init__(self):
-        self.shown, self.is_over, self.out = None, False, []
+        self.shown, self.is_configured, self.is_over, self.out = None, False, False, []
 
     # ---- messages
 
@@ -117,6 +119,9 @@ class Session:
         self.turn = word % NODES
 
     def do_configurationDone(self):
+        if self.is_configured:
+            raise Refused("configurationDone: it is done")
+        self.is_configured = True
         self.respond()
         self.tell_threads()
         if self.stops_on_entry:
@@ -148,7 +153,7 @@ class Session:
         if self.arguments["source"].get("path") == self.shown.path:
             return self.set_points("lines", "no code stands on this line or behind it", self.on_line)
         elsewhere = {"message": "the program is another file", "verified": False}
-        return self.respond({"breakpoints": [elsewhere for _ in self.arguments["breakpoints"]]})
+        return self.respond({"breakpoints": [elsewhere for _ in self.arguments.get("breakpoints", [])]})
 
     def do_setFunctionBreakpoints(self):
         self.set_points("functions", "no node has this label", self.at_label)
@@ -162,7 +167,7 @@ class Session:
     def set_points(self, kind, why, place):
         """The breakpoints of a kind are those that are asked for, with a number each. `place` says where one stands, and what is told."""
         self.points, told = [it for it in self.points if it["set"] != kind], []
-        for asked in self.arguments["breakpoints"]:
+        for asked in self.arguments.get("breakpoints", []):
             self.ids += 1
             found, more = place(asked) or (None, {"message": why, "verified": False})
             told.append({"id": self.ids, "verified": True} | more)
@@ -194,7 +199,7 @@ class Session:
     def do_dataBreakpointInfo(self):
         at = divmod(self.arguments.get("variablesReference", 0) - 1, 8)
         cell = re.fullmatch(r"\[([0-9a-fA-F]{2})\]", self.arguments["name"])
-        if not cell or at[1] != SCOPES["RAM"] or not 0 <= at[0] < NODES:
+        if not cell or int(cell[1], 16) > 127 or at[1] != SCOPES["RAM"] or not 0 <= at[0] < NODES:
             return self.respond({"dataId": None, "description": "only cells of RAM are watched"})
         where = {"dataId": address_of(at[0], int(cell[1], 16)), "description": f"node {name(at[0])}, cell {cell[1].lower()}"}
         return self.respond(where | {"accessTypes": ["write"], "canPersist": True})
@@ -241,8 +246,8 @@ class Session:
         at = address_in(self.arguments["memoryReference"])
         if not at:
             raise Refused("disassemble: no such memory")
-        first = at[1] + self.arguments.get("instructionOffset", 0)
-        self.respond(self.shown.disassembled(at[0], first % 4096, self.arguments["instructionCount"]))
+        first = at[1] + self.arguments.get("offset", 0) + self.arguments.get("instructionOffset", 0)
+        self.respond(self.shown.disassembled(at[0], first % ADDRESSES, min(self.arguments["instructionCount"], ADDRESSES)))
 
     # ---- moves
 
