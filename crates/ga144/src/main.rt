@@ -1,12 +1,16 @@
 //! `ga144 debug`: a session with a GA144 over standard input and output. `ga144 explore`: one that runs up to a condition.
 //! `ga144 race`: workers that race for its nodes. `ga144 check`: every order of its nodes. `ga144 draw`: a session's picture.
+//! `ga144 dap`: a session of an editor.
 //! `ga144 asm`, `ga144 list`, `ga144 dis`: source made into an image, listed, and made of an image. Where a file is named, it is read
 //! before standard input.
 #![tactic(auto)]
 
+mod adapter;
+
 ghost use Rattle.std.specs.Prelude.{IfOk};
 ghost use Rattle.ga_console.specs.Settings.{AreInRange};
 
+use adapter::serve_editor;
 use ga_check::orders::Bounds;
 use ga_console::{LineFault, Settings, Status, arguments, race_report, session};
 use ga_explorer::{close, explore, is_cut_off};
@@ -63,6 +67,7 @@ fn main(rt: HostRuntime) -> ExitCode {
                 file,
             },
         ) => checked(&rt, most, session.unwrap_or(0), &file),
+        Ok(Settings::Dap) => serve_editor(&rt),
         Ok(Settings::Explore { limit, file }) => served(&rt, Work::Explore { limit }, &file),
         Ok(Settings::Assemble { file }) => served(&rt, Work::Assemble, &file),
         Ok(Settings::List { file }) => served(&rt, Work::List, &file),

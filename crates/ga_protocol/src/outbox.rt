@@ -57,6 +57,21 @@ impl Outbox {
         self.bytes.clear();
     }
 
+    /// The number of the last message; 0 before the first.
+    pub fn seq(&self) -> u64
+        ensures { result ≡ self.now.seq }
+    {
+        self.seq
+    }
+
+    /// Forgets what is to be written: the last message is again the one of this number.
+    pub fn take_back(&mut self, seq: u64)
+        ensures { self.new ≡ record { bytes = []; seq = seq } }
+    {
+        self.bytes.clear();
+        self.seq = seq;
+    }
+
     /// The number of the next message.
     fn next_seq(&self) -> u64
         ensures { result ≡ next_seq self.now.seq }

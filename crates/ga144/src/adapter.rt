@@ -1,0 +1,90 @@
+//! `ga144 dap`: a session of an editor over the standard streams.
+
+use ga_dap::{Arrivals, ProgramFiles, SessionEnd, SourceError, serve_client};
+use std::fs::File;
+use std::io;
+use std::io::{ErrorKind, Read};
+use std::process::ExitCode;
+
+/// The most bytes of a program: the bound of an input.
+const LONGEST_PROGRAM: u64 = 16_777_216;
+
+/// The files of the system.
+#[derive(Drop)]
+struct Files<'r> {
+    rt: &'r HostRuntime,
+}
+
+impl ProgramFiles for Files<'_> {
+    fn read(&mut self, path: &str, text: &mut Vec<u8>) -> Result<(), SourceError> {
+        match read_file(self.rt, path, text) {
+            Ok(()) => {}
+            Err(why) => return Err(cause_of(why.kind())),
+        }
+        if text.len() as u64 > LONGEST_PROGRAM {
+            return Err(SourceError::TooLong);
+        }
+        Ok(())
+    }
+}
+
+/// Adds the bytes of a file, as far as one more than the bound.
+fn read_file(rt: &HostRuntime, path: &str, text: &mut Vec<u8>) -> io::Result<()> {
+    File::open(rt, path)?
+        .take(LONGEST_PROGRAM + 1)
+        .read_to_end(text)?;
+    Ok(())
+}
+
+fn cause_of(kind: ErrorKind) -> SourceError {
+    match kind {
+        ErrorKind::OutOfMemory => SourceError::Memory,
+        ErrorKind::NotFound => SourceError::Missing,
+        ErrorKind::IsADirectory => SourceError::Folder,
+        _ => SourceError::Unreadable,
+    }
+}
+
+/// Standard input, asked whether a read would not wait.
+#[derive(Drop)]
+struct StandardInput;
+
+impl Arrivals for StandardInput {
+    fn have_come(&mut self) -> bool {
+        let mut asked = [libc::types::pollfd {
+            fd: libc::STDIN_FILENO,
+            events: libc::net::POLLIN,
+            revents: 0,
+        }];
+        libc::net::poll(&mut asked, 0) > 0
+    }
+}
+
+/// Serves an editor, and says how that ended.
+pub fn serve_editor(rt: &HostRuntime) -> ExitCode {
+    let mut sources = Files { rt };
+    let mut arrivals = StandardInput;
+    let mut reader = rt.stdin();
+    let mut writer = rt.stdout();
+    match serve_client(
+        rt.alloc(),
+        &mut sources,
+        &mut arrivals,
+        &mut reader,
+        &mut writer,
+    ) {
+        SessionEnd::Done => ExitCode::from(0),
+        SessionEnd::Memory => {
+            let _ = eprintln!(rt; "ga144: out of memory");
+            ExitCode::from(1)
+        }
+        SessionEnd::Broken(why) => {
+            let _ = eprintln!(rt; "ga144: {why}");
+            ExitCode::from(2)
+        }
+        SessionEnd::StreamFault => {
+            let _ = eprintln!(rt; "ga144: stream fault");
+            ExitCode::from(2)
+        }
+    }
+}

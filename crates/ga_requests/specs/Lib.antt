@@ -1,0 +1,8 @@
+pub mod Stopping
+pub mod Back
+pub mod Breakpoints
+pub mod Moving
+pub mod Configuring
+pub mod Slices
+pub mod Requests
+pub mod kept

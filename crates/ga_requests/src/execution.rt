@@ -1,0 +1,246 @@
+//! The run under way.
+
+ghost use Rattle.std.specs.Prelude.{◌≡◌};
+ghost use Rattle.ga_causal.specs.Dependence.{is_marked};
+ghost use Rattle.ga_requests.specs.Slices.{GoesOn, StepsOn, Advances, MakesSlice, IsFirstNewly, is_newly_by, hit_at, hit_of, end_of_move, node_told, stop_by, ended_stuck, goal_behind};
+
+use crate::configuration::Configuration;
+use ga_adapter::{Watched, has_thread};
+use ga_breakpoints::{Breakpoint, Halt, Stepping, Went, go_on, step_on};
+use ga_grid::NodeId;
+use ga_lab::{Lab, LabFault, Made};
+use ga_responses::Debuggee;
+use ga_search::{Schedule, find_stuck};
+
+/// How many events are made before the client is listened to again.
+pub const SLICE: u64 = 4096;
+
+/// What a run is for.
+#[derive(Clone, Copy, PartialEq, Eq, Debug)]
+pub enum Goal {
+    /// `continue`.
+    Continue,
+    /// `next`, `stepIn`, `stepOut`.
+    Step(Stepping),
+}
+
+/// How the order goes on, and the run that is under way.
+#[derive(Clone, Copy, PartialEq, Eq, Debug)]
+pub struct Execution {
+    /// How the order goes on.
+    pub schedule: Schedule,
+    /// What the run under way is for; none where the chip stands.
+    pub goal: Option<Goal>,
+    /// Whether the client ended the configuration.
+    pub is_configured: bool,
+    /// Whether the chip stands at load until the client goes on.
+    pub stops_on_entry: bool,
+}
+
+/// Why a run ended.
+#[derive(Clone, Copy, PartialEq, Eq, Debug)]
+pub enum StopReason {
+    /// The step of this node was made.
+    Step(NodeId),
+    /// A node came to the breakpoint of this number.
+    Breakpoint { node: NodeId, id: u64 },
+    /// A node wrote the watched cell of this number.
+    Write { node: NodeId, id: u64 },
+    /// The node stopped.
+    Stopped(NodeId),
+    /// The node can never go on.
+    Stuck(NodeId),
+    /// No node has an event.
+    Quiet,
+    /// The lab refused the next event.
+    Refused(LabFault),
+}
+
+/// The node of what was made, of a pass its reader.
+fn node_of(made: Made) -> NodeId
+    ensures { result ≡ node_told made }
+{
+    match made {
+        Made::Own { node, .. } => node,
+        Made::Pass { reader, .. } => reader,
+    }
+}
+
+/// Why a run stops at a breakpoint of this number.
+fn hit_of(point: Option<Breakpoint>, id: u64, made: Made) -> StopReason
+    ensures { result ≡ hit_of point id made }
+{
+    match point {
+        None => StopReason::Breakpoint {
+            node: node_of(made),
+            id,
+        },
+        Some(point) => match point.watched {
+            Watched::Comes(_) => StopReason::Breakpoint {
+                node: point.node,
+                id,
+            },
+            Watched::Writes(_) => StopReason::Write {
+                node: point.node,
+                id,
+            },
+        },
+    }
+}
+
+/// Why a run stops at the breakpoint at a place.
+fn hit_at(settings: &Configuration, made: Made, place: usize) -> StopReason
+    ensures { result ≡ hit_at settings.now made place }
+{
+    let points = &settings.points;
+    hit_of(points.point_at(place), points.id_at(place), made)
+}
+
+/// Whether a node that has something to show, and isn't stopped, can never go on and could before.
+fn is_newly(program: &Debuggee, before: bool, now: bool, node: NodeId) -> bool
+    ensures { result ≡ is_newly_by before now program.now node.number }
+{
+    let lab = &program.lab;
+    now && !before && has_thread(lab, program.nodes.as_slice(), node) && lab.node(node).stop() == 0
+}
+
+/// The first such node.
+fn newly_stuck(program: &Debuggee, before: &[bool; 144], now: &[bool; 144]) -> Option<NodeId>
+    ensures { IsFirstNewly (is_marked before.now) (is_marked now.now) program.now result }
+{
+    'nodes: for number in 0..144u8 {
+        let node = NodeId::new(number);
+        let place = number as usize;
+        if is_newly(program, before[place], now[place], node) {
+            return Some(node);
+        }
+    }
+    None
+}
+
+/// Makes a slice of the events of `continue`.
+fn go_on_slice(program: &mut Debuggee, settings: &Configuration, execution: &mut Execution) -> Went
+    ensures { GoesOn program.old settings.now execution.old program.new execution.new result }
+{
+    let went = go_on(
+        &mut program.lab,
+        execution.schedule,
+        settings.halts(),
+        SLICE,
+    );
+    execution.schedule = went.schedule;
+    went
+}
+
+/// Makes a slice of the events of a step of one node.
+fn step_slice(
+    program: &mut Debuggee,
+    settings: &Configuration,
+    execution: &mut Execution,
+    stepping: Stepping,
+) -> Went
+    ensures { StepsOn stepping program.old settings.now execution.old program.new execution.new result }
+{
+    let mut stepping = stepping;
+    let notes = match &program.source {
+        Some(notes) => notes,
+        None => &program.unsaid,
+    };
+    let went = step_on(
+        &mut program.lab,
+        execution.schedule,
+        &mut stepping,
+        notes,
+        settings.halts(),
+        SLICE,
+    );
+    execution.schedule = went.schedule;
+    execution.goal = Some(Goal::Step(stepping));
+    went
+}
+
+/// Makes a slice of the events of a run.
+fn advance(
+    program: &mut Debuggee,
+    settings: &Configuration,
+    execution: &mut Execution,
+    goal: Goal,
+) -> Went
+    ensures { Advances goal program.old settings.now execution.old program.new execution.new result }
+{
+    match goal {
+        Goal::Continue => go_on_slice(program, settings, execution),
+        Goal::Step(stepping) => step_slice(program, settings, execution, stepping),
+    }
+}
+
+fn end_of_move(goal: Goal, made: Made) -> StopReason
+    ensures { result ≡ end_of_move goal made }
+{
+    match goal {
+        Goal::Step(stepping) => StopReason::Step(stepping.node),
+        Goal::Continue => StopReason::Step(node_of(made)),
+    }
+}
+
+/// Where a node came to be stuck, and where that ends a run; else another reason.
+fn ended_stuck(asked: bool, stuck: Option<NodeId>, other: Option<StopReason>) -> Option<StopReason>
+    ensures { result ≡ ended_stuck asked stuck other }
+{
+    if !asked {
+        return other;
+    }
+    match stuck {
+        Some(node) => Some(StopReason::Stuck(node)),
+        None => other,
+    }
+}
+
+/// Why a run ended behind a slice that went so; none where it goes on.
+fn stop_by(
+    settings: &Configuration,
+    goal: Goal,
+    stuck: Option<NodeId>,
+    halt: Halt,
+) -> Option<StopReason>
+    ensures { result ≡ stop_by settings.now goal stuck halt }
+{
+    match halt {
+        Halt::Hit { made, which } => Some(hit_at(settings, made, which)),
+        Halt::Stopped(made) => Some(StopReason::Stopped(node_of(made))),
+        Halt::Moved(made) => Some(end_of_move(goal, made)),
+        Halt::Refused(why) => Some(StopReason::Refused(why)),
+        Halt::Cut => ended_stuck(settings.stuck, stuck, None),
+        Halt::Quiet => ended_stuck(settings.stuck, stuck, Some(StopReason::Quiet)),
+    }
+}
+
+/// Makes a slice of the events of the run under way, and says why it ended, where it did.
+pub fn make_slice(
+    program: &mut Debuggee,
+    settings: &Configuration,
+    execution: &mut Execution,
+) -> Option<StopReason>
+    ensures { MakesSlice program.old settings.now execution.old program.new execution.new result }
+{
+    let Some(goal) = execution.goal else {
+        return None;
+    };
+    let before = find_stuck(program.lab.chip());
+    let went = advance(program, settings, execution, goal);
+    let now = find_stuck(program.lab.chip());
+    let stuck = newly_stuck(program, &before, &now);
+    let stop = stop_by(settings, goal, stuck, went.halt);
+    end_for(execution, stop);
+    stop
+}
+
+/// Ends a run, where there is a reason to.
+fn end_for(execution: &mut Execution, stop: Option<StopReason>)
+    ensures { execution.new ≡ goal_behind execution.old stop }
+{
+    match stop {
+        Some(_) => execution.goal = None,
+        None => {}
+    }
+}

@@ -1,0 +1,110 @@
+//! What a client is told where a run ended.
+
+ghost use Rattle.std.specs.Prelude.{◌≡◌, ◌++◌, Some, codes, string_bytes, IfOk, OnOk, OnErr};
+ghost use Rattle.serde_json.specs.View.{view};
+ghost use Rattle.ga_text.specs.Lines.{Text};
+ghost use Rattle.ga_protocol.specs.Messages.{member_text};
+ghost use Rattle.ga_responses.specs.Sending.{Sends, Message};
+ghost use Rattle.ga_requests.specs.Stopping.{fault_words, fault_message, stop_message, TellsStop};
+
+use crate::execution::StopReason;
+use ga_adapter::exception_info;
+use ga_grid::NodeId;
+use ga_lab::LabFault;
+use ga_protocol::{Outbox, text_at};
+use ga_responses::{Debuggee, first_shown, tell_hit, tell_stopped};
+use serde_json::Value;
+use std::alloc::{AllocError, Global};
+
+fn words_of(why: LabFault) -> &'static str
+    ensures { result.now ≡ fault_words why }
+{
+    match why {
+        LabFault::Full => "full: as many events are kept as may be",
+        LabFault::Memory => "memory was refused to the next event",
+        LabFault::Spent => "spent: as many events were made as can be counted",
+        LabFault::Waiting => "the node waits",
+        LabFault::Stopped => "the node is stopped",
+        LabFault::Empty => "nothing is kept",
+        LabFault::NoStep => "there is no such step",
+    }
+}
+
+/// What `exceptionInfo` describes, with a text behind it.
+fn text_behind(alloc: Global, info: &Value, behind: &str) -> Result<String, AllocError>
+    ensures { IfOk result (λ text. (does : Text) → member_text (codes "description") (view info.now) ≡ Some does → string_bytes text ≡ does ++ behind.now) }
+{
+    let mut text = String::new(alloc);
+    if let Some(does) = text_at(info, "description") {
+        text.push_str(does)?;
+    }
+    text.push_str(behind)?;
+    Ok(text)
+}
+
+/// A node that can't go on, and why.
+fn tell_fault(
+    alloc: Global,
+    program: &Debuggee,
+    node: NodeId,
+    behind: &str,
+    out: &mut Outbox,
+) -> Result<(), AllocError>
+    ensures sent { OnOk result (Sends out.old (fault_message program.now node.number behind.now) out.new) }
+    ensures err { OnErr result (out.new ≡ out.old) }
+{
+    let info = exception_info(alloc, &program.lab, false, node)?;
+    let text = text_behind(alloc, &info, behind)?;
+    tell_stopped(alloc, "exception", text.as_str(), node, out)
+}
+
+/// `stopped` where a run ended so.
+pub fn tell_stop(
+    alloc: Global,
+    program: &Debuggee,
+    stop: StopReason,
+    out: &mut Outbox,
+) -> Result<(), AllocError>
+    ensures sent { OnOk result ((message : Message) × TellsStop program.now stop message × Sends out.old message out.new) }
+    ensures err { OnErr result (out.new ≡ out.old) }
+{
+    let first = first_shown(&program.lab, program.nodes.as_slice());
+    tell_stop_at(alloc, program, stop, first, out)
+}
+
+/// The same, where this is the first node that has something to show.
+fn tell_stop_at(
+    alloc: Global,
+    program: &Debuggee,
+    stop: StopReason,
+    first: NodeId,
+    out: &mut Outbox,
+) -> Result<(), AllocError>
+    ensures sent { OnOk result (Sends out.old (stop_message program.now first.number stop) out.new) }
+    ensures err { OnErr result (out.new ≡ out.old) }
+{
+    match stop {
+        StopReason::Step(node) => tell_stopped(alloc, "step", "step", node, out),
+        StopReason::Breakpoint { node, id } => {
+            tell_hit(alloc, "breakpoint", "breakpoint", node, id, out)
+        }
+        StopReason::Write { node, id } => tell_hit(
+            alloc,
+            "data breakpoint",
+            "a watched cell was written",
+            node,
+            id,
+            out,
+        ),
+        StopReason::Stopped(node) => tell_fault(alloc, program, node, "", out),
+        StopReason::Stuck(node) => tell_fault(alloc, program, node, ", and can never go on", out),
+        StopReason::Quiet => tell_stopped(
+            alloc,
+            "pause",
+            "quiet: no node has an event",
+            first,
+            out,
+        ),
+        StopReason::Refused(why) => tell_stopped(alloc, "pause", words_of(why), first, out),
+    }
+}

@@ -1,0 +1,5 @@
+pub mod Names
+pub mod Listed
+pub mod Asking
+pub mod Sent
+pub mod Marked

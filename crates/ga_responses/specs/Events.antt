@@ -1,0 +1,54 @@
+-- The bodies of events (Debug Adapter Protocol, "OutputEvent", "ThreadEvent", "StoppedEvent").
+use Rattle.std.specs.Prelude.{◌≡◌, ◌<◌, ◌⊎◌, ◌++◌, ℕ, zero, suc, Bool, true, false, List, [], ◌∷◌, codes}
+use Rattle.serde_json.specs.Data.{Data, string, boolean, object, array, no_members, member, item, no_items}
+use Rattle.ga_text.specs.Lines.{Text}
+use Rattle.ga_adapter.specs.Json.{whole_number}
+use Rattle.ga_grid.specs.declared.node_id.NodeId.{NodeId}
+use Rattle.ga_lab.specs.Machine.{State}
+use Rattle.ga_adapter.specs.Numbers.{thread_of}
+use Rattle.ga_adapter.specs.Threads.{has_thread}
+use Rattle.ga_responses.specs.Sending.{Message, event_told}
+
+unfoldable pub output_body : Text → Text → Data
+output_body category text = object (member (codes "category") (string category) (member (codes "output") (string text) no_members))
+
+-- a node has something to show, or has no longer
+abbrev pub thread_reason : Bool → Text
+thread_reason true = codes "started"
+thread_reason false = codes "exited"
+
+unfoldable pub thread_body : Text → ℕ → Data
+thread_body reason n = object (member (codes "reason") (string reason) (member (codes "threadId") (whole_number (thread_of n)) no_members))
+
+abbrev pub thread_message : Bool → ℕ → Message
+thread_message started n = event_told (codes "thread") (thread_body (thread_reason started) n)
+
+-- of a node that had something to show before or not, and has now or not
+abbrev pub changed_messages : Bool → Bool → ℕ → List Message
+changed_messages false false n = []
+changed_messages false true n = thread_message true n ∷ []
+changed_messages true false n = thread_message false n ∷ []
+changed_messages true true n = []
+
+-- of the first nodes
+unfoldable pub changed_below : (ℕ → Bool) → (ℕ → Bool) → ℕ → List Message
+changed_below before now zero = []
+changed_below before now (suc n) = changed_below before now n ++ changed_messages (before n) (now n) n
+
+-- the first node that has something to show; 000 where none has
+abbrev pub IsFirstShown : State → List NodeId → ℕ → Type 0
+IsFirstShown s programs n =
+    ((has_thread s programs n ≡ true) × ((k : ℕ) → k < n → has_thread s programs k ≡ false)) ⊎ ((n ≡ 0) × ((k : ℕ) → k < 144 → has_thread s programs k ≡ false))
+
+-- the chip stands: all nodes do
+unfoldable pub stopped_body : Text → Text → ℕ → Data
+stopped_body reason description n =
+    object (member (codes "allThreadsStopped") (boolean true) (member (codes "description") (string description) (member (codes "reason") (string reason)
+    (member (codes "text") (string description) (member (codes "threadId") (whole_number (thread_of n)) no_members)))))
+
+-- the same at a breakpoint
+unfoldable pub hit_body : Text → Text → ℕ → ℕ → Data
+hit_body reason description n id =
+    object (member (codes "allThreadsStopped") (boolean true) (member (codes "description") (string description)
+    (member (codes "hitBreakpointIds") (array (item (whole_number id) no_items)) (member (codes "reason") (string reason)
+    (member (codes "text") (string description) (member (codes "threadId") (whole_number (thread_of n)) no_members))))))

@@ -1,0 +1,9 @@
+pub mod Sending
+pub mod Arguments
+pub mod Commands
+pub mod Programs
+pub mod Launching
+pub mod Events
+pub mod Capabilities
+pub mod Readings
+pub mod kept

@@ -1,0 +1,65 @@
+-- The requests that read (Debug Adapter Protocol, "ThreadsRequest", "StackTraceRequest", "ScopesRequest", "VariablesRequest", "ExceptionInfoRequest"):
+-- what each is answered. The machine stays.
+use Rattle.std.specs.Prelude.{◌≡◌, ℕ, Bool, List, codes, Option, Some, None}
+use Rattle.serde_json.specs.View.{view}
+use Rattle.ga_search.specs.Freed.{IsSubset}
+use Rattle.ga_node.specs.Record.{NodeRecord}
+use Rattle.ga_grid.specs.declared.node_id.NodeId.{NodeId}
+use Rattle.ga_lab.specs.Machine.{chip_of}
+use Rattle.ga_search.specs.Stuck.{AreStuck}
+use Rattle.ga_adapter.specs.declared.frames.SourceFile.{SourceFile}
+use Rattle.ga_adapter.specs.declared.scope.Scope.{Scope}
+use Rattle.ga_adapter.specs.Threads.{threads_in}
+use Rattle.ga_adapter.specs.Frames.{stack_trace}
+use Rattle.ga_adapter.specs.Variables.{scopes_of, variables_in}
+use Rattle.ga_adapter.specs.Exceptions.{exception_of}
+use Rattle.ga_protocol.specs.declared.request.ClientRequest.{ClientRequest}
+use Rattle.ga_responses.specs.declared.debuggee.Debuggee.{Debuggee}
+use Rattle.ga_responses.specs.Arguments.{AsksOfThread, AsksOfFrame, AsksForVariables, number_given_or}
+use Rattle.ga_responses.specs.Programs.{program_notes, IsFileOf}
+use Rattle.ga_responses.specs.Sending.{Message, answered, refused_response}
+
+-- whether a node can never go on: it is in the greatest set of such nodes
+abbrev pub TellsStuck : List NodeRecord → ℕ → Bool → Type 0
+TellsStuck chip n stuck = (marks : ℕ → Bool) × AreStuck chip marks × ((others : ℕ → Bool) → AreStuck chip others → IsSubset others marks) × (stuck ≡ marks n)
+
+-- `threads`
+abbrev pub AnswersThreads : Debuggee → ClientRequest → Message → Type 0
+AnswersThreads p request message = message ≡ answered request (threads_in p.lab p.nodes.items)
+
+-- `stackTrace`
+abbrev pub TellsStack : Debuggee → ClientRequest → Option NodeId → Message → Type 0
+TellsStack p request None message = message ≡ refused_response request (codes "stackTrace: no such thread")
+TellsStack p request (Some node) message = (file : SourceFile) × IsFileOf p file × (message ≡ answered request (stack_trace file (program_notes p) p.lab node
+    (number_given_or (codes "startFrame") 0 (view request.arguments)) (number_given_or (codes "levels") 0 (view request.arguments))))
+
+abbrev pub AnswersStack : Debuggee → ClientRequest → Message → Type 0
+AnswersStack p request message = (asked : Option NodeId) × AsksOfThread (view request.arguments) asked × TellsStack p request asked message
+
+-- `scopes`
+abbrev pub TellsScopes : ClientRequest → Option NodeId → Message → Type 0
+TellsScopes request None message = message ≡ refused_response request (codes "scopes: no such frame")
+TellsScopes request (Some node) message = message ≡ answered request (scopes_of node.number)
+
+abbrev pub AnswersScopes : ClientRequest → Message → Type 0
+AnswersScopes request message = (asked : Option NodeId) × AsksOfFrame (view request.arguments) asked × TellsScopes request asked message
+
+-- `variables`
+abbrev pub TellsVariables : Debuggee → ClientRequest → NodeId × Scope → Message → Type 0
+TellsVariables p request at message = (stuck : Bool) × TellsStuck (chip_of p.lab) at.0.number stuck × (message ≡ answered request (variables_in p.lab stuck at.0.number at.1
+    (number_given_or (codes "start") 0 (view request.arguments)) (number_given_or (codes "count") 0 (view request.arguments))))
+
+abbrev pub TellsVariablesOf : Debuggee → ClientRequest → Option (NodeId × Scope) → Message → Type 0
+TellsVariablesOf p request None message = message ≡ refused_response request (codes "variables: no such reference")
+TellsVariablesOf p request (Some at) message = TellsVariables p request at message
+
+abbrev pub AnswersVariables : Debuggee → ClientRequest → Message → Type 0
+AnswersVariables p request message = (asked : Option (NodeId × Scope)) × AsksForVariables (view request.arguments) asked × TellsVariablesOf p request asked message
+
+-- `exceptionInfo`
+abbrev pub TellsException : Debuggee → ClientRequest → Option NodeId → Message → Type 0
+TellsException p request None message = message ≡ refused_response request (codes "exceptionInfo: no such thread")
+TellsException p request (Some node) message = (stuck : Bool) × TellsStuck (chip_of p.lab) node.number stuck × (message ≡ answered request (exception_of p.lab stuck node.number))
+
+abbrev pub AnswersException : Debuggee → ClientRequest → Message → Type 0
+AnswersException p request message = (asked : Option NodeId) × AsksOfThread (view request.arguments) asked × TellsException p request asked message

@@ -1,0 +1,52 @@
+//! A program that was launched.
+
+ghost use Rattle.std.specs.Prelude.{◌≡◌, string_bytes};
+ghost use Rattle.ga_responses.specs.Programs.{program_notes};
+
+use ga_adapter::SourceFile;
+use ga_grid::NodeId;
+use ga_lab::Lab;
+use ga_notes::Notes;
+
+/// A program that was launched: its chip with the events that are kept, and what its source says.
+#[derive(Drop)]
+pub struct Debuggee {
+    /// The machine.
+    pub lab: Lab,
+    /// What the source says of the cells; nothing of an image.
+    pub source: Option<Notes>,
+    /// What is said where there is no source.
+    pub unsaid: Notes,
+    /// The nodes that have a program in the source.
+    pub nodes: Vec<NodeId>,
+    /// The path of the file.
+    pub path: String,
+    /// What stands behind its last slash.
+    pub name: String,
+}
+
+impl Debuggee {
+    ghost use Rattle.std.specs.Prelude.{◌≡◌, string_bytes};
+    ghost use Rattle.ga_responses.specs.Programs.{program_notes};
+
+    /// What the source says of the cells.
+    pub fn notes(&self) -> &Notes
+        ensures { result.now ≡ program_notes self.now }
+    {
+        match &self.source {
+            Some(notes) => notes,
+            None => &self.unsaid,
+        }
+    }
+
+    /// The file of the source.
+    pub fn file(&self) -> SourceFile<'_>
+        ensures name { result.name.now ≡ string_bytes self.now.name }
+        ensures path { result.path.now ≡ string_bytes self.now.path }
+    {
+        SourceFile {
+            name: self.name.as_str(),
+            path: self.path.as_str(),
+        }
+    }
+}

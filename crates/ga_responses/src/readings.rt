@@ -1,0 +1,122 @@
+//! The requests that read.
+
+ghost use Rattle.std.specs.Prelude.{◌≡◌, OnOk, OnErr};
+ghost use Rattle.serde_json.specs.View.{view};
+ghost use Rattle.ga_responses.specs.Sending.{Sends, Message};
+ghost use Rattle.ga_responses.specs.Readings.{TellsVariables, AnswersThreads, AnswersStack, AnswersScopes, AnswersVariables, AnswersException};
+
+use crate::arguments::{framed_node_asked, node_asked, number_given_or, scope_asked};
+use crate::debuggee::Debuggee;
+use crate::stuck::is_stuck;
+use ga_adapter::{Scope, exception_info, scopes, stack_trace, threads, variables};
+use ga_grid::NodeId;
+use ga_protocol::{ClientRequest, Outbox};
+use std::alloc::{AllocError, Global};
+
+/// `threads`.
+pub fn tell_threads(
+    alloc: Global,
+    program: &Debuggee,
+    request: &ClientRequest,
+    out: &mut Outbox,
+) -> Result<(), AllocError>
+    ensures sent { OnOk result ((message : Message) × AnswersThreads program.now request.now message × Sends out.old message out.new) }
+    ensures err { OnErr result (out.new ≡ out.old) }
+{
+    let body = threads(alloc, &program.lab, program.nodes.as_slice())?;
+    out.respond(request, body)
+}
+
+/// `stackTrace`.
+pub fn tell_stack(
+    alloc: Global,
+    program: &Debuggee,
+    request: &ClientRequest,
+    out: &mut Outbox,
+) -> Result<(), AllocError>
+    ensures sent { OnOk result ((message : Message) × AnswersStack program.now request.now message × Sends out.old message out.new) }
+    ensures err { OnErr result (out.new ≡ out.old) }
+{
+    match node_asked(&request.arguments) {
+        None => out.refuse(request, "stackTrace: no such thread"),
+        Some(node) => {
+            let start = number_given_or(&request.arguments, "startFrame", 0);
+            let count = number_given_or(&request.arguments, "levels", 0);
+            let (lab, notes) = (&program.lab, program.notes());
+            let body = stack_trace(alloc, program.file(), lab, notes, node, start, count)?;
+            out.respond(request, body)
+        }
+    }
+}
+
+/// `scopes`.
+pub fn tell_scopes(
+    alloc: Global,
+    request: &ClientRequest,
+    out: &mut Outbox,
+) -> Result<(), AllocError>
+    ensures sent { OnOk result ((message : Message) × AnswersScopes request.now message × Sends out.old message out.new) }
+    ensures err { OnErr result (out.new ≡ out.old) }
+{
+    match framed_node_asked(&request.arguments) {
+        None => out.refuse(request, "scopes: no such frame"),
+        Some(node) => {
+            let body = scopes(alloc, node)?;
+            out.respond(request, body)
+        }
+    }
+}
+
+/// `variables`.
+pub fn tell_variables(
+    alloc: Global,
+    program: &Debuggee,
+    request: &ClientRequest,
+    out: &mut Outbox,
+) -> Result<(), AllocError>
+    ensures sent { OnOk result ((message : Message) × AnswersVariables program.now request.now message × Sends out.old message out.new) }
+    ensures err { OnErr result (out.new ≡ out.old) }
+{
+    match scope_asked(&request.arguments) {
+        None => out.refuse(request, "variables: no such reference"),
+        Some(at) => tell_variables_at(alloc, program, request, at, out),
+    }
+}
+
+/// The variables of a scope.
+fn tell_variables_at(
+    alloc: Global,
+    program: &Debuggee,
+    request: &ClientRequest,
+    at: (NodeId, Scope),
+    out: &mut Outbox,
+) -> Result<(), AllocError>
+    ensures sent { OnOk result ((message : Message) × TellsVariables program.now request.now at message × Sends out.old message out.new) }
+    ensures err { OnErr result (out.new ≡ out.old) }
+{
+    let start = number_given_or(&request.arguments, "start", 0);
+    let count = number_given_or(&request.arguments, "count", 0);
+    let stuck = is_stuck(program.lab.chip(), at.0);
+    let body = variables(alloc, &program.lab, stuck, at, start, count)?;
+    out.respond(request, body)
+}
+
+/// `exceptionInfo`.
+pub fn tell_exception(
+    alloc: Global,
+    program: &Debuggee,
+    request: &ClientRequest,
+    out: &mut Outbox,
+) -> Result<(), AllocError>
+    ensures sent { OnOk result ((message : Message) × AnswersException program.now request.now message × Sends out.old message out.new) }
+    ensures err { OnErr result (out.new ≡ out.old) }
+{
+    match node_asked(&request.arguments) {
+        None => out.refuse(request, "exceptionInfo: no such thread"),
+        Some(node) => {
+            let stuck = is_stuck(program.lab.chip(), node);
+            let body = exception_info(alloc, &program.lab, stuck, node)?;
+            out.respond(request, body)
+        }
+    }
+}
