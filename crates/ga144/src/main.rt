@@ -61,6 +61,7 @@ fn main(rt: HostRuntime) -> ExitCode {
                 most,
                 session,
                 file,
+                ..
             },
         ) => checked(&rt, most, session.unwrap_or(0), &file),
         Ok(Settings::Explore { limit, file }) => served(&rt, Work::Explore { limit }, &file),
