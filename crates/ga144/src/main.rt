@@ -65,6 +65,7 @@ fn main(rt: HostRuntime) -> ExitCode {
                 most,
                 session,
                 file,
+                ..
             },
         ) => checked(&rt, most, session.unwrap_or(0), &file),
         Ok(Settings::Dap) => serve_editor(&rt),

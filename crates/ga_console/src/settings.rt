@@ -84,6 +84,7 @@ where they differ by swaps of steps that are free of one another.
 Tells how many orders there are and, of each kind of end, how many end so, which nodes stop or wait for words, and which order is the first.
 `at least N orders`: there may be others, as a run was cut by a bound or where a node would look at its neighbours.
 With --session K it writes instead the lines `step NNN` that lead to the end of the Kth order.
+The answer is the same for every number of workers.
 
 Exit status: 0 all end on one chip where none stops, or a session is told, 1 image or source refused, 2 a stream failed,
 3 command line refused, 5 they end on several chips or a node stops, 6 there may be other orders.";
@@ -152,11 +153,13 @@ pub enum Settings {
         calls: u32,
         limit: u32,
     },
-    /// Run every order of a program's nodes, in at most `most` runs, 1 to 4294967295, and tell how they end; or tell the session of
-    /// one of them, whose number counts from 1.
+    /// Run every order of a program's nodes, in at most `most` runs, 1 to 4294967295, with 1 to 16 workers, and tell how they end; or
+    /// tell the session of one of them, whose number counts from 1. With `progress` it is told as it goes on.
     Check {
         most: u32,
         session: Option<u32>,
+        workers: u32,
+        progress: bool,
         file: Option<String>,
     },
     /// Serve an editor, by the Debug Adapter Protocol.
@@ -301,6 +304,18 @@ fn check_line<'a>(alloc: Global) -> Result<Command<'a>, AllocError> {
             u32::MAX,
         )
         .value_name("K"))?
+        .arg(number_option(
+            alloc,
+            "workers",
+            "How many workers share the runs, 1 to 16 [default: 1]",
+            MOST_WORKERS,
+        )
+        .value_name("W"))?
+        .arg(flag(
+            alloc,
+            "progress",
+            "Tell on standard error, each second, how many runs were made",
+        ))?
         .arg(file_argument(alloc, "An image or source"))
 }
 
@@ -476,6 +491,8 @@ fn checked(alloc: Global, check: &ArgMatches<'_>) -> Result<Settings, LineFault>
     Ok(Settings::Check {
         most,
         session: order(check.get_str("session"))?,
+        workers: workers(check.get_str("workers"))?,
+        progress: check.get_flag("progress"),
         file: file(alloc, check)?,
     })
 }
@@ -487,6 +504,16 @@ fn order(text: Option<&str>) -> Result<Option<u32>, LineFault>
     match text {
         None => Ok(None),
         given => Ok(Some(number(given, u32::MAX)?)),
+    }
+}
+
+/// How many workers there are, or one where no number is given.
+fn workers(text: Option<&str>) -> Result<u32, LineFault>
+    ensures in_range { IfOk result (λ n. Within 1 16 n) }
+{
+    match text {
+        None => Ok(1),
+        given => number(given, MOST_WORKERS),
     }
 }
 
