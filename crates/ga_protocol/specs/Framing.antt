@@ -8,7 +8,7 @@ use Rattle.ga_protocol.specs.declared.framing.Front.TheVariants.{Message, Part, 
 
 -- the most bytes of a content part
 abbrev pub content_limit : ℕ
-content_limit = 1048576
+content_limit = 131072
 
 -- the most digits that its length is written with
 abbrev pub digit_limit : ℕ

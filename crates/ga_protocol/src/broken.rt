@@ -11,8 +11,8 @@ pub enum Broken {
     /// No digit stands behind the field's name.
     #[error("`Content-Length` is no number")]
     NoDigit,
-    /// The content would have more than 1048576 bytes.
-    #[error("`Content-Length` is more than 1048576")]
+    /// The content would have more than 131072 bytes.
+    #[error("`Content-Length` is more than 131072")]
     TooLong,
     /// The length has more than seven digits.
     #[error("`Content-Length` has more than seven digits")]

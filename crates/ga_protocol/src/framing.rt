@@ -7,8 +7,8 @@ ghost use Rattle.ga_protocol.specs.Framing.{OneBeginsOther, IsDigit, Finds, Read
 use crate::broken::Broken;
 use std::alloc::{AllocError, Global};
 
-/// The most bytes of a content part, 1 MiB.
-pub const CONTENT_LIMIT: usize = 1_048_576;
+/// The most bytes of a content part, 128 KiB. Its values take up to 130 times as much memory as its text.
+pub const CONTENT_LIMIT: usize = 131_072;
 
 /// The field's name, and what stands between it and its value.
 const FIELD: &[u8; 16] = b"Content-Length: ";

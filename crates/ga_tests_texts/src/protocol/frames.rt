@@ -22,8 +22,8 @@ const FRONTS: &[(&[u8], Front)] = &[
         b"Content-Length: 0000002\r\n\r\n{}",
         Front::Message { start: 27, end: 29 },
     ),
-    (b"Content-Length: 1048576\r\n\r\n{}", Front::Part),
-    (b"Content-Length: 1048577", Front::Wrong(Broken::TooLong)),
+    (b"Content-Length: 131072\r\n\r\n{}", Front::Part),
+    (b"Content-Length: 131073", Front::Wrong(Broken::TooLong)),
     (b"Content-Length: 9999999999", Front::Wrong(Broken::TooLong)),
     (
         b"Content-Length: 00000002\r\n\r\n{}",
@@ -93,8 +93,8 @@ fn the_bound_is_within(rt: HostRuntime) -> Result<(), Fail> {
         &rt,
         &front_of(&text),
         &Front::Message {
-            start: 27,
-            end: 27 + 1_048_576,
+            start: 26,
+            end: 26 + 131_072,
         },
     );
     content.push(b' ')?;
@@ -113,7 +113,7 @@ fn causes_are_said(rt: HostRuntime) -> Result<(), Fail> {
             "the header does not begin with `Content-Length: `",
         ),
         (Broken::NoDigit, "`Content-Length` is no number"),
-        (Broken::TooLong, "`Content-Length` is more than 1048576"),
+        (Broken::TooLong, "`Content-Length` is more than 131072"),
         (
             Broken::ManyDigits,
             "`Content-Length` has more than seven digits",

@@ -14,7 +14,7 @@ returns-then-digits-gt-DIGIT_LIMIT c =
     let r = c.value_behind.ensures.reads in
     let most = c.value_behind.ensures.most in
     is_many c.args.bytes.now c.value_behind.result.0.now c.value_behind.result.1.now r.0 r.1 (omega arith)
-    (subst (λ z. z ≤ 1048576) c.in-Some.ensures.value c.in-Some.ensures.within)
+    (subst (λ z. z ≤ 131072) c.in-Some.ensures.value c.in-Some.ensures.within)
 
 pub returns-then-is_empty : goal.returns-then-is_empty
 returns-then-is_empty c =
