@@ -136,7 +136,8 @@ def asked_of(number, path, can):
     ask("launch", {"program": path, "limit": limit, "order": order, "seed": seed} | stands)
     if not is_free:
         ask_for_breakpoints(path, ask, draw)
-    ask("setExceptionBreakpoints", {"filters": [] if is_free else draw.choice((["stop", "stuck"], ["stuck"], ["stop"], []))})
+    if is_free or draw.random() < 0.8:
+        ask("setExceptionBreakpoints", {"filters": [] if is_free else draw.choice((["stop", "stuck"], ["stuck"], ["stop"], []))})
     ask("configurationDone")
     for _ in range(6 if is_free else 14):
         nodes = session.shown.nodes()

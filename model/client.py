@@ -179,14 +179,18 @@ class Client:
         self.server.stdin.write(data)
         self.server.stdin.flush()
 
-    def send(self, command, arguments=None):
-        """Sends a request, and says its number."""
+    def frame(self, command, arguments=None):
+        """A request with the next number."""
         self.sent += 1
         request = {"command": command, "seq": self.sent, "type": "request"}
         if arguments is not None:
             request["arguments"] = arguments
         self.schema.message(request)
-        data = framed(text_of(request))
+        return framed(text_of(request))
+
+    def send(self, command, arguments=None):
+        """Sends a request, and says its number."""
+        data = self.frame(command, arguments)
         # (in two parts, cut elsewhere each time)
         cut = 37 * self.sent % len(data)
         self.raw(data[:cut])
