@@ -210,4 +210,5 @@ class Growths:
             (0, b""): came in can_be or changed is not None and came[:changed] == self.whole[:changed],
             (1, b"ga144: out of memory\n"): any(it[: len(came)] == came for it in can_be),
         }.get((status, said), status == 3 and not came and said.startswith(b"ga144: command line refused\n"))
-        return "" if is_well else f"dap: growth {growth} refused: status {status}, {said!r}, {came[-2:]}"
+        parts = next((at for at, it in enumerate(came) if it not in self.whole[at : at + 1]), len(came))
+        return "" if is_well else f"dap: growth {growth} refused: status {status}, {said!r}, message {parts + 1}: {came[parts : parts + 1]}"
