@@ -230,12 +230,15 @@ class Client:
         raise Wrong(f"an end before the event {name}")
 
     def end(self):
-        """Sees that the server ends well behind `disconnect`."""
+        """Sees that the server ends well behind `disconnect`, by itself."""
         self.ask("disconnect")
-        self.server.stdin.close()
         left = self.next()
         demand(left is None, f"{left} behind disconnect")
-        status = self.server.wait(self.seconds)
+        # (it ends by itself, while its input is open)
+        try:
+            status = self.server.wait(self.seconds)
+        except subprocess.TimeoutExpired:
+            raise Wrong("no end behind disconnect") from None
         demand(status == 0, f"status {status} behind disconnect")
 
     def stop(self):
