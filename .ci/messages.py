@@ -1,6 +1,7 @@
 """Wrong input of an editor's session with what has to come of it, requests at their bounds, and refused growths of memory."""
 import json
 import os
+import re
 import subprocess
 import sys
 
@@ -9,10 +10,13 @@ ROOT = os.path.dirname(os.path.dirname(os.path.abspath(__file__)))
 sys.path.insert(0, f"{ROOT}/model")
 from client import demand, framed, text_of  # noqa: E402
 
-# The most bytes of a message.
-LONGEST = 1048576
+# The most bytes of a message, as the crate has them.
+with open(f"{ROOT}/crates/ga_protocol/src/framing.rt", encoding="utf-8") as file:
+    LONGEST = int(re.search(r"CONTENT_LIMIT: usize = ([0-9_]+);", file.read())[1])
 # Long values that take much memory: what begins one, what it repeats, and what ends it.
 LONG = {"letters": (b'"', b"a", b'"'), "numbers": (b"[", b"1,", b"1]"), "texts": (b"[", b'"a",', b"1]"), "lists": (b"[", b"[1],", b"1]"), "maps": (b"[", b'{"":1},', b"1]"), "deep lists": (b"[", b"[[[[1]]]],", b"1]")}
+# What is refused within a run.
+STANDING = ("continue", "next", "stepIn", "stepOut", "stepBack", "reverseContinue", "evaluate")
 # Requests at their bounds, over sources/fault.f18; a number past 2^64 is none.
 PROGRAM, LINES = "sources/fault.f18", {"source": {"path": "sources/fault.f18"}}
 AT_BOUNDS = [
@@ -121,7 +125,8 @@ def wrong_inputs(room):
         "behind the end": (start + end + request(10, "threads"), 0, ["initialize", "disconnect"]),
         "leading zeros": (start.replace(b"Content-Length: ", b"Content-Length: 00") + end, 0, ["initialize", "disconnect"]),
         "seq 0, and the greatest twice": (b"".join(request(it, "initialize", adapterID="x") for it in (0, 2**64 - 1, 2**64 - 1)), 0, ["initialize"] * 3),
-        "within a run": (runs + request(5, "next", threadId=1000) + end, 0, [*begun, "continue", "next: the chip runs", "disconnect"]),
+        **{f"{it} within a run": (runs + request(5, it, threadId=1000, expression="t") + end, 0, [*begun, "continue", f"{it}: the chip runs", "disconnect"]) for it in STANDING},
+        "a run is ended": (runs + request(5, "terminate") + request(6, "stepBack", threadId=1000) + end, 0, [*begun, "continue", "terminate", "terminated", "stepBack", "output rewind 000 1: removed 0 kept 0", "stopped", "disconnect"]),
         "a run is paused": (runs + request(5, "pause", threadId=1001) + end, 0, [*begun, "continue", "pause", "stopped", "disconnect"]),
         "a run has no end": (runs + end, 0, [*begun, "continue", "disconnect"]),
     }
@@ -207,4 +212,5 @@ class Growths:
             (0, b""): came in can_be or changed is not None and came[:changed] == self.whole[:changed],
             (1, b"ga144: out of memory\n"): any(it[: len(came)] == came for it in can_be),
         }.get((status, said), status == 3 and not came and said.startswith(b"ga144: command line refused\n"))
-        return "" if is_well else f"dap: growth {growth} refused: status {status}, {said!r}, {came[-2:]}"
+        parts = next((at for at, it in enumerate(came) if it not in self.whole[at : at + 1]), len(came))
+        return "" if is_well else f"dap: growth {growth} refused: status {status}, {said!r}, message {parts + 1}: {came[parts : parts + 1]}"

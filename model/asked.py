@@ -131,10 +131,13 @@ def asked_of(number, path, can):
 
     draw, is_free = make.random, make.is_free
     ask("initialize", {"adapterID": "ga144"})
-    ask("launch", {"program": path, "limit": 4000 if is_free else draw.choice((20, 200, 400)), "order": draw.choice(("rounds", "greedy", "random")), "seed": draw.randrange(1 << 30)})
+    limit, order, seed = 4000 if is_free else draw.choice((20, 200, 400)), draw.choice(("rounds", "greedy", "random")), draw.randrange(1 << 30)
+    stands = {"stopOnEntry": False} if not is_free and draw.random() < 0.2 else {}
+    ask("launch", {"program": path, "limit": limit, "order": order, "seed": seed} | stands)
     if not is_free:
         ask_for_breakpoints(path, ask, draw)
-    ask("setExceptionBreakpoints", {"filters": [] if is_free else draw.choice((["stop", "stuck"], ["stuck"], ["stop"], []))})
+    if is_free or draw.random() < 0.8:
+        ask("setExceptionBreakpoints", {"filters": [] if is_free else draw.choice((["stop", "stuck"], ["stuck"], ["stop"], []))})
     ask("configurationDone")
     for _ in range(6 if is_free else 14):
         nodes = session.shown.nodes()

@@ -179,14 +179,18 @@ class Client:
         self.server.stdin.write(data)
         self.server.stdin.flush()
 
-    def send(self, command, arguments=None):
-        """Sends a request, and says its number."""
+    def frame(self, command, arguments=None):
+        """A request with the next number."""
         self.sent += 1
         request = {"command": command, "seq": self.sent, "type": "request"}
         if arguments is not None:
             request["arguments"] = arguments
         self.schema.message(request)
-        data = framed(text_of(request))
+        return framed(text_of(request))
+
+    def send(self, command, arguments=None):
+        """Sends a request, and says its number."""
+        data = self.frame(command, arguments)
         # (in two parts, cut elsewhere each time)
         cut = 37 * self.sent % len(data)
         self.raw(data[:cut])
@@ -226,12 +230,15 @@ class Client:
         raise Wrong(f"an end before the event {name}")
 
     def end(self):
-        """Sees that the server ends well behind `disconnect`."""
+        """Sees that the server ends well behind `disconnect`, by itself."""
         self.ask("disconnect")
-        self.server.stdin.close()
         left = self.next()
         demand(left is None, f"{left} behind disconnect")
-        status = self.server.wait(self.seconds)
+        # (it ends by itself, while its input is open)
+        try:
+            status = self.server.wait(self.seconds)
+        except subprocess.TimeoutExpired:
+            raise Wrong("no end behind disconnect") from None
         demand(status == 0, f"status {status} behind disconnect")
 
     def stop(self):

@@ -56,7 +56,7 @@ impl Arrivals for StandardInput {
             events: libc::net::POLLIN,
             revents: 0,
         }];
-        libc::net::poll(&mut asked, 0) > 0
+        libc::net::poll(&mut asked, 0) != 0
     }
 }
 
