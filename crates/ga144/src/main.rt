@@ -20,7 +20,10 @@ use ga_picture::{View, draw_session};
 use std::fs::File;
 use std::io::{Chain, ErrorKind, Read, Stdin, Take};
 use std::process::ExitCode;
-use std::{env, io};
+use std::sync::atomic::{AtomicBool, AtomicU64, Ordering};
+use std::thread::join;
+use std::time::Duration;
+use std::{env, io, thread};
 
 /// How many events are kept at most where a session is drawn.
 const DRAWN_LIMIT: u32 = 1_000_000;
@@ -33,6 +36,12 @@ const MOST_CHOICES: u32 = 1000;
 
 /// How many steps a node makes in it at most.
 const MOST_STEPS: u32 = 100_000;
+
+/// How many milliseconds pass between two looks whether all is done.
+const TICK: u64 = 20;
+
+/// After how many of them progress is told.
+const TICKS: u64 = 50;
 
 /// The most bytes of a file: the bound of an input.
 const LONGEST_FILE: u64 = 16_777_216;
@@ -64,10 +73,18 @@ fn main(rt: HostRuntime) -> ExitCode {
             Settings::Check {
                 most,
                 session,
+                workers,
+                progress,
                 file,
-                ..
             },
-        ) => checked(&rt, most, session.unwrap_or(0), &file),
+        ) => {
+            let runs = Runs {
+                most,
+                asked: session.unwrap_or(0),
+                workers,
+            };
+            checked(&rt, runs, progress, &file)
+        }
         Ok(Settings::Dap) => serve_editor(&rt),
         Ok(Settings::Explore { limit, file }) => served(&rt, Work::Explore { limit }, &file),
         Ok(Settings::Assemble { file }) => served(&rt, Work::Assemble, &file),
@@ -233,28 +250,76 @@ fn served(rt: &HostRuntime, work: Work, file: &Option<String>) -> ExitCode {
     exit(rt, status)
 }
 
-/// Reads a file, where one is named, or standard input, and runs every order of its nodes.
-fn checked(rt: &HostRuntime, most: u32, asked: u32, file: &Option<String>) -> ExitCode {
+/// How many runs of a program are made at most, which order is asked for by its number, if it isn't 0, and how many workers there are.
+#[derive(Clone, Copy)]
+struct Runs {
+    most: u32,
+    asked: u32,
+    workers: u32,
+}
+
+/// Reads a file, where one is named, or standard input, and runs every order of its nodes. Its progress is told where that is wanted.
+fn checked(rt: &HostRuntime, runs: Runs, tells: bool, file: &Option<String>) -> ExitCode {
     let front = match front_of(rt, file) {
         Ok(front) => front,
         Err(code) => return code,
     };
+    if !tells {
+        return exit_with(rt, verdict_on(rt, runs, &front, &AtomicU64::new(0)));
+    }
+    let (made, is_done) = (AtomicU64::new(0), AtomicBool::new(false));
+    // Where no thread can be made the second begins when the first has ended.
+    let (verdict, _told) = join(
+        rt,
+        || {
+            let verdict = verdict_on(rt, runs, &front, &made);
+            is_done.store(true, Ordering::SeqCst);
+            verdict
+        },
+        || tell_progress(rt, &made, &is_done),
+    );
+    exit_with(rt, verdict)
+}
+
+/// What comes of every order of what is read, with how many runs were made so far in `made`.
+fn verdict_on(rt: &HostRuntime, runs: Runs, front: &Front, made: &AtomicU64) -> Verdict {
     let bounds = Bounds {
-        runs: u64::from(most),
+        runs: u64::from(runs.most),
         choices: MOST_CHOICES,
         steps: MOST_STEPS,
     };
     let mut reader = front.reader(rt);
     let (mut writer, mut errors) = (rt.stdout(), rt.stderr());
-    let verdict = check_orders(
+    check_orders(
+        rt,
         rt.alloc(),
         &mut reader,
         &mut writer,
         &mut errors,
         RUN_LIMIT,
         bounds,
-        u64::from(asked),
-    );
+        u64::from(runs.asked),
+        runs.workers,
+        made,
+    )
+}
+
+/// Tells each second how many runs were made so far, until all is done.
+fn tell_progress(rt: &HostRuntime, made: &AtomicU64, is_done: &AtomicBool) {
+    for tick in 1..u64::MAX {
+        thread::sleep(rt, Duration::from_millis(TICK));
+        if is_done.load(Ordering::SeqCst) {
+            return;
+        }
+        let runs = made.load(Ordering::SeqCst);
+        if tick % TICKS == 0 && runs > 0 {
+            let _ = eprintln!(rt; "ga144: {runs} runs so far");
+        }
+    }
+}
+
+/// The exit status of a verdict.
+fn exit_with(rt: &HostRuntime, verdict: Verdict) -> ExitCode {
     match verdict {
         Verdict::Alike => ExitCode::from(0),
         Verdict::Several => ExitCode::from(5),

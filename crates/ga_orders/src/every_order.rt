@@ -14,7 +14,7 @@ ghost use Rattle.ga_console.specs.declared.run.Status.TheVariants.{ImageRefused}
 
 use crate::orders_text::{say_no_order, say_orders};
 use ga_answers::say_saved;
-use ga_check::orders::{Bounds, check};
+use ga_check::orders::{Bounds, check_shared};
 use ga_check::tally::{EndKind, Fate, Stop, Tally};
 use ga_console::Status;
 use ga_display::refusal_text;
@@ -23,6 +23,8 @@ use ga_lab::{Lab, LabFault};
 use ga_text::{Input, Output, WriteFailed};
 use std::alloc::Global;
 use std::io::{Read, Write};
+use std::sync::atomic::AtomicU64;
+use std::thread::Threads;
 
 /// What came of every order of a program.
 #[derive(Clone, Copy, PartialEq, Eq, Debug)]
@@ -39,8 +41,10 @@ pub enum Verdict {
 
 /// Reads an image or source, as `explore` does, and nothing behind its line `end`. Tells in how many orders its nodes can run, and
 /// how these end; or, where an order is asked for by its number from 1 on, the lines `step NNN` that lead to its end. A run has at
-/// most `limit` events. Source that has a fault is told to `errors`, a refused image and want of memory to `writer`.
-pub fn check_orders<R: Read, W: Write, E: Write>(
+/// most `limit` events. Source that has a fault is told to `errors`, a refused image and want of memory to `writer`. So many workers
+/// share the runs, and `made` counts those that were made so far.
+pub fn check_orders<S: Threads + Sync, R: Read, W: Write, E: Write>(
+    rt: &S,
     alloc: Global,
     reader: &mut R,
     writer: &mut W,
@@ -48,6 +52,8 @@ pub fn check_orders<R: Read, W: Write, E: Write>(
     limit: u32,
     bounds: Bounds,
     asked: u64,
+    workers: u32,
+    made: &AtomicU64,
 ) -> Verdict
     // Where the streams tell their bytes: what was read, and what was written for it by the verdict.
     ensures { (left before : Bytes) →
@@ -57,23 +63,28 @@ pub fn check_orders<R: Read, W: Write, E: Write>(
 {
     let mut input = Input::new();
     match begin(alloc, &mut input, reader, writer, errors, limit) {
-        Ok(begun) => tell_orders(alloc, &mut begun.into_lab(), bounds, asked, writer),
+        Ok(begun) => tell_orders(
+            rt, alloc, &mut begun.into_lab(), bounds, asked, workers, made, writer,
+        ),
         Err(status) => Verdict::Ended(status),
     }
 }
 
 /// Tells how the orders of a lab's chip end, or the session of one.
-fn tell_orders<W: Write>(
+fn tell_orders<S: Threads + Sync, W: Write>(
+    rt: &S,
     alloc: Global,
     lab: &mut Lab,
     bounds: Bounds,
     asked: u64,
+    workers: u32,
+    made: &AtomicU64,
     writer: &mut W,
 ) -> Verdict
     ensures { (before : Bytes) → W.contents writer.old ≡ Some before →
         (text : Bytes) × (W.contents writer.new ≡ Some (before ++ text)) × TellsOrders asked lab.old text result }
 {
-    match check(alloc, lab, bounds, asked) {
+    match check_shared(rt, alloc, lab, bounds, asked, workers, made) {
         Ok(tally) => tell_tally(asked, &tally, writer),
         Err(Stop::Reached) => tell_session(lab, writer),
         Err(Stop::Memory) => tell_no_memory(writer),
