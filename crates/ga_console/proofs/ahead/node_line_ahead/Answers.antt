@@ -1,0 +1,10 @@
+use Rattle.std.proofs.Common.{◌≡◌, arith, get_or}
+use Rattle.ga_console.proofs.AheadLemmas.{same_bytes, node_front}
+use Rattle.ga_console.proofs.ahead.node_line_ahead.Goals as goal
+
+pub returns : goal.returns
+returns c =
+    let t = c.args.text.now in
+    let name = same_bytes (get_or t 0 0) (get_or t 1 0) (get_or t 2 0) (get_or t 3 0) 110 111 100 101 (omega arith) (omega arith) (omega arith) (omega arith) (omega arith) (omega arith) (omega arith) (omega arith) (omega arith) in
+    let b4 : get_or t 4 0 ≡ 32 = omega arith in
+    node_front t c.in_ok-node.node (omega (arith, c.in-32.len_at_least)) name.0 name.1 name.2 name.3 b4 c.in_ok-node.ensures
