@@ -1,5 +1,5 @@
 -- A command in front of a text.
-use Rattle.std.proofs.Common.{◌≡◌, ◌≢◌, ◌<◌, ℕ, ◌+◌, ◌*◌, ◌/◌, ◌%◌, ◌≤◌, false, List, [], ◌∷◌, Some, ◌++◌, length, take, drop, suc, drop-cons, length-take, length-drop, take-append-drop, get_or, refl, sym, ap, ◌∙◌, arith, append_assoc, inl, inr, eq-zero-or-pos, ◌-◌, decimal, subst}
+use Rattle.std.proofs.Common.{◌≡◌, ◌≢◌, ◌<◌, ℕ, ◌+◌, ◌*◌, ◌/◌, ◌%◌, ◌≤◌, false, List, [], ◌∷◌, ◌++◌, length, take, drop, suc, drop-cons, length-take, length-drop, take-append-drop, get_or, refl, sym, ap, ◌∙◌, arith, append_assoc, inl, inr, eq-zero-or-pos, ◌-◌, decimal, subst}
 use Rattle.std.specs.Prelude.{codes}
 use Rattle.std.proofs.lemmas.List.{take_all}
 use Rattle.std.proofs.lemmas.List.Elements.{All-from_recursion, All-append}
@@ -11,11 +11,9 @@ use Rattle.ga_console.specs.Turns.{quit_line}
 use Rattle.ga_console.specs.Commands.{SpellsCommand}
 use Rattle.ga_console.specs.kept.Ahead.{IsAhead, IsLineAhead, IsNumberAhead}
 use Rattle.ga_console.specs.declared.command.Command.{Command}
-use Rattle.ga_console.specs.declared.command.Command.TheVariants.{Step, Rewind, Node, Memory, Count, Quit}
+use Rattle.ga_console.specs.declared.command.Command.TheVariants.{Step, Rewind, Count, Quit}
 use Rattle.std.proofs.Math.Seq.{drop-append-add}
-use Rattle.ga_text.specs.Digits.{byte_in}
 use Rattle.ga_text.proofs.PartLemmas.{not_feed}
-use Rattle.ga_text.proofs.Taking.{byte_address}
 
 -- bytes that are the same number are the same
 pub same_bytes : (a b c d e f g h : ℕ) → a < 256 → b < 256 → c < 256 → d < 256 → e < 256 → f < 256 → g < 256 → h < 256
@@ -47,37 +45,29 @@ nine (a ∷ b ∷ c ∷ d ∷ e ∷ f ∷ g ∷ []) h = absurd (omega arith)
 nine (a ∷ b ∷ c ∷ d ∷ e ∷ f ∷ g ∷ i ∷ []) h = absurd (omega arith)
 nine (a ∷ b ∷ c ∷ d ∷ e ∷ f ∷ g ∷ i ∷ j ∷ text) h = refl
 
--- no byte of a name is a line feed
-name_feeds : (node : NodeId) → HasNoFeed (name_of_node node)
-name_feeds node = All-from_recursion (λ b. ends_line b ≡ false) (name_of_node node) (not_feed _ (omega arith), (not_feed _ (omega arith), (not_feed _ (omega arith), tt)))
+step_line : NodeId → List ℕ
+step_line node = 115 ∷ 116 ∷ 101 ∷ 112 ∷ 32 ∷ name_of_node node
 
--- a name behind a word of four bytes and a space
-named_front : (a b c d : ℕ) (text : List ℕ) (node : NodeId) (asked : Command) → HasNoFeed (a ∷ b ∷ c ∷ d ∷ 32 ∷ [])
-    → SpellsCommand asked (a ∷ b ∷ c ∷ d ∷ 32 ∷ name_of_node node) → 9 ≤ length text
-    → (get_or text 0 0 ≡ a) → (get_or text 1 0 ≡ b) → (get_or text 2 0 ≡ c) → (get_or text 3 0 ≡ d) → (get_or text 4 0 ≡ 32)
-    → (name_of_node node ++ 10 ∷ []) ≡ (get_or text 5 0 ∷ get_or text 6 0 ∷ get_or text 7 0 ∷ get_or text 8 0 ∷ []) → IsAhead text asked 8
-named_front a b c d text node asked feeds spelled long b0 b1 b2 b3 b4 name = record {
-  line = a ∷ b ∷ c ∷ d ∷ 32 ∷ name_of_node node;
-  more = drop 9 text;
-  splits = nine text long ∙ rw (b0, b1, b2, b3, b4) (ap (λ (t : List ℕ). a ∷ b ∷ c ∷ d ∷ 32 ∷ (t ++ drop 9 text)) (sym name));
-  no_feed = All-append (λ b. ends_line b ≡ false) (a ∷ b ∷ c ∷ d ∷ 32 ∷ []) (name_of_node node) feeds (name_feeds node);
-  counts = refl;
-  short = omega arith;
-  spelled = spelled;
-  not_quit = λ q. absurd (omega (arith, ap length q));
-}
+-- no byte of it is a line feed
+step_feeds : (node : NodeId) → HasNoFeed (step_line node)
+unfolding step_line
+step_feeds node = All-from_recursion (λ b. ends_line b ≡ false) (step_line node)
+    (refl, (refl, (refl, (refl, (refl, (not_feed _ (omega arith), (not_feed _ (omega arith), (not_feed _ (omega arith), tt))))))))
 
 pub step_front : (text : List ℕ) (node : NodeId) → 9 ≤ length text
     → (get_or text 0 0 ≡ 115) → (get_or text 1 0 ≡ 116) → (get_or text 2 0 ≡ 101) → (get_or text 3 0 ≡ 112) → (get_or text 4 0 ≡ 32)
     → (name_of_node node ++ 10 ∷ []) ≡ (get_or text 5 0 ∷ get_or text 6 0 ∷ get_or text 7 0 ∷ get_or text 8 0 ∷ []) → IsAhead text (Step node) 8
-step_front text node =
-    named_front 115 116 101 112 text node (Step node) (All-from_recursion (λ b. ends_line b ≡ false) (codes "step ") (refl, (refl, (refl, (refl, (refl, tt)))))) refl
-
-pub node_front : (text : List ℕ) (node : NodeId) → 9 ≤ length text
-    → (get_or text 0 0 ≡ 110) → (get_or text 1 0 ≡ 111) → (get_or text 2 0 ≡ 100) → (get_or text 3 0 ≡ 101) → (get_or text 4 0 ≡ 32)
-    → (name_of_node node ++ 10 ∷ []) ≡ (get_or text 5 0 ∷ get_or text 6 0 ∷ get_or text 7 0 ∷ get_or text 8 0 ∷ []) → IsAhead text (Node node) 8
-node_front text node =
-    named_front 110 111 100 101 text node (Node node) (All-from_recursion (λ b. ends_line b ≡ false) (codes "node ") (refl, (refl, (refl, (refl, (refl, tt)))))) refl
+unfolding step_line
+step_front text node long b0 b1 b2 b3 b4 name = record {
+  line = step_line node;
+  more = drop 9 text;
+  splits = nine text long ∙ rw (b0, b1, b2, b3, b4) (ap (λ (t : List ℕ). 115 ∷ 116 ∷ 101 ∷ 112 ∷ 32 ∷ (t ++ drop 9 text)) (sym name));
+  no_feed = step_feeds node;
+  counts = refl;
+  short = omega arith;
+  spelled = refl;
+  not_quit = λ q. absurd (let bad = q in cc);
+}
 
 -- the first eleven of some bytes
 eleven : (text : List ℕ) → 11 ≤ length text
@@ -164,36 +154,6 @@ rewind_front text node k digits long front b6 b10 name h =
       short = omega (arith, h.few);
       spelled = (h.fits, refl);
       not_quit = λ q. absurd (let bad = q in cc);
-    }
-
-memory_line : NodeId → ℕ → ℕ → List ℕ
-memory_line node high low = 109 ∷ 101 ∷ 109 ∷ 32 ∷ (name_of_node node ++ 32 ∷ high ∷ low ∷ [])
-
-memory_feeds : (node : NodeId) (high low : ℕ) → high ≢ 10 → low ≢ 10 → HasNoFeed (memory_line node high low)
-unfolding memory_line
-memory_feeds node high low h l = All-from_recursion (λ b. ends_line b ≡ false) (memory_line node high low)
-    (refl, (refl, (refl, (refl, (not_feed _ (omega arith), (not_feed _ (omega arith), (not_feed _ (omega arith), (refl, (not_feed _ h, (not_feed _ l, tt))))))))))
-
--- `mem` with a name and two digits
-pub memory_front : (text : List ℕ) (node : NodeId) (address : ℕ) → 11 ≤ length text
-    → (get_or text 0 0 ≡ 109) → (get_or text 1 0 ≡ 101) → (get_or text 2 0 ≡ 109) → (get_or text 3 0 ≡ 32) → (get_or text 7 0 ≡ 32) → (get_or text 10 0 ≡ 10)
-    → (name_of_node node ++ 10 ∷ []) ≡ (get_or text 4 0 ∷ get_or text 5 0 ∷ get_or text 6 0 ∷ 10 ∷ [])
-    → get_or text 8 0 ≢ 10 → get_or text 9 0 ≢ 10 → byte_in (get_or text 8 0 ∷ get_or text 9 0 ∷ []) ≡ Some address → IsAhead text (Memory node address) 10
-unfolding memory_line
-memory_front text node address long b0 b1 b2 b3 b7 b10 name no_high no_low e =
-    let high : ℕ = get_or text 8 0 in
-    let low : ℕ = get_or text 9 0 in
-    let named : name_of_node node ≡ get_or text 4 0 ∷ get_or text 5 0 ∷ get_or text 6 0 ∷ [] = ap (take 3) name in
-    record {
-      line = memory_line node high low;
-      more = drop 11 text;
-      splits = eleven text long ∙ rw (b0, b1, b2, b3, b7, b10)
-          (ap (λ (t : List ℕ). 109 ∷ 101 ∷ 109 ∷ 32 ∷ (t ++ 32 ∷ high ∷ low ∷ 10 ∷ drop 11 text)) (sym named));
-      no_feed = memory_feeds node high low no_high no_low;
-      counts = refl;
-      short = omega arith;
-      spelled = (high ∷ low ∷ [], byte_address (high ∷ low ∷ []) address e, refl);
-      not_quit = λ q. absurd (omega (arith, ap length q));
     }
 
 -- four zeros are no name and space

@@ -2,6 +2,7 @@ pub mod AheadLemmas
 pub mod Pieces
 pub mod Spelled
 pub mod Heads
+pub mod Shown
 pub mod ReplyLemmas
 pub mod Heard
 pub mod RunLemmas

@@ -6,7 +6,7 @@ ghost use Rattle.ga_console.specs.kept.Ahead.{IsAhead, IsLineAhead, IsNumberAhea
 use super::command::{Command, command_of};
 use ga_grid::NodeId;
 use ga_image::LINE_LIMIT;
-use ga_text::{NUMBER_ROOM, byte_of, feed_at, name_numbered, number_in};
+use ga_text::{NUMBER_ROOM, feed_at, name_numbered, number_in};
 
 /// The bytes of a line `step NNN`.
 const STEP_LINE: usize = b"step NNN".len();
@@ -17,22 +17,11 @@ const BACK_LINE: usize = b"back".len();
 /// The bytes of a line `count`.
 const COUNT_LINE: usize = b"count".len();
 
-/// The bytes of a line `node NNN`.
-const NODE_LINE: usize = b"node NNN".len();
-
-/// The bytes of a line `mem NNN HH`.
-const MEMORY_LINE: usize = b"mem NNN HH".len();
-
 /// The bytes of a line `rewind NNN K` before its number.
 const REWIND_HEAD: usize = b"rewind NNN ".len();
 
 /// `step`, as `word_of` reads it.
 const STEP: u64 = 0x7065_7473;
-
-/// `node`, and `mem` with a space.
-const NODE: u64 = 0x6564_6f6e;
-
-const MEMORY: u64 = 0x206d_656d;
 
 /// `ewin` and `ount`, read so.
 const EWIN: u64 = 0x6e69_7765;
@@ -61,7 +50,7 @@ pub(crate) fn word_of(first: u8, second: u8, third: u8, fourth: u8) -> u64
 
 /// The node whose name and a line feed these bytes are. The weighted digits guess it, and its name decides.
 #[inline(always)]
-fn node_ahead(row: u8, tens: u8, ones: u8, feed: u8) -> Option<NodeId>
+pub(crate) fn node_ahead(row: u8, tens: u8, ones: u8, feed: u8) -> Option<NodeId>
     ensures { IfSome result (λ node. (name_of_node node ++ codes "\n") ≡ (row ∷ tens ∷ ones ∷ feed ∷ [])) }
 {
     let word = word_of(row, tens, ones, feed);
@@ -112,62 +101,7 @@ fn rewind_ahead(text: &[u8]) -> Option<(Command, usize)>
     Some((Command::Rewind(node, step), REWIND_HEAD + digits))
 }
 
-/// The `node` that the line in front of a text spells, and how many bytes the line has.
-#[inline(always)]
-fn node_line_ahead(text: &[u8]) -> Option<(Command, usize)>
-    ensures { IfSome result (λ told. IsAhead text.now told.0 told.1) }
-{
-    let [n, o, d, e, b' ', row, tens, ones, feed, ..] = text else {
-        return None;
-    };
-    if word_of(*n, *o, *d, *e) != NODE {
-        return None;
-    }
-    let node = node_ahead(*row, *tens, *ones, *feed)?;
-    Some((Command::Node(node), NODE_LINE))
-}
-
-/// The `mem` that the line in front of a text spells, and how many bytes the line has.
-#[inline(always)]
-fn memory_ahead(text: &[u8]) -> Option<(Command, usize)>
-    ensures { IfSome result (λ told. IsAhead text.now told.0 told.1) }
-{
-    let [
-        first,
-        second,
-        third,
-        fourth,
-        row,
-        tens,
-        ones,
-        b' ',
-        high,
-        low,
-        feed,
-        ..
-    ] = text
-    else {
-        return None;
-    };
-    if word_of(*first, *second, *third, *fourth) != MEMORY {
-        return None;
-    }
-    // A line feed in their place is behind a shorter line.
-    if *high == b'\n' {
-        return None;
-    }
-    if *low == b'\n' {
-        return None;
-    }
-    if *feed != b'\n' {
-        return None;
-    }
-    let node = node_ahead(*row, *tens, *ones, b'\n')?;
-    let address = byte_of(&[*high, *low])?;
-    Some((Command::Memory(node, address), MEMORY_LINE))
-}
-
-/// The same of `rewind`, `count`, `node` and `mem`. Four bytes tell the first two, from the second on: by the first four a `step` was told.
+/// The same of a `count` too. Four bytes tell which it may be, from the second on: by the first four a `step` was told.
 #[inline(always)]
 fn soon_ahead(text: &[u8]) -> Option<(Command, usize)>
     ensures { IfSome result (λ told. IsAhead text.now told.0 told.1) }
@@ -182,14 +116,10 @@ fn soon_ahead(text: &[u8]) -> Option<(Command, usize)>
     if word == OUNT && *first == b'c' && *sixth == b'\n' {
         return Some((Command::Count, COUNT_LINE));
     }
-    match *first {
-        b'n' => node_line_ahead(text),
-        b'm' => memory_ahead(text),
-        _ => None,
-    }
+    None
 }
 
-/// What stands in front of a text. Most commands are told before the line feed is looked for.
+/// What stands in front of a text. `step`, `back`, `count` and `rewind` are told before the line feed is looked for.
 #[inline(always)]
 pub fn ahead_of(text: &[u8]) -> Ahead
     ensures { StandsAhead text.now result }
@@ -210,7 +140,7 @@ fn other_ahead(text: &[u8]) -> Ahead
     ensures { StandsAhead text.now result }
 {
     match text {
-        [b'b', b'a', b'c', b'k', b'\n', _, ..] => Ahead::Spelled(Command::Back, BACK_LINE),
+        [b'b', b'a', b'c', b'k', b'\n', ..] => Ahead::Spelled(Command::Back, BACK_LINE),
         _ => match soon_ahead(text) {
             Some(told) => Ahead::Spelled(told.0, told.1),
             None => line_ahead(text),
