@@ -1,6 +1,7 @@
 pub mod AheadLemmas
 pub mod Spelled
 pub mod Heads
+pub mod Shown
 pub mod ReplyLemmas
 pub mod Heard
 pub mod RunLemmas

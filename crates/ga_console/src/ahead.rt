@@ -50,7 +50,7 @@ pub(crate) fn word_of(first: u8, second: u8, third: u8, fourth: u8) -> u64
 
 /// The node whose name and a line feed these bytes are. The weighted digits guess it, and its name decides.
 #[inline(always)]
-fn node_ahead(row: u8, tens: u8, ones: u8, feed: u8) -> Option<NodeId>
+pub(crate) fn node_ahead(row: u8, tens: u8, ones: u8, feed: u8) -> Option<NodeId>
     ensures { IfSome result (λ node. (name_of_node node ++ codes "\n") ≡ (row ∷ tens ∷ ones ∷ feed ∷ [])) }
 {
     let word = word_of(row, tens, ones, feed);

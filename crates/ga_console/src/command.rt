@@ -8,7 +8,7 @@ ghost use Rattle.ga_console.specs.kept.Parsing.{step_in, rewind_in, memory_in, w
 ghost use Rattle.ga_console.specs.declared.command.Command.{Command};
 ghost use Rattle.ga_console.specs.declared.command.Command.TheVariants.{Step, Node, Trace};
 
-use super::ahead::word_of;
+use super::ahead::{node_ahead, word_of};
 use ga_grid::NodeId;
 use ga_text::{byte_of, cut, node_in, number_in};
 
@@ -42,6 +42,11 @@ pub enum Command {
     Quit,
 }
 
+/// `node`, and `mem` with a space, as `word_of` reads them.
+const NODE: u64 = 0x6564_6f6e;
+
+const MEMORY: u64 = 0x206d_656d;
+
 /// The command that a line spells, or none.
 #[inline(always)]
 pub fn command_of(line: &[u8]) -> Option<Command>
@@ -49,11 +54,7 @@ pub fn command_of(line: &[u8]) -> Option<Command>
     ensures only { IfSome result (λ command. (other : Command) → SpellsCommand other line.now → other ≡ command) }
     ensures none { IfNone result ((command : Command) → ¬ SpellsCommand command line.now) }
 {
-    if has_head(line) {
-        spelled_by(line)
-    } else {
-        None
-    }
+    if has_head(line) { told_by(line) } else { None }
 }
 
 /// Whether a line begins with the first four bytes of a command.
@@ -84,7 +85,61 @@ fn is_head(word: u64) -> bool
         || word == 0x7469_7571
 }
 
-/// The command that a line spells, whatever it begins with.
+/// The command that a line spells, whatever it begins with. A `node` or a `mem` is told without looking for its words.
+fn told_by(line: &[u8]) -> Option<Command>
+    ensures some { IfSome result (λ command. SpellsCommand command line.now) }
+    ensures only { IfSome result (λ command. (other : Command) → SpellsCommand other line.now → other ≡ command) }
+    ensures none { IfNone result ((command : Command) → ¬ SpellsCommand command line.now) }
+{
+    match shown_by(line) {
+        Some(command) => Some(command),
+        None => spelled_by(line),
+    }
+}
+
+/// The `node` or `mem` that a line spells.
+#[inline(always)]
+fn shown_by(line: &[u8]) -> Option<Command>
+    ensures { IfSome result (λ command. SpellsCommand command line.now) }
+{
+    match node_shown(line) {
+        Some(node) => Some(Command::Node(node)),
+        None => memory_shown(line),
+    }
+}
+
+/// The node that a line shows.
+#[inline(always)]
+fn node_shown(line: &[u8]) -> Option<NodeId>
+    ensures { IfSome result (λ node. SpellsCommand (Node node) line.now) }
+{
+    let [n, o, d, e, b' ', row, tens, ones] = line else {
+        return None;
+    };
+    if word_of(*n, *o, *d, *e) != NODE {
+        return None;
+    }
+    let node = node_ahead(*row, *tens, *ones, b'\n')?;
+    Some(node)
+}
+
+/// The `mem` that a line spells.
+#[inline(always)]
+fn memory_shown(line: &[u8]) -> Option<Command>
+    ensures { IfSome result (λ command. SpellsCommand command line.now) }
+{
+    let [m, e, s, space, row, tens, ones, b' ', high, low] = line else {
+        return None;
+    };
+    if word_of(*m, *e, *s, *space) != MEMORY {
+        return None;
+    }
+    let node = node_ahead(*row, *tens, *ones, b'\n')?;
+    let address = byte_of(&[*high, *low])?;
+    Some(Command::Memory(node, address))
+}
+
+/// The same by the words of the line.
 fn spelled_by(line: &[u8]) -> Option<Command>
     ensures some { IfSome result (λ command. SpellsCommand command line.now) }
     ensures only { IfSome result (λ command. (other : Command) → SpellsCommand other line.now → other ≡ command) }
