@@ -206,6 +206,8 @@ class Growths:
         status, said, came = self.run(self.asked, growth, mark)
         if not os.path.exists(mark):
             return None
+        # (where a file's bytes have no room, the file is named)
+        came = [it.replace(f"launch: {PROGRAM}: out of memory", "out of memory") for it in came]
         can_be = [self.whole, *self.without]
         changed = next((at for at, it in enumerate(came) if any(word in it for word in CAN_REFUSE)), None)
         is_well = {
