@@ -1,8 +1,9 @@
 //! The run under way.
 
-ghost use Rattle.std.specs.Prelude.{◌≡◌};
+ghost use Rattle.std.specs.Prelude.{◌≡◌, Some};
+ghost use Rattle.ga_lab.specs.Machine.{chip_of};
 ghost use Rattle.ga_causal.specs.Dependence.{is_marked};
-ghost use Rattle.ga_requests.specs.Slices.{GoesOn, StepsOn, Advances, MakesSlice, IsFirstNewly, is_newly_by, hit_at, hit_of, end_of_move, node_told, stop_by, ended_stuck, goal_behind};
+ghost use Rattle.ga_requests.specs.Slices.{GoesOn, StepsOn, Advances, MarksStuck, MakesSliceOf, MakesSlice, IsFirstNewly, is_newly_by, hit_at, hit_of, end_of_move, node_told, stop_by, ended_stuck, goal_behind};
 
 use crate::configuration::Configuration;
 use ga_adapter::{Watched, has_thread};
@@ -215,6 +216,13 @@ fn stop_by(
     }
 }
 
+/// The nodes that can never go on.
+fn stuck_of(program: &Debuggee) -> [bool; 144]
+    ensures { MarksStuck (chip_of program.now.lab) (is_marked result) }
+{
+    find_stuck(program.lab.chip())
+}
+
 /// Makes a slice of the events of the run under way, and says why it ended, where it did.
 pub fn make_slice(
     program: &mut Debuggee,
@@ -223,12 +231,37 @@ pub fn make_slice(
 ) -> Option<StopReason>
     ensures { MakesSlice program.old settings.now execution.old program.new execution.new result }
 {
-    let Some(goal) = execution.goal else {
-        return None;
-    };
-    let before = find_stuck(program.lab.chip());
+    let goal = execution.goal;
+    make_slice_for(program, settings, execution, goal)
+}
+
+/// The same of a run that is for this, where one is under way.
+fn make_slice_for(
+    program: &mut Debuggee,
+    settings: &Configuration,
+    execution: &mut Execution,
+    goal: Option<Goal>,
+) -> Option<StopReason>
+    ensures { MakesSliceOf goal program.old settings.now execution.old program.new execution.new result }
+{
+    match goal {
+        Some(goal) => make_slice_of(program, settings, execution, goal),
+        None => None,
+    }
+}
+
+/// The same of a run that is under way.
+fn make_slice_of(
+    program: &mut Debuggee,
+    settings: &Configuration,
+    execution: &mut Execution,
+    goal: Goal,
+) -> Option<StopReason>
+    ensures { MakesSliceOf (Some goal) program.old settings.now execution.old program.new execution.new result }
+{
+    let before = stuck_of(program);
     let went = advance(program, settings, execution, goal);
-    let now = find_stuck(program.lab.chip());
+    let now = stuck_of(program);
     let stuck = newly_stuck(program, &before, &now);
     let stop = stop_by(settings, goal, stuck, went.halt);
     end_for(execution, stop);
