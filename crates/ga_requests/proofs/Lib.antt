@@ -1,5 +1,5 @@
 pub mod Described
-pub mod Gone
+pub mod WentLines
 pub mod Placed
 pub mod Answered
 pub mod Referred

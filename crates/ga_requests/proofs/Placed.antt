@@ -1,7 +1,7 @@
 -- The breakpoints of a request, one after another.
-use Rattle.std.proofs.Common.{◌≡◌, ◌+◌, ◌∙◌, ℕ, Bool, List, [], ◌∷◌, drop, map, length, sym, ap, subst}
+use Rattle.std.proofs.Common.{◌≡◌, ◌<◌, ◌+◌, ◌∙◌, ℕ, Bool, List, [], ◌∷◌, drop, get_or, map, length, sym, ap, subst}
 use Rattle.std.specs.List.{list_all}
-use Rattle.std.proofs.lemmas.List.{length-map}
+use Rattle.std.proofs.lemmas.List.{length-map, drop_more}
 use Rattle.serde_json.specs.Data.{Data}
 use Rattle.serde_json.specs.View.{view}
 use Rattle.serde_json.specs.declared.value.Value.{Value}
@@ -35,3 +35,6 @@ pub filters_so : (a b : List Data) (known : Bool) (set : Configuration) (request
 filters_so a b known set request message new e is sets =
     subst (λ (z : List Data). SetsFiltersIf (list_all is_filter z) z set request message new) e
     (subst (λ (z : Bool). SetsFiltersIf z a set request message new) is sets)
+
+pub behind_one : (values : List Value) (i : ℕ) (value : Value) → i < length values → value ≡ get_or values i value → drop i values ≡ value ∷ drop (i + 1) values
+behind_one values i value within is = drop_more values i value within ∙ ap (λ (z : Value). z ∷ drop (i + 1) values) (sym is)

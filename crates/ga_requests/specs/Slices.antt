@@ -88,7 +88,7 @@ end_of_move (Step by) told = stop.Step by.node
 -- where a node came to be stuck that was not before, and where the filter says so
 abbrev pub ended_stuck : Bool → Option NodeId → Option StopReason → Option StopReason
 ended_stuck true (Some node) other = Some (stop.Stuck node)
-ended_stuck asked none other = other
+ended_stuck asked stuck other = other
 
 abbrev pub stop_by : Configuration → Goal → Option NodeId → Halt → Option StopReason
 stop_by set goal stuck (halt.Hit told which) = Some (hit_at set told which)

@@ -51,11 +51,14 @@ fn step_by(program: &mut Debuggee, node: NodeId, grain: Grain)
 fn step_line(program: &mut Debuggee, node: NodeId)
     ensures { program.new ≡ stepped_by Grain.Line program.old node }
 {
-    let notes = match &program.source {
-        Some(notes) => notes,
-        None => &program.unsaid,
-    };
-    step_back_line(&mut program.lab, notes, node);
+    match &program.source {
+        Some(notes) => {
+            step_back_line(&mut program.lab, notes, node);
+        }
+        None => {
+            step_back_line(&mut program.lab, &program.unsaid, node);
+        }
+    }
 }
 
 /// Goes back with a node by a line or a step, and says what went.

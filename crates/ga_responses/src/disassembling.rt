@@ -57,8 +57,8 @@ fn first_told(arguments: &Value, cell: u8) -> u32
     ensures value { result ≡ first_told (view arguments.now) cell }
     ensures most { result < 4096 }
 {
-    let behind =
-        cells_on(offset_at(arguments, "offset")) + cells_on(offset_at(arguments, "instructionOffset"));
+    let behind = cells_on(offset_at(arguments, "offset"))
+        + cells_on(offset_at(arguments, "instructionOffset"));
     (u32::from(cell) + behind) % 4096
 }
 

@@ -104,13 +104,7 @@ fn ram_cell_named(text: &[u8]) -> Option<u8>
     ensures { result ≡ ram_cell_named text.now }
 {
     match cell_in_brackets(text) {
-        Some(cell) => {
-            if cell < 128 {
-                Some(cell)
-            } else {
-                None
-            }
-        }
+        Some(cell) => { if cell < 128 { Some(cell) } else { None } }
         None => None,
     }
 }
