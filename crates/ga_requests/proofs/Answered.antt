@@ -85,8 +85,8 @@ stepped_so notes a b s t by r most events halt e f p =
     (subst (λ (z : Bool). HasGone (stepping_on notes a z by r) r most events halt) f p)
 
 pub none_more : (f : ℕ → Bool) (k : ℕ) (b : Bool) → ((n : ℕ) → n < k → f n ≡ false) → b ≡ f k → b ≡ false → (n : ℕ) → n < k + 1 → f n ≡ false
-none_more f k b before e no n lt = elim (cases_eq n k) as (λ w. f n ≡ false) [
-  | inl q ↦ ap f q ∙ sym e ∙ no
+none_more f k b before e is n lt = elim (cases_eq n k) as (λ w. f n ≡ false) [
+  | inl q ↦ ap f q ∙ sym e ∙ is
   | inr ne ↦ before n (omega (arith, lt, ne))
 ]
 

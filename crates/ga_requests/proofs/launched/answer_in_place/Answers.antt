@@ -81,34 +81,34 @@ returns-in-StepOut-clause-sent c = with_command _ the.StepOut c.args.command c.a
 pub returns-in-Initialize-clause-sent : goal.returns-in-Initialize-clause-sent
 returns-in-Initialize-clause-sent c = with_command _ the.Initialize c.args.command c.args.launched.now c.args.request.now _ c.args.out.now _ c.in-Initialize.is
     (ok_then c.refuse_unknown.result c.refuse_unknown.ensures.sent
-    (λ sent. (refused_response c.args.request.now (codes "no such request") ∷ [], (refl, refl), sent_one c.args.out.now _ c.refuse_unknown.new.out sent)))
+    (λ sent. (refused_response c.args.request.now (codes "no such request") ∷ [], (refl, refl), sent_one c.args.out.now (refused_response c.args.request.now (codes "no such request")) c.refuse_unknown.new.out sent)))
 
 pub returns-in-Launch-clause-sent : goal.returns-in-Launch-clause-sent
 returns-in-Launch-clause-sent c = with_command _ the.Launch c.args.command c.args.launched.now c.args.request.now _ c.args.out.now _ c.in-Launch.is
     (ok_then c.refuse_unknown-in-Launch.result c.refuse_unknown-in-Launch.ensures.sent
-    (λ sent. (refused_response c.args.request.now (codes "no such request") ∷ [], (refl, refl), sent_one c.args.out.now _ c.refuse_unknown-in-Launch.new.out sent)))
+    (λ sent. (refused_response c.args.request.now (codes "no such request") ∷ [], (refl, refl), sent_one c.args.out.now (refused_response c.args.request.now (codes "no such request")) c.refuse_unknown-in-Launch.new.out sent)))
 
 pub returns-in-StepBack-clause-sent : goal.returns-in-StepBack-clause-sent
 returns-in-StepBack-clause-sent c = with_command _ the.StepBack c.args.command c.args.launched.now c.args.request.now _ c.args.out.now _ c.in-StepBack.is
     (ok_then c.refuse_unknown-in-StepBack.result c.refuse_unknown-in-StepBack.ensures.sent
-    (λ sent. (refused_response c.args.request.now (codes "no such request") ∷ [], (refl, refl), sent_one c.args.out.now _ c.refuse_unknown-in-StepBack.new.out sent)))
+    (λ sent. (refused_response c.args.request.now (codes "no such request") ∷ [], (refl, refl), sent_one c.args.out.now (refused_response c.args.request.now (codes "no such request")) c.refuse_unknown-in-StepBack.new.out sent)))
 
 pub returns-in-ReverseContinue-clause-sent : goal.returns-in-ReverseContinue-clause-sent
 returns-in-ReverseContinue-clause-sent c = with_command _ the.ReverseContinue c.args.command c.args.launched.now c.args.request.now _ c.args.out.now _ c.in-ReverseContinue.is
     (ok_then c.refuse_unknown-in-ReverseContinue.result c.refuse_unknown-in-ReverseContinue.ensures.sent
-    (λ sent. (refused_response c.args.request.now (codes "no such request") ∷ [], (refl, refl), sent_one c.args.out.now _ c.refuse_unknown-in-ReverseContinue.new.out sent)))
+    (λ sent. (refused_response c.args.request.now (codes "no such request") ∷ [], (refl, refl), sent_one c.args.out.now (refused_response c.args.request.now (codes "no such request")) c.refuse_unknown-in-ReverseContinue.new.out sent)))
 
 pub returns-in-Evaluate-clause-sent : goal.returns-in-Evaluate-clause-sent
 returns-in-Evaluate-clause-sent c = with_command _ the.Evaluate c.args.command c.args.launched.now c.args.request.now _ c.args.out.now _ c.in-Evaluate.is
     (ok_then c.refuse_unknown-in-Evaluate.result c.refuse_unknown-in-Evaluate.ensures.sent
-    (λ sent. (refused_response c.args.request.now (codes "no such request") ∷ [], (refl, refl), sent_one c.args.out.now _ c.refuse_unknown-in-Evaluate.new.out sent)))
+    (λ sent. (refused_response c.args.request.now (codes "no such request") ∷ [], (refl, refl), sent_one c.args.out.now (refused_response c.args.request.now (codes "no such request")) c.refuse_unknown-in-Evaluate.new.out sent)))
 
 pub returns-in-Terminate-clause-sent : goal.returns-in-Terminate-clause-sent
 returns-in-Terminate-clause-sent c = with_command _ the.Terminate c.args.command c.args.launched.now c.args.request.now _ c.args.out.now _ c.in-Terminate.is
     (ok_then c.refuse_unknown-in-Terminate.result c.refuse_unknown-in-Terminate.ensures.sent
-    (λ sent. (refused_response c.args.request.now (codes "no such request") ∷ [], (refl, refl), sent_one c.args.out.now _ c.refuse_unknown-in-Terminate.new.out sent)))
+    (λ sent. (refused_response c.args.request.now (codes "no such request") ∷ [], (refl, refl), sent_one c.args.out.now (refused_response c.args.request.now (codes "no such request")) c.refuse_unknown-in-Terminate.new.out sent)))
 
 pub returns-in-Disconnect-clause-sent : goal.returns-in-Disconnect-clause-sent
 returns-in-Disconnect-clause-sent c = with_command _ the.Disconnect c.args.command c.args.launched.now c.args.request.now _ c.args.out.now _ c.in-Disconnect.is
     (ok_then c.refuse_unknown-in-Disconnect.result c.refuse_unknown-in-Disconnect.ensures.sent
-    (λ sent. (refused_response c.args.request.now (codes "no such request") ∷ [], (refl, refl), sent_one c.args.out.now _ c.refuse_unknown-in-Disconnect.new.out sent)))
+    (λ sent. (refused_response c.args.request.now (codes "no such request") ∷ [], (refl, refl), sent_one c.args.out.now (refused_response c.args.request.now (codes "no such request")) c.refuse_unknown-in-Disconnect.new.out sent)))
