@@ -119,12 +119,7 @@ pub fn gone_text(alloc: Global, lab: &Lab, gone: &Gone) -> Result<String, AllocE
 }
 
 /// Adds a line for each other node of which steps went.
-fn add_others(
-    alloc: Global,
-    text: &mut String,
-    lab: &Lab,
-    gone: &Gone,
-) -> Result<(), AllocError>
+fn add_others(alloc: Global, text: &mut String, lab: &Lab, gone: &Gone) -> Result<(), AllocError>
     ensures { OnOk result (string_bytes text.new ≡ string_bytes text.old ++ gone_below gone.now.node.number gone.now.before lab.now 144) }
 {
     'nodes: for number in 0..144u8 {

@@ -85,11 +85,7 @@ fn count_asked(arguments: &Value) -> usize
 }
 
 /// Tells that none stands in another file.
-fn tell_nowhere(
-    alloc: Global,
-    request: &ClientRequest,
-    out: &mut Outbox,
-) -> Result<(), AllocError>
+fn tell_nowhere(alloc: Global, request: &ClientRequest, out: &mut Outbox) -> Result<(), AllocError>
     ensures sent { OnOk result (Sends out.old (answered request.now (breakpoints_body (replicate (length (member_values (codes "breakpoints") (view request.now.arguments))) elsewhere))) out.new) }
     ensures err { OnErr result (out.new ≡ out.old) }
 {

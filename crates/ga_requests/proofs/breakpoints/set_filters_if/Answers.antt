@@ -12,8 +12,7 @@ returns-in_ok-acknowledge-clause-sent c =
     let new : Configuration = record c.args.settings.now { stops = c.has_filter-stops.result; stuck = c.has_filter-stuck.result } in
     let e : new ≡ record c.args.settings.now { stops = list_any (is_text (codes "stop")) (map view c.args.filters.now); stuck = list_any (is_text (codes "stuck")) (map view c.args.filters.now) } =
     ap (λ (z : Bool). record c.args.settings.now { stops = z; stuck = c.has_filter-stuck.result }) c.has_filter-stops.ensures
-    ∙ ap (λ (z : Bool). record c.args.settings.now { stops = list_any (is_text (codes "stop")) (map view c.args.filters.now); stuck = z }) c.has_filter-stuck.ensures in
-    (
+    ∙ ap (λ (z : Bool). record c.args.settings.now { stops = list_any (is_text (codes "stop")) (map view c.args.filters.now); stuck = z }) c.has_filter-stuck.ensures in (
       acknowledged c.args.request.now,
       subst (λ (z : Bool). SetsFiltersIf z (map view c.args.filters.now) c.args.settings.now c.args.request.now (acknowledged c.args.request.now) new) (sym c.if-known.true) (refl, e),
       c.in_ok-acknowledge.ensures.sent,

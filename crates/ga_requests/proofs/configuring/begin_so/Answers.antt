@@ -10,8 +10,7 @@ use Rattle.ga_requests.proofs.configuring.begin_so.Goals as goal
 pub returns-in_ok-tell_stopped-clause-sent : goal.returns-in_ok-tell_stopped-clause-sent
 returns-in_ok-tell_stopped-clause-sent c =
     let message : Message = stopped (codes "entry") (codes "at load") c.first_of-first.result.number in
-    let new : Execution = record c.args.execution.now { is_configured = true } in
-    (
+    let new : Execution = record c.args.execution.now { is_configured = true } in (
       message ∷ [],
       subst (λ (z : Bool). BeginsSo z c.args.program.now c.args.execution.now (message ∷ []) new) (sym c.if-stops.true) (c.first_of-first.result, c.first_of-first.ensures, refl, refl),
       sent_one c.args.out.now message c.tell_stopped.new.out c.in_ok-tell_stopped.ensures.sent,

@@ -9,7 +9,7 @@ returns c = (
   c.go_on-went.ensures.state,
   c.go_on-went.ensures.most,
   gone_by _ _ _ _ (running c.args.program.now.lab c.args.execution.now.schedule) slice_limit c.go_on-went.result.events c.go_on-went.result.halt c.halts-halts.ensures.points
-    c.halts-halts.ensures.stops c.go_on-went.ensures.end,
+      c.halts-halts.ensures.stops c.go_on-went.ensures.end,
   refl,
   refl,
 )
