@@ -62,7 +62,14 @@ pub fn check_orders<S: Threads + Sync, R: Read, W: Write, E: Write>(
     let mut input = Input::new();
     match begin(alloc, &mut input, reader, writer, errors, limit) {
         Ok(begun) => tell_orders(
-            rt, alloc, &mut begun.into_lab(), bounds, asked, workers, made, writer,
+            rt,
+            alloc,
+            &mut begun.into_lab(),
+            bounds,
+            asked,
+            workers,
+            made,
+            writer,
         ),
         Err(status) => Verdict::Ended(status),
     }
