@@ -21,7 +21,7 @@ use std::fs::File;
 use std::io::{Chain, ErrorKind, Read, Stdin, Take};
 use std::process::ExitCode;
 use std::sync::atomic::{AtomicBool, AtomicU64, Ordering};
-use std::thread::join;
+use std::thread::{Threads, join};
 use std::time::Duration;
 use std::{env, io, thread};
 
@@ -83,7 +83,7 @@ fn main(rt: HostRuntime) -> ExitCode {
                 asked: session.unwrap_or(0),
                 workers,
             };
-            checked(&rt, runs, progress, &file)
+            checked(&rt, &rt, runs, progress, &file)
         }
         Ok(Settings::Dap) => serve_editor(&rt),
         Ok(Settings::Explore { limit, file }) => served(&rt, Work::Explore { limit }, &file),
@@ -259,20 +259,27 @@ struct Runs {
 }
 
 /// Reads a file, where one is named, or standard input, and runs every order of its nodes. Its progress is told where that is wanted.
-fn checked(rt: &HostRuntime, runs: Runs, tells: bool, file: &Option<String>) -> ExitCode {
+fn checked<T: Threads + Sync>(
+    threads: &T,
+    rt: &HostRuntime,
+    runs: Runs,
+    tells: bool,
+    file: &Option<String>,
+) -> ExitCode {
     let front = match front_of(rt, file) {
         Ok(front) => front,
         Err(code) => return code,
     };
     if !tells {
-        return exit_with(rt, verdict_on(rt, runs, &front, &AtomicU64::new(0)));
+        let made = AtomicU64::new(0);
+        return exit_with(rt, verdict_on(threads, rt, runs, &front, &made));
     }
     let (made, is_done) = (AtomicU64::new(0), AtomicBool::new(false));
     // Where no thread can be made the second begins when the first has ended.
     let (verdict, _told) = join(
-        rt,
+        threads,
         || {
-            let verdict = verdict_on(rt, runs, &front, &made);
+            let verdict = verdict_on(threads, rt, runs, &front, &made);
             is_done.store(true, Ordering::SeqCst);
             verdict
         },
@@ -282,7 +289,13 @@ fn checked(rt: &HostRuntime, runs: Runs, tells: bool, file: &Option<String>) -> 
 }
 
 /// What comes of every order of what is read, with how many runs were made so far in `made`.
-fn verdict_on(rt: &HostRuntime, runs: Runs, front: &Front, made: &AtomicU64) -> Verdict {
+fn verdict_on<T: Threads + Sync>(
+    threads: &T,
+    rt: &HostRuntime,
+    runs: Runs,
+    front: &Front,
+    made: &AtomicU64,
+) -> Verdict {
     let bounds = Bounds {
         runs: u64::from(runs.most),
         choices: MOST_CHOICES,
@@ -291,7 +304,7 @@ fn verdict_on(rt: &HostRuntime, runs: Runs, front: &Front, made: &AtomicU64) -> 
     let mut reader = front.reader(rt);
     let (mut writer, mut errors) = (rt.stdout(), rt.stderr());
     check_orders(
-        rt,
+        threads,
         rt.alloc(),
         &mut reader,
         &mut writer,

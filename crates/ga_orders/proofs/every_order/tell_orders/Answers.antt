@@ -5,15 +5,15 @@ use Rattle.ga_orders.proofs.every_order.tell_orders.Goals as goal
 pub returns-in-Ok : goal.returns-in-Ok
 returns-in-Ok g c = λ before held.
     let sent = c.tell_tally.ensures before held in
-    (sent.0, sent.1, record { found = Ok c.in-Ok.tally; last = c.check.new.lab; is_searched = c.in-Ok.ensures.once; told = sent.2 })
+    (sent.0, sent.1, record { found = Ok c.in-Ok.tally; last = c.check_shared.new.lab; is_searched = c.in-Ok.ensures.once; told = sent.2 })
 
 pub returns-in-Err-Reached : goal.returns-in-Err-Reached
 returns-in-Err-Reached g c = λ before held.
     let sent = c.tell_session.ensures before held in
     let reached = c.in-Err-Reached.ensures.reached c.in-Err-Reached.field-0-is in
-    (sent.0, sent.1, record { found = Err Reached; last = c.check.new.lab; is_searched = reached; told = sent.2 })
+    (sent.0, sent.1, record { found = Err Reached; last = c.check_shared.new.lab; is_searched = reached; told = sent.2 })
 
 pub returns-in-Err-Memory : goal.returns-in-Err-Memory
 returns-in-Err-Memory g c = λ before held.
     let sent = c.tell_no_memory.ensures before held in
-    (sent.0, sent.1, record { found = Err Memory; last = c.check.new.lab; is_searched = tt; told = sent.2 })
+    (sent.0, sent.1, record { found = Err Memory; last = c.check_shared.new.lab; is_searched = tt; told = sent.2 })
