@@ -26,6 +26,9 @@ const HEAD: u64 = 52;
 
 const ROW: u64 = 18;
 
+/// The bytes that are taken at once for what is drawn of an event, which is rarely more.
+const EVENT_ROOM: usize = 512;
+
 /// What the classes look like: `k` black, `g` grey, `r` red, `c` of steps that could have come out otherwise. Red is heavier too, so
 /// that it stands out in print. Each text has a white rim, and so is read over lines.
 const STYLE: &str = "<style>
@@ -106,7 +109,7 @@ fn group(
 ) -> Result<String, AllocError>
     ensures { IfOk result (λ text. IsGroup (class_of (shade_of shape)) (string_bytes text)) }
 {
-    let mut text = String::new(alloc);
+    let mut text = String::with_capacity(alloc, EVENT_ROOM)?;
     text.push_str(class(shape.shade()))?;
     let body = body(alloc, drawing, y_of(row), shape, made)?;
     text.push_str(body.as_str())?;
@@ -141,7 +144,7 @@ fn body(
     shape: Shape,
     made: Option<&Made>,
 ) -> Result<String, AllocError> {
-    let mut text = String::new(alloc);
+    let mut text = String::with_capacity(alloc, EVENT_ROOM)?;
     push_event(&mut text, drawing, y, shape, made)?;
     Ok(text)
 }
