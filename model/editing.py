@@ -16,10 +16,10 @@ ABLE += ("InstructionBreakpoints", "StepBack", "SteppingGranularity", "Terminate
 FULL = "full: as many events are kept as may be"
 
 
-def address_in(text, offset=0):
+def address_in(text):
     """The node and the address in it of an address of the chip, or None."""
     digits = re.fullmatch("0x([0-9a-fA-F]+)", text)
-    found = digits and re.fullmatch("([0-7](?:0[0-9]|1[0-7]))0([0-9a-f]{2})", f"{int(digits[1], 16) + offset:06x}")
+    found = digits and re.fullmatch("([0-7](?:0[0-9]|1[0-7]))0([0-9a-f]{2})", f"{int(digits[1], 16):06x}")
     return found and (NODE_NAMES[found[1]], int(found[2], 16))
 
 
@@ -183,8 +183,9 @@ class Session:
 
     @staticmethod
     def at_address(asked):
-        at = address_in(asked["instructionReference"], asked.get("offset", 0))
-        return at and ({"node": at[0], "spot": (cell_of(at[1]), 0)}, {})
+        at = address_in(asked["instructionReference"])
+        address = at and (at[1] + asked.get("offset", 0)) % 4096
+        return at and address < 256 and ({"node": at[0], "spot": (cell_of(address), 0)}, {})
 
     @staticmethod
     def of_cell(asked):
@@ -241,7 +242,7 @@ class Session:
         at = address_in(self.arguments["memoryReference"])
         if not at:
             raise Refused("disassemble: no such memory")
-        first = at[1] + self.arguments.get("instructionOffset", 0)
+        first = at[1] + self.arguments.get("offset", 0) + self.arguments.get("instructionOffset", 0)
         self.respond(self.shown.disassembled(at[0], first % 4096, self.arguments["instructionCount"]))
 
     # ---- moves

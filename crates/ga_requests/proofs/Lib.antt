@@ -1,1 +1,5 @@
 pub mod Described
+pub mod WentLines
+pub mod Placed
+pub mod Answered
+pub mod Referred

@@ -1,7 +1,12 @@
 -- The requests that go back (Debug Adapter Protocol, "StepBackRequest", "ReverseContinueRequest", "SteppingGranularity").
-use Rattle.std.specs.Prelude.{◌==◌, if◌then◌else◌, ℕ, List, map, filter, codes, bytes_eq, Option, Some, None}
+use Rattle.std.specs.Prelude.{◌≡◌, ◌<◌, ◌==◌, ◌+◌, ◌-◌, nat_lt, if◌then◌else◌, ℕ, zero, suc, List, [], ◌++◌, map, filter, length, slice_index_or, codes, decimal, bytes_eq, Option, Some, None}
 use Rattle.serde_json.specs.Data.{Data}
 use Rattle.ga_text.specs.Lines.{Text}
+use Rattle.ga_text.specs.Names.{name_of_node}
+use Rattle.ga_text.specs.Digits.{decimal3_of}
+use Rattle.ga_event.specs.Told.{steps_of}
+use Rattle.ga_grid.specs.Grid.{yxx_of}
+use Rattle.ga_lab.specs.Machine.{State}
 use Rattle.ga_grid.specs.declared.node_id.NodeId.{NodeId}
 use Rattle.ga_notes.specs.declared.notes.Notes.{Notes}
 use Rattle.ga_protocol.specs.Messages.{member_text}
@@ -38,3 +43,35 @@ watched_of points node = map (λ (point : Breakpoint). point.watched) (filter (�
 -- `reverseContinue`: to the newest step by which it came to a breakpoint of its own, or right before it wrote a watched cell
 abbrev pub reversed_by : Debuggee → NodeId → List Watched → Debuggee
 reversed_by p node watched = record p { lab = reversed p.lab node watched }
+
+-- ---- what is told of it ("OutputEvent"): how many events went and are kept, and of each other node which of its steps went
+
+-- how many steps of each node were kept
+abbrev pub AreStepsOf : State → List ℕ → Type 0
+AreStepsOf s steps = (n : ℕ) → n < 144 → slice_index_or steps n 0 ≡ steps_of n s.kept
+
+abbrev pub gone_with_it : ℕ → ℕ → ℕ → Text
+gone_with_it n before left =
+    if nat_lt left before then codes "  with it " ++ decimal3_of (yxx_of n) ++ codes " " ++ decimal (left + 1) ++ codes " to " ++ decimal before ++ codes "\n" else []
+
+abbrev pub gone_of : ℕ → List ℕ → State → ℕ → Text
+gone_of node before s n = if n == node then [] else gone_with_it n (slice_index_or before n 0) (steps_of n s.kept)
+
+-- of the first nodes
+unfoldable pub gone_below : ℕ → List ℕ → State → ℕ → Text
+gone_below node before s zero = []
+gone_below node before s (suc n) = gone_below node before s n ++ gone_of node before s n
+
+abbrev pub gone_head : NodeId → ℕ → State → Text
+gone_head node removed s =
+    codes "rewind " ++ name_of_node node ++ codes " " ++ decimal (steps_of node.number s.kept + 1) ++ codes ": removed " ++ decimal removed ++ codes " kept "
+    ++ decimal (length s.kept) ++ codes "\n"
+
+-- where these many steps of each node were kept before, and so many events went
+abbrev pub gone_words : NodeId → List ℕ → ℕ → State → Text
+gone_words node before removed s = gone_head node removed s ++ gone_below node.number before s 144
+
+-- what went where a node was gone back: between these two machines
+pub record WentBack (old new : State) (before : List ℕ) (removed : ℕ) : Type 0 where
+  pub steps : AreStepsOf old before
+  pub count : removed ≡ length old.kept - length new.kept

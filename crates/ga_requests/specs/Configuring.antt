@@ -19,13 +19,14 @@ abbrev pub threads_told : ClientRequest → (ℕ → Bool) → Messages
 threads_told request marks = (acknowledged request ∷ []) ++ changed_below (λ n. false) marks 144
 
 -- the chip stands at load, or runs
-abbrev pub BeginsSo : Bool → Debuggee → Execution → ClientRequest → (ℕ → Bool) → Messages → Execution → Type 0
-BeginsSo true p r request marks messages new = (first : NodeId) × IsFirstShown p.lab p.nodes.items first.number
-    × (messages ≡ threads_told request marks ++ (stopped (codes "entry") (codes "at load") first.number ∷ [])) × (new ≡ record r { is_configured = true })
-BeginsSo false p r request marks messages new = (messages ≡ threads_told request marks) × (new ≡ record r { is_configured = true; goal = Some Continue })
+abbrev pub BeginsSo : Bool → Debuggee → Execution → Messages → Execution → Type 0
+BeginsSo true p r messages new = (first : NodeId) × IsFirstShown p.lab p.nodes.items first.number
+    × (messages ≡ stopped (codes "entry") (codes "at load") first.number ∷ []) × (new ≡ record r { is_configured = true })
+BeginsSo false p r messages new = (messages ≡ []) × (new ≡ record r { is_configured = true; goal = Some Continue })
 
 abbrev pub ConfiguresOnce : Debuggee → Execution → ClientRequest → Messages → Execution → Type 0
-ConfiguresOnce p r request messages new = (marks : ℕ → Bool) × AreShown p marks × BeginsSo r.stops_on_entry p r request marks messages new
+ConfiguresOnce p r request messages new = (marks : ℕ → Bool) × (more : Messages) × AreShown p marks × BeginsSo r.stops_on_entry p r more new
+    × (messages ≡ threads_told request marks ++ more)
 
 abbrev pub ConfiguresIf : Bool → Debuggee → Execution → ClientRequest → Messages → Execution → Type 0
 ConfiguresIf true p r request messages new = (messages ≡ refused_response request (codes "configurationDone: it is done") ∷ []) × (new ≡ r)

@@ -1,5 +1,6 @@
 pub mod Stopping
 pub mod Back
+pub mod Placing
 pub mod Breakpoints
 pub mod Moving
 pub mod Configuring

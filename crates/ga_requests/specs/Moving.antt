@@ -74,11 +74,14 @@ BeginsStep p kind r request message new =
     (asked : Option NodeId) × AsksOfThread (view request.arguments) asked × BeginsStepOf p kind r request asked message new
 
 -- `pause`: where a run is under way it ends, and the chip stands; a thread that the client names is told, else the first
-abbrev pub PausesAt : Debuggee → ClientRequest → Option Goal → List Message → Type 0
-PausesAt p request None messages = messages ≡ acknowledged request ∷ []
-PausesAt p request (Some goal) messages = (first : NodeId) × (asked : Option NodeId) × IsFirstShown p.lab p.nodes.items first.number
+abbrev pub PausesRun : Debuggee → ClientRequest → Messages → Type 0
+PausesRun p request messages = (first : NodeId) × (asked : Option NodeId) × IsFirstShown p.lab p.nodes.items first.number
     × AsksOfThread (view request.arguments) asked
     × (messages ≡ acknowledged request ∷ stopped (codes "pause") (codes "pause") (unwrap_or asked first).number ∷ [])
+
+abbrev pub PausesAt : Debuggee → ClientRequest → Option Goal → Messages → Type 0
+PausesAt p request None messages = messages ≡ acknowledged request ∷ []
+PausesAt p request (Some goal) messages = PausesRun p request messages
 
 abbrev pub Pauses : Debuggee → Execution → ClientRequest → Messages → Execution → Type 0
 Pauses p r request messages new = PausesAt p request r.goal messages × (new ≡ run_ended r)

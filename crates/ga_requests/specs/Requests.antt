@@ -9,10 +9,13 @@ use Rattle.ga_requests.specs.declared.moving.StepKind.TheVariants.{Over, In, Out
 use Rattle.ga_requests.specs.declared.execution.Execution.{Execution}
 use Rattle.ga_requests.specs.declared.launched.Launched.{Launched}
 use Rattle.ga_requests.specs.declared.configuration.Configuration.{Configuration}
-use Rattle.ga_requests.specs.Breakpoints.{SetsFilters}
+use Rattle.ga_requests.specs.declared.configuration.Family.TheVariants as family
+use Rattle.ga_requests.specs.Breakpoints.{SetsFilters, SetsLines, SetsPoints}
 use Rattle.ga_requests.specs.Configuring.{Configures}
 use Rattle.ga_requests.specs.Moving.{Continues, BeginsStep, Pauses}
 use Rattle.ga_responses.specs.Readings.{AnswersThreads, AnswersStack, AnswersScopes, AnswersVariables, AnswersException}
+use Rattle.ga_responses.specs.Disassembling.{AnswersInstructions}
+use Rattle.ga_responses.specs.Watching.{AnswersDataInfo}
 use Rattle.ga_responses.specs.Sending.{Message, Messages, refused_response}
 
 -- one message is sent, and what was launched stays
@@ -28,8 +31,9 @@ Steps kind l request messages new = (message : Message) × (execution : Executio
     × (messages ≡ message ∷ []) × (new ≡ record l { execution = execution })
 
 -- what the client set changes, and nothing else; one message is sent
-abbrev pub Sets : Launched → Messages → Launched → Type 0
-Sets l messages new = (message : Message) × (settings : Configuration) × (messages ≡ message ∷ []) × (new ≡ record l { settings = settings })
+abbrev pub Sets : (Message → Configuration → Type 0) → Launched → Messages → Launched → Type 0
+Sets Becomes l messages new = (message : Message) × (settings : Configuration) × Becomes message settings × (messages ≡ message ∷ [])
+    × (new ≡ record l { settings = settings })
 
 abbrev pub DoesInPlace : RequestName → Launched → ClientRequest → Messages → Launched → Type 0
 DoesInPlace the.Threads l request messages new = OnlyAnswers (AnswersThreads l.program request) l messages new
@@ -43,12 +47,11 @@ DoesInPlace the.Pause l request messages new = Moves (Pauses l.program l.executi
 DoesInPlace the.Next l request messages new = Steps Over l request messages new
 DoesInPlace the.StepIn l request messages new = Steps In l request messages new
 DoesInPlace the.StepOut l request messages new = Steps Out l request messages new
-DoesInPlace the.SetBreakpoints l request messages new = Sets l messages new
-DoesInPlace the.SetFunctionBreakpoints l request messages new = Sets l messages new
-DoesInPlace the.SetInstructionBreakpoints l request messages new = Sets l messages new
-DoesInPlace the.SetDataBreakpoints l request messages new = Sets l messages new
-DoesInPlace the.DataBreakpointInfo l request messages new = OnlyAnswers (λ message. Unit {0}) l messages new
-DoesInPlace the.SetExceptionBreakpoints l request messages new = (message : Message) × (settings : Configuration) × SetsFilters l.settings request message settings
-    × (messages ≡ message ∷ []) × (new ≡ record l { settings = settings })
-DoesInPlace the.Disassemble l request messages new = OnlyAnswers (λ message. Unit {0}) l messages new
+DoesInPlace the.SetBreakpoints l request messages new = Sets (SetsLines l.program l.settings request) l messages new
+DoesInPlace the.SetFunctionBreakpoints l request messages new = Sets (SetsPoints l.program family.Function l.settings request) l messages new
+DoesInPlace the.SetInstructionBreakpoints l request messages new = Sets (SetsPoints l.program family.Instruction l.settings request) l messages new
+DoesInPlace the.SetDataBreakpoints l request messages new = Sets (SetsPoints l.program family.Data l.settings request) l messages new
+DoesInPlace the.DataBreakpointInfo l request messages new = OnlyAnswers (AnswersDataInfo request) l messages new
+DoesInPlace the.SetExceptionBreakpoints l request messages new = Sets (SetsFilters l.settings request) l messages new
+DoesInPlace the.Disassemble l request messages new = OnlyAnswers (AnswersInstructions l.program request) l messages new
 DoesInPlace other l request messages new = (messages ≡ refused_response request (codes "no such request") ∷ []) × (new ≡ l)

@@ -20,7 +20,7 @@ use Rattle.ga_breakpoints.specs.declared.going.Halt.{Halt}
 use Rattle.ga_breakpoints.specs.declared.going.Halt.TheVariants as halt
 use Rattle.ga_breakpoints.specs.declared.going.Went.{Went}
 use Rattle.ga_breakpoints.specs.declared.stepping.Stepping.{Stepping}
-use Rattle.ga_breakpoints.specs.Going.{HasWent, going_on, stepping_on}
+use Rattle.ga_breakpoints.specs.Going.{HasGone, going_on, stepping_on}
 use Rattle.ga_breakpoints.specs.Stepping.{stepped_on}
 use Rattle.ga_requests.specs.declared.execution.Execution.{Execution}
 use Rattle.ga_requests.specs.declared.execution.Goal.{Goal}
@@ -42,14 +42,14 @@ slice_limit = 4096
 abbrev pub GoesOn : Debuggee → Configuration → Execution → Debuggee → Execution → Went → Type 0
 GoesOn p set r new next went =
     (running new.lab went.schedule ≡ after_events (running p.lab r.schedule) went.events) × (went.events ≤ slice_limit)
-    × HasWent (going_on set.points.points.items set.stops) (running p.lab r.schedule) slice_limit went.events went.halt
+    × HasGone (going_on set.points.points.items set.stops) (running p.lab r.schedule) slice_limit went.events went.halt
     × (new ≡ record p { lab = new.lab }) × (next ≡ record r { schedule = went.schedule })
 
 -- of a step of one node
 abbrev pub StepsOn : Stepping → Debuggee → Configuration → Execution → Debuggee → Execution → Went → Type 0
 StepsOn by p set r new next went =
     (running new.lab went.schedule ≡ after_first (Some by.node) (running p.lab r.schedule) went.events) × (went.events ≤ slice_limit)
-    × HasWent (stepping_on (program_notes p) set.points.points.items set.stops by (running p.lab r.schedule)) (running p.lab r.schedule) slice_limit went.events went.halt
+    × HasGone (stepping_on (program_notes p) set.points.points.items set.stops by (running p.lab r.schedule)) (running p.lab r.schedule) slice_limit went.events went.halt
     × (new ≡ record p { lab = new.lab })
     × (next ≡ record r { schedule = went.schedule; goal = Some (Step (stepped_on by (running p.lab r.schedule) went.events)) })
 
@@ -88,7 +88,7 @@ end_of_move (Step by) told = stop.Step by.node
 -- where a node came to be stuck that was not before, and where the filter says so
 abbrev pub ended_stuck : Bool → Option NodeId → Option StopReason → Option StopReason
 ended_stuck true (Some node) other = Some (stop.Stuck node)
-ended_stuck asked none other = other
+ended_stuck asked stuck other = other
 
 abbrev pub stop_by : Configuration → Goal → Option NodeId → Halt → Option StopReason
 stop_by set goal stuck (halt.Hit told which) = Some (hit_at set told which)

@@ -1,28 +1,20 @@
 //! The requests that go back.
 
-ghost use Rattle.std.specs.Prelude.{◌≡◌};
+ghost use Rattle.std.specs.Prelude.{◌≡◌, ◌++◌, length, string_bytes, slice_index_or, IfOk, OnOk};
 ghost use Rattle.serde_json.specs.View.{view};
-ghost use Rattle.ga_requests.specs.Back.{grain_asked, stepped_by, reversed_by};
+ghost use Rattle.ga_event.specs.Told.{steps_of};
+ghost use Rattle.ga_requests.specs.Back.{grain_asked, stepped_by, reversed_by, AreStepsOf, WentBack, gone_with_it, gone_of, gone_below, gone_head, gone_words};
 
 use crate::moving::grain_asked;
 use ga_adapter::{Watched, reverse_continue, step_back, step_back_line};
 use ga_breakpoints::Grain;
 use ga_grid::NodeId;
 use ga_lab::Lab;
-use ga_responses::Debuggee;
+use ga_responses::{Debuggee, add_name};
 use serde_json::Value;
 use std::alloc::{AllocError, Global};
 
-/// How many steps of each node are kept.
-pub fn steps_kept(lab: &Lab) -> [u32; 144] {
-    let mut steps = [0u32; 144];
-    for number in 0..144u8 {
-        steps[number as usize] = lab.steps(NodeId::new(number));
-    }
-    steps
-}
-
-/// What went where a node was gone back: how many events of each node were kept before and are kept now.
+/// What went where a node was gone back: how many steps of each node were kept before, and how many events went.
 #[derive(Drop)]
 pub struct Gone {
     pub node: NodeId,
@@ -30,22 +22,56 @@ pub struct Gone {
     pub removed: u32,
 }
 
+/// How many steps of each node are kept.
+fn steps_kept(lab: &Lab) -> [u32; 144]
+    ensures steps { AreStepsOf lab.now result }
+    ensures size { length result ≡ 144 }
+{
+    let mut steps = [0u32; 144];
+    for number in 0..144u8 {
+        let kept = lab.steps(NodeId::new(number));
+        steps[number as usize] = kept;
+    }
+    steps
+}
+
+/// Goes back with a node by a line or a step.
+fn step_by(program: &mut Debuggee, node: NodeId, grain: Grain)
+    ensures { program.new ≡ stepped_by grain program.old node }
+{
+    match grain {
+        Grain::Instruction => {
+            step_back(&mut program.lab, node);
+        }
+        Grain::Line => step_line(program, node),
+    }
+}
+
+/// The same by a line.
+fn step_line(program: &mut Debuggee, node: NodeId)
+    ensures { program.new ≡ stepped_by Grain.Line program.old node }
+{
+    match &program.source {
+        Some(notes) => {
+            step_back_line(&mut program.lab, notes, node);
+        }
+        None => {
+            step_back_line(&mut program.lab, &program.unsaid, node);
+        }
+    }
+}
+
 /// Goes back with a node by a line or a step, and says what went.
 pub fn step_node_back(program: &mut Debuggee, node: NodeId, arguments: &Value) -> Gone
     ensures program { program.new ≡ stepped_by (grain_asked program.old (view arguments.now)) program.old node }
     ensures node { result.node ≡ node }
+    ensures went { WentBack program.old.lab program.new.lab result.before result.removed }
 {
     let before = steps_kept(&program.lab);
-    let removed = match grain_asked(program, arguments) {
-        Grain::Instruction => step_back(&mut program.lab, node),
-        Grain::Line => {
-            let notes = match &program.source {
-                Some(notes) => notes,
-                None => &program.unsaid,
-            };
-            step_back_line(&mut program.lab, notes, node)
-        }
-    };
+    let kept = program.lab.counts().kept;
+    let grain = grain_asked(program, arguments);
+    step_by(program, node, grain);
+    let removed = kept.saturating_sub(program.lab.counts().kept);
     Gone {
         node,
         before,
@@ -57,9 +83,12 @@ pub fn step_node_back(program: &mut Debuggee, node: NodeId, arguments: &Value) -
 pub fn reverse_node(program: &mut Debuggee, node: NodeId, watched: &[Watched]) -> Gone
     ensures program { program.new ≡ reversed_by program.old node watched.now }
     ensures node { result.node ≡ node }
+    ensures went { WentBack program.old.lab program.new.lab result.before result.removed }
 {
     let before = steps_kept(&program.lab);
-    let removed = reverse_continue(&mut program.lab, node, watched);
+    let kept = program.lab.counts().kept;
+    reverse_continue(&mut program.lab, node, watched);
+    let removed = kept.saturating_sub(program.lab.counts().kept);
     Gone {
         node,
         before,
@@ -67,33 +96,57 @@ pub fn reverse_node(program: &mut Debuggee, node: NodeId, watched: &[Watched]) -
     }
 }
 
-/// The lines that tell what went.
-pub fn gone_text(alloc: Global, lab: &Lab, gone: &Gone) -> Result<String, AllocError> {
+/// The line that tells of the node that was gone back.
+fn gone_head(alloc: Global, lab: &Lab, gone: &Gone) -> Result<String, AllocError>
+    ensures { IfOk result (λ text. string_bytes text ≡ gone_head gone.now.node gone.now.removed lab.now) }
+{
     let kept = lab.counts().kept;
-    let name = gone.node.yxx();
-    let step = lab.steps(gone.node).saturating_add(1);
+    let step = u64::from(lab.steps(gone.node)) + 1;
     let removed = gone.removed;
-    let mut text = format!(in alloc; "rewind {name:03} {step}: removed {removed} kept {kept}\n")?;
-    for number in 0..144u8 {
-        let node = NodeId::new(number);
-        if node != gone.node {
-            push_other(
-                &mut text,
-                node,
-                gone.before[number as usize],
-                lab.steps(node),
-            )?;
-        }
-    }
+    let mut text = String::from_str(alloc, "rewind ")?;
+    add_name(&mut text, gone.node)?;
+    write!(text, " {step}: removed {removed} kept {kept}\n")?;
     Ok(text)
 }
 
+/// The lines that tell what went.
+pub fn gone_text(alloc: Global, lab: &Lab, gone: &Gone) -> Result<String, AllocError>
+    ensures { IfOk result (λ text. string_bytes text ≡ gone_words gone.now.node gone.now.before gone.now.removed lab.now) }
+{
+    let mut text = gone_head(alloc, lab, gone)?;
+    add_others(&mut text, lab, gone)?;
+    Ok(text)
+}
+
+/// Adds a line for each other node of which steps went.
+fn add_others(text: &mut String, lab: &Lab, gone: &Gone) -> Result<(), AllocError>
+    ensures { OnOk result (string_bytes text.new ≡ string_bytes text.old ++ gone_below gone.now.node.number gone.now.before lab.now 144) }
+{
+    'nodes: for number in 0..144u8 {
+        add_gone(text, lab, gone, NodeId::new(number))?;
+    }
+    Ok(())
+}
+
+/// Adds the steps of a node that went, where it is another one and any did.
+fn add_gone(text: &mut String, lab: &Lab, gone: &Gone, node: NodeId) -> Result<(), AllocError>
+    ensures { OnOk result (string_bytes text.new ≡ string_bytes text.old ++ gone_of gone.now.node.number gone.now.before lab.now node.number) }
+{
+    if node.number == gone.node.number {
+        return Ok(());
+    }
+    add_other(text, node, gone.before[node.index()], lab.steps(node))
+}
+
 /// Adds the steps of another node that went, where any did.
-fn push_other(text: &mut String, node: NodeId, before: u32, left: u32) -> Result<(), AllocError> {
+fn add_other(text: &mut String, node: NodeId, before: u32, left: u32) -> Result<(), AllocError>
+    ensures { OnOk result (string_bytes text.new ≡ string_bytes text.old ++ gone_with_it node.number before left) }
+{
     if before <= left {
         return Ok(());
     }
-    let name = node.yxx();
-    let first = left.saturating_add(1);
-    write!(text, "  with it {name:03} {first} to {before}\n")
+    let first = u64::from(left) + 1;
+    text.push_str("  with it ")?;
+    add_name(text, node)?;
+    write!(text, " {first} to {before}\n")
 }

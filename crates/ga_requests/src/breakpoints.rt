@@ -1,53 +1,20 @@
 //! The requests that set breakpoints.
 
-ghost use Rattle.std.specs.Prelude.{◌≡◌, ◌||◌, map, OnOk, OnErr};
+ghost use Rattle.std.specs.Prelude.{◌≡◌, [], codes, map, length, replicate, IfOk, OnOk, OnErr};
 ghost use Rattle.std.specs.List.{list_all, list_any};
 ghost use Rattle.serde_json.specs.View.{view};
-ghost use Rattle.ga_requests.specs.Breakpoints.{is_text, is_filter, SetsFilters};
-ghost use Rattle.ga_requests.specs.kept.Lines.{is_own_file};
-ghost use Rattle.ga_responses.specs.Sending.{Sends, Message};
+ghost use Rattle.ga_requests.specs.Placing.{Places};
+ghost use Rattle.ga_requests.specs.Breakpoints.{left_by, breakpoints_body, elsewhere, is_own_file, is_text, is_filter, IsSetTo, SetsFiltersIf, SetsFilters, SetsLines, SetsPoints};
+ghost use Rattle.ga_requests.specs.kept.Placings.{placement_of};
+ghost use Rattle.ga_responses.specs.Arguments.{member_values};
+ghost use Rattle.ga_responses.specs.Sending.{Sends, Message, answered};
 
-use crate::configuration::{Configuration, Family, Points};
-use crate::finding::{found, unfound};
+use crate::configuration::{Configuration, Family, Points, SetBy, breakpoints_of};
+use crate::placing::{Placing, place_all};
 use ga_protocol::{ClientRequest, Outbox, text_at};
 use ga_responses::{Debuggee, values_at};
-use serde_json::{Value, json, push};
+use serde_json::{Map, Value, json, push, put};
 use std::alloc::{AllocError, Global};
-
-fn unverified(alloc: Global, id: u64, why: &str) -> Result<Value, AllocError> {
-    json!(in alloc; {"id": id, "message": why, "verified": false})
-}
-
-fn verified(alloc: Global, id: u64) -> Result<Value, AllocError> {
-    json!(in alloc; {"id": id, "verified": true})
-}
-
-fn verified_on(alloc: Global, program: &Debuggee, id: u64, line: u32) -> Result<Value, AllocError> {
-    let name = program.name.as_str();
-    let path = program.path.as_str();
-    json!(in alloc; {"id": id, "line": line, "source": {"name": name, "path": path}, "verified": true})
-}
-
-/// Places a breakpoint that is asked for, and tells where.
-fn place(
-    alloc: Global,
-    program: &Debuggee,
-    family: Family,
-    asked: &Value,
-    points: &mut Points,
-) -> Result<Value, AllocError> {
-    let id = points.take_id();
-    match found(program, family, asked) {
-        None => unverified(alloc, id, unfound(family)),
-        Some(found) => {
-            points.add(family, id, found.breakpoint)?;
-            match found.line {
-                Some(line) => verified_on(alloc, program, id, line),
-                None => verified(alloc, id),
-            }
-        }
-    }
-}
 
 /// Whether a request speaks of the program's own file.
 fn is_own_file(program: &Debuggee, arguments: &Value) -> bool
@@ -62,40 +29,32 @@ fn is_own_file(program: &Debuggee, arguments: &Value) -> bool
     }
 }
 
-/// Places each breakpoint that is asked for.
-fn place_all(
-    alloc: Global,
-    program: &Debuggee,
-    family: Family,
-    asked: &[Value],
-    points: &mut Points,
-) -> Result<Vec<Value>, AllocError> {
-    let mut list = Vec::new(alloc);
-    for one in asked {
-        let told = place(alloc, program, family, one, points)?;
-        push(&mut list, told)?;
-    }
-    Ok(list)
-}
-
 /// A breakpoint in another file.
-fn elsewhere(alloc: Global) -> Result<Value, AllocError> {
+#[tactic(auto, unfolding(crate::specs::Breakpoints::elsewhere))]
+fn elsewhere(alloc: Global) -> Result<Value, AllocError>
+    ensures { IfOk result (λ v. view v ≡ elsewhere) }
+{
     json!(in alloc; {"message": "the program is another file", "verified": false})
 }
 
-/// What is told where another file is asked for.
-fn place_nowhere(alloc: Global, asked: &[Value]) -> Result<Vec<Value>, AllocError> {
+/// What is told of each where another file is asked for.
+fn place_nowhere(alloc: Global, count: usize) -> Result<Vec<Value>, AllocError>
+    ensures { IfOk result (λ list. map view list.items ≡ replicate count elsewhere) }
+{
     let mut list = Vec::new(alloc);
-    for _ in asked {
+    'asked: for _place in 0..count {
         let told = elsewhere(alloc)?;
         push(&mut list, told)?;
     }
     Ok(list)
 }
 
-fn body_of(alloc: Global, list: Vec<Value>) -> Result<Value, AllocError> {
-    let list = Value::Array(list);
-    json!(in alloc; {"breakpoints": list})
+fn breakpoints_body(alloc: Global, list: Vec<Value>) -> Result<Value, AllocError>
+    ensures { IfOk result (λ v. view v ≡ breakpoints_body (map view list.items)) }
+{
+    let mut map = Map::new(alloc);
+    put(&mut map, alloc, "breakpoints", Value::Array(list))?;
+    Ok(Value::Object(map))
 }
 
 /// `setBreakpoints`: those on lines of the file are replaced.
@@ -106,17 +65,88 @@ pub fn set_lines(
     request: &ClientRequest,
     out: &mut Outbox,
 ) -> Result<(), AllocError>
-    ensures sent { OnOk result ((message : Message) × Sends out.old message out.new) }
-    ensures filters { settings.new ≡ record settings.old { points = settings.new.points } }
+    ensures sent { OnOk result ((message : Message) × SetsLines program.now settings.old request.now message settings.new × Sends out.old message out.new) }
     ensures kept { OnErr result (settings.new ≡ settings.old) }
 {
-    let asked = values_at(&request.arguments, "breakpoints");
     if is_own_file(program, &request.arguments) {
-        return set_points(alloc, program, settings, Family::Source, request, out);
+        set_points(alloc, program, settings, Family::Source, request, out)
+    } else {
+        tell_nowhere(alloc, request, out)
     }
-    let list = place_nowhere(alloc, asked)?;
-    let body = body_of(alloc, list)?;
+}
+
+/// How many breakpoints are asked for.
+#[tactic(auto, using(crate::proofs::Placed::counted))]
+fn count_asked(arguments: &Value) -> usize
+    ensures { result ≡ length (member_values (codes "breakpoints") (view arguments.now)) }
+{
+    values_at(arguments, "breakpoints").len()
+}
+
+/// Tells that none stands in another file.
+fn tell_nowhere(
+    alloc: Global,
+    request: &ClientRequest,
+    out: &mut Outbox,
+) -> Result<(), AllocError>
+    ensures sent { OnOk result (Sends out.old (answered request.now (breakpoints_body (replicate (length (member_values (codes "breakpoints") (view request.now.arguments))) elsewhere))) out.new) }
+    ensures err { OnErr result (out.new ≡ out.old) }
+{
+    let count = count_asked(&request.arguments);
+    let list = place_nowhere(alloc, count)?;
+    let body = breakpoints_body(alloc, list)?;
     out.respond(request, body)
+}
+
+/// Nothing is placed yet behind those that other requests set.
+fn placing_new(alloc: Global, placed: Vec<SetBy>, next: u64) -> Placing
+    ensures { placement_of result ≡ record { told = []; placed = placed.items; next = next } }
+{
+    Placing {
+        told: Vec::new(alloc),
+        placed,
+        next,
+    }
+}
+
+/// What comes of the breakpoints that are asked for.
+fn placing_of(
+    alloc: Global,
+    program: &Debuggee,
+    settings: &Configuration,
+    family: Family,
+    request: &ClientRequest,
+) -> Result<Placing, AllocError>
+    ensures { IfOk result (λ placing. Places program.now family (member_values (codes "breakpoints") (view request.now.arguments)) (left_by family settings.now) (placement_of placing)) }
+{
+    let placed = settings.points.left_by(alloc, family)?;
+    let mut placing = placing_new(alloc, placed, settings.points.next_id);
+    let asked = values_at(&request.arguments, "breakpoints");
+    place_all(alloc, program, family, asked, &mut placing)?;
+    Ok(placing)
+}
+
+/// These are set, and it is told of each.
+fn set_placing(
+    alloc: Global,
+    placing: Placing,
+    settings: &mut Configuration,
+    request: &ClientRequest,
+    out: &mut Outbox,
+) -> Result<(), AllocError>
+    ensures sent { OnOk result ((message : Message) × (message ≡ answered request.now (breakpoints_body (placement_of placing).told)) × IsSetTo (placement_of placing) settings.old settings.new × Sends out.old message out.new) }
+    ensures kept { OnErr result (settings.new ≡ settings.old) }
+{
+    let points = breakpoints_of(alloc, placing.placed.as_slice())?;
+    let Placing { told, placed, next } = placing;
+    let body = breakpoints_body(alloc, told)?;
+    out.respond(request, body)?;
+    settings.points = Points {
+        points,
+        placed,
+        next_id: next,
+    };
+    Ok(())
 }
 
 /// The breakpoints that one request set are replaced by those that are asked for.
@@ -128,17 +158,11 @@ pub fn set_points(
     request: &ClientRequest,
     out: &mut Outbox,
 ) -> Result<(), AllocError>
-    ensures sent { OnOk result ((message : Message) × Sends out.old message out.new) }
-    ensures filters { settings.new ≡ record settings.old { points = settings.new.points } }
+    ensures sent { OnOk result ((message : Message) × SetsPoints program.now family settings.old request.now message settings.new × Sends out.old message out.new) }
     ensures kept { OnErr result (settings.new ≡ settings.old) }
 {
-    let asked = values_at(&request.arguments, "breakpoints");
-    let mut points = settings.points.without(alloc, family)?;
-    let list = place_all(alloc, program, family, asked, &mut points)?;
-    let body = body_of(alloc, list)?;
-    out.respond(request, body)?;
-    settings.points = points;
-    Ok(())
+    let placing = placing_of(alloc, program, settings, family, request)?;
+    set_placing(alloc, placing, settings, request, out)
 }
 
 /// Whether an item is a text, this one.
@@ -151,19 +175,50 @@ fn is_text(item: &Value, name: &str) -> bool
     }
 }
 
+/// Whether an item is the name of a filter.
+fn is_filter(item: &Value) -> bool
+    ensures { result ≡ is_filter (view item.now) }
+{
+    is_text(item, "stop") || is_text(item, "stuck")
+}
+
 /// Whether each item is the name of a filter.
 fn are_filters(items: &[Value]) -> bool
     ensures { result ≡ list_all is_filter (map view items.now) }
 {
-    items
-        .iter()
-        .all(|item| is_text(item, "stop") || is_text(item, "stuck"))
+    items.iter().all(|item| is_filter(item))
 }
 
 fn has_filter(items: &[Value], name: &str) -> bool
     ensures { result ≡ list_any (is_text name.now) (map view items.now) }
 {
     items.iter().any(|item| is_text(item, name))
+}
+
+/// Sets the filters, where each is one.
+fn set_filters_if(
+    settings: &mut Configuration,
+    filters: &[Value],
+    known: bool,
+    request: &ClientRequest,
+    out: &mut Outbox,
+) -> Result<(), AllocError>
+    ensures sent { OnOk result ((message : Message) × SetsFiltersIf known (map view filters.now) settings.old request.now message settings.new × Sends out.old message out.new) }
+    ensures kept { OnErr result (settings.new ≡ settings.old) }
+{
+    if known {
+        let stops = has_filter(filters, "stop");
+        let stuck = has_filter(filters, "stuck");
+        out.acknowledge(request)?;
+        settings.stops = stops;
+        settings.stuck = stuck;
+        Ok(())
+    } else {
+        out.refuse(
+            request,
+            "setExceptionBreakpoints: the filters are stop and stuck",
+        )
+    }
 }
 
 /// `setExceptionBreakpoints`.
@@ -176,15 +231,6 @@ pub fn set_filters(
     ensures kept { OnErr result (settings.new ≡ settings.old) }
 {
     let filters = values_at(&request.arguments, "filters");
-    if are_filters(filters) {
-        out.acknowledge(request)?;
-        settings.stops = has_filter(filters, "stop");
-        settings.stuck = has_filter(filters, "stuck");
-        Ok(())
-    } else {
-        out.refuse(
-            request,
-            "setExceptionBreakpoints: the filters are stop and stuck",
-        )
-    }
+    let known = are_filters(filters);
+    set_filters_if(settings, filters, known, request, out)
 }

@@ -1,5 +1,9 @@
 //! What the client set: breakpoints, and which faults end a run.
 
+ghost use Rattle.std.specs.Prelude.{◌≡◌, map, IfOk};
+ghost use Rattle.ga_requests.specs.declared.configuration.SetBy.{SetBy as ASetBy};
+ghost use Rattle.ga_requests.specs.Breakpoints.{family_number, is_of_another};
+
 use ga_adapter::Watched;
 use ga_breakpoints::{Breakpoint, Halts};
 use ga_grid::NodeId;
@@ -18,18 +22,19 @@ pub enum Family {
     Data,
 }
 
-/// Which request set a breakpoint, and the number by which the client knows it.
+/// A breakpoint, with the request that set it, and the number by which the client knows it.
 #[derive(Clone, Copy, PartialEq, Eq, Debug)]
 pub struct SetBy {
+    pub breakpoint: Breakpoint,
     pub family: Family,
     pub id: u64,
 }
 
-/// Breakpoints, each with who set it.
+/// The breakpoints that are set.
 #[derive(Drop)]
 pub struct Points {
     pub points: Vec<Breakpoint>,
-    /// Of the point at the same place.
+    /// The same with who set them.
     pub placed: Vec<SetBy>,
     /// The number of the next one.
     pub next_id: u64,
@@ -46,14 +51,51 @@ pub struct Configuration {
     pub stuck: bool,
 }
 
+fn family_number(family: Family) -> u8
+    ensures { result ≡ family_number family }
+{
+    match family {
+        Family::Source => 0,
+        Family::Function => 1,
+        Family::Instruction => 2,
+        Family::Data => 3,
+    }
+}
+
+/// Whether another request set a breakpoint.
+fn is_of_another(family: Family, one: SetBy) -> bool
+    ensures { result ≡ is_of_another family one }
+{
+    family_number(one.family) != family_number(family)
+}
+
+/// The breakpoints alone.
+pub(crate) fn breakpoints_of(
+    alloc: Global,
+    placed: &[SetBy],
+) -> Result<Vec<Breakpoint>, AllocError>
+    ensures { IfOk result (λ list. list.items ≡ map (λ (one : ASetBy). one.breakpoint) placed.now) }
+{
+    let mut list = Vec::new(alloc);
+    'placed: for one in placed {
+        list.push(one.breakpoint)?;
+    }
+    Ok(list)
+}
+
 impl Points {
-    ghost use Rattle.std.specs.Prelude.{◌≡◌, IfOk};
+    ghost use Rattle.std.specs.Prelude.{◌≡◌, [], filter, IfOk};
     ghost use Rattle.std.specs.List.{slice_get};
     ghost use Rattle.ga_requests.specs.Back.{watched_of};
+    ghost use Rattle.ga_requests.specs.Breakpoints.{is_of_another};
     ghost use Rattle.ga_requests.specs.Slices.{id_of};
 
     /// None.
-    pub fn none(alloc: Global) -> Self {
+    pub fn none(alloc: Global) -> Self
+        ensures points { result.points.items ≡ [] }
+        ensures placed { result.placed.items ≡ [] }
+        ensures next { result.next_id ≡ 1 }
+    {
         Points {
             points: Vec::new(alloc),
             placed: Vec::new(alloc),
@@ -61,34 +103,17 @@ impl Points {
         }
     }
 
-    /// Those that another request set.
-    pub fn without(&self, alloc: Global, family: Family) -> Result<Self, AllocError> {
-        let mut left = Points {
-            points: Vec::new(alloc),
-            placed: Vec::new(alloc),
-            next_id: self.next_id,
-        };
-        for (point, placed) in self.points.iter().zip(self.placed.iter()) {
-            if placed.family != family {
-                left.points.push(*point)?;
-                left.placed.push(*placed)?;
+    /// Those that other requests set.
+    pub fn left_by(&self, alloc: Global, family: Family) -> Result<Vec<SetBy>, AllocError>
+        ensures { IfOk result (λ list. list.items ≡ filter (is_of_another family) self.now.placed.items) }
+    {
+        let mut list = Vec::new(alloc);
+        'placed: for one in &self.placed {
+            if is_of_another(family, *one) {
+                list.push(*one)?;
             }
         }
-        Ok(left)
-    }
-
-    /// Takes the next number.
-    pub fn take_id(&mut self) -> u64 {
-        let id = self.next_id;
-        self.next_id = id.wrapping_add(1);
-        id
-    }
-
-    /// Adds one with its number.
-    pub fn add(&mut self, family: Family, id: u64, point: Breakpoint) -> Result<(), AllocError> {
-        self.points.push(point)?;
-        self.placed.push(SetBy { family, id })?;
-        Ok(())
+        Ok(list)
     }
 
     /// The number of the one at a place.
@@ -115,18 +140,27 @@ impl Points {
     pub fn watched_of(&self, alloc: Global, node: NodeId) -> Result<Vec<Watched>, AllocError>
         ensures { IfOk result (λ list. list.items ≡ watched_of self.now.points.items node) }
     {
-        self.points
-            .as_slice()
-            .iter()
-            .filter(|point| point.node.number == node.number)
-            .map(|point| point.watched)
-            .collect::<Vec<Watched>>(alloc)
+        let mut list = Vec::new(alloc);
+        'points: for point in &self.points {
+            if point.node.number == node.number {
+                list.push(point.watched)?;
+            }
+        }
+        Ok(list)
     }
 }
 
 impl Configuration {
+    ghost use Rattle.std.specs.Prelude.{◌≡◌, [], true};
+
     /// As they are before the client sets anything: each fault ends a run.
-    pub fn new(alloc: Global) -> Self {
+    pub fn new(alloc: Global) -> Self
+        ensures points { result.points.points.items ≡ [] }
+        ensures placed { result.points.placed.items ≡ [] }
+        ensures next { result.points.next_id ≡ 1 }
+        ensures stops { result.stops ≡ true }
+        ensures stuck { result.stuck ≡ true }
+    {
         Configuration {
             points: Points::none(alloc),
             stops: true,

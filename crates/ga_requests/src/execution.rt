@@ -1,14 +1,20 @@
 //! The run under way.
 
-ghost use Rattle.std.specs.Prelude.{◌≡◌};
+ghost use Rattle.std.specs.Prelude.{◌≡◌, ◌≤◌, Some};
+ghost use Rattle.ga_search.specs.Running.{running};
+ghost use Rattle.ga_search.specs.Watched.{after_first};
+ghost use Rattle.ga_breakpoints.specs.Going.{HasGone, stepping_on};
+ghost use Rattle.ga_breakpoints.specs.Stepping.{stepped_on};
+ghost use Rattle.ga_lab.specs.Machine.{chip_of};
 ghost use Rattle.ga_causal.specs.Dependence.{is_marked};
-ghost use Rattle.ga_requests.specs.Slices.{GoesOn, StepsOn, Advances, MakesSlice, IsFirstNewly, is_newly_by, hit_at, hit_of, end_of_move, node_told, stop_by, ended_stuck, goal_behind};
+ghost use Rattle.ga_requests.specs.Slices.{slice_limit, GoesOn, StepsOn, Advances, MarksStuck, MakesSliceOf, MakesSlice, IsFirstNewly, is_newly_by, hit_at, hit_of, end_of_move, node_told, stop_by, ended_stuck, goal_behind};
 
 use crate::configuration::Configuration;
 use ga_adapter::{Watched, has_thread};
 use ga_breakpoints::{Breakpoint, Halt, Stepping, Went, go_on, step_on};
 use ga_grid::NodeId;
 use ga_lab::{Lab, LabFault, Made};
+use ga_notes::Notes;
 use ga_responses::Debuggee;
 use ga_search::{Schedule, find_stuck};
 
@@ -122,13 +128,30 @@ fn newly_stuck(program: &Debuggee, before: &[bool; 144], now: &[bool; 144]) -> O
 fn go_on_slice(program: &mut Debuggee, settings: &Configuration, execution: &mut Execution) -> Went
     ensures { GoesOn program.old settings.now execution.old program.new execution.new result }
 {
-    let went = go_on(
-        &mut program.lab,
-        execution.schedule,
-        settings.halts(),
-        SLICE,
-    );
+    let halts = settings.halts();
+    let went = go_on(&mut program.lab, execution.schedule, halts, SLICE);
     execution.schedule = went.schedule;
+    went
+}
+
+/// Makes a slice of the events of a step of one node, by what the source says.
+fn step_by(
+    lab: &mut Lab,
+    notes: &Notes,
+    settings: &Configuration,
+    execution: &mut Execution,
+    stepping: Stepping,
+) -> Went
+    ensures state { running lab.new result.schedule ≡ after_first (Some stepping.node) (running lab.old execution.old.schedule) result.events }
+    ensures most { result.events ≤ slice_limit }
+    ensures end { HasGone (stepping_on notes.now settings.now.points.points.items settings.now.stops stepping (running lab.old execution.old.schedule)) (running lab.old execution.old.schedule) slice_limit result.events result.halt }
+    ensures next { execution.new ≡ record execution.old { schedule = result.schedule; goal = Some (Goal.Step (stepped_on stepping (running lab.old execution.old.schedule) result.events)) } }
+{
+    let mut by = stepping;
+    let halts = settings.halts();
+    let went = step_on(lab, execution.schedule, &mut by, notes, halts, SLICE);
+    execution.schedule = went.schedule;
+    execution.goal = Some(Goal::Step(by));
     went
 }
 
@@ -141,22 +164,16 @@ fn step_slice(
 ) -> Went
     ensures { StepsOn stepping program.old settings.now execution.old program.new execution.new result }
 {
-    let mut stepping = stepping;
-    let notes = match &program.source {
-        Some(notes) => notes,
-        None => &program.unsaid,
-    };
-    let went = step_on(
-        &mut program.lab,
-        execution.schedule,
-        &mut stepping,
-        notes,
-        settings.halts(),
-        SLICE,
-    );
-    execution.schedule = went.schedule;
-    execution.goal = Some(Goal::Step(stepping));
-    went
+    match &program.source {
+        Some(notes) => step_by(&mut program.lab, notes, settings, execution, stepping),
+        None => step_by(
+            &mut program.lab,
+            &program.unsaid,
+            settings,
+            execution,
+            stepping,
+        ),
+    }
 }
 
 /// Makes a slice of the events of a run.
@@ -215,6 +232,13 @@ fn stop_by(
     }
 }
 
+/// The nodes that can never go on.
+fn stuck_of(program: &Debuggee) -> [bool; 144]
+    ensures { MarksStuck (chip_of program.now.lab) (is_marked result) }
+{
+    find_stuck(program.lab.chip())
+}
+
 /// Makes a slice of the events of the run under way, and says why it ended, where it did.
 pub fn make_slice(
     program: &mut Debuggee,
@@ -223,12 +247,37 @@ pub fn make_slice(
 ) -> Option<StopReason>
     ensures { MakesSlice program.old settings.now execution.old program.new execution.new result }
 {
-    let Some(goal) = execution.goal else {
-        return None;
-    };
-    let before = find_stuck(program.lab.chip());
+    let goal = execution.goal;
+    make_slice_for(program, settings, execution, goal)
+}
+
+/// The same of a run that is for this, where one is under way.
+fn make_slice_for(
+    program: &mut Debuggee,
+    settings: &Configuration,
+    execution: &mut Execution,
+    goal: Option<Goal>,
+) -> Option<StopReason>
+    ensures { MakesSliceOf goal program.old settings.now execution.old program.new execution.new result }
+{
+    match goal {
+        Some(goal) => make_slice_of(program, settings, execution, goal),
+        None => None,
+    }
+}
+
+/// The same of a run that is under way.
+fn make_slice_of(
+    program: &mut Debuggee,
+    settings: &Configuration,
+    execution: &mut Execution,
+    goal: Goal,
+) -> Option<StopReason>
+    ensures { MakesSliceOf (Some goal) program.old settings.now execution.old program.new execution.new result }
+{
+    let before = stuck_of(program);
     let went = advance(program, settings, execution, goal);
-    let now = find_stuck(program.lab.chip());
+    let now = stuck_of(program);
     let stuck = newly_stuck(program, &before, &now);
     let stop = stop_by(settings, goal, stuck, went.halt);
     end_for(execution, stop);

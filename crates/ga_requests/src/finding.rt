@@ -1,16 +1,18 @@
 //! Where a breakpoint that is asked for stands.
 
-ghost use Rattle.std.specs.Prelude.{◌≡◌};
+ghost use Rattle.std.specs.Prelude.{◌≡◌, ◌<◌, length, position, codes, option_map, option_and_then, Some, IfSome};
 ghost use Rattle.serde_json.specs.View.{view};
-ghost use Rattle.ga_requests.specs.kept.Lines.{line_asked};
+ghost use Rattle.ga_protocol.specs.Messages.{member_text};
+ghost use Rattle.ga_responses.specs.Disassembling.{offset_given};
+ghost use Rattle.ga_requests.specs.Placing.{line_asked, found_on_line, is_label, at_any_label, at_label_of, names_node, node_named_before, at_label, at_cell_on, on_writes, on_no_line, unfound_words, IsReferredBy, IsPlaceOf};
 
 use crate::configuration::Family;
-use ga_adapter::{Watched, cell_of_chip};
+use ga_adapter::Watched;
 use ga_breakpoints::{Breakpoint, breakpoint_of_address, breakpoint_of_line};
 use ga_grid::NodeId;
-use ga_notes::Name;
+use ga_notes::{Name, Notes};
 use ga_protocol::{number_at, text_at};
-use ga_responses::{Debuggee, address_asked};
+use ga_responses::{Debuggee, cell_referred, cells_on, offset_at};
 use ga_text::node_in;
 use serde_json::Value;
 
@@ -22,17 +24,21 @@ pub struct FoundPlace {
 }
 
 /// Where a breakpoint that is asked for stands; none where there is no such place.
-pub fn found(program: &Debuggee, family: Family, asked: &Value) -> Option<FoundPlace> {
+pub fn found(program: &Debuggee, family: Family, asked: &Value) -> Option<FoundPlace>
+    ensures { IsPlaceOf program.now family (view asked.now) result }
+{
     match family {
-        Family::Source => found_on_line(program, asked),
-        Family::Function => found_at_label(program, asked),
-        Family::Instruction => found_at_address(asked),
-        Family::Data => found_cell(asked),
+        Family::Source => found_on_line(program.notes(), asked),
+        Family::Function => found_at_label(program.notes(), asked),
+        Family::Instruction => found_at_address(program, asked),
+        Family::Data => found_cell(program, asked),
     }
 }
 
 /// Why there is no such place.
-pub fn unfound(family: Family) -> &'static str {
+pub fn unfound(family: Family) -> &'static str
+    ensures { result.now ≡ unfound_words family }
+{
     match family {
         Family::Source => "no code stands on this line or behind it",
         Family::Function => "no node has this label",
@@ -48,74 +54,174 @@ fn line_asked(asked: &Value) -> Option<u32>
     u32::try_from(line).ok()
 }
 
-fn found_on_line(program: &Debuggee, asked: &Value) -> Option<FoundPlace> {
-    let found = breakpoint_of_line(program.notes(), line_asked(asked)?)?;
+fn found_on_line(notes: &Notes, asked: &Value) -> Option<FoundPlace>
+    ensures { result ≡ found_on_line notes.now (view asked.now) }
+{
+    let found = breakpoint_of_line(notes, line_asked(asked)?)?;
     Some(FoundPlace {
         breakpoint: found.breakpoint,
         line: Some(found.line),
     })
 }
 
-/// A label, behind the name of its node, where that is said: `NNN LABEL`, `NNN:LABEL` or `LABEL`.
-fn split_label(text: &[u8]) -> (Option<NodeId>, &[u8]) {
-    if text.len() < 4 {
-        return (None, text);
-    }
-    let (name, rest) = text.split_at(3);
-    let (mark, label) = rest.split_at(1);
-    if mark != b":".as_slice() && mark != b" ".as_slice() {
-        return (None, text);
-    }
-    match node_in(name) {
-        Some(node) => (Some(node), label),
-        None => (None, text),
+/// One that stands on no line.
+fn on_no_line(point: Option<Breakpoint>) -> Option<FoundPlace>
+    ensures { result ≡ option_map on_no_line point }
+{
+    match point {
+        Some(breakpoint) => Some(FoundPlace {
+            breakpoint,
+            line: None,
+        }),
+        None => None,
     }
 }
 
-fn is_named(name: &Name, node: Option<NodeId>, label: &[u8]) -> bool {
-    let is_of_node = match node {
-        Some(node) => node.number == name.node.number,
-        None => true,
-    };
-    is_of_node && name.text.as_slice() == label
+fn is_label(name: &Name, label: &[u8]) -> bool
+    ensures { result ≡ is_label label.now name.now }
+{
+    name.text.as_slice() == label
 }
 
-fn found_at_label(program: &Debuggee, asked: &Value) -> Option<FoundPlace> {
-    let (node, label) = split_label(text_at(asked, "name")?.as_bytes());
-    for name in &program.notes().names {
-        if is_named(name, node, label) {
-            let breakpoint = breakpoint_of_address(name.node, name.address)?;
-            return Some(FoundPlace {
-                breakpoint,
-                line: None,
-            });
-        }
+/// Where the first node's label of this name stands in the list.
+fn label_place(names: &[Name], label: &[u8]) -> Option<usize>
+    ensures { result ≡ position (is_label label.now) names.now }
+{
+    names.iter().position(|name| is_label(name, label))
+}
+
+/// At the label of the first node that has it.
+fn at_any_label(names: &[Name], label: &[u8]) -> Option<Breakpoint>
+    ensures { result ≡ at_any_label names.now label.now }
+{
+    let place = label_place(names, label)?;
+    match names.get(place) {
+        Some(name) => breakpoint_of_address(name.node, name.address),
+        None => None,
     }
-    None
 }
 
-fn found_at_address(asked: &Value) -> Option<FoundPlace> {
-    let address = address_asked(text_at(asked, "instructionReference")?)?;
-    let offset = number_at(asked, "offset").unwrap_or(0);
-    let (node, cell) = cell_of_chip(address.wrapping_add(offset))?;
-    let breakpoint = breakpoint_of_address(node, u32::from(cell))?;
-    Some(FoundPlace {
-        breakpoint,
-        line: None,
-    })
-}
-
-fn found_cell(asked: &Value) -> Option<FoundPlace> {
-    let address = address_asked(text_at(asked, "dataId")?)?;
-    let (node, cell) = cell_of_chip(address)?;
-    if cell >= 128 {
-        return None;
+/// At the label of a node.
+fn at_label_of(notes: &Notes, node: NodeId, label: &[u8]) -> Option<Breakpoint>
+    ensures { result ≡ at_label_of notes.now.names.items node label.now }
+{
+    match notes.address_of(node, label) {
+        Some(address) => breakpoint_of_address(node, address),
+        None => None,
     }
-    Some(FoundPlace {
-        breakpoint: Breakpoint {
-            node,
-            watched: Watched::Writes(cell),
-        },
-        line: None,
-    })
+}
+
+/// Whether a node may be named before a label.
+fn names_node(text: &[u8]) -> bool
+    ensures { result ≡ names_node text.now }
+{
+    text.len() > 3 && (text[3] == b':' || text[3] == b' ')
+}
+
+/// The node that is named before a label.
+fn node_named_before(text: &[u8]) -> Option<NodeId>
+    ensures value { result ≡ node_named_before text.now }
+    ensures within { IfSome result (λ node. 3 < length text.now) }
+{
+    if names_node(text) {
+        node_in(&text[..3])
+    } else {
+        None
+    }
+}
+
+/// At a label: `NNN LABEL`, `NNN:LABEL` or `LABEL`.
+fn at_label(notes: &Notes, text: &[u8]) -> Option<Breakpoint>
+    ensures { result ≡ at_label notes.now.names.items text.now }
+{
+    match node_named_before(text) {
+        Some(node) => at_label_of(notes, node, &text[4..]),
+        None => at_any_label(notes.names.as_slice(), text),
+    }
+}
+
+fn found_at_label(notes: &Notes, asked: &Value) -> Option<FoundPlace>
+    ensures { result ≡ option_map on_no_line (option_and_then (at_label notes.now.names.items) (member_text (codes "name") (view asked.now))) }
+{
+    match text_at(asked, "name") {
+        Some(text) => on_no_line(at_label(notes, text.as_bytes())),
+        None => None,
+    }
+}
+
+/// At so many addresses behind a cell.
+fn at_cell_on(offset: i64, at: (NodeId, u8)) -> Option<Breakpoint>
+    ensures { result ≡ at_cell_on offset at }
+{
+    let address = (u32::from(at.1) + cells_on(offset)) % 4096;
+    if address < 256 {
+        breakpoint_of_address(at.0, address)
+    } else {
+        None
+    }
+}
+
+/// Where a reference to memory leads, and behind it.
+fn behind_reference(reference: Option<&str>, offset: i64) -> Option<Breakpoint>
+    ensures { IsReferredBy (at_cell_on offset) (option_map (λ text. text.now) reference.entry) result }
+{
+    match reference {
+        Some(text) => behind_text(text, offset),
+        None => None,
+    }
+}
+
+fn behind_text(text: &str, offset: i64) -> Option<Breakpoint>
+    ensures { IsReferredBy (at_cell_on offset) (Some text.now) result }
+{
+    match cell_referred(text) {
+        Some(at) => at_cell_on(offset, at),
+        None => None,
+    }
+}
+
+fn found_at_address(program: &Debuggee, asked: &Value) -> Option<FoundPlace>
+    ensures { IsPlaceOf program.now Family.Instruction (view asked.now) result }
+{
+    let offset = offset_at(asked, "offset");
+    on_no_line(behind_reference(text_at(asked, "instructionReference"), offset))
+}
+
+/// That a cell of RAM is written.
+fn on_writes(at: (NodeId, u8)) -> Option<Breakpoint>
+    ensures { result ≡ on_writes at }
+{
+    if at.1 < 128 {
+        Some(Breakpoint {
+            node: at.0,
+            watched: Watched::Writes(at.1),
+        })
+    } else {
+        None
+    }
+}
+
+/// That the cell of a reference to memory is written.
+fn writes_referred(reference: Option<&str>) -> Option<Breakpoint>
+    ensures { IsReferredBy on_writes (option_map (λ text. text.now) reference.entry) result }
+{
+    match reference {
+        Some(text) => writes_text(text),
+        None => None,
+    }
+}
+
+fn writes_text(text: &str) -> Option<Breakpoint>
+    ensures { IsReferredBy on_writes (Some text.now) result }
+{
+    match cell_referred(text) {
+        Some(at) => on_writes(at),
+        None => None,
+    }
+}
+
+fn found_cell(program: &Debuggee, asked: &Value) -> Option<FoundPlace>
+    ensures { IsPlaceOf program.now Family.Data (view asked.now) result }
+{
+    on_no_line(writes_referred(text_at(asked, "dataId")))
 }

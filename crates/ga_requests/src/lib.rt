@@ -9,6 +9,7 @@ mod execution;
 mod finding;
 mod launched;
 mod moving;
+mod placing;
 mod stops;
 
 pub use back::{Gone, gone_text, reverse_node, step_node_back};

@@ -1,16 +1,22 @@
 //! The requests that begin a run, and `pause`.
 
-ghost use Rattle.std.specs.Prelude.{◌≡◌, IfOk, OnOk, OnErr};
+ghost use Rattle.std.specs.Prelude.{◌≡◌, ◌==◌, Option, unwrap_or, IfOk, OnOk, OnErr};
 ghost use Rattle.serde_json.specs.View.{view};
+ghost use Rattle.ga_grid.specs.Chip.{record_at};
+ghost use Rattle.ga_grid.specs.declared.node_id.NodeId.{NodeId as ANode};
+ghost use Rattle.ga_lab.specs.Machine.{chip_of};
+ghost use Rattle.ga_responses.specs.Arguments.{AsksOfThread};
 ghost use Rattle.ga_requests.specs.Back.{grain_asked};
 ghost use Rattle.ga_responses.specs.Sending.{Sends, SendsAll, Message, Messages, acknowledged};
-ghost use Rattle.ga_requests.specs.Moving.{continued, begun, no_thread_words, node_stopped_words, stepping_of, BeginsStep, BeginsStepBy, Pauses, Continues};
+ghost use Rattle.ga_requests.specs.Moving.{continued, begun, no_thread_words, node_stopped_words, stepping_of, BeginsStep, BeginsStepBy, BeginsStepping, PausesRun, PausesAt, Pauses, Continues};
 
 use crate::execution::{Execution, Goal};
 use ga_breakpoints::{Grain, Stepping};
 use ga_grid::NodeId;
 use ga_protocol::{ClientRequest, Outbox, text_at};
-use ga_responses::{Debuggee, first_shown, node_asked, tell_stopped};
+use crate::configuring::first_of;
+use ga_lab::Lab;
+use ga_responses::{Debuggee, node_asked, tell_stopped};
 use serde_json::{Value, json};
 use std::alloc::{AllocError, Global};
 
@@ -122,6 +128,13 @@ pub fn begin_step(
     }
 }
 
+/// Whether a node isn't stopped.
+fn can_step(lab: &Lab, node: NodeId) -> bool
+    ensures { result ≡ ((record_at (chip_of lab.now) node.number).stop == 0) }
+{
+    lab.node(node).stop() == 0
+}
+
 /// The same of a node.
 fn begin_step_of(
     program: &Debuggee,
@@ -134,10 +147,25 @@ fn begin_step_of(
     ensures sent { OnOk result ((message : Message) × BeginsStepBy program.now kind execution.old request.now node message execution.new × Sends out.old message out.new) }
     ensures kept { OnErr result (execution.new ≡ execution.old) }
 {
-    if program.lab.node(node).stop() != 0 {
-        return out.refuse(request, node_stopped(kind));
+    if can_step(&program.lab, node) {
+        let stepping = stepping_of(program, kind, node, &request.arguments);
+        begin_stepping(execution, request, stepping, out)
+    } else {
+        out.refuse(request, node_stopped(kind))
     }
-    match stepping_of(program, kind, node, &request.arguments) {
+}
+
+/// Begins a move, where there is one.
+fn begin_stepping(
+    execution: &mut Execution,
+    request: &ClientRequest,
+    stepping: Option<Stepping>,
+    out: &mut Outbox,
+) -> Result<(), AllocError>
+    ensures sent { OnOk result ((message : Message) × BeginsStepping execution.old request.now stepping message execution.new × Sends out.old message out.new) }
+    ensures kept { OnErr result (execution.new ≡ execution.old) }
+{
+    match stepping {
         Some(stepping) => begin(execution, request, stepping, out),
         None => out.refuse(request, "stepOut: the node is in no call that is kept"),
     }
@@ -150,13 +178,53 @@ fn begin(
     stepping: Stepping,
     out: &mut Outbox,
 ) -> Result<(), AllocError>
-    ensures sent { OnOk result (Sends out.old (acknowledged request.now) out.new) }
-    ensures state { OnOk result (execution.new ≡ begun execution.old (Goal.Step stepping)) }
+    ensures sent { OnOk result (Sends out.old (acknowledged request.now) out.new × (execution.new ≡ begun execution.old (Goal.Step stepping))) }
     ensures kept { OnErr result (execution.new ≡ execution.old) }
 {
     out.acknowledge(request)?;
     execution.goal = Some(Goal::Step(stepping));
     Ok(())
+}
+
+/// The node of the thread that is asked for, and else another.
+fn node_or(arguments: &Value, first: NodeId) -> NodeId
+    ensures { (asked : Option ANode) × AsksOfThread (view arguments.now) asked × (result ≡ unwrap_or asked first) }
+{
+    match node_asked(arguments) {
+        Some(node) => node,
+        None => first,
+    }
+}
+
+/// Tells that a run ended.
+fn tell_paused(
+    alloc: Global,
+    program: &Debuggee,
+    request: &ClientRequest,
+    out: &mut Outbox,
+) -> Result<(), AllocError>
+    ensures { OnOk result ((messages : Messages) × PausesRun program.now request.now messages × SendsAll out.old messages out.new) }
+{
+    out.acknowledge(request)?;
+    let first = first_of(program);
+    let node = node_or(&request.arguments, first);
+    tell_stopped(alloc, "pause", "pause", node, out)
+}
+
+/// Tells that no run is under way any longer.
+fn tell_pause(
+    alloc: Global,
+    program: &Debuggee,
+    goal: Option<Goal>,
+    request: &ClientRequest,
+    out: &mut Outbox,
+) -> Result<(), AllocError>
+    ensures { OnOk result ((messages : Messages) × PausesAt program.now request.now goal messages × SendsAll out.old messages out.new) }
+{
+    match goal {
+        None => out.acknowledge(request),
+        Some(_) => tell_paused(alloc, program, request, out),
+    }
 }
 
 /// `pause`: ends the run under way.
@@ -170,13 +238,7 @@ pub fn pause(
     ensures sent { OnOk result ((messages : Messages) × Pauses program.now execution.old request.now messages execution.new × SendsAll out.old messages out.new) }
     ensures kept { OnErr result (execution.new ≡ execution.old) }
 {
-    out.acknowledge(request)?;
-    if execution.goal.is_none() {
-        return Ok(());
-    }
-    let first = first_shown(&program.lab, program.nodes.as_slice());
-    let node = node_asked(&request.arguments).unwrap_or(first);
-    tell_stopped(alloc, "pause", "pause", node, out)?;
+    tell_pause(alloc, program, execution.goal, request, out)?;
     execution.goal = None;
     Ok(())
 }

@@ -7,12 +7,13 @@ ghost use Rattle.ga_protocol.specs.Messages.{member_text};
 ghost use Rattle.ga_responses.specs.Sending.{Sends, Message};
 ghost use Rattle.ga_requests.specs.Stopping.{fault_words, fault_message, stop_message, TellsStop};
 
+use crate::configuring::first_of;
 use crate::execution::StopReason;
 use ga_adapter::exception_info;
 use ga_grid::NodeId;
 use ga_lab::LabFault;
 use ga_protocol::{Outbox, text_at};
-use ga_responses::{Debuggee, first_shown, tell_hit, tell_stopped};
+use ga_responses::{Debuggee, tell_hit, tell_stopped};
 use serde_json::Value;
 use std::alloc::{AllocError, Global};
 
@@ -68,7 +69,7 @@ pub fn tell_stop(
     ensures sent { OnOk result ((message : Message) × TellsStop program.now stop message × Sends out.old message out.new) }
     ensures err { OnErr result (out.new ≡ out.old) }
 {
-    let first = first_shown(&program.lab, program.nodes.as_slice());
+    let first = first_of(program);
     tell_stop_at(alloc, program, stop, first, out)
 }
 

@@ -3,3 +3,6 @@ pub mod Listed
 pub mod Asking
 pub mod Sent
 pub mod Marked
+pub mod References
+pub mod Digits
+pub mod Told

@@ -6,4 +6,6 @@ pub mod Launching
 pub mod Events
 pub mod Capabilities
 pub mod Readings
+pub mod Disassembling
+pub mod Watching
 pub mod kept

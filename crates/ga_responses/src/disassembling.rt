@@ -1,7 +1,9 @@
 //! `disassemble`.
 
-ghost use Rattle.std.specs.Prelude.{◌≡◌, ◌≤◌, OnOk, OnErr};
+ghost use Rattle.std.specs.Prelude.{◌≡◌, ◌≢◌, ◌<◌, ◌≤◌, ◌^◌, ℕ, min, Some, IfSome, IfNone, OnOk, OnErr};
+ghost use Rattle.serde_json.specs.View.{view};
 ghost use Rattle.ga_responses.specs.Sending.{Sends, Message};
+ghost use Rattle.ga_responses.specs.Disassembling.{SpellsHexadecimal, SpellsReference, RefersTo, offset_given, cells_on, first_told, TellsInstructions, TellsMemory, TellsReferred, AnswersInstructions};
 
 use crate::debuggee::Debuggee;
 use ga_adapter::{cell_of_chip, disassembled};
@@ -14,31 +16,60 @@ use std::alloc::{AllocError, Global};
 const MOST_INSTRUCTIONS: u64 = 4096;
 
 /// The whole number of a member; 0 where it has none.
-fn offset_at(value: &Value, name: &str) -> i64 {
+pub fn offset_at(value: &Value, name: &str) -> i64
+    ensures { result ≡ offset_given name.now (view value.now) }
+{
     value.get(name).and_then(Value::as_i64).unwrap_or(0)
 }
 
-/// The number that a reference to memory spells in hexadecimal digits.
-pub fn address_asked(reference: &str) -> Option<u64> {
-    let digits = reference.strip_prefix("0x")?;
-    u64::from_str_radix(digits, 16).ok()
-}
-
-/// How many cells behind an address of a node, of which there are 4096, another is.
-fn cells_behind(offset: i64) -> u32
-    ensures { result ≤ 4096 }
+/// The number that hexadecimal digits spell.
+fn hexadecimal(digits: &str) -> Option<u64>
+    ensures found { IfSome result (λ number. SpellsHexadecimal digits.now number) }
+    ensures none { IfNone result ((number : ℕ) → number < 2 ^ 64 → SpellsHexadecimal digits.now number → ⊥) }
 {
-    if offset >= 0 {
-        (offset.unsigned_abs() % 4096) as u32
-    } else {
-        (4096 - offset.unsigned_abs() % 4096) as u32
+    match u64::from_str_radix(digits, 16) {
+        Ok(number) => Some(number),
+        Err(_) => None,
     }
 }
 
+/// The number that a reference to memory spells in hexadecimal digits.
+fn address_asked(reference: &str) -> Option<u64>
+    ensures found { IfSome result (λ address. SpellsReference reference.now address) }
+    ensures none { IfNone result ((address : ℕ) → address < 2 ^ 64 → SpellsReference reference.now address → ⊥) }
+{
+    match reference.strip_prefix("0x") {
+        Some(digits) => hexadecimal(digits),
+        None => None,
+    }
+}
+
+/// So many addresses on, of the 4096 of a node.
+pub fn cells_on(offset: i64) -> u32
+    ensures value { result ≡ cells_on offset }
+    ensures most { result < 4096 }
+{
+    offset.rem_euclid(4096).unsigned_abs() as u32
+}
+
+/// The address of the first instruction that is asked for.
+fn first_told(arguments: &Value, cell: u8) -> u32
+    ensures value { result ≡ first_told (view arguments.now) cell }
+    ensures most { result < 4096 }
+{
+    let behind = cells_on(offset_at(arguments, "offset"))
+        + cells_on(offset_at(arguments, "instructionOffset"));
+    (u32::from(cell) + behind) % 4096
+}
+
 /// The node and the cell of a reference to memory, where there are.
-fn cell_referred(reference: &str) -> Option<(NodeId, u8)> {
-    let address = address_asked(reference)?;
-    cell_of_chip(address)
+pub fn cell_referred(reference: &str) -> Option<(NodeId, u8)>
+    ensures { RefersTo reference.now result }
+{
+    match address_asked(reference) {
+        Some(address) => cell_of_chip(address),
+        None => None,
+    }
 }
 
 /// `disassemble`.
@@ -48,24 +79,72 @@ pub fn tell_instructions(
     request: &ClientRequest,
     out: &mut Outbox,
 ) -> Result<(), AllocError>
-    ensures sent { OnOk result ((message : Message) × Sends out.old message out.new) }
+    ensures sent { OnOk result ((message : Message) × AnswersInstructions program.now request.now message × Sends out.old message out.new) }
     ensures err { OnErr result (out.new ≡ out.old) }
 {
-    let arguments = &request.arguments;
-    let Some(reference) = text_at(arguments, "memoryReference") else {
-        return out.refuse(request, "disassemble: there is no memoryReference");
-    };
-    let Some((node, cell)) = cell_referred(reference) else {
-        return out.refuse(request, "disassemble: no such memory");
-    };
-    let count = match number_at(arguments, "instructionCount") {
-        Some(count) => count.min(MOST_INSTRUCTIONS) as u32,
-        None => return out.refuse(request, "disassemble: there is no instructionCount"),
-    };
-    let behind = cells_behind(offset_at(arguments, "offset"))
-        + cells_behind(offset_at(arguments, "instructionOffset"));
-    let first = (u32::from(cell) + behind) % 4096;
+    match text_at(&request.arguments, "memoryReference") {
+        None => out.refuse(request, "disassemble: there is no memoryReference"),
+        Some(reference) => tell_referred(alloc, program, request, reference, out),
+    }
+}
+
+/// The instructions from a reference to memory on.
+fn tell_referred(
+    alloc: Global,
+    program: &Debuggee,
+    request: &ClientRequest,
+    reference: &str,
+    out: &mut Outbox,
+) -> Result<(), AllocError>
+    ensures sent { OnOk result ((message : Message) × TellsReferred program.now request.now (Some reference.now) message × Sends out.old message out.new) }
+    ensures err { OnErr result (out.new ≡ out.old) }
+{
+    match cell_referred(reference) {
+        None => out.refuse(request, "disassemble: no such memory"),
+        Some(at) => tell_instructions_at(alloc, program, request, at, out),
+    }
+}
+
+/// The instructions from a cell on.
+fn tell_instructions_at(
+    alloc: Global,
+    program: &Debuggee,
+    request: &ClientRequest,
+    at: (NodeId, u8),
+    out: &mut Outbox,
+) -> Result<(), AllocError>
+    ensures sent { OnOk result ((message : Message) × TellsMemory program.now request.now (Some at) message × Sends out.old message out.new) }
+    ensures err { OnErr result (out.new ≡ out.old) }
+{
+    match number_at(&request.arguments, "instructionCount") {
+        None => out.refuse(request, "disassemble: there is no instructionCount"),
+        Some(count) => tell_some(alloc, program, request, at, count, out),
+    }
+}
+
+/// So many instructions, and 4096 at most.
+fn most_told(count: u64) -> u32
+    ensures value { result ≡ min count 4096 }
+    ensures most { result ≤ 4096 }
+{
+    count.min(MOST_INSTRUCTIONS) as u32
+}
+
+/// So many instructions from a cell on.
+fn tell_some(
+    alloc: Global,
+    program: &Debuggee,
+    request: &ClientRequest,
+    at: (NodeId, u8),
+    count: u64,
+    out: &mut Outbox,
+) -> Result<(), AllocError>
+    ensures sent { OnOk result ((message : Message) × TellsInstructions program.now request.now at (Some count) message × Sends out.old message out.new) }
+    ensures err { OnErr result (out.new ≡ out.old) }
+{
+    let first = first_told(&request.arguments, at.1);
+    let most = most_told(count);
     let (lab, notes) = (&program.lab, program.notes());
-    let body = disassembled(alloc, program.file(), lab, notes, node, first, count)?;
+    let body = disassembled(alloc, program.file(), lab, notes, at.0, first, most)?;
     out.respond(request, body)
 }

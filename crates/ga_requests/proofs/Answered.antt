@@ -1,0 +1,60 @@
+-- What is sent for a request, and what then stands.
+use Rattle.std.proofs.Common.{◌≡◌, ◌∙◌, ◌++◌, ℕ, zero, suc, Bool, true, false, List, [], ◌∷◌, Option, Result, Ok, Err, refl, sym, ap, subst}
+use Rattle.std.specs.Prelude.{OnOk}
+use Rattle.ga_protocol.specs.Sent.{SentMessages}
+use Rattle.ga_protocol.specs.declared.request.ClientRequest.{ClientRequest}
+use Rattle.ga_breakpoints.specs.declared.stepping.Stepping.{Stepping}
+use Rattle.ga_responses.specs.Events.{changed_messages, changed_below}
+use Rattle.ga_responses.specs.Sending.{Message, Messages, Sends, SendsAll}
+use Rattle.ga_responses.specs.declared.debuggee.Debuggee.{Debuggee}
+use Rattle.ga_responses.proofs.Sent.{sent_one}
+use Rattle.ga_requests.specs.declared.configuration.Configuration.{Configuration}
+use Rattle.ga_requests.specs.declared.execution.Execution.{Execution}
+use Rattle.ga_requests.specs.declared.launched.Launched.{Launched}
+use Rattle.ga_requests.specs.declared.moving.StepKind.{StepKind}
+use Rattle.ga_requests.specs.Breakpoints.{SetsLinesIf, SetsFiltersIf}
+use Rattle.ga_requests.specs.Moving.{BeginsStep, BeginsStepping, BeginsUnless}
+use Rattle.ga_requests.specs.Requests.{OnlyAnswers, Moves, Steps, Sets}
+
+pub only_answers : {T E : Type 0} → (Answers : Message → Type 0) (r : Result T E) (l new : Launched) (old out : SentMessages)
+    → OnOk r ((message : Message) × Answers message × Sends old message out) → new ≡ l → OnOk r ((messages : Messages) × OnlyAnswers Answers l messages new × SendsAll old messages out)
+only_answers Answers (Ok x) l new old out p same = (p.0 ∷ [], (p.0, p.1, refl, same), sent_one old p.0 out p.2)
+only_answers Answers (Err e) l new old out p same = tt
+
+pub moves_so : {T E : Type 0} → (Begins : Messages → Execution → Type 0) (r : Result T E) (l new : Launched) (execution : Execution) (old out : SentMessages)
+    → OnOk r ((messages : Messages) × Begins messages execution × SendsAll old messages out) → new ≡ record l { execution = execution }
+    → OnOk r ((messages : Messages) × Moves Begins l messages new × SendsAll old messages out)
+moves_so Begins (Ok x) l new execution old out p same = (p.0, (execution, p.1, same), p.2)
+moves_so Begins (Err e) l new execution old out p same = tt
+
+pub steps_so : {T E : Type 0} → (kind : StepKind) (r : Result T E) (l new : Launched) (request : ClientRequest) (execution : Execution) (old out : SentMessages)
+    → OnOk r ((message : Message) × BeginsStep l.program kind l.execution request message execution × Sends old message out) → new ≡ record l { execution = execution }
+    → OnOk r ((messages : Messages) × Steps kind l request messages new × SendsAll old messages out)
+steps_so kind (Ok x) l new request execution old out p same = (p.0 ∷ [], (p.0, execution, p.1, refl, same), sent_one old p.0 out p.2)
+steps_so kind (Err e) l new request execution old out p same = tt
+
+pub sets_so : {T E : Type 0} → (Becomes : Message → Configuration → Type 0) (r : Result T E) (l new : Launched) (settings : Configuration) (old out : SentMessages)
+    → OnOk r ((message : Message) × Becomes message settings × Sends old message out) → new ≡ record l { settings = settings }
+    → OnOk r ((messages : Messages) × Sets Becomes l messages new × SendsAll old messages out)
+sets_so Becomes (Ok x) l new settings old out p same = (p.0 ∷ [], (p.0, settings, p.1, refl, same), sent_one old p.0 out p.2)
+sets_so Becomes (Err e) l new settings old out p same = tt
+
+pub begins_unless : (b can : Bool) (kind : StepKind) (r : Execution) (request : ClientRequest) (stepping : Option Stepping) (message : Message) (new : Execution) → can ≡ b
+    → can ≡ true → BeginsStepping r request stepping message new → BeginsUnless b kind r request stepping message new
+begins_unless b can kind r request stepping message new e is p = subst (λ (z : Bool). BeginsUnless z kind r request stepping message new) (sym is ∙ e) p
+
+pub stopped_unless : (b can : Bool) (kind : StepKind) (r : Execution) (request : ClientRequest) (stepping : Option Stepping) (message : Message) (new : Execution) → can ≡ b
+    → can ≡ false → BeginsUnless false kind r request stepping message new → BeginsUnless b kind r request stepping message new
+stopped_unless b can kind r request stepping message new e is p = subst (λ (z : Bool). BeginsUnless z kind r request stepping message new) (sym is ∙ e) p
+
+pub lines_if : (b own : Bool) (p : Debuggee) (set : Configuration) (request : ClientRequest) (message : Message) (new : Configuration) (to : Bool) → own ≡ b → own ≡ to
+    → SetsLinesIf to p set request message new → SetsLinesIf b p set request message new
+lines_if b own p set request message new to e is sets = subst (λ (z : Bool). SetsLinesIf z p set request message new) (sym is ∙ e) sets
+
+-- marks that are the same change the same
+pub changed_alike : (f g now : ℕ → Bool) → ((n : ℕ) → f n ≡ g n) → (k : ℕ) → changed_below f now k ≡ changed_below g now k
+unfolding changed_below
+changed_alike f g now same zero = refl
+changed_alike f g now same (suc n) =
+    ap (λ (z : List Message). z ++ changed_messages (f n) (now n) n) (changed_alike f g now same n)
+    ∙ ap (λ (z : Bool). changed_below g now n ++ changed_messages z (now n) n) (same n)

@@ -1,0 +1,88 @@
+use Rattle.std.proofs.Common.{[], ◌∷◌, codes, refl}
+use Rattle.ga_responses.specs.Sending.{refused_response}
+use Rattle.ga_responses.proofs.Sent.{ok_then, sent_one}
+use Rattle.ga_requests.specs.declared.moving.StepKind.TheVariants.{Over, In, Out}
+use Rattle.ga_requests.proofs.Answered.{only_answers, moves_so, steps_so, sets_so}
+use Rattle.ga_requests.proofs.launched.answer_in_place.Goals as goal
+
+pub returns-in-SetBreakpoints-clause-sent : goal.returns-in-SetBreakpoints-clause-sent
+returns-in-SetBreakpoints-clause-sent c = sets_so _ c.set_lines.result c.args.launched.now _ c.set_lines.new.settings c.args.out.now c.set_lines.new.out c.set_lines.ensures.sent refl
+
+pub returns-in-SetFunctionBreakpoints-clause-sent : goal.returns-in-SetFunctionBreakpoints-clause-sent
+returns-in-SetFunctionBreakpoints-clause-sent c = sets_so _ c.set_points.result c.args.launched.now _ c.set_points.new.settings c.args.out.now c.set_points.new.out c.set_points.ensures.sent refl
+
+pub returns-in-SetInstructionBreakpoints-clause-sent : goal.returns-in-SetInstructionBreakpoints-clause-sent
+returns-in-SetInstructionBreakpoints-clause-sent c = sets_so _ c.set_points-in-SetInstructionBreakpoints.result c.args.launched.now _ c.set_points-in-SetInstructionBreakpoints.new.settings c.args.out.now c.set_points-in-SetInstructionBreakpoints.new.out c.set_points-in-SetInstructionBreakpoints.ensures.sent refl
+
+pub returns-in-SetDataBreakpoints-clause-sent : goal.returns-in-SetDataBreakpoints-clause-sent
+returns-in-SetDataBreakpoints-clause-sent c = sets_so _ c.set_points-in-SetDataBreakpoints.result c.args.launched.now _ c.set_points-in-SetDataBreakpoints.new.settings c.args.out.now c.set_points-in-SetDataBreakpoints.new.out c.set_points-in-SetDataBreakpoints.ensures.sent refl
+
+pub returns-in-SetExceptionBreakpoints-clause-sent : goal.returns-in-SetExceptionBreakpoints-clause-sent
+returns-in-SetExceptionBreakpoints-clause-sent c = sets_so _ c.set_filters.result c.args.launched.now _ c.set_filters.new.settings c.args.out.now c.set_filters.new.out c.set_filters.ensures.sent refl
+
+pub returns-in-DataBreakpointInfo-clause-sent : goal.returns-in-DataBreakpointInfo-clause-sent
+returns-in-DataBreakpointInfo-clause-sent c = only_answers _ c.tell_data_info.result c.args.launched.now c.args.launched.now c.args.out.now c.tell_data_info.new.out c.tell_data_info.ensures.sent refl
+
+pub returns-in-Threads-clause-sent : goal.returns-in-Threads-clause-sent
+returns-in-Threads-clause-sent c = only_answers _ c.tell_threads.result c.args.launched.now c.args.launched.now c.args.out.now c.tell_threads.new.out c.tell_threads.ensures.sent refl
+
+pub returns-in-StackTrace-clause-sent : goal.returns-in-StackTrace-clause-sent
+returns-in-StackTrace-clause-sent c = only_answers _ c.tell_stack.result c.args.launched.now c.args.launched.now c.args.out.now c.tell_stack.new.out c.tell_stack.ensures.sent refl
+
+pub returns-in-Scopes-clause-sent : goal.returns-in-Scopes-clause-sent
+returns-in-Scopes-clause-sent c = only_answers _ c.tell_scopes.result c.args.launched.now c.args.launched.now c.args.out.now c.tell_scopes.new.out c.tell_scopes.ensures.sent refl
+
+pub returns-in-Variables-clause-sent : goal.returns-in-Variables-clause-sent
+returns-in-Variables-clause-sent c = only_answers _ c.tell_variables.result c.args.launched.now c.args.launched.now c.args.out.now c.tell_variables.new.out c.tell_variables.ensures.sent refl
+
+pub returns-in-ExceptionInfo-clause-sent : goal.returns-in-ExceptionInfo-clause-sent
+returns-in-ExceptionInfo-clause-sent c = only_answers _ c.tell_exception.result c.args.launched.now c.args.launched.now c.args.out.now c.tell_exception.new.out c.tell_exception.ensures.sent refl
+
+pub returns-in-Disassemble-clause-sent : goal.returns-in-Disassemble-clause-sent
+returns-in-Disassemble-clause-sent c = only_answers _ c.tell_instructions.result c.args.launched.now c.args.launched.now c.args.out.now c.tell_instructions.new.out c.tell_instructions.ensures.sent refl
+
+pub returns-in-ConfigurationDone-clause-sent : goal.returns-in-ConfigurationDone-clause-sent
+returns-in-ConfigurationDone-clause-sent c = moves_so _ c.configure.result c.args.launched.now _ c.configure.new.execution c.args.out.now c.configure.new.out c.configure.ensures.sent refl
+
+pub returns-in-Continue-clause-sent : goal.returns-in-Continue-clause-sent
+returns-in-Continue-clause-sent c = moves_so _ c.begin_continue.result c.args.launched.now _ c.begin_continue.new.execution c.args.out.now c.begin_continue.new.out c.begin_continue.ensures.sent refl
+
+pub returns-in-Pause-clause-sent : goal.returns-in-Pause-clause-sent
+returns-in-Pause-clause-sent c = moves_so _ c.pause.result c.args.launched.now _ c.pause.new.execution c.args.out.now c.pause.new.out c.pause.ensures.sent refl
+
+pub returns-in-Next-clause-sent : goal.returns-in-Next-clause-sent
+returns-in-Next-clause-sent c = steps_so Over c.begin_step.result c.args.launched.now _ c.args.request.now c.begin_step.new.execution c.args.out.now c.begin_step.new.out c.begin_step.ensures.sent refl
+
+pub returns-in-StepIn-clause-sent : goal.returns-in-StepIn-clause-sent
+returns-in-StepIn-clause-sent c = steps_so In c.begin_step-in-StepIn.result c.args.launched.now _ c.args.request.now c.begin_step-in-StepIn.new.execution c.args.out.now c.begin_step-in-StepIn.new.out c.begin_step-in-StepIn.ensures.sent refl
+
+pub returns-in-StepOut-clause-sent : goal.returns-in-StepOut-clause-sent
+returns-in-StepOut-clause-sent c = steps_so Out c.begin_step-in-StepOut.result c.args.launched.now _ c.args.request.now c.begin_step-in-StepOut.new.execution c.args.out.now c.begin_step-in-StepOut.new.out c.begin_step-in-StepOut.ensures.sent refl
+
+pub returns-in-Initialize-clause-sent : goal.returns-in-Initialize-clause-sent
+returns-in-Initialize-clause-sent c = ok_then c.refuse_unknown.result c.refuse_unknown.ensures.sent
+    (λ sent. (refused_response c.args.request.now (codes "no such request") ∷ [], (refl, refl), sent_one c.args.out.now _ c.refuse_unknown.new.out sent))
+
+pub returns-in-Launch-clause-sent : goal.returns-in-Launch-clause-sent
+returns-in-Launch-clause-sent c = ok_then c.refuse_unknown-in-Launch.result c.refuse_unknown-in-Launch.ensures.sent
+    (λ sent. (refused_response c.args.request.now (codes "no such request") ∷ [], (refl, refl), sent_one c.args.out.now _ c.refuse_unknown-in-Launch.new.out sent))
+
+pub returns-in-StepBack-clause-sent : goal.returns-in-StepBack-clause-sent
+returns-in-StepBack-clause-sent c = ok_then c.refuse_unknown-in-StepBack.result c.refuse_unknown-in-StepBack.ensures.sent
+    (λ sent. (refused_response c.args.request.now (codes "no such request") ∷ [], (refl, refl), sent_one c.args.out.now _ c.refuse_unknown-in-StepBack.new.out sent))
+
+pub returns-in-ReverseContinue-clause-sent : goal.returns-in-ReverseContinue-clause-sent
+returns-in-ReverseContinue-clause-sent c = ok_then c.refuse_unknown-in-ReverseContinue.result c.refuse_unknown-in-ReverseContinue.ensures.sent
+    (λ sent. (refused_response c.args.request.now (codes "no such request") ∷ [], (refl, refl), sent_one c.args.out.now _ c.refuse_unknown-in-ReverseContinue.new.out sent))
+
+pub returns-in-Evaluate-clause-sent : goal.returns-in-Evaluate-clause-sent
+returns-in-Evaluate-clause-sent c = ok_then c.refuse_unknown-in-Evaluate.result c.refuse_unknown-in-Evaluate.ensures.sent
+    (λ sent. (refused_response c.args.request.now (codes "no such request") ∷ [], (refl, refl), sent_one c.args.out.now _ c.refuse_unknown-in-Evaluate.new.out sent))
+
+pub returns-in-Terminate-clause-sent : goal.returns-in-Terminate-clause-sent
+returns-in-Terminate-clause-sent c = ok_then c.refuse_unknown-in-Terminate.result c.refuse_unknown-in-Terminate.ensures.sent
+    (λ sent. (refused_response c.args.request.now (codes "no such request") ∷ [], (refl, refl), sent_one c.args.out.now _ c.refuse_unknown-in-Terminate.new.out sent))
+
+pub returns-in-Disconnect-clause-sent : goal.returns-in-Disconnect-clause-sent
+returns-in-Disconnect-clause-sent c = ok_then c.refuse_unknown-in-Disconnect.result c.refuse_unknown-in-Disconnect.ensures.sent
+    (λ sent. (refused_response c.args.request.now (codes "no such request") ∷ [], (refl, refl), sent_one c.args.out.now _ c.refuse_unknown-in-Disconnect.new.out sent))

@@ -1,0 +1,163 @@
+//! The breakpoints of a request, one after another.
+
+ghost use Rattle.std.specs.Prelude.{◌≡◌, ◌+◌, ◌%◌, ◌^◌, ◌++◌, ◌∷◌, [], map, string_bytes, Option, Some, IfOk, OnOk};
+ghost use Rattle.serde_json.specs.View.{view};
+ghost use Rattle.ga_requests.specs.declared.finding.FoundPlace.{FoundPlace as APlace};
+ghost use Rattle.ga_requests.specs.Placing.{Placement, IsPlaceOf, unverified_object, verified_object, lined_object, verified_on, told_placed, set_by, placed_next, PlacesOne, Places};
+ghost use Rattle.ga_requests.specs.kept.Placings.{placement_of};
+
+use crate::configuration::{Family, SetBy};
+use crate::finding::{FoundPlace, found, unfound};
+use ga_breakpoints::Breakpoint;
+use ga_responses::Debuggee;
+use serde_json::{Value, json, push};
+use std::alloc::{AllocError, Global};
+
+/// What came of the breakpoints of a request so far.
+#[derive(Drop)]
+pub struct Placing {
+    /// What is told of each.
+    pub told: Vec<Value>,
+    /// The breakpoints that are set.
+    pub placed: Vec<SetBy>,
+    /// The number of the next one.
+    pub next: u64,
+}
+
+#[tactic(auto, unfolding(crate::specs::Placing::unverified_object))]
+fn unverified(alloc: Global, id: u64, why: &str) -> Result<Value, AllocError>
+    ensures { IfOk result (λ v. view v ≡ unverified_object id why.now) }
+{
+    json!(in alloc; {"id": id, "message": why, "verified": false})
+}
+
+#[tactic(auto, unfolding(crate::specs::Placing::verified_object))]
+fn verified(alloc: Global, id: u64) -> Result<Value, AllocError>
+    ensures { IfOk result (λ v. view v ≡ verified_object id) }
+{
+    json!(in alloc; {"id": id, "verified": true})
+}
+
+#[tactic(auto, unfolding(crate::specs::Placing::lined_object))]
+fn verified_on_line(
+    alloc: Global,
+    name: &str,
+    path: &str,
+    id: u64,
+    line: u32,
+) -> Result<Value, AllocError>
+    ensures { IfOk result (λ v. view v ≡ lined_object name.now path.now id line) }
+{
+    json!(in alloc; {"id": id, "line": line, "source": {"name": name, "path": path}, "verified": true})
+}
+
+fn verified_on(
+    alloc: Global,
+    program: &Debuggee,
+    id: u64,
+    line: Option<u32>,
+) -> Result<Value, AllocError>
+    ensures { IfOk result (λ v. view v ≡ verified_on program.now id line) }
+{
+    match line {
+        Some(line) => {
+            verified_on_line(alloc, program.name.as_str(), program.path.as_str(), id, line)
+        }
+        None => verified(alloc, id),
+    }
+}
+
+/// What is told of a breakpoint.
+fn told_placed(
+    alloc: Global,
+    program: &Debuggee,
+    family: Family,
+    id: u64,
+    found: Option<FoundPlace>,
+) -> Result<Value, AllocError>
+    ensures { IfOk result (λ v. view v ≡ told_placed program.now family id found) }
+{
+    match found {
+        Some(found) => verified_on(alloc, program, id, found.line),
+        None => unverified(alloc, id, unfound(family)),
+    }
+}
+
+/// Adds a breakpoint that was found.
+fn add_found(
+    placed: &mut Vec<SetBy>,
+    family: Family,
+    id: u64,
+    found: Option<FoundPlace>,
+) -> Result<(), AllocError>
+    ensures { OnOk result (placed.new.items ≡ placed.old.items ++ set_by family id found) }
+{
+    match found {
+        Some(found) => add_one(placed, family, id, found.breakpoint),
+        None => Ok(()),
+    }
+}
+
+fn add_one(
+    placed: &mut Vec<SetBy>,
+    family: Family,
+    id: u64,
+    breakpoint: Breakpoint,
+) -> Result<(), AllocError>
+    ensures { OnOk result (placed.new.items ≡ placed.old.items ++ record { breakpoint = breakpoint; family = family; id = id } ∷ []) }
+{
+    placed.push(SetBy {
+        breakpoint,
+        family,
+        id,
+    })?;
+    Ok(())
+}
+
+/// Sets a breakpoint where it was found, and tells of it.
+fn place_found(
+    alloc: Global,
+    program: &Debuggee,
+    family: Family,
+    found: Option<FoundPlace>,
+    placing: &mut Placing,
+) -> Result<(), AllocError>
+    ensures { OnOk result (placement_of placing.new ≡ placed_next program.now family found (placement_of placing.old)) }
+{
+    let id = placing.next;
+    let told = told_placed(alloc, program, family, id, found)?;
+    push(&mut placing.told, told)?;
+    add_found(&mut placing.placed, family, id, found)?;
+    placing.next = id.wrapping_add(1);
+    Ok(())
+}
+
+/// Sets a breakpoint that is asked for where it can stand, and tells of it.
+fn place_one(
+    alloc: Global,
+    program: &Debuggee,
+    family: Family,
+    asked: &Value,
+    placing: &mut Placing,
+) -> Result<(), AllocError>
+    ensures { OnOk result (PlacesOne program.now family (view asked.now) (placement_of placing.old) (placement_of placing.new)) }
+{
+    let found = found(program, family, asked);
+    place_found(alloc, program, family, found, placing)
+}
+
+/// Sets each breakpoint that is asked for where it can stand, and tells of it.
+pub(crate) fn place_all(
+    alloc: Global,
+    program: &Debuggee,
+    family: Family,
+    asked: &[Value],
+    placing: &mut Placing,
+) -> Result<(), AllocError>
+    ensures { OnOk result (Places program.now family (map view asked.now) (placement_of placing.old) (placement_of placing.new)) }
+{
+    'asked: for one in asked {
+        place_one(alloc, program, family, one, placing)?;
+    }
+    Ok(())
+}
