@@ -1,2 +1,5 @@
-pub mod Sends
 pub mod Known
+pub mod Sends
+pub mod Shown
+pub mod Serves
+pub mod Still
