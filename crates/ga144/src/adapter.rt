@@ -1,6 +1,7 @@
 //! `ga144 dap`: a session of an editor over the standard streams.
 
-use ga_dap::{Arrivals, ProgramFiles, SessionEnd, SourceError, serve_client};
+use crate::arriving::begin_reading;
+use ga_dap::{ProgramFiles, SessionEnd, SourceError, serve_client};
 use std::alloc::Global;
 use std::fs::File;
 use std::io;
@@ -51,29 +52,13 @@ fn cause_of(kind: ErrorKind) -> SourceError {
     }
 }
 
-/// Standard input, asked whether a read would not wait.
-#[derive(Drop)]
-struct StandardInput;
-
-impl Arrivals for StandardInput {
-    // When input comes can't be told here.
-    ghost tells = { λ host told after. Unit {0} };
-
-    fn have_come(&mut self) -> bool {
-        let mut asked = [libc::types::pollfd {
-            fd: libc::STDIN_FILENO,
-            events: libc::net::POLLIN,
-            revents: 0,
-        }];
-        libc::net::poll(&mut asked, 0) != 0
-    }
-}
-
 /// Serves an editor, and says how that ended.
 pub fn serve_editor(rt: &HostRuntime) -> ExitCode {
+    let Ok((mut reader, mut arrivals)) = begin_reading(*rt) else {
+        let _ = eprintln!(rt; "ga144: out of memory");
+        return ExitCode::from(1);
+    };
     let mut sources = Files { rt };
-    let mut arrivals = StandardInput;
-    let mut reader = rt.stdin();
     let mut writer = rt.stdout();
     match serve_client(
         rt.alloc(),
