@@ -50,7 +50,7 @@ pub record IsUnset (set : Configuration) : Type 0 where
 pub record IsLaunched (text : Bytes) (path : Text) (limit : ℕ) (schedule : Schedule) (arguments : Data) (l : Launched) : Type 0 where
   pub opens : OpensProgram text limit l.program
   pub nodes : NodesShown text l.program.nodes.items
-  pub path : string_bytes l.program.path ≡ path
+  pub stored_at : string_bytes l.program.path ≡ path
   pub unset : IsUnset l.settings
   pub order : l.execution.schedule ≡ schedule
   pub stands : l.execution.goal ≡ None

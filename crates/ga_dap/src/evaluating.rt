@@ -50,10 +50,15 @@ pub(crate) fn value_body(
 }
 
 /// The first bytes of a line, as many as are looked at.
+#[tactic(auto, using(std::proofs::lemmas::List::take_all))]
 fn front_of_line(line: &[u8]) -> &[u8]
     ensures { result.now ≡ take LOOKED_AT line.now }
 {
-    line.split_at(line.len().min(LOOKED_AT)).0
+    if line.len() <= LOOKED_AT {
+        line
+    } else {
+        line.split_at(LOOKED_AT).0
+    }
 }
 
 /// Carries out a command of exploring. It is answered by a text, or would end the session.

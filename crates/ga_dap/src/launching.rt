@@ -38,7 +38,8 @@ fn refuse_file(
     ensures { IfOk result (λ new. (new ≡ None) × Sends out.old (unlaunched request.now path.now why.now) out.new) }
 {
     let why = format!(in alloc; "launch: {path}: {why}")?;
-    refuse_launch(request, why.as_str(), out)
+    out.refuse(request, why.as_str())?;
+    Ok(None)
 }
 
 /// Tells what source is warned of, where it is.

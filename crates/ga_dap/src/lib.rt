@@ -15,4 +15,3 @@ mod unanswered;
 
 pub use serving::{SessionEnd, serve_client};
 pub use sources::{Arrivals, ProgramFiles, SourceError};
-

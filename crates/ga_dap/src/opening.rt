@@ -208,7 +208,7 @@ fn lab_of(alloc: Global, chip: Chip, limit: u32) -> Result<Lab, AllocError>
 
 /// What is told of a fault of source.
 fn source_refused(alloc: Global, fault: Fault<'_>) -> LaunchError
-    ensures { IfFault result (fault.cause ≢ Wanting) }
+    ensures { IfFault result (fault.entry.cause ≢ Wanting) }
 {
     if fault.cause == SourceCause::Memory {
         return LaunchError::Memory;

@@ -7,11 +7,11 @@ use Rattle.ga_dap.proofs.turn.next_message.Goals as goal
 pub returns-in-Err-clause-next : goal.returns-in-Err-clause-next
 returns-in-Err-clause-next g c = λ left known.
     let first = c.in-Err.ensures.refused left known in
-    let P : List ℕ → Type 0 = λ all. IfOk c.next-2.result (λ (next : Next). (rest : List ℕ) × (g.R.Read.remaining c.next-2.new.reader ≡ Some rest) × GivesNext all next (c.next-2.new.self ++ rest)) in
-    subst P (sym first.2) (c.next-2.ensures.next first.0 first.1)
+    let P : List ℕ → Type 0 = λ all. IfOk c.next-in-Err.result (λ (next : Next). (rest : List ℕ) × (g.R.Read.remaining c.next-in-Err.new.reader ≡ Some rest) × GivesNext all next (c.next-in-Err.new.self ++ rest)) in
+    subst P (sym first.2) (c.next-in-Err.ensures.next first.0 first.1)
 
 pub returns-in-Err-clause-refused : goal.returns-in-Err-clause-refused
 returns-in-Err-clause-refused g c = λ left known.
     let first = c.in-Err.ensures.refused left known in
-    let P : List ℕ → Type 0 = λ all. OnErr c.next-2.result ((rest : List ℕ) × (g.R.Read.remaining c.next-2.new.reader ≡ Some rest) × (all ≡ c.next-2.new.self ++ rest)) in
-    subst P (sym first.2) (c.next-2.ensures.refused first.0 first.1)
+    let P : List ℕ → Type 0 = λ all. OnErr c.next-in-Err.result ((rest : List ℕ) × (g.R.Read.remaining c.next-in-Err.new.reader ≡ Some rest) × (all ≡ c.next-in-Err.new.self ++ rest)) in
+    subst P (sym first.2) (c.next-in-Err.ensures.refused first.0 first.1)
