@@ -83,7 +83,7 @@ pub(crate) fn tell_slice_twice(
     out: &mut Outbox,
 ) -> Result<(), Unanswered>
     requires { out.old.bytes ≡ [] }
-    ensures { Carries result (λ messages. SliceTold (is_marked before.now) program.now stop messages) (Unit {0}) out.old out.new }
+    ensures { Carries result (λ messages. SliceTold (is_marked before.now) program.now stop messages) ⊥ out.old out.new }
 {
     let seq = out.seq();
     match tell_slice(alloc, program, before, stop, out) {
@@ -137,7 +137,7 @@ pub(crate) fn tell_back_twice(
     out: &mut Outbox,
 ) -> Result<(), Unanswered>
     requires { out.old.bytes ≡ [] }
-    ensures { Carries result (λ messages. BackTold (is_marked before.now) program.now request.now gone.now.node (gone_words gone.now.node gone.now.before gone.now.removed program.now.lab) reason.now messages) (Unit {0}) out.old out.new }
+    ensures { Carries result (λ messages. BackTold (is_marked before.now) program.now request.now gone.now.node (gone_words gone.now.node gone.now.before gone.now.removed program.now.lab) reason.now messages) ⊥ out.old out.new }
 {
     let seq = out.seq();
     match tell_back(alloc, program, before, request, gone, reason, out) {
@@ -198,7 +198,7 @@ pub(crate) fn tell_command_twice(
     out: &mut Outbox,
 ) -> Result<(), Unanswered>
     requires { out.old.bytes ≡ [] }
-    ensures { Carries result (λ messages. AnswerTold request.now answer.now moved (is_marked before.now) program.now node messages) (Unit {0}) out.old out.new }
+    ensures { Carries result (λ messages. AnswerTold request.now answer.now moved (is_marked before.now) program.now node messages) ⊥ out.old out.new }
 {
     let seq = out.seq();
     match tell_command(alloc, program, before, request, answer, moved, node, out) {
