@@ -224,7 +224,11 @@ fn source_refused(alloc: Global, fault: Fault<'_>) -> LaunchError
 fn nodes_of(alloc: Global, programs: &[NodeProgram<'_>]) -> Result<Vec<NodeId>, AllocError>
     ensures { IfOk result (λ nodes. nodes.items ≡ map (λ p. p.node) programs.now) }
 {
-    programs.iter().map(|program| program.node).collect(alloc)
+    let mut nodes = Vec::new(alloc);
+    'programs: for program in programs {
+        nodes.push(program.node)?;
+    }
+    Ok(nodes)
 }
 
 /// A line for each store over code, as `ga144 asm` warns of it.

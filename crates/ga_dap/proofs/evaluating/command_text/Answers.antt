@@ -21,8 +21,7 @@ returns-in-Ok-clause-told c =
     let part = h.1 c.args.line.now c.front_of_line.ensures in
     let told = c.in-Ok.ensures.said [] h.0 h.2 in
     let e : h.0 ≡ told.sent = told.splits ∙ ap (λ (z : List ℕ). told.sent ++ z) c.in-Ok.ensures.sent ∙ append-nil told.sent in
-    let whole : c.send.new.writer.items ≡ h.0 = cc in
-    (
+    let whole : c.send.new.writer.items ≡ h.0 = cc in (
       refl,
       subst (λ (z : Text). Explores (parts_explored c.args.program.now.lab c.args.program.now.source) c.args.line.now z (parts_explored c.answer_line.new.lab c.args.program.now.source))
           (sym whole) part.0,
@@ -39,8 +38,7 @@ returns-in-Err-send-clause-untold c =
 pub returns-in-Ok-Quit-clause-told : goal.returns-in-Ok-Quit-clause-told
 returns-in-Ok-Quit-clause-told c =
     let said = nothing_said c.new-answer.result.items c.new-output.result c.new-answer.ensures.items c.new-output.ensures in
-    let h = rw c.in-Ok-Quit.field-0-is at (c.in-Ok-Quit.ensures [] [] said) in
-    (
+    let h = rw c.in-Ok-Quit.field-0-is at (c.in-Ok-Quit.ensures [] [] said) in (
       ap (λ (z : Exploring). let d : Debuggee = record c.args.program.now { lab = z.lab } in d) h.1.1,
       quit_part c.front_of_line.result.now c.args.line.now c.front_of_line.ensures h.1.0,
     )
