@@ -1,11 +1,19 @@
 -- What is sent for a request, and what then stands.
-use Rattle.std.proofs.Common.{◌≡◌, ◌∙◌, ◌++◌, ℕ, zero, suc, Bool, true, false, List, [], ◌∷◌, Option, Result, Ok, Err, refl, sym, ap, subst}
+use Rattle.std.proofs.Common.{◌≡◌, ◌∙◌, ◌++◌, ◌<◌, ◌+◌, ◌&&◌, ◌||◌, arith, inl, inr, map, ℕ, zero, suc, Bool, true, false, List, [], ◌∷◌, Option, Result, Ok, Err, refl, sym, ap, subst}
 use Rattle.std.specs.Prelude.{OnOk}
+use Rattle.std.specs.List.{list_all, list_any}
+use Rattle.std.proofs.lemmas.Bool.{cases_eq}
+use Rattle.ga_notes.specs.declared.notes.Notes.{Notes}
+use Rattle.ga_search.specs.Running.{Running}
+use Rattle.ga_breakpoints.specs.declared.breakpoint.Breakpoint.{Breakpoint}
+use Rattle.ga_breakpoints.specs.declared.going.Halt.{Halt}
+use Rattle.ga_breakpoints.specs.Going.{HasGone, going_on, stepping_on}
 use Rattle.ga_protocol.specs.Sent.{SentMessages}
 use Rattle.ga_protocol.specs.declared.request.ClientRequest.{ClientRequest}
 use Rattle.ga_breakpoints.specs.declared.stepping.Stepping.{Stepping}
 use Rattle.ga_responses.specs.Events.{changed_messages, changed_below}
 use Rattle.ga_responses.specs.Sending.{Message, Messages, Sends, SendsAll}
+use Rattle.ga_responses.specs.declared.request_name.RequestName.{RequestName}
 use Rattle.ga_responses.specs.declared.debuggee.Debuggee.{Debuggee}
 use Rattle.ga_responses.proofs.Sent.{sent_one}
 use Rattle.ga_requests.specs.declared.configuration.Configuration.{Configuration}
@@ -14,7 +22,7 @@ use Rattle.ga_requests.specs.declared.launched.Launched.{Launched}
 use Rattle.ga_requests.specs.declared.moving.StepKind.{StepKind}
 use Rattle.ga_requests.specs.Breakpoints.{SetsLinesIf, SetsFiltersIf}
 use Rattle.ga_requests.specs.Moving.{BeginsStep, BeginsStepping, BeginsUnless}
-use Rattle.ga_requests.specs.Requests.{OnlyAnswers, Moves, Steps, Sets}
+use Rattle.ga_requests.specs.Requests.{OnlyAnswers, Moves, Steps, Sets, DoesInPlace}
 
 pub only_answers : {T E : Type 0} → (Answers : Message → Type 0) (r : Result T E) (l new : Launched) (old out : SentMessages)
     → OnOk r ((message : Message) × Answers message × Sends old message out) → new ≡ l → OnOk r ((messages : Messages) × OnlyAnswers Answers l messages new × SendsAll old messages out)
@@ -39,6 +47,12 @@ pub sets_so : {T E : Type 0} → (Becomes : Message → Configuration → Type 0
 sets_so Becomes (Ok x) l new settings old out p same = (p.0 ∷ [], (p.0, settings, p.1, refl, same), sent_one old p.0 out p.2)
 sets_so Becomes (Err e) l new settings old out p same = tt
 
+pub with_command : {T E : Type 0} → (r : Result T E) (a b : RequestName) (l : Launched) (request : ClientRequest) (new : Launched) (old out : SentMessages) → b ≡ a
+    → OnOk r ((messages : Messages) × DoesInPlace a l request messages new × SendsAll old messages out)
+    → OnOk r ((messages : Messages) × DoesInPlace b l request messages new × SendsAll old messages out)
+with_command r a b l request new old out e p =
+    subst (λ (z : RequestName). OnOk r ((messages : Messages) × DoesInPlace z l request messages new × SendsAll old messages out)) (sym e) p
+
 pub begins_unless : (b can : Bool) (kind : StepKind) (r : Execution) (request : ClientRequest) (stepping : Option Stepping) (message : Message) (new : Execution) → can ≡ b
     → can ≡ true → BeginsStepping r request stepping message new → BeginsUnless b kind r request stepping message new
 begins_unless b can kind r request stepping message new e is p = subst (λ (z : Bool). BeginsUnless z kind r request stepping message new) (sym is ∙ e) p
@@ -58,3 +72,28 @@ changed_alike f g now same zero = refl
 changed_alike f g now same (suc n) =
     ap (λ (z : List Message). z ++ changed_messages (f n) (now n) n) (changed_alike f g now same n)
     ∙ ap (λ (z : Bool). changed_below g now n ++ changed_messages z (now n) n) (same n)
+
+pub gone_by : (a b : List Breakpoint) (s t : Bool) (r : Running) (most events : ℕ) (halt : Halt) → a ≡ b → s ≡ t → HasGone (going_on a s) r most events halt
+    → HasGone (going_on b t) r most events halt
+gone_by a b s t r most events halt e f p =
+    subst (λ (z : List Breakpoint). HasGone (going_on z t) r most events halt) e (subst (λ (z : Bool). HasGone (going_on a z) r most events halt) f p)
+
+pub stepped_so : (notes : Notes) (a b : List Breakpoint) (s t : Bool) (by : Stepping) (r : Running) (most events : ℕ) (halt : Halt) → a ≡ b → s ≡ t
+    → HasGone (stepping_on notes a s by r) r most events halt → HasGone (stepping_on notes b t by r) r most events halt
+stepped_so notes a b s t by r most events halt e f p =
+    subst (λ (z : List Breakpoint). HasGone (stepping_on notes z t by r) r most events halt) e
+    (subst (λ (z : Bool). HasGone (stepping_on notes a z by r) r most events halt) f p)
+
+pub none_more : (f : ℕ → Bool) (k : ℕ) (b : Bool) → ((n : ℕ) → n < k → f n ≡ false) → b ≡ f k → b ≡ false → (n : ℕ) → n < k + 1 → f n ≡ false
+none_more f k b before e is n lt = elim (cases_eq n k) as (λ w. f n ≡ false) [
+  | inl q ↦ ap f q ∙ sym e ∙ is
+  | inr ne ↦ before n (omega (arith, lt, ne))
+]
+
+pub any_map : {A B : Type 0} (f : B → Bool) (g : A → B) (xs : List A) → list_any (λ (x : A). f (g x)) xs ≡ list_any f (map g xs)
+any_map f g [] = refl
+any_map f g (x ∷ xs) = ap (λ (z : Bool). f (g x) || z) (any_map f g xs)
+
+pub all_map : {A B : Type 0} (f : B → Bool) (g : A → B) (xs : List A) → list_all (λ (x : A). f (g x)) xs ≡ list_all f (map g xs)
+all_map f g [] = refl
+all_map f g (x ∷ xs) = ap (λ (z : Bool). f (g x) && z) (all_map f g xs)

@@ -1,5 +1,5 @@
 -- Breakpoints by references to memory.
-use Rattle.std.proofs.Common.{◌≡◌, ℕ, ℤ, Option, subst}
+use Rattle.std.proofs.Common.{◌≡◌, ℕ, Option, subst}
 use Rattle.ga_text.specs.Lines.{Text}
 use Rattle.ga_grid.specs.declared.node_id.NodeId.{NodeId}
 use Rattle.ga_breakpoints.specs.declared.breakpoint.Breakpoint.{Breakpoint}
@@ -8,5 +8,5 @@ use Rattle.ga_requests.specs.Placing.{IsReferredBy, at_cell_on}
 pub referred_so : (place : NodeId × ℕ → Option Breakpoint) (a b : Option Text) (point : Option Breakpoint) → a ≡ b → IsReferredBy place a point → IsReferredBy place b point
 referred_so place a b point e so = subst (λ (z : Option Text). IsReferredBy place z point) e so
 
-pub referred_on : (a b : ℤ) (text : Option Text) (point : Option Breakpoint) → a ≡ b → IsReferredBy (at_cell_on a) text point → IsReferredBy (at_cell_on b) text point
-referred_on a b text point e so = subst (λ (z : ℤ). IsReferredBy (at_cell_on z) text point) e so
+pub referred_on : (a b : ℕ) (text : Option Text) (point : Option Breakpoint) → a ≡ b → IsReferredBy (at_cell_on a) text point → IsReferredBy (at_cell_on b) text point
+referred_on a b text point e so = subst (λ (z : ℕ). IsReferredBy (at_cell_on z) text point) e so

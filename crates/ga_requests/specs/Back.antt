@@ -50,9 +50,11 @@ reversed_by p node watched = record p { lab = reversed p.lab node watched }
 abbrev pub AreStepsOf : State → List ℕ → Type 0
 AreStepsOf s steps = (n : ℕ) → n < 144 → slice_index_or steps n 0 ≡ steps_of n s.kept
 
+abbrev pub gone_line : ℕ → ℕ → ℕ → Text
+gone_line n first before = codes "  with it " ++ decimal3_of (yxx_of n) ++ codes " " ++ decimal first ++ codes " to " ++ decimal before ++ codes "\n"
+
 abbrev pub gone_with_it : ℕ → ℕ → ℕ → Text
-gone_with_it n before left =
-    if nat_lt left before then codes "  with it " ++ decimal3_of (yxx_of n) ++ codes " " ++ decimal (left + 1) ++ codes " to " ++ decimal before ++ codes "\n" else []
+gone_with_it n before left = if nat_lt left before then gone_line n (left + 1) before else []
 
 abbrev pub gone_of : ℕ → List ℕ → State → ℕ → Text
 gone_of node before s n = if n == node then [] else gone_with_it n (slice_index_or before n 0) (steps_of n s.kept)

@@ -1,6 +1,6 @@
 -- Where the breakpoints stand that are asked for (Debug Adapter Protocol, "SourceBreakpoint", "FunctionBreakpoint", "InstructionBreakpoint", "DataBreakpoint"),
 -- and what is told of each ("Breakpoint").
-use Rattle.std.specs.Prelude.{◌≡◌, ℕ, ◌+◌, ◌%◌, ◌^◌, ◌==◌, nat_lt, Bool, true, false, ◌&&◌, ◌||◌, if◌then◌else◌, List, [], ◌∷◌, ◌++◌, take, drop, length, slice_index, position, codes, bytes_eq, string_bytes, Option, Some, None, option_map, option_and_then, ℤ}
+use Rattle.std.specs.Prelude.{◌≡◌, ℕ, ◌+◌, ◌%◌, ◌^◌, ◌==◌, nat_lt, Bool, true, false, ◌&&◌, ◌||◌, if◌then◌else◌, List, [], ◌∷◌, ◌++◌, take, drop, length, slice_index, position, codes, bytes_eq, string_bytes, Option, Some, None, option_map, option_and_then}
 use Rattle.std.specs.List.{slice_get}
 use Rattle.serde_json.specs.Data.{Data, string, boolean, object, no_members, member}
 use Rattle.ga_text.specs.Lines.{Text}
@@ -67,9 +67,8 @@ at_label names text = at_label_behind names text (node_named_before text)
 
 -- ---- at an address, and of a cell of RAM
 
-abbrev pub at_cell_on : ℤ → NodeId × ℕ → Option Breakpoint
-at_cell_on offset at =
-    let address = (at.1 + cells_on offset) % 4096 in if nat_lt address 256 then breakpoint_of_address at.0 address else None
+abbrev pub at_cell_on : ℕ → NodeId × ℕ → Option Breakpoint
+at_cell_on on at = let address = (at.1 + on) % 4096 in if nat_lt address 256 then breakpoint_of_address at.0 address else None
 
 abbrev pub on_writes : NodeId × ℕ → Option Breakpoint
 on_writes at = if nat_lt at.1 128 then Some (record { node = at.0; watched = Writes at.1 }) else None
@@ -85,7 +84,7 @@ IsPlaceOf p family.Source d found = found ≡ found_on_line (program_notes p) d
 IsPlaceOf p family.Function d found =
     found ≡ option_map on_no_line (option_and_then (at_label (program_notes p).names.items) (member_text (codes "name") d))
 IsPlaceOf p family.Instruction d found =
-    (point : Option Breakpoint) × IsReferredBy (at_cell_on (offset_given (codes "offset") d)) (member_text (codes "instructionReference") d) point
+    (point : Option Breakpoint) × IsReferredBy (at_cell_on (cells_on (offset_given (codes "offset") d))) (member_text (codes "instructionReference") d) point
     × (found ≡ option_map on_no_line point)
 IsPlaceOf p family.Data d found =
     (point : Option Breakpoint) × IsReferredBy on_writes (member_text (codes "dataId") d) point × (found ≡ option_map on_no_line point)

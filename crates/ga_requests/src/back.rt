@@ -3,7 +3,7 @@
 ghost use Rattle.std.specs.Prelude.{◌≡◌, ◌++◌, length, string_bytes, slice_index_or, IfOk, OnOk};
 ghost use Rattle.serde_json.specs.View.{view};
 ghost use Rattle.ga_event.specs.Told.{steps_of};
-ghost use Rattle.ga_requests.specs.Back.{grain_asked, stepped_by, reversed_by, AreStepsOf, WentBack, gone_with_it, gone_of, gone_below, gone_head, gone_words};
+ghost use Rattle.ga_requests.specs.Back.{grain_asked, stepped_by, reversed_by, AreStepsOf, WentBack, gone_line, gone_with_it, gone_of, gone_below, gone_head, gone_words};
 
 use crate::moving::grain_asked;
 use ga_adapter::{Watched, reverse_continue, step_back, step_back_line};
@@ -114,39 +114,81 @@ pub fn gone_text(alloc: Global, lab: &Lab, gone: &Gone) -> Result<String, AllocE
     ensures { IfOk result (λ text. string_bytes text ≡ gone_words gone.now.node gone.now.before gone.now.removed lab.now) }
 {
     let mut text = gone_head(alloc, lab, gone)?;
-    add_others(&mut text, lab, gone)?;
+    add_others(alloc, &mut text, lab, gone)?;
     Ok(text)
 }
 
 /// Adds a line for each other node of which steps went.
-fn add_others(text: &mut String, lab: &Lab, gone: &Gone) -> Result<(), AllocError>
+fn add_others(alloc: Global, text: &mut String, lab: &Lab, gone: &Gone) -> Result<(), AllocError>
     ensures { OnOk result (string_bytes text.new ≡ string_bytes text.old ++ gone_below gone.now.node.number gone.now.before lab.now 144) }
 {
     'nodes: for number in 0..144u8 {
-        add_gone(text, lab, gone, NodeId::new(number))?;
+        let node = NodeId::new(number);
+        add_gone(alloc, text, lab, gone, node)?;
     }
     Ok(())
 }
 
 /// Adds the steps of a node that went, where it is another one and any did.
-fn add_gone(text: &mut String, lab: &Lab, gone: &Gone, node: NodeId) -> Result<(), AllocError>
+fn add_gone(
+    alloc: Global,
+    text: &mut String,
+    lab: &Lab,
+    gone: &Gone,
+    node: NodeId,
+) -> Result<(), AllocError>
     ensures { OnOk result (string_bytes text.new ≡ string_bytes text.old ++ gone_of gone.now.node.number gone.now.before lab.now node.number) }
 {
     if node.number == gone.node.number {
         return Ok(());
     }
-    add_other(text, node, gone.before[node.index()], lab.steps(node))
+    add_other(
+        alloc,
+        text,
+        node,
+        gone.before[node.index()],
+        lab.steps(node),
+    )
+}
+
+/// The line that tells of another node.
+fn gone_line(alloc: Global, node: NodeId, first: u64, before: u32) -> Result<String, AllocError>
+    ensures { IfOk result (λ text. string_bytes text ≡ gone_line node.number first before) }
+{
+    let mut text = String::from_str(alloc, "  with it ")?;
+    add_name(&mut text, node)?;
+    write!(text, " {first} to {before}\n")?;
+    Ok(text)
+}
+
+/// Adds the line that tells of another node.
+fn add_line(
+    alloc: Global,
+    text: &mut String,
+    node: NodeId,
+    first: u64,
+    before: u32,
+) -> Result<(), AllocError>
+    ensures { OnOk result (string_bytes text.new ≡ string_bytes text.old ++ gone_line node.number first before) }
+{
+    let line = gone_line(alloc, node, first, before)?;
+    text.push_str(line.as_str())?;
+    Ok(())
 }
 
 /// Adds the steps of another node that went, where any did.
-fn add_other(text: &mut String, node: NodeId, before: u32, left: u32) -> Result<(), AllocError>
+fn add_other(
+    alloc: Global,
+    text: &mut String,
+    node: NodeId,
+    before: u32,
+    left: u32,
+) -> Result<(), AllocError>
     ensures { OnOk result (string_bytes text.new ≡ string_bytes text.old ++ gone_with_it node.number before left) }
 {
     if before <= left {
         return Ok(());
     }
     let first = u64::from(left) + 1;
-    text.push_str("  with it ")?;
-    add_name(text, node)?;
-    write!(text, " {first} to {before}\n")
+    add_line(alloc, text, node, first, before)
 }

@@ -3,6 +3,7 @@
 ghost use Rattle.std.specs.Prelude.{◌≡◌, [], codes, map, length, replicate, IfOk, OnOk, OnErr};
 ghost use Rattle.std.specs.List.{list_all, list_any};
 ghost use Rattle.serde_json.specs.View.{view};
+ghost use Rattle.serde_json.specs.declared.value.Value.{Value as AValue};
 ghost use Rattle.ga_requests.specs.Placing.{Places};
 ghost use Rattle.ga_requests.specs.Breakpoints.{left_by, breakpoints_body, elsewhere, is_own_file, is_text, is_filter, IsSetTo, SetsFiltersIf, SetsFilters, SetsLines, SetsPoints};
 ghost use Rattle.ga_requests.specs.kept.Placings.{placement_of};
@@ -84,11 +85,7 @@ fn count_asked(arguments: &Value) -> usize
 }
 
 /// Tells that none stands in another file.
-fn tell_nowhere(
-    alloc: Global,
-    request: &ClientRequest,
-    out: &mut Outbox,
-) -> Result<(), AllocError>
+fn tell_nowhere(alloc: Global, request: &ClientRequest, out: &mut Outbox) -> Result<(), AllocError>
     ensures sent { OnOk result (Sends out.old (answered request.now (breakpoints_body (replicate (length (member_values (codes "breakpoints") (view request.now.arguments))) elsewhere))) out.new) }
     ensures err { OnErr result (out.new ≡ out.old) }
 {
@@ -182,17 +179,29 @@ fn is_filter(item: &Value) -> bool
     is_text(item, "stop") || is_text(item, "stuck")
 }
 
+fn each_is_filter(items: &[Value]) -> bool
+    ensures { result ≡ list_all (λ (item : AValue). is_filter (view item)) items.now }
+{
+    items.iter().all(|item| is_filter(item))
+}
+
 /// Whether each item is the name of a filter.
 fn are_filters(items: &[Value]) -> bool
     ensures { result ≡ list_all is_filter (map view items.now) }
 {
-    items.iter().all(|item| is_filter(item))
+    each_is_filter(items)
+}
+
+fn one_is_text(items: &[Value], name: &str) -> bool
+    ensures { result ≡ list_any (λ (item : AValue). is_text name.now (view item)) items.now }
+{
+    items.iter().any(|item| is_text(item, name))
 }
 
 fn has_filter(items: &[Value], name: &str) -> bool
     ensures { result ≡ list_any (is_text name.now) (map view items.now) }
 {
-    items.iter().any(|item| is_text(item, name))
+    one_is_text(items, name)
 }
 
 /// Sets the filters, where each is one.

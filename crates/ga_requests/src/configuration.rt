@@ -70,10 +70,7 @@ fn is_of_another(family: Family, one: SetBy) -> bool
 }
 
 /// The breakpoints alone.
-pub(crate) fn breakpoints_of(
-    alloc: Global,
-    placed: &[SetBy],
-) -> Result<Vec<Breakpoint>, AllocError>
+pub(crate) fn breakpoints_of(alloc: Global, placed: &[SetBy]) -> Result<Vec<Breakpoint>, AllocError>
     ensures { IfOk result (λ list. list.items ≡ map (λ (one : ASetBy). one.breakpoint) placed.now) }
 {
     let mut list = Vec::new(alloc);

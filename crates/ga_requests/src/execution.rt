@@ -7,7 +7,7 @@ ghost use Rattle.ga_breakpoints.specs.Going.{HasGone, stepping_on};
 ghost use Rattle.ga_breakpoints.specs.Stepping.{stepped_on};
 ghost use Rattle.ga_lab.specs.Machine.{chip_of};
 ghost use Rattle.ga_causal.specs.Dependence.{is_marked};
-ghost use Rattle.ga_requests.specs.Slices.{slice_limit, GoesOn, StepsOn, Advances, MarksStuck, MakesSliceOf, MakesSlice, IsFirstNewly, is_newly_by, hit_at, hit_of, end_of_move, node_told, stop_by, ended_stuck, goal_behind};
+ghost use Rattle.ga_requests.specs.Slices.{slice_limit, GoesOn, StepsOn, Advances, MarksStuck, MakesSliceOf, MakesSlice, IsFirstNewly, is_newly_by, is_newly, hit_at, hit_of, end_of_move, node_told, stop_by, ended_stuck, goal_behind};
 
 use crate::configuration::Configuration;
 use ga_adapter::{Watched, has_thread};
@@ -110,14 +110,25 @@ fn is_newly(program: &Debuggee, before: bool, now: bool, node: NodeId) -> bool
     now && !before && has_thread(lab, program.nodes.as_slice(), node) && lab.node(node).stop() == 0
 }
 
+/// The same by marks of the nodes.
+fn is_newly_marked(
+    program: &Debuggee,
+    before: &[bool; 144],
+    now: &[bool; 144],
+    node: NodeId,
+) -> bool
+    ensures { result ≡ is_newly (is_marked before.now) (is_marked now.now) program.now node.number }
+{
+    is_newly(program, before[node.index()], now[node.index()], node)
+}
+
 /// The first such node.
 fn newly_stuck(program: &Debuggee, before: &[bool; 144], now: &[bool; 144]) -> Option<NodeId>
     ensures { IsFirstNewly (is_marked before.now) (is_marked now.now) program.now result }
 {
     'nodes: for number in 0..144u8 {
         let node = NodeId::new(number);
-        let place = number as usize;
-        if is_newly(program, before[place], now[place], node) {
+        if is_newly_marked(program, before, now, node) {
             return Some(node);
         }
     }

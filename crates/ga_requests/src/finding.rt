@@ -3,7 +3,7 @@
 ghost use Rattle.std.specs.Prelude.{◌≡◌, ◌<◌, length, position, codes, option_map, option_and_then, Some, IfSome};
 ghost use Rattle.serde_json.specs.View.{view};
 ghost use Rattle.ga_protocol.specs.Messages.{member_text};
-ghost use Rattle.ga_responses.specs.Disassembling.{offset_given};
+ghost use Rattle.ga_responses.specs.Disassembling.{offset_given, cells_on};
 ghost use Rattle.ga_requests.specs.Placing.{line_asked, found_on_line, is_label, at_any_label, at_label_of, names_node, node_named_before, at_label, at_cell_on, on_writes, on_no_line, unfound_words, IsReferredBy, IsPlaceOf};
 
 use crate::configuration::Family;
@@ -135,7 +135,10 @@ fn at_label(notes: &Notes, text: &[u8]) -> Option<Breakpoint>
     ensures { result ≡ at_label notes.now.names.items text.now }
 {
     match node_named_before(text) {
-        Some(node) => at_label_of(notes, node, &text[4..]),
+        Some(node) => {
+            let (_, label) = text.split_at(4);
+            at_label_of(notes, node, label)
+        }
         None => at_any_label(notes.names.as_slice(), text),
     }
 }
@@ -150,10 +153,11 @@ fn found_at_label(notes: &Notes, asked: &Value) -> Option<FoundPlace>
 }
 
 /// At so many addresses behind a cell.
-fn at_cell_on(offset: i64, at: (NodeId, u8)) -> Option<Breakpoint>
-    ensures { result ≡ at_cell_on offset at }
+fn at_cell_on(on: u32, at: (NodeId, u8)) -> Option<Breakpoint>
+    requires { on < 4096 }
+    ensures { result ≡ at_cell_on on at }
 {
-    let address = (u32::from(at.1) + cells_on(offset)) % 4096;
+    let address = (u32::from(at.1) + on) % 4096;
     if address < 256 {
         breakpoint_of_address(at.0, address)
     } else {
@@ -162,29 +166,39 @@ fn at_cell_on(offset: i64, at: (NodeId, u8)) -> Option<Breakpoint>
 }
 
 /// Where a reference to memory leads, and behind it.
-fn behind_reference(reference: Option<&str>, offset: i64) -> Option<Breakpoint>
-    ensures { IsReferredBy (at_cell_on offset) (option_map (λ text. text.now) reference.entry) result }
+fn behind_reference(reference: Option<&str>, on: u32) -> Option<Breakpoint>
+    requires { on < 4096 }
+    ensures { IsReferredBy (at_cell_on on) (option_map (λ text. text.now) reference.entry) result }
 {
     match reference {
-        Some(text) => behind_text(text, offset),
+        Some(text) => behind_text(text, on),
         None => None,
     }
 }
 
-fn behind_text(text: &str, offset: i64) -> Option<Breakpoint>
-    ensures { IsReferredBy (at_cell_on offset) (Some text.now) result }
+fn behind_text(text: &str, on: u32) -> Option<Breakpoint>
+    requires { on < 4096 }
+    ensures { IsReferredBy (at_cell_on on) (Some text.now) result }
 {
     match cell_referred(text) {
-        Some(at) => at_cell_on(offset, at),
+        Some(at) => at_cell_on(on, at),
         None => None,
     }
+}
+
+/// How many addresses behind the reference.
+fn cells_given(asked: &Value) -> u32
+    ensures value { result ≡ cells_on (offset_given (codes "offset") (view asked.now)) }
+    ensures most { result < 4096 }
+{
+    cells_on(offset_at(asked, "offset"))
 }
 
 fn found_at_address(program: &Debuggee, asked: &Value) -> Option<FoundPlace>
     ensures { IsPlaceOf program.now Family.Instruction (view asked.now) result }
 {
-    let offset = offset_at(asked, "offset");
-    on_no_line(behind_reference(text_at(asked, "instructionReference"), offset))
+    let on = cells_given(asked);
+    on_no_line(behind_reference(text_at(asked, "instructionReference"), on))
 }
 
 /// That a cell of RAM is written.

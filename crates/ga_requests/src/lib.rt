@@ -13,7 +13,7 @@ mod placing;
 mod stops;
 
 pub use back::{Gone, gone_text, reverse_node, step_node_back};
-pub use configuration::{Configuration, Family, SetBy, Points};
+pub use configuration::{Configuration, Family, Points, SetBy};
 pub use execution::{Execution, Goal, StopReason, make_slice};
 pub use launched::{Launched, answer_in_place};
 pub use stops::tell_stop;

@@ -10,12 +10,12 @@ ghost use Rattle.ga_requests.specs.Back.{grain_asked};
 ghost use Rattle.ga_responses.specs.Sending.{Sends, SendsAll, Message, Messages, acknowledged};
 ghost use Rattle.ga_requests.specs.Moving.{continued, begun, no_thread_words, node_stopped_words, stepping_of, BeginsStep, BeginsStepBy, BeginsStepping, PausesRun, PausesAt, Pauses, Continues};
 
+use crate::configuring::first_of;
 use crate::execution::{Execution, Goal};
 use ga_breakpoints::{Grain, Stepping};
 use ga_grid::NodeId;
-use ga_protocol::{ClientRequest, Outbox, text_at};
-use crate::configuring::first_of;
 use ga_lab::Lab;
+use ga_protocol::{ClientRequest, Outbox, text_at};
 use ga_responses::{Debuggee, node_asked, tell_stopped};
 use serde_json::{Value, json};
 use std::alloc::{AllocError, Global};

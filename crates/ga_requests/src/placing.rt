@@ -61,7 +61,13 @@ fn verified_on(
 {
     match line {
         Some(line) => {
-            verified_on_line(alloc, program.name.as_str(), program.path.as_str(), id, line)
+            verified_on_line(
+                alloc,
+                program.name.as_str(),
+                program.path.as_str(),
+                id,
+                line,
+            )
         }
         None => verified(alloc, id),
     }

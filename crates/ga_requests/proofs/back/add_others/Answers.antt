@@ -9,4 +9,4 @@ nodes-init c = none_gone c.args.gone.now.node.number c.args.gone.now.before c.ar
 pub nodes-preserved : goal.nodes-preserved
 nodes-preserved c =
     one_gone c.args.gone.now.node.number c.args.gone.now.before c.args.lab.now c.nodes.number (string_bytes c.args.text.now) (string_bytes c.nodes.text) _ c.nodes.invariant
-    (c.in_ok-add_gone.ensures ∙ ap (λ (n : ℕ). string_bytes c.nodes.text ++ gone_of c.args.gone.now.node.number c.args.gone.now.before c.args.lab.now n) c.new.ensures)
+    (c.in_ok-add_gone.ensures ∙ ap (λ (n : ℕ). string_bytes c.nodes.text ++ gone_of c.args.gone.now.node.number c.args.gone.now.before c.args.lab.now n) c.new-node.ensures)

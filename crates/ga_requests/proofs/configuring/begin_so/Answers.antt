@@ -1,15 +1,22 @@
-use Rattle.std.proofs.Common.{Bool, [], ◌∷◌, codes, refl, sym, subst}
+use Rattle.std.proofs.Common.{Bool, true, Some, [], ◌∷◌, codes, refl, sym, subst}
+use Rattle.ga_responses.specs.Sending.{Message}
 use Rattle.ga_responses.proofs.Sent.{sent_one}
+use Rattle.ga_requests.specs.declared.execution.Execution.{Execution}
+use Rattle.ga_requests.specs.declared.execution.Goal.TheVariants.{Continue}
 use Rattle.ga_requests.specs.Configuring.{BeginsSo}
 use Rattle.ga_requests.specs.Stopping.{stopped}
 use Rattle.ga_requests.proofs.configuring.begin_so.Goals as goal
 
-pub returns-then-stops-clause-sent : goal.returns-then-stops-clause-sent
-returns-then-stops-clause-sent c = (
-  stopped (codes "entry") (codes "at load") c.first_of-first.result.number ∷ [],
-  subst (λ (z : Bool). BeginsSo z c.args.program.now c.args.execution.now _ _) (sym c.if-stops.true) (c.first_of-first.result, c.first_of-first.ensures, refl, refl),
-  sent_one c.args.out.now _ c.tell_stopped.new.out c.in_ok-tell_stopped.ensures.sent,
-)
+pub returns-in_ok-tell_stopped-clause-sent : goal.returns-in_ok-tell_stopped-clause-sent
+returns-in_ok-tell_stopped-clause-sent c =
+    let message : Message = stopped (codes "entry") (codes "at load") c.first_of-first.result.number in
+    let new : Execution = record c.args.execution.now { is_configured = true } in (
+      message ∷ [],
+      subst (λ (z : Bool). BeginsSo z c.args.program.now c.args.execution.now (message ∷ []) new) (sym c.if-stops.true) (c.first_of-first.result, c.first_of-first.ensures, refl, refl),
+      sent_one c.args.out.now message c.tell_stopped.new.out c.in_ok-tell_stopped.ensures.sent,
+    )
 
 pub returns-else-stops-clause-sent : goal.returns-else-stops-clause-sent
-returns-else-stops-clause-sent c = ([], subst (λ (z : Bool). BeginsSo z c.args.program.now c.args.execution.now [] _) (sym c.if-stops.false) (refl, refl), refl)
+returns-else-stops-clause-sent c =
+    let new : Execution = record c.args.execution.now { is_configured = true; goal = Some Continue } in
+    ([], subst (λ (z : Bool). BeginsSo z c.args.program.now c.args.execution.now [] new) (sym c.if-stops.false) (refl, refl), refl)

@@ -1,15 +1,17 @@
 use Rattle.std.proofs.Common.{Bool, [], ◌∷◌, codes, refl, sym, subst}
-use Rattle.ga_responses.specs.Sending.{refused_response}
+use Rattle.ga_responses.specs.Sending.{Message, refused_response}
 use Rattle.ga_responses.proofs.Sent.{ok_then, sent_one}
 use Rattle.ga_requests.specs.Configuring.{ConfiguresIf}
 use Rattle.ga_requests.proofs.configuring.configure_if.Goals as goal
 
 pub returns-then-done-clause-sent : goal.returns-then-done-clause-sent
-returns-then-done-clause-sent c = ok_then c.refuse.result c.refuse.ensures.sent
+returns-then-done-clause-sent c =
+    let message : Message = refused_response c.args.request.now (codes "configurationDone: it is done") in
+    ok_then c.refuse.result c.refuse.ensures.sent
     (λ sent. (
-      refused_response c.args.request.now (codes "configurationDone: it is done") ∷ [],
-      subst (λ (z : Bool). ConfiguresIf z c.args.program.now c.args.execution.now c.args.request.now _ c.args.execution.now) (sym c.if-done.true) (refl, refl),
-      sent_one c.args.out.now _ c.refuse.new.self sent,
+      message ∷ [],
+      subst (λ (z : Bool). ConfiguresIf z c.args.program.now c.args.execution.now c.args.request.now (message ∷ []) c.args.execution.now) (sym c.if-done.true) (refl, refl),
+      sent_one c.args.out.now message c.refuse.new.self sent,
     ))
 
 pub returns-else-done-clause-sent : goal.returns-else-done-clause-sent

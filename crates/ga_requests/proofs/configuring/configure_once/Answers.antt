@@ -10,5 +10,5 @@ returns-clause-sent c = ok_then c.begin_so.result c.begin_so.ensures.sent
       threads_told c.args.request.now (is_marked c.shown_of-now.result) ++ sent.0,
       (is_marked c.shown_of-now.result, sent.0, c.shown_of-now.ensures, sent.1, refl),
       sent_both c.args.out.now (threads_told c.args.request.now (is_marked c.shown_of-now.result)) c.tell_threads_started.new.out sent.0 c.begin_so.new.out
-        c.in_ok-tell_threads_started.ensures sent.2,
+          c.in_ok-tell_threads_started.ensures sent.2,
     ))

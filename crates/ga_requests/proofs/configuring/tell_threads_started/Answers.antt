@@ -12,5 +12,5 @@ returns c = ok_then c.tell_changed.result c.tell_changed.ensures
       c.acknowledge.new.self,
       c.in_ok-acknowledge.ensures.sent,
       subst (λ (z : Messages). SendsAll c.acknowledge.new.self z c.tell_changed.new.out)
-        (changed_alike (is_marked (replicate 144 false)) (λ n. false) (is_marked c.args.now.now) (none_marked 144) 144) sent,
+          (changed_alike (is_marked (replicate 144 false)) (λ n. false) (is_marked c.args.now.now) (none_marked 144) 144) sent,
     ))

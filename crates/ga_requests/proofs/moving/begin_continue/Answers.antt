@@ -7,8 +7,7 @@ use Rattle.ga_requests.proofs.moving.begin_continue.Goals as goal
 
 pub returns-clause-sent : goal.returns-clause-sent
 returns-clause-sent c =
-    let message : Message = answered c.args.request.now (view c.in_ok-body.body) in
-    (
+    let message : Message = answered c.args.request.now (view c.in_ok-body.body) in (
       message ∷ [],
       (ap (λ (z : Data). answered c.args.request.now z ∷ []) c.in_ok-body.ensures, refl),
       sent_one c.args.out.now message c.respond.new.self c.in_ok-respond.ensures.sent,

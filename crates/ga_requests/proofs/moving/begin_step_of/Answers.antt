@@ -11,7 +11,7 @@ returns-then-can_step-clause-sent c = ok_then c.begin_stepping.result c.begin_st
     (λ sent. (
       sent.0,
       begins_unless _ c.can_step.result c.args.kind c.args.execution.now c.args.request.now _ sent.0 c.begin_stepping.new.execution c.can_step.ensures c.if-can_step.true
-        (subst (λ (z : Option Stepping). BeginsStepping c.args.execution.now c.args.request.now z sent.0 c.begin_stepping.new.execution) c.stepping_of-stepping.ensures sent.1),
+          (subst (λ (z : Option Stepping). BeginsStepping c.args.execution.now c.args.request.now z sent.0 c.begin_stepping.new.execution) c.stepping_of-stepping.ensures sent.1),
       sent.2,
     ))
 
@@ -20,6 +20,6 @@ returns-else-can_step-clause-sent c = ok_then c.refuse.result c.refuse.ensures.s
     (λ sent. (
       refused_response c.args.request.now c.node_stopped.result.now,
       stopped_unless _ c.can_step.result c.args.kind c.args.execution.now c.args.request.now _ _ c.args.execution.now c.can_step.ensures c.if-can_step.false
-        (ap (refused_response c.args.request.now) c.node_stopped.ensures, refl),
+          (ap (refused_response c.args.request.now) c.node_stopped.ensures, refl),
       sent,
     ))

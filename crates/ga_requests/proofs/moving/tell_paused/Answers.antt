@@ -17,5 +17,5 @@ returns c = let asked = c.node_or-node.ensures in
         asked.1,
         ap (λ (z : NodeId). acknowledged c.args.request.now ∷ stopped (codes "pause") (codes "pause") z.number ∷ []) asked.2,
       ),
-      (c.acknowledge.new.self, c.in_ok-acknowledge.ensures.sent, sent_one c.acknowledge.new.self _ c.tell_stopped.new.out sent),
+      (c.acknowledge.new.self, c.in_ok-acknowledge.ensures.sent, sent_one c.acknowledge.new.self (stopped (codes "pause") (codes "pause") c.node_or-node.result.number) c.tell_stopped.new.out sent),
     ))

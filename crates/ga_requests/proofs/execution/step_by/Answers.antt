@@ -1,0 +1,9 @@
+use Rattle.ga_search.specs.Running.{running}
+use Rattle.ga_requests.specs.Slices.{slice_limit}
+use Rattle.ga_requests.proofs.Answered.{stepped_so}
+use Rattle.ga_requests.proofs.execution.step_by.Goals as goal
+
+pub returns-clause-end : goal.returns-clause-end
+returns-clause-end c =
+    stepped_so c.args.notes.now _ _ _ _ c.args.stepping (running c.args.lab.now c.args.execution.now.schedule) slice_limit c.step_on-went.result.events c.step_on-went.result.halt
+    c.halts-halts.ensures.points c.halts-halts.ensures.stops c.step_on-went.ensures.end
