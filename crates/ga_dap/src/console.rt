@@ -1,6 +1,6 @@
 //! `evaluate`.
 
-ghost use Rattle.std.specs.Prelude.{◌≡◌, ◌⊎◌, ◌||◌, ◌==◌, not, length};
+ghost use Rattle.std.specs.Prelude.{◌≡◌, ◌⊎◌, ◌||◌, ◌==◌, [], not, length};
 ghost use Rattle.serde_json.specs.View.{view};
 ghost use Rattle.ga_text.specs.Lines.{Text};
 ghost use Rattle.ga_responses.specs.Sending.{SendsAll, Messages};

@@ -3,8 +3,9 @@
 ghost use Rattle.std.specs.Prelude.{◌≡◌, [], ◌∷◌, ◌++◌, None, Some, Ok, Err, Result, codes, string_bytes, IfOk, OnOk, OnErr};
 ghost use Rattle.serde_json.specs.View.{view};
 ghost use Rattle.ga_text.specs.Lines.{Bytes, Text};
+ghost use Rattle.ga_responses.specs.Launching.{limit_asked, schedule_asked};
 ghost use Rattle.ga_dap.specs.declared.sources.SourceError.{SourceError as WhyUnread};
-ghost use Rattle.ga_dap.specs.Launches.{IsWarned, LaunchesText, ReadsFile, LaunchesFirst, launch_told, unlaunched, event_alone};
+ghost use Rattle.ga_dap.specs.Launches.{IsWarned, LaunchesText, ReadsFile, LaunchesAsked, LaunchesFirst, launch_told, unlaunched, event_alone};
 ghost use Rattle.ga_responses.specs.Sending.{Sends, SendsAll, Messages, refused_response};
 
 use crate::opening::{LaunchError, Opened, open_program};
@@ -119,6 +120,43 @@ fn launched_file<S: ProgramFiles>(
     }
 }
 
+/// What is launched of a path, to keep so many events, in the order that is asked for.
+fn launched_limit<S: ProgramFiles>(
+    alloc: Global,
+    sources: &mut S,
+    request: &ClientRequest,
+    path: &str,
+    limit: u32,
+    out: &mut Outbox,
+) -> Result<Option<Launched>, AllocError>
+    ensures { IfOk result (λ new. (messages : Messages) × LaunchesAsked S.gives sources.old request.now (Some path.now) (Some limit) (schedule_asked (view request.now.arguments)) messages sources.new new × SendsAll out.old messages out.new) }
+{
+    match schedule_asked(&request.arguments) {
+        None => refuse_launch(
+            request,
+            "launch: the order is rounds, greedy, or random with a seed",
+            out,
+        ),
+        Some(schedule) => launched_file(alloc, sources, request, path, limit, schedule, out),
+    }
+}
+
+/// What is launched of a path, as it is asked for.
+fn launched_path<S: ProgramFiles>(
+    alloc: Global,
+    sources: &mut S,
+    request: &ClientRequest,
+    path: &str,
+    out: &mut Outbox,
+) -> Result<Option<Launched>, AllocError>
+    ensures { IfOk result (λ new. (messages : Messages) × LaunchesAsked S.gives sources.old request.now (Some path.now) (limit_asked (view request.now.arguments)) (schedule_asked (view request.now.arguments)) messages sources.new new × SendsAll out.old messages out.new) }
+{
+    match limit_asked(&request.arguments) {
+        None => refuse_launch(request, "launch: the limit is 1 to 4000000", out),
+        Some(limit) => launched_limit(alloc, sources, request, path, limit, out),
+    }
+}
+
 /// `launch`, where nothing is launched yet: what is launched then.
 ///
 /// # Errors
@@ -131,19 +169,8 @@ pub(crate) fn launched_first<S: ProgramFiles>(
 ) -> Result<Option<Launched>, AllocError>
     ensures { IfOk result (λ new. (messages : Messages) × LaunchesFirst S.gives sources.old request.now messages sources.new new × SendsAll out.old messages out.new) }
 {
-    let arguments = &request.arguments;
-    let Some(path) = text_at(arguments, "program") else {
-        return refuse_launch(request, "launch: there is no program", out);
-    };
-    let Some(limit) = limit_asked(arguments) else {
-        return refuse_launch(request, "launch: the limit is 1 to 4000000", out);
-    };
-    let Some(schedule) = schedule_asked(arguments) else {
-        return refuse_launch(
-            request,
-            "launch: the order is rounds, greedy, or random with a seed",
-            out,
-        );
-    };
-    launched_file(alloc, sources, request, path, limit, schedule, out)
+    match text_at(&request.arguments, "program") {
+        None => refuse_launch(request, "launch: there is no program", out),
+        Some(path) => launched_path(alloc, sources, request, path, out),
+    }
 }

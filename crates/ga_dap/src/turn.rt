@@ -6,7 +6,7 @@ ghost use Rattle.ga_protocol.specs.Inbox.{GivesNext};
 ghost use Rattle.ga_protocol.specs.Messages.{HoldsNoRequest};
 ghost use Rattle.ga_responses.specs.Sending.{SendsAll};
 ghost use Rattle.ga_dap.specs.Client.{IsTime, IsRequestIn, is_running, no_request_told, request_words};
-ghost use Rattle.ga_dap.specs.kept.Turning.{AnswersOrEnds, ContentOrEnds, TakesOrEnds, GoesOnOrEnds, TurnOrEnds, serving_at};
+ghost use Rattle.ga_dap.specs.kept.Turning.{AnswersOrEnds, DeclinesOrEnds, ContentOrEnds, TakesOrEnds, GoesOnOrEnds, TurnOrEnds, serving_at};
 
 use crate::serving::SessionEnd;
 use crate::session::{Session, go_on_launched};
@@ -71,6 +71,16 @@ fn tell_no_request(alloc: Global, why: RequestError, out: &mut Outbox) -> Result
     tell_output(alloc, "stderr", text.as_str(), out)
 }
 
+/// The same, where there is memory for it.
+fn decline(alloc: Global, why: RequestError, out: &mut Outbox) -> Progress
+    ensures { DeclinesOrEnds why out.old result out.new }
+{
+    match tell_no_request(alloc, why, out) {
+        Ok(()) => Progress::On,
+        Err(_) => Progress::End(SessionEnd::Memory),
+    }
+}
+
 /// Answers a request, or refuses it where there is no memory for its answer.
 fn answer<S: ProgramFiles>(
     alloc: Global,
@@ -110,10 +120,10 @@ fn answer_content<S: ProgramFiles>(
     match request_in(alloc, content) {
         Ok(request) => answer(alloc, session, sources, &request, out),
         Err(RequestError::Memory) => Progress::End(SessionEnd::Memory),
-        Err(why) => match tell_no_request(alloc, why, out) {
-            Ok(()) => Progress::On,
-            Err(_) => Progress::End(SessionEnd::Memory),
-        },
+        Err(RequestError::Json) => decline(alloc, RequestError::Json, out),
+        Err(RequestError::Kind) => decline(alloc, RequestError::Kind, out),
+        Err(RequestError::Seq) => decline(alloc, RequestError::Seq, out),
+        Err(RequestError::Command) => decline(alloc, RequestError::Command, out),
     }
 }
 

@@ -5,6 +5,7 @@ use Rattle.ga_protocol.specs.Framing.{IsMessage}
 use Rattle.ga_protocol.specs.Inbox.{IsBroken}
 use Rattle.ga_protocol.specs.Sent.{SentMessages}
 use Rattle.ga_protocol.specs.declared.request.ClientRequest.{ClientRequest}
+use Rattle.ga_protocol.specs.declared.request.RequestError.{RequestError}
 use Rattle.ga_responses.specs.Sending.{Messages, SendsAll}
 use Rattle.ga_requests.specs.declared.launched.Launched.{Launched}
 use Rattle.ga_dap.specs.declared.session.Session.{Session}
@@ -13,7 +14,7 @@ use Rattle.ga_dap.specs.declared.serving.SessionEnd.TheVariants as end
 use Rattle.ga_dap.specs.declared.turn.Progress.{Progress}
 use Rattle.ga_dap.specs.declared.turn.Progress.TheVariants.{On, End}
 use Rattle.ga_dap.specs.Answering.{AnswersRequest, SessionStays}
-use Rattle.ga_dap.specs.Client.{Serving, ArrivalTelling, AnswersContent, MakesTurn, EndsBy, refused_for_memory, untaken}
+use Rattle.ga_dap.specs.Client.{Serving, ArrivalTelling, AnswersContent, MakesTurn, EndsBy, refused_for_memory, no_request_told, untaken}
 use Rattle.ga_dap.specs.Going.{RunGoesOn}
 use Rattle.ga_dap.specs.Launches.{FileGiving}
 
@@ -21,6 +22,10 @@ abbrev pub AnswersOrEnds : {S : Type 0} → FileGiving S → S → Session → C
 AnswersOrEnds G host s request old On new after t = (messages : Messages)
     × (AnswersRequest G host s request messages after t ⊎ ((messages ≡ refused_for_memory request) × SessionStays s t)) × SendsAll old messages new
 AnswersOrEnds G host s request old (End ending) new after t = ending ≡ end.Memory
+
+abbrev pub DeclinesOrEnds : RequestError → SentMessages → Progress → SentMessages → Type 0
+DeclinesOrEnds why old On new = SendsAll old (no_request_told why) new
+DeclinesOrEnds why old (End ending) new = ending ≡ end.Memory
 
 abbrev pub ContentOrEnds : {S : Type 0} → FileGiving S → S → Session → Bytes → SentMessages → Progress → SentMessages → S → Session → Type 0
 ContentOrEnds G host s content old On new after t = (messages : Messages) × AnswersContent G host s content messages after t × SendsAll old messages new

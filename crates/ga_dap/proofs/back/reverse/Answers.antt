@@ -5,4 +5,4 @@ use Rattle.ga_dap.proofs.Shown.{shown_so}
 use Rattle.ga_dap.proofs.back.reverse.Goals as goal
 
 pub returns-in_default : goal.returns-in_default
-returns-in_default c = carries_so c.refuse.result _ _ _ _ _ _ c.refuse.ensures (λ messages told. (None, c.in_default.ensures, told, refl)) (λ stays. refl)
+returns-in_default c = carries_so c.refuse.result _ _ _ _ _ _ c.refuse.ensures (λ messages told. (None, c.in_default.ensures, (told, refl))) (λ stays. refl)

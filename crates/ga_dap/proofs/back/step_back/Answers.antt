@@ -5,7 +5,7 @@ use Rattle.ga_dap.proofs.Shown.{shown_so}
 use Rattle.ga_dap.proofs.back.step_back.Goals as goal
 
 pub returns-in_default : goal.returns-in_default
-returns-in_default c = carries_so c.refuse.result _ _ _ _ _ _ c.refuse.ensures (λ messages told. (None, c.in_default.ensures, told, refl)) (λ stays. refl)
+returns-in_default c = carries_so c.refuse.result _ _ _ _ _ _ c.refuse.ensures (λ messages told. (None, c.in_default.ensures, (told, refl))) (λ stays. refl)
 
 pub returns : goal.returns
 returns c =
@@ -15,12 +15,9 @@ returns c =
     (λ messages told. (
       Some c.in-Some.node,
       c.in-Some.ensures,
-      c.step_node_back-gone.ensures.program,
-      before,
-      c.step_node_back-gone.result.before,
-      c.step_node_back-gone.result.removed,
-      shown,
-      c.step_node_back-gone.ensures.went,
-      told,
+      (
+        c.step_node_back-gone.ensures.program,
+        (before, c.step_node_back-gone.result.before, c.step_node_back-gone.result.removed, shown, c.step_node_back-gone.ensures.went, told),
+      ),
     ))
     (λ stays. absurd stays)

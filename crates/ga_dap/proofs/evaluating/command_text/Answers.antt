@@ -33,7 +33,7 @@ returns-in-Err-send-clause-untold c =
     let said = nothing_said c.new-answer.result.items c.new-output.result c.new-answer.ensures.items c.new-output.ensures in
     let h = rw c.in-Ok-Answered.field-0-is at (c.in-Ok-Answered.ensures [] [] said) in
     let part = h.1 c.args.line.now c.front_of_line.ensures in
-    (h.0, refl, part.0, part.1)
+    (h.0, (refl, part.0, part.1))
 
 pub returns-in-Ok-Quit-clause-told : goal.returns-in-Ok-Quit-clause-told
 returns-in-Ok-Quit-clause-told c =
@@ -48,4 +48,4 @@ returns-in-Err-clause-untold c =
     let said = nothing_said c.new-answer.result.items c.new-output.result c.new-answer.ensures.items c.new-output.ensures in
     let h = c.in-Err.ensures [] [] said in
     let part = h.1 c.args.line.now c.front_of_line.ensures in
-    (h.0, refl, part.0, part.1)
+    (h.0, (refl, part.0, part.1))

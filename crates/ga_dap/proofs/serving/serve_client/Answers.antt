@@ -27,7 +27,7 @@ serving-preserved g c = record {
       let inv = c.serving.invariant.serves left before known held in
       let made = c.in-On.ensures inv.0 inv.3 in
       let told = c.in-Ok.ensures.said before (inv.1 ++ c.turn.new.out.bytes) (pends _ before inv.1 c.turn.new.out.bytes inv.4) in
-      let more = serves_on g.S.ProgramFiles.gives g.A.Arrivals.tells (serving_from c.args.sources.now c.args.arrivals.now left) inv.2 inv.1 _ c.turn.new.out.bytes _ inv.5 c.if-is_over.false made.2 in (
+      let more = serves_on g.S.ProgramFiles.gives g.A.Arrivals.tells (serving_from c.args.sources.now c.args.arrivals.now left) inv.2 inv.1 _ c.turn.new.out.bytes _ inv.5 c.if-session.false made.2 in (
         made.0,
         inv.1 ++ c.turn.new.out.bytes,
         suc inv.2,
