@@ -1,6 +1,8 @@
 //! `ga144 dap`: a session of an editor over the standard streams.
 
-use ga_dap::{Arrivals, ProgramFiles, SessionEnd, SourceError, serve_client};
+use crate::arriving::begin_reading;
+use ga_dap::{ProgramFiles, SessionEnd, SourceError, serve_client};
+use std::alloc::Global;
 use std::fs::File;
 use std::io;
 use std::io::{ErrorKind, Read};
@@ -16,24 +18,29 @@ struct Files<'r> {
 }
 
 impl ProgramFiles for Files<'_> {
-    fn read(&mut self, path: &str, text: &mut Vec<u8>) -> Result<(), SourceError> {
-        match read_file(self.rt, path, text) {
-            Ok(()) => {}
-            Err(why) => return Err(cause_of(why.kind())),
+    // What a file has can't be told here.
+    ghost gives = { λ host path given after. Unit {0} };
+
+    fn read(&mut self, _: Global, path: &str) -> Result<Vec<u8>, SourceError> {
+        match read_file(self.rt, path) {
+            Ok(text) => {
+                if text.len() as u64 > LONGEST_PROGRAM {
+                    return Err(SourceError::TooLong);
+                }
+                Ok(text)
+            }
+            Err(why) => Err(cause_of(why.kind())),
         }
-        if text.len() as u64 > LONGEST_PROGRAM {
-            return Err(SourceError::TooLong);
-        }
-        Ok(())
     }
 }
 
-/// Adds the bytes of a file, as far as one more than the bound.
-fn read_file(rt: &HostRuntime, path: &str, text: &mut Vec<u8>) -> io::Result<()> {
+/// The bytes of a file, as far as one more than the bound.
+fn read_file(rt: &HostRuntime, path: &str) -> io::Result<Vec<u8>> {
+    let mut text = Vec::new(rt.alloc());
     File::open(rt, path)?
         .take(LONGEST_PROGRAM + 1)
-        .read_to_end(text)?;
-    Ok(())
+        .read_to_end(&mut text)?;
+    Ok(text)
 }
 
 fn cause_of(kind: ErrorKind) -> SourceError {
@@ -45,26 +52,13 @@ fn cause_of(kind: ErrorKind) -> SourceError {
     }
 }
 
-/// Standard input, asked whether a read would not wait.
-#[derive(Drop)]
-struct StandardInput;
-
-impl Arrivals for StandardInput {
-    fn have_come(&mut self) -> bool {
-        let mut asked = [libc::types::pollfd {
-            fd: libc::STDIN_FILENO,
-            events: libc::net::POLLIN,
-            revents: 0,
-        }];
-        libc::net::poll(&mut asked, 0) != 0
-    }
-}
-
 /// Serves an editor, and says how that ended.
 pub fn serve_editor(rt: &HostRuntime) -> ExitCode {
+    let Ok((mut reader, mut arrivals)) = begin_reading(*rt) else {
+        let _ = eprintln!(rt; "ga144: out of memory");
+        return ExitCode::from(1);
+    };
     let mut sources = Files { rt };
-    let mut arrivals = StandardInput;
-    let mut reader = rt.stdin();
     let mut writer = rt.stdout();
     match serve_client(
         rt.alloc(),

@@ -6,6 +6,7 @@
 #![tactic(auto)]
 
 mod adapter;
+mod arriving;
 
 ghost use Rattle.std.specs.Prelude.{IfOk};
 ghost use Rattle.ga_console.specs.Settings.{AreInRange};

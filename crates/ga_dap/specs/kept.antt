@@ -1,2 +1,3 @@
-pub mod Opening
-pub mod Evaluating
+pub mod Carrying
+pub mod Turning
+pub mod Unopened

@@ -1,88 +1,213 @@
-//! What is told of a change of the machine.
+//! What is told of a change of the machine. Where memory is refused to it, it is told once more.
+
+ghost use Rattle.std.specs.Prelude.{◌≡◌, [], codes, OnOk};
+ghost use Rattle.ga_causal.specs.Dependence.{is_marked};
+ghost use Rattle.ga_responses.specs.Sending.{Sends, SendsAll, Messages};
+ghost use Rattle.ga_requests.specs.Back.{gone_words};
+ghost use Rattle.ga_dap.specs.Evaluating.{AnswerTold};
+ghost use Rattle.ga_dap.specs.Launches.{output_told};
+ghost use Rattle.ga_dap.specs.Telling.{ThreadsChanged, StandsThen, StopTold, SliceTold, BackTold, CommandTold};
+ghost use Rattle.ga_dap.specs.kept.Carrying.{Carries};
 
 use crate::evaluating::text_body;
-use crate::session::Unanswered;
+use crate::unanswered::Unanswered;
 use ga_grid::NodeId;
 use ga_protocol::{ClientRequest, Outbox};
 use ga_requests::{Gone, StopReason, gone_text, tell_stop};
 use ga_responses::{Debuggee, shown_nodes, tell_changed, tell_output, tell_stopped};
 use std::alloc::{AllocError, Global};
 
-/// What is told of a change of the machine.
-#[derive(Drop)]
-pub(crate) enum Told {
-    /// A slice of a run: why it ended, where it did.
-    Run(Option<StopReason>),
-    /// What went, and where the node stands.
-    Gone(Gone, &'static str),
-    /// What was answered to a command of exploring, by which something changed, and in which node it was asked.
-    Answer {
-        answer: Vec<u8>,
-        changed: bool,
-        node: NodeId,
-    },
-}
-
-/// Tells of a change, and once more where memory was refused to it.
-pub(crate) fn tell_twice(
+/// Tells which threads came and went.
+fn tell_threads(
     alloc: Global,
     program: &Debuggee,
     before: &[bool; 144],
-    told: &Told,
-    request: Option<&ClientRequest>,
     out: &mut Outbox,
-) -> Result<(), Unanswered> {
+) -> Result<(), AllocError>
+    ensures { OnOk result ((messages : Messages) × ThreadsChanged (is_marked before.now) program.now messages × SendsAll out.old messages out.new) }
+{
+    let now = shown_nodes(&program.lab, program.nodes.as_slice());
+    tell_changed(alloc, before, &now, out)
+}
+
+/// The same, and that the chip stands.
+fn tell_standing(
+    alloc: Global,
+    program: &Debuggee,
+    before: &[bool; 144],
+    reason: &str,
+    description: &str,
+    node: NodeId,
+    out: &mut Outbox,
+) -> Result<(), AllocError>
+    ensures { OnOk result ((messages : Messages) × StandsThen (is_marked before.now) program.now reason.now description.now node messages × SendsAll out.old messages out.new) }
+{
+    tell_threads(alloc, program, before, out)?;
+    tell_stopped(alloc, reason, description, node, out)
+}
+
+/// Tells why a run ended, where it did.
+fn tell_end(
+    alloc: Global,
+    program: &Debuggee,
+    stop: Option<StopReason>,
+    out: &mut Outbox,
+) -> Result<(), AllocError>
+    ensures { OnOk result ((messages : Messages) × StopTold program.now stop messages × SendsAll out.old messages out.new) }
+{
+    match stop {
+        Some(why) => tell_stop(alloc, program, why, out),
+        None => Ok(()),
+    }
+}
+
+fn tell_slice(
+    alloc: Global,
+    program: &Debuggee,
+    before: &[bool; 144],
+    stop: Option<StopReason>,
+    out: &mut Outbox,
+) -> Result<(), AllocError>
+    ensures { OnOk result ((messages : Messages) × SliceTold (is_marked before.now) program.now stop messages × SendsAll out.old messages out.new) }
+{
+    tell_threads(alloc, program, before, out)?;
+    tell_end(alloc, program, stop, out)
+}
+
+/// Tells of a slice of a run.
+pub(crate) fn tell_slice_twice(
+    alloc: Global,
+    program: &Debuggee,
+    before: &[bool; 144],
+    stop: Option<StopReason>,
+    out: &mut Outbox,
+) -> Result<(), Unanswered>
+    requires { out.old.bytes ≡ [] }
+    ensures { Carries result (λ messages. SliceTold (is_marked before.now) program.now stop messages) ⊥ out.old out.new }
+{
     let seq = out.seq();
-    if tell_change(alloc, program, before, told, request, out).is_ok() {
-        return Ok(());
+    match tell_slice(alloc, program, before, stop, out) {
+        Ok(()) => return Ok(()),
+        Err(_) => {}
     }
     out.take_back(seq);
-    match tell_change(alloc, program, before, told, request, out) {
+    match tell_slice(alloc, program, before, stop, out) {
         Ok(()) => Ok(()),
         Err(_) => Err(Unanswered::Untold),
     }
 }
 
-fn tell_change(
+/// Tells in the console what went.
+fn tell_gone(
+    alloc: Global,
+    program: &Debuggee,
+    gone: &Gone,
+    out: &mut Outbox,
+) -> Result<(), AllocError>
+    ensures { OnOk result (Sends out.old (output_told (codes "console") (gone_words gone.now.node gone.now.before gone.now.removed program.now.lab)) out.new) }
+{
+    let text = gone_text(alloc, &program.lab, gone)?;
+    tell_output(alloc, "console", text.as_str(), out)
+}
+
+fn tell_back(
     alloc: Global,
     program: &Debuggee,
     before: &[bool; 144],
-    told: &Told,
-    request: Option<&ClientRequest>,
+    request: &ClientRequest,
+    gone: &Gone,
+    reason: &str,
     out: &mut Outbox,
-) -> Result<(), AllocError> {
-    let now = shown_nodes(&program.lab, program.nodes.as_slice());
-    match told {
-        Told::Run(stop) => {
-            tell_changed(alloc, before, &now, out)?;
-            match stop {
-                Some(stop) => tell_stop(alloc, program, *stop, out),
-                None => Ok(()),
-            }
-        }
-        Told::Gone(gone, reason) => {
-            if let Some(request) = request {
-                out.acknowledge(request)?;
-            }
-            let text = gone_text(alloc, &program.lab, gone)?;
-            tell_output(alloc, "console", text.as_str(), out)?;
-            tell_changed(alloc, before, &now, out)?;
-            tell_stopped(alloc, *reason, "gone back", gone.node, out)
-        }
-        Told::Answer {
-            answer,
-            changed,
-            node,
-        } => {
-            if let Some(request) = request {
-                let body = text_body(alloc, answer.as_slice())?;
-                out.respond(request, body)?;
-            }
-            if !*changed {
-                return Ok(());
-            }
-            tell_changed(alloc, before, &now, out)?;
-            tell_stopped(alloc, "goto", "by a command", *node, out)
-        }
+) -> Result<(), AllocError>
+    ensures { OnOk result ((messages : Messages) × BackTold (is_marked before.now) program.now request.now gone.now.node (gone_words gone.now.node gone.now.before gone.now.removed program.now.lab) reason.now messages × SendsAll out.old messages out.new) }
+{
+    out.acknowledge(request)?;
+    tell_gone(alloc, program, gone, out)?;
+    tell_standing(alloc, program, before, reason, "gone back", gone.node, out)
+}
+
+/// Tells of a move back, for which a request asked.
+pub(crate) fn tell_back_twice(
+    alloc: Global,
+    program: &Debuggee,
+    before: &[bool; 144],
+    request: &ClientRequest,
+    gone: &Gone,
+    reason: &str,
+    out: &mut Outbox,
+) -> Result<(), Unanswered>
+    requires { out.old.bytes ≡ [] }
+    ensures { Carries result (λ messages. BackTold (is_marked before.now) program.now request.now gone.now.node (gone_words gone.now.node gone.now.before gone.now.removed program.now.lab) reason.now messages) ⊥ out.old out.new }
+{
+    let seq = out.seq();
+    match tell_back(alloc, program, before, request, gone, reason, out) {
+        Ok(()) => return Ok(()),
+        Err(_) => {}
+    }
+    out.take_back(seq);
+    match tell_back(alloc, program, before, request, gone, reason, out) {
+        Ok(()) => Ok(()),
+        Err(_) => Err(Unanswered::Untold),
+    }
+}
+
+/// Tells of a command by which the machine moved, or not.
+fn tell_moved(
+    alloc: Global,
+    program: &Debuggee,
+    before: &[bool; 144],
+    moved: bool,
+    node: NodeId,
+    out: &mut Outbox,
+) -> Result<(), AllocError>
+    ensures { OnOk result ((messages : Messages) × CommandTold moved (is_marked before.now) program.now node messages × SendsAll out.old messages out.new) }
+{
+    if moved {
+        tell_standing(alloc, program, before, "goto", "by a command", node, out)
+    } else {
+        Ok(())
+    }
+}
+
+fn tell_command(
+    alloc: Global,
+    program: &Debuggee,
+    before: &[bool; 144],
+    request: &ClientRequest,
+    answer: &[u8],
+    moved: bool,
+    node: NodeId,
+    out: &mut Outbox,
+) -> Result<(), AllocError>
+    ensures { OnOk result ((messages : Messages) × AnswerTold request.now answer.now moved (is_marked before.now) program.now node messages × SendsAll out.old messages out.new) }
+{
+    let body = text_body(alloc, answer)?;
+    out.respond(request, body)?;
+    tell_moved(alloc, program, before, moved, node, out)
+}
+
+/// Tells what was answered to a command of exploring.
+pub(crate) fn tell_command_twice(
+    alloc: Global,
+    program: &Debuggee,
+    before: &[bool; 144],
+    request: &ClientRequest,
+    answer: &[u8],
+    moved: bool,
+    node: NodeId,
+    out: &mut Outbox,
+) -> Result<(), Unanswered>
+    requires { out.old.bytes ≡ [] }
+    ensures { Carries result (λ messages. AnswerTold request.now answer.now moved (is_marked before.now) program.now node messages) ⊥ out.old out.new }
+{
+    let seq = out.seq();
+    match tell_command(alloc, program, before, request, answer, moved, node, out) {
+        Ok(()) => return Ok(()),
+        Err(_) => {}
+    }
+    out.take_back(seq);
+    match tell_command(alloc, program, before, request, answer, moved, node, out) {
+        Ok(()) => Ok(()),
+        Err(_) => Err(Unanswered::Untold),
     }
 }

@@ -1,16 +1,18 @@
-//! `evaluate`: registers, cells, and the commands of exploring.
+//! What `evaluate` is answered: registers, cells, and the commands of exploring.
 
-ghost use Rattle.std.specs.Prelude.{◌≡◌, [], Bool, Some, option_map, IfOk};
-ghost use Rattle.ga_text.specs.Lines.{Bytes};
+ghost use Rattle.std.specs.Prelude.{◌≡◌, ◌≤◌, [], Bool, Ok, Err, Some, None, length, take, option_map, IfOk, IfErr, Result, Option};
+ghost use Rattle.std.specs.Str.{IsTrimAsciiEnd};
+ghost use Rattle.std.specs.Str.Lossy.{utf8_lossy};
+ghost use Rattle.ga_text.specs.Lines.{Bytes, Text};
 ghost use Rattle.ga_text.specs.Output.{IsSaid};
-ghost use Rattle.ga_dap.specs.kept.Evaluating.{Commands};
 ghost use Rattle.serde_json.specs.View.{view};
 ghost use Rattle.ga_lab.specs.Machine.{chip_of};
 ghost use Rattle.ga_adapter.specs.Shown.{IsVariable};
 ghost use Rattle.ga_adapter.specs.Evaluating.{evaluated};
 ghost use Rattle.ga_responses.specs.Readings.{TellsStuck};
+ghost use Rattle.ga_dap.specs.Evaluating.{IsNodeMeant, Commands, answer_object};
 
-use ga_adapter::{Variable, asked_variable, evaluate};
+use ga_adapter::{Variable, evaluate};
 use ga_console::Turn;
 use ga_explorer::answer_line;
 use ga_grid::NodeId;
@@ -20,8 +22,13 @@ use ga_text::Output;
 use serde_json::{Value, json};
 use std::alloc::{AllocError, Global};
 
+/// The most bytes of a line that are looked at: one more than a line may have.
+const LOOKED_AT: usize = 201;
+
 /// The node in which an expression stands: that of the frame, and else the first that has something to show.
-pub fn node_meant(program: &Debuggee, request: &ClientRequest) -> NodeId {
+pub(crate) fn node_meant(program: &Debuggee, request: &ClientRequest) -> NodeId
+    ensures { IsNodeMeant program.now request.now result }
+{
     match framed_node_asked(&request.arguments) {
         Some(node) => node,
         None => first_shown(&program.lab, program.nodes.as_slice()),
@@ -29,7 +36,7 @@ pub fn node_meant(program: &Debuggee, request: &ClientRequest) -> NodeId {
 }
 
 /// The value of a register or a cell of a node.
-pub fn value_body(
+pub(crate) fn value_body(
     alloc: Global,
     program: &Debuggee,
     node: NodeId,
@@ -42,14 +49,26 @@ pub fn value_body(
     evaluate(alloc, &program.lab, stuck, node, variable)
 }
 
-/// What is answered to a command of exploring; none where it would end the session.
-pub fn command_text(
+/// The first bytes of a line, as many as are looked at.
+#[tactic(auto, using(std::proofs::lemmas::List::take_all))]
+fn front_of_line(line: &[u8]) -> &[u8]
+    ensures { result.now ≡ take LOOKED_AT line.now }
+{
+    if line.len() <= LOOKED_AT {
+        line
+    } else {
+        line.split_at(LOOKED_AT).0
+    }
+}
+
+/// Carries out a command of exploring. It is answered by a text, or would end the session.
+pub(crate) fn command_text(
     alloc: Global,
     program: &mut Debuggee,
     line: &[u8],
 ) -> Result<Option<Vec<u8>>, AllocError>
     ensures told { IfOk result (λ told. Commands program.old line.now program.new (option_map (λ text. text.items) told)) }
-    ensures rest { program.new ≡ record program.old { lab = program.new.lab } }
+    ensures untold { IfErr result (λ why. (answer : Text) × Commands program.old line.now program.new (Some answer)) }
 {
     let mut output = Output::new();
     let mut answer = Vec::new(alloc);
@@ -57,29 +76,31 @@ pub fn command_text(
         alloc,
         &mut program.lab,
         &program.source,
-        line,
+        front_of_line(line),
         &mut output,
         &mut answer,
     ) {
-        Ok(Turn::Answered) => sent(output, answer),
+        Ok(Turn::Answered) => match output.send(&mut answer) {
+            Ok(()) => Ok(Some(answer)),
+            Err(_) => Err(AllocError),
+        },
         Ok(Turn::Quit) => Ok(None),
         Err(_) => Err(AllocError),
     }
 }
 
-/// What was gathered of an answer, behind what was sent of it.
-fn sent(mut output: Output, mut answer: Vec<u8>) -> Result<Option<Vec<u8>>, AllocError>
-    ensures { (said : Bytes) → IsSaid (Some answer.items) [] said output → IfOk result (λ told. option_map (λ text. text.items) told ≡ Some said) }
+/// A text as it is shown: what is not UTF-8 replaced.
+#[tactic(auto, unfolding(crate::specs::Evaluating::answer_object))]
+fn answer_body(alloc: Global, text: &str) -> Result<Value, AllocError>
+    ensures { IfOk result (λ v. view v ≡ answer_object text.now) }
 {
-    match output.send(&mut answer) {
-        Ok(()) => Ok(Some(answer)),
-        Err(_) => Err(AllocError),
-    }
+    json!(in alloc; {"result": text, "variablesReference": 0u64})
 }
 
-/// The body that has a text as its result.
-pub fn text_body(alloc: Global, text: &[u8]) -> Result<Value, AllocError> {
+/// The body that has a text as its result, without the blanks at its end.
+pub(crate) fn text_body(alloc: Global, text: &[u8]) -> Result<Value, AllocError>
+    ensures { IfOk result (λ v. (shown : Text) × IsTrimAsciiEnd text.now shown × (view v ≡ answer_object (utf8_lossy shown))) }
+{
     let text = String::from_utf8_lossy(alloc, text.trim_ascii_end())?;
-    let result = text.as_str();
-    json!(in alloc; {"result": result, "variablesReference": 0u64})
+    answer_body(alloc, text.as_str())
 }

@@ -1,19 +1,26 @@
 //! A program that is opened: an image, or source.
 
-ghost use Rattle.std.specs.Prelude.{◌≡◌, None, IfOk};
+ghost use Rattle.std.specs.Prelude.{◌≡◌, ◌≢◌, [], None, IfOk, IfErr, map, string_bytes};
 ghost use Rattle.ga_grid.specs.Chip.{records_of};
+ghost use Rattle.ga_image.specs.FirstFault.{IsFirstFault};
+ghost use Rattle.ga_image.specs.declared.fault.ImageFault.{ImageFault as AnImageFault};
+ghost use Rattle.ga_image.specs.declared.fault.ImageCause.TheVariants.{Memory as NoMemory};
+ghost use Rattle.ga_source.specs.Sound.{IsSoundSource};
+ghost use Rattle.ga_source.specs.declared.fault.SourceCause.TheVariants.{Memory as Wanting};
+ghost use Rattle.ga_text.specs.Lines.{lines_of};
 ghost use Rattle.ga_lab.specs.Machine.{first};
 ghost use Rattle.ga_console.specs.Run.{Opens as OpensImage};
 ghost use Rattle.ga_explorer.specs.Opening.{begins_as_image, OpensExploring, OpensSource};
-ghost use Rattle.ga_dap.specs.kept.Opening.{OpensProgram, parts_explored};
+ghost use Rattle.ga_dap.specs.Opening.{OpensProgram, IsNoProgram, NodesShown, NodesOfSource, parts_explored};
+ghost use Rattle.ga_dap.specs.kept.Unopened.{IfFault};
 
 use ga_console::{open_image, refuse};
 use ga_grid::{Chip, NodeId};
-use ga_image::ImageFault;
+use ga_image::{ImageCause, ImageFault};
 use ga_lab::{Lab, LabFault};
 use ga_notes::{Notes, notes_of, push_fault};
 use ga_responses::Debuggee;
-use ga_source::{Fault, Program as NodeProgram, Store, assemble, stores_over_code};
+use ga_source::{Fault, Program as NodeProgram, SourceCause, Store, assemble, stores_over_code};
 use std::alloc::{AllocError, Global};
 use thiserror::Error;
 
@@ -73,21 +80,43 @@ pub fn open_program(
     text: Vec<u8>,
     limit: u32,
 ) -> Result<Opened, LaunchError>
-    ensures { IfOk result (λ opened. OpensProgram text.items limit opened.program) }
+    ensures ok { IfOk result (λ opened. OpensProgram text.items limit opened.program) }
+    ensures path { IfOk result (λ opened. string_bytes opened.program.path ≡ path.now) }
+    ensures nodes { IfOk result (λ opened. NodesShown text.items opened.program.nodes.items) }
+    ensures err { IfErr result (λ why. IfFault why (IsNoProgram text.items)) }
 {
-    let contents = contents_of(alloc, text, limit)?;
+    match contents_of(alloc, text, limit) {
+        Ok(contents) => match program_of(alloc, path, contents) {
+            Ok(opened) => Ok(opened),
+            Err(_) => Err(LaunchError::Memory),
+        },
+        Err(LaunchError::Fault(why)) => Err(LaunchError::Fault(why)),
+        Err(LaunchError::Memory) => Err(LaunchError::Memory),
+    }
+}
+
+/// The program of a file that has this path.
+fn program_of(alloc: Global, path: &str, contents: Contents) -> Result<Opened, AllocError>
+    ensures lab { IfOk result (λ opened. opened.program.lab ≡ contents.lab) }
+    ensures source { IfOk result (λ opened. opened.program.source ≡ contents.source) }
+    ensures nodes { IfOk result (λ opened. opened.program.nodes ≡ contents.nodes) }
+    ensures path { IfOk result (λ opened. string_bytes opened.program.path ≡ path.now) }
+{
+    let Contents {
+        lab,
+        source,
+        nodes,
+        warnings,
+    } = contents;
     let program = Debuggee {
-        lab: contents.lab,
-        source: contents.source,
+        lab,
+        source,
         unsaid: Notes::none(alloc),
-        nodes: contents.nodes,
+        nodes,
         path: String::from_str(alloc, path)?,
         name: String::from_str(alloc, name_in(path))?,
     };
-    Ok(Opened {
-        program,
-        warnings: contents.warnings,
-    })
+    Ok(Opened { program, warnings })
 }
 
 /// Whether a text is an image: its first line tells a format. Else it is source.
@@ -98,7 +127,9 @@ fn is_image(text: &[u8]) -> bool
 }
 
 fn contents_of(alloc: Global, text: Vec<u8>, limit: u32) -> Result<Contents, LaunchError>
-    ensures { IfOk result (λ c. OpensExploring text.items limit (parts_explored c.lab c.source)) }
+    ensures ok { IfOk result (λ c. OpensExploring text.items limit (parts_explored c.lab c.source)) }
+    ensures nodes { IfOk result (λ c. NodesShown text.items c.nodes.items) }
+    ensures err { IfErr result (λ why. IfFault why (IsNoProgram text.items)) }
 {
     if is_image(text.as_slice()) {
         return image_contents(alloc, text, limit);
@@ -109,6 +140,8 @@ fn contents_of(alloc: Global, text: Vec<u8>, limit: u32) -> Result<Contents, Lau
 fn image_contents(alloc: Global, text: Vec<u8>, limit: u32) -> Result<Contents, LaunchError>
     ensures opens { IfOk result (λ c. OpensImage text.items limit c.lab) }
     ensures unsaid { IfOk result (λ c. c.source ≡ None) }
+    ensures nodes { IfOk result (λ c. c.nodes.items ≡ []) }
+    ensures err { IfErr result (λ why. IfFault why ((fault : AnImageFault) × IsFirstFault (lines_of text.items) fault)) }
 {
     match open_image(alloc, text, limit) {
         Ok(lab) => Ok(Contents {
@@ -122,7 +155,12 @@ fn image_contents(alloc: Global, text: Vec<u8>, limit: u32) -> Result<Contents, 
 }
 
 /// What is told of an image's fault.
-fn image_refused(alloc: Global, fault: ImageFault) -> LaunchError {
+fn image_refused(alloc: Global, fault: ImageFault) -> LaunchError
+    ensures { IfFault result (fault.cause ≢ NoMemory) }
+{
+    if fault.cause == ImageCause::Memory {
+        return LaunchError::Memory;
+    }
     let mut text = Vec::new(alloc);
     let _ = refuse(&mut text, fault);
     told(alloc, text.as_slice())
@@ -137,7 +175,9 @@ fn told(alloc: Global, text: &[u8]) -> LaunchError {
 }
 
 fn source_contents(alloc: Global, source: &[u8], limit: u32) -> Result<Contents, LaunchError>
-    ensures { IfOk result (λ c. OpensSource source.now limit (parts_explored c.lab c.source)) }
+    ensures ok { IfOk result (λ c. OpensSource source.now limit (parts_explored c.lab c.source)) }
+    ensures nodes { IfOk result (λ c. NodesOfSource source.now c.nodes.items) }
+    ensures err { IfErr result (λ why. IfFault why (IsSoundSource source.now → ⊥)) }
 {
     match assemble(alloc, source) {
         Err(fault) => Err(source_refused(alloc, fault)),
@@ -167,7 +207,12 @@ fn lab_of(alloc: Global, chip: Chip, limit: u32) -> Result<Lab, AllocError>
 }
 
 /// What is told of a fault of source.
-fn source_refused(alloc: Global, fault: Fault<'_>) -> LaunchError {
+fn source_refused(alloc: Global, fault: Fault<'_>) -> LaunchError
+    ensures { IfFault result (fault.entry.cause ≢ Wanting) }
+{
+    if fault.cause == SourceCause::Memory {
+        return LaunchError::Memory;
+    }
     let mut text = Vec::new(alloc);
     match push_fault(&mut text, fault) {
         Ok(()) => told(alloc, text.as_slice()),
@@ -176,9 +221,11 @@ fn source_refused(alloc: Global, fault: Fault<'_>) -> LaunchError {
 }
 
 /// The nodes that have a program.
-fn nodes_of(alloc: Global, programs: &[NodeProgram<'_>]) -> Result<Vec<NodeId>, AllocError> {
+fn nodes_of(alloc: Global, programs: &[NodeProgram<'_>]) -> Result<Vec<NodeId>, AllocError>
+    ensures { IfOk result (λ nodes. nodes.items ≡ map (λ p. p.node) programs.now) }
+{
     let mut nodes = Vec::new(alloc);
-    for program in programs {
+    'programs: for program in programs {
         nodes.push(program.node)?;
     }
     Ok(nodes)

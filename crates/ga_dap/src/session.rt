@@ -1,36 +1,25 @@
-//! A session: what was launched, what the client set, and the run under way.
+//! A session: what was launched, and the requests of the client.
 
-use crate::changes::{Told, tell_twice};
-use crate::moved::{evaluate, reverse, step_back};
-use crate::opening::{LaunchError, Opened, open_program};
-use crate::sources::{ProgramFiles, SourceError};
-use ga_protocol::{ClientRequest, Outbox, text_at};
-use ga_requests::{Configuration, Execution, Launched, answer_in_place, make_slice};
-use ga_responses::{
-    RequestName, initialize, limit_asked, request_named, schedule_asked, shown_nodes,
-    stops_on_entry, tell_output,
-};
+ghost use Rattle.std.specs.Prelude.{◌≡◌, ◌&&◌, [], ◌∷◌, Option, Some, None, codes, string_bytes, is_some, OnOk, OnErr};
+ghost use Rattle.ga_requests.specs.Requests.{DoesInPlace};
+ghost use Rattle.ga_requests.specs.declared.launched.Launched.{Launched as ALaunched};
+ghost use Rattle.ga_responses.specs.Sending.{SendsAll, Messages, acknowledged};
+ghost use Rattle.ga_dap.specs.Answering.{AnswersRequest, AnswersKnown, DoesOfLaunched, DoesStanding, DoesIfLaunched, StaysOf, StaysIfLaunched, SessionStays, OfLaunch, Initializes, Disconnects, Terminates, ended_run, is_of_standing};
+ghost use Rattle.ga_dap.specs.Client.{is_running, new_session};
+ghost use Rattle.ga_dap.specs.Going.{RunGoesOn};
+ghost use Rattle.ga_dap.specs.Launches.{Launches, event_alone};
+ghost use Rattle.ga_dap.specs.kept.Carrying.{Carries};
+
+use crate::back::{refuse, reverse, step_back};
+use crate::changes::tell_slice_twice;
+use crate::console::evaluate;
+use crate::launching::launched_first;
+use crate::sources::ProgramFiles;
+use crate::unanswered::Unanswered;
+use ga_protocol::{ClientRequest, Outbox};
+use ga_requests::{Launched, answer_in_place, make_slice};
+use ga_responses::{RequestName, initialize, request_named, shown_nodes};
 use std::alloc::{AllocError, Global};
-
-/// Why a request is not answered.
-#[derive(Clone, Copy, PartialEq, Eq, Debug)]
-pub(crate) enum Unanswered {
-    /// Memory was refused before anything changed.
-    Memory,
-    /// Memory was refused for what is to be told of a change.
-    Untold,
-}
-
-impl From<AllocError> for Unanswered {
-    ghost use Rattle.ga_dap.specs.declared.session.Unanswered.TheVariants.{Memory};
-    ghost use Rattle.std.specs.Prelude.{◌≡◌};
-
-    ghost from_gives = { λ e r. r ≡ Memory };
-
-    fn from(_: AllocError) -> Self {
-        Unanswered::Memory
-    }
-}
 
 /// A session.
 #[derive(Drop)]
@@ -42,7 +31,9 @@ pub(crate) struct Session {
 
 impl Session {
     /// One in which nothing is launched.
-    pub fn new() -> Self {
+    pub fn new() -> Self
+        ensures { result ≡ new_session }
+    {
         Session {
             launched: None,
             is_over: false,
@@ -50,18 +41,12 @@ impl Session {
     }
 
     /// Whether a run is under way.
-    pub fn is_running(&self) -> bool {
+    pub fn is_running(&self) -> bool
+        ensures { result ≡ is_running self.now }
+    {
         match &self.launched {
             Some(launched) => launched.execution.goal.is_some(),
             None => false,
-        }
-    }
-
-    /// Makes a slice of the run under way, and tells what came of it.
-    pub fn go_on(&mut self, alloc: Global, out: &mut Outbox) -> Result<(), Unanswered> {
-        match &mut self.launched {
-            Some(launched) => go_on_launched(alloc, launched, out),
-            None => Ok(()),
         }
     }
 
@@ -72,49 +57,50 @@ impl Session {
         sources: &mut S,
         request: &ClientRequest,
         out: &mut Outbox,
-    ) -> Result<(), Unanswered> {
-        let Some(command) = request_named(request.command.as_str()) else {
-            out.refuse(request, "no such request")?;
-            return Ok(());
-        };
-        match command {
-            RequestName::Initialize => initialize(alloc, request, out)?,
-            RequestName::Launch => self.launch(alloc, sources, request, out)?,
-            RequestName::Disconnect => {
-                out.acknowledge(request)?;
-                self.is_over = true;
-            }
-            RequestName::Terminate => self.terminate(request, out)?,
-            _ => return self.answer_launched(alloc, command, request, out),
+    ) -> Result<(), Unanswered>
+        requires { out.old.bytes ≡ [] }
+        ensures { Carries result (λ messages. AnswersRequest S.gives sources.old self.old request.now messages sources.new self.new) (SessionStays self.old self.new) out.old out.new }
+    {
+        match request_named(request.command.as_str()) {
+            Some(command) => self.answer_known(alloc, command, sources, request, out),
+            None => refuse(request, "no such request", out),
         }
-        Ok(())
     }
 
-    /// Answers a request that needs a program.
-    fn answer_launched(
+    /// Answers a request that is known.
+    fn answer_known<S: ProgramFiles>(
         &mut self,
         alloc: Global,
         command: RequestName,
+        sources: &mut S,
         request: &ClientRequest,
         out: &mut Outbox,
-    ) -> Result<(), Unanswered> {
-        match &mut self.launched {
-            Some(launched) => answer_by(alloc, launched, command, request, out),
-            None => {
-                out.refuse(request, "nothing is launched")?;
-                Ok(())
-            }
+    ) -> Result<(), Unanswered>
+        requires { out.old.bytes ≡ [] }
+        ensures { Carries result (λ messages. AnswersKnown S.gives sources.old self.old command request.now messages sources.new self.new) (SessionStays self.old self.new) out.old out.new }
+    {
+        match command {
+            RequestName::Initialize => self.initialize(alloc, request, out),
+            RequestName::Launch => self.launch(alloc, sources, request, out),
+            RequestName::Disconnect => self.disconnect(request, out),
+            RequestName::Terminate => self.terminate(request, out),
+            _ => self.answer_launched(alloc, command, request, out),
         }
     }
 
-    /// `terminate`: the run ends.
-    fn terminate(&mut self, request: &ClientRequest, out: &mut Outbox) -> Result<(), AllocError> {
-        out.acknowledge(request)?;
-        out.tell_alone("terminated")?;
-        if let Some(launched) = &mut self.launched {
-            launched.execution.goal = None;
+    /// `initialize`.
+    fn initialize(
+        &mut self,
+        alloc: Global,
+        request: &ClientRequest,
+        out: &mut Outbox,
+    ) -> Result<(), Unanswered>
+        ensures { Carries result (λ messages. Initializes self.old request.now messages self.new) (SessionStays self.old self.new) out.old out.new }
+    {
+        match initialize(alloc, request, out) {
+            Ok(()) => Ok(()),
+            Err(_) => Err(Unanswered::Memory),
         }
-        Ok(())
     }
 
     /// `launch`.
@@ -124,74 +110,87 @@ impl Session {
         sources: &mut S,
         request: &ClientRequest,
         out: &mut Outbox,
-    ) -> Result<(), AllocError> {
-        if self.launched.is_some() {
-            return out.refuse(request, "launch: a program is launched already");
+    ) -> Result<(), Unanswered>
+        ensures { Carries result (λ messages. OfLaunch (λ m l. Launches S.gives sources.old self.old.launched request.now m sources.new l) self.old messages self.new) (SessionStays self.old self.new) out.old out.new }
+    {
+        match &self.launched {
+            Some(_) => refuse(request, "launch: a program is launched already", out),
+            None => match launched_first(alloc, sources, request, out) {
+                Ok(launched) => {
+                    self.launched = launched;
+                    Ok(())
+                }
+                Err(_) => Err(Unanswered::Memory),
+            },
         }
-        let arguments = &request.arguments;
-        let Some(path) = text_at(arguments, "program") else {
-            return out.refuse(request, "launch: there is no program");
-        };
-        let Some(limit) = limit_asked(arguments) else {
-            return out.refuse(request, "launch: the limit is 1 to 4000000");
-        };
-        let Some(schedule) = schedule_asked(arguments) else {
-            return out.refuse(
-                request,
-                "launch: the order is rounds, greedy, or random with a seed",
-            );
-        };
-        let mut text = Vec::new(alloc);
-        match sources.read(path, &mut text) {
-            Err(SourceError::Memory) => return Err(AllocError),
-            Err(why) => {
-                let why = format!(in alloc; "launch: {path}: {why}")?;
-                return out.refuse(request, why.as_str());
-            }
-            Ok(()) => {}
-        }
-        match open_program(alloc, path, text, limit) {
-            Err(LaunchError::Memory) => Err(AllocError),
-            Err(LaunchError::Fault(why)) => {
-                let why = why.as_str();
-                let why = format!(in alloc; "launch: {path}: {why}")?;
-                out.refuse(request, why.as_str())
-            }
-            Ok(opened) => {
-                let execution = Execution {
-                    schedule,
-                    goal: None,
-                    is_configured: false,
-                    stops_on_entry: stops_on_entry(arguments),
-                };
-                tell_launched(alloc, &opened, request, out)?;
-                self.launched = Some(Launched {
-                    program: opened.program,
-                    settings: Configuration::new(alloc),
-                    execution,
-                });
+    }
+
+    /// `disconnect`: the session ends.
+    fn disconnect(&mut self, request: &ClientRequest, out: &mut Outbox) -> Result<(), Unanswered>
+        ensures { Carries result (λ messages. Disconnects self.old request.now messages self.new) (SessionStays self.old self.new) out.old out.new }
+    {
+        match out.acknowledge(request) {
+            Ok(()) => {
+                self.is_over = true;
                 Ok(())
             }
+            Err(_) => Err(Unanswered::Memory),
+        }
+    }
+
+    /// `terminate`: the run ends.
+    fn terminate(&mut self, request: &ClientRequest, out: &mut Outbox) -> Result<(), Unanswered>
+        ensures { Carries result (λ messages. Terminates self.old request.now messages self.new) (SessionStays self.old self.new) out.old out.new }
+    {
+        match tell_terminated(request, out) {
+            Ok(()) => {
+                end_run(&mut self.launched);
+                Ok(())
+            }
+            Err(_) => Err(Unanswered::Memory),
+        }
+    }
+
+    /// Answers a request that needs a program.
+    fn answer_launched(
+        &mut self,
+        alloc: Global,
+        command: RequestName,
+        request: &ClientRequest,
+        out: &mut Outbox,
+    ) -> Result<(), Unanswered>
+        requires { out.old.bytes ≡ [] }
+        ensures { Carries result (λ messages. OfLaunch (DoesIfLaunched command self.old.launched request.now) self.old messages self.new) (SessionStays self.old self.new) out.old out.new }
+    {
+        match &mut self.launched {
+            Some(launched) => answer_by(alloc, launched, command, request, out),
+            None => refuse(request, "nothing is launched", out),
         }
     }
 }
 
-/// Tells that a program is launched, and what its source is warned of.
-fn tell_launched(
-    alloc: Global,
-    opened: &Opened,
-    request: &ClientRequest,
-    out: &mut Outbox,
-) -> Result<(), AllocError> {
+/// Tells that the run ended.
+fn tell_terminated(request: &ClientRequest, out: &mut Outbox) -> Result<(), AllocError>
+    ensures { OnOk result (SendsAll out.old (acknowledged request.now ∷ event_alone (codes "terminated") ∷ []) out.new) }
+{
     out.acknowledge(request)?;
-    if !opened.warnings.is_empty() {
-        tell_output(alloc, "stderr", opened.warnings.as_str(), out)?;
+    out.tell_alone("terminated")
+}
+
+/// Ends the run under way.
+fn end_run(launched: &mut Option<Launched>)
+    ensures { launched.new ≡ ended_run launched.old }
+{
+    match launched {
+        Some(launched) => launched.execution.goal = None,
+        None => {}
     }
-    out.tell_alone("initialized")
 }
 
 /// Whether a request asks for a chip that stands.
-fn is_of_standing(command: RequestName) -> bool {
+fn is_of_standing(command: RequestName) -> bool
+    ensures { result ≡ is_of_standing command }
+{
     match command {
         RequestName::Continue => true,
         RequestName::Next => true,
@@ -211,33 +210,72 @@ fn answer_by(
     command: RequestName,
     request: &ClientRequest,
     out: &mut Outbox,
-) -> Result<(), Unanswered> {
+) -> Result<(), Unanswered>
+    requires { out.old.bytes ≡ [] }
+    ensures { Carries result (λ messages. DoesOfLaunched command launched.old request.now messages launched.new) (StaysOf launched.old launched.new) out.old out.new }
+{
     if launched.execution.goal.is_some() && is_of_standing(command) {
-        out.refuse(request, "the chip runs")?;
-        return Ok(());
+        refuse(request, "the chip runs", out)
+    } else {
+        answer_standing(alloc, launched, command, request, out)
     }
+}
+
+/// The same, where the chip stands or the request doesn't ask for that.
+fn answer_standing(
+    alloc: Global,
+    launched: &mut Launched,
+    command: RequestName,
+    request: &ClientRequest,
+    out: &mut Outbox,
+) -> Result<(), Unanswered>
+    requires { out.old.bytes ≡ [] }
+    ensures { Carries result (λ messages. DoesStanding command launched.old request.now messages launched.new) (StaysOf launched.old launched.new) out.old out.new }
+{
     match command {
-        RequestName::StepBack => return step_back(alloc, launched, request, out),
-        RequestName::ReverseContinue => return reverse(alloc, launched, request, out),
-        RequestName::Evaluate => return evaluate(alloc, launched, request, out),
-        _ => {}
+        RequestName::StepBack => step_back(alloc, &mut launched.program, request, out),
+        RequestName::ReverseContinue => reverse(
+            alloc,
+            &mut launched.program,
+            &launched.settings,
+            request,
+            out,
+        ),
+        RequestName::Evaluate => evaluate(alloc, &mut launched.program, request, out),
+        _ => in_place(alloc, launched, command, request, out),
     }
-    answer_in_place(alloc, launched, command, request, out)?;
-    Ok(())
+}
+
+/// Answers a request that makes no event and takes none back.
+fn in_place(
+    alloc: Global,
+    launched: &mut Launched,
+    command: RequestName,
+    request: &ClientRequest,
+    out: &mut Outbox,
+) -> Result<(), Unanswered>
+    ensures { Carries result (λ messages. DoesInPlace command launched.old request.now messages launched.new) (StaysOf launched.old launched.new) out.old out.new }
+{
+    match answer_in_place(alloc, launched, command, request, out) {
+        Ok(()) => Ok(()),
+        Err(_) => Err(Unanswered::Memory),
+    }
 }
 
 /// Makes a slice of the run under way, and tells what came of it.
-fn go_on_launched(
+pub(crate) fn go_on_launched(
     alloc: Global,
     launched: &mut Launched,
     out: &mut Outbox,
-) -> Result<(), Unanswered> {
+) -> Result<(), Unanswered>
+    requires { out.old.bytes ≡ [] }
+    ensures { Carries result (λ messages. RunGoesOn launched.old messages launched.new) (Unit {0}) out.old out.new }
+{
     let before = shown_nodes(&launched.program.lab, launched.program.nodes.as_slice());
     let stop = make_slice(
         &mut launched.program,
         &launched.settings,
         &mut launched.execution,
     );
-    let told = Told::Run(stop);
-    tell_twice(alloc, &launched.program, &before, &told, None, out)
+    tell_slice_twice(alloc, &launched.program, &before, stop, out)
 }

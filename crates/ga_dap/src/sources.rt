@@ -1,6 +1,11 @@
 //! What a session asks of the program that serves it.
 
-use std::alloc::AllocError;
+ghost use Rattle.std.specs.Prelude.{◌≡◌, Bool, Result, Ok, Err, IfOk, IfErr};
+ghost use Rattle.ga_text.specs.Lines.{Bytes};
+ghost use Rattle.ga_dap.specs.declared.sources.SourceError.{SourceError as WhyUnread};
+ghost use Rattle.ga_dap.specs.Launches.{unread_words};
+
+use std::alloc::{AllocError, Global};
 use thiserror::Error;
 
 /// Why a file is not read.
@@ -23,28 +28,39 @@ pub enum SourceError {
     Unreadable,
 }
 
-impl From<AllocError> for SourceError {
-    ghost use Rattle.ga_dap.specs.declared.sources.SourceError.TheVariants.{Memory};
-    ghost use Rattle.std.specs.Prelude.{◌≡◌};
-
-    ghost from_gives = { λ e r. r ≡ Memory };
-
-    fn from(_: AllocError) -> Self {
-        SourceError::Memory
+/// What is told of a file that is not read.
+pub(crate) fn words_of(why: SourceError) -> &'static str
+    ensures { result.now ≡ unread_words why }
+{
+    match why {
+        SourceError::Memory => "out of memory",
+        SourceError::Missing => "no such file",
+        SourceError::Folder => "a folder",
+        SourceError::TooLong => "more than 16777216 bytes",
+        SourceError::Unreadable => "it can't be read",
     }
 }
 
-/// Files, by their paths. What is proved of a session holds whatever they have.
+/// Files, by their paths.
 pub trait ProgramFiles {
-    /// Adds the bytes of a file.
+    // The host before, a path, the file's bytes or why there are none, and the host after.
+    ghost gives: { Self → Bytes → Result Bytes WhyUnread → Self → Type 0 };
+
+    /// The bytes of a file.
     ///
     /// # Errors
     /// Why it is not read.
-    fn read(&mut self, path: &str, text: &mut Vec<u8>) -> Result<(), SourceError>;
+    fn read(&mut self, alloc: Global, path: &str) -> Result<Vec<u8>, SourceError>
+        ensures text { IfOk result (λ text. gives self.old path.now (Ok text.items) self.new) }
+        ensures refused { IfErr result (λ why. gives self.old path.now (Err why) self.new) };
 }
 
-/// Whether more of the client's requests have come. What is proved of a session holds whatever is answered.
+/// Whether more of the client's requests have come.
 pub trait Arrivals {
+    // The host before, what it says, and the host after.
+    ghost tells: { Self → Bool → Self → Type 0 };
+
     /// Whether a read would not wait.
-    fn have_come(&mut self) -> bool;
+    fn have_come(&mut self) -> bool
+        ensures { tells self.old result self.new };
 }

@@ -3,8 +3,8 @@ use Rattle.ga_source.specs.declared.item.Program.{Program}
 use Rattle.ga_notes.specs.Notes.{AreOfSource}
 use Rattle.ga_dap.proofs.opening.source_contents.Goals as goal
 
-pub returns-in_ok-lab-in-Ok : goal.returns-in_ok-lab-in-Ok
-returns-in_ok-lab-in-Ok c = record {
+pub returns-in_ok-lab-in-Ok-clause-ok : goal.returns-in_ok-lab-in-Ok-clause-ok
+returns-in_ok-lab-in-Ok-clause-ok c = record {
   chip = c.in-Ok.assembled.chip;
   programs = c.in-Ok.assembled.programs.items;
   notes = c.in_ok-notes-in-Ok.notes;

@@ -1,0 +1,111 @@
+//! Standard input as it comes: a thread reads it, block by block, so that a session can ask whether more has come. Blocks are handed over by
+//! value, and take no memory.
+
+use crossbeam_channel::{Receiver, Sender, bounded};
+use ga_dap::Arrivals;
+use std::alloc::{AllocError, Global};
+use std::io::Read;
+use std::{io, thread};
+
+/// How many bytes a block has at most.
+const BLOCK: usize = 4096;
+
+/// How many blocks wait at most.
+const WAITING: usize = 16;
+
+/// What one read gave.
+#[derive(Clone, Copy)]
+enum Part {
+    /// So many bytes; none at the end.
+    Bytes { count: usize, bytes: [u8; BLOCK] },
+    /// It failed.
+    Failed,
+}
+
+/// What comes of standard input.
+#[derive(Drop)]
+pub struct Arriving {
+    rt: HostRuntime,
+    parts: Receiver<Part, Global>,
+    /// The bytes of the last part, and how many of them were taken.
+    bytes: [u8; BLOCK],
+    count: usize,
+    taken: usize,
+}
+
+/// Whether more of it has come.
+#[derive(Drop)]
+pub struct Arrived {
+    parts: Receiver<Part, Global>,
+}
+
+/// Begins to read standard input.
+///
+/// # Errors
+/// Memory or a thread was refused.
+pub fn begin_reading(rt: HostRuntime) -> Result<(Arriving, Arrived), AllocError> {
+    let (to, from) = bounded(rt.alloc(), WAITING)?;
+    let parts = from.clone()?;
+    match thread::spawn(&rt, move || hand_over(&rt, to)) {
+        Ok(_) => {}
+        Err(_) => return Err(AllocError),
+    }
+    let arriving = Arriving {
+        rt,
+        parts: from,
+        bytes: [0; BLOCK],
+        count: 0,
+        taken: 0,
+    };
+    Ok((arriving, Arrived { parts }))
+}
+
+/// Reads standard input to its end, and hands over what comes.
+fn hand_over(rt: &HostRuntime, to: Sender<Part, Global>) {
+    let mut input = rt.stdin();
+    for _ in 0..u64::MAX {
+        let (part, is_last) = next_part(&mut input);
+        if to.send(rt, part).is_err() || is_last {
+            return;
+        }
+    }
+}
+
+/// What the next read gives, and whether none comes behind it.
+fn next_part<R: Read>(input: &mut R) -> (Part, bool) {
+    let mut bytes = [0; BLOCK];
+    match input.read(&mut bytes) {
+        Ok(count) => (Part::Bytes { count, bytes }, count == 0),
+        Err(_) => (Part::Failed, true),
+    }
+}
+
+impl Read for Arriving {
+    fn read(&mut self, buf: &mut [u8]) -> io::Result<usize> {
+        if self.taken >= self.count {
+            match self.parts.recv(&self.rt) {
+                Ok(Part::Bytes { count, bytes }) => {
+                    self.bytes = bytes;
+                    self.count = count.min(BLOCK);
+                    self.taken = 0;
+                }
+                Ok(Part::Failed) => return Err(io::ErrorKind::Other.into()),
+                Err(_) => return Ok(0),
+            }
+        }
+        let left = &self.bytes[self.taken..self.count];
+        let count = left.len().min(buf.len());
+        buf[..count].copy_from_slice(&left[..count]);
+        self.taken += count;
+        Ok(count)
+    }
+}
+
+impl Arrivals for Arrived {
+    // When input comes can't be told here.
+    ghost tells = { λ host told after. Unit {0} };
+
+    fn have_come(&mut self) -> bool {
+        !self.parts.is_empty()
+    }
+}

@@ -1,0 +1,101 @@
+-- Requests that are answered in one way.
+use Rattle.std.proofs.Common.{◌≡◌, ◌≢◌, refl}
+use Rattle.std.specs.Prelude.{false}
+use Rattle.ga_protocol.specs.declared.request.ClientRequest.{ClientRequest}
+use Rattle.ga_responses.specs.Sending.{Messages}
+use Rattle.ga_responses.specs.declared.request_name.RequestName.{RequestName}
+use Rattle.ga_responses.specs.declared.request_name.RequestName.TheVariants as the
+use Rattle.ga_requests.specs.Requests.{DoesInPlace}
+use Rattle.ga_requests.specs.declared.launched.Launched.{Launched}
+use Rattle.ga_dap.specs.declared.session.Session.{Session}
+use Rattle.ga_dap.specs.Answering.{AnswersKnown, OfLaunch, DoesIfLaunched, DoesStanding, is_of_standing}
+use Rattle.ga_dap.specs.Launches.{FileGiving}
+
+-- a request that the session itself doesn't answer is one of what was launched
+pub of_launched : {S : Type 0} (G : FileGiving S) (host : S) (s : Session) (command : RequestName) (request : ClientRequest) (messages : Messages) (new : Session)
+    → command ≢ the.Initialize → command ≢ the.Launch → command ≢ the.Disconnect → command ≢ the.Terminate
+    → OfLaunch (DoesIfLaunched command s.launched request) s messages new → AnswersKnown G host s command request messages host new
+of_launched G host s the.Initialize request messages new i l d t does = absurd (i refl)
+of_launched G host s the.Launch request messages new i l d t does = absurd (l refl)
+of_launched G host s the.SetBreakpoints request messages new i l d t does = (does, refl)
+of_launched G host s the.SetFunctionBreakpoints request messages new i l d t does = (does, refl)
+of_launched G host s the.SetInstructionBreakpoints request messages new i l d t does = (does, refl)
+of_launched G host s the.DataBreakpointInfo request messages new i l d t does = (does, refl)
+of_launched G host s the.SetDataBreakpoints request messages new i l d t does = (does, refl)
+of_launched G host s the.SetExceptionBreakpoints request messages new i l d t does = (does, refl)
+of_launched G host s the.ConfigurationDone request messages new i l d t does = (does, refl)
+of_launched G host s the.Threads request messages new i l d t does = (does, refl)
+of_launched G host s the.StackTrace request messages new i l d t does = (does, refl)
+of_launched G host s the.Scopes request messages new i l d t does = (does, refl)
+of_launched G host s the.Variables request messages new i l d t does = (does, refl)
+of_launched G host s the.Continue request messages new i l d t does = (does, refl)
+of_launched G host s the.Next request messages new i l d t does = (does, refl)
+of_launched G host s the.StepIn request messages new i l d t does = (does, refl)
+of_launched G host s the.StepOut request messages new i l d t does = (does, refl)
+of_launched G host s the.Pause request messages new i l d t does = (does, refl)
+of_launched G host s the.StepBack request messages new i l d t does = (does, refl)
+of_launched G host s the.ReverseContinue request messages new i l d t does = (does, refl)
+of_launched G host s the.Evaluate request messages new i l d t does = (does, refl)
+of_launched G host s the.ExceptionInfo request messages new i l d t does = (does, refl)
+of_launched G host s the.Disassemble request messages new i l d t does = (does, refl)
+of_launched G host s the.Terminate request messages new i l d t does = absurd (t refl)
+of_launched G host s the.Disconnect request messages new i l d t does = absurd (d refl)
+
+-- one that makes no move and evaluates nothing is answered in place
+pub of_place : (command : RequestName) (l : Launched) (request : ClientRequest) (messages : Messages) (new : Launched)
+    → command ≢ the.StepBack → command ≢ the.ReverseContinue → command ≢ the.Evaluate
+    → DoesInPlace command l request messages new → DoesStanding command l request messages new
+of_place the.Initialize l request messages new b r e does = does
+of_place the.Launch l request messages new b r e does = does
+of_place the.SetBreakpoints l request messages new b r e does = does
+of_place the.SetFunctionBreakpoints l request messages new b r e does = does
+of_place the.SetInstructionBreakpoints l request messages new b r e does = does
+of_place the.DataBreakpointInfo l request messages new b r e does = does
+of_place the.SetDataBreakpoints l request messages new b r e does = does
+of_place the.SetExceptionBreakpoints l request messages new b r e does = does
+of_place the.ConfigurationDone l request messages new b r e does = does
+of_place the.Threads l request messages new b r e does = does
+of_place the.StackTrace l request messages new b r e does = does
+of_place the.Scopes l request messages new b r e does = does
+of_place the.Variables l request messages new b r e does = does
+of_place the.Continue l request messages new b r e does = does
+of_place the.Next l request messages new b r e does = does
+of_place the.StepIn l request messages new b r e does = does
+of_place the.StepOut l request messages new b r e does = does
+of_place the.Pause l request messages new b r e does = does
+of_place the.StepBack l request messages new b r e does = absurd (b refl)
+of_place the.ReverseContinue l request messages new b r e does = absurd (r refl)
+of_place the.Evaluate l request messages new b r e does = absurd (e refl)
+of_place the.ExceptionInfo l request messages new b r e does = does
+of_place the.Disassemble l request messages new b r e does = does
+of_place the.Terminate l request messages new b r e does = does
+of_place the.Disconnect l request messages new b r e does = does
+
+-- and asks for no chip that stands
+pub of_run : (command : RequestName) → command ≢ the.Continue → command ≢ the.Next → command ≢ the.StepIn → command ≢ the.StepOut → command ≢ the.StepBack
+    → command ≢ the.ReverseContinue → command ≢ the.Evaluate → false ≡ is_of_standing command
+of_run the.Initialize c n i o b r e = refl
+of_run the.Launch c n i o b r e = refl
+of_run the.SetBreakpoints c n i o b r e = refl
+of_run the.SetFunctionBreakpoints c n i o b r e = refl
+of_run the.SetInstructionBreakpoints c n i o b r e = refl
+of_run the.DataBreakpointInfo c n i o b r e = refl
+of_run the.SetDataBreakpoints c n i o b r e = refl
+of_run the.SetExceptionBreakpoints c n i o b r e = refl
+of_run the.ConfigurationDone c n i o b r e = refl
+of_run the.Threads c n i o b r e = refl
+of_run the.StackTrace c n i o b r e = refl
+of_run the.Scopes c n i o b r e = refl
+of_run the.Variables c n i o b r e = refl
+of_run the.Continue c n i o b r e = absurd (c refl)
+of_run the.Next c n i o b r e = absurd (n refl)
+of_run the.StepIn c n i o b r e = absurd (i refl)
+of_run the.StepOut c n i o b r e = absurd (o refl)
+of_run the.Pause c n i o b r e = refl
+of_run the.StepBack c n i o b r e = absurd (b refl)
+of_run the.ReverseContinue c n i o b r e = absurd (r refl)
+of_run the.Evaluate c n i o b r e = absurd (e refl)
+of_run the.ExceptionInfo c n i o b r e = refl
+of_run the.Disassemble c n i o b r e = refl
+of_run the.Terminate c n i o b r e = refl
+of_run the.Disconnect c n i o b r e = refl

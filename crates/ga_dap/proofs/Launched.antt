@@ -1,0 +1,30 @@
+-- That nothing is launched, and why.
+use Rattle.std.proofs.Common.{◌≡◌, ℕ, [], ◌∷◌, Option, Some, None, Result, Ok, Err, refl, ap}
+use Rattle.std.specs.Prelude.{IfOk}
+use Rattle.ga_text.specs.Lines.{Text}
+use Rattle.ga_search.specs.declared.schedule.Schedule.{Schedule}
+use Rattle.ga_protocol.specs.Sent.{SentMessages}
+use Rattle.ga_protocol.specs.declared.request.ClientRequest.{ClientRequest}
+use Rattle.ga_responses.specs.Sending.{Messages, Sends, SendsAll, refused_response}
+use Rattle.ga_responses.proofs.Sent.{sent_one}
+use Rattle.ga_requests.specs.declared.launched.Launched.{Launched}
+use Rattle.ga_dap.specs.declared.sources.SourceError.{SourceError}
+use Rattle.ga_dap.specs.Launches.{FileGiving, RefusesLaunch, ReadsFile, unlaunched, unread_words}
+
+pub not_launched : {S E : Type 0} (host : S) (request : ClientRequest) (why : Text) (old new : SentMessages) (result : Result (Option Launched) E)
+    → IfOk result (λ (l : Option Launched). (l ≡ None) × Sends old (refused_response request why) new)
+    → IfOk result (λ (l : Option Launched). (messages : Messages) × RefusesLaunch host request why messages host l × SendsAll old messages new)
+not_launched host request why old new (Ok l) h =
+    (refused_response request why ∷ [], (refl, refl, h.0), sent_one old (refused_response request why) new h.1)
+not_launched host request why old new (Err e) h = tt
+
+pub not_read : {S E : Type 0} (G : FileGiving S) (host after : S) (request : ClientRequest) (path : Text) (limit : ℕ) (schedule : Schedule) (why : SourceError) (words : Text)
+    (old new : SentMessages) (result : Result (Option Launched) E) → G host path (Err why) after → words ≡ unread_words why
+    → IfOk result (λ (l : Option Launched). (l ≡ None) × Sends old (unlaunched request path words) new)
+    → IfOk result (λ (l : Option Launched). (messages : Messages) × ReadsFile G host request path limit schedule messages after l × SendsAll old messages new)
+not_read G host after request path limit schedule why words old new (Ok l) gives e h = (
+  unlaunched request path words ∷ [],
+  (Err why, gives, (ap (λ (z : Text). unlaunched request path z ∷ []) e, h.0)),
+  sent_one old (unlaunched request path words) new h.1,
+)
+not_read G host after request path limit schedule why words old new (Err e') gives e h = tt

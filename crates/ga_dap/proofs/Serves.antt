@@ -1,0 +1,29 @@
+-- Turns, one behind the other.
+use Rattle.std.proofs.Common.{◌≡◌, ◌∙◌, ℕ, suc, List, [], ◌++◌, Option, Some, refl, sym, ap, subst}
+use Rattle.std.specs.Prelude.{false}
+use Rattle.std.proofs.lemmas.List.{append-nil}
+use Rattle.ga_text.specs.Lines.{Bytes}
+use Rattle.ga_text.specs.Output.{IsSaid}
+use Rattle.ga_protocol.specs.Sent.{SentMessages}
+use Rattle.ga_dap.specs.declared.session.Session.{Session}
+use Rattle.ga_dap.specs.Client.{Serving, ArrivalTelling, ServesFor, MakesTurn, new_session, serving_from, sent_from}
+use Rattle.ga_dap.specs.Launches.{FileGiving}
+use Rattle.ga_dap.specs.kept.Turning.{serving_at}
+
+pub begins_so : {S A : Type 0} (files : S) (arrivals : A) (session : Session) (out : SentMessages) (inbox left : Bytes) → session ≡ new_session → out ≡ sent_from 0 → inbox ≡ []
+    → serving_at files arrivals session out.seq inbox left ≡ serving_from files arrivals left
+begins_so files arrivals session out inbox left s o i =
+    ap (λ (z : Session). serving_at files arrivals z out.seq inbox left) s ∙ ap (λ (z : SentMessages). serving_at files arrivals new_session z.seq inbox left) o
+    ∙ ap (λ (z : Bytes). serving_at files arrivals new_session 0 z left) i
+
+pub serves_on : {S A : Type 0} (G : FileGiving S) (T : ArrivalTelling A) (begin : Serving S A) (count : ℕ) (said : Bytes) (s : Serving S A) (sent : Bytes) (t : Serving S A)
+    → ServesFor G T begin count said s → s.session.is_over ≡ false → MakesTurn G T s sent t → ServesFor G T begin (suc count) (said ++ sent) t
+serves_on G T begin count said s sent t serves open_still makes = (s, said, sent, serves, open_still, makes, refl)
+
+-- what is pending is said
+pub pends : (contents : Option Bytes) (before said pending : Bytes) → contents ≡ Some (before ++ said) → IsSaid contents before (said ++ pending) pending
+pends contents before said pending held = record { sent = said; held = held; splits = refl }
+
+-- nothing is pending any more: all that was said is written
+pub all_sent : (contents : Option Bytes) (before said : Bytes) → IsSaid contents before said [] → contents ≡ Some (before ++ said)
+all_sent contents before said h = h.held ∙ ap (λ (t : Bytes). Some (before ++ t)) (sym (h.splits ∙ append-nil h.sent))

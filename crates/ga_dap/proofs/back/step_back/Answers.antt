@@ -1,0 +1,23 @@
+use Rattle.std.proofs.Common.{Some, None, refl}
+use Rattle.ga_causal.specs.Dependence.{is_marked}
+use Rattle.ga_dap.proofs.Sends.{carries_so}
+use Rattle.ga_dap.proofs.Shown.{shown_so}
+use Rattle.ga_dap.proofs.back.step_back.Goals as goal
+
+pub returns-in_default : goal.returns-in_default
+returns-in_default c = carries_so c.refuse.result _ _ _ _ _ _ c.refuse.ensures (λ messages told. (None, c.in_default.ensures, (told, refl))) (λ stays. refl)
+
+pub returns : goal.returns
+returns c =
+    let before = is_marked c.shown_nodes-before.result in
+    let shown = shown_so c.args.program.now c.as_slice.result.now before c.as_slice.ensures.value c.shown_nodes-before.ensures.marks in
+    carries_so c.tell_back_twice.result _ _ _ _ _ _ c.tell_back_twice.ensures
+    (λ messages told. (
+      Some c.in-Some.node,
+      c.in-Some.ensures,
+      (
+        c.step_node_back-gone.ensures.program,
+        (before, c.step_node_back-gone.result.before, c.step_node_back-gone.result.removed, shown, c.step_node_back-gone.ensures.went, told),
+      ),
+    ))
+    (λ stays. absurd stays)

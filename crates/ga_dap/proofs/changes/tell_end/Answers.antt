@@ -1,0 +1,14 @@
+use Rattle.std.proofs.Common.{[], ◌∷◌, Option, refl, subst, sym}
+use Rattle.ga_requests.specs.declared.execution.StopReason.{StopReason}
+use Rattle.ga_responses.proofs.Sent.{ok_then, sent_one}
+use Rattle.ga_dap.specs.Telling.{StopTold}
+use Rattle.ga_dap.proofs.changes.tell_end.Goals as goal
+
+pub returns-in-Some : goal.returns-in-Some
+returns-in-Some c =
+    ok_then c.tell_stop.result c.tell_stop.ensures.sent
+    (λ told. (
+      told.0 ∷ [],
+      subst (λ (stop : Option StopReason). StopTold c.args.program.now stop (told.0 ∷ [])) (sym c.in-Some.is) (told.0, told.1, refl),
+      sent_one c.args.out.now told.0 c.tell_stop.new.out told.2,
+    ))

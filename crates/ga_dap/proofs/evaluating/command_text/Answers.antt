@@ -1,0 +1,51 @@
+use Rattle.std.proofs.Common.{◌≡◌, ◌∙◌, ℕ, List, [], ◌++◌, Some, refl, sym, ap, subst}
+use Rattle.std.proofs.lemmas.List.{append-nil}
+use Rattle.ga_text.specs.Lines.{Text}
+use Rattle.ga_text.specs.Output.{IsSaid}
+use Rattle.ga_lab.specs.Machine.{State}
+use Rattle.ga_console.proofs.AheadLemmas.{quit_part}
+use Rattle.ga_explorer.specs.Answers.{Explores}
+use Rattle.ga_explorer.specs.Exploring.{Exploring}
+use Rattle.ga_responses.specs.declared.debuggee.Debuggee.{Debuggee}
+use Rattle.ga_dap.specs.Opening.{parts_explored}
+use Rattle.ga_dap.proofs.evaluating.command_text.Goals as goal
+
+-- nothing was said before
+nothing_said : (items output : List ℕ) → items ≡ [] → output ≡ [] → IsSaid (Some items) [] [] output
+nothing_said items output i o = record { sent = []; held = ap (λ (z : List ℕ). Some z) i; splits = sym o }
+
+pub returns-in-Ok-clause-told : goal.returns-in-Ok-clause-told
+returns-in-Ok-clause-told c =
+    let said = nothing_said c.new-answer.result.items c.new-output.result c.new-answer.ensures.items c.new-output.ensures in
+    let h = rw c.in-Ok-Answered.field-0-is at (c.in-Ok-Answered.ensures [] [] said) in
+    let part = h.1 c.args.line.now c.front_of_line.ensures in
+    let told = c.in-Ok.ensures.said [] h.0 h.2 in
+    let e : h.0 ≡ told.sent = told.splits ∙ ap (λ (z : List ℕ). told.sent ++ z) c.in-Ok.ensures.sent ∙ append-nil told.sent in
+    let whole : c.send.new.writer.items ≡ h.0 = cc in (
+      refl,
+      subst (λ (z : Text). Explores (parts_explored c.args.program.now.lab c.args.program.now.source) c.args.line.now z (parts_explored c.answer_line.new.lab c.args.program.now.source))
+          (sym whole) part.0,
+      part.1,
+    )
+
+pub returns-in-Err-send-clause-untold : goal.returns-in-Err-send-clause-untold
+returns-in-Err-send-clause-untold c =
+    let said = nothing_said c.new-answer.result.items c.new-output.result c.new-answer.ensures.items c.new-output.ensures in
+    let h = rw c.in-Ok-Answered.field-0-is at (c.in-Ok-Answered.ensures [] [] said) in
+    let part = h.1 c.args.line.now c.front_of_line.ensures in
+    (h.0, (refl, part.0, part.1))
+
+pub returns-in-Ok-Quit-clause-told : goal.returns-in-Ok-Quit-clause-told
+returns-in-Ok-Quit-clause-told c =
+    let said = nothing_said c.new-answer.result.items c.new-output.result c.new-answer.ensures.items c.new-output.ensures in
+    let h = rw c.in-Ok-Quit.field-0-is at (c.in-Ok-Quit.ensures [] [] said) in (
+      ap (λ (z : Exploring). let d : Debuggee = record c.args.program.now { lab = z.lab } in d) h.1.1,
+      quit_part c.front_of_line.result.now c.args.line.now c.front_of_line.ensures h.1.0,
+    )
+
+pub returns-in-Err-clause-untold : goal.returns-in-Err-clause-untold
+returns-in-Err-clause-untold c =
+    let said = nothing_said c.new-answer.result.items c.new-output.result c.new-answer.ensures.items c.new-output.ensures in
+    let h = c.in-Err.ensures [] [] said in
+    let part = h.1 c.args.line.now c.front_of_line.ensures in
+    (h.0, (refl, part.0, part.1))

@@ -1,0 +1,40 @@
+use Rattle.std.proofs.Common.{◌≡◌, ◌∙◌, ℕ, suc, List, [], ◌++◌, Some, refl, sym, ap, subst}
+use Rattle.std.specs.Prelude.{true}
+use Rattle.std.proofs.lemmas.List.{append-nil}
+use Rattle.ga_protocol.specs.Sent.{SentMessages}
+use Rattle.ga_dap.specs.Client.{ServesFor, serving_from}
+use Rattle.ga_dap.specs.kept.Turning.{serving_at}
+use Rattle.ga_dap.proofs.Serves.{begins_so, serves_on, pends, all_sent}
+use Rattle.ga_dap.proofs.serving.serve_client.Goals as goal
+
+pub serving-init : goal.serving-init
+serving-init g c = record {
+  sent = ap (λ (z : SentMessages). z.bytes) c.new-out.ensures;
+  serves = λ left before known held. (
+    left,
+    [],
+    0,
+    known,
+    held ∙ ap (λ (t : List ℕ). Some t) (sym (append-nil before)),
+    (refl, begins_so c.args.sources.now c.args.arrivals.now c.new-session.result c.new-out.result c.new-inbox.result left c.new-session.ensures c.new-out.ensures c.new-inbox.ensures),
+  );
+}
+
+pub serving-preserved : goal.serving-preserved
+serving-preserved g c = record {
+  sent = ap (λ (z : SentMessages). z.bytes) c.in-Ok.ensures.sent;
+  serves = λ left before known held.
+      let inv = c.serving.invariant.serves left before known held in
+      let made = c.in-On.ensures inv.0 inv.3 in
+      let told = c.in-Ok.ensures.said before (inv.1 ++ c.turn.new.out.bytes) (pends _ before inv.1 c.turn.new.out.bytes inv.4) in
+      let more = serves_on g.S.ProgramFiles.gives g.A.Arrivals.tells (serving_from c.args.sources.now c.args.arrivals.now left) inv.2 inv.1 _ c.turn.new.out.bytes _ inv.5 c.if-session.false made.2 in (
+        made.0,
+        inv.1 ++ c.turn.new.out.bytes,
+        suc inv.2,
+        made.1,
+        all_sent _ before (inv.1 ++ c.turn.new.out.bytes) told,
+        let P : ℕ → Type 0 = λ seq. ServesFor g.S.ProgramFiles.gives g.A.Arrivals.tells (serving_from c.args.sources.now c.args.arrivals.now left) (suc inv.2) (inv.1 ++ c.turn.new.out.bytes)
+            (serving_at c.turn.new.sources c.turn.new.arrivals c.turn.new.session seq c.turn.new.inbox made.0) in
+            subst P (sym (ap (λ (z : SentMessages). z.seq) c.in-Ok.ensures.sent)) more,
+      );
+}

@@ -1,0 +1,5 @@
+use Rattle.ga_dap.proofs.Still.{still}
+use Rattle.ga_dap.proofs.session.Session.terminate.Goals as goal
+
+pub returns-in-Err : goal.returns-in-Err
+returns-in-Err c = still c.args.self.now

@@ -1,0 +1,12 @@
+-- How a call ends that answers: with messages that were sent, or memory was refused to it.
+use Rattle.std.specs.Prelude.{Result, Ok, Err}
+use Rattle.ga_protocol.specs.Sent.{SentMessages}
+use Rattle.ga_responses.specs.Sending.{Messages, SendsAll}
+use Rattle.ga_dap.specs.declared.unanswered.Unanswered.{Unanswered}
+use Rattle.ga_dap.specs.declared.unanswered.Unanswered.TheVariants.{Memory, Untold}
+
+-- messages were sent of which this holds; or memory was refused before anything changed, of which that holds; or to what had to be told of a change
+abbrev pub Carries : Result (Unit {0}) Unanswered → (Messages → Type 0) → Type 0 → SentMessages → SentMessages → Type 0
+Carries (Ok done) Does Stays old new = (messages : Messages) × Does messages × SendsAll old messages new
+Carries (Err Memory) Does Stays old new = Stays
+Carries (Err Untold) Does Stays old new = Unit {0}

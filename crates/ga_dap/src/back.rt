@@ -1,0 +1,76 @@
+//! The requests that go back: `stepBack` and `reverseContinue`.
+
+ghost use Rattle.std.specs.Prelude.{◌≡◌, [], ◌∷◌, codes};
+ghost use Rattle.ga_dap.specs.Going.{StepsBack, Reverses, reason_behind};
+ghost use Rattle.ga_dap.specs.kept.Carrying.{Carries};
+ghost use Rattle.ga_responses.specs.Sending.{refused_response};
+
+use crate::changes::tell_back_twice;
+use crate::unanswered::Unanswered;
+use ga_grid::NodeId;
+use ga_protocol::{ClientRequest, Outbox};
+use ga_requests::{Configuration, reverse_node, step_node_back};
+use ga_responses::{Debuggee, node_asked, shown_nodes};
+use std::alloc::Global;
+
+/// Refuses a request.
+pub(crate) fn refuse(request: &ClientRequest, why: &str, out: &mut Outbox) -> Result<(), Unanswered>
+    ensures { Carries result (λ messages. messages ≡ refused_response request.now why.now ∷ []) (Unit {0}) out.old out.new }
+{
+    match out.refuse(request, why) {
+        Ok(()) => Ok(()),
+        Err(_) => Err(Unanswered::Memory),
+    }
+}
+
+/// `stepBack`.
+pub(crate) fn step_back(
+    alloc: Global,
+    program: &mut Debuggee,
+    request: &ClientRequest,
+    out: &mut Outbox,
+) -> Result<(), Unanswered>
+    requires { out.old.bytes ≡ [] }
+    ensures { Carries result (λ messages. StepsBack program.old request.now messages program.new) (program.new ≡ program.old) out.old out.new }
+{
+    let Some(node) = node_asked(&request.arguments) else {
+        return refuse(request, "stepBack: no such thread", out);
+    };
+    let before = shown_nodes(&program.lab, program.nodes.as_slice());
+    let gone = step_node_back(program, node, &request.arguments);
+    tell_back_twice(alloc, program, &before, request, &gone, "step", out)
+}
+
+/// Why a node stands that has gone back so far.
+fn reason_behind(program: &Debuggee, node: NodeId) -> &'static str
+    ensures { result.now ≡ reason_behind program.now node }
+{
+    if program.lab.steps(node) == 0 {
+        "entry"
+    } else {
+        "breakpoint"
+    }
+}
+
+/// `reverseContinue`.
+pub(crate) fn reverse(
+    alloc: Global,
+    program: &mut Debuggee,
+    settings: &Configuration,
+    request: &ClientRequest,
+    out: &mut Outbox,
+) -> Result<(), Unanswered>
+    requires { out.old.bytes ≡ [] }
+    ensures { Carries result (λ messages. Reverses settings.now program.old request.now messages program.new) (program.new ≡ program.old) out.old out.new }
+{
+    let Some(node) = node_asked(&request.arguments) else {
+        return refuse(request, "reverseContinue: no such thread", out);
+    };
+    let Ok(watched) = settings.points.watched_of(alloc, node) else {
+        return Err(Unanswered::Memory);
+    };
+    let before = shown_nodes(&program.lab, program.nodes.as_slice());
+    let gone = reverse_node(program, node, watched.as_slice());
+    let reason = reason_behind(program, node);
+    tell_back_twice(alloc, program, &before, request, &gone, reason, out)
+}

@@ -1,0 +1,152 @@
+//! `evaluate`.
+
+ghost use Rattle.std.specs.Prelude.{◌≡◌, ◌⊎◌, ◌||◌, ◌==◌, [], not, length};
+ghost use Rattle.serde_json.specs.View.{view};
+ghost use Rattle.ga_text.specs.Lines.{Text};
+ghost use Rattle.ga_responses.specs.Sending.{SendsAll, Messages};
+ghost use Rattle.ga_adapter.specs.Evaluating.{AsksForNoVariable};
+ghost use Rattle.ga_adapter.specs.Shown.{IsVariable};
+ghost use Rattle.ga_dap.specs.Evaluating.{Evaluates, EvaluatesIn, Obeys, ObeysIf, ValueShown, StaysByCommand, is_from_console};
+ghost use Rattle.ga_dap.specs.Telling.{has_moved};
+ghost use Rattle.ga_dap.specs.kept.Carrying.{Carries};
+
+use crate::back::refuse;
+use crate::changes::tell_command_twice;
+use crate::evaluating::{command_text, node_meant, value_body};
+use crate::unanswered::Unanswered;
+use ga_adapter::{Variable, asked_variable};
+use ga_grid::NodeId;
+use ga_lab::{Counts, Lab};
+use ga_protocol::{ClientRequest, Outbox, text_at};
+use ga_responses::{Debuggee, shown_nodes};
+use std::alloc::Global;
+
+/// Whether events were made or taken back since there were so many.
+fn has_moved(before: Counts, lab: &Lab) -> bool
+    ensures { result ≡ (not (before.kept == length lab.now.kept) || not (before.made == lab.now.made)) }
+{
+    let now = lab.counts();
+    before.kept != now.kept || before.made != now.made
+}
+
+/// Whether a request may give commands: a client that only shows a value doesn't.
+fn is_from_console(request: &ClientRequest) -> bool
+    ensures { result ≡ is_from_console request.now }
+{
+    text_at(&request.arguments, "context").unwrap_or("repl") == "repl"
+}
+
+/// Shows a register or a cell.
+fn show_value(
+    alloc: Global,
+    program: &Debuggee,
+    request: &ClientRequest,
+    node: NodeId,
+    variable: Variable,
+    out: &mut Outbox,
+) -> Result<(), Unanswered>
+    requires { IsVariable variable }
+    ensures { Carries result (λ messages. ValueShown program.now request.now node variable messages) (Unit {0}) out.old out.new }
+{
+    let Ok(body) = value_body(alloc, program, node, variable) else {
+        return Err(Unanswered::Memory);
+    };
+    match out.respond(request, body) {
+        Ok(()) => Ok(()),
+        Err(_) => Err(Unanswered::Memory),
+    }
+}
+
+/// Carries a command of exploring out.
+fn obey(
+    alloc: Global,
+    program: &mut Debuggee,
+    request: &ClientRequest,
+    node: NodeId,
+    line: &str,
+    out: &mut Outbox,
+) -> Result<(), Unanswered>
+    requires { out.old.bytes ≡ [] }
+    ensures { Carries result (λ messages. Obeys program.old request.now node line.now messages program.new) ((program.new ≡ program.old) ⊎ StaysByCommand program.old program.new) out.old out.new }
+{
+    let before = shown_nodes(&program.lab, program.nodes.as_slice());
+    let counts = program.lab.counts();
+    match command_text(alloc, program, line.as_bytes()) {
+        Ok(Some(answer)) => {
+            let moved = has_moved(counts, &program.lab);
+            tell_command_twice(
+                alloc,
+                program,
+                &before,
+                request,
+                answer.as_slice(),
+                moved,
+                node,
+                out,
+            )
+        }
+        Ok(None) => refuse(request, "evaluate: disconnect ends the session", out),
+        Err(_) => {
+            if has_moved(counts, &program.lab) {
+                Err(Unanswered::Untold)
+            } else {
+                Err(Unanswered::Memory)
+            }
+        }
+    }
+}
+
+/// The same, where the client may give commands.
+fn obey_if(
+    alloc: Global,
+    program: &mut Debuggee,
+    request: &ClientRequest,
+    node: NodeId,
+    line: &str,
+    out: &mut Outbox,
+) -> Result<(), Unanswered>
+    requires { out.old.bytes ≡ [] }
+    ensures { Carries result (λ messages. ObeysIf (is_from_console request.now) program.old request.now node line.now messages program.new) ((program.new ≡ program.old) ⊎ StaysByCommand program.old program.new) out.old out.new }
+{
+    if is_from_console(request) {
+        obey(alloc, program, request, node, line, out)
+    } else {
+        refuse(request, "evaluate: no register and no cell", out)
+    }
+}
+
+/// `evaluate` of an expression in a node.
+fn evaluate_in(
+    alloc: Global,
+    program: &mut Debuggee,
+    request: &ClientRequest,
+    node: NodeId,
+    expression: &str,
+    out: &mut Outbox,
+) -> Result<(), Unanswered>
+    requires { out.old.bytes ≡ [] }
+    ensures { Carries result (λ messages. EvaluatesIn program.old request.now node expression.now messages program.new) ((program.new ≡ program.old) ⊎ StaysByCommand program.old program.new) out.old out.new }
+{
+    match asked_variable(alloc, expression) {
+        Ok(Some(variable)) => show_value(alloc, program, request, node, variable, out),
+        Ok(None) => obey_if(alloc, program, request, node, expression, out),
+        Err(_) => Err(Unanswered::Memory),
+    }
+}
+
+/// `evaluate`.
+pub(crate) fn evaluate(
+    alloc: Global,
+    program: &mut Debuggee,
+    request: &ClientRequest,
+    out: &mut Outbox,
+) -> Result<(), Unanswered>
+    requires { out.old.bytes ≡ [] }
+    ensures { Carries result (λ messages. Evaluates program.old request.now messages program.new) ((program.new ≡ program.old) ⊎ StaysByCommand program.old program.new) out.old out.new }
+{
+    let Some(expression) = text_at(&request.arguments, "expression") else {
+        return refuse(request, "evaluate: there is no expression", out);
+    };
+    let node = node_meant(program, request);
+    evaluate_in(alloc, program, request, node, expression.trim_ascii(), out)
+}

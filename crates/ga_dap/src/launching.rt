@@ -1,0 +1,176 @@
+//! `launch`: a program is opened, or it is told why none is.
+
+ghost use Rattle.std.specs.Prelude.{◌≡◌, [], ◌∷◌, ◌++◌, None, Some, Ok, Err, Result, codes, string_bytes, IfOk, OnOk, OnErr};
+ghost use Rattle.serde_json.specs.View.{view};
+ghost use Rattle.ga_text.specs.Lines.{Bytes, Text};
+ghost use Rattle.ga_responses.specs.Launching.{limit_asked, schedule_asked};
+ghost use Rattle.ga_dap.specs.declared.sources.SourceError.{SourceError as WhyUnread};
+ghost use Rattle.ga_dap.specs.Launches.{IsWarned, LaunchesText, ReadsFile, LaunchesAsked, LaunchesFirst, launch_told, unlaunched, event_alone};
+ghost use Rattle.ga_responses.specs.Sending.{Sends, SendsAll, Messages, refused_response};
+
+use crate::opening::{LaunchError, Opened, open_program};
+use crate::sources::{ProgramFiles, SourceError, words_of};
+use ga_protocol::{ClientRequest, Outbox, text_at};
+use ga_requests::{Configuration, Execution, Launched};
+use ga_responses::{limit_asked, schedule_asked, stops_on_entry, tell_output};
+use ga_search::Schedule;
+use std::alloc::{AllocError, Global};
+
+/// Refuses to launch anything.
+fn refuse_launch(
+    request: &ClientRequest,
+    why: &str,
+    out: &mut Outbox,
+) -> Result<Option<Launched>, AllocError>
+    ensures { IfOk result (λ new. (new ≡ None) × Sends out.old (refused_response request.now why.now) out.new) }
+{
+    out.refuse(request, why)?;
+    Ok(None)
+}
+
+/// The same of a file.
+fn refuse_file(
+    alloc: Global,
+    request: &ClientRequest,
+    path: &str,
+    why: &str,
+    out: &mut Outbox,
+) -> Result<Option<Launched>, AllocError>
+    ensures { IfOk result (λ new. (new ≡ None) × Sends out.old (unlaunched request.now path.now why.now) out.new) }
+{
+    let why = format!(in alloc; "launch: {path}: {why}")?;
+    out.refuse(request, why.as_str())?;
+    Ok(None)
+}
+
+/// Tells what source is warned of, where it is.
+fn tell_warnings(alloc: Global, warnings: &str, out: &mut Outbox) -> Result<(), AllocError>
+    ensures { OnOk result ((messages : Messages) × IsWarned messages × SendsAll out.old messages out.new) }
+{
+    if warnings.is_empty() {
+        Ok(())
+    } else {
+        tell_output(alloc, "stderr", warnings, out)
+    }
+}
+
+/// Tells that a program is launched, and what its source is warned of.
+fn tell_launched(
+    alloc: Global,
+    warnings: &str,
+    request: &ClientRequest,
+    out: &mut Outbox,
+) -> Result<(), AllocError>
+    ensures { OnOk result ((warned : Messages) × IsWarned warned × SendsAll out.old (launch_told request.now warned) out.new) }
+{
+    out.acknowledge(request)?;
+    tell_warnings(alloc, warnings, out)?;
+    out.tell_alone("initialized")
+}
+
+/// What is launched of a file's text.
+fn launched_text(
+    alloc: Global,
+    request: &ClientRequest,
+    path: &str,
+    text: Vec<u8>,
+    limit: u32,
+    schedule: Schedule,
+    out: &mut Outbox,
+) -> Result<Option<Launched>, AllocError>
+    ensures { IfOk result (λ new. (messages : Messages) × LaunchesText text.items path.now limit schedule request.now messages new × SendsAll out.old messages out.new) }
+{
+    match open_program(alloc, path, text, limit) {
+        Ok(opened) => {
+            let Opened { program, warnings } = opened;
+            tell_launched(alloc, warnings.as_str(), request, out)?;
+            let execution = Execution {
+                schedule,
+                goal: None,
+                is_configured: false,
+                stops_on_entry: stops_on_entry(&request.arguments),
+            };
+            let settings = Configuration::new(alloc);
+            Ok(Some(Launched {
+                program,
+                settings,
+                execution,
+            }))
+        }
+        Err(LaunchError::Fault(why)) => refuse_file(alloc, request, path, why.as_str(), out),
+        Err(LaunchError::Memory) => Err(AllocError),
+    }
+}
+
+/// What is launched of a file.
+fn launched_file<S: ProgramFiles>(
+    alloc: Global,
+    sources: &mut S,
+    request: &ClientRequest,
+    path: &str,
+    limit: u32,
+    schedule: Schedule,
+    out: &mut Outbox,
+) -> Result<Option<Launched>, AllocError>
+    ensures { IfOk result (λ new. (messages : Messages) × ReadsFile S.gives sources.old request.now path.now limit schedule messages sources.new new × SendsAll out.old messages out.new) }
+{
+    match sources.read(alloc, path) {
+        Ok(text) => launched_text(alloc, request, path, text, limit, schedule, out),
+        Err(why) => refuse_file(alloc, request, path, words_of(why), out),
+    }
+}
+
+/// What is launched of a path, to keep so many events, in the order that is asked for.
+fn launched_limit<S: ProgramFiles>(
+    alloc: Global,
+    sources: &mut S,
+    request: &ClientRequest,
+    path: &str,
+    limit: u32,
+    out: &mut Outbox,
+) -> Result<Option<Launched>, AllocError>
+    ensures { IfOk result (λ new. (messages : Messages) × LaunchesAsked S.gives sources.old request.now (Some path.now) (Some limit) (schedule_asked (view request.now.arguments)) messages sources.new new × SendsAll out.old messages out.new) }
+{
+    match schedule_asked(&request.arguments) {
+        None => refuse_launch(
+            request,
+            "launch: the order is rounds, greedy, or random with a seed",
+            out,
+        ),
+        Some(schedule) => launched_file(alloc, sources, request, path, limit, schedule, out),
+    }
+}
+
+/// What is launched of a path, as it is asked for.
+fn launched_path<S: ProgramFiles>(
+    alloc: Global,
+    sources: &mut S,
+    request: &ClientRequest,
+    path: &str,
+    out: &mut Outbox,
+) -> Result<Option<Launched>, AllocError>
+    ensures { IfOk result (λ new. (messages : Messages) × LaunchesAsked S.gives sources.old request.now (Some path.now) (limit_asked (view request.now.arguments)) (schedule_asked (view request.now.arguments)) messages sources.new new × SendsAll out.old messages out.new) }
+{
+    match limit_asked(&request.arguments) {
+        None => refuse_launch(request, "launch: the limit is 1 to 4000000", out),
+        Some(limit) => launched_limit(alloc, sources, request, path, limit, out),
+    }
+}
+
+/// `launch`, where nothing is launched yet: what is launched then.
+///
+/// # Errors
+/// Memory was refused.
+pub(crate) fn launched_first<S: ProgramFiles>(
+    alloc: Global,
+    sources: &mut S,
+    request: &ClientRequest,
+    out: &mut Outbox,
+) -> Result<Option<Launched>, AllocError>
+    ensures { IfOk result (λ new. (messages : Messages) × LaunchesFirst S.gives sources.old request.now messages sources.new new × SendsAll out.old messages out.new) }
+{
+    match text_at(&request.arguments, "program") {
+        None => refuse_launch(request, "launch: there is no program", out),
+        Some(path) => launched_path(alloc, sources, request, path, out),
+    }
+}

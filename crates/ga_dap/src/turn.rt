@@ -1,0 +1,208 @@
+//! One turn of a session: a request is answered, or the run under way goes on.
+
+ghost use Rattle.std.specs.Prelude.{◌≡◌, ◌++◌, [], Some, true, IfOk, IfErr, OnOk, OnErr, List, ℕ};
+ghost use Rattle.ga_text.specs.Lines.{Bytes};
+ghost use Rattle.ga_protocol.specs.Inbox.{GivesNext};
+ghost use Rattle.ga_protocol.specs.Messages.{HoldsNoRequest};
+ghost use Rattle.ga_responses.specs.Sending.{SendsAll};
+ghost use Rattle.ga_dap.specs.Client.{IsTime, IsRequestIn, is_running, no_request_told, request_words};
+ghost use Rattle.ga_dap.specs.kept.Turning.{AnswersOrEnds, DeclinesOrEnds, ContentOrEnds, TakesOrEnds, GoesOnOrEnds, TurnOrEnds, serving_at};
+
+use crate::serving::SessionEnd;
+use crate::session::{Session, go_on_launched};
+use crate::sources::{Arrivals, ProgramFiles};
+use crate::unanswered::Unanswered;
+use ga_protocol::{ClientRequest, Inbox, Next, Outbox, RequestError, read_request};
+use ga_responses::tell_output;
+use std::alloc::{AllocError, Global};
+use std::io::Read;
+
+/// Whether a session goes on.
+#[derive(Drop)]
+pub(crate) enum Progress {
+    On,
+    End(SessionEnd),
+}
+
+/// Takes the next message, and once more where memory was refused to it.
+fn next_message<R: Read>(inbox: &mut Inbox, reader: &mut R) -> Result<Next, AllocError>
+    ensures next { (left : List ℕ) → R.remaining reader.old ≡ Some left → IfOk result (λ next.
+        (rest : List ℕ) × (R.remaining reader.new ≡ Some rest) × GivesNext (inbox.old ++ left) next (inbox.new ++ rest)) }
+    ensures refused { (left : List ℕ) → R.remaining reader.old ≡ Some left → OnErr result
+        ((rest : List ℕ) × (R.remaining reader.new ≡ Some rest) × (inbox.old ++ left ≡ inbox.new ++ rest)) }
+{
+    match inbox.next(reader) {
+        Ok(next) => Ok(next),
+        Err(_) => inbox.next(reader),
+    }
+}
+
+/// The request that a content part is; read once more where memory was refused to it.
+fn request_in(alloc: Global, content: &[u8]) -> Result<ClientRequest, RequestError>
+    ensures ok { IfOk result (λ r. IsRequestIn content.now r) }
+    ensures err { IfErr result (λ why. HoldsNoRequest content.now why) }
+{
+    match read_request(alloc, content) {
+        Ok(request) => Ok(request),
+        Err(RequestError::Memory) => read_request(alloc, content),
+        Err(why) => Err(why),
+    }
+}
+
+/// What is told of a message that is no request.
+fn words_of(why: RequestError) -> &'static str
+    ensures { result.now ≡ request_words why }
+{
+    match why {
+        RequestError::Memory => "out of memory",
+        RequestError::Json => "a message is no JSON",
+        RequestError::Kind => "a message is no request",
+        RequestError::Seq => "a request has no `seq`",
+        RequestError::Command => "a request has no `command`",
+    }
+}
+
+/// Tells that a message is no request.
+fn tell_no_request(alloc: Global, why: RequestError, out: &mut Outbox) -> Result<(), AllocError>
+    ensures { OnOk result (SendsAll out.old (no_request_told why) out.new) }
+{
+    let words = words_of(why);
+    let text = format!(in alloc; "ga144: {words}\n")?;
+    tell_output(alloc, "stderr", text.as_str(), out)
+}
+
+/// The same, where there is memory for it.
+fn decline(alloc: Global, why: RequestError, out: &mut Outbox) -> Progress
+    ensures { DeclinesOrEnds why out.old result out.new }
+{
+    match tell_no_request(alloc, why, out) {
+        Ok(()) => Progress::On,
+        Err(_) => Progress::End(SessionEnd::Memory),
+    }
+}
+
+/// Answers a request, or refuses it where there is no memory for its answer.
+fn answer<S: ProgramFiles>(
+    alloc: Global,
+    session: &mut Session,
+    sources: &mut S,
+    request: &ClientRequest,
+    out: &mut Outbox,
+) -> Progress
+    requires { out.old.bytes ≡ [] }
+    ensures { AnswersOrEnds S.gives sources.old session.old request.now out.old result out.new sources.new session.new }
+{
+    let seq = out.seq();
+    match session.answer(alloc, sources, request, out) {
+        Ok(()) => Progress::On,
+        Err(Unanswered::Untold) => Progress::End(SessionEnd::Memory),
+        Err(Unanswered::Memory) => {
+            out.take_back(seq);
+            match out.refuse(request, "out of memory") {
+                Ok(()) => Progress::On,
+                Err(_) => Progress::End(SessionEnd::Memory),
+            }
+        }
+    }
+}
+
+/// Answers the request that a content part is.
+fn answer_content<S: ProgramFiles>(
+    alloc: Global,
+    session: &mut Session,
+    sources: &mut S,
+    content: &[u8],
+    out: &mut Outbox,
+) -> Progress
+    requires { out.old.bytes ≡ [] }
+    ensures { ContentOrEnds S.gives sources.old session.old content.now out.old result out.new sources.new session.new }
+{
+    match request_in(alloc, content) {
+        Ok(request) => answer(alloc, session, sources, &request, out),
+        Err(RequestError::Memory) => Progress::End(SessionEnd::Memory),
+        Err(RequestError::Json) => decline(alloc, RequestError::Json, out),
+        Err(RequestError::Kind) => decline(alloc, RequestError::Kind, out),
+        Err(RequestError::Seq) => decline(alloc, RequestError::Seq, out),
+        Err(RequestError::Command) => decline(alloc, RequestError::Command, out),
+    }
+}
+
+/// Takes the next message and answers it.
+fn take<S: ProgramFiles, R: Read>(
+    alloc: Global,
+    session: &mut Session,
+    sources: &mut S,
+    inbox: &mut Inbox,
+    reader: &mut R,
+    out: &mut Outbox,
+) -> Progress
+    requires { out.old.bytes ≡ [] }
+    ensures { (left : Bytes) → R.remaining reader.old ≡ Some left →
+        (rest : Bytes) × (R.remaining reader.new ≡ Some rest)
+        × TakesOrEnds S.gives sources.old session.old (inbox.old ++ left) out.old result out.new sources.new session.new (inbox.new ++ rest) }
+{
+    match next_message(inbox, reader) {
+        Ok(Next::Message(content)) => answer_content(
+            alloc,
+            session,
+            sources,
+            content.as_slice(),
+            out,
+        ),
+        Ok(Next::End) => Progress::End(SessionEnd::Done),
+        Ok(Next::Failed) => Progress::End(SessionEnd::StreamFault),
+        Ok(Next::Wrong(why)) => Progress::End(SessionEnd::Broken(why)),
+        Err(_) => Progress::End(SessionEnd::Memory),
+    }
+}
+
+/// Goes on with the run under way, where one is.
+fn go_on(alloc: Global, session: &mut Session, out: &mut Outbox) -> Progress
+    requires running { is_running session.old ≡ true }
+    requires sent { out.old.bytes ≡ [] }
+    ensures { GoesOnOrEnds session.old out.old result out.new session.new }
+{
+    match &mut session.launched {
+        Some(launched) => match go_on_launched(alloc, launched, out) {
+            Ok(()) => Progress::On,
+            Err(_) => Progress::End(SessionEnd::Memory),
+        },
+        None => Progress::End(SessionEnd::Memory),
+    }
+}
+
+/// Whether it is time for a request: no run is under way, or what was read tells one, or more has come.
+fn is_time<A: Arrivals>(session: &Session, inbox: &Inbox, arrivals: &mut A) -> bool
+    ensures { IsTime A.tells (is_running session.now) inbox.now arrivals.old result arrivals.new }
+{
+    if !session.is_running() {
+        return true;
+    }
+    if inbox.has_next() {
+        return true;
+    }
+    arrivals.have_come()
+}
+
+/// One turn.
+pub(crate) fn turn<S: ProgramFiles, A: Arrivals, R: Read>(
+    alloc: Global,
+    session: &mut Session,
+    sources: &mut S,
+    arrivals: &mut A,
+    inbox: &mut Inbox,
+    reader: &mut R,
+    out: &mut Outbox,
+) -> Progress
+    requires { out.old.bytes ≡ [] }
+    ensures { (left : Bytes) → R.remaining reader.old ≡ Some left →
+        (rest : Bytes) × (R.remaining reader.new ≡ Some rest)
+        × TurnOrEnds S.gives A.tells (serving_at sources.old arrivals.old session.old out.old.seq inbox.old left) result out.new.bytes
+        (serving_at sources.new arrivals.new session.new out.new.seq inbox.new rest) }
+{
+    if is_time(session, inbox, arrivals) {
+        take(alloc, session, sources, inbox, reader, out)
+    } else {
+        go_on(alloc, session, out)
+    }
+}
