@@ -1,7 +1,7 @@
 -- The ranges of the settings (docs/REFERENCE.md, "Sessions", "Exploring", "Races", "Every order" and "Pictures"; this project's own).
 use Rattle.std.specs.Prelude.{ℕ, ◌≤◌, IfSome}
 use Rattle.ga_console.specs.declared.settings.Settings.{Settings}
-use Rattle.ga_console.specs.declared.settings.Settings.TheVariants.{Debug, Explore, Race, Check, Assemble, List, Disassemble, Draw}
+use Rattle.ga_console.specs.declared.settings.Settings.TheVariants.{Debug, Explore, Race, Check, Dap, Assemble, List, Disassemble, Draw}
 
 abbrev pub Within : ℕ → ℕ → ℕ → Type 0
 Within least greatest n = (least ≤ n) × (n ≤ greatest)
@@ -12,6 +12,7 @@ AreInRange (Debug limit) = Within 1 4000000 limit
 AreInRange (Explore limit file) = Within 1 4000000 limit
 AreInRange (Race workers calls limit) = Within 1 16 workers × Within 1 100000 calls × Within 1 4000000 limit
 AreInRange (Check most session file) = Within 1 4294967295 most × IfSome session (Within 1 4294967295)
+AreInRange Dap = Unit {0}
 AreInRange (Assemble file) = Unit {0}
 AreInRange (List file) = Unit {0}
 AreInRange (Disassemble file) = Unit {0}

@@ -88,6 +88,12 @@ With --session K it writes instead the lines `step NNN` that lead to the end of 
 Exit status: 0 all end on one chip where none stops, or a session is told, 1 image or source refused, 2 a stream failed,
 3 command line refused, 5 they end on several chips or a node stops, 6 there may be other orders.";
 
+/// What `ga144 dap --help` says.
+const EDITOR: &str = "\
+An editor starts it (docs/EDITORS.md). It is a server of the Debug Adapter Protocol over standard input and output.
+
+Exit status: 0 done, 1 out of memory, 2 a stream failed or a frame was broken, 3 command line refused.";
+
 /// What `ga144 draw --help` says behind the options.
 const PICTURES: &str = "\
 Reads what explore reads: an image or source, from FILE where one is given, then commands, one a line. Carries them out without an answer,
@@ -153,6 +159,8 @@ pub enum Settings {
         session: Option<u32>,
         file: Option<String>,
     },
+    /// Serve an editor, by the Debug Adapter Protocol.
+    Dap,
     /// Assemble source into an image.
     Assemble {
         file: Option<String>,
@@ -232,6 +240,7 @@ fn program<'a>(alloc: Global) -> Result<Command<'a>, AllocError> {
         .subcommand(explore_line(alloc)?)?
         .subcommand(race_line(alloc)?)?
         .subcommand(check_line(alloc)?)?
+        .subcommand(editor_line(alloc)?)?
         .subcommand(source_line(alloc)?)?
         .subcommand(list_line(alloc)?)?
         .subcommand(image_line(alloc)?)?
@@ -293,6 +302,13 @@ fn check_line<'a>(alloc: Global) -> Result<Command<'a>, AllocError> {
         )
         .value_name("K"))?
         .arg(file_argument(alloc, "An image or source"))
+}
+
+fn editor_line<'a>(alloc: Global) -> Result<Command<'a>, AllocError> {
+    let line = Command::new(alloc, "dap")
+        .about("Serve an editor, which debugs source in its own windows")
+        .after_help(EDITOR);
+    Ok(line)
 }
 
 fn source_line<'a>(alloc: Global) -> Result<Command<'a>, AllocError> {
@@ -437,6 +453,7 @@ fn chosen(alloc: Global, matches: &ArgMatches<'_>) -> Result<Settings, LineFault
             })
         }
         Some(("check", check)) => checked(alloc, check),
+        Some(("dap", _)) => Ok(Settings::Dap),
         Some(("asm", source)) => Ok(Settings::Assemble {
             file: file(alloc, source)?,
         }),
