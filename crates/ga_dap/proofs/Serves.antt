@@ -6,7 +6,9 @@ use Rattle.ga_text.specs.Lines.{Bytes}
 use Rattle.ga_text.specs.Output.{IsSaid}
 use Rattle.ga_protocol.specs.Sent.{SentMessages}
 use Rattle.ga_dap.specs.declared.session.Session.{Session}
-use Rattle.ga_dap.specs.Client.{Serving, ArrivalTelling, ServesFor, MakesTurn, new_session, serving_from, sent_from}
+use Rattle.ga_dap.specs.declared.serving.SessionEnd.{SessionEnd}
+use Rattle.ga_dap.specs.declared.serving.SessionEnd.TheVariants as end
+use Rattle.ga_dap.specs.Client.{Serving, ArrivalTelling, ServesFor, MakesTurn, WrittenBy, new_session, serving_from, sent_from}
 use Rattle.ga_dap.specs.Launches.{FileGiving}
 use Rattle.ga_dap.specs.kept.Turning.{serving_at}
 
@@ -27,3 +29,10 @@ pends contents before said pending held = record { sent = said; held = held; spl
 -- nothing is pending any more: all that was said is written
 pub all_sent : (contents : Option Bytes) (before said : Bytes) → IsSaid contents before said [] → contents ≡ Some (before ++ said)
 all_sent contents before said h = h.held ∙ ap (λ (t : Bytes). Some (before ++ t)) (sym (h.splits ∙ append-nil h.sent))
+
+-- all that was said was written
+pub written_all : (ending : SessionEnd) (said : Bytes) → WrittenBy ending said said
+written_all end.Done said = refl
+written_all end.Memory said = refl
+written_all (end.Broken why) said = refl
+written_all end.StreamFault said = ([], sym (append-nil said))

@@ -1,8 +1,41 @@
-use Rattle.std.proofs.Common.{Some, None, refl}
+use Rattle.std.proofs.Common.{◌∙◌, List, Some, None, refl, ap, subst}
 use Rattle.ga_causal.specs.Dependence.{is_marked}
+use Rattle.ga_text.specs.Lines.{Text}
+use Rattle.ga_grid.specs.declared.node_id.NodeId.{NodeId}
+use Rattle.ga_adapter.specs.declared.moves.Watched.{Watched}
+use Rattle.ga_requests.specs.Back.{gone_words, reversed_by}
+use Rattle.ga_dap.specs.Telling.{BackTold}
 use Rattle.ga_dap.proofs.Sends.{carries_so}
 use Rattle.ga_dap.proofs.Shown.{shown_so}
 use Rattle.ga_dap.proofs.back.reverse.Goals as goal
 
 pub returns-in_default : goal.returns-in_default
 returns-in_default c = carries_so c.refuse.result _ _ _ _ _ _ c.refuse.ensures (λ messages told. (None, c.in_default.ensures, (told, refl))) (λ stays. refl)
+
+pub returns : goal.returns
+returns c =
+    let before = is_marked c.shown_nodes-before.result in
+    let shown = shown_so c.args.program.now c.as_slice.result.now before c.as_slice.ensures.value c.shown_nodes-before.ensures.marks in
+    carries_so c.tell_back_twice.result _ _ _ _ _ _ c.tell_back_twice.ensures
+    (λ messages told. (
+      Some c.in-Some.node,
+      c.in-Some.ensures,
+      (
+        c.reverse_node-gone.ensures.program
+            ∙ ap (λ (z : List Watched). reversed_by c.args.program.now c.in-Some.node z) (c.as_slice-2.ensures.value ∙ c.in-Ok.ensures),
+        (
+          before,
+          c.reverse_node-gone.result.before,
+          c.reverse_node-gone.result.removed,
+          shown,
+          c.reverse_node-gone.ensures.went,
+          subst (λ (r : Text). BackTold before c.reverse_node-gone.new.program c.args.request.now c.in-Some.node
+              (gone_words c.in-Some.node c.reverse_node-gone.result.before c.reverse_node-gone.result.removed c.reverse_node-gone.new.program.lab) r messages)
+              c.reason_behind-reason.ensures
+              (subst (λ (n : NodeId). BackTold before c.reverse_node-gone.new.program c.args.request.now n
+              (gone_words n c.reverse_node-gone.result.before c.reverse_node-gone.result.removed c.reverse_node-gone.new.program.lab) c.reason_behind-reason.result.now messages)
+              c.reverse_node-gone.ensures.node told),
+        ),
+      ),
+    ))
+    (λ stays. absurd stays)

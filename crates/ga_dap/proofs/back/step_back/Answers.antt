@@ -1,5 +1,8 @@
-use Rattle.std.proofs.Common.{Some, None, refl}
+use Rattle.std.proofs.Common.{Some, None, codes, refl, subst}
 use Rattle.ga_causal.specs.Dependence.{is_marked}
+use Rattle.ga_grid.specs.declared.node_id.NodeId.{NodeId}
+use Rattle.ga_requests.specs.Back.{gone_words}
+use Rattle.ga_dap.specs.Telling.{BackTold}
 use Rattle.ga_dap.proofs.Sends.{carries_so}
 use Rattle.ga_dap.proofs.Shown.{shown_so}
 use Rattle.ga_dap.proofs.back.step_back.Goals as goal
@@ -17,7 +20,16 @@ returns c =
       c.in-Some.ensures,
       (
         c.step_node_back-gone.ensures.program,
-        (before, c.step_node_back-gone.result.before, c.step_node_back-gone.result.removed, shown, c.step_node_back-gone.ensures.went, told),
+        (
+          before,
+          c.step_node_back-gone.result.before,
+          c.step_node_back-gone.result.removed,
+          shown,
+          c.step_node_back-gone.ensures.went,
+          subst (λ (n : NodeId). BackTold before c.step_node_back-gone.new.program c.args.request.now n
+              (gone_words n c.step_node_back-gone.result.before c.step_node_back-gone.result.removed c.step_node_back-gone.new.program.lab) (codes "step") messages)
+              c.step_node_back-gone.ensures.node told,
+        ),
       ),
     ))
     (λ stays. absurd stays)

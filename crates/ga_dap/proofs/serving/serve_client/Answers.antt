@@ -1,10 +1,10 @@
-use Rattle.std.proofs.Common.{◌≡◌, ◌∙◌, ℕ, suc, List, [], ◌++◌, Some, refl, sym, ap, subst}
+use Rattle.std.proofs.Common.{◌≡◌, ◌∙◌, ℕ, suc, List, [], ◌++◌, Some, refl, sym, ap, subst, inl}
 use Rattle.std.specs.Prelude.{true}
 use Rattle.std.proofs.lemmas.List.{append-nil}
 use Rattle.ga_protocol.specs.Sent.{SentMessages}
 use Rattle.ga_dap.specs.Client.{ServesFor, serving_from}
 use Rattle.ga_dap.specs.kept.Turning.{serving_at}
-use Rattle.ga_dap.proofs.Serves.{begins_so, serves_on, pends, all_sent}
+use Rattle.ga_dap.proofs.Serves.{begins_so, serves_on, pends, all_sent, written_all}
 use Rattle.ga_dap.proofs.serving.serve_client.Goals as goal
 
 pub serving-init : goal.serving-init
@@ -38,3 +38,83 @@ serving-preserved g c = record {
             subst P (sym (ap (λ (z : SentMessages). z.seq) c.in-Ok.ensures.sent)) more,
       );
 }
+
+pub returns-then-session : goal.returns-then-session
+returns-then-session g c = λ left before known held.
+    let inv = c.serving.invariant.serves left before known held in (
+      inv.0,
+      inv.1,
+      inv.3,
+      inv.4,
+      record {
+        count = inv.2;
+        said = inv.1;
+        last = serving_at c.serving.sources c.serving.arrivals c.serving.session c.serving.out.seq c.serving.inbox inv.0;
+        read = c.serving.inbox;
+        serves = inv.5;
+        ends = inl c.if-session.true;
+        left = refl;
+        out = refl;
+      },
+    )
+
+pub returns-in-End : goal.returns-in-End
+returns-in-End g c = λ left before known held.
+    let inv = c.serving.invariant.serves left before known held in
+    let made = c.in-End.ensures inv.0 inv.3 in (
+      made.0,
+      inv.1,
+      made.1,
+      inv.4,
+      record {
+        count = inv.2;
+        said = inv.1;
+        last = serving_at c.serving.sources c.serving.arrivals c.serving.session c.serving.out.seq c.serving.inbox inv.0;
+        read = made.2.1;
+        serves = inv.5;
+        ends = made.2.0;
+        left = made.2.2;
+        out = written_all c.in-End.end inv.1;
+      },
+    )
+
+pub returns-in-Err : goal.returns-in-Err
+returns-in-Err g c = λ left before known held.
+    let inv = c.serving.invariant.serves left before known held in
+    let made = c.in-On.ensures inv.0 inv.3 in
+    let cut = c.in-Err.ensures.said before (inv.1 ++ c.turn.new.out.bytes) (pends _ before inv.1 c.turn.new.out.bytes inv.4) in
+    let more = serves_on g.S.ProgramFiles.gives g.A.Arrivals.tells (serving_from c.args.sources.now c.args.arrivals.now left) inv.2 inv.1 _ c.turn.new.out.bytes _ inv.5 c.if-session.false made.2 in (
+      made.0,
+      cut.sent,
+      made.1,
+      cut.held,
+      record {
+        count = suc inv.2;
+        said = inv.1 ++ c.turn.new.out.bytes;
+        last = serving_at c.turn.new.sources c.turn.new.arrivals c.turn.new.session c.turn.new.out.seq c.turn.new.inbox made.0;
+        read = c.turn.new.inbox;
+        serves = more;
+        ends = tt;
+        left = refl;
+        out = cut.front;
+      },
+    )
+
+pub returns : goal.returns
+returns g c = λ left before known held.
+    let inv = c.serving.invariant.serves left before known held in (
+      inv.0,
+      inv.1,
+      inv.3,
+      inv.4,
+      record {
+        count = inv.2;
+        said = inv.1;
+        last = serving_at c.serving.sources c.serving.arrivals c.serving.session c.serving.out.seq c.serving.inbox inv.0;
+        read = c.serving.inbox;
+        serves = inv.5;
+        ends = tt;
+        left = refl;
+        out = ([], sym (append-nil inv.1));
+      },
+    )

@@ -7,3 +7,23 @@ pub returns-in-Ok : goal.returns-in-Ok
 returns-in-Ok g c =
     content_so g.S.ProgramFiles.gives c.args.sources.now c.answer.new.sources c.args.session.now c.answer.new.session c.args.content.now c.in-Ok.request c.args.out.now c.answer.new.out c.answer.result
     c.in-Ok.ensures.ok c.answer.ensures
+
+pub returns-in-Err-Json : goal.returns-in-Err-Json
+returns-in-Err-Json g c =
+    declined_so g.S.ProgramFiles.gives c.args.sources.now c.args.session.now c.args.content.now fault.Json c.args.out.now c.decline.new.out c.decline.result (λ same. cc)
+    (rw c.in-Err-Json.field-0-is at c.in-Err-Json.ensures.err) c.decline.ensures
+
+pub returns-in-Err-Kind : goal.returns-in-Err-Kind
+returns-in-Err-Kind g c =
+    declined_so g.S.ProgramFiles.gives c.args.sources.now c.args.session.now c.args.content.now fault.Kind c.args.out.now c.decline-in-Err-Kind.new.out c.decline-in-Err-Kind.result (λ same. cc)
+    (rw c.in-Err-Kind.field-0-is at c.in-Err-Kind.ensures.err) c.decline-in-Err-Kind.ensures
+
+pub returns-in-Err-Seq : goal.returns-in-Err-Seq
+returns-in-Err-Seq g c =
+    declined_so g.S.ProgramFiles.gives c.args.sources.now c.args.session.now c.args.content.now fault.Seq c.args.out.now c.decline-in-Err-Seq.new.out c.decline-in-Err-Seq.result (λ same. cc)
+    (rw c.in-Err-Seq.field-0-is at c.in-Err-Seq.ensures.err) c.decline-in-Err-Seq.ensures
+
+pub returns-in-Err-Command : goal.returns-in-Err-Command
+returns-in-Err-Command g c =
+    declined_so g.S.ProgramFiles.gives c.args.sources.now c.args.session.now c.args.content.now fault.Command c.args.out.now c.decline-in-Err-Command.new.out c.decline-in-Err-Command.result (λ same. cc)
+    (rw c.in-Err-Command.field-0-is at c.in-Err-Command.ensures.err) c.decline-in-Err-Command.ensures

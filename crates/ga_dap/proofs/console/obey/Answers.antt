@@ -1,0 +1,31 @@
+use Rattle.std.proofs.Common.{◌≡◌, ◌∙◌, ℕ, Bool, List, Some, length, ap, subst}
+use Rattle.std.specs.Prelude.{◌||◌, ◌==◌, not}
+use Rattle.ga_causal.specs.Dependence.{is_marked}
+use Rattle.ga_text.specs.Lines.{Text}
+use Rattle.ga_dap.specs.Evaluating.{Commands, AnswerTold}
+use Rattle.ga_dap.specs.Telling.{has_moved}
+use Rattle.ga_dap.proofs.Sends.{carries_so}
+use Rattle.ga_dap.proofs.Shown.{shown_so}
+use Rattle.ga_dap.proofs.console.obey.Goals as goal
+
+pub returns-in-Ok-Some : goal.returns-in-Ok-Some
+returns-in-Ok-Some c =
+    let before = is_marked c.shown_nodes-before.result in
+    let shown = shown_so c.args.program.now c.as_slice.result.now before c.as_slice.ensures.value c.shown_nodes-before.ensures.marks in
+    let told = rw c.in-Ok-Some.field-0-is at c.in-Ok-Some.ensures.told in
+    let moved : c.has_moved-moved.result ≡ has_moved c.args.program.now.lab c.command_text.new.program.lab =
+    c.has_moved-moved.ensures
+    ∙ ap (λ (z : ℕ). not (z == length c.command_text.new.program.lab.kept) || not (c.counts-counts.result.made == c.command_text.new.program.lab.made)) c.counts-counts.ensures.kept
+    ∙ ap (λ (z : ℕ). not (length c.args.program.now.lab.kept == length c.command_text.new.program.lab.kept) || not (z == c.command_text.new.program.lab.made)) c.counts-counts.ensures.made in
+    carries_so c.tell_command_twice.result _ _ _ _ _ _ c.tell_command_twice.ensures
+    (λ messages answered. (
+      Some c.in-Ok-Some.answer.items,
+      subst (λ (z : Text). Commands c.args.program.now z c.command_text.new.program (Some c.in-Ok-Some.answer.items)) c.as_bytes.ensures.value told,
+      (
+        before,
+        shown,
+        subst (λ (z : Bool). AnswerTold c.args.request.now c.in-Ok-Some.answer.items z before c.command_text.new.program c.args.node messages) moved
+            (subst (λ (z : Text). AnswerTold c.args.request.now z c.has_moved-moved.result before c.command_text.new.program c.args.node messages) c.as_slice-in-Ok-Some.ensures.value answered),
+      ),
+    ))
+    (λ stays. absurd stays)
