@@ -92,17 +92,19 @@ impl<R: Wait> Read for Arriving<R> {
             match self.parts.recv(&self.rt) {
                 Ok(Part::Bytes { count, bytes }) => {
                     self.bytes = bytes;
-                    self.count = count.min(BLOCK);
+                    self.count = count;
                     self.taken = 0;
                 }
                 Ok(Part::Failed) => return Err(io::ErrorKind::Other.into()),
                 Err(_) => return Ok(0),
             }
         }
-        let left = &self.bytes[self.taken..self.count];
+        let end = self.count.min(BLOCK);
+        let start = self.taken.min(end);
+        let left = &self.bytes[start..end];
         let count = left.len().min(buf.len());
         buf[..count].copy_from_slice(&left[..count]);
-        self.taken += count;
+        self.taken = start + count;
         Ok(count)
     }
 }
