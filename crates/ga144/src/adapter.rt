@@ -1,7 +1,6 @@
 //! `ga144 dap`: a session of an editor over the standard streams.
 
-use crate::arriving::begin_reading;
-use ga_dap::{ProgramFiles, SessionEnd, SourceError, serve_client};
+use ga_dap::{Arrivals, ProgramFiles, SessionEnd, SourceError, serve_client};
 use std::alloc::Global;
 use std::fs::File;
 use std::io;
@@ -52,26 +51,23 @@ fn cause_of(kind: ErrorKind) -> SourceError {
     }
 }
 
+/// Tells that there is no memory.
+pub fn out_of_memory(rt: &HostRuntime) -> ExitCode {
+    let _ = eprintln!(rt; "ga144: out of memory");
+    ExitCode::from(1)
+}
+
 /// Serves an editor, and says how that ended.
-pub fn serve_editor(rt: &HostRuntime) -> ExitCode {
-    let Ok((mut reader, mut arrivals)) = begin_reading(*rt) else {
-        let _ = eprintln!(rt; "ga144: out of memory");
-        return ExitCode::from(1);
-    };
+pub fn serve_editor<R: Read, A: Arrivals>(
+    rt: &HostRuntime,
+    reader: &mut R,
+    arrivals: &mut A,
+) -> ExitCode {
     let mut sources = Files { rt };
     let mut writer = rt.stdout();
-    match serve_client(
-        rt.alloc(),
-        &mut sources,
-        &mut arrivals,
-        &mut reader,
-        &mut writer,
-    ) {
+    match serve_client(rt.alloc(), &mut sources, arrivals, reader, &mut writer) {
         SessionEnd::Done => ExitCode::from(0),
-        SessionEnd::Memory => {
-            let _ = eprintln!(rt; "ga144: out of memory");
-            ExitCode::from(1)
-        }
+        SessionEnd::Memory => out_of_memory(rt),
         SessionEnd::Broken(why) => {
             let _ = eprintln!(rt; "ga144: {why}");
             ExitCode::from(2)

@@ -4,7 +4,9 @@
 use crossbeam_channel::{Receiver, Sender, bounded};
 use ga_dap::Arrivals;
 use std::alloc::{AllocError, Global};
-use std::io::Read;
+use std::io::{Read, Stdin};
+use std::sync::Wait;
+use std::thread::Threads;
 use std::{io, thread};
 
 /// How many bytes a block has at most.
@@ -22,10 +24,10 @@ enum Part {
     Failed,
 }
 
-/// What comes of standard input.
+/// What comes of an input.
 #[derive(Drop)]
-pub struct Arriving {
-    rt: HostRuntime,
+pub struct Arriving<R> {
+    rt: R,
     parts: Receiver<Part, Global>,
     /// The bytes of the last part, and how many of them were taken.
     bytes: [u8; BLOCK],
@@ -39,14 +41,18 @@ pub struct Arrived {
     parts: Receiver<Part, Global>,
 }
 
-/// Begins to read standard input.
+/// Begins to read an input.
 ///
 /// # Errors
 /// Memory or a thread was refused.
-pub fn begin_reading(rt: HostRuntime) -> Result<(Arriving, Arrived), AllocError> {
-    let (to, from) = bounded(rt.alloc(), WAITING)?;
+pub fn begin_reading<R: Threads + Wait + Copy + Send + 'static>(
+    rt: R,
+    alloc: Global,
+    input: Stdin,
+) -> Result<(Arriving<R>, Arrived), AllocError> {
+    let (to, from) = bounded(alloc, WAITING)?;
     let parts = from.clone()?;
-    match thread::spawn(&rt, move || hand_over(&rt, to)) {
+    match thread::spawn(&rt, move || hand_over(&rt, input, to)) {
         Ok(_) => {}
         Err(_) => return Err(AllocError),
     }
@@ -60,9 +66,9 @@ pub fn begin_reading(rt: HostRuntime) -> Result<(Arriving, Arrived), AllocError>
     Ok((arriving, Arrived { parts }))
 }
 
-/// Reads standard input to its end, and hands over what comes.
-fn hand_over(rt: &HostRuntime, to: Sender<Part, Global>) {
-    let mut input = rt.stdin();
+/// Reads an input to its end, and hands over what comes.
+fn hand_over<R: Wait>(rt: &R, input: Stdin, to: Sender<Part, Global>) {
+    let mut input = input;
     for _ in 0..u64::MAX {
         let (part, is_last) = next_part(&mut input);
         if to.send(rt, part).is_err() || is_last {
@@ -80,23 +86,25 @@ fn next_part<R: Read>(input: &mut R) -> (Part, bool) {
     }
 }
 
-impl Read for Arriving {
+impl<R: Wait> Read for Arriving<R> {
     fn read(&mut self, buf: &mut [u8]) -> io::Result<usize> {
         if self.taken >= self.count {
             match self.parts.recv(&self.rt) {
                 Ok(Part::Bytes { count, bytes }) => {
                     self.bytes = bytes;
-                    self.count = count.min(BLOCK);
+                    self.count = count;
                     self.taken = 0;
                 }
                 Ok(Part::Failed) => return Err(io::ErrorKind::Other.into()),
                 Err(_) => return Ok(0),
             }
         }
-        let left = &self.bytes[self.taken..self.count];
+        let end = self.count.min(BLOCK);
+        let start = self.taken.min(end);
+        let left = &self.bytes[start..end];
         let count = left.len().min(buf.len());
         buf[..count].copy_from_slice(&left[..count]);
-        self.taken += count;
+        self.taken = start + count;
         Ok(count)
     }
 }

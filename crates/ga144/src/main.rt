@@ -11,7 +11,8 @@ mod arriving;
 ghost use Rattle.std.specs.Prelude.{IfOk};
 ghost use Rattle.ga_console.specs.Settings.{AreInRange};
 
-use adapter::serve_editor;
+use adapter::{out_of_memory, serve_editor};
+use arriving::begin_reading;
 use ga_check::orders::Bounds;
 use ga_console::{LineFault, Settings, Status, arguments, race_report, session};
 use ga_explorer::{close, explore, is_cut_off};
@@ -86,7 +87,10 @@ fn main(rt: HostRuntime) -> ExitCode {
             };
             checked(&rt, &rt, runs, progress, &file)
         }
-        Ok(Settings::Dap) => serve_editor(&rt),
+        Ok(Settings::Dap) => match begin_reading(rt, rt.alloc(), rt.stdin()) {
+            Ok((mut reader, mut arrivals)) => serve_editor(&rt, &mut reader, &mut arrivals),
+            Err(_) => out_of_memory(&rt),
+        },
         Ok(Settings::Explore { limit, file }) => served(&rt, Work::Explore { limit }, &file),
         Ok(Settings::Assemble { file }) => served(&rt, Work::Assemble, &file),
         Ok(Settings::List { file }) => served(&rt, Work::List, &file),
