@@ -15,8 +15,9 @@ use ga_breakpoints::{Breakpoint, Halt, Stepping, Went, go_on, step_on};
 use ga_grid::NodeId;
 use ga_lab::{Lab, LabFault, Made};
 use ga_notes::Notes;
+use ga_races::find_stuck;
 use ga_responses::Debuggee;
-use ga_search::{Schedule, find_stuck};
+use ga_search::Schedule;
 
 /// How many events are made before the client is listened to again.
 pub const SLICE: u64 = 4096;
