@@ -22,3 +22,4 @@ pub mod Nexts
 pub mod Rounds
 pub mod Stuck
 pub mod Freeing
+mod Same

@@ -1,5 +1,4 @@
 pub mod Counted
-pub mod Idle
 pub mod Numbers
 pub mod Ready
 pub mod Needs
