@@ -4,7 +4,7 @@ use Rattle.std.proofs.lemmas.List.{drop_all}
 use Rattle.ga_explorer.specs.Forms.{place_from}
 use Rattle.ga_explorer.specs.kept.Forms.{entry_of}
 use Rattle.ga_explorer.proofs.Finding.{place_here, place_behind}
-use Rattle.ga_explorer.proofs.commands.place_among.Goals as goal
+use Rattle.ga_explorer.proofs.forms.place_among.Goals as goal
 
 pub returns-then-eq : goal.returns-then-eq
 returns-then-eq c =
