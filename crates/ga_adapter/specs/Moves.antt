@@ -25,14 +25,15 @@ stepped_back s node = gone_back s node (steps_of node.number s.kept - 1)
 
 -- ---- what is watched of a node: that it comes to a slot, or writes a cell of RAM, of which each has two addresses. Each is something that a step does, and no state that lasts.
 
--- A step by which a node can come to a slot: no wait or stop, by which it stays where it stood, and not the fetch of the slot's own word, before
--- which it came there.
-abbrev pub arrives_by : Kind → Bool
-arrives_by (kind.Run code) = true
-arrives_by _ = false
+-- A step by which a node can come to a slot: no wait or stop, by which it stays where it stood, and no fetch of the slot's own word, before which it
+-- came there, but for its first step: where a node stands at load it came by none.
+abbrev pub arrives_by : ℕ → Kind → Bool
+arrives_by step (kind.Run code) = true
+arrives_by step kind.Fetch = step == 1
+arrives_by step _ = false
 
 abbrev pub arrives : Option Made → Bool
-arrives (Some (made.Own node step kind)) = arrives_by kind
+arrives (Some (made.Own node step kind)) = arrives_by step kind
 arrives (Some (made.Pass writer i reader j word)) = true
 arrives None = false
 

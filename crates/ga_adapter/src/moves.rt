@@ -50,9 +50,11 @@ fn arrives(told: &Option<Made>) -> bool
     ensures { result ≡ arrives told.now }
 {
     match told {
-        Some(Made::Own { kind, .. }) => match kind {
+        Some(Made::Own { step, kind, .. }) => match kind {
             Kind::Run(_) => true,
-            _ => false,
+            Kind::Fetch => *step == 1,
+            Kind::Wait => false,
+            Kind::Stop(_) => false,
         },
         Some(Made::Pass { .. }) => true,
         None => false,
