@@ -11,8 +11,8 @@ use Rattle.ga_lab.specs.Machine.{State, history_of, rewound}
 use Rattle.ga_origin.specs.declared.writes.CellWrite.{CellWrite}
 use Rattle.ga_origin.specs.Writes.{newest_written}
 use Rattle.ga_adapter.specs.declared.spots.Spot.{Spot}
-use Rattle.ga_adapter.specs.declared.moves.Watched.{Watched}
-use Rattle.ga_adapter.specs.declared.moves.Watched.TheVariants.{Comes, Writes}
+use Rattle.ga_breakpoints.specs.declared.back.Watched.{Watched}
+use Rattle.ga_breakpoints.specs.declared.back.Watched.TheVariants.{Comes, Writes}
 use Rattle.ga_adapter.specs.Spots.{spot_behind}
 
 -- The machine where a node keeps so many of its steps: the next one is rolled back with all that depends on it, and nothing else.
