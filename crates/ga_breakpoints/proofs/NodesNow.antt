@@ -26,8 +26,8 @@ use Rattle.ga_notes.specs.Source.{cell_of_address}
 use Rattle.ga_origin.specs.Origins.{place_after, node_after}
 use Rattle.ga_adapter.specs.declared.spots.Spot.{Spot}
 use Rattle.ga_adapter.specs.Labels.{is_same_cell}
-use Rattle.ga_adapter.specs.Moves.{is_at_spot}
-use Rattle.ga_adapter.specs.Moves.{arrives, comes_to}
+use Rattle.ga_breakpoints.specs.Back.{is_at_spot}
+use Rattle.ga_breakpoints.specs.Back.{arrives, comes_to}
 use Rattle.ga_adapter.specs.Spots.{spot, spot_by, spot_behind}
 use Rattle.ga_breakpoints.specs.kept.Standing.{may_be}
 

@@ -1,3 +1,5 @@
+pub mod Back
+pub mod Lines
 pub mod Breakpoints
 pub mod Stepping
 pub mod Going

@@ -4,7 +4,8 @@ ghost use Rattle.std.specs.Prelude.{◌≡◌};
 ghost use Rattle.ga_notes.specs.Notes.{worded_slot};
 ghost use Rattle.ga_breakpoints.specs.Breakpoints.{on_slot, on_word, breakpoint_of_line, breakpoint_of_address};
 
-use ga_adapter::{Spot, Watched, memory_cell};
+use crate::back::Watched;
+use ga_adapter::{Spot, memory_cell};
 use ga_grid::NodeId;
 use ga_notes::{Notes, SlotWord};
 

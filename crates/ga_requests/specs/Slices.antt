@@ -12,8 +12,8 @@ use Rattle.ga_lab.specs.Machine.{State, chip_of}
 use Rattle.ga_search.specs.Running.{running, after_events}
 use Rattle.ga_search.specs.Watched.{after_first}
 use Rattle.ga_races.specs.Stuck.{AreStuck}
-use Rattle.ga_adapter.specs.declared.moves.Watched.{Watched}
-use Rattle.ga_adapter.specs.declared.moves.Watched.TheVariants as watched
+use Rattle.ga_breakpoints.specs.declared.back.Watched.{Watched}
+use Rattle.ga_breakpoints.specs.declared.back.Watched.TheVariants as watched
 use Rattle.ga_adapter.specs.Threads.{has_thread}
 use Rattle.ga_breakpoints.specs.declared.breakpoint.Breakpoint.{Breakpoint}
 use Rattle.ga_breakpoints.specs.declared.going.Halt.{Halt}

@@ -4,8 +4,7 @@ ghost use Rattle.std.specs.Prelude.{◌≡◌, map, IfOk};
 ghost use Rattle.ga_requests.specs.declared.configuration.SetBy.{SetBy as ASetBy};
 ghost use Rattle.ga_requests.specs.Breakpoints.{family_number, is_of_another};
 
-use ga_adapter::Watched;
-use ga_breakpoints::{Breakpoint, Halts};
+use ga_breakpoints::{Breakpoint, Halts, Watched};
 use ga_grid::NodeId;
 use std::alloc::{AllocError, Global};
 

@@ -10,8 +10,8 @@ ghost use Rattle.ga_causal.specs.Dependence.{is_marked};
 ghost use Rattle.ga_requests.specs.Slices.{slice_limit, GoesOn, StepsOn, Advances, MarksStuck, MakesSliceOf, MakesSlice, IsFirstNewly, is_newly_by, is_newly, hit_at, hit_of, end_of_move, node_told, stop_by, ended_stuck, goal_behind};
 
 use crate::configuration::Configuration;
-use ga_adapter::{Watched, has_thread};
-use ga_breakpoints::{Breakpoint, Halt, Stepping, Went, go_on, step_on};
+use ga_adapter::has_thread;
+use ga_breakpoints::{Breakpoint, Halt, Stepping, Watched, Went, go_on, step_on};
 use ga_grid::NodeId;
 use ga_lab::{Lab, LabFault, Made};
 use ga_notes::Notes;

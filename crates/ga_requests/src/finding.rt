@@ -7,8 +7,7 @@ ghost use Rattle.ga_responses.specs.Disassembling.{offset_given, cells_on};
 ghost use Rattle.ga_requests.specs.Placing.{line_asked, found_on_line, is_label, at_any_label, at_label_of, names_node, node_named_before, at_label, at_cell_on, on_writes, on_no_line, unfound_words, IsReferredBy, IsPlaceOf};
 
 use crate::configuration::Family;
-use ga_adapter::Watched;
-use ga_breakpoints::{Breakpoint, breakpoint_of_address, breakpoint_of_line};
+use ga_breakpoints::{Breakpoint, Watched, breakpoint_of_address, breakpoint_of_line};
 use ga_grid::NodeId;
 use ga_notes::{Name, Notes};
 use ga_protocol::{number_at, text_at};

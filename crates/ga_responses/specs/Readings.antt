@@ -12,7 +12,7 @@ use Rattle.ga_adapter.specs.declared.scope.Scope.{Scope}
 use Rattle.ga_adapter.specs.Threads.{threads_in}
 use Rattle.ga_adapter.specs.Frames.{stack_trace}
 use Rattle.ga_adapter.specs.Variables.{scopes_of, variables_in}
-use Rattle.ga_adapter.specs.Exceptions.{exception_of}
+use Rattle.ga_responses.specs.Exceptions.{exception_of}
 use Rattle.ga_protocol.specs.declared.request.ClientRequest.{ClientRequest}
 use Rattle.ga_responses.specs.declared.debuggee.Debuggee.{Debuggee}
 use Rattle.ga_responses.specs.Arguments.{AsksOfThread, AsksOfFrame, AsksForVariables, number_given_or}

@@ -1,10 +1,10 @@
 //! The moves of an editor that go forward, over a program with calls and one that stores.
 
 use crate::asserts::same;
-use ga_adapter::{Spot, Watched, step_back_line};
+use ga_adapter::Spot;
 use ga_breakpoints::{
-    Breakpoint, Grain, Halt, Halts, Stepping, Went, breakpoint_of_address, breakpoint_of_line,
-    go_on, step_on,
+    Breakpoint, Grain, Halt, Halts, Stepping, Watched, Went, breakpoint_of_address,
+    breakpoint_of_line, go_on, step_back_line, step_on,
 };
 use ga_grid::NodeId;
 use ga_lab::Lab;

@@ -2,10 +2,8 @@
 
 use crate::adapter::assert_body;
 use crate::asserts::same;
-use ga_adapter::{
-    SourceFile, Spot, Watched, disassembled, open_calls, reverse_continue, spot_behind,
-    stack_trace, step_back, step_back_line,
-};
+use ga_adapter::{SourceFile, Spot, disassembled, open_calls, spot_behind, stack_trace};
+use ga_breakpoints::{Watched, reverse_continue, step_back, step_back_line};
 use ga_grid::NodeId;
 use ga_lab::Lab;
 use ga_notes::{Notes, notes_of};

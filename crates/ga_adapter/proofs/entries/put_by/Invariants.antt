@@ -1,7 +1,7 @@
 use Rattle.std.proofs.Common.{◌≡◌, ◌≤◌, ◌<◌}
 use Rattle.ga_lab.specs.Machine.{standing}
 use Rattle.ga_adapter.specs.Calls.{put_by}
-use Rattle.ga_adapter.proofs.stepping.put_by.Given as goal
+use Rattle.ga_adapter.proofs.entries.put_by.Given as goal
 
 abbrev pub invariant-following : goal.invariant-following
 invariant-following l = record {

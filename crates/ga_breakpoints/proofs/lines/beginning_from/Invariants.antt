@@ -1,8 +1,8 @@
 use Rattle.std.proofs.Common.{◌≡◌, ◌≤◌}
 use Rattle.ga_lab.specs.Machine.{standing}
 use Rattle.ga_adapter.specs.Spots.{spot_behind}
-use Rattle.ga_adapter.specs.Stepping.{beginning_from}
-use Rattle.ga_adapter.proofs.stepping.beginning_from.Given as goal
+use Rattle.ga_breakpoints.specs.Lines.{beginning_from}
+use Rattle.ga_breakpoints.proofs.lines.beginning_from.Given as goal
 
 abbrev pub invariant-going : goal.invariant-going
 invariant-going l = record {

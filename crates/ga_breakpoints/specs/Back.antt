@@ -11,8 +11,8 @@ use Rattle.ga_lab.specs.Machine.{State, history_of, rewound}
 use Rattle.ga_origin.specs.declared.writes.CellWrite.{CellWrite}
 use Rattle.ga_origin.specs.Writes.{newest_written}
 use Rattle.ga_adapter.specs.declared.spots.Spot.{Spot}
-use Rattle.ga_adapter.specs.declared.moves.Watched.{Watched}
-use Rattle.ga_adapter.specs.declared.moves.Watched.TheVariants.{Comes, Writes}
+use Rattle.ga_breakpoints.specs.declared.back.Watched.{Watched}
+use Rattle.ga_breakpoints.specs.declared.back.Watched.TheVariants.{Comes, Writes}
 use Rattle.ga_adapter.specs.Spots.{spot_behind}
 
 -- The machine where a node keeps so many of its steps: the next one is rolled back with all that depends on it, and nothing else.
@@ -25,14 +25,15 @@ stepped_back s node = gone_back s node (steps_of node.number s.kept - 1)
 
 -- ---- what is watched of a node: that it comes to a slot, or writes a cell of RAM, of which each has two addresses. Each is something that a step does, and no state that lasts.
 
--- A step by which a node can come to a slot: no wait or stop, by which it stays where it stood, and not the fetch of the slot's own word, before
--- which it came there.
-abbrev pub arrives_by : Kind → Bool
-arrives_by (kind.Run code) = true
-arrives_by _ = false
+-- A step by which a node can come to a slot: no wait or stop, by which it stays where it stood, and no fetch of the slot's own word, before which it
+-- came there, but for its first step: where a node stands at load it came by none.
+abbrev pub arrives_by : ℕ → Kind → Bool
+arrives_by step (kind.Run code) = true
+arrives_by step kind.Fetch = step == 1
+arrives_by step _ = false
 
 abbrev pub arrives : Option Made → Bool
-arrives (Some (made.Own node step kind)) = arrives_by kind
+arrives (Some (made.Own node step kind)) = arrives_by step kind
 arrives (Some (made.Pass writer i reader j word)) = true
 arrives None = false
 

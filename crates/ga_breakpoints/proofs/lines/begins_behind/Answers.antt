@@ -1,7 +1,7 @@
 use Rattle.std.proofs.Common.{ap, ◌∙◌}
-use Rattle.ga_adapter.specs.Stepping.{op_told}
-use Rattle.ga_adapter.proofs.Beginnings.{begins_so}
-use Rattle.ga_adapter.proofs.stepping.begins_behind.Goals as goal
+use Rattle.ga_breakpoints.specs.Lines.{op_told}
+use Rattle.ga_breakpoints.proofs.Beginnings.{begins_so}
+use Rattle.ga_breakpoints.proofs.lines.begins_behind.Goals as goal
 
 pub returns : goal.returns
 returns c =

@@ -1,6 +1,6 @@
 use Rattle.std.proofs.Common.{sym, ◌∙◌, arith}
-use Rattle.ga_adapter.proofs.Comings.{came_here, came_before, came_never}
-use Rattle.ga_adapter.proofs.moves.newest_come.Goals as goal
+use Rattle.ga_breakpoints.proofs.Comings.{came_here, came_before, came_never}
+use Rattle.ga_breakpoints.proofs.back.newest_come.Goals as goal
 
 pub going-preserved : goal.going-preserved
 going-preserved c = record {

@@ -3,7 +3,7 @@ use Rattle.std.proofs.Common.{◌≡◌, ◌<◌, ◌+◌, ◌-◌, ℕ, suc, Bo
 use Rattle.ga_grid.specs.declared.node_id.NodeId.{NodeId}
 use Rattle.ga_lab.specs.Machine.{State}
 use Rattle.ga_adapter.specs.declared.spots.Spot.{Spot}
-use Rattle.ga_adapter.specs.Moves.{comes_to, newest_come}
+use Rattle.ga_breakpoints.specs.Back.{comes_to, newest_come}
 
 came_so : (s : State) (node : NodeId) (at : Spot) (step : ℕ) (comes : Bool) → 0 < step → comes ≡ comes_to s node at (step - 1)
     → newest_come s node at step ≡ cond comes (Some step) (newest_come s node at (step - 1))

@@ -2,9 +2,9 @@
 
 ghost use Rattle.std.specs.Prelude.{◌≡◌, IfOk};
 ghost use Rattle.serde_json.specs.View.{view};
-ghost use Rattle.ga_adapter.specs.Exceptions.{exception_filter, exception_object, exception_of};
+ghost use Rattle.ga_responses.specs.Exceptions.{exception_filter, exception_object, exception_of};
 
-use crate::doing::named_doing;
+use ga_adapter::named_doing;
 use ga_grid::NodeId;
 use ga_lab::Lab;
 use serde_json::{Value, json};

@@ -3,9 +3,9 @@
 ghost use Rattle.std.specs.Prelude.{◌≡◌, ◌<◌, ◌≤◌, ◌+◌, ℕ, Ok};
 ghost use Rattle.ga_event.specs.Told.{steps_of};
 ghost use Rattle.ga_lab.specs.Machine.{standing, rewind_answer};
-ghost use Rattle.ga_adapter.specs.Moves.{gone_back, stepped_back, arrives, is_at_spot, comes_to, newest_come, steps_left, later_of, latest_left, reversed};
+ghost use Rattle.ga_breakpoints.specs.Back.{gone_back, stepped_back, arrives, is_at_spot, comes_to, newest_come, steps_left, later_of, latest_left, reversed};
 
-use crate::spots::{Spot, spot_back};
+use ga_adapter::{Spot, spot_back};
 use ga_grid::NodeId;
 use ga_lab::{Lab, Made, Walk};
 use ga_node::Kind;
@@ -50,9 +50,11 @@ fn arrives(told: &Option<Made>) -> bool
     ensures { result ≡ arrives told.now }
 {
     match told {
-        Some(Made::Own { kind, .. }) => match kind {
+        Some(Made::Own { step, kind, .. }) => match kind {
             Kind::Run(_) => true,
-            _ => false,
+            Kind::Fetch => *step == 1,
+            Kind::Wait => false,
+            Kind::Stop(_) => false,
         },
         Some(Made::Pass { .. }) => true,
         None => false,

@@ -4,11 +4,9 @@ ghost use Rattle.std.specs.Prelude.{◌≡◌, ◌≢◌, ◌<◌, ◌↔◌, �
 ghost use Rattle.serde_json.specs.View.{view};
 ghost use Rattle.ga_adapter.specs.declared.scope.Scope.TheVariants.{Registers};
 ghost use Rattle.ga_adapter.specs.Shown.{IsVariable, variable_at, variable_count, variable_name};
-ghost use Rattle.ga_adapter.specs.Evaluating.{cell_in_brackets, AsksForVariable, AsksForNoVariable, result_object, evaluated};
+ghost use Rattle.ga_responses.specs.Evaluating.{cell_in_brackets, AsksForVariable, AsksForNoVariable, result_object, evaluated};
 
-use crate::scope::Scope;
-use crate::values::value_of;
-use crate::variable::{Variable, count_of, name_of, variable_of};
+use ga_adapter::{Scope, Variable, count_of, value_of, variable_name, variable_of};
 use ga_grid::NodeId;
 use ga_lab::Lab;
 use ga_text::byte_of;
@@ -20,7 +18,7 @@ fn has_name(alloc: Global, one: Variable, name: &str) -> Result<bool, AllocError
     requires { IsVariable one }
     ensures { IfOk result (λ same. IsTrue same ↔ (variable_name one ≡ name.now)) }
 {
-    let own = name_of(alloc, one)?;
+    let own = variable_name(alloc, one)?;
     Ok(own.as_str() == name)
 }
 

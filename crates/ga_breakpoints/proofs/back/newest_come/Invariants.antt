@@ -1,7 +1,7 @@
 use Rattle.std.proofs.Common.{◌≡◌, ◌≤◌}
 use Rattle.ga_lab.specs.Machine.{standing}
-use Rattle.ga_adapter.specs.Moves.{newest_come}
-use Rattle.ga_adapter.proofs.moves.newest_come.Given as goal
+use Rattle.ga_breakpoints.specs.Back.{newest_come}
+use Rattle.ga_breakpoints.proofs.back.newest_come.Given as goal
 
 abbrev pub invariant-going : goal.invariant-going
 invariant-going l = record {

@@ -2,9 +2,9 @@ use Rattle.std.proofs.Common.{sym, ap, ◌∙◌, ◌-◌, arith}
 use Rattle.ga_lab.specs.Machine.{Standing}
 use Rattle.ga_origin.proofs.Made.{stands_so}
 use Rattle.ga_adapter.specs.Spots.{spot_behind}
-use Rattle.ga_adapter.specs.Stepping.{op_told, beginning_from}
-use Rattle.ga_adapter.proofs.Beginnings.{began_here, began_before, began_at_load, none_looked_at}
-use Rattle.ga_adapter.proofs.stepping.beginning_from.Goals as goal
+use Rattle.ga_breakpoints.specs.Lines.{op_told, beginning_from}
+use Rattle.ga_breakpoints.proofs.Beginnings.{began_here, began_before, began_at_load, none_looked_at}
+use Rattle.ga_breakpoints.proofs.lines.beginning_from.Goals as goal
 
 pub going-preserved : goal.going-preserved
 going-preserved c =

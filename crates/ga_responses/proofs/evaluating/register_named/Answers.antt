@@ -1,7 +1,7 @@
 use Rattle.std.proofs.Common.{◌≡◌, ◌∙◌, sym, ap, true≢false, below_more}
 use Rattle.ga_adapter.specs.declared.scope.Scope.TheVariants.{Registers}
 use Rattle.ga_adapter.specs.Shown.{variable_at, variable_name}
-use Rattle.ga_adapter.proofs.evaluating.register_named.Goals as goal
+use Rattle.ga_responses.proofs.evaluating.register_named.Goals as goal
 
 pub registers-preserved : goal.registers-preserved
 registers-preserved c =

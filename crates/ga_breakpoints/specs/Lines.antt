@@ -15,7 +15,7 @@ use Rattle.ga_notes.specs.declared.slot_word.SlotWord.{SlotWord}
 use Rattle.ga_adapter.specs.declared.spots.Spot.{Spot}
 use Rattle.ga_adapter.specs.Calls.{put_by, is_calling}
 use Rattle.ga_adapter.specs.Labels.{line_at, line_start}
-use Rattle.ga_adapter.specs.Moves.{gone_back}
+use Rattle.ga_breakpoints.specs.Back.{gone_back}
 use Rattle.ga_adapter.specs.Spots.{spot_behind}
 
 -- ---- places of a node: behind so many of its steps

@@ -1,6 +1,6 @@
 use Rattle.std.proofs.Common.{sym, ◌∙◌, arith}
-use Rattle.ga_adapter.proofs.Beginnings.{put_before, put_here, put_at_load}
-use Rattle.ga_adapter.proofs.stepping.put_by.Goals as goal
+use Rattle.ga_adapter.proofs.Entries.{put_before, put_here, put_at_load}
+use Rattle.ga_adapter.proofs.entries.put_by.Goals as goal
 
 pub following-preserved : goal.following-preserved
 following-preserved c = record {
