@@ -1,6 +1,6 @@
 //! Events in the order of a schedule.
 
-ghost use Rattle.std.specs.Prelude.{◌≡◌, ◌≤◌, ◌+◌, ℕ, length, Ok, IfOk, IfErr, IfSome, IsSome, OnOk, OnErr, Some};
+ghost use Rattle.std.specs.Prelude.{◌≡◌, ◌≤◌, ◌+◌, ℕ, length, Ok, Err, IfOk, IfErr, IfSome, IsSome, IsOk, OnOk, OnErr, Some, ◌⊎◌};
 ghost use Rattle.ga_event.specs.Apply.{replay};
 ghost use Rattle.ga_lab.specs.Machine.{chip_of, step_answer, stepped};
 ghost use Rattle.ga_search.specs.Words.{one_over, word_count};
@@ -45,7 +45,21 @@ pub struct Ran {
     pub schedule: Schedule,
 }
 
-// Makes this node's next event, and looks at what that may have changed.
+// A node's next event: by a step that stands where this is called, or by a call of it.
+#[inline(always)]
+fn step_once(lab: &mut Lab, node: NodeId, is_here: bool) -> Result<Made, LabFault>
+    ensures answer { (result ≡ step_answer lab.old node) ⊎ ((result ≡ Err LabFault.Memory) × IsOk (step_answer lab.old node)) }
+    ensures ok { OnOk result (lab.new ≡ stepped lab.old node) }
+    ensures err { OnErr result (lab.new ≡ lab.old) }
+{
+    if is_here {
+        lab.step_inlined(node)
+    } else {
+        lab.step(node)
+    }
+}
+
+// Makes this node's next event, by such a step, and looks at what that may have changed.
 #[inline(always)]
 pub(crate) fn make(
     lab: &mut Lab,
@@ -53,6 +67,7 @@ pub(crate) fn make(
     alone: &mut Option<NodeId>,
     schedule: &mut Schedule,
     node: NodeId,
+    is_here: bool,
 ) -> Result<Made, LabFault>
     requires ready { HoldsReady (chip_of lab.old) ready.old }
     requires alone { IfSome alone.old (IsAlone ready.old) }
@@ -70,41 +85,7 @@ pub(crate) fn make(
     ensures same { OnErr result (lab.new ≡ lab.old) }
     ensures stays { OnErr result (schedule.new ≡ schedule.old) }
 {
-    match lab.step_inlined(node) {
-        Ok(made) => {
-            *schedule = schedule.pass_on(node);
-            refresh(ready, alone, lab.chip(), &made);
-            Ok(made)
-        }
-        Err(why) => Err(why),
-    }
-}
-
-// The same, out of the way of a node that runs.
-fn make_by_wait(
-    lab: &mut Lab,
-    ready: &mut Numbers,
-    alone: &mut Option<NodeId>,
-    schedule: &mut Schedule,
-    node: NodeId,
-) -> Result<Made, LabFault>
-    requires ready { HoldsReady (chip_of lab.old) ready.old }
-    requires alone { IfSome alone.old (IsAlone ready.old) }
-    requires replays { IsSome (replay lab.old.load lab.old.kept) }
-    ensures ok { IfOk result (λ made. step_answer lab.old node ≡ Ok made) }
-    ensures state { OnOk result (lab.new ≡ stepped lab.old node) }
-    ensures schedule { OnOk result (schedule.new ≡ passed_on schedule.old node) }
-    ensures ready { OnOk result (HoldsReady (chip_of lab.new) ready.new) }
-    ensures alone { OnOk result (IfSome alone.new (IsAlone ready.new)) }
-    ensures words { IfOk result (λ made. (writer reader : ℕ) →
-        word_count lab.new writer reader ≡ word_count lab.old writer reader + one_over writer reader made) }
-    ensures newest { IfOk result (λ made. newest_told lab.new ≡ Some made) }
-    ensures replays { OnOk result (IsSome (replay lab.new.load lab.new.kept)) }
-    ensures refused { IfErr result (λ why. IsRefusedFor why (step_answer lab.old node)) }
-    ensures same { OnErr result (lab.new ≡ lab.old) }
-    ensures stays { OnErr result (schedule.new ≡ schedule.old) }
-{
-    match lab.step(node) {
+    match step_once(lab, node, is_here) {
         Ok(made) => {
             *schedule = schedule.pass_on(node);
             refresh(ready, alone, lab.chip(), &made);
@@ -154,7 +135,7 @@ fn advance(
     match next_from(ready, alone, schedule.turn) {
         Some(node) => {
             if lab.node(node).not_ready().is_none() {
-                match make(lab, ready, alone, schedule, node) {
+                match make(lab, ready, alone, schedule, node, true) {
                     Ok(made) => {
                         let held = first_held(until, needs, words, &made, lab);
                         Ok(Seen { made, held })
@@ -162,7 +143,7 @@ fn advance(
                     Err(why) => Err(End::Refused(why)),
                 }
             } else {
-                match make_by_wait(lab, ready, alone, schedule, node) {
+                match make(lab, ready, alone, schedule, node, false) {
                     Ok(made) => {
                         let held = first_held(until, needs, words, &made, lab);
                         Ok(Seen { made, held })

@@ -92,6 +92,27 @@ pub(crate) fn first_held(
     if until.is_empty() {
         return None;
     }
+    first_among(until, needs, words, made, lab)
+}
+
+// The same where there are conditions: apart, since what it needs of memory is made ready where it begins.
+#[inline(always)]
+fn first_among(
+    until: &[Condition],
+    needs: &Needs,
+    words: &mut LinkCounts,
+    made: &Made,
+    lab: &Lab,
+) -> Option<u8>
+    requires needed { IsNeeded needs.now until.now }
+    requires most { length until.now ≤ 8 }
+    requires size { length words.old ≡ 8 }
+    requires counted { WereCounted until.now lab.now made.now words.old }
+    requires newest { newest_told lab.now ≡ Some made.now }
+    ensures first { result ≡ first_held until.now made.now lab.now }
+    ensures size { length words.new ≡ 8 }
+    ensures counted { AreCounted until.now lab.now words.new }
+{
     match made {
         // It carries no word.
         Made::Own { node, kind, .. } => {

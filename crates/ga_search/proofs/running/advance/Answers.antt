@@ -12,9 +12,9 @@ next_from-requires-clause-past c = nothing_past (chip_of c.args.lab.now) c.args.
 pub first_held-held-requires-clause-counted : goal.first_held-held-requires-clause-counted
 first_held-held-requires-clause-counted c = all_counted_on c.args.until.now c.args.lab.now c.make.new.lab c.in-Ok.made c.args.words.now c.in-Ok.ensures.words c.requires.counted
 
-pub first_held-held-requires-in-Ok-make_by_wait-clause-counted : goal.first_held-held-requires-in-Ok-make_by_wait-clause-counted
-first_held-held-requires-in-Ok-make_by_wait-clause-counted c =
-    all_counted_on c.args.until.now c.args.lab.now c.make_by_wait.new.lab c.in-Ok-make_by_wait.made c.args.words.now c.in-Ok-make_by_wait.ensures.words c.requires.counted
+pub first_held-held-requires-in-Ok-make-clause-counted : goal.first_held-held-requires-in-Ok-make-clause-counted
+first_held-held-requires-in-Ok-make-clause-counted c =
+    all_counted_on c.args.until.now c.args.lab.now c.make-else-is_none.new.lab c.in-Ok-make.made c.args.words.now c.in-Ok-make.ensures.words c.requires.counted
 
 pub returns-in-Ok-clause-told : goal.returns-in-Ok-clause-told
 returns-in-Ok-clause-told c =
@@ -34,23 +34,23 @@ returns-in-Err-clause-halted c =
     sym (choice_is (chip_of c.args.lab.now) c.args.ready.now c.args.schedule.now.turn.number c.requires.ready) ∙ sym c.in-Some.ensures.first in
     (c.in-Some.node, who, c.in-Err.ensures.refused)
 
-pub returns-in-Ok-make_by_wait-clause-told : goal.returns-in-Ok-make_by_wait-clause-told
-returns-in-Ok-make_by_wait-clause-told c =
+pub returns-in-Ok-make-clause-told : goal.returns-in-Ok-make-clause-told
+returns-in-Ok-make-clause-told c =
     let who : chosen (running c.args.lab.now c.args.schedule.now) ≡ Some c.in-Some.node =
     sym (choice_is (chip_of c.args.lab.now) c.args.ready.now c.args.schedule.now.turn.number c.requires.ready) ∙ sym c.in-Some.ensures.first in
-    told_is c.args.lab.now c.args.schedule.now c.in-Some.node c.in-Ok-make_by_wait.made who c.in-Ok-make_by_wait.ensures.ok
+    told_is c.args.lab.now c.args.schedule.now c.in-Some.node c.in-Ok-make.made who c.in-Ok-make.ensures.ok
 
-pub returns-in-Ok-make_by_wait-clause-moved : goal.returns-in-Ok-make_by_wait-clause-moved
-returns-in-Ok-make_by_wait-clause-moved c =
+pub returns-in-Ok-make-clause-moved : goal.returns-in-Ok-make-clause-moved
+returns-in-Ok-make-clause-moved c =
     let who : chosen (running c.args.lab.now c.args.schedule.now) ≡ Some c.in-Some.node =
     sym (choice_is (chip_of c.args.lab.now) c.args.ready.now c.args.schedule.now.turn.number c.requires.ready) ∙ sym c.in-Some.ensures.first in
-    moved_is c.args.lab.now c.make_by_wait.new.lab c.args.schedule.now c.make_by_wait.new.schedule c.in-Some.node who c.in-Ok-make_by_wait.ensures.state c.in-Ok-make_by_wait.ensures.schedule
+    moved_is c.args.lab.now c.make-else-is_none.new.lab c.args.schedule.now c.make-else-is_none.new.schedule c.in-Some.node who c.in-Ok-make.ensures.state c.in-Ok-make.ensures.schedule
 
-pub returns-in-Err-make_by_wait-clause-halted : goal.returns-in-Err-make_by_wait-clause-halted
-returns-in-Err-make_by_wait-clause-halted c =
+pub returns-in-Err-make-clause-halted : goal.returns-in-Err-make-clause-halted
+returns-in-Err-make-clause-halted c =
     let who : chosen (running c.args.lab.now c.args.schedule.now) ≡ Some c.in-Some.node =
     sym (choice_is (chip_of c.args.lab.now) c.args.ready.now c.args.schedule.now.turn.number c.requires.ready) ∙ sym c.in-Some.ensures.first in
-    (c.in-Some.node, who, c.in-Err-make_by_wait.ensures.refused)
+    (c.in-Some.node, who, c.in-Err-make.ensures.refused)
 
 pub returns-in-None-clause-halted : goal.returns-in-None-clause-halted
 returns-in-None-clause-halted c =
