@@ -36,3 +36,4 @@ pub mod AtMoments
 pub mod Glancing
 pub mod Showing
 pub mod Lefts
+pub mod Overs

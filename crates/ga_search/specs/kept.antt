@@ -12,3 +12,4 @@ pub mod Left
 pub mod Besides
 pub mod Around
 pub mod Glances
+pub mod Over
