@@ -18,3 +18,4 @@ pub mod Reaching
 pub mod Asking
 pub mod Shown
 pub mod Likeness
+pub mod Rounds

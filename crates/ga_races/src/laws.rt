@@ -17,6 +17,7 @@ ghost use Rattle.ga_causal.specs.Words.{account_read};
 ghost use Rattle.ga_races.specs.Exploring.{IsExplored};
 ghost use Rattle.ga_races.specs.HappensBefore.{Action, action_at, IsBound, IsClock, clock_after, action_of, actions, causes_in, are_bound, HappensBefore, IsStepOf, StandsBefore, made_at, IsNear, IsContended};
 ghost use Rattle.ga_races.specs.Kahn.{HasOneWriter};
+ghost use Rattle.ga_races.specs.Rounds.{events_without, IsRound, HasNoRound};
 ghost use Rattle.ga_races.specs.Orders.{CanBe, IsAtEnd, AreOrders, AreFree, IsRace, HasNoRace, AreRivals};
 
 /// Of two different events that can be made on a chip, either both can be made one after the other, in both orders with the same
@@ -165,4 +166,17 @@ pub fn clocks()
         ((earlier : ℕ) → IsBound actions earlier place →
         (clock : ℕ × (ℕ → ℕ)) × Contains known clock × ((earlier ≡ clock.0) ⊎ HappensBefore actions earlier clock.0)) →
         IsClock actions place (clock_after actions place known) }
+{}
+
+/// A node that polls makes rounds: events of its own that leave it as it was. A round by itself leads to the chip on which it began. What
+/// other nodes make within it they make without it too, since a node that runs shows them nothing: so a list without a round leads to
+/// the same chip, whatever the looks of the round read. A shortest list to a chip has no round, so the lists without one reach each
+/// chip that any list reaches.
+pub fn rounds()
+    ensures alone { (chip : List NodeRecord) (n : ℕ) (round : List Event) → IsRound chip n round → events_without n round ≡ [] →
+        replay chip round ≡ Some chip }
+    ensures left { (chip now : List NodeRecord) (before round later : List Event) (n : ℕ) → replay chip before ≡ Some now →
+        IsRound now n round → replay chip (before ++ round ++ later) ≡ replay chip (before ++ events_without n round ++ later) }
+    ensures shortest { (chip last : List NodeRecord) (events : List Event) → replay chip events ≡ Some last →
+        ((others : List Event) → replay chip others ≡ Some last → length events ≤ length others) → HasNoRound chip events }
 {}
