@@ -22,4 +22,5 @@ pub mod Nexts
 pub mod Rounds
 pub mod Stuck
 pub mod Freeing
+pub mod OwnRounds
 mod Same
