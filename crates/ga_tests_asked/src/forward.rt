@@ -4,7 +4,7 @@ use crate::asserts::same;
 use ga_adapter::{Spot, Watched, step_back_line};
 use ga_breakpoints::{
     Breakpoint, Grain, Halt, Halts, Stepping, Went, breakpoint_of_address, breakpoint_of_line,
-    go_on, step_on,
+    go_on, kept_hits, step_on,
 };
 use ga_grid::NodeId;
 use ga_lab::Lab;
@@ -37,6 +37,7 @@ fn moves(rt: &impl Abort, lab: &mut Lab, notes: &Notes, mut by: Stepping, wanted
     let halts = Halts {
         breakpoints: &[],
         stops: true,
+        tally: kept_hits(lab, &[]),
     };
     let went = step_on(lab, Schedule::in_rounds(), &mut by, notes, halts, 100);
     same(rt, &went.events, &wanted);
@@ -117,12 +118,15 @@ fn slices_stop_at_a_breakpoint(rt: HostRuntime) -> Result<(), Fail> {
     let second_dup = Breakpoint {
         node,
         watched: Watched::Comes(Spot { cell: 5, slot: 2 }),
+        condition: None,
+        hits: None,
     };
     same(&rt, &on_line.breakpoint, &second_dup);
     same(&rt, &on_line.line, &10);
     let halts = Halts {
         breakpoints: &[on_line.breakpoint],
         stops: true,
+        tally: kept_hits(&lab, &[]),
     };
     let slice = go_on(&mut lab, Schedule::greedily(), halts, 5);
     same(&rt, &slice.halt, &Halt::Cut);
@@ -141,6 +145,8 @@ fn a_store_is_stopped_at(rt: HostRuntime) -> Result<(), Fail> {
     let written = Breakpoint {
         node,
         watched: Watched::Writes(9),
+        condition: None,
+        hits: None,
     };
     let Some(main) = breakpoint_of_address(node, 0) else {
         panic!(&rt; "address 0 is a cell");
@@ -148,6 +154,7 @@ fn a_store_is_stopped_at(rt: HostRuntime) -> Result<(), Fail> {
     let halts = Halts {
         breakpoints: &[written, main],
         stops: true,
+        tally: kept_hits(&lab, &[]),
     };
     let hit = go_on(&mut lab, Schedule::greedily(), halts, 100);
     same(&rt, &hit.events, &7);
