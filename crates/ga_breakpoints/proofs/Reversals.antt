@@ -10,7 +10,7 @@ use Rattle.ga_origin.specs.Origins.{node_after}
 use Rattle.ga_origin.proofs.Made.{stood_of}
 use Rattle.ga_breakpoints.specs.declared.breakpoint.Breakpoint.{Breakpoint}
 use Rattle.ga_breakpoints.specs.declared.condition.HitCount.{HitCount}
-use Rattle.ga_breakpoints.specs.Conditions.{is_asked}
+use Rattle.ga_breakpoints.specs.Conditions.{is_hit_asked}
 use Rattle.ga_breakpoints.specs.Reversing.{has_hit, hits_among, newest_asked}
 
 -- a node that was walked back
@@ -35,33 +35,33 @@ hit_more s node one step hit some is =
 pub no_hits : (s : State) (node : NodeId) (one : Breakpoint) (step : ℕ) → step ≡ 0 → hits_among s node one step ≡ 0
 no_hits s node one step first = ap (hits_among s node one) first
 
-asked_so : (hits : Option HitCount) (a b : ℕ) → ((h : HitCount) → hits ≡ Some h → a ≡ b) → is_asked hits a ≡ is_asked hits b
+asked_so : (hits : Option HitCount) (a b : ℕ) → ((h : HitCount) → hits ≡ Some h → a ≡ b) → is_hit_asked hits a ≡ is_hit_asked hits b
 asked_so None a b f = refl
-asked_so (Some h) a b f = ap (is_asked (Some h)) (f h refl)
+asked_so (Some h) a b f = ap (is_hit_asked (Some h)) (f h refl)
 
 newest_so : (s : State) (node : NodeId) (one : Breakpoint) (step number : ℕ) (hit asks : Bool) → 0 < step → hit ≡ has_hit s node one (step - 1)
-    → asks ≡ (hit && is_asked one.hits number) → ((h : HitCount) → one.hits ≡ Some h → number ≡ hits_among s node one step)
+    → asks ≡ (hit && is_hit_asked one.hits number) → ((h : HitCount) → one.hits ≡ Some h → number ≡ hits_among s node one step)
     → newest_asked s node one step ≡ cond asks (Some step) (newest_asked s node one (step - 1))
 newest_so s node one step number hit asks some is asked counted =
     let k : ℕ = step - 1 in
     let here : step ≡ suc k = omega arith in
     let e : k + 1 ≡ step = omega arith in
-    let counts : is_asked one.hits (hits_among s node one (k + 1)) ≡ is_asked one.hits number =
-    ap (λ (z : ℕ). is_asked one.hits (hits_among s node one z)) e ∙ sym (asked_so one.hits number (hits_among s node one step) counted) in
+    let counts : is_hit_asked one.hits (hits_among s node one (k + 1)) ≡ is_hit_asked one.hits number =
+    ap (λ (z : ℕ). is_hit_asked one.hits (hits_among s node one z)) e ∙ sym (asked_so one.hits number (hits_among s node one step) counted) in
     ap (newest_asked s node one) here
-    ∙ ap (λ (b : Bool). cond (b && is_asked one.hits (hits_among s node one (k + 1))) (Some (k + 1)) (newest_asked s node one k)) (sym is)
+    ∙ ap (λ (b : Bool). cond (b && is_hit_asked one.hits (hits_among s node one (k + 1))) (Some (k + 1)) (newest_asked s node one k)) (sym is)
     ∙ ap (λ (b : Bool). cond (hit && b) (Some (k + 1)) (newest_asked s node one k)) counts
     ∙ ap (λ (b : Bool). cond b (Some (k + 1)) (newest_asked s node one k)) (sym asked)
     ∙ ap (λ (z : ℕ). cond asks (Some z) (newest_asked s node one k)) e
 
 pub newest_here : (s : State) (node : NodeId) (one : Breakpoint) (step number : ℕ) (hit asks : Bool) → 0 < step → hit ≡ has_hit s node one (step - 1)
-    → asks ≡ (hit && is_asked one.hits number) → ((h : HitCount) → one.hits ≡ Some h → number ≡ hits_among s node one step) → asks ≡ true
+    → asks ≡ (hit && is_hit_asked one.hits number) → ((h : HitCount) → one.hits ≡ Some h → number ≡ hits_among s node one step) → asks ≡ true
     → newest_asked s node one step ≡ Some step
 newest_here s node one step number hit asks some is asked counted here =
     newest_so s node one step number hit asks some is asked counted ∙ ap (λ (b : Bool). cond b (Some step) (newest_asked s node one (step - 1))) here
 
 pub newest_before : (s : State) (node : NodeId) (one : Breakpoint) (step number : ℕ) (hit asks : Bool) → 0 < step → hit ≡ has_hit s node one (step - 1)
-    → asks ≡ (hit && is_asked one.hits number) → ((h : HitCount) → one.hits ≡ Some h → number ≡ hits_among s node one step) → asks ≡ false
+    → asks ≡ (hit && is_hit_asked one.hits number) → ((h : HitCount) → one.hits ≡ Some h → number ≡ hits_among s node one step) → asks ≡ false
     → newest_asked s node one step ≡ newest_asked s node one (step - 1)
 newest_before s node one step number hit asks some is asked counted here =
     newest_so s node one step number hit asks some is asked counted ∙ ap (λ (b : Bool). cond b (Some step) (newest_asked s node one (step - 1))) here

@@ -21,7 +21,7 @@ use Rattle.ga_breakpoints.specs.declared.breakpoint.Breakpoint.{Breakpoint}
 use Rattle.ga_breakpoints.specs.declared.breakpoint.LineBreakpoint.{LineBreakpoint}
 use Rattle.ga_breakpoints.specs.declared.condition.HitCount.{HitCount}
 use Rattle.ga_breakpoints.specs.declared.hits.HitTally.{HitTally}
-use Rattle.ga_breakpoints.specs.Conditions.{is_met, is_asked}
+use Rattle.ga_breakpoints.specs.Conditions.{meets_test, is_hit_asked}
 
 -- ---- where a breakpoint stands
 
@@ -52,24 +52,24 @@ has_done (Writes address) node told s = holds (condition.Writes node (address % 
 -- it did that, and meets the condition behind it
 abbrev pub is_hit : Made → State → Breakpoint → Bool
 is_hit told s one =
-    has_done one.watched one.node told s && is_met one.condition (record_at (chip_of s) one.node.number) (steps_of one.node.number s.kept)
+    has_done one.watched one.node told s && meets_test one.condition (record_at (chip_of s) one.node.number) (steps_of one.node.number s.kept)
 
 -- ---- how often each was hit, and which of those that the newest event hit asks for its number: the first
 
 abbrev pub counts_at : List ℕ → ℕ → ℕ
 counts_at counts place = slice_index_or counts place 0
 
-abbrev pub one_more : ℕ → List ℕ → List ℕ
-one_more place counts = if nat_lt place 64 then slice_set counts place ((counts_at counts place + 1) % 2 ^ 32) else counts
+abbrev pub one_hit_more : ℕ → List ℕ → List ℕ
+one_hit_more place counts = if nat_lt place 64 then slice_set counts place ((counts_at counts place + 1) % 2 ^ 32) else counts
 
 -- what ends the move, where nothing before it does
 abbrev pub asked_place : Option HitCount → ℕ → ℕ → Option ℕ
-asked_place hits place number = if is_asked hits number then Some place else None
+asked_place hits place number = if is_hit_asked hits number then Some place else None
 
 -- a breakpoint was hit at its place of the list
 abbrev pub hit_counted : Breakpoint → ℕ → HitTally → HitTally
 hit_counted one place tally =
-    let counts = one_more place tally.counts in
+    let counts = one_hit_more place tally.counts in
     record { counts = counts; hit = option_or tally.hit (asked_place one.hits place (counts_at counts place)) }
 
 abbrev pub one_counted : Made → State → Breakpoint → ℕ → HitTally → HitTally

@@ -13,32 +13,32 @@ use Rattle.ga_breakpoints.specs.declared.condition.HitCount.TheVariants.{Only, F
 
 -- ---- the value
 
-abbrev pub word_in : NodeRecord → ℕ → ℕ
-word_in n address = if nat_lt address 128 then slice_index n.ram (address % 64) else slice_index n.rom (address % 64)
+abbrev pub held_word : NodeRecord → ℕ → ℕ
+held_word n address = if nat_lt address 128 then slice_index n.ram (address % 64) else slice_index n.rom (address % 64)
 
 -- a word of a stack from the top on
-abbrev pub data_in : NodeRecord → ℕ → ℕ
-data_in n place = if nat_lt place 10 then slice_index n.d place else 0
+abbrev pub held_data : NodeRecord → ℕ → ℕ
+held_data n place = if nat_lt place 10 then slice_index n.d place else 0
 
-abbrev pub return_in : NodeRecord → ℕ → ℕ
-return_in n place = if nat_lt place 9 then slice_index n.r place else 0
+abbrev pub held_return : NodeRecord → ℕ → ℕ
+held_return n place = if nat_lt place 9 then slice_index n.r place else 0
 
 -- of a node that made so many steps; 0 where what is shown is no number
-abbrev pub value_in : NodeRecord → ℕ → Variable → ℕ
-value_in n step variable.Step = step
-value_in n step variable.P = n.p
-value_in n step variable.A = n.a
-value_in n step variable.B = n.b
-value_in n step variable.I = n.i
-value_in n step variable.Slot = n.slot
-value_in n step variable.Carry = from_bool n.carry
-value_in n step variable.Io = n.io
-value_in n step (variable.DataWord place) = data_in n place
-value_in n step (variable.ReturnWord place) = return_in n place
-value_in n step (variable.Cell address) = word_in n address
-value_in n step variable.State = 0
-value_in n step (variable.Neighbour side) = 0
-value_in n step variable.Stuck = 0
+abbrev pub held_value : NodeRecord → ℕ → Variable → ℕ
+held_value n step variable.Step = step
+held_value n step variable.P = n.p
+held_value n step variable.A = n.a
+held_value n step variable.B = n.b
+held_value n step variable.I = n.i
+held_value n step variable.Slot = n.slot
+held_value n step variable.Carry = from_bool n.carry
+held_value n step variable.Io = n.io
+held_value n step (variable.DataWord place) = held_data n place
+held_value n step (variable.ReturnWord place) = held_return n place
+held_value n step (variable.Cell address) = held_word n address
+held_value n step variable.State = 0
+held_value n step (variable.Neighbour side) = 0
+held_value n step variable.Stuck = 0
 
 -- ---- the condition
 
@@ -51,14 +51,14 @@ is_so comparison.More value number = nat_lt number value
 is_so comparison.AtLeast value number = nat_le number value
 
 -- a node that made so many steps meets it, where there is one
-abbrev pub is_met : Option ValueTest → NodeRecord → ℕ → Bool
-is_met None n step = true
-is_met (Some test) n step = is_so test.comparison (value_in n step test.variable) test.number
+abbrev pub meets_test : Option ValueTest → NodeRecord → ℕ → Bool
+meets_test None n step = true
+meets_test (Some test) n step = is_so test.comparison (held_value n step test.variable) test.number
 
 -- ---- the hits, by their numbers from 1 on
 
-abbrev pub is_asked : Option HitCount → ℕ → Bool
-is_asked None number = true
-is_asked (Some (Only asked)) number = number == asked
-is_asked (Some (From first)) number = nat_le first number
-is_asked (Some (Each step)) number = not (step == 0) && number % step == 0
+abbrev pub is_hit_asked : Option HitCount → ℕ → Bool
+is_hit_asked None number = true
+is_hit_asked (Some (Only asked)) number = number == asked
+is_hit_asked (Some (From first)) number = nat_le first number
+is_hit_asked (Some (Each step)) number = not (step == 0) && number % step == 0

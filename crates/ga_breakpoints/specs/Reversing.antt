@@ -17,7 +17,7 @@ use Rattle.ga_adapter.specs.Moves.{comes_to, gone_back, later_of}
 use Rattle.ga_breakpoints.specs.declared.breakpoint.Breakpoint.{Breakpoint}
 use Rattle.ga_breakpoints.specs.declared.hits.HitTally.{HitTally}
 use Rattle.ga_breakpoints.specs.declared.condition.HitCount.{HitCount}
-use Rattle.ga_breakpoints.specs.Conditions.{is_met, is_asked}
+use Rattle.ga_breakpoints.specs.Conditions.{meets_test, is_hit_asked}
 
 -- ---- hits among the kept steps of a node
 
@@ -34,7 +34,7 @@ did s node (Writes address) k = stores_told (address % 64) (node_after s node.nu
 
 -- and the node met the condition behind it
 abbrev pub has_hit : State → NodeId → Breakpoint → ℕ → Bool
-has_hit s node one k = is_met one.condition (node_after s node.number (k + 1)) (k + 1) && did s node one.watched k
+has_hit s node one k = meets_test one.condition (node_after s node.number (k + 1)) (k + 1) && did s node one.watched k
 
 -- of so many steps
 abbrev pub hits_among : State → NodeId → Breakpoint → ℕ → ℕ
@@ -53,12 +53,12 @@ counted_kept s one = counted_by one.hits s one
 abbrev pub with_count : ℕ → ℕ → List ℕ → List ℕ
 with_count place count counts = if nat_lt place 64 then slice_set counts place count else counts
 
-abbrev pub kept_from : State → ℕ → List Breakpoint → List ℕ → List ℕ
-kept_from s place [] counts = counts
-kept_from s place (one ∷ rest) counts = kept_from s (place + 1) rest (with_count place (counted_kept s one) counts)
+abbrev pub hits_from : State → ℕ → List Breakpoint → List ℕ → List ℕ
+hits_from s place [] counts = counts
+hits_from s place (one ∷ rest) counts = hits_from s (place + 1) rest (with_count place (counted_kept s one) counts)
 
 abbrev pub kept_tally : State → List Breakpoint → HitTally
-kept_tally s breakpoints = record { counts = kept_from s 0 breakpoints (replicate 64 0); hit = None }
+kept_tally s breakpoints = record { counts = hits_from s 0 breakpoints (replicate 64 0); hit = None }
 
 -- ---- `reverseContinue`
 
@@ -66,7 +66,7 @@ kept_tally s breakpoints = record { counts = kept_from s 0 breakpoints (replicat
 abbrev pub newest_asked : State → NodeId → Breakpoint → ℕ → Option ℕ
 newest_asked s node one zero = None
 newest_asked s node one (suc k) =
-    if has_hit s node one k && is_asked one.hits (hits_among s node one (k + 1)) then Some (k + 1) else newest_asked s node one k
+    if has_hit s node one k && is_hit_asked one.hits (hits_among s node one (k + 1)) then Some (k + 1) else newest_asked s node one k
 
 -- How many steps stay where this step is gone back to, by one at least: a node stands behind the step by which it came to a slot, and right before the one
 -- by which it wrote a cell.

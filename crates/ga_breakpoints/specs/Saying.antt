@@ -86,11 +86,11 @@ hex_said (byte ∷ text) = do
 abbrev pub size_said : Text → Option ℕ
 size_said text = if bytes_eq (take 2 text) (codes "0x") then hex_said (drop 2 text) else number_in text
 
-abbrev pub below : ℕ → Option ℕ
-below size = if nat_le size 131072 then Some ((262144 - size) % 262144) else None
+abbrev pub word_under : ℕ → Option ℕ
+word_under size = if nat_le size 131072 then Some ((262144 - size) % 262144) else None
 
 abbrev pub number_said : Text → Option ℕ
-number_said text = if bytes_eq (take 1 text) (codes "-") then option_and_then below (size_said (drop 1 text)) else size_said text
+number_said text = if bytes_eq (take 1 text) (codes "-") then option_and_then word_under (size_said (drop 1 text)) else size_said text
 
 -- ---- a condition
 
@@ -108,15 +108,15 @@ condition_said text = do
 abbrev pub from_one : ℕ → Option ℕ
 from_one number = if number == 0 then None else Some number
 
-abbrev pub counted : Text → Option ℕ
-counted text = option_and_then from_one (number_in text)
+abbrev pub hit_number : Text → Option ℕ
+hit_number text = option_and_then from_one (number_in text)
 
 abbrev pub hits_by_sign : Text → ℕ → Option HitCount
 hits_by_sign sign number = if bytes_eq sign (codes ">=") then Some (From number) else if bytes_eq sign (codes "%") then Some (Each number) else None
 
 abbrev pub hits_cut : Text → Option (Text × Text) → Option HitCount
-hits_cut text None = option_map (λ number. Only number) (counted text)
-hits_cut text (Some parts) = option_and_then (hits_by_sign parts.0) (counted parts.1)
+hits_cut text None = option_map (λ number. Only number) (hit_number text)
+hits_cut text (Some parts) = option_and_then (hits_by_sign parts.0) (hit_number parts.1)
 
 abbrev pub hits_said : Text → Option HitCount
 hits_said text = hits_cut text (cut text)

@@ -2,7 +2,7 @@
 
 ghost use Rattle.std.specs.Prelude.{◌≡◌};
 ghost use Rattle.ga_adapter.specs.Evaluating.{cell_in_brackets};
-ghost use Rattle.ga_breakpoints.specs.Saying.{letter_variable, stack_variable, word_said, variable_said, comparison_said, hex_digit_said, with_hex, hex_said, size_said, below, number_said, condition_said, counted, hits_by_sign, hits_said};
+ghost use Rattle.ga_breakpoints.specs.Saying.{letter_variable, stack_variable, word_said, variable_said, comparison_said, hex_digit_said, with_hex, hex_said, size_said, word_under, number_said, condition_said, hit_number, hits_by_sign, hits_said};
 
 use crate::condition::{Comparison, HitCount, ValueTest};
 use ga_adapter::Variable;
@@ -143,8 +143,8 @@ fn size_said(text: &[u8]) -> Option<u32>
 }
 
 /// A number below 0, modulo 2^18.
-fn below(size: u32) -> Option<u32>
-    ensures { result ≡ below size }
+fn word_under(size: u32) -> Option<u32>
+    ensures { result ≡ word_under size }
 {
     if size <= 0x2_0000 {
         Some((0x4_0000 - size) % 0x4_0000)
@@ -157,7 +157,7 @@ fn number_said(text: &[u8]) -> Option<u32>
     ensures { result ≡ number_said text.now }
 {
     match text.strip_prefix(b"-") {
-        Some(size) => below(size_said(size)?),
+        Some(size) => word_under(size_said(size)?),
         None => size_said(text),
     }
 }
@@ -181,8 +181,8 @@ pub fn condition_said(text: &[u8]) -> Option<ValueTest>
 }
 
 /// A number of hits.
-fn counted(text: &[u8]) -> Option<u32>
-    ensures { result ≡ counted text.now }
+fn hit_number(text: &[u8]) -> Option<u32>
+    ensures { result ≡ hit_number text.now }
 {
     let number = number_in(text)?;
     if number == 0 { None } else { Some(number) }
@@ -206,7 +206,7 @@ pub fn hits_said(text: &[u8]) -> Option<HitCount>
     ensures { result ≡ hits_said text.now }
 {
     match cut(text) {
-        Some((sign, number)) => hits_by_sign(sign, counted(number)?),
-        None => Some(HitCount::Only(counted(text)?)),
+        Some((sign, number)) => hits_by_sign(sign, hit_number(number)?),
+        None => Some(HitCount::Only(hit_number(text)?)),
     }
 }

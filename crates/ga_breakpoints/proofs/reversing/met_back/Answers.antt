@@ -2,7 +2,7 @@ use Rattle.std.proofs.Common.{◌≡◌, ◌∙◌, ℕ, ap}
 use Rattle.ga_node.specs.Record.{NodeRecord, record_of}
 use Rattle.ga_lab.specs.Machine.{Standing, standing}
 use Rattle.ga_origin.specs.Origins.{node_after}
-use Rattle.ga_breakpoints.specs.Conditions.{is_met}
+use Rattle.ga_breakpoints.specs.Conditions.{meets_test}
 use Rattle.ga_breakpoints.proofs.Reversals.{stands_so}
 use Rattle.ga_breakpoints.proofs.reversing.met_back.Goals as goal
 
@@ -14,6 +14,6 @@ returns-clause-met c =
     let at : c.back_to.new.self ≡ standing s node step = c.back_to.ensures ∙ ap (λ (z : Standing). record z { step = step }) c.requires.walk in
     let there : record_of c.node.result.now ≡ node_after s node.number step =
     stands_so s node c.back_to.new.self step c.step-reached.result (record_of c.node.result.now) at c.step-reached.ensures.value c.step-reached.ensures.within c.node.ensures in
-    c.is_met.ensures
-    ∙ ap (λ (z : ℕ). is_met c.args.condition (record_of c.node.result.now) z) (c.step-reached.ensures.value ∙ ap (λ (z : Standing). z.step) at)
-    ∙ ap (λ (z : NodeRecord). is_met c.args.condition z step) there
+    c.meets_test.ensures
+    ∙ ap (λ (z : ℕ). meets_test c.args.condition (record_of c.node.result.now) z) (c.step-reached.ensures.value ∙ ap (λ (z : Standing). z.step) at)
+    ∙ ap (λ (z : NodeRecord). meets_test c.args.condition z step) there
