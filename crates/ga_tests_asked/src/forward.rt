@@ -1,10 +1,10 @@
 //! The moves of an editor that go forward, over a program with calls and one that stores.
 
 use crate::asserts::same;
-use ga_adapter::{Spot, Watched, step_back_line};
+use ga_adapter::{Spot, Variable, Watched, step_back_line};
 use ga_breakpoints::{
-    Breakpoint, Grain, Halt, Halts, Stepping, Went, breakpoint_of_address, breakpoint_of_line,
-    go_on, kept_hits, step_on,
+    Breakpoint, Comparison, Grain, Halt, Halts, HitCount, Stepping, ValueTest, Went,
+    breakpoint_of_address, breakpoint_of_line, go_on, kept_hits, reverse_to, step_on,
 };
 use ga_grid::NodeId;
 use ga_lab::Lab;
@@ -135,6 +135,38 @@ fn slices_stop_at_a_breakpoint(rt: HostRuntime) -> Result<(), Fail> {
     same(&rt, &is_hit(hit), &true);
     let again = go_on(&mut lab, hit.schedule, halts, 100);
     same(&rt, &again.events, &18);
+    Ok(())
+}
+
+#[test]
+fn each_third_hit_is_stopped_at(rt: HostRuntime) -> Result<(), Fail> {
+    let node = NodeId::new(0);
+    let (mut lab, _) = begun(&rt, rt.alloc(), CALLS)?;
+    let ten = ValueTest {
+        variable: Variable::DataWord(0),
+        comparison: Comparison::Equal,
+        number: 10,
+    };
+    let third = [Breakpoint {
+        node,
+        watched: Watched::Comes(Spot { cell: 5, slot: 2 }),
+        condition: Some(ten),
+        hits: Some(HitCount::Each(3)),
+    }];
+    let mut halts = Halts {
+        breakpoints: &third,
+        stops: true,
+        tally: kept_hits(&lab, &third),
+    };
+    // The second `dup` is come to by event 8, and then by each 18th.
+    let hit = go_on(&mut lab, Schedule::greedily(), halts, 100);
+    same(&rt, &hit.events, &44);
+    halts.tally = hit.tally;
+    let again = go_on(&mut lab, hit.schedule, halts, 100);
+    same(&rt, &again.events, &54);
+    same(&rt, &reverse_to(&mut lab, node, &third), &54);
+    same(&rt, &kept_hits(&lab, &third).counts[0], &3);
+    same(&rt, &reverse_to(&mut lab, node, &third), &44);
     Ok(())
 }
 
