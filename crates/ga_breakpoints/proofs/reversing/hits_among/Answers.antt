@@ -10,8 +10,8 @@ going-preserved c =
     record {
       walk = c.has_hit-hit.ensures.walk;
       order = omega (arith, c.has_hit-hit.ensures.order);
-      within = omega (arith, c.going.invariant.within, c.one_if.ensures.most);
-      same = c.going.invariant.same ∙ omega (arith, more, c.one_if.ensures.value);
+      within = omega (arith, c.going.invariant.within, c.one_if-number.ensures.most);
+      same = c.going.invariant.same ∙ omega (arith, more, c.one_if-number.ensures.value);
     }
 
 pub returns : goal.returns

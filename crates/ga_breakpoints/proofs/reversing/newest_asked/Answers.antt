@@ -11,7 +11,7 @@ going-preserved c =
       walk = c.has_hit-hit.ensures.walk;
       order = omega (arith, c.has_hit-hit.ensures.order);
       within = omega (arith, c.going.invariant.within);
-      counted = λ (hits : HitCount) is. (let counted = c.going.invariant.counted hits is in omega (arith, counted, more, c.one_if.ensures.value, c.saturating_sub.ensures));
+      counted = λ (hits : HitCount) is. (let counted = c.going.invariant.counted hits is in omega (arith, counted, more, c.one_if.ensures.value, c.saturating_sub-number.ensures));
       same = c.going.invariant.same ∙ newest_before s c.args.node c.args.one.now c.going.step c.going.number c.has_hit-hit.result c.asks.result (omega arith)
           c.has_hit-hit.ensures.hit c.asks.ensures c.going.invariant.counted c.if-asks.false;
     }
