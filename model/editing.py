@@ -208,14 +208,15 @@ class Session:
         return self.respond(where | {"accessTypes": ["write"], "canPersist": True})
 
     def does(self, point, node, step):
-        """Whether a step of a node is one by which it comes to a breakpoint (a slot that it carried out, or a word that went over), or
-        writes a watched cell."""
+        """Whether a step of a node is one by which it comes to a breakpoint (a slot that it carried out, a word that went over, or
+        its first fetch: it stood there at load), or writes a watched cell."""
         told, kept = self.machine.kept[node][step][0], self.machine.kept[node]
         if point["node"] != node:
             return False
         if point["set"] == "data":
             return self.machine.wrote(kept[step - 1][1], told, point["cell"])
-        return (told.startswith("pass ") or " run " in told) and self.machine.spot(node, step) == point["spot"]
+        begins = step == 1 and told.endswith(" fetch")
+        return (told.startswith("pass ") or " run " in told or begins) and self.machine.spot(node, step) == point["spot"]
 
     def meets(self, point, node, step):
         """Whether that step hits the breakpoint: the node meets its condition behind it."""

@@ -1,3 +1,4 @@
+pub mod Beginnings
 pub mod NodesNow
 pub mod Halting
 pub mod Moving

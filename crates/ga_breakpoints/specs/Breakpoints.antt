@@ -13,9 +13,9 @@ use Rattle.ga_notes.specs.Notes.{worded_slot, nearest_word}
 use Rattle.ga_notes.specs.Source.{cell_of_address}
 use Rattle.ga_search.specs.declared.condition.Condition.TheVariants as condition
 use Rattle.ga_search.specs.Conditions.{is_step_of, is_stop, is_own, is_own_at, holds}
-use Rattle.ga_adapter.specs.declared.moves.Watched.{Watched}
-use Rattle.ga_adapter.specs.declared.moves.Watched.TheVariants.{Comes, Writes}
-use Rattle.ga_adapter.specs.Moves.{comes_to}
+use Rattle.ga_breakpoints.specs.declared.back.Watched.{Watched}
+use Rattle.ga_breakpoints.specs.declared.back.Watched.TheVariants.{Comes, Writes}
+use Rattle.ga_breakpoints.specs.Back.{comes_to}
 use Rattle.ga_adapter.specs.Spots.{spot}
 use Rattle.ga_breakpoints.specs.declared.breakpoint.Breakpoint.{Breakpoint}
 use Rattle.ga_breakpoints.specs.declared.breakpoint.LineBreakpoint.{LineBreakpoint}

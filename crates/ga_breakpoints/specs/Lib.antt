@@ -1,5 +1,7 @@
+pub mod Back
 pub mod Conditions
 pub mod Saying
+pub mod Lines
 pub mod Breakpoints
 pub mod Stepping
 pub mod Going

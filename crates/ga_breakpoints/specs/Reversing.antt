@@ -11,9 +11,9 @@ use Rattle.ga_event.specs.Told.{steps_of}
 use Rattle.ga_lab.specs.Machine.{State, history_of}
 use Rattle.ga_origin.specs.Origins.{node_after}
 use Rattle.ga_search.specs.Conditions.{stores_in}
-use Rattle.ga_adapter.specs.declared.moves.Watched.{Watched}
-use Rattle.ga_adapter.specs.declared.moves.Watched.TheVariants.{Comes, Writes}
-use Rattle.ga_adapter.specs.Moves.{comes_to, gone_back, later_of}
+use Rattle.ga_breakpoints.specs.declared.back.Watched.{Watched}
+use Rattle.ga_breakpoints.specs.declared.back.Watched.TheVariants.{Comes, Writes}
+use Rattle.ga_breakpoints.specs.Back.{comes_to, gone_back}
 use Rattle.ga_breakpoints.specs.declared.breakpoint.Breakpoint.{Breakpoint}
 use Rattle.ga_breakpoints.specs.declared.hits.HitTally.{HitTally}
 use Rattle.ga_breakpoints.specs.declared.condition.HitCount.{HitCount}
@@ -77,6 +77,11 @@ steps_left_by (Writes address) s node one = option_map (λ step. step - 1) (newe
 -- where it is one of the node
 abbrev pub steps_left_of : State → NodeId → Breakpoint → Option ℕ
 steps_left_of s node one = if one.node.number == node.number then steps_left_by one.watched s node one else None
+
+abbrev pub later_of : Option ℕ → Option ℕ → Option ℕ
+later_of None other = other
+later_of (Some a) None = Some a
+later_of (Some a) (Some b) = if nat_lt a b then Some b else Some a
 
 -- the latest of this and of those of the breakpoints
 abbrev pub latest_hit : State → NodeId → Option ℕ → List Breakpoint → Option ℕ

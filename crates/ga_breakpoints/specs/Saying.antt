@@ -1,12 +1,12 @@
 -- Conditions and hit conditions as a client says them (Debug Adapter Protocol, "SourceBreakpoint": the forms are the debugger's own). A condition is NAME
 -- SIGN NUMBER, one space between: NAME is that of a register or a word of a stack, as "VariablesRequest" shows them, or a cell in brackets.
-use Rattle.std.specs.Prelude.{ℕ, ◌+◌, ◌-◌, ◌*◌, ◌%◌, ◌==◌, nat_lt, nat_le, ◌&&◌, ◌||◌, if◌then◌else◌, [], ◌∷◌, take, drop, codes, bytes_eq, Option, Some, None, option_map, option_and_then}
+use Rattle.std.specs.Prelude.{ℕ, ◌+◌, ◌-◌, ◌*◌, ◌%◌, ◌==◌, nat_lt, nat_le, ◌&&◌, ◌||◌, if◌then◌else◌, [], ◌∷◌, take, drop, length, slice_index, slice_range, codes, bytes_eq, Option, Some, None, option_map, option_and_then}
 use Rattle.ga_text.specs.Lines.{Text}
 use Rattle.ga_text.specs.Parsing.{cut, number_in, fitting}
 use Rattle.ga_ports.specs.Steps.{◌>>=◌}
-use Rattle.ga_adapter.specs.Evaluating.{cell_in_brackets}
+use Rattle.ga_text.specs.Digits.{byte_in}
 use Rattle.ga_adapter.specs.declared.variable.Variable.{Variable}
-use Rattle.ga_adapter.specs.declared.variable.Variable.TheVariants.{Step, P, A, B, I, Slot, Carry, Io, DataWord, ReturnWord}
+use Rattle.ga_adapter.specs.declared.variable.Variable.TheVariants.{Step, P, A, B, I, Slot, Carry, Io, DataWord, ReturnWord, Cell}
 use Rattle.ga_breakpoints.specs.declared.condition.Comparison.{Comparison}
 use Rattle.ga_breakpoints.specs.declared.condition.Comparison.TheVariants.{Equal, Unequal, Less, AtMost, More, AtLeast}
 use Rattle.ga_breakpoints.specs.declared.condition.ValueTest.{ValueTest}
@@ -33,12 +33,16 @@ stack_variable stack place =
     else if stack == 105 && place == 111 then Some Io
     else None
 
+abbrev pub cell_said : Text → Option Variable
+cell_said text =
+    if length text == 4 && slice_index text 0 == 91 && slice_index text 3 == 93 then option_map (λ address. Cell address) (byte_in (slice_range text 1 3)) else None
+
 abbrev pub word_said : Text → Option Variable
 word_said text =
     if bytes_eq text (codes "slot") then Some Slot
     else if bytes_eq text (codes "carry") then Some Carry
     else if bytes_eq text (codes "step") then Some Step
-    else cell_in_brackets text
+    else cell_said text
 
 unfoldable pub variable_said : Text → Option Variable
 variable_said (letter ∷ []) = letter_variable letter

@@ -4,8 +4,9 @@ ghost use Rattle.std.specs.Prelude.{◌≡◌};
 ghost use Rattle.ga_notes.specs.Notes.{worded_slot};
 ghost use Rattle.ga_breakpoints.specs.Breakpoints.{on_slot, on_word, breakpoint_of_line, breakpoint_of_address};
 
+use crate::back::Watched;
 use crate::condition::{HitCount, ValueTest};
-use ga_adapter::{Spot, Watched, memory_cell};
+use ga_adapter::{Spot, memory_cell};
 use ga_grid::NodeId;
 use ga_notes::{Notes, SlotWord};
 

@@ -1,8 +1,7 @@
 //! Conditions as a client says them.
 
 ghost use Rattle.std.specs.Prelude.{◌≡◌};
-ghost use Rattle.ga_adapter.specs.Evaluating.{cell_in_brackets};
-ghost use Rattle.ga_breakpoints.specs.Saying.{letter_variable, stack_variable, word_said, variable_said, comparison_said, hex_digit_said, with_hex, hex_said, size_said, word_under, number_said, condition_said, hit_number, hits_by_sign, hits_said};
+ghost use Rattle.ga_breakpoints.specs.Saying.{letter_variable, stack_variable, cell_said, word_said, variable_said, comparison_said, hex_digit_said, with_hex, hex_said, size_said, word_under, number_said, condition_said, hit_number, hits_by_sign, hits_said};
 
 use crate::condition::{Comparison, HitCount, ValueTest};
 use ga_adapter::Variable;
@@ -41,7 +40,7 @@ fn stack_variable(stack: u8, place: u8) -> Option<Variable>
 
 /// The cell of two hexadecimal digits in brackets.
 fn cell_said(text: &[u8]) -> Option<Variable>
-    ensures { result ≡ cell_in_brackets text.now }
+    ensures { result ≡ cell_said text.now }
 {
     if text.len() == 4 && text[0] == b'[' && text[3] == b']' {
         let address = byte_of(&text[1..3])?;

@@ -18,3 +18,8 @@ pub mod Reaching
 pub mod Asking
 pub mod Shown
 pub mod Likeness
+pub mod Nexts
+pub mod Rounds
+pub mod Stuck
+pub mod Freeing
+mod Same

@@ -4,3 +4,7 @@ pub mod HappensBefore
 pub mod Acts
 pub mod Kahn
 pub mod kept
+pub mod Near
+pub mod Ready
+pub mod Stuck
+pub mod Freed

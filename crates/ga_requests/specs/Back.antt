@@ -10,8 +10,8 @@ use Rattle.ga_lab.specs.Machine.{State}
 use Rattle.ga_grid.specs.declared.node_id.NodeId.{NodeId}
 use Rattle.ga_notes.specs.declared.notes.Notes.{Notes}
 use Rattle.ga_protocol.specs.Messages.{member_text}
-use Rattle.ga_adapter.specs.Moves.{stepped_back}
-use Rattle.ga_adapter.specs.Stepping.{stepped_back_line}
+use Rattle.ga_breakpoints.specs.Back.{stepped_back}
+use Rattle.ga_breakpoints.specs.Lines.{stepped_back_line}
 use Rattle.ga_breakpoints.specs.declared.breakpoint.Breakpoint.{Breakpoint}
 use Rattle.ga_breakpoints.specs.Reversing.{reversed_to}
 use Rattle.ga_breakpoints.specs.declared.stepping.Grain.{Grain}

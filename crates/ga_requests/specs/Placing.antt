@@ -10,7 +10,7 @@ use Rattle.ga_notes.specs.declared.notes.Name.{Name}
 use Rattle.ga_notes.specs.declared.notes.Notes.{Notes}
 use Rattle.ga_notes.specs.Notes.{address_of}
 use Rattle.ga_adapter.specs.Json.{whole_number}
-use Rattle.ga_adapter.specs.declared.moves.Watched.TheVariants.{Writes}
+use Rattle.ga_breakpoints.specs.declared.back.Watched.TheVariants.{Writes}
 use Rattle.ga_breakpoints.specs.declared.breakpoint.Breakpoint.{Breakpoint}
 use Rattle.ga_breakpoints.specs.declared.breakpoint.LineBreakpoint.{LineBreakpoint}
 use Rattle.ga_breakpoints.specs.declared.condition.ValueTest.{ValueTest}

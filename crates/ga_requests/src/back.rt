@@ -6,8 +6,7 @@ ghost use Rattle.ga_event.specs.Told.{steps_of};
 ghost use Rattle.ga_requests.specs.Back.{grain_asked, stepped_by, reversed_by, AreStepsOf, WentBack, gone_line, gone_with_it, gone_of, gone_below, gone_head, gone_words};
 
 use crate::moving::grain_asked;
-use ga_adapter::{step_back, step_back_line};
-use ga_breakpoints::{Breakpoint, Grain, reverse_to};
+use ga_breakpoints::{Breakpoint, Grain, reverse_to, step_back, step_back_line};
 use ga_grid::NodeId;
 use ga_lab::Lab;
 use ga_responses::{Debuggee, add_name};

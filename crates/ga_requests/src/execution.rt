@@ -10,13 +10,16 @@ ghost use Rattle.ga_causal.specs.Dependence.{is_marked};
 ghost use Rattle.ga_requests.specs.Slices.{slice_limit, tally_begun, GoesOn, StepsOn, Advances, MarksStuck, MakesSliceOf, MakesSlice, IsFirstNewly, is_newly_by, is_newly, hit_at, hit_of, end_of_move, node_told, stop_by, ended_stuck, goal_behind};
 
 use crate::configuration::Configuration;
-use ga_adapter::{Watched, has_thread};
-use ga_breakpoints::{Breakpoint, Halt, HitTally, Stepping, Went, go_on, kept_hits, step_on};
+use ga_adapter::has_thread;
+use ga_breakpoints::{
+    Breakpoint, Halt, HitTally, Stepping, Watched, Went, go_on, kept_hits, step_on,
+};
 use ga_grid::NodeId;
 use ga_lab::{Lab, LabFault, Made};
 use ga_notes::Notes;
+use ga_races::find_stuck;
 use ga_responses::Debuggee;
-use ga_search::{Schedule, find_stuck};
+use ga_search::Schedule;
 
 /// How many events are made before the client is listened to again.
 pub const SLICE: u64 = 4096;

@@ -8,9 +8,9 @@ ghost use Rattle.ga_breakpoints.specs.Saying.{condition_said, hits_said};
 ghost use Rattle.ga_requests.specs.Placing.{line_asked, found_on_line, is_label, at_any_label, at_label_of, names_node, node_named_before, at_label, at_cell_on, on_writes, on_no_line, on_condition, with_condition, on_hits, with_hits, asked_there, asked_at, unfound_words, unplaced_words, IsReferredBy, IsPlaceOf};
 
 use crate::configuration::Family;
-use ga_adapter::Watched;
 use ga_breakpoints::{
-    Breakpoint, COUNTED, breakpoint_of_address, breakpoint_of_line, condition_said, hits_said,
+    Breakpoint, COUNTED, Watched, breakpoint_of_address, breakpoint_of_line, condition_said,
+    hits_said,
 };
 use ga_grid::NodeId;
 use ga_notes::{Name, Notes};

@@ -4,7 +4,7 @@ ghost use Rattle.std.specs.Prelude.{◌≡◌, ◌<◌, ◌≤◌, ℕ, true, fa
 ghost use Rattle.ga_grid.specs.Chip.{records_of};
 ghost use Rattle.ga_grid.specs.Grid.{neighbour_of};
 ghost use Rattle.ga_search.specs.kept.Numbers.{has};
-ghost use Rattle.ga_search.specs.Ready.{first_in};
+ghost use Rattle.ga_races.specs.Ready.{first_in};
 ghost use Rattle.ga_search.specs.kept.Ready.{IsRight, HoldsReady, StaysRight, IsRightAround, IsRefreshed, IsAlone};
 
 use crate::numbers::Numbers;

@@ -1,10 +1,11 @@
 //! The moves of an editor that go forward, over a program with calls and one that stores.
 
 use crate::asserts::same;
-use ga_adapter::{Spot, Variable, Watched, step_back_line};
+use ga_adapter::{Spot, Variable};
 use ga_breakpoints::{
-    Breakpoint, Comparison, Grain, Halt, Halts, HitCount, Stepping, ValueTest, Went,
-    breakpoint_of_address, breakpoint_of_line, go_on, kept_hits, reverse_to, step_on,
+    Breakpoint, Comparison, Grain, Halt, Halts, HitCount, Stepping, ValueTest, Watched, Went,
+    breakpoint_of_address, breakpoint_of_line, go_on, kept_hits, reverse_to, step_back_line,
+    step_on,
 };
 use ga_grid::NodeId;
 use ga_lab::Lab;
