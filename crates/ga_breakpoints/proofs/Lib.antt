@@ -1,5 +1,5 @@
-pub mod Comings
 pub mod Beginnings
 pub mod NodesNow
 pub mod Halting
 pub mod Moving
+pub mod Reversals
