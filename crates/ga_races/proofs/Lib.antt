@@ -19,7 +19,7 @@ pub mod Asking
 pub mod Shown
 pub mod Likeness
 pub mod Nexts
-pub mod Rounds
+pub mod Ready
 pub mod Stuck
 pub mod Freeing
-mod Same
+mod SameLists
