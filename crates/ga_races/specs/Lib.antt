@@ -1,5 +1,6 @@
 pub mod Orders
 pub mod Exploring
+pub mod Rounds
 pub mod HappensBefore
 pub mod Acts
 pub mod Kahn

@@ -17,6 +17,7 @@ ghost use Rattle.ga_causal.specs.Words.{account_read};
 ghost use Rattle.ga_races.specs.Exploring.{IsExplored};
 ghost use Rattle.ga_races.specs.HappensBefore.{Action, action_at, IsBound, IsClock, clock_after, action_of, actions, causes_in, are_bound, HappensBefore, IsStepOf, StandsBefore, made_at, IsNear, IsContended};
 ghost use Rattle.ga_races.specs.Kahn.{HasOneWriter};
+ghost use Rattle.ga_races.specs.Rounds.{events_without, IsRound, HasNoRound};
 ghost use Rattle.ga_races.specs.Orders.{CanBe, IsAtEnd, AreOrders, AreFree, IsRace, HasNoRace, AreRivals};
 ghost use Rattle.ga_grid.specs.Chip.{record_at};
 ghost use Rattle.ga_event.specs.Next.{next};
@@ -181,4 +182,17 @@ pub fn next_changes_near_alone()
 pub fn stuck_stay()
     ensures { (chip : List NodeRecord) (events : List Event) (marks : ℕ → Bool) → AreStuck chip marks →
         IfSome (replay chip events) (λ later. (n : ℕ) → marks n ≡ true → record_at chip n ≡ record_at later n) }
+{}
+
+/// A node that polls makes rounds: events of its own that leave it as it was. A round by itself leads to the chip on which it began. What
+/// other nodes make within it they make without it too, since a node that runs shows them nothing: so a list without a round leads to
+/// the same chip, whatever the looks of the round read. A shortest list to a chip has no round, so the lists without one reach each
+/// chip that any list reaches.
+pub fn rounds()
+    ensures alone { (chip : List NodeRecord) (n : ℕ) (round : List Event) → IsRound chip n round → events_without n round ≡ [] →
+        replay chip round ≡ Some chip }
+    ensures left { (chip now : List NodeRecord) (before round later : List Event) (n : ℕ) → replay chip before ≡ Some now →
+        IsRound now n round → replay chip (before ++ round ++ later) ≡ replay chip (before ++ events_without n round ++ later) }
+    ensures shortest { (chip last : List NodeRecord) (events : List Event) → replay chip events ≡ Some last →
+        ((others : List Event) → replay chip others ≡ Some last → length events ≤ length others) → HasNoRound chip events }
 {}

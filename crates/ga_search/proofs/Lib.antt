@@ -16,3 +16,4 @@ pub mod Earlier
 pub mod Fronts
 pub mod Backing
 pub mod FoundSteps
+pub mod Overs

@@ -3,3 +3,4 @@ pub mod Numbers
 pub mod Ready
 pub mod Needs
 pub mod Backward
+pub mod Over
