@@ -64,7 +64,7 @@ fn unfound(family: Family) -> &'static str
 }
 
 /// Why a breakpoint is not set.
-pub fn unplaced(family: Family, why: Unplaced) -> &'static str
+pub fn unplaced_reason(family: Family, why: Unplaced) -> &'static str
     ensures { result.now ≡ unplaced_words family why }
 {
     match why {

@@ -7,7 +7,7 @@ ghost use Rattle.ga_requests.specs.Placing.{Placement, IsPlaceOf, unverified_obj
 ghost use Rattle.ga_requests.specs.kept.Placings.{placement_of};
 
 use crate::configuration::{Family, SetBy};
-use crate::finding::{FoundPlace, Unplaced, asked_at, found, unplaced};
+use crate::finding::{FoundPlace, Unplaced, asked_at, found, unplaced_reason};
 use ga_breakpoints::Breakpoint;
 use ga_responses::Debuggee;
 use serde_json::{Value, json, push};
@@ -85,7 +85,7 @@ fn told_placed(
 {
     match found {
         Ok(found) => verified_on(alloc, program, id, found.line),
-        Err(why) => unverified(alloc, id, unplaced(family, why)),
+        Err(why) => unverified(alloc, id, unplaced_reason(family, why)),
     }
 }
 
