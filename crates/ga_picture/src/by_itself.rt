@@ -4,17 +4,16 @@ ghost use Rattle.std.specs.Prelude.{◌≡◌, ◌↔◌, ◌≤◌, ◌<◌, �
 ghost use Rattle.std.specs.List.{All, list_any};
 ghost use Rattle.ga_grid.specs.Grid.{neighbour_of};
 ghost use Rattle.ga_event.specs.Touches.{neighbours};
-ghost use Rattle.ga_causal.specs.Dependence.{cause_touches, is_a_pass, is_marked};
+ghost use Rattle.ga_causal.specs.Dependence.{cause_touches, is_marked};
 ghost use Rattle.ga_causal.specs.kept.Firsts.{any_of};
 ghost use Rattle.ga_picture.specs.Items.{actor, is_plain_at, items_of};
 ghost use Rattle.ga_picture.specs.ByItself.{IsByItself, told_nodes};
 ghost use Rattle.ga_picture.specs.kept.Items.{known_in};
 ghost use Rattle.ga_picture.specs.kept.ByItself.{AreTallied, HasFew, HasJoined, IsHeld, is_look, is_loose_by, works_loose, works_joined};
 
-use crate::item::{Facts, PictureItem, actor, item_at};
+use crate::item::{Facts, PictureItem, actor, is_pass, item_at};
 use crate::view::View;
-use ga_causal::{Cause, Memory, Nodes};
-use ga_event::Event;
+use ga_causal::{Memory, Nodes};
 use ga_grid::{NODES, NodeId, neighbour};
 use ga_ports::Side;
 use std::alloc::Global;
@@ -98,7 +97,7 @@ impl Tally {
         if item.holds {
             self.held.add_touched(&item.cause);
         }
-        if is_look(&item.cause) {
+        if !is_pass(item.cause.event) && item.cause.look {
             self.looking.add_touched(&item.cause);
         }
     }
@@ -177,16 +176,6 @@ impl Tally {
             }
         }
         Ok(told)
-    }
-}
-
-/// Whether an event looks.
-fn is_look(cause: &Cause) -> bool
-    ensures { result ≡ (not (is_a_pass cause.now.event) && cause.now.look) }
-{
-    match cause.event {
-        Event::Own(_) => cause.look,
-        Event::Pass { .. } => false,
     }
 }
 

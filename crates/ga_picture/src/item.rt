@@ -132,7 +132,7 @@ fn holds_node(view: View, cause: Cause, shade: Shade, plain: bool) -> bool
 }
 
 /// Whether an event is a pass.
-fn is_pass(event: Event) -> bool
+pub(crate) fn is_pass(event: Event) -> bool
     ensures { result ≡ is_a_pass event }
 {
     match event {

@@ -1,6 +1,6 @@
 //! The lines of the nodes.
 
-ghost use Rattle.std.specs.Prelude.{◌≡◌, replicate, IfOk};
+ghost use Rattle.std.specs.Prelude.{IfOk};
 ghost use Rattle.ga_causal.specs.Dependence.{is_marked};
 ghost use Rattle.ga_picture.specs.kept.Lines.{AreLines};
 
@@ -20,7 +20,7 @@ pub(crate) fn lines_of(alloc: Global, used: &Nodes) -> Result<Lines, Memory>
     ensures { IfOk result (λ lines. AreLines (is_marked used.now) lines.nodes.items lines.columns 144) }
 {
     let mut nodes = Vec::new(alloc);
-    let mut columns = no_columns();
+    let mut columns = [0; NODES];
     'nodes: for number in 0..NODES as u8 {
         let node = NodeId::new(number);
         if used.has(node) {
@@ -29,11 +29,4 @@ pub(crate) fn lines_of(alloc: Global, used: &Nodes) -> Result<Lines, Memory>
         }
     }
     Ok(Lines { nodes, columns })
-}
-
-/// No node has a line yet.
-fn no_columns() -> [u8; 144]
-    ensures { result ≡ replicate 144 0 }
-{
-    [0; NODES]
 }

@@ -111,7 +111,8 @@ fn group(
 {
     let mut text = String::with_capacity(alloc, EVENT_ROOM)?;
     text.push_str(class(shape.shade()))?;
-    let body = body(alloc, drawing, y_of(row), shape, made)?;
+    let mut body = String::with_capacity(alloc, EVENT_ROOM)?;
+    push_event(&mut body, drawing, y_of(row), shape, made)?;
     text.push_str(body.as_str())?;
     text.push_str("</g>\n")?;
     Ok(text)
@@ -123,29 +124,10 @@ fn race_group(alloc: Global, drawing: &Drawing, mark: &RaceMark) -> Result<Strin
 {
     let mut text = String::new(alloc);
     text.push_str("<g class='c'>")?;
-    let body = race_body(alloc, drawing, mark)?;
+    let mut body = String::new(alloc);
+    push_race(&mut body, drawing, mark)?;
     text.push_str(body.as_str())?;
     text.push_str("</g>\n")?;
-    Ok(text)
-}
-
-/// What stands in its group.
-fn race_body(alloc: Global, drawing: &Drawing, mark: &RaceMark) -> Result<String, AllocError> {
-    let mut text = String::new(alloc);
-    push_race(&mut text, drawing, mark)?;
-    Ok(text)
-}
-
-/// What stands in the group of an event.
-fn body(
-    alloc: Global,
-    drawing: &Drawing,
-    y: u64,
-    shape: Shape,
-    made: Option<&Made>,
-) -> Result<String, AllocError> {
-    let mut text = String::with_capacity(alloc, EVENT_ROOM)?;
-    push_event(&mut text, drawing, y, shape, made)?;
     Ok(text)
 }
 
@@ -175,7 +157,7 @@ fn head(alloc: Global, drawing: &Drawing, mades: &[Made]) -> Result<String, Allo
     let mut text = String::new(alloc);
     let width = x_of(drawing.lines.len().min(144) as u8).saturating_add(20);
     let height = y_of(drawing.rows.len());
-    let whole = foot_of(drawing, drawing.by_itself.len());
+    let whole = y_of(drawing.rows.len().saturating_add(drawing.by_itself.len()));
     write!(
         text,
         "<svg xmlns='http://www.w3.org/2000/svg' viewBox='0 0 {width} {whole}' width='{width}' height='{whole}'>\n"
@@ -190,17 +172,10 @@ fn head(alloc: Global, drawing: &Drawing, mades: &[Made]) -> Result<String, Allo
     Ok(text)
 }
 
-/// Where so many lines of the foot end.
-fn foot_of(drawing: &Drawing, lines: usize) -> u64 {
-    (lines as u64)
-        .saturating_mul(ROW)
-        .saturating_add(y_of(drawing.rows.len()))
-}
-
 /// Adds a line for each node that works by itself.
 fn push_foot(text: &mut String, drawing: &Drawing) -> Result<(), AllocError> {
     for (at, lone) in drawing.by_itself.iter().enumerate() {
-        let y = foot_of(drawing, at).saturating_add(4);
+        let y = y_of(drawing.rows.len().saturating_add(at)).saturating_add(4);
         let (name, steps) = (lone.node.yxx(), lone.steps);
         let word = if steps == 1 { "step" } else { "steps" };
         write!(
@@ -233,7 +208,13 @@ fn push_tracks(
     for (at, row) in drawing.rows.iter().enumerate() {
         match row.shape {
             Shape::Mark { line, .. } => {
-                let waits = is_wait(mades.get(row.place as usize));
+                let waits = matches!(
+                    mades.get(row.place as usize),
+                    Some(Made::Own {
+                        kind: Kind::Wait,
+                        ..
+                    })
+                );
                 tracks.own(text, line, y_of(at), waits)?;
             }
             Shape::Arrow { from, to, .. } => {
@@ -243,14 +224,4 @@ fn push_tracks(
         }
     }
     tracks.end(text, y_of(drawing.rows.len()).saturating_sub(12))
-}
-
-fn is_wait(made: Option<&Made>) -> bool {
-    matches!(
-        made,
-        Some(Made::Own {
-            kind: Kind::Wait,
-            ..
-        })
-    )
 }

@@ -1,4 +1,4 @@
-use Rattle.std.proofs.Common.{◌≡◌, ◌+◌, List, [], ◌∷◌, ◌++◌, Vec, Global, length, set, sym, ◌∙◌, ap, subst, arith}
+use Rattle.std.proofs.Common.{◌≡◌, ◌+◌, List, [], ◌∷◌, ◌++◌, Vec, Global, length, set, replicate, sym, ◌∙◌, ap, subst, arith}
 use Rattle.ga_grid.specs.declared.node_id.NodeId.{NodeId}
 use Rattle.ga_causal.specs.Dependence.{is_marked}
 use Rattle.ga_picture.specs.kept.Lines.{AreLines}
@@ -8,8 +8,7 @@ use Rattle.ga_picture.proofs.lines.lines_of.Goals.{then-has+in_ok-push, else-has
 
 pub nodes-init : goal.nodes-init
 nodes-init c =
-    subst (λ z. AreLines (is_marked c.args.used.now) z c.no_columns-columns.result 0) (sym c.new-nodes.ensures.items)
-    (subst (λ z. AreLines (is_marked c.args.used.now) [] z 0) (sym c.no_columns-columns.ensures) (lines_none (is_marked c.args.used.now)))
+    subst (λ z. AreLines (is_marked c.args.used.now) z (replicate 144 0) 0) (sym c.new-nodes.ensures.items) (lines_none (is_marked c.args.used.now))
 
 pub nodes-preserved : goal.nodes-preserved
 nodes-preserved c =
