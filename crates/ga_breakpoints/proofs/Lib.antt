@@ -2,4 +2,5 @@ pub mod Comings
 pub mod Beginnings
 pub mod NodesNow
 pub mod Halting
+pub mod Following
 pub mod Moving

@@ -10,12 +10,13 @@ mod lines;
 mod moves;
 mod present;
 mod stepping;
+mod words;
 
 pub use back::{Watched, comes_to, go_back, reverse_continue, step_back};
 pub use breakpoint::{Breakpoint, LineBreakpoint, breakpoint_of_address, breakpoint_of_line};
 pub use going::{Halt, Went, go_on};
 pub use halts::Halts;
 pub use hits::first_hit;
-pub use lines::{begins_behind, step_back_line};
+pub use lines::step_back_line;
 pub use moves::step_on;
 pub use stepping::{Grain, Stepping};
