@@ -1,12 +1,14 @@
 -- The cell of a node's word, followed from step to step, is the one that is found by looking back.
-use Rattle.std.proofs.Common.{◌≡◌, ◌≢◌, ℕ, zero, suc, ◌+◌, ◌-◌, ◌<◌, ◌≤◌, ◌==◌, Bool, true, false, not, ◌&&◌, cond, List, [], ◌∷◌, ◌++◌, length, take, length-append, Option, Some, None, Ok, Err, IsSome, inl, inr, refl, sym, subst, ◌∙◌, ap, arith}
+use Rattle.std.proofs.Common.{◌≡◌, ◌≢◌, ℕ, zero, suc, ◌+◌, ◌-◌, ◌<◌, ◌≤◌, ◌==◌, Bool, true, false, not, ◌&&◌, cond, List, [], ◌∷◌, ◌++◌, length, take, length-append, Option, Some, None, Ok, Err, IsSome, inl, inr, refl, sym, subst, ◌∙◌, ap, arith, eq-eqb}
 use Rattle.std.specs.Prelude.{Result, is_none, option_map, option_to_list, unwrap_or}
 use Rattle.std.specs.List.{slice_get}
 use Rattle.std.specs.Result.{result_ok}
 use Rattle.std.proofs.lemmas.Option.{same_Some}
+use Rattle.std.proofs.lemmas.Bool.{ne_eqb}
 use Rattle.std.proofs.lemmas.Bool.Decides.{eqb_tells}
 use Rattle.std.proofs.lemmas.List.{append-nil, take-append-le}
 use Rattle.std.proofs.lemmas.List.Sums.{sum_by-append}
+use Rattle.ga_slots.specs.declared.op.Op.{Op}
 use Rattle.ga_node.specs.Record.{NodeRecord}
 use Rattle.ga_node.specs.declared.kind.Kind.{Kind}
 use Rattle.ga_node.specs.declared.kind.Kind.TheVariants as kind
@@ -42,6 +44,7 @@ use Rattle.ga_origin.proofs.Moves.{one_back}
 use Rattle.ga_search.specs.Conditions.{is_step_of}
 use Rattle.ga_search.specs.Running.{Running, told_by_step, moved_by}
 use Rattle.ga_search.proofs.Newest.{of_made}
+use Rattle.ga_search.proofs.Standing.{steps-cons}
 use Rattle.ga_search.proofs.Stepping.{StepIs, step_is, stepped_is}
 use Rattle.ga_search.proofs.WordCounts.{last_of, history_behind, kept_told}
 use Rattle.ga_notes.specs.declared.notes.Notes.{Notes}
@@ -95,6 +98,24 @@ word_right s node k word is = go (keeps_word (slice_get (history_of s node.numbe
     go true keeps = is ∙ sym (word_kept s node k keeps)
     go false keeps = refl
 
+-- as it is found
+keeps_is : (s : State) (node : NodeId) (k place : ℕ) (told : Option Made) (before : NodeRecord) (keeps : Bool) → place ≡ k → told ≡ slice_get (history_of s node.number) place → before ≡ node_after s node.number k
+    → keeps ≡ keeps_word told before node.number → keeps_word (slice_get (history_of s node.number) k) (node_after s node.number k) node.number ≡ keeps
+keeps_is s node k place told before keeps at told_is before_is is =
+    sym (is ∙ ap (λ (z : Option Made). keeps_word z before node.number) (told_is ∙ ap (slice_get (history_of s node.number)) at)
+    ∙ ap (λ (z : NodeRecord). keeps_word (slice_get (history_of s node.number) k) z node.number) before_is)
+
+pub word_stays : (s : State) (node : NodeId) (k place : ℕ) (word : Option ℕ) (told : Option Made) (before : NodeRecord) (keeps : Bool) → place ≡ k → told ≡ slice_get (history_of s node.number) place
+    → before ≡ node_after s node.number k → keeps ≡ keeps_word told before node.number → keeps ≡ true → word ≡ word_after s node k word
+word_stays s node k place word told before keeps at told_is before_is is kept =
+    sym (ap (λ (b : Bool). cond b word (fetched_cell s node (k + 1))) (keeps_is s node k place told before keeps at told_is before_is is ∙ kept))
+
+pub word_comes : (s : State) (node : NodeId) (k place : ℕ) (word found : Option ℕ) (told : Option Made) (before : NodeRecord) (keeps : Bool) → place ≡ k → told ≡ slice_get (history_of s node.number) place
+    → before ≡ node_after s node.number k → keeps ≡ keeps_word told before node.number → keeps ≡ false → found ≡ fetched_cell s node (place + 1) → found ≡ word_after s node k word
+word_comes s node k place word found told before keeps at told_is before_is is other found_is =
+    found_is ∙ ap (λ (z : ℕ). fetched_cell s node (z + 1)) at
+    ∙ sym (ap (λ (b : Bool). cond b word (fetched_cell s node (k + 1))) (keeps_is s node k place told before keeps at told_is before_is is ∙ other))
+
 -- ---- where a line begins
 
 stood_before : (s : State) (node : NodeId) (k : ℕ) (word : Option ℕ) → word ≡ fetched_cell s node k → spot_before s node k word ≡ spot_behind s node (place_back s node k)
@@ -111,6 +132,28 @@ begins_alike notes s node k before behind first then =
     ap (λ (z : Option Spot). comes_on notes node z (spot_by (node_after s node.number (k + 1)) behind) (op_at s node k) (line_on_spot notes node (spot_by (node_after s node.number (k + 1)) behind))) (stood_before s node k before first)
     ∙ ap (λ (z : Option ℕ). comes_on notes node (spot_behind s node (place_back s node k)) (spot_by (node_after s node.number (k + 1)) z) (op_at s node k) (line_on_spot notes node (spot_by (node_after s node.number (k + 1)) z))) then
 
+-- as it is found
+pub stood_here : (s : State) (node : NodeId) (k before : ℕ) (word : Option ℕ) (stands : NodeRecord) (found : Option Spot) → before ≡ place_back s node k → before ≡ k → stands ≡ node_after s node.number k
+    → found ≡ spot_by stands word → found ≡ spot_before s node k word
+stood_here s node k before word stands found is here at found_is =
+    found_is ∙ ap (λ (z : NodeRecord). spot_by z word) at
+    ∙ sym (ap (λ (b : Bool). cond b (spot_by (node_after s node.number k) word) (spot_behind s node (place_back s node k))) (eq-eqb (place_back s node k) k (sym is ∙ here)))
+
+pub stood_back : (s : State) (node : NodeId) (k before : ℕ) (word : Option ℕ) (found : Option Spot) → before ≡ place_back s node k → before ≢ k → found ≡ spot_behind s node before
+    → found ≡ spot_before s node k word
+stood_back s node k before word found is other found_is =
+    found_is ∙ ap (spot_behind s node) is
+    ∙ sym (ap (λ (b : Bool). cond b (spot_by (node_after s node.number k) word) (spot_behind s node (place_back s node k))) (ne_eqb (place_back s node k) k (λ h. other (is ∙ h))))
+
+pub begun_by : (notes : Notes) (s : State) (node : NodeId) (k : ℕ) (before behind : Option ℕ) (there spot : Option Spot) (stands : NodeRecord) (op : Option Op) (begins : Bool) → there ≡ spot_before s node k before
+    → spot ≡ spot_by stands behind → stands ≡ node_after s node.number (k + 1) → op ≡ op_at s node k → begins ≡ comes_on notes node there spot op (line_on_spot notes node spot)
+    → begins ≡ begins_by notes s node k before behind
+begun_by notes s node k before behind there spot stands op begins there_is spot_is at op_is comes =
+    comes
+    ∙ ap (λ (z : Option Spot). comes_on notes node z spot op (line_on_spot notes node spot)) there_is
+    ∙ ap (λ (z : Option Spot). comes_on notes node (spot_before s node k before) z op (line_on_spot notes node z)) (spot_is ∙ ap (λ (z : NodeRecord). spot_by z behind) at)
+    ∙ ap (λ (z : Option Op). comes_on notes node (spot_before s node k before) (spot_by (node_after s node.number (k + 1)) behind) z (line_on_spot notes node (spot_by (node_after s node.number (k + 1)) behind))) op_is
+
 -- ---- a machine with one event more: what its nodes did before stays
 
 record More (s t : State) : Type 0 where
@@ -124,9 +167,9 @@ place_stays [] e n zero l = (refl, omega arith)
 place_stays [] e n (suc k) l = absurd (let none : steps_of n [] ≡ 0 = refl in omega (arith, l, none))
 place_stays (x ∷ es) e n zero l = (refl, omega arith)
 place_stays (x ∷ es) e n (suc k) l =
-    go (touches x n) (sum_by-append (λ (y : Event). cond (touches y n) 1 0) (x ∷ []) es) l
+    go (touches x n) (steps-cons n x es) l
   where
-    go : (b : Bool) → steps_of n (x ∷ es) ≡ (cond b 1 0 + 0) + steps_of n es → suc k ≤ steps_of n (x ∷ es)
+    go : (b : Bool) → steps_of n (x ∷ es) ≡ cond b 1 0 + steps_of n es → suc k ≤ steps_of n (x ∷ es)
         → (suc (place_after (es ++ e ∷ []) n (cond b k (suc k))) ≡ suc (place_after es n (cond b k (suc k)))) × (suc (place_after es n (cond b k (suc k))) ≤ suc (length es))
     go true all m = let r = place_stays es e n k (omega (arith, all, m)) in (ap suc r.0, omega (arith, r.1))
     go false all m = let r = place_stays es e n (suc k) (omega (arith, all, m)) in (ap suc r.0, omega (arith, r.1))
@@ -238,8 +281,8 @@ steps_more : (s : State) (m : NodeId) (told : Made) (by : Step s m told) (n : �
 steps_more s m told by n =
     ap (steps_of n) by.more.kept
     ∙ sum_by-append (λ (e : Event). cond (touches e n) 1 0) s.kept (by.more.event ∷ [])
-    ∙ ap (λ (b : Bool). steps_of n s.kept + (cond b 1 0 + 0)) (by.touch n)
-    ∙ (let e : steps_of n s.kept + (cond (is_step_of n told) 1 0 + 0) ≡ steps_of n s.kept + cond (is_step_of n told) 1 0 = omega arith in e)
+    ∙ ap (λ (b : Bool). steps_of n s.kept + (0 + cond b 1 0)) (by.touch n)
+    ∙ (let e : steps_of n s.kept + (0 + cond (is_step_of n told) 1 0) ≡ steps_of n s.kept + cond (is_step_of n told) 1 0 = omega arith in e)
 
 one_told : (b : Bool) (told : Made) → length (cond b (told ∷ []) []) ≡ cond b 1 0
 one_told true told = refl
@@ -343,5 +386,4 @@ moved_alike notes by word r (Some m) told h well right = go (step_answer r.state
     go : (a : Result Made LabFault) → step_answer r.state m ≡ a → result_ok a ≡ Some told → is_moved_by notes by word told (stepped r.state m) ≡ is_moved notes by told (stepped r.state m)
     go (Err why) is k = absurd (cc)
     go (Ok other) is k =
-        let same : Ok other ≡ Ok told = ap Ok (same_Some other told k) in
-        moved_step notes by r.state m told (step_of r.state m told well.replays (is ∙ same)) word well.counted right
+        moved_step notes by r.state m told (step_of r.state m told well.replays (is ∙ ap (λ (z : Made). Ok z) (same_Some other told k))) word well.counted right
