@@ -43,6 +43,7 @@ GROUP = re.compile(r"<g class='([kgr])'><title>([^<]*)</title>(.*)</g>")
 RACE = re.compile(rf"<g class='c'><title>([^<]*)</title><circle cx='{NUMBER}' cy='{NUMBER}' r='[\d.]+'/><text( class='e')? x='{NUMBER}' y='{NUMBER}'>([^<]*)</text></g>")
 NAMED = re.compile(rf"<text class='n' x='{NUMBER}' y='{NUMBER}'>(\d\d\d)</text><line class='l' x1='{NUMBER}' y1='{NUMBER}' x2='{NUMBER}' y2='{NUMBER}'/>")
 TRACK = re.compile(rf"<path class='([tw])' d='M{NUMBER} {NUMBER}V{NUMBER}'/>")
+FOOT = re.compile(rf"<text x='{NUMBER}' y='{NUMBER}'>(by itself: [^<]*)</text>")
 # How near to its event, up or down, a text stands.
 NEAR = 8
 # The picture of a session whose events are known without a replay, and how many of its events are drawn.
@@ -106,14 +107,14 @@ def tracks_of(rows, node):
     yield ("dotted", since, "foot") if waits else ("solid", since, last)
 
 
-def seen_of(rows):
-    """What is seen of these events, line by line."""
+def seen_of(rows, foot):
+    """What is seen of these events, line by line, with the foot."""
     lined = sorted({node for row in rows for node in row.event})
     lines = ["lines " + " ".join(map(name, lined))]
     for node in lined:
         lines += sorted(f"{how} {name(node)} {start} to {end}" for how, start, end in tracks_of(rows, node) if start != end)
     races = sorted(f"race at {place}: {it}" for place, row in enumerate(rows) for it in row.races)
-    return lines + [f"{place} {row.text(lined)}" for place, row in enumerate(rows)] + races
+    return lines + foot + [f"{place} {row.text(lined)}" for place, row in enumerate(rows)] + races
 
 
 def race_seen(told):
@@ -141,20 +142,28 @@ class Picture:
     def __init__(self, text):
         head, style, body = re.fullmatch(r"(<svg [^>]*>)\n<style>\n(.*)</style>\n<rect [^>]*/>\n(.*)</svg>\n", text, re.S).groups()
         self.styled(style)
+        self.bottom = 0.0
         self.width, self.height = map(float, re.fullmatch(rf"<svg .* viewBox='0 0 {NUMBER} {NUMBER}' .*>", head).groups())
-        self.names, self.tracks, self.groups, self.races = {}, [], [], []
+        self.names, self.tracks, self.foot, self.groups, self.races = {}, [], [], [], []
         for line in body.splitlines():
-            named, track, group, race = (it.fullmatch(line) for it in (NAMED, TRACK, GROUP, RACE))
+            named, track, foot, group, race = (it.fullmatch(line) for it in (NAMED, TRACK, FOOT, GROUP, RACE))
             if named:
                 self.line(*named.groups())
             elif track:
                 self.tracks.append([track[1], *map(float, track.groups()[1:])])
+            elif foot:
+                self.foot.append((float(foot[1]), float(foot[2]), foot[3]))
             elif group and not self.races:
                 self.groups.append((group[1], group[2], list(pieces_of(group[3]))))
             elif race:
                 self.races.append((race[1], float(race[2]), float(race[3]), race[4], float(race[5]), float(race[6]), race[7]))
             else:
                 raise Unread(f"what is {line[:60]}")
+        lowest = self.bottom
+        for x, y, text in self.foot:
+            if not lowest + 9 <= y <= self.height - 4 or not 0 < x < x + 6.7 * len(text) <= self.width:
+                raise Unread(f"the place of '{text}'")
+            lowest = y
         heights = [pieces[0][1][1] for _, _, pieces in self.groups[:2]]
         self.first = heights[0] if heights else self.height
         self.apart = heights[1] - heights[0] if len(heights) > 1 else self.height
@@ -173,7 +182,7 @@ class Picture:
             raise Unread(f"the line of {node}")
         if node in self.names.values() or self.names and float(x) <= max(self.names):
             raise Unread(f"the place of the line of {node}")
-        self.names[float(x)] = node
+        self.names[float(x)], self.bottom = node, float(bottom)
 
     def row(self, y):
         """The row at a height, `top` above the first, `foot` below the last."""
@@ -186,6 +195,7 @@ class Picture:
             mine = [(it, self.row(start), self.row(end)) for it, at, start, end in self.tracks if at == x]
             lines += sorted(f"{'solid' if it == 't' else 'dotted'} {node} {start} to {end}" for it, start, end in mine)
         lines += [f"a track at {it[1]}" for it in self.tracks if it[1] not in self.names]
+        lines += [text for _, _, text in self.foot]
         return lines + [self.group(*it) for it in self.groups] + sorted(self.race(*it) for it in self.races)
 
     def race(self, title, x, y, ends, at, base, label):
@@ -261,7 +271,7 @@ class View:
 
 
 def rows_of(machine, view):
-    """What is drawn; none where a step doesn't stand."""
+    """What is drawn, and the lines of the foot; none where a step doesn't stand."""
     steps = [it for it in (view.cause, view.rewind) if it]
     named = {machine.place(*it) for it in steps}
     if None in named:
@@ -270,7 +280,7 @@ def rows_of(machine, view):
     places = range(len(machine.events))[view.start - 1 : view.end]
     asked = ["red"] + ["black"] * bool(view.cause)
     rows, races = [], {}
-    for line in Explorer.races(machine, None).split("\n")[1:] if view.races else []:
+    for line in Explorer.answer_races(machine, None).split("\n")[1:] if view.races else []:
         if line[:3].isdecimal():
             node, step, *_ = line.split(" ")
             races.setdefault(machine.place(number_of(node), int(step)), []).append(race_seen(line))
@@ -281,7 +291,26 @@ def rows_of(machine, view):
         row.plain = row.kind() in ("fetch", "run") and not (row.looked or at in named or row.out)
         row.sees, row.races = seen_by(machine, at), races.get(at, [])
         rows.append(row)
-    return list(folded(rows, view.fold))
+    lone = set() if view.all else lone_in([row for row in rows if not row.out], asked, view.races)
+    steps = {node: 0 for node in sorted(lone)}
+    for row in rows:
+        if row.event[0] in lone and not row.out:
+            steps[row.event[0]] += 1
+            row.out, row.plain = True, False
+    foot = [f"by itself: {name(node)}, {count} step{'s' * (count != 1)}" for node, count in steps.items()]
+    return list(folded(rows, view.fold)), foot
+
+
+def lone_in(rows, asked, races):
+    """The nodes that work by themselves, where others don't: nothing ties them to another line or to what is asked for."""
+    nodes, tied = {node for row in rows for node in row.event}, set()
+    for row in rows:
+        if row.kind() in ("pass", "wait", "stop") or row.colour in asked or races and row.looked:
+            tied |= {*row.event}
+        beside = row.sees & nodes - {*row.event}
+        if beside:
+            tied |= beside | {*row.event}
+    return nodes - tied if tied else set()
 
 
 def folded(rows, fold):
@@ -380,18 +409,18 @@ def number_of(node):
 
 
 def picture(number):
-    """A session's text, the words with which it is drawn, and the rows that are wanted, or none."""
+    """A session's text, the words with which it is drawn, and the rows and the foot that are wanted, or none."""
     if number == MILLION:
         steps = range(DEFAULT_LIMIT - DRAWN + 1, DEFAULT_LIMIT + 1)
-        return JUMPING, ["--fold", "0", "--from", str(steps[0])], [Row((0,), f"000 {it} {'fetch' if it % 2 else 'run 02'}", False, "black") for it in steps]
+        return JUMPING, ["--fold", "0", "--from", str(steps[0])], ([Row((0,), f"000 {it} {'fetch' if it % 2 else 'run 02'}", False, "black") for it in steps], [])
     it = Drawn(number)
     return it.text, it.words, rows_of(it.machine, it.view)
 
 
-def parted(rows, text):
+def parted(wanted, text):
     """In what a picture differs from what is wanted, or None."""
     try:
-        for line, (ours, its) in enumerate(zip_longest(seen_of(rows), Picture(text).seen()), 1):
+        for line, (ours, its) in enumerate(zip_longest(seen_of(*wanted), Picture(text).seen()), 1):
             if ours != its:
                 return f"line {line}: wanted is '{ours}', and the picture has '{its}'"
     except (Unread, AttributeError, KeyError) as error:
@@ -401,14 +430,14 @@ def parted(rows, text):
 
 def difference(program, number):
     """How many events a picture has, and in what it differs from what is wanted, or None."""
-    text, words, rows = picture(number)
+    text, words, wanted = picture(number)
     ran = subprocess.run([program, "draw", *words], input=text, capture_output=True, text=True, timeout=SECONDS)
-    if rows is None:
+    if wanted is None:
         return 0, None if (ran.returncode, ran.stdout) == (1, "no 6 nostep\n") else f"draw {' '.join(words)}: it is not refused"
     if ran.returncode or ran.stderr:
         return 0, f"the program ended with status {ran.returncode} and told '{ran.stderr.strip()}'"
-    told = parted(rows, ran.stdout)
-    return len(rows), told and f"draw {' '.join(words)}: {told}"
+    told = parted(wanted, ran.stdout)
+    return len(wanted[0]), told and f"draw {' '.join(words)}: {told}"
 
 
 def compared(row):

@@ -1,6 +1,6 @@
-pub mod Comings
 pub mod Beginnings
 pub mod NodesNow
 pub mod Halting
 pub mod Following
 pub mod Moving
+pub mod Reversals

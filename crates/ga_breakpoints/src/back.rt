@@ -3,13 +3,12 @@
 ghost use Rattle.std.specs.Prelude.{◌≡◌, ◌<◌, ◌≤◌, ◌+◌, ℕ, Ok};
 ghost use Rattle.ga_event.specs.Told.{steps_of};
 ghost use Rattle.ga_lab.specs.Machine.{standing, rewind_answer};
-ghost use Rattle.ga_breakpoints.specs.Back.{gone_back, stepped_back, arrives, is_at_spot, comes_to, newest_come, steps_left, later_of, latest_left, reversed};
+ghost use Rattle.ga_breakpoints.specs.Back.{gone_back, stepped_back, arrives, is_at_spot, comes_to};
 
 use ga_adapter::{Spot, spot_back};
 use ga_grid::NodeId;
 use ga_lab::{Lab, Made, Walk};
 use ga_node::Kind;
-use ga_origin::CellWrites;
 
 /// What is watched of a node.
 #[derive(Clone, Copy, PartialEq, Eq, Debug)]
@@ -81,68 +80,4 @@ pub fn comes_to(lab: &Lab, walk: &mut Walk<'_>, node: NodeId, at: Spot, place: u
     walk.step();
     let found = spot_back(lab, walk, node, place + 1);
     arrives(&lab.told(node, place)) && is_at_spot(at, found)
-}
-
-/// The newest of so many steps of a node by which it came to a slot.
-fn newest_come(lab: &Lab, node: NodeId, at: Spot, among: u32) -> Option<u32>
-    requires { among ≤ steps_of node.number lab.now.kept }
-    ensures { result ≡ newest_come lab.now node at among }
-{
-    let mut walk = lab.walk(node, among);
-    let mut step = among;
-    'going: while step > 0 {
-        if comes_to(lab, &mut walk, node, at, step - 1) {
-            return Some(step);
-        }
-        step -= 1;
-    }
-    None
-}
-
-/// How many steps of a node stay where the newest step that did this is gone back to.
-fn steps_left(lab: &Lab, node: NodeId, one: Watched) -> Option<u32>
-    ensures { result ≡ steps_left lab.now node one }
-{
-    match one {
-        Watched::Comes(at) => newest_come(lab, node, at, lab.steps(node).saturating_sub(1)),
-        Watched::Writes(address) => match CellWrites::new(lab, node, address % 64).next() {
-            Some(write) => Some(write.step - 1),
-            None => None,
-        },
-    }
-}
-
-/// The greater of two numbers, where there are both.
-fn later_of(one: Option<u32>, other: Option<u32>) -> Option<u32>
-    ensures { result ≡ later_of one other }
-{
-    let Some(a) = one else {
-        return other;
-    };
-    match other {
-        Some(b) => { if a < b { Some(b) } else { Some(a) } }
-        None => Some(a),
-    }
-}
-
-/// How many steps of a node stay where the newest step that did any of this is gone back to.
-fn latest_left(lab: &Lab, node: NodeId, watched: &[Watched]) -> Option<u32>
-    ensures { result ≡ latest_left lab.now node None watched.now }
-{
-    let mut latest = None;
-    'watching: for one in watched {
-        latest = later_of(latest, steps_left(lab, node, *one));
-    }
-    latest
-}
-
-/// `reverseContinue` (Debug Adapter Protocol, "ReverseContinueRequest"): takes a node back to the newest step that did any of what is watched, or to its
-/// load where none did, with all that depends on what goes, and says how many events that were. It goes back by one step at least: a node stands
-/// behind the step by which it came to a slot, and right before the one by which it wrote a cell. Takes time by how many steps the node
-/// made since, once for each that is watched.
-pub fn reverse_continue(lab: &mut Lab, node: NodeId, watched: &[Watched]) -> u32
-    ensures { lab.new ≡ reversed lab.old node watched.now }
-{
-    let keeps = latest_left(lab, node, watched).unwrap_or(0);
-    go_back(lab, node, keeps)
 }

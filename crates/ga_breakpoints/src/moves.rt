@@ -10,10 +10,10 @@ ghost use Rattle.ga_origin.specs.Fetched.{fetched_cell};
 ghost use Rattle.ga_breakpoints.specs.declared.stepping.Grain.TheVariants.{Line};
 ghost use Rattle.ga_breakpoints.specs.Stepping.{is_from, call_behind, step_seen, stepped_on};
 ghost use Rattle.ga_breakpoints.specs.kept.Words.{word_seen, reaches_by, is_moved_by};
-ghost use Rattle.ga_breakpoints.specs.Going.{HasGone, stepping_on};
+ghost use Rattle.ga_breakpoints.specs.Going.{HasGone, tally_on, stepping_on};
 
 use crate::going::{Went, went_by};
-use crate::halts::{Halts, is_halting};
+use crate::halts::{Halts, see_halt};
 use crate::hits::is_step_of;
 use crate::lines::begins_by;
 use crate::stepping::{Grain, Stepping};
@@ -134,18 +134,18 @@ fn reaches_by(
 /// Whether a move comes to its end by the newest event, behind which this call is to come back, by the cells of the words before it and behind it.
 fn is_moved_by(
     lab: &Lab,
-    watch: &Steps<'_>,
+    notes: &Notes,
+    by: &Stepping,
     call: Option<usize>,
+    before: Option<u8>,
     behind: Option<u8>,
     made: &Made,
 ) -> bool
     requires newest { IsNewestMade lab.now made.now }
-    requires call { is_step_of watch.now.stepping.node.number made.now ≡ true
-        → call ≡ call_behind lab.now watch.now.stepping.node watch.now.stepping.over watch.now.stepping.call }
-    requires behind { behind ≡ word_seen watch.now.stepping.node watch.now.word made.now lab.now }
-    ensures { result ≡ is_moved_by watch.now.notes.now watch.now.stepping watch.now.word made.now lab.now }
+    requires call { is_step_of by.now.node.number made.now ≡ true → call ≡ call_behind lab.now by.now.node by.now.over by.now.call }
+    requires behind { behind ≡ word_seen by.now.node before made.now lab.now }
+    ensures { result ≡ is_moved_by notes.now by.now before made.now lab.now }
 {
-    let by = &watch.stepping;
     if !is_step_of(made, by.node) {
         return false;
     }
@@ -153,35 +153,29 @@ fn is_moved_by(
         return false;
     }
     let step = newest_step(lab, made, by.node);
-    reaches_by(
-        lab,
-        watch.notes,
-        by.node,
-        by.grain,
-        step,
-        watch.word,
-        behind,
-    )
+    reaches_by(lab, notes, by.node, by.grain, step, before, behind)
 }
 
 impl<'a> Watch for Steps<'a> {
     ghost use Rattle.std.specs.Prelude.{Some, ◌||◌};
     ghost use Rattle.ga_breakpoints.specs.Breakpoints.{ends_early};
     ghost use Rattle.ga_breakpoints.specs.Stepping.{step_seen};
+    ghost use Rattle.ga_breakpoints.specs.kept.Halting.{with_hits};
     ghost use Rattle.ga_breakpoints.specs.kept.Words.{word_seen, is_moved_by};
 
-    ghost ends = { λ w told s. ends_early w.halts.breakpoints.now w.halts.stops (Some w.stepping.node) told s || is_moved_by w.notes.now w.stepping w.word told s };
+    ghost ends = { λ w told s. ends_early w.halts.breakpoints.now w.halts.tally w.halts.stops (Some w.stepping.node) told s || is_moved_by w.notes.now w.stepping w.word told s };
 
-    ghost seen = { λ w told s. record w { stepping = step_seen w.stepping told s; word = word_seen w.stepping.node w.word told s } };
+    ghost seen = { λ w told s. record w { halts = with_hits w.halts told s; stepping = step_seen w.stepping told s; word = word_seen w.stepping.node w.word told s } };
 
     fn sees(&mut self, made: &Made, lab: &Lab) -> bool {
-        let watch = *self;
-        let next = step_seen(lab, watch.stepping, made);
-        let word = word_seen(lab, watch.stepping.node, watch.word, made);
+        let by = self.stepping;
+        let before = self.word;
+        let next = step_seen(lab, by, made);
+        let behind = word_seen(lab, by.node, before, made);
         self.stepping = next;
-        self.word = word;
-        is_halting(&watch.halts, Some(watch.stepping.node), made, lab)
-            || is_moved_by(lab, &watch, next.call, word, made)
+        self.word = behind;
+        see_halt(&mut self.halts, Some(by.node), made, lab)
+            || is_moved_by(lab, self.notes, &by, next.call, before, behind, made)
     }
 }
 
@@ -209,8 +203,9 @@ pub fn step_on(
 ) -> Went
     ensures state { running lab.new result.schedule ≡ after_first (Some stepping.old.node) (running lab.old schedule) result.events }
     ensures stepping { stepping.new ≡ stepped_on stepping.old (running lab.old schedule) result.events }
+    ensures hits { result.tally ≡ tally_on (Some stepping.old.node) halts.entry.breakpoints.now halts.entry.tally (running lab.old schedule) result.events }
     ensures most { result.events ≤ most }
-    ensures end { HasGone (stepping_on notes.now halts.entry.breakpoints.now halts.entry.stops stepping.old (running lab.old schedule)) (running lab.old schedule) most result.events result.halt }
+    ensures end { HasGone (stepping_on notes.now halts.entry.breakpoints.now halts.entry.tally halts.entry.stops stepping.old (running lab.old schedule)) (running lab.old schedule) most result.events result.halt }
 {
     let node = stepping.node;
     // They are asked for what their contracts say alone: the kept events can be replayed, and each of the node's steps is told.
@@ -224,5 +219,5 @@ pub fn step_on(
     };
     let run = run_watched(lab, schedule, Some(node), most, &mut watch);
     *stepping = watch.stepping;
-    went_by(lab, run, &halts, Some(node))
+    went_by(run, &watch.halts, Some(node))
 }

@@ -3,8 +3,8 @@
 ghost use Rattle.std.specs.Prelude.{◌≡◌};
 ghost use Rattle.ga_explorer.specs.Reading.{back_in, back_by, node_back_in, until_back};
 
+use crate::commands::ExplorerCommand;
 use crate::conditions_request::conditions_of;
-use crate::request::ExplorerCommand;
 use ga_grid::NodeId;
 use ga_notes::Notes;
 use ga_text::{cut, node_in};

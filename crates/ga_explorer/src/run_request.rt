@@ -3,11 +3,14 @@
 ghost use Rattle.std.specs.Prelude.{◌≡◌};
 ghost use Rattle.ga_explorer.specs.Reading.{run_in, lone_order, named_order, seeded_in, bounded_in, bounded_by, until_in, run_until};
 
+use crate::commands::ExplorerCommand;
 use crate::conditions_request::{conditions_of, no_condition};
-use crate::request::{ExplorerCommand, MOST_EVENTS};
 use ga_notes::Notes;
 use ga_search::Schedule;
 use ga_text::{cut, number_in};
+
+/// How many events are made at most where no number is given.
+pub(crate) const MOST_EVENTS: u32 = u32::MAX;
 
 /// What stands behind `run` and a space.
 pub(crate) fn run_of(notes: &Option<Notes>, text: &[u8]) -> Option<ExplorerCommand>

@@ -5,6 +5,8 @@ pub mod Plains
 pub mod Running
 pub mod Laid
 pub mod Listed
+pub mod Loose
+pub mod Tallied
 pub mod Lined
 pub mod Drawn
 pub mod Shaded

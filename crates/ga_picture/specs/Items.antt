@@ -1,5 +1,5 @@
--- The kept events as a picture takes them: which are left out, and which may be drawn with others as one mark (docs/REFERENCE.md,
--- "Pictures"; this project's own). Places count from 0.
+-- The kept events as a picture takes them: which are left out, which may be drawn with others as one mark, and for which their nodes have
+-- to be drawn (docs/REFERENCE.md, "Pictures"; this project's own). Places count from 0.
 use Rattle.std.specs.Prelude.{ℕ, ◌+◌, ◌-◌, Bool, true, false, ◌&&◌, ◌||◌, not, if◌then◌else◌, List, [], ◌∷◌, map, drop, Option, is_some, slice_index_or}
 use Rattle.std.specs.List.{range_with_len}
 use Rattle.ga_event.specs.declared.event.Event.{Event}
@@ -47,10 +47,17 @@ is_narrow view = view.only && (is_some view.cause || is_some view.rewind)
 abbrev pub is_left_out : View → Bool → Shade → Bool
 is_left_out view idle shade = (not view.all && (idle && not (is_asked_shade view shade))) || (is_narrow view && not (is_asked_shade view shade))
 
+-- Its node has to be drawn for it: it is asked for, or is a pass, a wait or a stop. A look that reads another word in another order is
+-- asked for where races are.
+abbrev pub holds_node : View → Cause → Shade → Bool → Bool
+holds_node view e shade plain =
+    view.all || (is_asked_shade view shade || (is_a_pass e.event || not (plain || (e.look && not view.races))))
+
 -- an event of a colour, which is plain, one of the steps that are asked for, or of an idle node
 abbrev pub item_of : View → Cause → Shade → Bool → Bool → Bool → PictureItem
 item_of view e shade plain named idle =
-    let out = is_left_out view idle shade in record { cause = e; shade = shade; plain = plain && (not named && not out); out = out }
+    let out = is_left_out view idle shade in
+    record { cause = e; shade = shade; plain = plain && (not named && not out); out = out; holds = holds_node view e shade plain }
 
 -- what is known of the kept events: these, their colours, the nodes that are ready behind them, the idle ones, and the places of the
 -- steps that are asked for

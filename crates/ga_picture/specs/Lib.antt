@@ -1,6 +1,7 @@
 pub mod Items
 pub mod Runs
 pub mod Drawing
+pub mod ByItself
 pub mod RaceMarks
 pub mod Svg
 pub mod Picture

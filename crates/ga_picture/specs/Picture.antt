@@ -1,5 +1,5 @@
 -- What a picture shows of a machine's kept events (docs/REFERENCE.md, "Pictures"; this project's own).
-use Rattle.std.specs.Prelude.{◌≡◌, ℕ, ◌<◌, Bool, true, ◌&&◌, if◌then◌else◌, List, [], length, min, Option, Some, None, is_none}
+use Rattle.std.specs.Prelude.{◌≡◌, ◌↔◌, ℕ, ◌<◌, Bool, true, ◌&&◌, if◌then◌else◌, List, [], length, map, min, Option, Some, None, is_none, IsTrue}
 use Rattle.std.specs.List.{All}
 use Rattle.ga_grid.specs.declared.node_id.NodeId.{NodeId}
 use Rattle.ga_event.specs.declared.event.Cause.{Cause}
@@ -9,16 +9,18 @@ use Rattle.ga_node.specs.Table.{refusal}
 use Rattle.ga_grid.specs.Chip.{record_at}
 use Rattle.ga_lab.specs.Machine.{State, chip_of, causes_of, stands}
 use Rattle.ga_search.specs.Idle.{MarksIdle}
-use Rattle.ga_search.specs.declared.readings.Reading.{Reading}
-use Rattle.ga_search.specs.Races.{races_asked}
-use Rattle.ga_search.specs.Readings.{IsTold}
+use Rattle.ga_race_detector.specs.declared.readings.Reading.{Reading}
+use Rattle.ga_race_detector.specs.Races.{races_asked}
+use Rattle.ga_race_detector.specs.Readings.{IsTold}
 use Rattle.ga_picture.specs.declared.view.View.{View}
 use Rattle.ga_picture.specs.declared.placing.PictureRow.{PictureRow}
 use Rattle.ga_picture.specs.declared.placing.Drawing.{Drawing}
 use Rattle.ga_picture.specs.declared.race_marks.RaceMark.{RaceMark}
 use Rattle.ga_picture.specs.declared.shade.Shade.{Shade}
+use Rattle.ga_picture.specs.declared.item.PictureItem.{PictureItem}
 use Rattle.ga_picture.specs.Drawing.{AreShades, IsDrawing}
 use Rattle.ga_picture.specs.Items.{Known, items_of}
+use Rattle.ga_picture.specs.ByItself.{IsByItself, without_nodes, told_nodes}
 use Rattle.ga_picture.specs.RaceMarks.{marks_of}
 use Rattle.ga_picture.specs.Svg.{IsSvg}
 
@@ -49,12 +51,19 @@ abbrev pub known_of : List Cause → (ℕ → Bool) → (ℕ → Bool) → View 
 known_of events ready idle view shades =
     record { events = events; shades = shades; ready = ready; idle = idle; cause = place_for events view.cause; rewind = place_for events view.rewind }
 
+-- the events that are looked at
+abbrev pub items_in : List Cause → (ℕ → Bool) → (ℕ → Bool) → View → List Shade → List PictureItem
+items_in events ready idle view shades = items_of (known_of events ready idle view shades) view (start_in events view) (end_in events view)
+
 -- Each event that is looked at is drawn, unless it is left out, in the colour that it has by its dependence on the step whose causes are
--- asked for and on the one whose rollback is.
+-- asked for and on the one whose rollback is. Nodes that work by themselves are left out, and told.
 pub record IsPictureOf (events : List Cause) (ready idle : ℕ → Bool) (view : View) (drawing : Drawing) : Type 0 where
   pub shades : List Shade
   pub shaded : AreShades events (place_for events view.cause) (place_for events view.rewind) shades
-  pub drawn : IsDrawing (items_of (known_of events ready idle view shades) view (start_in events view) (end_in events view)) view.fold drawing
+  pub alone : ℕ → Bool
+  pub are_alone : (n : ℕ) → IsTrue (alone n) ↔ IsByItself (items_in events ready idle view shades) n
+  pub told : drawing.by_itself.items ≡ told_nodes (items_in events ready idle view shades) alone
+  pub drawn : IsDrawing (map (without_nodes alone) (items_in events ready idle view shades)) view.fold drawing
 
 -- a node neither waits nor is stopped
 abbrev pub is_ready : List NodeRecord → ℕ → Bool

@@ -20,7 +20,7 @@ IsSimple item = item.plain ≡ true → (is_a_pass item.cause.event ≡ false) �
 
 -- what is read past the end of a list
 abbrev pub no_item : PictureItem
-no_item = record { cause = no_cause; shade = Black; plain = false; out = true }
+no_item = record { cause = no_cause; shade = Black; plain = false; out = true; holds = false }
 
 abbrev pub at_place : List PictureItem → ℕ → PictureItem
 at_place items place = slice_index_or items place no_item

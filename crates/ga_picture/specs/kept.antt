@@ -3,3 +3,4 @@ pub mod Following
 pub mod Items
 pub mod Runs
 pub mod Svg
+pub mod ByItself

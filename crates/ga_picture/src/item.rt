@@ -1,9 +1,10 @@
 //! The kept events as a picture takes them.
 
-ghost use Rattle.std.specs.Prelude.{◌≡◌, ◌≤◌, ◌<◌, ◌&&◌, ◌||◌, not, ℕ, Bool, false, length, is_some, slice_index_or, IfOk};
+ghost use Rattle.std.specs.Prelude.{◌≡◌, ◌≤◌, ◌<◌, ◌&&◌, ◌||◌, not, ℕ, Bool, false, length, map, is_some, slice_index_or, IfOk};
 ghost use Rattle.ga_event.specs.Apply.{is_number};
-ghost use Rattle.ga_causal.specs.Dependence.{is_marked};
-ghost use Rattle.ga_picture.specs.Items.{actor, is_plain_at, is_asked_step, is_asked_shade, is_narrow, is_left_out, item_of, items_of};
+ghost use Rattle.ga_causal.specs.Dependence.{is_marked, is_a_pass};
+ghost use Rattle.ga_picture.specs.Items.{actor, is_plain_at, is_asked_step, is_asked_shade, is_narrow, is_left_out, holds_node, item_of, item_at, items_of};
+ghost use Rattle.ga_picture.specs.ByItself.{without_nodes};
 ghost use Rattle.ga_picture.specs.kept.Items.{known_in};
 
 use crate::shade::Shade;
@@ -24,6 +25,8 @@ pub struct PictureItem {
     pub plain: bool,
     /// Whether it is left out.
     pub out: bool,
+    /// Whether its node has to be drawn for it: a pass, a wait or a stop, or one that is asked for.
+    pub holds: bool,
 }
 
 /// What is known of the kept events, each list by their places.
@@ -35,16 +38,18 @@ pub(crate) struct Facts<'k> {
     pub(crate) shades: &'k [Shade],
     /// Whether each is a fetch or an opcode.
     pub(crate) plain: &'k [bool],
+    /// The idle nodes.
+    pub(crate) idle: &'k [bool; 144],
     /// The places of the two steps that are asked for.
     pub(crate) cause: Option<u32>,
     pub(crate) rewind: Option<u32>,
 }
 
-/// The events from one place on and up to another.
+/// The events from one place on and up to another. Those of some nodes are left out.
 pub(crate) fn items(
     alloc: Global,
     facts: Facts<'_>,
-    idle: &[bool; 144],
+    alone: &[bool; 144],
     view: View,
     from: usize,
     to: usize,
@@ -56,18 +61,45 @@ pub(crate) fn items(
     ensures { (ready : ℕ → Bool) →
         ((place : ℕ) → place < length facts.entry.events.now →
         slice_index_or facts.entry.plain.now place false ≡ is_plain_at ready facts.entry.events.now place) →
-        IfOk result (λ items. items.items ≡ items_of (known_in facts.entry ready (is_marked idle.now)) view from to) }
+        IfOk result (λ items. items.items ≡ map (without_nodes (is_marked alone.now)) (items_of (known_in facts.entry ready) view from to)) }
 {
     let mut items = Vec::with_capacity(alloc, to - from)?;
     'events: for place in from..to {
-        let cause = facts.events[place];
-        let shade = facts.shades[place];
-        let plain = facts.plain[place];
-        let named = is_named(facts.cause, facts.rewind, place);
-        let silent = is_idle(idle, actor(cause.event));
-        items.push(item_of(view, cause, shade, plain, named, silent))?;
+        items.push(without_nodes(alone, item_at(facts, view, place)))?;
     }
     Ok(items)
+}
+
+/// The event, which is left out where it is of one of these nodes.
+fn without_nodes(alone: &[bool; 144], item: PictureItem) -> PictureItem
+    ensures { result ≡ without_nodes (is_marked alone.now) item }
+{
+    if has(alone, actor(item.cause.event)) {
+        PictureItem {
+            plain: false,
+            out: true,
+            ..item
+        }
+    } else {
+        item
+    }
+}
+
+/// The event at a place.
+pub(crate) fn item_at(facts: Facts<'_>, view: View, place: usize) -> PictureItem
+    requires within { place < length facts.events.now }
+    requires shades { length facts.shades.now ≡ length facts.events.now }
+    requires plain { length facts.plain.now ≡ length facts.events.now }
+    ensures { (ready : ℕ → Bool) →
+        slice_index_or facts.entry.plain.now place false ≡ is_plain_at ready facts.entry.events.now place →
+        result ≡ item_at (known_in facts.entry ready) view place }
+{
+    let cause = facts.events[place];
+    let shade = facts.shades[place];
+    let plain = facts.plain[place];
+    let named = is_named(facts.cause, facts.rewind, place);
+    let silent = has(facts.idle, actor(cause.event));
+    item_of(view, cause, shade, plain, named, silent)
 }
 
 /// An event of a colour, which is plain, one of the steps that are asked for, or of an idle node.
@@ -87,6 +119,25 @@ fn item_of(
         shade,
         plain: plain && (!named && !out),
         out,
+        holds: holds_node(view, cause, shade, plain),
+    }
+}
+
+/// Whether its node has to be drawn for such an event.
+fn holds_node(view: View, cause: Cause, shade: Shade, plain: bool) -> bool
+    ensures { result ≡ holds_node view cause shade plain }
+{
+    let works = plain || (cause.look && !view.races);
+    view.all || (is_asked(view, shade) || (is_pass(cause.event) || !works))
+}
+
+/// Whether an event is a pass.
+fn is_pass(event: Event) -> bool
+    ensures { result ≡ is_a_pass event }
+{
+    match event {
+        Event::Own(_) => false,
+        Event::Pass { .. } => true,
     }
 }
 
@@ -115,11 +166,11 @@ fn is_at(step: Option<u32>, place: usize) -> bool
     }
 }
 
-/// Whether a node is idle.
-fn is_idle(idle: &[bool; 144], node: NodeId) -> bool
-    ensures { result ≡ is_marked idle.now node.number }
+/// Whether a node is one of these.
+fn has(nodes: &[bool; 144], node: NodeId) -> bool
+    ensures { result ≡ is_marked nodes.now node.number }
 {
-    idle[node.index()]
+    nodes[node.index()]
 }
 
 /// Whether what isn't asked for is left out.

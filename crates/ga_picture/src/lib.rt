@@ -4,6 +4,7 @@
 #![tactic(auto)]
 
 mod before;
+mod by_itself;
 mod follow;
 mod item;
 mod lines;
@@ -23,6 +24,7 @@ mod tracks;
 mod view;
 
 pub use before::grounds;
+pub use by_itself::ByItself;
 pub use follow::follow_session;
 pub use item::PictureItem;
 pub use placing::{Drawing, PictureRow, Shape, layout};

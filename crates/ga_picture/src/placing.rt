@@ -7,6 +7,7 @@ ghost use Rattle.ga_picture.specs.Drawing.{IsDrawing, IsShape, IsLineOf, shade_o
 ghost use Rattle.ga_picture.specs.Runs.{drawn_with, IsSimple};
 ghost use Rattle.ga_causal.specs.Dependence.{cause_touches, is_a_pass};
 
+use crate::by_itself::ByItself;
 use crate::item::{PictureItem, actor};
 use crate::lines::{Lines, lines_of};
 use crate::runs::{Runs, runs_behind};
@@ -64,14 +65,22 @@ pub struct Drawing {
     pub lines: Vec<NodeId>,
     /// What is drawn, from top to bottom.
     pub rows: Vec<PictureRow>,
+    /// The nodes that work by themselves, which have no lines.
+    pub by_itself: Vec<ByItself>,
 }
 
 /// Lays the events out that are not left out: each has a row, but a run of at least so many events of a node has one together, where
-/// its first stands. 0 stands for no such number.
-pub fn layout(alloc: Global, items: &[PictureItem], fold: u32) -> Result<Drawing, Memory>
+/// its first stands. 0 stands for no such number. Which nodes work by themselves is taken over.
+pub fn layout(
+    alloc: Global,
+    items: &[PictureItem],
+    by_itself: Vec<ByItself>,
+    fold: u32,
+) -> Result<Drawing, Memory>
     requires few { length items.now < 2 ^ 32 }
     requires simple { All IsSimple items.now }
-    ensures { IfOk result (λ drawing. IsDrawing items.now fold drawing) }
+    ensures drawn { IfOk result (λ drawing. IsDrawing items.now fold drawing) }
+    ensures told { IfOk result (λ drawing. drawing.by_itself.items ≡ by_itself.items) }
 {
     let Lines { nodes, columns } = lines_of(alloc, &touched_by(items))?;
     let behind = runs_behind(alloc, items)?;
@@ -89,7 +98,11 @@ pub fn layout(alloc: Global, items: &[PictureItem], fold: u32) -> Result<Drawing
         }
         runs.pass(&item);
     }
-    Ok(Drawing { lines: nodes, rows })
+    Ok(Drawing {
+        lines: nodes,
+        rows,
+        by_itself,
+    })
 }
 
 /// Whether an event has a row, which is drawn together with so many, and has so many of its run before it.

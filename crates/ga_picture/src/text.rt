@@ -170,14 +170,15 @@ pub(crate) fn y_of(row: usize) -> u64 {
     (row as u64).saturating_mul(ROW).saturating_add(HEAD)
 }
 
-/// What stands before the events: the size, the classes, of each node its name and a thin line, and when it runs and waits.
+/// What stands before the events: the size, the classes, of each node its name and a thin line, when it runs and waits, and the foot.
 fn head(alloc: Global, drawing: &Drawing, mades: &[Made]) -> Result<String, AllocError> {
     let mut text = String::new(alloc);
     let width = x_of(drawing.lines.len().min(144) as u8).saturating_add(20);
     let height = y_of(drawing.rows.len());
+    let whole = foot_of(drawing, drawing.by_itself.len());
     write!(
         text,
-        "<svg xmlns='http://www.w3.org/2000/svg' viewBox='0 0 {width} {height}' width='{width}' height='{height}'>\n"
+        "<svg xmlns='http://www.w3.org/2000/svg' viewBox='0 0 {width} {whole}' width='{width}' height='{whole}'>\n"
     )?;
     text.push_str(STYLE)?;
     text.push_str("<rect width='100%' height='100%' fill='#fff'/>\n")?;
@@ -185,7 +186,29 @@ fn head(alloc: Global, drawing: &Drawing, mades: &[Made]) -> Result<String, Allo
         push_name(&mut text, x_of(line as u8), *node, height)?;
     }
     push_tracks(alloc, &mut text, drawing, mades)?;
+    push_foot(&mut text, drawing)?;
     Ok(text)
+}
+
+/// Where so many lines of the foot end.
+fn foot_of(drawing: &Drawing, lines: usize) -> u64 {
+    (lines as u64)
+        .saturating_mul(ROW)
+        .saturating_add(y_of(drawing.rows.len()))
+}
+
+/// Adds a line for each node that works by itself.
+fn push_foot(text: &mut String, drawing: &Drawing) -> Result<(), AllocError> {
+    for (at, lone) in drawing.by_itself.iter().enumerate() {
+        let y = foot_of(drawing, at).saturating_add(4);
+        let (name, steps) = (lone.node.yxx(), lone.steps);
+        let word = if steps == 1 { "step" } else { "steps" };
+        write!(
+            text,
+            "<text x='10' y='{y}'>by itself: {name:03}, {steps} {word}</text>\n"
+        )?;
+    }
+    Ok(())
 }
 
 /// Adds a node's name and its thin line.

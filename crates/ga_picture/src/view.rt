@@ -1,15 +1,17 @@
 //! The picture of a lab's kept events.
 
-ghost use Rattle.std.specs.Prelude.{ℕ, ◌≡◌, ◌↔◌, ◌⊎◌, ◌<◌, ◌≤◌, ◌^◌, false, length, None, Err, IfOk, IfErr, IfSome, min, string_bytes};
+ghost use Rattle.std.specs.Prelude.{ℕ, Bool, ◌≡◌, ◌↔◌, ◌⊎◌, ◌<◌, ◌≤◌, ◌^◌, false, length, slice_index_or, None, Err, IfOk, IfErr, IfSome, min, string_bytes};
 ghost use Rattle.std.specs.List.{All};
 ghost use Rattle.ga_grid.specs.Chip.{records_of};
 ghost use Rattle.ga_causal.specs.Dependence.{is_marked};
 ghost use Rattle.ga_lab.specs.Machine.{causes_of};
-ghost use Rattle.ga_search.specs.Races.{races_asked};
-ghost use Rattle.ga_search.specs.Readings.{IsTold};
+ghost use Rattle.ga_race_detector.specs.Races.{races_asked};
+ghost use Rattle.ga_race_detector.specs.Readings.{IsTold};
 ghost use Rattle.ga_picture.specs.Picture.{IsPicture, IsPictureOf, IsPictureText, AreRaceMarks, is_ready, all_stand, stands_for, place_for};
-ghost use Rattle.ga_picture.specs.kept.Items.{AreItemsOf};
+ghost use Rattle.ga_picture.specs.Items.{is_plain_at, items_of};
+ghost use Rattle.ga_picture.specs.kept.Items.{AreItemsOf, AreListed, known_in};
 
+use crate::by_itself::{ByItself, tally_of};
 use crate::item::{Facts, PictureItem, items};
 use crate::placing::{Drawing, PictureRow, layout};
 use crate::plain::plain_events;
@@ -20,7 +22,8 @@ use crate::text::svg;
 use ga_causal::{Cause, Memory, place_of};
 use ga_grid::{Chip, NodeId};
 use ga_lab::{Lab, LabFault};
-use ga_search::{Races, find_idle, find_races};
+use ga_race_detector::{Races, find_races};
+use ga_search::find_idle;
 use std::alloc::Global;
 
 /// A step: its node and its number, counted from 1.
@@ -37,7 +40,7 @@ pub struct View {
     pub from: u32,
     /// How many of the oldest events are looked at: the last of these is the last one drawn.
     pub to: u32,
-    /// Whether idle nodes have lines too.
+    /// Whether idle nodes and those that work by themselves have lines too.
     pub all: bool,
     /// Whether what is neither a cause of the first step nor goes with the second is left out, where one is given.
     pub only: bool,
@@ -201,8 +204,15 @@ fn drawn_of(
     requires { length events.now < 2 ^ 32 }
     ensures { IfOk result (λ drawing. IsPictureOf events.now (is_marked ready) (is_marked idle.now) view drawing) }
 {
-    let items = items_of(alloc, events, idle, ready, view)?;
-    layout(alloc, items.as_slice(), view.fold)
+    let Listed { items, by_itself } = items_of(alloc, events, idle, ready, view)?;
+    layout(alloc, items.as_slice(), by_itself, view.fold)
+}
+
+/// Events as the picture takes them, and the nodes that are left out, since they work by themselves.
+#[derive(Drop)]
+struct Listed {
+    items: Vec<PictureItem>,
+    by_itself: Vec<ByItself>,
 }
 
 /// These events as the picture takes them.
@@ -212,9 +222,9 @@ fn items_of(
     idle: &[bool; 144],
     ready: [bool; 144],
     view: View,
-) -> Result<Vec<PictureItem>, Memory>
+) -> Result<Listed, Memory>
     requires { length events.now < 2 ^ 32 }
-    ensures { IfOk result (λ items. AreItemsOf events.now (is_marked ready) (is_marked idle.now) view items.items) }
+    ensures { IfOk result (λ listed. AreItemsOf events.now (is_marked ready) (is_marked idle.now) view listed.items.items listed.by_itself.items) }
 {
     let cause = place(events, view.cause);
     let rewind = place(events, view.rewind);
@@ -224,11 +234,37 @@ fn items_of(
         events,
         shades: shades.as_slice(),
         plain: plain.as_slice(),
+        idle,
         cause,
         rewind,
     };
     let (from, to) = span(events.len(), view);
-    items(alloc, facts, idle, view, from, to)
+    listed_between(alloc, facts, view, from, to)
+}
+
+/// The events from one place on and up to another.
+fn listed_between(
+    alloc: Global,
+    facts: Facts<'_>,
+    view: View,
+    from: usize,
+    to: usize,
+) -> Result<Listed, Memory>
+    requires order { from ≤ to }
+    requires within { to ≤ length facts.events.now }
+    requires few { length facts.events.now < 2 ^ 32 }
+    requires shades { length facts.shades.now ≡ length facts.events.now }
+    requires plain { length facts.plain.now ≡ length facts.events.now }
+    ensures { (ready : ℕ → Bool) →
+        ((place : ℕ) → place < length facts.entry.events.now →
+        slice_index_or facts.entry.plain.now place false ≡ is_plain_at ready facts.entry.events.now place) →
+        IfOk result (λ listed. AreListed (items_of (known_in facts.entry ready) view from to) listed.items.items listed.by_itself.items) }
+{
+    let tally = tally_of(facts, view, from, to);
+    let alone = tally.by_itself();
+    let items = items(alloc, facts, &alone, view, from, to)?;
+    let by_itself = tally.told(alloc, &alone)?;
+    Ok(Listed { items, by_itself })
 }
 
 /// From where to where events are drawn, of so many.

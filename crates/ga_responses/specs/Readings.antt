@@ -2,11 +2,11 @@
 -- what each is answered. The machine stays.
 use Rattle.std.specs.Prelude.{◌≡◌, ℕ, Bool, List, codes, Option, Some, None}
 use Rattle.serde_json.specs.View.{view}
-use Rattle.ga_search.specs.Freed.{IsSubset}
+use Rattle.ga_races.specs.Freed.{IsSubset}
 use Rattle.ga_node.specs.Record.{NodeRecord}
 use Rattle.ga_grid.specs.declared.node_id.NodeId.{NodeId}
 use Rattle.ga_lab.specs.Machine.{chip_of}
-use Rattle.ga_search.specs.Stuck.{AreStuck}
+use Rattle.ga_races.specs.Stuck.{AreStuck}
 use Rattle.ga_adapter.specs.declared.frames.SourceFile.{SourceFile}
 use Rattle.ga_adapter.specs.declared.scope.Scope.{Scope}
 use Rattle.ga_adapter.specs.Threads.{threads_in}

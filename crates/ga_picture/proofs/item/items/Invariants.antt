@@ -2,10 +2,11 @@ use Rattle.std.proofs.Common.{◌≡◌, ℕ, ◌-◌, ◌<◌, Bool, false, len
 use Rattle.std.specs.List.{range_with_len}
 use Rattle.ga_causal.specs.Dependence.{is_marked}
 use Rattle.ga_picture.specs.Items.{item_at, is_plain_at}
+use Rattle.ga_picture.specs.ByItself.{without_nodes}
 use Rattle.ga_picture.specs.kept.Items.{known_in}
 use Rattle.ga_picture.proofs.item.items.Given as goal
 
 abbrev pub invariant-events : goal.invariant-events
 invariant-events l = (ready : ℕ → Bool)
     → ((place : ℕ) → place < length l.fn.facts.events.now → get_or l.fn.facts.plain.now place false ≡ is_plain_at ready l.fn.facts.events.now place)
-    → l.items.items ≡ map (item_at (known_in l.fn.facts ready (is_marked l.idle)) l.fn.view) (range_with_len l.fn.from (l.place - l.fn.from))
+    → l.items.items ≡ map (without_nodes (is_marked l.alone)) (map (item_at (known_in l.fn.facts ready) l.fn.view) (range_with_len l.fn.from (l.place - l.fn.from)))

@@ -82,8 +82,8 @@ items-preserved c =
       ];
     }
 
-pub returns : goal.returns
-returns c =
+pub returns-clause-drawn : goal.returns-clause-drawn
+returns-clause-drawn c =
     let all : c.items.place ≡ length c.args.items.now = omega arith in
     record {
       places = c.items.invariant.laid.places ∙ ap (rows_below c.args.items.now c.args.fold) all;

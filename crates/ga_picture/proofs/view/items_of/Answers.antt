@@ -9,9 +9,9 @@ pub returns : goal.returns
 returns c =
     let events = c.args.events.now in
     let view = c.args.view in
-    IfOk-weaker c.items.result _ _
-    (λ items e. items_drawn events (is_marked c.args.ready) (is_marked c.args.idle.now) view c.in_ok-shades.shades.items c.as_slice.result.now c.place-cause.result c.place-rewind.result
-    c.span-from.result.0 c.span-from.result.1 items.items c.in_ok-shades.ensures c.as_slice.ensures.value c.place-cause.ensures.value c.place-rewind.ensures.value
-    (c.span-from.ensures.start ∙ ap (λ z. min z view.from) c.span-from.ensures.end) c.span-from.ensures.end e)
-    (c.items.ensures (is_marked c.args.ready)
+    IfOk-weaker c.listed_between.result _ _
+    (λ listed e. items_drawn events (is_marked c.args.ready) (is_marked c.args.idle.now) view c.in_ok-shades.shades.items c.as_slice.result.now c.place-cause.result c.place-rewind.result
+    c.span-from.result.0 c.span-from.result.1 listed.items.items listed.by_itself.items c.in_ok-shades.ensures c.as_slice.ensures.value c.place-cause.ensures.value
+    c.place-rewind.ensures.value (c.span-from.ensures.start ∙ ap (λ z. min z view.from) c.span-from.ensures.end) c.span-from.ensures.end e)
+    (c.listed_between.ensures (is_marked c.args.ready)
     (λ place l. ap (λ z. get_or z place false) c.as_slice-2.ensures.value ∙ c.in_ok-plain.ensures.exact place l))

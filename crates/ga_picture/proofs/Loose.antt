@@ -1,0 +1,255 @@
+-- From what is marked of nodes to those that work by themselves.
+use Rattle.std.proofs.Common.{◌≡◌, ◌≢◌, ℕ, ◌<◌, ◌==◌, Bool, true, false, ◌&&◌, ◌||◌, List, length, Option, Some, None, refl, sym, ap, ◌∙◌, subst, ⊎_elim, eqb-true, eq-eqb, get_or, IsTrue}
+use Rattle.std.specs.Prelude.{not}
+use Rattle.std.specs.List.{list_any, All}
+use Rattle.std.proofs.lemmas.List.{get_or_default}
+use Rattle.std.proofs.lemmas.List.Folds.{Any-from_list_any, list_any-from_Any, list_any-append}
+use Rattle.std.proofs.lemmas.Bool.{not-true, not_from_false, both_ways, and_parts, and_from, or_cases, or_left, or_right, cases_Bool, false_from_ne_true, true_from_ne_false}
+use Rattle.ga_ports.specs.declared.side.Side.{Side}
+use Rattle.ga_ports.specs.declared.side.Side.TheVariants.{Right, Down, Left, Up}
+use Rattle.ga_grid.specs.Grid.{neighbour_of}
+use Rattle.ga_grid.specs.declared.node_id.NodeId.{NodeId}
+use Rattle.ga_grid.proofs.Links.{neighbour_of-back, neighbour_of-other}
+use Rattle.ga_event.specs.declared.event.Event.{Event}
+use Rattle.ga_event.specs.declared.event.Event.TheVariants.{Own, Pass}
+use Rattle.ga_event.specs.declared.event.Cause.{Cause}
+use Rattle.ga_event.specs.Touches.{nodes_of, looked_at, neighbours, seen_by}
+use Rattle.ga_event.specs.Touches as Touches
+use Rattle.ga_causal.specs.kept.Firsts.{any_of}
+use Rattle.ga_causal.specs.Dependence.{cause_touches, is_a_pass}
+use Rattle.ga_causal.specs.Equivalence.{sees, AreApart}
+use Rattle.ga_causal.proofs.Looks.{any_neighbours}
+use Rattle.ga_picture.specs.declared.item.PictureItem.{PictureItem}
+use Rattle.ga_picture.specs.Runs.{at_place, no_item}
+use Rattle.ga_picture.specs.Drawing.{IsTouched}
+use Rattle.ga_picture.specs.ByItself.{IsDrawnOf, IsFree}
+use Rattle.ga_picture.specs.kept.ByItself.{IsHeld, is_on, is_look, touched_in, held_in, looking_in, is_loose}
+use Rattle.ga_picture.proofs.Flags.{any_of_one, any_at}
+use Rattle.ga_picture.proofs.Touching.{touched_below}
+
+-- ---- neighbours
+
+is_some_of : (o : Option ℕ) (m : ℕ) → any_of (λ k. k == m) o ≡ true → o ≡ Some m
+is_some_of None m t = absurd (both_ways false refl t)
+is_some_of (Some k) m t = ap Some (eqb-true k m t)
+
+is_of_some : (o : Option ℕ) (m : ℕ) → o ≡ Some m → any_of (λ k. k == m) o ≡ true
+is_of_some o m e = subst (λ z. any_of (λ k. k == m) z ≡ true) (sym e) (eq-eqb m m refl)
+
+record IsBeside (n m : ℕ) : Type 0 where
+  pub side : Side
+  pub linked : neighbour_of n side ≡ Some m
+
+beside_of : (n m : ℕ) → list_any (λ k. k == m) (neighbours n) ≡ true → IsBeside n m
+beside_of n m t =
+    let p : ℕ → Bool = λ k. k == m in
+    let four = sym (any_neighbours p n) ∙ t in
+    ⊎_elim (λ u. record { side = Right; linked = is_some_of (neighbour_of n Right) m u })
+    (λ three. ⊎_elim (λ u. record { side = Down; linked = is_some_of (neighbour_of n Down) m u })
+    (λ two. ⊎_elim (λ u. record { side = Left; linked = is_some_of (neighbour_of n Left) m u })
+    (λ one. ⊎_elim (λ u. record { side = Up; linked = is_some_of (neighbour_of n Up) m u })
+    (λ none. absurd (both_ways false refl none))
+    (or_cases _ _ one))
+    (or_cases _ _ two))
+    (or_cases _ _ three))
+    (or_cases _ _ four)
+
+abbrev on : ℕ → ℕ → Side → Bool
+on n m side = any_of (λ k. k == m) (neighbour_of n side)
+
+side_beside : (n m : ℕ) (side : Side) → neighbour_of n side ≡ Some m → list_any (λ k. k == m) (neighbours n) ≡ true
+side_beside n m Right e = any_neighbours (λ k. k == m) n ∙ or_left (on n m Right) _ (is_of_some (neighbour_of n Right) m e)
+side_beside n m Down e = any_neighbours (λ k. k == m) n ∙ or_right (on n m Right) _ (or_left (on n m Down) _ (is_of_some (neighbour_of n Down) m e))
+side_beside n m Left e =
+    any_neighbours (λ k. k == m) n ∙ or_right (on n m Right) _ (or_right (on n m Down) _ (or_left (on n m Left) _ (is_of_some (neighbour_of n Left) m e)))
+side_beside n m Up e =
+    any_neighbours (λ k. k == m) n
+    ∙ or_right (on n m Right) _ (or_right (on n m Down) _ (or_right (on n m Left) _ (or_left (on n m Up) false (is_of_some (neighbour_of n Up) m e))))
+
+beside_back : (n m : ℕ) → n < 144 → list_any (λ k. k == m) (neighbours n) ≡ true → list_any (λ k. k == n) (neighbours m) ≡ true
+beside_back n m l t = let b = beside_of n m t in side_beside m n b.side (neighbour_of-back n m b.side l b.linked)
+
+beside_other : (n m : ℕ) → list_any (λ k. k == m) (neighbours n) ≡ true → m ≢ n
+beside_other n m t = let b = beside_of n m t in neighbour_of-other n m b.side b.linked
+
+-- ---- what one event touches and sees
+
+own_alone : (e : Event) (n m : ℕ) → is_a_pass e ≡ false → Touches.touches e n ≡ true → Touches.touches e m ≡ true → m ≡ n
+own_alone (Own node) n m own t u = sym (named node m u) ∙ named node n t where
+  named : (node : NodeId) (k : ℕ) → Touches.touches (Own node) k ≡ true → node.number ≡ k
+  named node k t = ⊎_elim (λ u. eqb-true node.number k u) (λ u. absurd (both_ways false refl u)) (or_cases (node.number == k) false t)
+own_alone (Pass w r side) n m own t u = absurd (both_ways true own refl)
+
+-- it looks from a node beside this one
+pub record IsSeen (e : Cause) (n : ℕ) : Type 0 where
+  pub from : ℕ
+  pub within : from < 144
+  pub touched : cause_touches e from ≡ true
+  pub looks : (not (is_a_pass e.event) && e.look) ≡ true
+  pub beside : list_any (λ k. k == n) (neighbours from) ≡ true
+
+seen_from : (e : Cause) (v : Event) (look : Bool) (n : ℕ) → e.event ≡ v → e.look ≡ look → list_any (λ k. k == n) (looked_at v look) ≡ true → IsSeen e n
+seen_from e (Own node) true n is l t = record {
+  from = node.number;
+  within = node.in_range;
+  touched = subst (λ z. Touches.touches z node.number ≡ true) (sym is) (or_left (node.number == node.number) false (eq-eqb node.number node.number refl));
+  looks = and_from _ _ (ap (λ z. not (is_a_pass z)) is) l;
+  beside = t;
+}
+seen_from e (Own node) false n is l t = absurd (both_ways false refl t)
+seen_from e (Pass w r side) look n is l t = absurd (both_ways false refl t)
+
+sees_parts : (e : Cause) (n : ℕ) → sees e n ≡ (cause_touches e n || list_any (λ k. k == n) (looked_at e.event e.look))
+unfolding seen_by
+sees_parts e n = list_any-append (λ k. k == n) (nodes_of e.event) (looked_at e.event e.look)
+
+is_seen : (e : Cause) (n : ℕ) → sees e n ≡ true → cause_touches e n ≡ false → IsSeen e n
+is_seen e n s f = ⊎_elim (λ t. absurd (both_ways (cause_touches e n) f t)) (λ t. seen_from e e.event e.look n refl refl t)
+    (or_cases _ _ (sym (sees_parts e n) ∙ s))
+
+looks_at : (v : Event) (look : Bool) (n m : ℕ) → (not (is_a_pass v) && look) ≡ true → Touches.touches v n ≡ true → list_any (λ k. k == m) (neighbours n) ≡ true
+    → list_any (λ k. k == m) (looked_at v look) ≡ true
+looks_at (Own node) true n m l t b =
+    subst (λ z. list_any (λ k. k == m) (neighbours z) ≡ true)
+    (sym (own_alone (Own node) n node.number refl t (or_left (node.number == node.number) false (eq-eqb node.number node.number refl)))) b
+looks_at (Own node) false n m l t b = absurd (both_ways false refl l)
+looks_at (Pass w r side) look n m l t b = absurd (both_ways false refl l)
+
+sees_beside : (e : Cause) (n m : ℕ) → (not (is_a_pass e.event) && e.look) ≡ true → cause_touches e n ≡ true → list_any (λ k. k == m) (neighbours n) ≡ true → sees e m ≡ true
+sees_beside e n m l t b = sees_parts e m ∙ or_right _ _ (looks_at e.event e.look n m l t b)
+
+-- ---- one event of a list
+
+record IsSomewhere (p : PictureItem → Bool) (items : List PictureItem) : Type 0 where
+  pub place : ℕ
+  pub within : place < length items
+  pub passes : p (at_place items place) ≡ true
+
+somewhere : (p : PictureItem → Bool) (items : List PictureItem) → list_any p items ≡ true → IsSomewhere p items
+somewhere p items t =
+    let a = Any-from_list_any p items t in
+    let is : at_place items a.0 ≡ a.1 = get_or_default items a.0 no_item a.1 a.2 ∙ a.3 in
+    record { place = a.0; within = a.2; passes = ap p is ∙ a.4 }
+
+from_somewhere : (p : PictureItem → Bool) (items : List PictureItem) (place : ℕ) → place < length items → p (at_place items place) ≡ true → list_any p items ≡ true
+from_somewhere p items place l t =
+    list_any-from_Any p items (place, at_place items place, l, get_or_default items place (at_place items place) no_item l, t)
+
+on_of : (items : List PictureItem) (place n : ℕ) → IsDrawnOf items place n → is_on (at_place items place) n ≡ true
+on_of items place n o = and_from _ _ (not_from_false _ o.drawn) o.touched
+
+of_on : (items : List PictureItem) (place n : ℕ) → place < length items → is_on (at_place items place) n ≡ true → IsDrawnOf items place n
+of_on items place n l t = let parts = and_parts _ _ t in record { within = l; drawn = not-true _ parts.0; touched = parts.1 }
+
+pub touched_from : (items : List PictureItem) (n : ℕ) → touched_in items n ≡ true → IsTouched items n
+touched_from items n t =
+    let s = somewhere (λ item. is_on item n) items t in
+    let o = of_on items s.place n s.within s.passes in
+    record { place = s.place; within = s.within; drawn = o.drawn; touched = o.touched }
+
+of_touched : (items : List PictureItem) (n : ℕ) (t : IsTouched items n) → IsDrawnOf items t.place n
+of_touched items n t = record { within = t.within; drawn = t.drawn; touched = t.touched }
+
+touched_of : (items : List PictureItem) (place n : ℕ) → IsDrawnOf items place n → touched_in items n ≡ true
+touched_of items place n o = from_somewhere (λ item. is_on item n) items place o.within (on_of items place n o)
+
+pub into_touched : (items : List PictureItem) (n : ℕ) → IsTouched items n → touched_in items n ≡ true
+into_touched items n t = touched_of items t.place n (of_touched items n t)
+
+held_of : (items : List PictureItem) (place n : ℕ) → IsDrawnOf items place n → (at_place items place).holds ≡ true → held_in items n ≡ true
+held_of items place n o h = from_somewhere (λ (item : PictureItem). is_on item n && item.holds) items place o.within (and_from _ _ (on_of items place n o) h)
+
+looking_of : (items : List PictureItem) (place n : ℕ) → IsDrawnOf items place n → is_look (at_place items place) ≡ true → looking_in items n ≡ true
+looking_of items place n o h = from_somewhere (λ item. is_on item n && is_look item) items place o.within (and_from _ _ (on_of items place n o) h)
+
+-- ---- where nothing holds a node or joins it to another, by what is marked
+
+abbrev pub loose_in : List PictureItem → ℕ → Bool
+loose_in items n = is_loose (touched_in items) (held_in items) (looking_in items) n
+
+record IsUnjoined (items : List PictureItem) (n : ℕ) : Type 0 where
+  pub unheld : held_in items n ≡ false
+  pub blind : looking_in items n ≡ true → list_any (touched_in items) (neighbours n) ≡ true → ⊥
+  pub unseen : list_any (looking_in items) (neighbours n) ≡ false
+
+unjoined : (items : List PictureItem) (n : ℕ) → loose_in items n ≡ true → IsUnjoined items n
+unjoined items n t =
+    let first = and_parts _ _ t in
+    let second = and_parts _ _ first.1 in
+    record {
+      unheld = not-true _ first.0;
+      blind = λ l b. both_ways _ (not-true _ second.0) (and_from _ _ l b);
+      unseen = not-true _ second.1;
+    }
+
+own_of : (items : List PictureItem) (place n : ℕ) → All IsHeld items → held_in items n ≡ false → IsDrawnOf items place n
+    → ((at_place items place).holds ≡ false) × (is_a_pass (at_place items place).cause.event ≡ false)
+own_of items place n held f o =
+    let loose : (at_place items place).holds ≡ false = false_from_ne_true _ (λ h. both_ways _ f (held_of items place n o h)) in
+    (loose, false_from_ne_true _ (λ p. both_ways _ loose (held place no_item o.within p)))
+
+-- an event of another node doesn't touch it
+untouched : (items : List PictureItem) (by n other : ℕ) → All IsHeld items → held_in items n ≡ false → IsDrawnOf items by other → other ≢ n
+    → cause_touches (at_place items by).cause n ≡ false
+untouched items by n other held f q ne =
+    false_from_ne_true _ (λ t.
+    let o : IsDrawnOf items by n = record { within = q.within; drawn = q.drawn; touched = t } in
+    ne (own_alone (at_place items by).cause.event n other (own_of items by n held f o).1 t q.touched))
+
+pub free_from : (items : List PictureItem) (n : ℕ) → All IsHeld items → loose_in items n ≡ true → IsFree items n
+free_from items n held t =
+    let u = unjoined items n t in
+    record {
+      loose = λ place o. (own_of items place n held u.unheld o).0;
+      apart = λ place by other o q ne.
+          let e = (at_place items place).cause in
+          let f = (at_place items by).cause in
+          let own : is_a_pass e.event ≡ false = (own_of items place n held u.unheld o).1 in
+          let off : cause_touches f n ≡ false = untouched items by n other held u.unheld q ne in
+          record {
+            first = λ m at s.
+                let here : m ≡ n = own_alone e.event n m own o.touched at in
+                let k = is_seen f n (subst (λ z. sees f z ≡ true) here s) off in
+                let looker : IsDrawnOf items by k.from = record { within = q.within; drawn = q.drawn; touched = k.touched } in
+                both_ways _ u.unseen (any_of_one (looking_in items) k.from (looking_of items by k.from looker k.looks) (neighbours n) (beside_back k.from n k.within k.beside));
+            second = λ m at s.
+                let there : IsDrawnOf items by m = record { within = q.within; drawn = q.drawn; touched = at } in
+                let away : cause_touches e m ≡ false = false_from_ne_true _ (λ v. both_ways _ off (subst (λ z. cause_touches f z ≡ true) (own_alone e.event n m own o.touched v) at)) in
+                let k = is_seen e m s away in
+                let same : k.from ≡ n = own_alone e.event n k.from own o.touched k.touched in
+                u.blind (looking_of items place n o k.looks)
+                (any_of_one (touched_in items) m (touched_of items by m there) (neighbours n) (subst (λ z. list_any (λ j. j == m) (neighbours z) ≡ true) same k.beside));
+          };
+    }
+
+-- ---- and back
+
+pub loose_from : (items : List PictureItem) (n : ℕ) → All IsHeld items → IsTouched items n → IsFree items n → loose_in items n ≡ true
+loose_from items n held t free =
+    let o = of_touched items n t in
+    let small : n < 144 = touched_below (at_place items t.place).cause.event n t.touched in
+    and_from _ _ (not_from_false _ (unheld items n free)) (and_from _ _ (not_from_false _ (blind items n free)) (not_from_false _ (unseen items n t.place o small free))) where
+      unheld : (items : List PictureItem) (n : ℕ) → IsFree items n → held_in items n ≡ false
+      unheld items n free = false_from_ne_true _ (λ h.
+          let s = somewhere (λ (item : PictureItem). is_on item n && item.holds) items h in
+          let parts = and_parts _ _ s.passes in
+          both_ways _ (free.loose s.place (of_on items s.place n s.within parts.0)) parts.1)
+
+      blind : (items : List PictureItem) (n : ℕ) → IsFree items n → (looking_in items n && list_any (touched_in items) (neighbours n)) ≡ false
+      blind items n free = false_from_ne_true _ (λ h.
+          let both = and_parts _ _ h in
+          let s = somewhere (λ item. is_on item n && is_look item) items both.0 in
+          let parts = and_parts _ _ s.passes in
+          let b = any_at (touched_in items) (neighbours n) both.1 in
+          let q = touched_from items b.0 b.2 in
+          (free.apart s.place q.place b.0 (of_on items s.place n s.within parts.0) (of_touched items b.0 q) (beside_other n b.0 b.1)).second b.0 q.touched
+          (sees_beside (at_place items s.place).cause n b.0 parts.1 (of_on items s.place n s.within parts.0).touched b.1))
+
+      unseen : (items : List PictureItem) (n place : ℕ) → IsDrawnOf items place n → n < 144 → IsFree items n → list_any (looking_in items) (neighbours n) ≡ false
+      unseen items n place o small free = false_from_ne_true _ (λ h.
+          let b = any_at (looking_in items) (neighbours n) h in
+          let s = somewhere (λ item. is_on item b.0 && is_look item) items b.2 in
+          let parts = and_parts _ _ s.passes in
+          let q = of_on items s.place b.0 s.within parts.0 in
+          (free.apart place s.place b.0 o q (beside_other n b.0 b.1)).first n o.touched
+          (sees_beside (at_place items s.place).cause b.0 n parts.1 q.touched (beside_back n b.0 small b.1)))

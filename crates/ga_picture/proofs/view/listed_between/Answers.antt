@@ -1,0 +1,15 @@
+use Rattle.ga_causal.specs.Dependence.{is_marked}
+use Rattle.ga_picture.specs.kept.Items.{known_in}
+use Rattle.ga_picture.proofs.Listed.{items_held}
+use Rattle.ga_picture.proofs.view.listed_between.Goals as goal
+
+pub returns : goal.returns
+returns c = λ ready h.
+    let held = items_held (known_in c.args.facts ready) c.args.view c.args.from c.args.to in
+    let a = c.tally_of-tally.ensures ready h in
+    record {
+      alone = is_marked c.by_itself-alone.result;
+      are_alone = c.by_itself-alone.ensures _ a held;
+      tells = c.in_ok-by_itself.ensures _ a;
+      are = c.in_ok-items.ensures ready h;
+    }
