@@ -7,7 +7,7 @@ use Rattle.std.proofs.lemmas.Option.{same_Some}
 use Rattle.std.proofs.lemmas.Bool.{ne_eqb}
 use Rattle.std.proofs.lemmas.Bool.Decides.{eqb_tells}
 use Rattle.std.proofs.lemmas.List.{append-nil, take-append-le}
-use Rattle.std.proofs.lemmas.List.Sums.{sum_by-append}
+use Rattle.std.proofs.lemmas.List.Sums.{sum_by-append, sum_by-cons}
 use Rattle.ga_slots.specs.declared.op.Op.{Op}
 use Rattle.ga_node.specs.Record.{NodeRecord}
 use Rattle.ga_node.specs.declared.kind.Kind.{Kind}
@@ -44,7 +44,6 @@ use Rattle.ga_origin.proofs.Moves.{one_back}
 use Rattle.ga_search.specs.Conditions.{is_step_of}
 use Rattle.ga_search.specs.Running.{Running, told_by_step, moved_by}
 use Rattle.ga_search.proofs.Newest.{of_made}
-use Rattle.ga_search.proofs.Standing.{steps-cons}
 use Rattle.ga_search.proofs.Stepping.{StepIs, step_is, stepped_is}
 use Rattle.ga_search.proofs.WordCounts.{last_of, history_behind, kept_told}
 use Rattle.ga_notes.specs.declared.notes.Notes.{Notes}
@@ -161,6 +160,9 @@ record More (s t : State) : Type 0 where
   load : t.load ≡ s.load
   kept : t.kept ≡ s.kept ++ event ∷ []
   told : (n : ℕ) → history_of t n ≡ history_of s n ++ cond (touches event n) (told_next s event ∷ []) []
+
+steps-cons : (n : ℕ) (e : Event) (es : List Event) → steps_of n (e ∷ es) ≡ cond (touches e n) 1 0 + steps_of n es
+steps-cons n e es = sum_by-cons (λ (x : Event). cond (touches x n) 1 0) e es
 
 place_stays : (es : List Event) (e : Event) (n k : ℕ) → k ≤ steps_of n es → (place_after (es ++ e ∷ []) n k ≡ place_after es n k) × (place_after es n k ≤ length es)
 place_stays [] e n zero l = (refl, omega arith)
