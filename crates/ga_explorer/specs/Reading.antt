@@ -224,16 +224,16 @@ conditions_in notes text = conditions_within notes most_conditions text
 abbrev pub no_condition : List Condition
 no_condition = replicate most_conditions Never
 
+-- `until COND or COND ..`
+unfoldable pub until_in : Option Notes → Line → Option (List Condition)
+until_in notes text = do
+  parts ← cut text
+  if pointwise nat_eq parts.0 (codes "until") then conditions_in notes parts.1 else None
+
 -- ---- `run`
 
 abbrev pub run_until : Option Notes → Schedule → ℕ → Line → Option ExplorerCommand
 run_until notes schedule most text = option_map (Run schedule most) (conditions_in notes text)
-
--- `until COND or COND ..` behind a number
-unfoldable pub until_in : Option Notes → Schedule → ℕ → Line → Option ExplorerCommand
-until_in notes schedule most text = do
-  parts ← cut text
-  if pointwise nat_eq parts.0 (codes "until") then run_until notes schedule most parts.1 else None
 
 -- `until COND`, or a number and `until COND`
 unfoldable pub bounded_by : Option Notes → Schedule → Line → Line → Option ExplorerCommand
@@ -241,7 +241,8 @@ bounded_by notes schedule name text =
     if pointwise nat_eq name (codes "until") then run_until notes schedule most_events text
     else (do
       most ← number_in name
-      until_in notes schedule most text)
+      until ← until_in notes text
+      Some (Run schedule most until))
 
 abbrev pub bounded_cut : Option Notes → Option (Line × Line) → Schedule → Line → Option ExplorerCommand
 bounded_cut notes None schedule text = option_map (λ most. Run schedule most no_condition) (number_in text)
@@ -282,22 +283,17 @@ run_in notes text = run_by notes (cut text) text
 
 -- ---- `back until`
 
-abbrev pub until_back : Option Notes → Option NodeId → Line → Option ExplorerCommand
-until_back notes only text = option_map (BackUntil only) (conditions_in notes text)
+abbrev pub until_back : Option Notes → Line → Option ExplorerCommand
+until_back notes text = option_map (BackUntil None) (conditions_in notes text)
 
--- `until COND or COND ..` behind a node
-unfoldable pub node_back_in : Option Notes → NodeId → Line → Option ExplorerCommand
-node_back_in notes node text = do
-  parts ← cut text
-  if pointwise nat_eq parts.0 (codes "until") then until_back notes (Some node) parts.1 else None
-
--- the same, or a node before it
+-- `until COND or COND ..`, or a node before it
 unfoldable pub back_by : Option Notes → Line → Line → Option ExplorerCommand
 back_by notes name text =
-    if pointwise nat_eq name (codes "until") then until_back notes None text
+    if pointwise nat_eq name (codes "until") then until_back notes text
     else (do
       node ← node_in name
-      node_back_in notes node text)
+      until ← until_in notes text
+      Some (BackUntil (Some node) until))
 
 -- what stands behind `back`
 unfoldable pub back_in : Option Notes → Line → Option ExplorerCommand

@@ -1,15 +1,17 @@
 -- The numbers that words say are below 2^18.
 use Rattle.std.specs.Prelude.{codes, bytes_eq, if◌then◌else◌, bit_xor, ◌==◌}
 use Rattle.std.specs.Option.{option_map_or, option_or}
-use Rattle.std.proofs.Common.{◌≡◌, ℕ, ◌+◌, ◌*◌, ◌<◌, ◌≤◌, inl, inr, Bool, true, false, List, drop, [], ◌∷◌, Option, Some, None, ltb, leb, subst, arith}
+use Rattle.std.proofs.Common.{◌≡◌, ℕ, ◌+◌, ◌*◌, ◌<◌, ◌≤◌, inl, inr, Bool, true, false, List, drop, [], ◌∷◌, Option, Some, None, ltb, leb, refl, subst, arith}
 use Rattle.std.proofs.Math.Nat.{mod-lt}
 use Rattle.std.proofs.lemmas.Bool.{cases_Bool, ltb-true}
 use Rattle.std.proofs.lemmas.Nat.{xor_lt}
 use Rattle.ga_parser.specs.declared.number.Number.{Number}
-use Rattle.ga_parser.specs.declared.number.Number.TheVariants.{Of, Nothing}
+use Rattle.ga_parser.specs.declared.number.Number.TheVariants.{Of, OutOfRange, Nothing}
 use Rattle.ga_ports.specs.Letters.{side_value, set_number}
 use Rattle.ga_ports.specs.Steps.{◌>>=◌}
 use Rattle.ga_parser.specs.Numbers.{has_prefix, plain_in, word_of_size, word_below, numeral_in, set_address, set_in, by_name, ports, port_in, number_by_word}
+use Rattle.ga_parser.specs.Plain.{by_number}
+use Rattle.ga_parser.proofs.Hearing.{no_some}
 
 abbrev IsSmall : Number → Type 0
 IsSmall (Of n) = n < 262144
@@ -95,5 +97,14 @@ word_small : (port : Option ℕ) (number : Number) → IsSmallAddress port → I
 word_small (Some n) number port other = omega arith
 word_small None number port other = other
 
-pub number_small : (text : List ℕ) (n : ℕ) → number_by_word text ≡ Of n → n < 262144
+number_small : (text : List ℕ) (n : ℕ) → number_by_word text ≡ Of n → n < 262144
 number_small text n is = subst IsSmall is (word_small (port_in text) (numeral_in text) (port_small text) (numeral_small text))
+
+asked_so : {X : Type 0} (number : Number) (asks : ℕ → Option X) (more : X) (Holds : Type 0) → ((n : ℕ) → number ≡ Of n → asks n ≡ Some more → Holds) → by_number number asks ≡ Some more → Holds
+asked_so (Of n) asks more Holds each is = each n refl is
+asked_so OutOfRange asks more Holds each is = absurd (no_some is)
+asked_so Nothing asks more Holds each is = absurd (no_some is)
+
+-- what a number asks for holds where it does for each number that a word can say
+pub number_asks : {X : Type 0} (word : List ℕ) (asks : ℕ → Option X) (more : X) (Holds : Type 0) → ((n : ℕ) → n < 262144 → asks n ≡ Some more → Holds) → by_number (number_by_word word) asks ≡ Some more → Holds
+number_asks word asks more Holds each is = asked_so (number_by_word word) asks more Holds (λ n number. each n (number_small word n number)) is

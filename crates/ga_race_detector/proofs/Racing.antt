@@ -19,7 +19,7 @@ use Rattle.ga_race_detector.specs.declared.races.Race.{Race}
 use Rattle.ga_race_detector.specs.Races.{race_from, races_over, races_told, races_before, races_of, races_below, has_look, looks_next, has_next_look, first_ready}
 use Rattle.ga_event.specs.Next.{next}
 use Rattle.ga_races.specs.Ready.{can_go}
-use Rattle.ga_races.proofs.Rounds.{can_go_is, none_of}
+use Rattle.ga_races.proofs.Ready.{can_go_is, none_of}
 
 pub added : (r : NodeId) (k : ℕ) (w : NodeId) (word : ℕ) (other : NodeId) (offer : Option ℕ) (o cut : ℕ) → offer ≡ Some o → other.number ≢ w.number → cut ≡ o % (2 ^ 18)
     → IfSome offer (λ z. z < 2 ^ 18) → race_from r k w word (Some other.number) offer ≡ record { reader = r; step = k; writer = w; word = word; other = other; offered = cut } ∷ []

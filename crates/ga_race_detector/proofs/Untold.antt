@@ -41,7 +41,7 @@ use Rattle.ga_races.proofs.Blind.{IsBlind, NoneShowsWithin, none_races_within}
 use Rattle.ga_race_detector.specs.Offered.{given, offered_by, offered}
 use Rattle.ga_race_detector.specs.Races.{race_from, races_over, races_around, races_told, races_at, races_before, races_of, races_below, races_asked, has_look, looks_next, has_next_look, has_looks, first_ready, IsOther}
 use Rattle.ga_races.specs.Ready.{can_go}
-use Rattle.ga_races.proofs.Rounds.{none_of}
+use Rattle.ga_races.proofs.Ready.{none_of}
 use Rattle.ga_race_detector.proofs.Sessions.{on_the_way, same_end, no_next}
 use Rattle.std.specs.List.{All}
 use Rattle.std.proofs.lemmas.List.Elements.{All-nil, All-append}

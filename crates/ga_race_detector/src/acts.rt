@@ -1,6 +1,6 @@
 //! The kept events of a lab with what they changed of what neighbours are shown.
 
-ghost use Rattle.std.specs.Prelude.{◌≡◌, ◌≢◌, ◌<◌, ◌+◌, ◌++◌, ◌∷◌, [], ℕ, true, Some, take, slice_index, length, IfOk, OnOk, IfErr};
+ghost use Rattle.std.specs.Prelude.{◌≡◌, ◌≢◌, ◌<◌, ◌+◌, ℕ, true, Some, take, slice_index, length, IfOk, IfErr};
 ghost use Rattle.ga_node.specs.Io.{io_word};
 ghost use Rattle.ga_node.specs.Waits.{wait_of, IsWaitCode};
 ghost use Rattle.ga_grid.specs.Grid.{neighbour_of};
@@ -14,6 +14,7 @@ ghost use Rattle.ga_races.specs.kept.Changed.{shown_as, is_changed, changed_side
 ghost use Rattle.ga_lab.specs.Machine.{State, chip_of, causes_of, earlier};
 ghost use Rattle.ga_race_detector.specs.kept.Acts.{StoodSo, AllStood, IsAt, IsActAt, IsMoment, AreMoments};
 
+use crate::adding::add;
 use crate::moments::{Moment, first_part, last_part, no_moments};
 use crate::writers::reads_by;
 use ga_event::{Cause, Event};
@@ -317,17 +318,6 @@ fn plain(cause: &Cause) -> EventAccess
     }
 }
 
-// Puts an act at the end of a list.
-fn add_act(list: &mut Vec<EventAccess>, act: EventAccess) -> Result<(), LabFault>
-    ensures ok { OnOk result (list.new.items ≡ list.old.items ++ act ∷ []) }
-    ensures err { IfErr result (λ why. why ≡ LabFault.Memory) }
-{
-    match list.push(act) {
-        Ok(()) => Ok(()),
-        Err(_) => Err(LabFault::Memory),
-    }
-}
-
 // The events, with no sides yet.
 fn plain_acts(alloc: Global, causes: &[Cause]) -> Result<Vec<EventAccess>, LabFault>
     ensures causes { IfOk result (λ acts. causes_in (actions_in acts.items) ≡ causes.now) }
@@ -339,7 +329,7 @@ fn plain_acts(alloc: Global, causes: &[Cause]) -> Result<Vec<EventAccess>, LabFa
     };
     'causes: for cause in causes {
         let act = plain(cause);
-        add_act(&mut acts, act)?;
+        add(&mut acts, act)?;
     }
     Ok(acts)
 }

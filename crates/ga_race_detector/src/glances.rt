@@ -1,6 +1,6 @@
 //! Looks with changes that are near to them, as they are told, but for the other word.
 
-ghost use Rattle.std.specs.Prelude.{◌≡◌, ◌<◌, ◌+◌, ◌^◌, ◌++◌, ◌∷◌, [], ℕ, true, false, length, take, Contains, Some, IsSome, IfSome, slice_index_or, IfOk, OnOk, IfErr};
+ghost use Rattle.std.specs.Prelude.{◌≡◌, ◌<◌, ◌+◌, ◌^◌, ℕ, true, false, length, take, Contains, Some, IsSome, IfSome, slice_index_or, IfOk, OnOk, IfErr};
 ghost use Rattle.std.specs.List.{All};
 ghost use Rattle.ga_event.specs.Apply.{replay};
 ghost use Rattle.ga_event.specs.Told.{steps_of};
@@ -12,6 +12,7 @@ ghost use Rattle.ga_race_detector.specs.kept.Acts.{IsMoment, AreMoments};
 ghost use Rattle.ga_race_detector.specs.kept.Readings.{IsAtNear, part_beside};
 ghost use Rattle.ga_race_detector.specs.kept.Glances.{taken_of, IsGlance, IsGlanced, IsShownBy, AreGlanced, HangTogether};
 
+use crate::adding::add;
 use crate::moments::{Moment, moment_at};
 use ga_event::{Cause, Event};
 use ga_grid::NodeId;
@@ -145,17 +146,6 @@ fn is_asked(only: Option<NodeId>, node: NodeId) -> bool
     match only {
         Some(it) => it.number == node.number,
         None => true,
-    }
-}
-
-// Puts one at the end of a list.
-fn add(list: &mut Vec<Glance>, glance: Glance) -> Result<(), LabFault>
-    ensures ok { OnOk result (list.new.items ≡ list.old.items ++ glance ∷ []) }
-    ensures err { IfErr result (λ why. why ≡ LabFault.Memory) }
-{
-    match list.push(glance) {
-        Ok(()) => Ok(()),
-        Err(_) => Err(LabFault::Memory),
     }
 }
 

@@ -1,10 +1,11 @@
 //! How many steps of a node would be left, were a step of another taken back: for each of these steps, by one pass over the kept events.
 
-ghost use Rattle.std.specs.Prelude.{◌≡◌, ◌<◌, ◌+◌, ◌++◌, ◌∷◌, [], ◌^◌, ℕ, length, if◌then◌else◌, Some, IfOk, OnOk, IfErr};
+ghost use Rattle.std.specs.Prelude.{◌≡◌, ◌<◌, ◌+◌, [], ◌^◌, ℕ, length, if◌then◌else◌, Some, IfOk, OnOk, IfErr};
 ghost use Rattle.ga_causal.specs.Dependence.{cause_touches};
 ghost use Rattle.ga_grid.specs.Grid.{neighbour_of};
 ghost use Rattle.ga_race_detector.specs.kept.Left.{AreLeft, IsLeftBehind, IsFilled};
 
+use crate::adding::add;
 use crate::writers::Writers;
 use ga_event::{Cause, Event, touches};
 use ga_grid::{NODES, NodeId, neighbour};
@@ -135,17 +136,6 @@ pub(crate) fn with_step(steps: u32, cause: &Cause, node: NodeId) -> u32
         steps + 1
     } else {
         steps
-    }
-}
-
-// Puts a number at the end of a list.
-fn add(list: &mut Vec<u32>, number: u32) -> Result<(), LabFault>
-    ensures ok { OnOk result (list.new.items ≡ list.old.items ++ number ∷ []) }
-    ensures err { IfErr result (λ why. why ≡ LabFault.Memory) }
-{
-    match list.push(number) {
-        Ok(()) => Ok(()),
-        Err(_) => Err(LabFault::Memory),
     }
 }
 

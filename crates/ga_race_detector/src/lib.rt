@@ -2,6 +2,7 @@
 #![tactic(auto)]
 
 mod acts;
+mod adding;
 mod around;
 mod glances;
 pub mod laws;

@@ -1,8 +1,9 @@
 //! What was before each of the kept events.
 
-ghost use Rattle.std.specs.Prelude.{◌≡◌, ◌<◌, ◌++◌, ◌∷◌, [], length, slice_index_or, IfOk, OnOk, IfErr};
+ghost use Rattle.std.specs.Prelude.{◌≡◌, ◌<◌, length, slice_index_or, IfOk, IfErr};
 ghost use Rattle.ga_race_detector.specs.kept.Acts.{first_part, last_part, no_moment};
 
+use crate::adding::add;
 use ga_event::Event;
 use ga_grid::NodeId;
 use ga_lab::LabFault;
@@ -48,17 +49,6 @@ pub(crate) fn moment_at(moments: &[Moment], place: usize) -> Moment
     moments[place]
 }
 
-// Puts a moment at the end of a list.
-fn add_moment(list: &mut Vec<Moment>, moment: Moment) -> Result<(), LabFault>
-    ensures ok { OnOk result (list.new.items ≡ list.old.items ++ moment ∷ []) }
-    ensures err { IfErr result (λ why. why ≡ LabFault.Memory) }
-{
-    match list.push(moment) {
-        Ok(()) => Ok(()),
-        Err(_) => Err(LabFault::Memory),
-    }
-}
-
 /// A moment for each event, with nothing known yet.
 ///
 /// # Errors
@@ -72,7 +62,7 @@ pub(crate) fn no_moments(alloc: Global, many: usize) -> Result<Vec<Moment>, LabF
         Err(_) => return Err(LabFault::Memory),
     };
     'many: for _place in 0..many {
-        add_moment(
+        add(
             &mut list,
             Moment {
                 first: 0,

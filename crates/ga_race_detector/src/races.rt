@@ -1,14 +1,14 @@
 //! Steps that could have come out otherwise.
 
-ghost use Rattle.std.specs.Prelude.{◌≡◌, ◌<◌, ◌^◌, length, ◌∷◌, ◌++◌, [], ℕ, true, false, is_none, Some, IfSome, IfOk, OnOk, IfErr};
+ghost use Rattle.std.specs.Prelude.{◌≡◌, ◌<◌, ◌^◌, length, ◌++◌, [], ℕ, true, false, is_none, Some, IfSome, IfOk, OnOk, IfErr};
 ghost use Rattle.ga_grid.specs.Chip.{records_of};
-ghost use Rattle.ga_event.specs.Told.{steps_of};
 ghost use Rattle.ga_lab.specs.Machine.{State, chip_of, causes_of, stands};
 ghost use Rattle.std.specs.List.{All};
 ghost use Rattle.ga_race_detector.specs.Readings.{IsTold, NoneMissed};
 ghost use Rattle.ga_race_detector.specs.kept.Besides.{IsBeside};
 ghost use Rattle.ga_race_detector.specs.Races.{race_from, races_over, races_around, races_told, races_of, races_below, races_asked, has_look, looks_next, has_next_look, has_looks, first_ready};
 
+use crate::adding::add;
 use crate::left::LeftBeside;
 use crate::offers::{offered, offered_behind};
 use crate::readings::{Reading, find_readings};
@@ -65,17 +65,6 @@ struct Taken {
 struct Besides {
     writers: Writers,
     left: LeftBeside,
-}
-
-// Puts a race at the end of a list.
-fn add(list: &mut Vec<Race>, race: Race) -> Result<(), LabFault>
-    ensures ok { OnOk result (list.new.items ≡ list.old.items ++ race ∷ []) }
-    ensures err { IfErr result (λ why. why ≡ LabFault.Memory) }
-{
-    match list.push(race) {
-        Ok(()) => Ok(()),
-        Err(_) => Err(LabFault::Memory),
-    }
 }
 
 // The same of the word that this neighbour would give, where that isn't the writer.

@@ -1,6 +1,6 @@
 //! Looks that could have read another word.
 
-ghost use Rattle.std.specs.Prelude.{◌≡◌, ◌<◌, ◌+◌, ◌^◌, ◌++◌, ◌∷◌, [], ℕ, List, length, take, Contains, Some, IsSome, IfSome, IfOk, OnOk, IfErr, None, slice_index_or};
+ghost use Rattle.std.specs.Prelude.{◌≡◌, ◌<◌, ◌+◌, ◌^◌, ℕ, List, length, take, Contains, Some, IsSome, IfSome, IfOk, OnOk, IfErr, None, slice_index_or};
 ghost use Rattle.std.specs.List.{All};
 ghost use Rattle.ga_grid.specs.Grid.{neighbour_of};
 ghost use Rattle.ga_grid.specs.Chip.{record_at};
@@ -17,6 +17,7 @@ ghost use Rattle.ga_race_detector.specs.kept.Around.{IsAround, AreAround};
 ghost use Rattle.ga_race_detector.specs.kept.Glances.{taken_of, IsGlance, IsGlanced, IsAroundOf, HasStep, AreKnown, IsOtherWord, AreRead};
 
 use crate::acts::{acts_of, shown_by};
+use crate::adding::add;
 use crate::around::{Around, LeftAround};
 use crate::glances::{Glance, glance_at, glances_of};
 use ga_event::{Cause, is_reading, is_writing};
@@ -156,17 +157,6 @@ fn reading_of(lab: &Lab, glance: &Glance, around: &Around) -> Option<Reading>
     })
 }
 
-// Puts a reading at the end of a list.
-fn add(list: &mut Vec<Reading>, reading: Reading) -> Result<(), LabFault>
-    ensures ok { OnOk result (list.new.items ≡ list.old.items ++ reading ∷ []) }
-    ensures err { IfErr result (λ why. why ≡ LabFault.Memory) }
-{
-    match list.push(reading) {
-        Ok(()) => Ok(()),
-        Err(_) => Err(LabFault::Memory),
-    }
-}
-
 // Adds that of a look and a change, where it is told.
 fn add_reading(
     list: &mut Vec<Reading>,
@@ -190,17 +180,6 @@ fn add_reading(
     }
 }
 
-// Puts at the end of a list that nothing is known.
-fn add_unknown(list: &mut Vec<Option<Around>>) -> Result<(), LabFault>
-    ensures ok { OnOk result (list.new.items ≡ list.old.items ++ None ∷ []) }
-    ensures err { IfErr result (λ why. why ≡ LabFault.Memory) }
-{
-    match list.push(None) {
-        Ok(()) => Ok(()),
-        Err(_) => Err(LabFault::Memory),
-    }
-}
-
 // Of so many looks, nothing yet.
 fn none_known(alloc: Global, many: usize) -> Result<Vec<Option<Around>>, LabFault>
     ensures size { IfOk result (λ known. length known.items ≡ many) }
@@ -212,7 +191,7 @@ fn none_known(alloc: Global, many: usize) -> Result<Vec<Option<Around>>, LabFaul
         Err(_) => return Err(LabFault::Memory),
     };
     'many: for _place in 0..many {
-        add_unknown(&mut known)?;
+        add(&mut known, None)?;
     }
     Ok(known)
 }
@@ -233,36 +212,8 @@ fn note(known: &mut Vec<Option<Around>>, lists: &LeftAround, of: &Glance, other:
     }
 }
 
-// How many steps around a look would be left, and around each from its place on that hangs together with it, by passes over the events
-// for all of these.
-fn learn(
-    alloc: Global,
-    causes: &[Cause],
-    glances: &[Glance],
-    known: &mut Vec<Option<Around>>,
-    place: usize,
-) -> Result<Around, LabFault>
-    requires few { length causes.now < 2 ^ 32 }
-    requires steps { All (HasStep causes.now) glances.now }
-    requires within { place < length glances.now }
-    requires size { length known.old.items ≡ length glances.now }
-    requires known { AreKnown causes.now glances.now known.old.items }
-    ensures around { IfOk result (λ around. (glance : Glance) → glance ≡ slice_index_or glances.now place glance → IsAroundOf causes.now glance around) }
-    ensures size { OnOk result (length known.new.items ≡ length glances.now) }
-    ensures known { OnOk result (AreKnown causes.now glances.now known.new.items) }
-    ensures err { IfErr result (λ why. why ≡ LabFault.Memory) }
-{
-    let of = glance_at(glances, place);
-    let taken = of.taken();
-    let lists = LeftAround::of(alloc, causes, taken.0, of.node)?;
-    'others: for at in place..glances.len() {
-        let other = glance_at(glances, at);
-        note(known, &lists, &of, &other, at);
-    }
-    Ok(lists.at(taken.1))
-}
-
-// How many steps around a look would be left.
+// How many steps around a look would be left. Where that isn't known yet, it becomes known for all from its place on that hang together
+// with it, by passes over the events for all of these.
 fn around_of(
     alloc: Global,
     causes: &[Cause],
@@ -280,10 +231,17 @@ fn around_of(
     ensures known { OnOk result (AreKnown causes.now glances.now known.new.items) }
     ensures err { IfErr result (λ why. why ≡ LabFault.Memory) }
 {
-    match known[place] {
-        Some(around) => Ok(around),
-        None => learn(alloc, causes, glances, known, place),
+    if let Some(around) = known[place] {
+        return Ok(around);
     }
+    let of = glance_at(glances, place);
+    let taken = of.taken();
+    let lists = LeftAround::of(alloc, causes, taken.0, of.node)?;
+    'others: for at in place..glances.len() {
+        let other = glance_at(glances, at);
+        note(known, &lists, &of, &other, at);
+    }
+    Ok(lists.at(taken.1))
 }
 
 // The readings of some looks and changes, in order.

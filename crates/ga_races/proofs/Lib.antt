@@ -19,8 +19,8 @@ pub mod Asking
 pub mod Shown
 pub mod Likeness
 pub mod Nexts
-pub mod Rounds
+pub mod Ready
 pub mod Stuck
 pub mod Freeing
-pub mod OwnRounds
-mod Same
+pub mod Rounds
+mod SameLists

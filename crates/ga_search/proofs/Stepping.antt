@@ -26,7 +26,7 @@ use Rattle.ga_races.specs.Ready.{can_go, first_in}
 use Rattle.ga_search.specs.kept.Ready.{HoldsReady, StaysRight, IsRefreshed}
 use Rattle.ga_search.specs.Running.{IsQuiet, IsRefusedFor}
 use Rattle.ga_search.proofs.Looking.{IsOf, refreshed, none_past}
-use Rattle.ga_races.proofs.Rounds.{first_same, none_of}
+use Rattle.ga_races.proofs.Ready.{first_same, none_of}
 
 -- the event of a step that was made
 pub record StepIs (s : State) (n : NodeId) (m : Made) : Type 0 where

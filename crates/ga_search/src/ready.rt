@@ -105,6 +105,7 @@ pub(crate) fn first_from(ready: &Numbers, turn: NodeId) -> Option<NodeId>
 }
 
 // The same where none from the turn on is in the set. One that is found right before the turn is alone.
+#[inline(never)]
 fn first_before(ready: &Numbers, alone: &mut Option<NodeId>, turn: NodeId) -> Option<NodeId>
     requires past { (n : ℕ) → 144 ≤ n → n < 192 → has ready.now n ≡ false }
     requires alone { IfSome alone.old (IsAlone ready.now) }

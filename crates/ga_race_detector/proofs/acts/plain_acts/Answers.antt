@@ -8,7 +8,7 @@ use Rattle.ga_race_detector.proofs.acts.plain_acts.Goals as goal
 
 pub causes-preserved : goal.causes-preserved
 causes-preserved c =
-    ap (λ (z : List EventAccess). causes_in (actions_in z)) c.in_ok-add_act.ensures.ok
+    ap (λ (z : List EventAccess). causes_in (actions_in z)) c.in_ok-add.ensures.ok
     ∙ plain_more c.causes.acts.items c.plain-act.result c.args.causes.now c.causes.cause-index c.cause-item.result (omega arith) c.cause-item.is c.plain-act.ensures c.causes.invariant
 
 pub returns-clause-causes : goal.returns-clause-causes

@@ -1,4 +1,4 @@
-use Rattle.ga_races.proofs.OwnRounds.{round_alone, round_left, shortest_has_none}
+use Rattle.ga_races.proofs.Rounds.{round_alone, round_left, shortest_has_none}
 use Rattle.ga_races.proofs.laws.rounds.Goals as goal
 
 pub returns-clause-alone : goal.returns-clause-alone

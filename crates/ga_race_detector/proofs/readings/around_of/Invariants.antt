@@ -1,6 +1,6 @@
 use Rattle.std.proofs.Common.{◌≡◌, length}
 use Rattle.ga_race_detector.specs.kept.Glances.{AreKnown}
-use Rattle.ga_race_detector.proofs.readings.learn.Given as goal
+use Rattle.ga_race_detector.proofs.readings.around_of.Given as goal
 
 abbrev pub invariant-others : goal.invariant-others
 invariant-others l = record {
