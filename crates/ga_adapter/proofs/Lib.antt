@@ -4,4 +4,4 @@ pub mod Windows
 pub mod Standings
 pub mod SlotTexts
 pub mod FrameLists
-pub mod Entries
+pub mod Putting

@@ -31,16 +31,6 @@ began_so notes s node place left there spot op begins some more there_is spot_is
     ∙ ap (λ (b : Bool). cond b (suc k) (beginning_from notes s node (place_back s node k) m)) (sym begins_is)
     ∙ ap (λ (z : ℕ). cond begins z (beginning_from notes s node (place_back s node k) m)) (sym at)
 
--- behind one step
-pub begins_so : (notes : Notes) (s : State) (node : NodeId) (k before : ℕ) (there spot : Option Spot) (op : Option Op) (begins : Bool) → before ≡ place_back s node k
-    → there ≡ spot_behind s node before → spot ≡ spot_behind s node (k + 1) → op ≡ op_at s node k → Comes notes s node (k + 1) there spot op begins
-    → begins ≡ begins_behind notes s node k
-begins_so notes s node k before there spot op begins place there_is spot_is op_is comes =
-    comes
-    ∙ ap (λ (z : Option Spot). comes_on notes node z spot op (line_on_spot notes node spot)) (there_is ∙ ap (spot_behind s node) place)
-    ∙ ap (λ (z : Option Spot). comes_on notes node (spot_behind s node (place_back s node k)) z op (line_on_spot notes node z)) spot_is
-    ∙ ap (λ (z : Option Op). comes_on notes node (spot_behind s node (place_back s node k)) (spot_behind s node (k + 1)) z (line_on_spot notes node (spot_behind s node (k + 1)))) op_is
-
 pub began_here : (notes : Notes) (s : State) (node : NodeId) (place left : ℕ) (there spot : Option Spot) (op : Option Op) (begins : Bool) → 0 < place → 0 < left
     → there ≡ spot_behind s node (place_back s node (place - 1)) → spot ≡ spot_behind s node place → op ≡ op_at s node (place - 1) → Comes notes s node place there spot op begins
     → begins ≡ true → beginning_from notes s node place left ≡ place

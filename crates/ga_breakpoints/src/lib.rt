@@ -13,6 +13,7 @@ mod present;
 mod reversing;
 mod said;
 mod stepping;
+mod words;
 
 pub use back::{Watched, comes_to, go_back, step_back};
 pub use breakpoint::{Breakpoint, LineBreakpoint, breakpoint_of_address, breakpoint_of_line};
@@ -20,7 +21,7 @@ pub use condition::{Comparison, HitCount, ValueTest};
 pub use going::{Halt, Went, go_on};
 pub use halts::Halts;
 pub use hits::{COUNTED, HitTally};
-pub use lines::{begins_behind, step_back_line};
+pub use lines::step_back_line;
 pub use moves::step_on;
 pub use reversing::{kept_hits, reverse_to};
 pub use said::{condition_said, hits_said};

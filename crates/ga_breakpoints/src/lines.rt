@@ -2,12 +2,15 @@
 
 ghost use Rattle.std.specs.Prelude.{◌≡◌, ◌<◌, ◌≤◌};
 ghost use Rattle.ga_event.specs.Told.{steps_of};
-ghost use Rattle.ga_breakpoints.specs.Lines.{op_told, is_return_op, is_jump, place_back, line_on_spot, begins_at, comes_on, begins_behind, beginning_from, stepped_back_line};
+ghost use Rattle.ga_lab.specs.Machine.{standing};
+ghost use Rattle.ga_breakpoints.specs.kept.Words.{spot_before, begins_by};
+ghost use Rattle.ga_breakpoints.specs.Lines.{op_told, is_return_op, is_jump, place_back, line_on_spot, begins_at, comes_on, beginning_from, stepped_back_line};
 
 use crate::back::go_back;
+use crate::words::spot_by;
 use ga_adapter::{Spot, is_calling, line_at, line_start, put_by, spot_back};
 use ga_grid::NodeId;
-use ga_lab::{Lab, Made};
+use ga_lab::{Lab, Made, Walk};
 use ga_node::Kind;
 use ga_notes::Notes;
 use ga_slots::Op;
@@ -103,20 +106,49 @@ fn comes_on(
     }
 }
 
-/// Whether a line of the source begins for a node behind its step after so many: it came there from another line, over the call where it came back from
-/// one, or by a jump to the first slot of the first word that the line begins. Takes time by how many steps the node made since, since the fetch before,
-/// and since the call.
-pub fn begins_behind(lab: &Lab, notes: &Notes, node: NodeId, step: u32) -> bool
+/// Where a node stood before its step at a place, over the call where it came back from one, by the cell of its word before the step. The node is
+/// walked back there.
+fn spot_before(
+    lab: &Lab,
+    walk: &mut Walk<'_>,
+    node: NodeId,
+    place: u32,
+    word: Option<u8>,
+) -> Option<Spot>
+    requires walk { walk.old ≡ standing lab.now node walk.old.step }
+    requires order { place ≤ walk.old.step }
+    requires within { place ≤ steps_of node.number lab.now.kept }
+    ensures { result ≡ spot_before lab.now node place word }
+{
+    let before = place_back(lab, node, place);
+    if before == place {
+        walk.back_to(place);
+        spot_by(walk.node(), word)
+    } else {
+        spot_back(lab, walk, node, before)
+    }
+}
+
+/// Whether a line of the source begins for a node behind its step after so many, by the cells from which its words came before the step and behind it: it
+/// came there from another line, over the call where it came back from one, or by a jump to the first slot of the first word that the line begins.
+/// Takes time by how long that call was, and else as long whatever is kept.
+pub(crate) fn begins_by(
+    lab: &Lab,
+    notes: &Notes,
+    node: NodeId,
+    step: u32,
+    before: Option<u8>,
+    behind: Option<u8>,
+) -> bool
     requires { step < steps_of node.number lab.now.kept }
-    ensures { result ≡ begins_behind notes.now lab.now node step }
+    ensures { result ≡ begins_by notes.now lab.now node step before behind }
 {
     // It is less than the node's steps, so that one more can be counted.
     let steps = lab.steps(node);
     prove!(step < steps);
-    let before = place_back(lab, node, step);
     let mut walk = lab.walk(node, step + 1);
-    let spot = spot_back(lab, &mut walk, node, step + 1);
-    let there = spot_back(lab, &mut walk, node, before);
+    let spot = spot_by(walk.node(), behind);
+    let there = spot_before(lab, &mut walk, node, step, before);
     let told = lab.told(node, step);
     comes_on(notes, node, there, spot, op_told(&told))
 }

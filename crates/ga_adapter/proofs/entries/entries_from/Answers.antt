@@ -1,5 +1,5 @@
 use Rattle.std.proofs.Common.{◌∙◌}
-use Rattle.ga_adapter.proofs.Entries.{entries_so}
+use Rattle.ga_adapter.proofs.Putting.{entries_so}
 use Rattle.ga_adapter.proofs.entries.entries_from.Goals as goal
 
 pub returns : goal.returns

@@ -1,5 +1,5 @@
 use Rattle.std.proofs.Common.{sym, ◌∙◌, arith}
-use Rattle.ga_adapter.proofs.Entries.{put_before, put_here, put_at_load}
+use Rattle.ga_adapter.proofs.Putting.{put_before, put_here, put_at_load}
 use Rattle.ga_adapter.proofs.entries.put_by.Goals as goal
 
 pub following-preserved : goal.following-preserved
