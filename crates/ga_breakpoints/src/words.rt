@@ -68,7 +68,10 @@ pub(crate) fn word_after(lab: &Lab, walk: &Walk<'_>, node: NodeId, word: Option<
     requires within { walk.now.step < steps_of node.number lab.now.kept }
     ensures { result ≡ word_after lab.now node walk.now.step word }
 {
+    // It is less than the node's steps, so that one more can be counted.
+    let steps = lab.steps(node);
     let place = walk.step();
+    prove!(place < steps);
     if keeps_word(&lab.told(node, place), walk.node(), node) {
         word
     } else {
