@@ -1,3 +1,5 @@
+pub mod Beginnings
 pub mod NodesNow
 pub mod Halting
 pub mod Moving
+pub mod Reversals

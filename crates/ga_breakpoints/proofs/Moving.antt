@@ -7,64 +7,74 @@ use Rattle.ga_search.specs.Conditions.{is_step_of}
 use Rattle.ga_search.specs.Running.{Running}
 use Rattle.ga_search.specs.Watched.{told_first, first_moved, after_first, Watching, watching, seen_told, ends_told, watch_after}
 use Rattle.ga_breakpoints.specs.declared.halts.Halts.{Halts}
+use Rattle.ga_breakpoints.specs.declared.hits.HitTally.{HitTally}
 use Rattle.ga_breakpoints.specs.declared.moves.Steps.{Steps}
 use Rattle.ga_breakpoints.specs.declared.stepping.Stepping.{Stepping}
 use Rattle.ga_breakpoints.specs.Breakpoints.{ends_early}
 use Rattle.ga_breakpoints.specs.Stepping.{call_behind, step_seen, is_moved, step_told, stepped_on}
-use Rattle.ga_breakpoints.specs.Going.{halts_told, going_on, stepping_on}
+use Rattle.ga_breakpoints.specs.Going.{tally_told, tally_on, halts_told, going_on, stepping_on}
+use Rattle.ga_breakpoints.specs.kept.Halting.{with_hits}
 use Rattle.ga_breakpoints.proofs.Halting.{AreAlike}
 
 -- ---- `continue`
 
 abbrev pub by_halts : Watching Halts
-by_halts = watching None (λ (w : Halts) (told : Made) (s : State). ends_early w.breakpoints.now w.stops None told s) (λ (w : Halts) (told : Made) (s : State). w)
+by_halts = watching None (λ (w : Halts) (told : Made) (s : State). ends_early w.breakpoints.now w.tally w.stops None told s) (λ (w : Halts) (told : Made) (s : State). with_hits w told s)
 
-stays_told : (w : Halts) (o : Option Made) (s : State) → seen_told by_halts w o s ≡ w
-stays_told w None s = refl
-stays_told w (Some told) s = refl
+abbrev pub with_tally : Halts → HitTally → Halts
+with_tally w tally = record w { tally = tally }
 
-stays_after : (w : Halts) (r : Running) (k : ℕ) → watch_after by_halts w r k ≡ w
-stays_after w r zero = refl
-stays_after w r (suc k) =
+counts_told : (w : Halts) (tally : HitTally) (o : Option Made) (s : State)
+    → seen_told by_halts (with_tally w tally) o s ≡ with_tally w (tally_told w.breakpoints.now tally o s)
+counts_told w tally None s = refl
+counts_told w tally (Some told) s = refl
+
+pub hits_after : (w : Halts) (r : Running) (k : ℕ) → watch_after by_halts w r k ≡ with_tally w (tally_on None w.breakpoints.now w.tally r k)
+hits_after w r zero = refl
+hits_after w r (suc k) =
     let o : Option Made = told_first None (after_first None r k) in
     let s : State = (first_moved None (after_first None r k)).state in
-    ap (λ (z : Halts). seen_told by_halts z o s) (stays_after w r k) ∙ stays_told w o s
+    ap (λ (z : Halts). seen_told by_halts z o s) (hits_after w r k) ∙ counts_told w (tally_on None w.breakpoints.now w.tally r k) o s
 
 or_false : (b : Bool) → b ≡ (b || false)
 or_false true = refl
 or_false false = refl
 
-told_alike : (w : Halts) (k : ℕ) (o : Option Made) (s : State) → ends_told by_halts w o s ≡ halts_told (going_on w.breakpoints.now w.stops) k o s
-told_alike w k None s = refl
-told_alike w k (Some told) s = or_false (ends_early w.breakpoints.now w.stops None told s)
+told_alike : (w : Halts) (r : Running) (k : ℕ) (o : Option Made) (s : State)
+    → ends_told by_halts (with_tally w (tally_on None w.breakpoints.now w.tally r k)) o s ≡ halts_told (going_on w.breakpoints.now w.tally w.stops r) k o s
+told_alike w r k None s = refl
+told_alike w r k (Some told) s = or_false (ends_early w.breakpoints.now (tally_on None w.breakpoints.now w.tally r k) w.stops None told s)
 
-pub go_alike : (w : Halts) (r : Running) → AreAlike by_halts w r (going_on w.breakpoints.now w.stops)
+pub go_alike : (w : Halts) (r : Running) → AreAlike by_halts w r (going_on w.breakpoints.now w.tally w.stops r)
 go_alike w r k =
     let o : Option Made = told_first None (after_first None r k) in
     let s : State = (first_moved None (after_first None r k)).state in
-    ap (λ (z : Halts). ends_told by_halts z o s) (stays_after w r k) ∙ told_alike w k o s
+    ap (λ (z : Halts). ends_told by_halts z o s) (hits_after w r k) ∙ told_alike w r k o s
 
 -- ---- a move of a node
 
 abbrev pub by_steps : NodeId → Watching Steps
 by_steps node =
-    watching (Some node) (λ (w : Steps) (told : Made) (s : State). ends_early w.halts.breakpoints.now w.halts.stops (Some w.stepping.node) told s || is_moved w.notes.now w.stepping told s)
-    (λ (w : Steps) (told : Made) (s : State). record w { stepping = step_seen w.stepping told s })
+    watching (Some node) (λ (w : Steps) (told : Made) (s : State). ends_early w.halts.breakpoints.now w.halts.tally w.halts.stops (Some w.stepping.node) told s || is_moved w.notes.now w.stepping told s)
+    (λ (w : Steps) (told : Made) (s : State). record w { halts = with_hits w.halts told s; stepping = step_seen w.stepping told s })
 
-abbrev with_stepping : Steps → Stepping → Steps
-with_stepping w by = record w { stepping = by }
+abbrev pub with_both : Steps → HitTally → Stepping → Steps
+with_both w tally by = record w { halts = with_tally w.halts tally; stepping = by }
 
-goes_told : (node : NodeId) (w : Steps) (by : Stepping) (o : Option Made) (s : State) → seen_told (by_steps node) (with_stepping w by) o s ≡ with_stepping w (step_told by o s)
-goes_told node w by None s = refl
-goes_told node w by (Some told) s = refl
+goes_told : (node : NodeId) (w : Steps) (tally : HitTally) (by : Stepping) (o : Option Made) (s : State)
+    → seen_told (by_steps node) (with_both w tally by) o s ≡ with_both w (tally_told w.halts.breakpoints.now tally o s) (step_told by o s)
+goes_told node w tally by None s = refl
+goes_told node w tally by (Some told) s = refl
 
-pub goes_after : (w : Steps) (r : Running) (k : ℕ) → watch_after (by_steps w.stepping.node) w r k ≡ record w { stepping = stepped_on w.stepping r k }
+pub goes_after : (w : Steps) (r : Running) (k : ℕ)
+    → watch_after (by_steps w.stepping.node) w r k ≡ with_both w (tally_on (Some w.stepping.node) w.halts.breakpoints.now w.halts.tally r k) (stepped_on w.stepping r k)
 goes_after w r zero = refl
 goes_after w r (suc k) =
     let first : Option NodeId = Some w.stepping.node in
     let o : Option Made = told_first first (after_first first r k) in
     let s : State = (first_moved first (after_first first r k)).state in
-    ap (λ (z : Steps). seen_told (by_steps w.stepping.node) z o s) (goes_after w r k) ∙ goes_told w.stepping.node w (stepped_on w.stepping r k) o s
+    ap (λ (z : Steps). seen_told (by_steps w.stepping.node) z o s) (goes_after w r k)
+    ∙ goes_told w.stepping.node w (tally_on first w.halts.breakpoints.now w.halts.tally r k) (stepped_on w.stepping r k) o s
 
 chosen_node : (b : Bool) (by : Stepping) (call : Option ℕ) → (cond {A = Stepping} b (record by { call = call }) by).node ≡ by.node
 chosen_node true by call = refl
@@ -81,13 +91,15 @@ same_node by r (suc k) =
     told_node (stepped_on by r k) (told_first first (after_first first r k)) (first_moved first (after_first first r k)).state ∙ same_node by r k
 
 step_alike_told : (w : Steps) (r : Running) (k : ℕ) (o : Option Made) (s : State)
-    → ends_told (by_steps w.stepping.node) (with_stepping w (stepped_on w.stepping r k)) o s
-    ≡ halts_told (stepping_on w.notes.now w.halts.breakpoints.now w.halts.stops w.stepping r) k o s
+    → ends_told (by_steps w.stepping.node) (with_both w (tally_on (Some w.stepping.node) w.halts.breakpoints.now w.halts.tally r k) (stepped_on w.stepping r k)) o s
+    ≡ halts_told (stepping_on w.notes.now w.halts.breakpoints.now w.halts.tally w.halts.stops w.stepping r) k o s
 step_alike_told w r k None s = refl
 step_alike_told w r k (Some told) s =
-    ap (λ (z : NodeId). ends_early w.halts.breakpoints.now w.halts.stops (Some z) told s || is_moved w.notes.now (stepped_on w.stepping r k) told s) (same_node w.stepping r k)
+    let tally : HitTally = tally_on (Some w.stepping.node) w.halts.breakpoints.now w.halts.tally r k in
+    ap (λ (z : NodeId). ends_early w.halts.breakpoints.now tally w.halts.stops (Some z) told s || is_moved w.notes.now (stepped_on w.stepping r k) told s) (same_node w.stepping r k)
 
-pub step_alike : (w : Steps) (r : Running) → AreAlike (by_steps w.stepping.node) w r (stepping_on w.notes.now w.halts.breakpoints.now w.halts.stops w.stepping r)
+pub step_alike : (w : Steps) (r : Running)
+    → AreAlike (by_steps w.stepping.node) w r (stepping_on w.notes.now w.halts.breakpoints.now w.halts.tally w.halts.stops w.stepping r)
 step_alike w r k =
     let first : Option NodeId = Some w.stepping.node in
     let o : Option Made = told_first first (after_first first r k) in

@@ -7,13 +7,14 @@ ghost use Rattle.ga_search.specs.Running.{running};
 ghost use Rattle.ga_search.specs.Watched.{IsNewestMade, after_first};
 ghost use Rattle.ga_adapter.specs.Calls.{is_calling, entries_from};
 ghost use Rattle.ga_breakpoints.specs.Stepping.{is_from, call_behind, step_seen, reaches_end, is_moved, stepped_on};
-ghost use Rattle.ga_breakpoints.specs.Going.{HasGone, stepping_on};
+ghost use Rattle.ga_breakpoints.specs.Going.{HasGone, tally_on, stepping_on};
 
 use crate::going::{Went, went_by};
-use crate::halts::{Halts, is_halting};
+use crate::halts::{Halts, see_halt};
 use crate::hits::is_step_of;
+use crate::lines::begins_behind;
 use crate::stepping::{Grain, Stepping};
-use ga_adapter::{begins_behind, entries_from, is_calling};
+use ga_adapter::{entries_from, is_calling};
 use ga_grid::NodeId;
 use ga_lab::{Lab, Made};
 use ga_notes::Notes;
@@ -123,16 +124,17 @@ impl<'a> Watch for Steps<'a> {
     ghost use Rattle.std.specs.Prelude.{Some, ◌||◌};
     ghost use Rattle.ga_breakpoints.specs.Breakpoints.{ends_early};
     ghost use Rattle.ga_breakpoints.specs.Stepping.{step_seen, is_moved};
+    ghost use Rattle.ga_breakpoints.specs.kept.Halting.{with_hits};
 
-    ghost ends = { λ w told s. ends_early w.halts.breakpoints.now w.halts.stops (Some w.stepping.node) told s || is_moved w.notes.now w.stepping told s };
+    ghost ends = { λ w told s. ends_early w.halts.breakpoints.now w.halts.tally w.halts.stops (Some w.stepping.node) told s || is_moved w.notes.now w.stepping told s };
 
-    ghost seen = { λ w told s. record w { stepping = step_seen w.stepping told s } };
+    ghost seen = { λ w told s. record w { halts = with_hits w.halts told s; stepping = step_seen w.stepping told s } };
 
     fn sees(&mut self, made: &Made, lab: &Lab) -> bool {
         let by = self.stepping;
         let next = step_seen(lab, by, made);
         self.stepping = next;
-        is_halting(&self.halts, Some(by.node), made, lab)
+        see_halt(&mut self.halts, Some(by.node), made, lab)
             || is_moved(lab, self.notes, &by, next.call, made)
     }
 }
@@ -151,8 +153,9 @@ pub fn step_on(
 ) -> Went
     ensures state { running lab.new result.schedule ≡ after_first (Some stepping.old.node) (running lab.old schedule) result.events }
     ensures stepping { stepping.new ≡ stepped_on stepping.old (running lab.old schedule) result.events }
+    ensures hits { result.tally ≡ tally_on (Some stepping.old.node) halts.entry.breakpoints.now halts.entry.tally (running lab.old schedule) result.events }
     ensures most { result.events ≤ most }
-    ensures end { HasGone (stepping_on notes.now halts.entry.breakpoints.now halts.entry.stops stepping.old (running lab.old schedule)) (running lab.old schedule) most result.events result.halt }
+    ensures end { HasGone (stepping_on notes.now halts.entry.breakpoints.now halts.entry.tally halts.entry.stops stepping.old (running lab.old schedule)) (running lab.old schedule) most result.events result.halt }
 {
     let node = stepping.node;
     let mut watch = Steps {
@@ -162,5 +165,5 @@ pub fn step_on(
     };
     let run = run_watched(lab, schedule, Some(node), most, &mut watch);
     *stepping = watch.stepping;
-    went_by(lab, run, &halts, Some(node))
+    went_by(run, &watch.halts, Some(node))
 }
