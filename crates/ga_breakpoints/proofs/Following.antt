@@ -168,13 +168,13 @@ place_stays : (es : List Event) (e : Event) (n k : ℕ) → k ≤ steps_of n es 
 place_stays [] e n zero l = (refl, omega arith)
 place_stays [] e n (suc k) l = absurd (let none : steps_of n [] ≡ 0 = refl in omega (arith, l, none))
 place_stays (x ∷ es) e n zero l = (refl, omega arith)
-place_stays (x ∷ es) e n (suc k) l =
-    go (touches x n) (steps-cons n x es) l
+place_stays (x ∷ es) e n (suc k) l = go (touches x n) (λ j m. place_stays es e n j m) (steps-cons n x es) l
   where
-    go : (b : Bool) → steps_of n (x ∷ es) ≡ cond b 1 0 + steps_of n es → suc k ≤ steps_of n (x ∷ es)
+    go : (b : Bool) → ((j : ℕ) → j ≤ steps_of n es → (place_after (es ++ e ∷ []) n j ≡ place_after es n j) × (place_after es n j ≤ length es)) → steps_of n (x ∷ es) ≡ cond b 1 0 + steps_of n es
+        → suc k ≤ steps_of n (x ∷ es)
         → (suc (place_after (es ++ e ∷ []) n (cond b k (suc k))) ≡ suc (place_after es n (cond b k (suc k)))) × (suc (place_after es n (cond b k (suc k))) ≤ suc (length es))
-    go true all m = let r = place_stays es e n k (omega (arith, all, m)) in (ap suc r.0, omega (arith, r.1))
-    go false all m = let r = place_stays es e n (suc k) (omega (arith, all, m)) in (ap suc r.0, omega (arith, r.1))
+    go true before all m = let stays = before k (omega (arith, all, m)) in (ap suc stays.0, omega (arith, stays.1))
+    go false before all m = let stays = before (suc k) (omega (arith, all, m)) in (ap suc stays.0, omega (arith, stays.1))
 
 abbrev node_by : List NodeRecord → List Event → ℕ → ℕ → NodeRecord
 node_by load es n k = record_at (unwrap_or (replay load (take (place_after es n k) es)) []) n

@@ -98,7 +98,7 @@ same_grain by r (suc k) =
     told_grain (stepped_on by r k) (told_first first (after_first first r k)) (first_moved first (after_first first r k)).state ∙ same_grain by r k
 
 -- the cell of the node's word after so many events
-word_on : NodeId → Option ℕ → Running → ℕ → Option ℕ
+abbrev pub word_on : NodeId → Option ℕ → Running → ℕ → Option ℕ
 word_on node word r zero = word
 word_on node word r (suc k) =
     word_told node (word_on node word r k) (told_first (Some node) (after_first (Some node) r k)) (first_moved (Some node) (after_first (Some node) r k)).state
