@@ -25,6 +25,11 @@ AT_BOUNDS = [
     ("setInstructionBreakpoints", {"breakpoints": [{"instructionReference": it, "offset": by} for it, by in (("0x001002", -1), ("0x000000", -1), ("0x001002", 4096), ("0x00000000001", 2**40), ("0x0", 0), ("0x717fff", 0), ("0xg", 0), ("0x701080", -3))]}),
     ("setInstructionBreakpoints", {"breakpoints": []}),
     ("setFunctionBreakpoints", {"breakpoints": [{"name": it} for it in ("main", "001 main", "001:main", "0012main", "099 main", "001", "001 ", "")]}),
+    *(("setFunctionBreakpoints", {"breakpoints": [{"name": "main"} | {kind: it} for it in some]}) for kind, some in (
+        ("condition", ("t = 0x150", "d9 >= 262143", "r8 != -131072", "[bF] == -0x20000", "step < 4294967295", "slot = 00", "d1 = 1", "r9 = 1", "d2 = -131073", "io <= 0x100000000", "carry > 4294967296", "t", "t =", "t  = 1", "t = 1 ", "t=1", "state = 0", "[5] = 1", "[0g] = 1", "T = 1", "t = 0x", "t = -", "t => 1", "")),
+        ("hitCondition", ("1", "4294967295", "4294967296", ">= 1", "% 1", "0", "% 0", "01", ">=1", "> 1", "% ", "", "x")),
+    )),
+    ("setFunctionBreakpoints", {"breakpoints": [{"name": "main", "condition": "t", "hitCondition": "x"}] + [{"name": "main"}] * 63 + [{"name": "main", "hitCondition": "2"}] * 2 + [{"name": "main", "condition": "t = 1"}]}),
     ("setFunctionBreakpoints", {"breakpoints": []}),
     ("setBreakpoints", LINES | {"breakpoints": [{"line": 0}, {"line": 2**32}, {"line": 3, "column": 5}]}), ("setBreakpoints", LINES), ("setBreakpoints", {"source": {"name": "fault.f18"}, "breakpoints": [{"line": 3}]}),
     ("setExceptionBreakpoints", {"filters": ["stop", "stop"]}), ("setExceptionBreakpoints", {"filters": ["stop", "stuck"]}),

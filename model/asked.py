@@ -155,12 +155,26 @@ def asked_of(number, path, can):
     return found, mirrored
 
 
+# What a condition of a generated session compares, and how; and hit conditions.
+VALUES = ("t", "t", "s", "r", "a", "p", "slot", "step", "carry", "d3", "r2", "[05]", "[83]")
+SIGNS = ("=", "==", "!=", "!=", "<", "<=", ">", ">=")
+SIZES = ("0", "1", "5", "0x6", "7", "12", "40", "-1", "-0x20000", "0x15555", "x")
+COUNTS = ("1", "2", "3", "5", "% 2", "% 3", ">= 2", ">= 4", "0", "%2")
+
+
+def conditions(draw):
+    """Now and then a condition, and a hit condition."""
+    found = {"condition": f"{draw.choice(VALUES)} {draw.choice(SIGNS)} {draw.choice(SIZES)}"} if draw.random() < 0.3 else {}
+    return found | ({"hitCondition": draw.choice(COUNTS)} if draw.random() < 0.3 else {})
+
+
 def ask_for_breakpoints(path, ask, draw):
-    ask("setBreakpoints", {"source": {"path": path}, "breakpoints": [{"line": draw.randrange(1, 50)} for _ in range(draw.randrange(5))]})
+    lines = [{"line": draw.randrange(1, 50)} | conditions(draw) for _ in range(draw.randrange(6))]
+    ask("setBreakpoints", {"source": {"path": path}, "breakpoints": lines})
     for command, member, some in ASKED:
         if draw.random() < 0.3:
             offset = {"offset": draw.randrange(-3, 4)} if "Instruction" in command and draw.random() < 0.5 else {}
-            ask(command, {"breakpoints": [{member: it} | offset for it in draw.sample(some, 2)]})
+            ask(command, {"breakpoints": [{member: it} | offset | conditions(draw) for it in draw.sample(some, 2)]})
 
 
 def mirror(session, ask, node, count):

@@ -9,7 +9,7 @@ import subprocess
 import sys
 from itertools import zip_longest
 
-from explore import LONGEST, Explorer
+from explore import FORMS, LONGEST, Explorer
 from files import answer, is_command, load_of
 from machine import Machine
 from sessions import DEFAULT_LIMIT, SECONDS
@@ -22,10 +22,14 @@ COMMANDS = {
         "run", "run 5", "run greedy 5", "run random 5 until stop", "run until pass 000 001 5", "run until pass 000 001 = 00002a",
         "run until step 000 5", "run until stop 000", "run until wait 000", "run until mem 000 00 = 00002a", "run until p 000 000001",
         "run until reach 000 000001", "run until change 000 00", "run until change 000 00 = 00002a", "run until stop or wait 000",
-        "run 5 until stop or step 000 5 or change 000 00", "effects 000 1", "words 000 001", "writes 000 00", "at 000 1 2", "whence 000 1",
-        "because 000 1", "back until stop", "back 000 until wait 000 or stop", "races", "races 000", "who", "chip", "save", "help", "step 000", "why 000 1 001 5",
+        "run 5 until stop or step 000 5 or change 000 00", "back until stop", "back 000 until wait 000 or stop", "step 000", "why 000 1 001 5",
     ],
 }  # fmt: skip
+# what stands in these for a word of a form
+WORDS = {"NNN": "000", "MMM": "001", "K": "1", "HH": "00", "N": "2", "COMMAND": "why"}
+OWN = [form for name, form in FORMS.items() if hasattr(Explorer, f"answer_{name}")]
+COMMANDS["explore"] += [" ".join(WORDS.get(word, word) for word in form.split(" ") if "[" not in word) for form in OWN]
+COMMANDS["explore"] += [" ".join(WORDS.get(word.strip("[]"), word) for word in form.split(" ")) for form in OWN if "[" in form]
 PAIRS = {"debug": "step 000\nback\n", "explore": "run 1\nback\n"}
 
 

@@ -2,6 +2,7 @@
 
 import re
 
+from conditions import asked_with
 from explore import mixed
 from files import answer, load_of
 from machine import NODES, name
@@ -13,8 +14,8 @@ MOST = 4000000
 SLICE = 4096
 # how many addresses a node has
 ADDRESSES = 4096
-ABLE = ("ConfigurationDoneRequest", "DataBreakpoints", "DisassembleRequest", "EvaluateForHovers", "ExceptionInfoRequest", "FunctionBreakpoints")
-ABLE += ("InstructionBreakpoints", "StepBack", "SteppingGranularity", "TerminateRequest")
+ABLE = ("ConditionalBreakpoints", "ConfigurationDoneRequest", "DataBreakpoints", "DisassembleRequest", "EvaluateForHovers", "ExceptionInfoRequest")
+ABLE += ("FunctionBreakpoints", "HitConditionalBreakpoints", "InstructionBreakpoints", "StepBack", "SteppingGranularity", "TerminateRequest")
 FULL = "full: as many events are kept as may be"
 
 
@@ -169,9 +170,10 @@ class Session:
         self.points, told = [it for it in self.points if it["set"] != kind], []
         for asked in self.arguments.get("breakpoints", []):
             self.ids += 1
-            found, more = place(asked) or (None, {"message": why, "verified": False})
-            told.append({"id": self.ids, "verified": True} | more)
-            self.points += [found | {"id": self.ids, "set": kind}] if found else []
+            found, more = place(asked) or (None, {})
+            test, fault = asked_with(asked, len(self.points)) if found else (None, why)
+            told.append({"id": self.ids} | ({"message": fault, "verified": False} if fault else {"verified": True} | more))
+            self.points += [] if fault else [found | test | {"id": self.ids, "set": kind}]
         self.respond({"breakpoints": told})
 
     def on_line(self, asked):
@@ -206,18 +208,27 @@ class Session:
         return self.respond(where | {"accessTypes": ["write"], "canPersist": True})
 
     def does(self, point, node, step):
-        """Whether a step of a node is one by which it comes to a breakpoint (a slot that it carried out, or a word that went over), or
-        writes a watched cell."""
+        """Whether a step of a node is one by which it comes to a breakpoint (a slot that it carried out, a word that went over, or
+        its first fetch: it stood there at load), or writes a watched cell."""
         told, kept = self.machine.kept[node][step][0], self.machine.kept[node]
         if point["node"] != node:
             return False
         if point["set"] == "data":
             return self.machine.wrote(kept[step - 1][1], told, point["cell"])
-        return (told.startswith("pass ") or " run " in told) and self.machine.spot(node, step) == point["spot"]
+        begins = step == 1 and told.endswith(" fetch")
+        return (told.startswith("pass ") or " run " in told or begins) and self.machine.spot(node, step) == point["spot"]
+
+    def meets(self, point, node, step):
+        """Whether that step hits the breakpoint: the node meets its condition behind it."""
+        return self.does(point, node, step) and point["test"](self.machine.kept[node][step][1], step)
+
+    def halts(self, point, node, step):
+        """Whether that hit is asked for, by how many kept steps hit the breakpoint up to it."""
+        return self.meets(point, node, step) and point["count"](lambda: sum(self.meets(point, node, it) for it in range(1, step + 1)))
 
     def hit(self, touched):
-        """The first breakpoint that the newest event hits."""
-        return next((it for it in self.points if any(self.does(it, node, self.machine.steps[node]) for node in touched)), None)
+        """The first breakpoint that the newest event hits as it is asked for."""
+        return next((it for it in self.points if any(self.halts(it, node, self.machine.steps[node]) for node in touched)), None)
 
     # ---- what is shown
 
@@ -366,7 +377,7 @@ class Session:
         """To behind the newest step but the last by which the node came to a breakpoint, or to before one by which it wrote a watched cell."""
         node, keeps = self.node(), 0
         for step in range(1, self.machine.steps[node] + 1):
-            for point in (it for it in self.points if self.does(it, node, step)):
+            for point in (it for it in self.points if self.halts(it, node, step)):
                 keeps = max(keeps, step - 1 if point["set"] == "data" else step if step < self.machine.steps[node] else 0)
         self.gone_back(node, keeps)
 

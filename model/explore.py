@@ -21,66 +21,78 @@ CONDITION = re.compile(
 MOST_CONDITIONS = 8
 RUN = re.compile(rf"run(?: (greedy|random ({NUMBER})))?(?: ({NUMBER}))?(?: until (.+))?")
 BACK = re.compile(rf"back (?:({NODE}) )?until (.+)")
-RACES = re.compile(rf"races(?: ({NODE}))?")
-ASKED = re.compile(rf"(effects|whence) ({NODE}) ({STEP})|(words) ({NODE}) ({NODE})|(writes) ({NODE}) ({HH})|(at|because) ({NODE}) ({STEP})(?: ([1-9]?[0-9]))?")
-HELP = """\
-run [greedy|random SEED] [N] [until COND]
-                      make up to N events, in rounds or in this order
-COND: pass NNN MMM = W, pass NNN MMM J, step NNN K, stop, stop NNN, wait NNN,
-      mem NNN HH = W, p NNN X, reach NNN X, change NNN HH [= W], COND or COND
-X: an address, a label, line N
-chip                  what each node does
-who                   who waits for whom, and which nodes can never go on
-effects NNN K         what rewind NNN K would take
-words NNN MMM         the words that went from NNN to MMM
-writes NNN HH         the steps that wrote the cell HH of NNN, the newest first
-at NNN K [N]          N steps before and behind step K of NNN, with registers
-whence NNN K          the steps whose values went into what step K of NNN made
-because NNN K [N]     N steps before step K at which a value decided where NNN went on
-K of effects, at, whence, because: a step's number, or last
-races [NNN]           steps that could have come out otherwise, and how
-save                  the kept events as lines of debug
-help [COMMAND]        these lines, or more of one command
-step NNN              make the next event of NNN
-back [[NNN] until COND]
-                      take the newest event back; or that behind which COND held last,
-                      with all since; or such a step of NNN, with what depends on it
-rewind NNN K          take step K of NNN back, with all that depends on it
-node NNN              what NNN holds
-mem NNN HH            the word at HH of the memory of NNN
-trace NNN             the steps of NNN
-why NNN K MMM J       by which events step K of NNN led to step J of MMM
-count                 how many events are kept and were made
-dump                  the chip as an image
-quit                  end"""
-# what `help` of a command says behind its lines of these: what it answers, and an example
-MORE = {
-    "run": ("reached M EVENT, made M, quiet M or full M: how many events, and why no more", "run 1000 until stop or reach 001 000012"),
-    "chip": ("rows 7 to 0 of nodes: . made no step, * runs, x stopped, @ waits for code, ? reads, ! writes", "chip"),
-    "who": ("for each that waits what it does, and the nodes that it awaits; then stuck, ring and idle", "who"),
-    "effects": ("effects X N, and for each of N nodes its first step that would go, and how many would", "effects 001 last"),
-    "words": ("words NNN MMM C, and for each of C words its number, the steps of both nodes and the word", "words 000 001"),
-    "writes": ("for each the step, the opcode and the word that stood there then", "writes 001 20"),
-    "at": ("for each the step, what it did, and the registers t, s, r, a, b and p behind it", "at 001 last 5"),
-    "whence": ("a tree: below each step, two blanks deeper, the steps that made the values it used", "whence 001 last"),
-    "because": ("for each the step and the word that it tested, and below it the step that made that word", "because 001 last"),
-    "races": ("races N, and for each of N steps what else it could have got, and two commands that lead there", "races 001"),
-    "save": ("step NNN for each kept event, the oldest first", "save"),
-    "help": ("the command's form and what it does, what it answers, and an example", "help why"),
-    "step": ("NNN K and what the step did, or pass WWW K RRR J W: the word W went from WWW to RRR", "step 001"),
-    "back": ("removed X kept M: X events went, and M are left; or none, and nothing changes, where COND held behind no event", "back until change 001 20"),
-    "rewind": ("removed X kept M: X events went, and M are left", "rewind 001 4"),
-    "node": ("the state, the registers and both stacks, the top first", "node 001"),
-    "mem": ("mem NNN HH W: RAM below 80, ROM from there on", "mem 001 20"),
-    "trace": ("trace NNN C, and C events, the oldest first", "trace 001"),
-    "why": ("chain C, and C events from the cause to what came of it; or independent", "why 000 3 001 7, the cause first: did step 3 of 000 lead to step 7 of 001?"),
-    "count": ("kept K made M limit L", "count"),
-    "dump": ("an image of format 2, which every command reads", "dump"),
-    "quit": ("nothing", "quit"),
-}
-# what `help` says of each command, by its name, and the form of each
-ROWS = {row.split(" ")[0]: row for row in re.split("\n(?=[a-z])", HELP)}
-FORMS = {name: re.split("  +|\n", row)[0] for name, row in ROWS.items()}
+# The commands in the order of `help`: the form of each, what `help` says of it, and what `help` of this one says besides: what it
+# answers, and an example. The method `answer_NAME` answers a command of exploring.
+COMMANDS = (
+    ("run [greedy|random SEED] [N] [until COND]",
+     "make up to N events, in rounds or in this order\n"
+     "COND: pass NNN MMM = W, pass NNN MMM J, step NNN K, stop, stop NNN, wait NNN,\n"
+     "      mem NNN HH = W, p NNN X, reach NNN X, change NNN HH [= W], COND or COND\n"
+     "X: an address, a label, line N",
+     "reached M EVENT, made M, quiet M or full M: how many events, and why no more", "run 1000 until stop or reach 001 000012"),
+    ("chip", "what each node does",
+     "rows 7 to 0 of nodes: . made no step, * runs, x stopped, @ waits for code, ? reads, ! writes", "chip"),
+    ("who", "who waits for whom, and which nodes can never go on",
+     "for each that waits what it does, and the nodes that it awaits; then stuck, ring and idle", "who"),
+    ("effects NNN K", "what rewind NNN K would take",
+     "effects X N, and for each of N nodes its first step that would go, and how many would", "effects 001 last"),
+    ("words NNN MMM", "the words that went from NNN to MMM",
+     "words NNN MMM C, and for each of C words its number, the steps of both nodes and the word", "words 000 001"),
+    ("writes NNN HH", "the steps that wrote the cell HH of NNN, the newest first",
+     "for each the step, the opcode and the word that stood there then", "writes 001 20"),
+    ("at NNN K [N]", "N steps before and behind step K of NNN, with registers",
+     "for each the step, what it did, and the registers t, s, r, a, b and p behind it", "at 001 last 5"),
+    ("whence NNN K", "the steps whose values went into what step K of NNN made",
+     "a tree: below each step, two blanks deeper, the steps that made the values it used", "whence 001 last"),
+    ("because NNN K [N]",
+     "N steps before step K at which a value decided where NNN went on\n"
+     "K of effects, at, whence, because: a step's number, or last",
+     "for each the step and the word that it tested, and below it the step that made that word", "because 001 last"),
+    ("races [NNN]", "steps that could have come out otherwise, and how",
+     "races N, and for each of N steps what else it could have got, and two commands that lead there", "races 001"),
+    ("save", "the kept events as lines of debug",
+     "step NNN for each kept event, the oldest first", "save"),
+    ("help [COMMAND]", "these lines, or more of one command",
+     "the command's form and what it does, what it answers, and an example", "help why"),
+    ("step NNN", "make the next event of NNN",
+     "NNN K and what the step did, or pass WWW K RRR J W: the word W went from WWW to RRR", "step 001"),
+    ("back [[NNN] until COND]",
+     "take the newest event back; or that behind which COND held last,\n"
+     "                      with all since; or such a step of NNN, with what depends on it",
+     "removed X kept M: X events went, and M are left; or none, and nothing changes, where COND held behind no event", "back until change 001 20"),
+    ("rewind NNN K", "take step K of NNN back, with all that depends on it",
+     "removed X kept M: X events went, and M are left", "rewind 001 4"),
+    ("node NNN", "what NNN holds",
+     "the state, the registers and both stacks, the top first", "node 001"),
+    ("mem NNN HH", "the word at HH of the memory of NNN",
+     "mem NNN HH W: RAM below 80, ROM from there on", "mem 001 20"),
+    ("trace NNN", "the steps of NNN",
+     "trace NNN C, and C events, the oldest first", "trace 001"),
+    ("why NNN K MMM J", "by which events step K of NNN led to step J of MMM",
+     "chain C, and C events from the cause to what came of it; or independent",
+     "why 000 3 001 7, the cause first: did step 3 of 000 lead to step 7 of 001?"),
+    ("count", "how many events are kept and were made",
+     "kept K made M limit L", "count"),
+    ("dump", "the chip as an image",
+     "an image of format 2, which every command reads", "dump"),
+    ("quit", "end",
+     "nothing", "quit"),
+)  # fmt: skip
+FORMS = {form.split(" ")[0]: form for form, *_ in COMMANDS}
+# what `help` says of each command, by its name
+ROWS = {name: f"{form:22}{does}" if len(form) < 22 else f"{form}\n{'':22}{does}" for name, (form, does, _, _) in zip(FORMS, COMMANDS)}
+MORE = {name: f"{row}\nanswers: {answers}\nexample: {example}" for (name, row), (*_, answers, example) in zip(ROWS.items(), COMMANDS)}
+HELP = "\n".join(ROWS.values())
+# what the words of a form stand for; one in brackets may be missing
+KINDS = {"NNN": NODE, "MMM": NODE, "K": STEP, "HH": HH, "N": "[1-9]?[0-9]", "COMMAND": ".+"}
+FEW = 3
+
+
+def spelled(form):
+    """The lines of a form, and the kinds of its arguments."""
+    command, *words = form.split(" ")
+    kinds = [word.strip("[]") for word in words]
+    return re.compile(command + "".join(f"(?: ({KINDS[kind]}))" + "?" * word.startswith("[") for kind, word in zip(kinds, words))), kinds
 
 
 def distance(one, other):
@@ -134,36 +146,13 @@ class Explorer(Machine):
 
     def explored(self, line):
         """The answer to a command of exploring, or None."""
-        if len(line) > LONGEST:
+        if len(line) > LONGEST or any(int(it) > MOST for it in re.findall("[0-9]{10,}", line)):
             return None
-        if line == "chip":
-            return self.glance()
-        if line == "help":
-            return HELP
-        if line.startswith("help ") and line[5:] in ROWS:
-            answers, example = MORE[line[5:]]
-            return f"{ROWS[line[5:]]}\nanswers: {answers}\nexample: {example}"
-        if line == "who":
-            return "\n".join(self.who())
-        if line == "save":
-            return "\n".join(f"step {name(event[0])}" for event in self.events)
-        if any(int(it) > MOST for it in re.findall("[0-9]{10,}", line)):
-            return None
-        asked = ASKED.fullmatch(line)
-        if asked:
-            words = [it for it in asked.groups() if it]
-            node = number_of(words[1])
-            if words[0] == "writes":
-                return "\n".join(reversed(self.writes(node, int(words[2], 16))))
-            if words[0] == "words":
-                return self.words(node, number_of(words[2]))
-            step = self.steps[node] if words[2] == "last" else int(words[2])
-            if words[0] in ("at", "because"):
-                return (self.at if words[0] == "at" else self.because)(node, step, int(words[3]) if len(words) > 3 else 3)
-            return (self.effects if words[0] == "effects" else self.whence)(node, step)
-        races = RACES.fullmatch(line)
-        if races:
-            return self.races(races[1] and number_of(races[1]))
+        command = line.split(" ")[0]
+        if hasattr(self, f"answer_{command}"):
+            pattern, kinds = spelled(FORMS[command])
+            asked = pattern.fullmatch(line)
+            return asked and getattr(self, f"answer_{command}")(*self.meant(kinds, asked.groups()))
         found, back = RUN.fullmatch(line), BACK.fullmatch(line)
         until = back[2] if back else found and found[4]
         conditions = until.split(" or ") if until else []
@@ -173,6 +162,26 @@ class Explorer(Machine):
             return self.back_until(back[1] and number_of(back[1]), conditions)
         order, seed, most, _ = found.groups()
         return self.run(order and order.split(" ")[0], seed and int(seed), int(most) if most else MOST, conditions)
+
+    def meant(self, kinds, words):
+        """What the arguments of a command mean, by their kinds; `last` is a step of the node before it."""
+        given = []
+        for kind, word in zip(kinds, words):
+            if kind == "N":
+                given.append(FEW if word is None else int(word))
+            elif kind == "K":
+                given.append(self.steps[given[0]] if word == "last" else int(word))
+            elif kind == "HH":
+                given.append(int(word, 16))
+            else:
+                given.append(number_of(word) if word and kind != "COMMAND" else word)
+        return given
+
+    def answer_help(self, command):
+        return MORE.get(command) if command else HELP
+
+    def answer_save(self):
+        return "\n".join(f"step {name(event[0])}" for event in self.events)
 
     def is_condition(self, text):
         kind, *words = text.split(" ")
@@ -277,10 +286,10 @@ class Explorer(Machine):
             return "  *"
         return " " + {"fetch": "@", "read": "?", "write": "!"}[it.wait[0]] + (it.wait[1] if len(it.wait[1]) == 1 else "+")
 
-    def glance(self):
+    def answer_chip(self):
         return "\n".join(f"{row}" + "".join(self.doing(18 * row + column) for column in range(18)) for row in range(7, -1, -1))
 
-    def effects(self, node, step):
+    def answer_effects(self, node, step):
         place = self.place(node, step)
         if place is None:
             return "no 6 nostep"
@@ -293,7 +302,7 @@ class Explorer(Machine):
         """What is told of the events by which words went from one node to another."""
         return [told for event, told in zip(self.events, self.told) if event == (writer, reader)]
 
-    def words(self, writer, reader):
+    def answer_words(self, writer, reader):
         if all(neighbour(writer, side) != reader for side in SIDES):
             return "no 34 nolink"
         sent = [told.split(" ")[1:] for told in self.sent(writer, reader)]
@@ -309,13 +318,13 @@ class Explorer(Machine):
             if node in event:
                 yield again.told[-1], before, again.chip[node].copy()
 
-    def writes(self, node, address):
+    def answer_writes(self, node, address):
         """The steps by which a node wrote a cell of its RAM: one of four opcodes, at an address that names the cell."""
         lines = []
         for step, (told, before, behind) in enumerate(self.passed_through(node), 1):
             if self.wrote(before, told, address):
                 lines.append(f"{name(node)} {step} {STORES[told.split(' ')[-1]][0]} {before.d[0]:06x}")
-        return lines
+        return "\n".join(reversed(lines))
 
     def tails(self, passed):
         """What the source says of the slot that each step ran, in the cell from which its word was fetched, by node and step."""
@@ -336,7 +345,7 @@ class Explorer(Machine):
             return f"takes {word} from {writer} {step}" if reader == name(node) else f"sends {word} to {reader} {its}"
         return NAMES[int(words[3], 16)] if words[2] == "run" else " ".join(words[2:])
 
-    def at(self, node, step, around):
+    def answer_at(self, node, step, around):
         if not 1 <= step <= self.steps[node]:
             return "no 6 nostep"
         lines, passed = [], list(self.passed_through(node))
@@ -428,7 +437,7 @@ class Explorer(Machine):
         words, pairs = self.near()
         return [line for look, change in pairs if only is None or self.events[look] == (only,) for line in self.reading(words[look], look, change)]
 
-    def races(self, only):
+    def answer_races(self, only):
         """The steps that could have come out otherwise, of a node or of all, and what holds of other orders."""
         lines = []
         for node in range(NODES) if only is None else [only]:
@@ -463,7 +472,7 @@ class Explorer(Machine):
         told = f"{number} {deeds[node, number]}{mark}{tails[node, number]}" if number else f"load {part}{self.notes.tail(node, cell_of(part))}"
         return f"{name(node)} {told}"
 
-    def because(self, node, step, most):
+    def answer_because(self, node, step, most):
         if not 1 <= step <= self.steps[node]:
             return "no 6 nostep"
         passed, deeds = self.followed()
@@ -481,7 +490,7 @@ class Explorer(Machine):
                 lines.append(f"{head}\n  {self.made_line(tag, deeds, tails)}")
         return "\n".join(reversed(lines[-most:] if most else []))
 
-    def whence(self, node, step):
+    def answer_whence(self, node, step):
         if not 1 <= step <= self.steps[node]:
             return "no 6 nostep"
         passed, deeds = self.followed()
@@ -524,7 +533,10 @@ class Explorer(Machine):
         waits = [event[0] for event, told in zip(self.events, self.told) if told.endswith(" 1 wait")]
         return {node for node in waits if self.steps[node] == 1 and vars(self.load[node]) == vars(Node(node))}
 
-    def who(self):
+    def answer_who(self):
+        return "\n".join(self.waiting())
+
+    def waiting(self):
         idle, stuck = self.idle(), self.stuck()
         for node in range(NODES):
             if self.chip[node].wait and node not in idle:

@@ -280,7 +280,7 @@ def rows_of(machine, view):
     places = range(len(machine.events))[view.start - 1 : view.end]
     asked = ["red"] + ["black"] * bool(view.cause)
     rows, races = [], {}
-    for line in Explorer.races(machine, None).split("\n")[1:] if view.races else []:
+    for line in Explorer.answer_races(machine, None).split("\n")[1:] if view.races else []:
         if line[:3].isdecimal():
             node, step, *_ = line.split(" ")
             races.setdefault(machine.place(number_of(node), int(step)), []).append(race_seen(line))

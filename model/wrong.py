@@ -321,7 +321,7 @@ WRONG = (
     (EXPLORE, "load {part}{self.notes.tail(node, cell_of(part))}", "load {part}"),
     (EXPLORE, "self.steps[node] == 1 and vars", "vars"),
     (EXPLORE, "busy = [name(node) for node in stuck if node not in idle]", "busy = [name(node) for node in stuck]"),
-    (EXPLORE, 'step = self.steps[node] if words[2] == "last"', 'step = self.steps[node] - 1 if words[2] == "last"'),
+    (EXPLORE, 'self.steps[given[0]] if word == "last"', 'self.steps[given[0]] - 1 if word == "last"'),
     # what decided
     (EXPLORE, "for number in range(1, step):", "for number in range(1, step + 1):"),
     (EXPLORE, 'taken and before.wait[0] == "fetch"}', 'taken and before.wait[0] == "read"}'),

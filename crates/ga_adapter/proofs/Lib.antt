@@ -4,5 +4,4 @@ pub mod Windows
 pub mod Standings
 pub mod SlotTexts
 pub mod FrameLists
-pub mod Comings
-pub mod Beginnings
+pub mod Putting

@@ -4,13 +4,9 @@ pub mod Doing
 pub mod Threads
 pub mod Shown
 pub mod Variables
-pub mod Evaluating
-pub mod Exceptions
 pub mod Spots
 pub mod Calls
 pub mod kept
 pub mod Labels
 pub mod Frames
 pub mod Disassembly
-pub mod Moves
-pub mod Stepping

@@ -66,7 +66,7 @@ abbrev pub stuck_words : Bool → Text
 stuck_words true = codes "can never go on"
 stuck_words false = codes "no"
 
--- The value of a variable of a node. Whether it can never go on is told by the greatest set of such nodes (Stuck.antt of ga_search).
+-- The value of a variable of a node. Whether it can never go on is told by the greatest set of such nodes (Stuck.antt of ga_races).
 abbrev pub variable_value : State → Bool → ℕ → Variable → Text
 variable_value s stuck n variable.State = activity (chip_of s) n
 variable_value s stuck n variable.Step = decimal (steps_of n s.kept)

@@ -84,7 +84,7 @@ pub(crate) fn doing(alloc: Global, node: &Node) -> Result<String, AllocError>
 }
 
 /// The name of a node and what it does, behind a text.
-pub(crate) fn named_doing(
+pub fn named_doing(
     alloc: Global,
     before: &str,
     lab: &Lab,

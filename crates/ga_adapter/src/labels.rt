@@ -129,7 +129,7 @@ pub(crate) fn spot_word(notes: &Notes, node: NodeId, spot: Spot) -> Option<SlotW
 }
 
 /// The line of the source on which a slot stands.
-pub(crate) fn line_at(notes: &Notes, node: NodeId, spot: Spot) -> Option<u32>
+pub fn line_at(notes: &Notes, node: NodeId, spot: Spot) -> Option<u32>
     ensures { result ≡ line_at notes.now node spot }
 {
     match spot_word(notes, node, spot) {
@@ -139,7 +139,7 @@ pub(crate) fn line_at(notes: &Notes, node: NodeId, spot: Spot) -> Option<u32>
 }
 
 /// The first word of a line from which a slot of an instruction word of the node comes.
-pub(crate) fn line_start(notes: &Notes, node: NodeId, line: u32) -> Option<SlotWord>
+pub fn line_start(notes: &Notes, node: NodeId, line: u32) -> Option<SlotWord>
     ensures { result ≡ line_start notes.now node line }
 {
     let place = place_on_line(notes.words.as_slice(), node, line)?;

@@ -11,7 +11,7 @@ use crate::numbers::{chip_address, reference_of};
 use crate::scope::Scope;
 use crate::texts::address_text;
 use crate::values::value_of;
-use crate::variable::{Variable, count_of, name_of, variable_of};
+use crate::variable::{Variable, count_of, variable_name, variable_of};
 use ga_grid::NodeId;
 use ga_lab::Lab;
 use serde_json::{Value, json, push};
@@ -121,7 +121,7 @@ fn variable(
     requires { IsVariable variable }
     ensures { IfOk result (λ v. view v ≡ data_of lab.now stuck node.number variable) }
 {
-    let name = name_of(alloc, variable)?;
+    let name = variable_name(alloc, variable)?;
     let value = value_of(alloc, lab, stuck, node, variable)?;
     match variable {
         Variable::Cell(address) => {

@@ -44,7 +44,7 @@ pub fn slot_and_p(node: &Node) -> (u8, u32)
 
 /// Where a node stood when it had made as many steps as a walk of it has. Takes time by how many steps it made since the fetch of its
 /// instruction word.
-pub(crate) fn spot_at(lab: &Lab, walk: &Walk<'_>, node: NodeId) -> Option<Spot>
+fn spot_at(lab: &Lab, walk: &Walk<'_>, node: NodeId) -> Option<Spot>
     requires { walk.now ≡ standing lab.now node walk.now.step }
     ensures { result ≡ spot_behind lab.now node walk.now.step }
 {
@@ -70,7 +70,7 @@ fn due_spot(p: u32) -> Option<Spot>
 }
 
 /// The same behind so many steps, to which the node is walked back.
-pub(crate) fn spot_back(lab: &Lab, walk: &mut Walk<'_>, node: NodeId, step: u32) -> Option<Spot>
+pub fn spot_back(lab: &Lab, walk: &mut Walk<'_>, node: NodeId, step: u32) -> Option<Spot>
     requires walk { walk.old ≡ standing lab.now node walk.old.step }
     requires order { step ≤ walk.old.step }
     ensures spot { result ≡ spot_behind lab.now node step }

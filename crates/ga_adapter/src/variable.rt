@@ -68,7 +68,7 @@ const LINKS: [Variable; 5] = [
 ];
 
 /// How many variables a scope has.
-pub(crate) fn count_of(scope: Scope) -> u8
+pub fn count_of(scope: Scope) -> u8
     ensures { result ≡ variable_count scope }
 {
     match scope {
@@ -82,7 +82,7 @@ pub(crate) fn count_of(scope: Scope) -> u8
 }
 
 /// A scope's variable at a place.
-pub(crate) fn variable_of(scope: Scope, place: u8) -> Variable
+pub fn variable_of(scope: Scope, place: u8) -> Variable
     requires { place < variable_count scope }
     ensures value { result ≡ variable_at scope place }
     ensures valid { IsVariable result }
@@ -98,7 +98,7 @@ pub(crate) fn variable_of(scope: Scope, place: u8) -> Variable
 }
 
 /// The name of a variable.
-pub(crate) fn name_of(alloc: Global, variable: Variable) -> Result<String, AllocError>
+pub fn variable_name(alloc: Global, variable: Variable) -> Result<String, AllocError>
     requires { IsVariable variable }
     ensures { IfOk result (λ text. string_bytes text ≡ variable_name variable) }
 {

@@ -8,15 +8,15 @@ use Rattle.ga_lab.specs.declared.fault.LabFault.{LabFault}
 use Rattle.ga_lab.specs.declared.fault.LabFault.TheVariants.{Memory}
 use Rattle.ga_display.specs.Texts.{refusal_text}
 use Rattle.ga_search.specs.Effects.{effects_of}
-use Rattle.ga_search.specs.Stuck.{AreStuck}
-use Rattle.ga_search.specs.Freed.{IsSubset}
+use Rattle.ga_races.specs.Stuck.{AreStuck}
+use Rattle.ga_races.specs.Freed.{IsSubset}
 use Rattle.ga_search.specs.Idle.{MarksIdle}
 use Rattle.ga_search.specs.declared.effects.RollbackEffect.{RollbackEffect}
-use Rattle.ga_search.specs.declared.races.Race.{Race}
-use Rattle.ga_search.specs.Races.{races_asked, has_looks, first_ready}
+use Rattle.ga_race_detector.specs.declared.races.Race.{Race}
+use Rattle.ga_race_detector.specs.Races.{races_asked, has_looks, first_ready}
 use Rattle.std.specs.List.{All}
-use Rattle.ga_search.specs.declared.readings.Reading.{Reading}
-use Rattle.ga_search.specs.Readings.{IsTold, NoneMissed}
+use Rattle.ga_race_detector.specs.declared.readings.Reading.{Reading}
+use Rattle.ga_race_detector.specs.Readings.{IsTold, NoneMissed}
 use Rattle.ga_answers.specs.Races.{listed_text, TellsRaces}
 use Rattle.ga_answers.specs.Texts.{effects_text, effects_answer}
 use Rattle.ga_answers.specs.Waiting.{all_waiting, stuck_text, all_rings, idle_text}

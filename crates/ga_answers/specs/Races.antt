@@ -1,5 +1,5 @@
 -- The texts of `races`: the steps that could have come out otherwise, and what holds of other orders (docs/REFERENCE.md, "Exploring";
--- this project's own). What the last line means is law `every_order` and law `no_other_order` of ga_search.
+-- this project's own). What the last line means is law `every_order` and law `no_other_order` of ga_race_detector.
 use Rattle.std.specs.Prelude.{◌≡◌, ◌+◌, ◌⊎◌, Bool, true, false, is_none, List, [], ◌∷◌, ◌++◌, length, flat_map, codes, decimal, ℕ, Option, Some, None}
 use Rattle.std.specs.List.{All}
 use Rattle.ga_text.specs.Lines.{Text}
@@ -7,10 +7,10 @@ use Rattle.ga_word.specs.Word.{hex6_of}
 use Rattle.ga_grid.specs.declared.node_id.NodeId.{NodeId}
 use Rattle.ga_lab.specs.Machine.{State, chip_of, causes_of}
 use Rattle.ga_lab.specs.declared.fault.LabFault.TheVariants.{Memory}
-use Rattle.ga_search.specs.declared.races.Race.{Race}
-use Rattle.ga_search.specs.declared.readings.Reading.{Reading}
-use Rattle.ga_search.specs.Readings.{back_of, IsTold, NoneMissed}
-use Rattle.ga_search.specs.Races.{races_asked, has_looks, first_ready}
+use Rattle.ga_race_detector.specs.declared.races.Race.{Race}
+use Rattle.ga_race_detector.specs.declared.readings.Reading.{Reading}
+use Rattle.ga_race_detector.specs.Readings.{back_of, IsTold, NoneMissed}
+use Rattle.ga_race_detector.specs.Races.{races_asked, has_looks, first_ready}
 use Rattle.ga_text.specs.Names.{name_of_node, step_text}
 use Rattle.ga_display.specs.Texts.{refusal_text}
 

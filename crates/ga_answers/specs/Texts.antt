@@ -11,7 +11,7 @@ use Rattle.ga_event.specs.Told.{steps_of}
 use Rattle.ga_lab.specs.Machine.{State, chip_of}
 use Rattle.ga_lab.specs.declared.fault.LabFault.{LabFault}
 use Rattle.ga_lab.specs.declared.fault.LabFault.TheVariants.{Waiting, Stopped, Full, Memory, Empty, NoStep, Spent}
-use Rattle.ga_search.specs.Near.{are_linked}
+use Rattle.ga_races.specs.Near.{are_linked}
 use Rattle.ga_search.specs.Words.{words_of, word_count}
 use Rattle.ga_search.specs.declared.effects.RollbackEffect.{RollbackEffect}
 use Rattle.ga_search.specs.declared.words.Sent.{Sent}

@@ -4,14 +4,14 @@ ghost use Rattle.std.specs.Prelude.{◌≡◌, ◌≤◌, ◌++◌, length, flat
 ghost use Rattle.ga_text.specs.Lines.{Bytes};
 ghost use Rattle.ga_text.specs.Output.{IsSaid, IsSaidOrCut};
 ghost use Rattle.ga_text.specs.kept.Output.{Says};
-ghost use Rattle.ga_search.specs.Readings.{back_of};
+ghost use Rattle.ga_race_detector.specs.Readings.{back_of};
 ghost use Rattle.ga_answers.specs.Races.{race_text, reading_text, before_or_behind, races_head, race_lines_text, last_line, listed_text, TellsRaces};
 
 use arrayvec::ArrayVec;
 use ga_display::refusal_text;
 use ga_grid::NodeId;
 use ga_lab::Lab;
-use ga_search::{Race, Races, Reading, find_races};
+use ga_race_detector::{Race, Races, Reading, find_races};
 use ga_text::{
     Output, TextBuffer, WriteFailed, push_node, push_number, push_step, push_text, push_word,
 };

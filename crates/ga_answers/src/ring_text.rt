@@ -13,7 +13,7 @@ ghost use Rattle.ga_answers.specs.Waiting.{awaited_at, sole, sole_awaited, name_
 use arrayvec::ArrayVec;
 use ga_grid::{Chip, NodeId, neighbour};
 use ga_ports::Side;
-use ga_search::awaits;
+use ga_races::awaits;
 use ga_text::{Output, WriteFailed, push_node, push_text};
 use std::io::Write;
 

@@ -17,7 +17,8 @@ use ga_grid::{Chip, NodeId, neighbour};
 use ga_lab::Lab;
 use ga_node::{Node, Wait};
 use ga_ports::Side;
-use ga_search::{awaits, find_idle, find_stuck};
+use ga_races::{awaits, find_stuck};
+use ga_search::find_idle;
 use ga_text::{NUMBER_ROOM, Output, TextBuffer, WriteFailed, push_node, push_number, push_text};
 use std::io::Write;
 

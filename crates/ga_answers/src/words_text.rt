@@ -9,7 +9,8 @@ ghost use Rattle.ga_answers.specs.Texts.{sent_text, words_head, linked_text, lin
 use arrayvec::ArrayVec;
 use ga_grid::NodeId;
 use ga_lab::Lab;
-use ga_search::{Sent, Words, are_linked, count_words};
+use ga_races::are_linked;
+use ga_search::{Sent, Words, count_words};
 use ga_text::{
     Output, TextBuffer, WriteFailed, push_node, push_number, push_spaced, push_step, push_text,
 };

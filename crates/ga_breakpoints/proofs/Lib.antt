@@ -1,3 +1,6 @@
+pub mod Beginnings
 pub mod NodesNow
 pub mod Halting
+pub mod Following
 pub mod Moving
+pub mod Reversals

@@ -6,6 +6,7 @@ use Rattle.ga_event.specs.declared.made.Made.{Made}
 use Rattle.std.proofs.Math.Bool.{and_comm}
 use Rattle.std.proofs.lemmas.Bool.{ne_eqb}
 use Rattle.std.proofs.lemmas.Bool.Decides.{eqb_tells}
+use Rattle.std.proofs.lemmas.List.Sums.{sum_by-cons}
 use Rattle.std.proofs.lemmas.Option.{same_Some}
 use Rattle.ga_node.specs.Record.{NodeRecord}
 use Rattle.ga_grid.specs.declared.node_id.NodeId.{NodeId}
@@ -23,15 +24,17 @@ use Rattle.ga_origin.proofs.Made.{none_past}
 use Rattle.ga_lab.proofs.Called.{Runs, runs_of, chip_is}
 use Rattle.ga_notes.specs.Source.{cell_of_address}
 use Rattle.ga_origin.specs.Origins.{place_after, node_after}
-use Rattle.ga_search.proofs.Standing.{steps-cons}
 use Rattle.ga_adapter.specs.declared.spots.Spot.{Spot}
 use Rattle.ga_adapter.specs.Labels.{is_same_cell}
-use Rattle.ga_adapter.specs.Moves.{is_at_spot}
-use Rattle.ga_adapter.specs.Moves.{arrives, comes_to}
+use Rattle.ga_breakpoints.specs.Back.{is_at_spot}
+use Rattle.ga_breakpoints.specs.Back.{arrives, comes_to}
 use Rattle.ga_adapter.specs.Spots.{spot, spot_by, spot_behind}
 use Rattle.ga_breakpoints.specs.kept.Standing.{may_be}
 
 -- ---- events that are no steps of a node leave it
+
+steps-cons : (n : ℕ) (e : Event) (es : List Event) → steps_of n (e ∷ es) ≡ cond (touches e n) 1 0 + steps_of n es
+steps-cons n e es = sum_by-cons (λ (x : Event). cond (touches x n) 1 0) e es
 
 none_of : (b : Bool) (x y : ℕ) → y ≡ cond b 1 0 + x → y ≡ 0 → (b ≡ false) × (x ≡ 0)
 none_of true x y h none = absurd (omega arith)

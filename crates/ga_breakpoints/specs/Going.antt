@@ -1,6 +1,6 @@
 -- How a move ends (Debug Adapter Protocol, "ContinueRequest", "NextRequest", "StepInRequest", "StepOutRequest", "StoppedEvent"): right behind the first
 -- event that hits a breakpoint, is a stop that ends it, or brings it to its end; or where no event follows.
-use Rattle.std.specs.Prelude.{◌≡◌, ℕ, ◌+◌, ◌<◌, Bool, true, false, ◌||◌, List, Option, Some, None}
+use Rattle.std.specs.Prelude.{◌≡◌, ℕ, zero, suc, ◌+◌, ◌<◌, Bool, true, false, ◌||◌, List, Option, Some, None}
 use Rattle.ga_grid.specs.declared.node_id.NodeId.{NodeId}
 use Rattle.ga_event.specs.declared.made.Made.{Made}
 use Rattle.ga_lab.specs.Machine.{State}
@@ -9,24 +9,37 @@ use Rattle.ga_search.specs.declared.watched.WatchedEnd.TheVariants as the_end
 use Rattle.ga_search.specs.Running.{Running}
 use Rattle.ga_search.specs.Watched.{told_first, first_moved, after_first, IsHaltedFirst}
 use Rattle.ga_breakpoints.specs.declared.breakpoint.Breakpoint.{Breakpoint}
+use Rattle.ga_breakpoints.specs.declared.hits.HitTally.{HitTally}
 use Rattle.ga_breakpoints.specs.declared.stepping.Stepping.{Stepping}
 use Rattle.ga_breakpoints.specs.declared.going.Halt.{Halt}
 use Rattle.ga_breakpoints.specs.declared.going.Halt.TheVariants as the_halt
-use Rattle.ga_breakpoints.specs.Breakpoints.{first_hit, is_stopping, ends_early}
+use Rattle.ga_breakpoints.specs.Breakpoints.{tally_behind, is_stopping, ends_early}
 use Rattle.ga_breakpoints.specs.Stepping.{is_moved, stepped_on}
 
--- A move: the node that is moved and goes first, where it is that of one; the breakpoints; whether the stop of each node ends it; and whether it comes to
--- its end behind the event after so many, by what was made and the machine that this left.
+-- how often each breakpoint was hit, after so many events
+abbrev pub tally_told : List Breakpoint → HitTally → Option Made → State → HitTally
+tally_told breakpoints tally None s = tally
+tally_told breakpoints tally (Some told) s = tally_behind breakpoints told s tally
+
+abbrev pub tally_on : Option NodeId → List Breakpoint → HitTally → Running → ℕ → HitTally
+tally_on first breakpoints tally r zero = tally
+tally_on first breakpoints tally r (suc events) =
+    tally_told breakpoints (tally_on first breakpoints tally r events) (told_first first (after_first first r events))
+    (first_moved first (after_first first r events)).state
+
+-- A move: the node that is moved and goes first, where it is that of one; the breakpoints, and their hits after so many events; whether the stop of each
+-- node ends it; and whether it comes to its end behind the event after so many, by what was made and the machine that this left.
 pub record Course : Type 0 where
   pub node : Option NodeId
   pub breakpoints : List Breakpoint
+  pub tally : ℕ → HitTally
   pub stops : Bool
   pub ends : ℕ → Made → State → Bool
 
 -- it ends behind the event after so many
 abbrev pub halts_told : Course → ℕ → Option Made → State → Bool
 halts_told by k None s = false
-halts_told by k (Some told) s = ends_early by.breakpoints by.stops by.node told s || by.ends k told s
+halts_told by k (Some told) s = ends_early by.breakpoints (by.tally k) by.stops by.node told s || by.ends k told s
 
 abbrev pub halts_behind : Course → Running → ℕ → Bool
 halts_behind by r k = halts_told by k (told_first by.node (after_first by.node r k)) (first_moved by.node (after_first by.node r k)).state
@@ -43,12 +56,12 @@ pub record IsFirst (by : Course) (r : Running) (events k : ℕ) (told : Made) : 
 -- how it ended after so many events, of which no more were asked for
 abbrev pub HasGone : Course → Running → ℕ → ℕ → Halt → Type 0
 HasGone by r most events (the_halt.Hit told which) =
-    (k : ℕ) × IsFirst by r events k told × (first_hit by.breakpoints told (first_moved by.node (after_first by.node r k)).state ≡ Some which)
+    (k : ℕ) × IsFirst by r events k told × ((tally_behind by.breakpoints told (first_moved by.node (after_first by.node r k)).state (by.tally k)).hit ≡ Some which)
 HasGone by r most events (the_halt.Stopped told) =
-    (k : ℕ) × IsFirst by r events k told × (first_hit by.breakpoints told (first_moved by.node (after_first by.node r k)).state ≡ None)
+    (k : ℕ) × IsFirst by r events k told × ((tally_behind by.breakpoints told (first_moved by.node (after_first by.node r k)).state (by.tally k)).hit ≡ None)
     × (is_stopping by.stops by.node told ≡ true)
 HasGone by r most events (the_halt.Moved told) =
-    (k : ℕ) × IsFirst by r events k told × (first_hit by.breakpoints told (first_moved by.node (after_first by.node r k)).state ≡ None)
+    (k : ℕ) × IsFirst by r events k told × ((tally_behind by.breakpoints told (first_moved by.node (after_first by.node r k)).state (by.tally k)).hit ≡ None)
     × (is_stopping by.stops by.node told ≡ false) × (by.ends k told (first_moved by.node (after_first by.node r k)).state ≡ true)
 HasGone by r most events the_halt.Cut = (events ≡ most) × NeverHalts by r events
 HasGone by r most events the_halt.Quiet = (events < most) × NeverHalts by r events × IsHaltedFirst by.node (after_first by.node r events) the_end.Quiet
@@ -56,10 +69,11 @@ HasGone by r most events (the_halt.Refused why) =
     (events < most) × NeverHalts by r events × IsHaltedFirst by.node (after_first by.node r events) (the_end.Refused why)
 
 -- `continue`: by breakpoints and stops alone
-abbrev pub going_on : List Breakpoint → Bool → Course
-going_on breakpoints stops = record { node = None; breakpoints = breakpoints; stops = stops; ends = λ k told s. false }
+abbrev pub going_on : List Breakpoint → HitTally → Bool → Running → Course
+going_on breakpoints tally stops r =
+    record { node = None; breakpoints = breakpoints; tally = tally_on None breakpoints tally r; stops = stops; ends = λ k told s. false }
 
 -- a move of a node, that is so when a run begins
-abbrev pub stepping_on : Notes → List Breakpoint → Bool → Stepping → Running → Course
-stepping_on notes breakpoints stops by r =
-    record { node = Some by.node; breakpoints = breakpoints; stops = stops; ends = λ k told s. is_moved notes (stepped_on by r k) told s }
+abbrev pub stepping_on : Notes → List Breakpoint → HitTally → Bool → Stepping → Running → Course
+stepping_on notes breakpoints tally stops by r =
+    record { node = Some by.node; breakpoints = breakpoints; tally = tally_on (Some by.node) breakpoints tally r; stops = stops; ends = λ k told s. is_moved notes (stepped_on by r k) told s }

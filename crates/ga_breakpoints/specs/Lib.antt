@@ -1,4 +1,9 @@
+pub mod Back
+pub mod Conditions
+pub mod Saying
+pub mod Lines
 pub mod Breakpoints
 pub mod Stepping
 pub mod Going
+pub mod Reversing
 pub mod kept

@@ -1,5 +1,5 @@
 -- Steps of one node (Debug Adapter Protocol, "NextRequest", "StepInRequest", "StepOutRequest", "SteppingGranularity"). A line begins forward where it
--- does backward: `begins_behind` of ga_adapter.
+-- does backward: `begins_behind` of Lines.antt.
 use Rattle.std.specs.Prelude.{ℕ, zero, suc, ◌-◌, ◌==◌, Bool, true, false, ◌&&◌, if◌then◌else◌, is_none, position, Option, Some, None, option_map}
 use Rattle.std.specs.List.{range_with_len}
 use Rattle.ga_grid.specs.declared.node_id.NodeId.{NodeId}
@@ -11,7 +11,7 @@ use Rattle.ga_search.specs.Conditions.{is_step_of}
 use Rattle.ga_search.specs.Running.{Running}
 use Rattle.ga_search.specs.Watched.{told_first, first_moved, after_first}
 use Rattle.ga_adapter.specs.Calls.{put_by, is_calling, entries_from}
-use Rattle.ga_adapter.specs.Stepping.{begins_behind}
+use Rattle.ga_breakpoints.specs.Lines.{begins_behind}
 use Rattle.ga_breakpoints.specs.declared.stepping.Grain.{Grain}
 use Rattle.ga_breakpoints.specs.declared.stepping.Grain.TheVariants.{Instruction, Line}
 use Rattle.ga_breakpoints.specs.declared.stepping.Stepping.{Stepping}

@@ -1,2 +1,3 @@
 pub mod Halting
 pub mod Standing
+pub mod Words

@@ -4,7 +4,9 @@ ghost use Rattle.std.specs.Prelude.{◌≡◌};
 ghost use Rattle.ga_notes.specs.Notes.{worded_slot};
 ghost use Rattle.ga_breakpoints.specs.Breakpoints.{on_slot, on_word, breakpoint_of_line, breakpoint_of_address};
 
-use ga_adapter::{Spot, Watched, memory_cell};
+use crate::back::Watched;
+use crate::condition::{HitCount, ValueTest};
+use ga_adapter::{Spot, memory_cell};
 use ga_grid::NodeId;
 use ga_notes::{Notes, SlotWord};
 
@@ -15,6 +17,10 @@ pub struct Breakpoint {
     pub node: NodeId,
     /// That it comes to a slot, or writes a cell of its RAM.
     pub watched: Watched,
+    /// What has to hold of the node behind the step that did that.
+    pub condition: Option<ValueTest>,
+    /// Which of the events that did that end a run.
+    pub hits: Option<HitCount>,
 }
 
 /// A breakpoint on a line of the source.
@@ -33,6 +39,8 @@ fn on_slot(node: NodeId, cell: u8, slot: u8) -> Breakpoint
     Breakpoint {
         node,
         watched: Watched::Comes(Spot { cell, slot }),
+        condition: None,
+        hits: None,
     }
 }
 

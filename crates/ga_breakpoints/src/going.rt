@@ -1,13 +1,12 @@
 //! How a move ends, and `continue`.
 
-ghost use Rattle.std.specs.Prelude.{◌≡◌, ◌≤◌};
+ghost use Rattle.std.specs.Prelude.{◌≡◌, ◌≤◌, None};
 ghost use Rattle.ga_search.specs.Running.{running, after_events};
-ghost use Rattle.ga_search.specs.Watched.{IsNewestMade, IsNewestSeen};
-ghost use Rattle.ga_breakpoints.specs.Going.{HasGone, going_on};
+ghost use Rattle.ga_breakpoints.specs.Going.{HasGone, tally_on, going_on};
 ghost use Rattle.ga_breakpoints.specs.kept.Halting.{halt_by, halt_of};
 
 use crate::halts::{Halts, is_stopping};
-use crate::hits::first_hit;
+use crate::hits::HitTally;
 use ga_grid::NodeId;
 use ga_lab::{Lab, LabFault, Made};
 use ga_search::{Schedule, WatchedEnd, WatchedRun, run_watched};
@@ -30,7 +29,7 @@ pub enum Halt {
 }
 
 /// How many events were made, why no more, and how the order goes on.
-#[derive(Clone, Copy, PartialEq, Eq, Debug)]
+#[derive(Clone, Copy)]
 pub struct Went {
     /// How many.
     pub events: u64,
@@ -38,14 +37,15 @@ pub struct Went {
     pub halt: Halt,
     /// Where the schedule stands: a further move by it goes on with this one.
     pub schedule: Schedule,
+    /// How often each breakpoint was hit: a further move counts on.
+    pub tally: HitTally,
 }
 
-/// Why a move ended by the newest event of a lab.
-fn halt_by(lab: &Lab, halts: &Halts<'_>, node: Option<NodeId>, made: Made) -> Halt
-    requires { IsNewestMade lab.now made }
-    ensures { result ≡ halt_by halts.now.breakpoints.now halts.now.stops node made lab.now }
+/// Why a move ended by an event.
+fn halt_by(halts: &Halts<'_>, node: Option<NodeId>, made: Made) -> Halt
+    ensures { result ≡ halt_by halts.now.tally.hit halts.now.stops node made }
 {
-    if let Some(which) = first_hit(halts.breakpoints, &made, lab) {
+    if let Some(which) = halts.tally.hit {
         return Halt::Hit { made, which };
     }
     if is_stopping(halts.stops, node, &made) {
@@ -56,29 +56,29 @@ fn halt_by(lab: &Lab, halts: &Halts<'_>, node: Option<NodeId>, made: Made) -> Ha
 }
 
 /// Why a move ended, by how its run did.
-fn halt_of(lab: &Lab, halts: &Halts<'_>, node: Option<NodeId>, end: WatchedEnd) -> Halt
-    requires { IsNewestSeen lab.now end }
-    ensures { result ≡ halt_of halts.now.breakpoints.now halts.now.stops node lab.now end }
+fn halt_of(halts: &Halts<'_>, node: Option<NodeId>, end: WatchedEnd) -> Halt
+    ensures { result ≡ halt_of halts.now.tally.hit halts.now.stops node end }
 {
     match end {
-        WatchedEnd::Seen(made) => halt_by(lab, halts, node, made),
+        WatchedEnd::Seen(made) => halt_by(halts, node, made),
         WatchedEnd::Made => Halt::Cut,
         WatchedEnd::Quiet => Halt::Quiet,
         WatchedEnd::Refused(why) => Halt::Refused(why),
     }
 }
 
-/// How a move went by a run that was watched.
-pub(crate) fn went_by(lab: &Lab, run: WatchedRun, halts: &Halts<'_>, node: Option<NodeId>) -> Went
-    requires { IsNewestSeen lab.now run.end }
+/// How a move went by a run that was watched so.
+pub(crate) fn went_by(run: WatchedRun, halts: &Halts<'_>, node: Option<NodeId>) -> Went
     ensures events { result.events ≡ run.events }
-    ensures halt { result.halt ≡ halt_of halts.now.breakpoints.now halts.now.stops node lab.now run.end }
+    ensures halt { result.halt ≡ halt_of halts.now.tally.hit halts.now.stops node run.end }
     ensures schedule { result.schedule ≡ run.schedule }
+    ensures tally { result.tally ≡ halts.now.tally }
 {
     Went {
         events: run.events,
-        halt: halt_of(lab, halts, node, run.end),
+        halt: halt_of(halts, node, run.end),
         schedule: run.schedule,
+        tally: halts.tally,
     }
 }
 
@@ -87,10 +87,11 @@ pub(crate) fn went_by(lab: &Lab, run: WatchedRun, halts: &Halts<'_>, node: Optio
 /// are made, and by the breakpoints.
 pub fn go_on(lab: &mut Lab, schedule: Schedule, halts: Halts<'_>, most: u64) -> Went
     ensures state { running lab.new result.schedule ≡ after_events (running lab.old schedule) result.events }
+    ensures hits { result.tally ≡ tally_on None halts.entry.breakpoints.now halts.entry.tally (running lab.old schedule) result.events }
     ensures most { result.events ≤ most }
-    ensures end { HasGone (going_on halts.entry.breakpoints.now halts.entry.stops) (running lab.old schedule) most result.events result.halt }
+    ensures end { HasGone (going_on halts.entry.breakpoints.now halts.entry.tally halts.entry.stops (running lab.old schedule)) (running lab.old schedule) most result.events result.halt }
 {
     let mut watch = halts;
     let run = run_watched(lab, schedule, None, most, &mut watch);
-    went_by(lab, run, &halts, None)
+    went_by(run, &watch, None)
 }

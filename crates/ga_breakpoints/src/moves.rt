@@ -6,14 +6,19 @@ ghost use Rattle.ga_search.specs.Conditions.{is_step_of};
 ghost use Rattle.ga_search.specs.Running.{running};
 ghost use Rattle.ga_search.specs.Watched.{IsNewestMade, after_first};
 ghost use Rattle.ga_adapter.specs.Calls.{is_calling, entries_from};
-ghost use Rattle.ga_breakpoints.specs.Stepping.{is_from, call_behind, step_seen, reaches_end, is_moved, stepped_on};
-ghost use Rattle.ga_breakpoints.specs.Going.{HasGone, stepping_on};
+ghost use Rattle.ga_origin.specs.Fetched.{fetched_cell};
+ghost use Rattle.ga_breakpoints.specs.declared.stepping.Grain.TheVariants.{Line};
+ghost use Rattle.ga_breakpoints.specs.Stepping.{is_from, call_behind, step_seen, stepped_on};
+ghost use Rattle.ga_breakpoints.specs.kept.Words.{word_seen, reaches_by, is_moved_by};
+ghost use Rattle.ga_breakpoints.specs.Going.{HasGone, tally_on, stepping_on};
 
 use crate::going::{Went, went_by};
-use crate::halts::{Halts, is_halting};
+use crate::halts::{Halts, see_halt};
 use crate::hits::is_step_of;
+use crate::lines::begins_by;
 use crate::stepping::{Grain, Stepping};
-use ga_adapter::{begins_behind, entries_from, is_calling};
+use crate::words::{word_after, word_behind};
+use ga_adapter::{entries_from, is_calling};
 use ga_grid::NodeId;
 use ga_lab::{Lab, Made};
 use ga_notes::Notes;
@@ -25,6 +30,8 @@ struct Steps<'a> {
     notes: &'a Notes,
     halts: Halts<'a>,
     stepping: Stepping,
+    // The cell from which the node's word came, where the move is by lines.
+    word: Option<u8>,
 }
 
 /// Whether an entry of the return stack stood at this place before.
@@ -92,22 +99,52 @@ fn step_seen(lab: &Lab, by: Stepping, made: &Made) -> Stepping
     Stepping { call, ..by }
 }
 
-/// Whether a move of this grain can end by a step of a node.
-fn reaches_end(lab: &Lab, notes: &Notes, node: NodeId, grain: Grain, step: u32) -> bool
+/// The cell from which the word of a node came behind the newest event, where the word before it came from this one.
+fn word_seen(lab: &Lab, node: NodeId, word: Option<u8>, made: &Made) -> Option<u8>
+    requires { IsNewestMade lab.now made.now }
+    ensures { result ≡ word_seen node word made.now lab.now }
+{
+    if !is_step_of(made, node) {
+        return word;
+    }
+    let step = newest_step(lab, made, node);
+    let walk = lab.walk(node, step);
+    word_after(lab, &walk, node, word)
+}
+
+/// Whether a move of this grain can end by a step of a node, by the cells of the words before it and behind it.
+fn reaches_by(
+    lab: &Lab,
+    notes: &Notes,
+    node: NodeId,
+    grain: Grain,
+    step: u32,
+    before: Option<u8>,
+    behind: Option<u8>,
+) -> bool
     requires { step < steps_of node.number lab.now.kept }
-    ensures { result ≡ reaches_end grain notes.now node lab.now step }
+    ensures { result ≡ reaches_by grain notes.now node lab.now step before behind }
 {
     match grain {
         Grain::Instruction => true,
-        Grain::Line => begins_behind(lab, notes, node, step),
+        Grain::Line => begins_by(lab, notes, node, step, before, behind),
     }
 }
 
-/// Whether a move comes to its end by the newest event, behind which this call is to come back.
-fn is_moved(lab: &Lab, notes: &Notes, by: &Stepping, call: Option<usize>, made: &Made) -> bool
+/// Whether a move comes to its end by the newest event, behind which this call is to come back, by the cells of the words before it and behind it.
+fn is_moved_by(
+    lab: &Lab,
+    notes: &Notes,
+    by: &Stepping,
+    call: Option<usize>,
+    before: Option<u8>,
+    behind: Option<u8>,
+    made: &Made,
+) -> bool
     requires newest { IsNewestMade lab.now made.now }
     requires call { is_step_of by.now.node.number made.now ≡ true → call ≡ call_behind lab.now by.now.node by.now.over by.now.call }
-    ensures { result ≡ is_moved notes.now by.now made.now lab.now }
+    requires behind { behind ≡ word_seen by.now.node before made.now lab.now }
+    ensures { result ≡ is_moved_by notes.now by.now before made.now lab.now }
 {
     if !is_step_of(made, by.node) {
         return false;
@@ -116,31 +153,46 @@ fn is_moved(lab: &Lab, notes: &Notes, by: &Stepping, call: Option<usize>, made: 
         return false;
     }
     let step = newest_step(lab, made, by.node);
-    reaches_end(lab, notes, by.node, by.grain, step)
+    reaches_by(lab, notes, by.node, by.grain, step, before, behind)
 }
 
 impl<'a> Watch for Steps<'a> {
     ghost use Rattle.std.specs.Prelude.{Some, ◌||◌};
     ghost use Rattle.ga_breakpoints.specs.Breakpoints.{ends_early};
-    ghost use Rattle.ga_breakpoints.specs.Stepping.{step_seen, is_moved};
+    ghost use Rattle.ga_breakpoints.specs.Stepping.{step_seen};
+    ghost use Rattle.ga_breakpoints.specs.kept.Halting.{with_hits};
+    ghost use Rattle.ga_breakpoints.specs.kept.Words.{word_seen, is_moved_by};
 
-    ghost ends = { λ w told s. ends_early w.halts.breakpoints.now w.halts.stops (Some w.stepping.node) told s || is_moved w.notes.now w.stepping told s };
+    ghost ends = { λ w told s. ends_early w.halts.breakpoints.now w.halts.tally w.halts.stops (Some w.stepping.node) told s || is_moved_by w.notes.now w.stepping w.word told s };
 
-    ghost seen = { λ w told s. record w { stepping = step_seen w.stepping told s } };
+    ghost seen = { λ w told s. record w { halts = with_hits w.halts told s; stepping = step_seen w.stepping told s; word = word_seen w.stepping.node w.word told s } };
 
     fn sees(&mut self, made: &Made, lab: &Lab) -> bool {
         let by = self.stepping;
+        let before = self.word;
         let next = step_seen(lab, by, made);
+        let behind = word_seen(lab, by.node, before, made);
         self.stepping = next;
-        is_halting(&self.halts, Some(by.node), made, lab)
-            || is_moved(lab, self.notes, &by, next.call, made)
+        self.word = behind;
+        see_halt(&mut self.halts, Some(by.node), made, lab)
+            || is_moved_by(lab, self.notes, &by, next.call, before, behind, made)
+    }
+}
+
+/// The cell from which the word of a node came, where a move of it is by lines.
+fn word_begun(lab: &Lab, by: &Stepping) -> Option<u8>
+    ensures { by.now.grain ≡ Line → result ≡ fetched_cell lab.now by.now.node (steps_of by.now.node.number lab.now.kept) }
+{
+    match by.grain {
+        Grain::Instruction => None,
+        Grain::Line => word_behind(lab, by.node, lab.steps(by.node)),
     }
 }
 
 /// A slice of a move of a node, of at most so many events, in which the node makes each event that it has, and others theirs, in the order of the schedule,
 /// only while it has none: up to the first behind which the move comes to its end, a breakpoint is hit at any node, or a stop ends it. Where it was cut,
 /// it is gone on with by the same move and the schedule that is handed back. Takes time by the events that are made, by the breakpoints, and for a move
-/// by lines by how long the words and the calls of the node are.
+/// by lines, once in a slice, by how long the node is within its word, and by how long its calls are.
 pub fn step_on(
     lab: &mut Lab,
     schedule: Schedule,
@@ -151,16 +203,21 @@ pub fn step_on(
 ) -> Went
     ensures state { running lab.new result.schedule ≡ after_first (Some stepping.old.node) (running lab.old schedule) result.events }
     ensures stepping { stepping.new ≡ stepped_on stepping.old (running lab.old schedule) result.events }
+    ensures hits { result.tally ≡ tally_on (Some stepping.old.node) halts.entry.breakpoints.now halts.entry.tally (running lab.old schedule) result.events }
     ensures most { result.events ≤ most }
-    ensures end { HasGone (stepping_on notes.now halts.entry.breakpoints.now halts.entry.stops stepping.old (running lab.old schedule)) (running lab.old schedule) most result.events result.halt }
+    ensures end { HasGone (stepping_on notes.now halts.entry.breakpoints.now halts.entry.tally halts.entry.stops stepping.old (running lab.old schedule)) (running lab.old schedule) most result.events result.halt }
 {
     let node = stepping.node;
+    // They are asked for what their contracts say alone: the kept events can be replayed, and each of the node's steps is told.
+    lab.chip();
+    lab.steps(node);
     let mut watch = Steps {
         notes,
         halts,
         stepping: *stepping,
+        word: word_begun(lab, stepping),
     };
     let run = run_watched(lab, schedule, Some(node), most, &mut watch);
     *stepping = watch.stepping;
-    went_by(lab, run, &halts, Some(node))
+    went_by(run, &watch.halts, Some(node))
 }

@@ -4,7 +4,7 @@ ghost use Rattle.std.specs.Prelude.{◌≡◌, false};
 ghost use Rattle.ga_event.specs.Told.{steps_of};
 ghost use Rattle.ga_notes.specs.Source.{cell_of_address};
 ghost use Rattle.ga_adapter.specs.Labels.{is_same_cell};
-ghost use Rattle.ga_adapter.specs.Moves.{is_at_spot};
+ghost use Rattle.ga_breakpoints.specs.Back.{is_at_spot};
 ghost use Rattle.ga_adapter.specs.Spots.{spot_behind};
 ghost use Rattle.ga_breakpoints.specs.kept.Standing.{may_be};
 

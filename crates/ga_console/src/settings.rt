@@ -98,8 +98,8 @@ Exit status: 0 done, 1 out of memory, 2 a stream failed or a frame was broken, 3
 /// What `ga144 draw --help` says behind the options.
 const PICTURES: &str = "\
 Reads what explore reads: an image or source, from FILE where one is given, then commands, one a line. Carries them out without an answer,
-and at their end writes one SVG: a line down for each node that isn't idle, its own events as marks, passes as arrows with
-their word, waits dotted, looks dashed. An event's title says what debug says of it, and the name of its opcode.
+and at their end writes one SVG: a line down for each node that isn't idle and doesn't work by itself, its own events as marks, passes
+as arrows with their word, waits dotted, looks dashed. An event's title says what debug says of it, and the name of its opcode.
 
 Exit status: 0 done, 1 image or step refused, 2 a stream failed, 3 command line refused.";
 
@@ -177,9 +177,10 @@ pub enum Settings {
         file: Option<String>,
     },
     /// Draw the kept events of a session from one place of their list on and up to another, both counted from 1. Shown are the
-    /// causes of a step, and what a rollback of a step would take; each step is a node and a number, counted from 1. Idle nodes are
-    /// drawn too where `all` is set, and with `only` nothing but such causes and what would be taken; from `fold` on that many own
-    /// steps in a row are one mark, where it is not 0. Steps that could have come out otherwise are marked where `races` is set.
+    /// causes of a step, and what a rollback of a step would take; each step is a node and a number, counted from 1. Idle nodes and
+    /// those that work by themselves are drawn too where `all` is set, and with `only` nothing but such causes and what would be taken;
+    /// from `fold` on that many own steps in a row are one mark, where it is not 0. Steps that could have come out otherwise are marked
+    /// where `races` is set.
     Draw {
         cause: Option<(NodeId, u32)>,
         rewind: Option<(NodeId, u32)>,
@@ -374,7 +375,7 @@ fn draw_line<'a>(alloc: Global) -> Result<Command<'a>, AllocError> {
             u32::MAX,
         )
         .value_name("P"))?
-        .arg(flag(alloc, "all", "Give idle nodes a line too"))?
+        .arg(flag(alloc, "all", "Draw what is idle or works by itself too"))?
         .arg(flag(
             alloc,
             "only",

@@ -10,7 +10,7 @@ use Rattle.ga_lab.specs.Machine.{chip_of}
 use Rattle.ga_console.specs.Turns.{quit_line}
 use Rattle.ga_explorer.specs.Answers.{Explores}
 use Rattle.ga_adapter.specs.Json.{whole_number}
-use Rattle.ga_adapter.specs.Evaluating.{AsksForVariable, AsksForNoVariable, evaluated}
+use Rattle.ga_responses.specs.Evaluating.{AsksForVariable, AsksForNoVariable, evaluated}
 use Rattle.ga_adapter.specs.declared.variable.Variable.{Variable}
 use Rattle.ga_protocol.specs.Messages.{member_text}
 use Rattle.ga_protocol.specs.declared.request.ClientRequest.{ClientRequest}

@@ -9,7 +9,7 @@ use Rattle.ga_responses.specs.Arguments.{AsksOfThread}
 use Rattle.ga_responses.specs.declared.debuggee.Debuggee.{Debuggee}
 use Rattle.ga_responses.specs.Sending.{Messages, refused_response}
 use Rattle.ga_requests.specs.Configuring.{AreShown}
-use Rattle.ga_requests.specs.Back.{grain_asked, stepped_by, reversed_by, watched_of, gone_words, WentBack}
+use Rattle.ga_requests.specs.Back.{grain_asked, stepped_by, reversed_by, gone_words, WentBack}
 use Rattle.ga_requests.specs.Slices.{MakesSlice}
 use Rattle.ga_requests.specs.declared.configuration.Configuration.{Configuration}
 use Rattle.ga_requests.specs.declared.execution.StopReason.{StopReason}
@@ -47,7 +47,7 @@ reason_behind p node = if steps_of node.number p.lab.kept == 0 then codes "entry
 abbrev pub ReversesOf : Configuration → Debuggee → ClientRequest → Option NodeId → Messages → Debuggee → Type 0
 ReversesOf set p request None messages new = (messages ≡ refused_response request (codes "reverseContinue: no such thread") ∷ []) × (new ≡ p)
 ReversesOf set p request (Some node) messages new =
-    (new ≡ reversed_by p node (watched_of set.points.points.items node))
+    (new ≡ reversed_by p node set.points.points.items)
     × GoneTold p new request node (reason_behind new node) messages
 
 abbrev pub Reverses : Configuration → Debuggee → ClientRequest → Messages → Debuggee → Type 0

@@ -66,11 +66,8 @@ pub(crate) fn reverse(
     let Some(node) = node_asked(&request.arguments) else {
         return refuse(request, "reverseContinue: no such thread", out);
     };
-    let Ok(watched) = settings.points.watched_of(alloc, node) else {
-        return Err(Unanswered::Memory);
-    };
     let before = shown_nodes(&program.lab, program.nodes.as_slice());
-    let gone = reverse_node(program, node, watched.as_slice());
+    let gone = reverse_node(program, node, settings.points.points.as_slice());
     let reason = reason_behind(program, node);
     tell_back_twice(alloc, program, &before, request, &gone, reason, out)
 }

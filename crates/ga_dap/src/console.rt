@@ -4,7 +4,7 @@ ghost use Rattle.std.specs.Prelude.{◌≡◌, ◌⊎◌, ◌||◌, ◌==◌, []
 ghost use Rattle.serde_json.specs.View.{view};
 ghost use Rattle.ga_text.specs.Lines.{Text};
 ghost use Rattle.ga_responses.specs.Sending.{SendsAll, Messages};
-ghost use Rattle.ga_adapter.specs.Evaluating.{AsksForNoVariable};
+ghost use Rattle.ga_responses.specs.Evaluating.{AsksForNoVariable};
 ghost use Rattle.ga_adapter.specs.Shown.{IsVariable};
 ghost use Rattle.ga_dap.specs.Evaluating.{Evaluates, EvaluatesIn, Obeys, ObeysIf, ValueShown, StaysByCommand, is_from_console};
 ghost use Rattle.ga_dap.specs.Telling.{has_moved};
@@ -14,11 +14,11 @@ use crate::back::refuse;
 use crate::changes::tell_command_twice;
 use crate::evaluating::{command_text, node_meant, value_body};
 use crate::unanswered::Unanswered;
-use ga_adapter::{Variable, asked_variable};
+use ga_adapter::Variable;
 use ga_grid::NodeId;
 use ga_lab::{Counts, Lab};
 use ga_protocol::{ClientRequest, Outbox, text_at};
-use ga_responses::{Debuggee, shown_nodes};
+use ga_responses::{Debuggee, asked_variable, shown_nodes};
 use std::alloc::Global;
 
 /// Whether events were made or taken back since there were so many.

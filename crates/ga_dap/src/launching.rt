@@ -87,6 +87,7 @@ fn launched_text(
             let execution = Execution {
                 schedule,
                 goal: None,
+                tally: None,
                 is_configured: false,
                 stops_on_entry: stops_on_entry(&request.arguments),
             };

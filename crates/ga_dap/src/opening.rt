@@ -6,7 +6,7 @@ ghost use Rattle.ga_image.specs.FirstFault.{IsFirstFault};
 ghost use Rattle.ga_image.specs.declared.fault.ImageFault.{ImageFault as AnImageFault};
 ghost use Rattle.ga_image.specs.declared.fault.ImageCause.TheVariants.{Memory as NoMemory};
 ghost use Rattle.ga_source.specs.Sound.{IsSoundSource};
-ghost use Rattle.ga_source.specs.declared.fault.SourceCause.TheVariants.{Memory as Wanting};
+ghost use Rattle.ga_parser.specs.declared.fault.SourceCause.TheVariants.{Memory as Wanting};
 ghost use Rattle.ga_text.specs.Lines.{lines_of};
 ghost use Rattle.ga_lab.specs.Machine.{first};
 ghost use Rattle.ga_console.specs.Run.{Opens as OpensImage};

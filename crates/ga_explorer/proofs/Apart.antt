@@ -5,7 +5,7 @@ use Rattle.ga_console.specs.Commands.{SpellsCommand}
 use Rattle.ga_console.specs.declared.command.Command.{Command}
 use Rattle.ga_console.specs.declared.command.Command.TheVariants.{Step, Back, Rewind, Node, Memory, Trace, Why, Count, Dump, Quit}
 use Rattle.ga_notes.specs.declared.notes.Notes.{Notes}
-use Rattle.ga_explorer.specs.Reading.{request_in, lone_request, named_request}
+use Rattle.ga_explorer.specs.Commands.{request_in, lone_request, named_request}
 
 pub debugger_alone : (notes : Option Notes) (c : Command) (line : List ℕ) → SpellsCommand c line → request_in notes line ≡ None
 unfolding lone_request named_request

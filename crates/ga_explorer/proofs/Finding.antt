@@ -3,7 +3,8 @@ use Rattle.std.proofs.Common.{◌≡◌, ℕ, ◌+◌, ◌<◌, ◌≤◌, ◌++
 use Rattle.std.specs.Prelude.{map}
 use Rattle.std.specs.Cmp.Lexicographic.{pointwise}
 use Rattle.std.proofs.lemmas.List.{drop_more, drop_all}
-use Rattle.ga_explorer.specs.Forms.{form_of_command, place_from, near_form_in, is_near, is_upper, form_row_text, form_rows_text}
+use Rattle.ga_explorer.specs.Forms.{place_from, form_row_text, form_rows_text}
+use Rattle.ga_explorer.specs.NoCommand.{form_of_command, near_form_in, is_near, is_upper}
 use Rattle.ga_explorer.specs.kept.Forms.{entry_of}
 use Rattle.ga_explorer.specs.declared.commands.Row.{Row}
 

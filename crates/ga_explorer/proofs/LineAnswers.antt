@@ -14,13 +14,13 @@ use Rattle.ga_text.specs.declared.output.WriteFailed.{WriteFailed}
 use Rattle.ga_console.specs.declared.responder.Turn.{Turn}
 use Rattle.ga_console.specs.declared.responder.Turn.TheVariants as turn
 use Rattle.ga_notes.specs.declared.notes.Notes.{Notes}
-use Rattle.ga_explorer.specs.Reading.{request_in}
+use Rattle.ga_explorer.specs.Commands.{request_in, Explored}
 use Rattle.ga_explorer.specs.Exploring.{Exploring}
 use Rattle.ga_explorer.specs.kept.Exploring.{exploring}
-use Rattle.ga_explorer.specs.Answers.{Explores, Explored, AnswersOther, IsOfDebugger}
-use Rattle.ga_explorer.specs.Forms.{no_command}
+use Rattle.ga_explorer.specs.Answers.{Explores, AnswersOther, IsOfDebugger}
+use Rattle.ga_explorer.specs.NoCommand.{no_command}
 use Rattle.ga_explorer.specs.Answers.Explores.{explored, debugged}
-use Rattle.ga_explorer.specs.declared.request.ExplorerCommand.{ExplorerCommand}
+use Rattle.ga_explorer.specs.declared.commands.ExplorerCommand.{ExplorerCommand}
 use Rattle.ga_explorer.proofs.Apart.{debugger_alone}
 
 whole : (line part : List ℕ) → line ≡ take 201 part → length line ≤ 200 → part ≡ line

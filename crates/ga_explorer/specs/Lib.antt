@@ -3,6 +3,8 @@ pub mod Forms
 pub mod Reading
 pub mod Exploring
 pub mod Leading
+pub mod Commands
+pub mod NoCommand
 pub mod Answers
 pub mod Opening
 pub mod Front

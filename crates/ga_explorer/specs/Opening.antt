@@ -6,9 +6,9 @@ use Rattle.ga_grid.specs.Chip.{records_of}
 use Rattle.ga_text.specs.Lines.{Bytes, Text}
 use Rattle.ga_image.specs.Fault.{no_memory}
 use Rattle.ga_image.specs.declared.fault.ImageFault.{ImageFault}
-use Rattle.ga_source.specs.declared.item.Program.{Program}
+use Rattle.ga_source.specs.declared.program.Program.{Program}
 use Rattle.ga_source.specs.Programs.{IsAssembled}
-use Rattle.ga_source.specs.Plain.{AreRead}
+use Rattle.ga_source.specs.Asks.{AreRead}
 use Rattle.ga_source.specs.Asks.{AreAsked}
 use Rattle.ga_source.specs.Groups.{HasGroups}
 use Rattle.ga_source.specs.Made.{IsChipOfSource}

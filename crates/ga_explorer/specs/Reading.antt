@@ -1,5 +1,5 @@
--- The commands of exploring, and how a line is read as one: words with one space between two of them (docs/REFERENCE.md,
--- "Exploring"; this project's own). Nodes and numbers are spelled as in the debugger's commands.
+-- What stands behind the names of commands of exploring, and how it is read: words with one space between two of them
+-- (docs/REFERENCE.md, "Exploring"; this project's own). Nodes and numbers are spelled as in the debugger's commands.
 use Rattle.std.specs.Prelude.{ℕ, zero, suc, ◌+◌, ◌*◌, ◌^◌, ◌==◌, nat_eq, nat_lt, nat_le, ◌&&◌, if◌then◌else◌, List, [], ◌∷◌, ◌++◌, replicate, codes, Option, Some, None, option_map}
 use Rattle.std.specs.Cmp.Lexicographic.{pointwise}
 use Rattle.ga_text.specs.Lines.{Line}
@@ -13,11 +13,10 @@ use Rattle.ga_search.specs.declared.condition.Condition.{Condition}
 use Rattle.ga_search.specs.declared.condition.Condition.TheVariants.{Never, Passes, PassesNumber, Steps, Stops, StopsAt, WaitsAt, Holds, ComesTo, Reaches, Writes as WritesTo}
 use Rattle.ga_notes.specs.declared.notes.Notes.{Notes}
 use Rattle.ga_notes.specs.Notes.{line_address, address_of}
-use Rattle.ga_explorer.specs.Forms.{place_of_form}
 use Rattle.ga_explorer.specs.declared.which.Which.{Which}
 use Rattle.ga_explorer.specs.Which.{which_in}
-use Rattle.ga_explorer.specs.declared.request.ExplorerCommand.{ExplorerCommand}
-use Rattle.ga_explorer.specs.declared.request.ExplorerCommand.TheVariants.{Run, BackUntil, Effects, Words, Writes, At, Whence, Because, Races, Who, Chip, Save, Help, HelpOf}
+use Rattle.ga_explorer.specs.declared.commands.ExplorerCommand.{ExplorerCommand}
+use Rattle.ga_explorer.specs.declared.commands.ExplorerCommand.TheVariants.{Run, BackUntil}
 
 -- how many events are made at most where no number is given
 abbrev pub most_events : ℕ
@@ -114,19 +113,12 @@ abbrev pub address_or_label : Option Notes → NodeId → Line → Option ℕ
 address_or_label notes node text = word_or (hex_word_in text) (noted_in notes node text)
 
 -- `NNN X`
-unfoldable pub comes_in : Option Notes → Line → Option Condition
-comes_in notes text = do
+unfoldable pub node_and_place : Option Notes → Line → Option (NodeId × ℕ)
+node_and_place notes text = do
   parts ← cut text
   node ← node_in parts.0
   address ← address_or_label notes node parts.1
-  Some (ComesTo node address)
-
-unfoldable pub reaches_in : Option Notes → Line → Option Condition
-reaches_in notes text = do
-  parts ← cut text
-  node ← node_in parts.0
-  address ← address_or_label notes node parts.1
-  Some (Reaches node address)
+  Some (node, address)
 
 -- `HH` or `HH = W` behind `NNN`
 abbrev pub written_cut : NodeId → Option (Line × Line) → Line → Option Condition
@@ -160,8 +152,12 @@ named_condition notes name text =
     else if pointwise nat_eq name (codes "step") then steps_condition text
     else if pointwise nat_eq name (codes "pass") then passes_in text
     else if pointwise nat_eq name (codes "mem") then holds_in text
-    else if pointwise nat_eq name (codes "p") then comes_in notes text
-    else if pointwise nat_eq name (codes "reach") then reaches_in notes text
+    else if pointwise nat_eq name (codes "p") then (do
+      it ← node_and_place notes text
+      Some (ComesTo it.0 it.1))
+    else if pointwise nat_eq name (codes "reach") then (do
+      it ← node_and_place notes text
+      Some (Reaches it.0 it.1))
     else if pointwise nat_eq name (codes "change") then writes_to_in text
     else None
 
@@ -228,16 +224,16 @@ conditions_in notes text = conditions_within notes most_conditions text
 abbrev pub no_condition : List Condition
 no_condition = replicate most_conditions Never
 
+-- `until COND or COND ..`
+unfoldable pub until_in : Option Notes → Line → Option (List Condition)
+until_in notes text = do
+  parts ← cut text
+  if pointwise nat_eq parts.0 (codes "until") then conditions_in notes parts.1 else None
+
 -- ---- `run`
 
 abbrev pub run_until : Option Notes → Schedule → ℕ → Line → Option ExplorerCommand
 run_until notes schedule most text = option_map (Run schedule most) (conditions_in notes text)
-
--- `until COND or COND ..` behind a number
-unfoldable pub until_in : Option Notes → Schedule → ℕ → Line → Option ExplorerCommand
-until_in notes schedule most text = do
-  parts ← cut text
-  if pointwise nat_eq parts.0 (codes "until") then run_until notes schedule most parts.1 else None
 
 -- `until COND`, or a number and `until COND`
 unfoldable pub bounded_by : Option Notes → Schedule → Line → Line → Option ExplorerCommand
@@ -245,7 +241,8 @@ bounded_by notes schedule name text =
     if pointwise nat_eq name (codes "until") then run_until notes schedule most_events text
     else (do
       most ← number_in name
-      until_in notes schedule most text)
+      until ← until_in notes text
+      Some (Run schedule most until))
 
 abbrev pub bounded_cut : Option Notes → Option (Line × Line) → Schedule → Line → Option ExplorerCommand
 bounded_cut notes None schedule text = option_map (λ most. Run schedule most no_condition) (number_in text)
@@ -286,22 +283,17 @@ run_in notes text = run_by notes (cut text) text
 
 -- ---- `back until`
 
-abbrev pub until_back : Option Notes → Option NodeId → Line → Option ExplorerCommand
-until_back notes only text = option_map (BackUntil only) (conditions_in notes text)
+abbrev pub until_back : Option Notes → Line → Option ExplorerCommand
+until_back notes text = option_map (BackUntil None) (conditions_in notes text)
 
--- `until COND or COND ..` behind a node
-unfoldable pub node_back_in : Option Notes → NodeId → Line → Option ExplorerCommand
-node_back_in notes node text = do
-  parts ← cut text
-  if pointwise nat_eq parts.0 (codes "until") then until_back notes (Some node) parts.1 else None
-
--- the same, or a node before it
+-- `until COND or COND ..`, or a node before it
 unfoldable pub back_by : Option Notes → Line → Line → Option ExplorerCommand
 back_by notes name text =
-    if pointwise nat_eq name (codes "until") then until_back notes None text
+    if pointwise nat_eq name (codes "until") then until_back notes text
     else (do
       node ← node_in name
-      node_back_in notes node text)
+      until ← until_in notes text
+      Some (BackUntil (Some node) until))
 
 -- what stands behind `back`
 unfoldable pub back_in : Option Notes → Line → Option ExplorerCommand
@@ -309,33 +301,33 @@ back_in notes text = do
   parts ← cut text
   back_by notes parts.0 parts.1
 
--- ---- `effects`, `words`, `writes`, `at`, `whence`, `because`, `races` and `help`
+-- ---- what stands behind the name of a command
 
 -- `NNN K`
-unfoldable pub effects_in : Line → Option ExplorerCommand
-effects_in text = do
+unfoldable pub node_and_step : Line → Option (NodeId × Which)
+node_and_step text = do
   parts ← cut text
   node ← node_in parts.0
   which ← which_in parts.1
-  Some (Effects node which)
+  Some (node, which)
 
 -- `NNN MMM`
-unfoldable pub words_request : Line → Option ExplorerCommand
-words_request text = do
+unfoldable pub two_nodes : Line → Option (NodeId × NodeId)
+two_nodes text = do
   parts ← cut text
-  from ← node_in parts.0
-  to ← node_in parts.1
-  Some (Words from to)
+  first ← node_in parts.0
+  second ← node_in parts.1
+  Some (first, second)
 
 -- `NNN HH`
-unfoldable pub writes_in : Line → Option ExplorerCommand
-writes_in text = do
+unfoldable pub node_and_cell : Line → Option (NodeId × ℕ)
+node_and_cell text = do
   parts ← cut text
   node ← node_in parts.0
   address ← byte_in parts.1
-  Some (Writes node address)
+  Some (node, address)
 
--- how many steps `at` tells before and behind one, and `because` before one, where no number is given, and how many at most
+-- how many steps are told besides one where no number is given, and how many at most
 abbrev pub few_steps : ℕ
 few_steps = 3
 
@@ -357,71 +349,9 @@ abbrev pub step_and_more : Line → Option (Which × ℕ)
 step_and_more text = steps_cut (cut text) text
 
 -- `NNN K` or `NNN K N`
-unfoldable pub at_in : Line → Option ExplorerCommand
-at_in text = do
+unfoldable pub node_and_steps : Line → Option (NodeId × Which × ℕ)
+node_and_steps text = do
   parts ← cut text
   node ← node_in parts.0
   asked ← step_and_more parts.1
-  Some (At node asked.0 asked.1)
-
--- `NNN K`
-unfoldable pub whence_in : Line → Option ExplorerCommand
-whence_in text = do
-  parts ← cut text
-  node ← node_in parts.0
-  which ← which_in parts.1
-  Some (Whence node which)
-
--- `NNN K` or `NNN K N`
-unfoldable pub because_in : Line → Option ExplorerCommand
-because_in text = do
-  parts ← cut text
-  node ← node_in parts.0
-  asked ← step_and_more parts.1
-  Some (Because node asked.0 asked.1)
-
--- `NNN`
-unfoldable pub races_in : Line → Option ExplorerCommand
-races_in text = do
-  node ← node_in text
-  Some (Races (Some node))
-
--- the name of a command
-abbrev pub help_in : Line → Option ExplorerCommand
-help_in text = option_map HelpOf (place_of_form text)
-
--- ---- a line
-
--- a command of one word
-unfoldable pub lone_request : Line → Option ExplorerCommand
-lone_request name =
-    if pointwise nat_eq name (codes "run") then Some (Run in_rounds most_events no_condition)
-    else if pointwise nat_eq name (codes "who") then Some Who
-    else if pointwise nat_eq name (codes "races") then Some (Races None)
-    else if pointwise nat_eq name (codes "chip") then Some Chip
-    else if pointwise nat_eq name (codes "save") then Some Save
-    else if pointwise nat_eq name (codes "help") then Some Help
-    else None
-
--- a command of a word and what stands behind it
-unfoldable pub named_request : Option Notes → Line → Line → Option ExplorerCommand
-named_request notes name text =
-    if pointwise nat_eq name (codes "run") then run_in notes text
-    else if pointwise nat_eq name (codes "back") then back_in notes text
-    else if pointwise nat_eq name (codes "effects") then effects_in text
-    else if pointwise nat_eq name (codes "words") then words_request text
-    else if pointwise nat_eq name (codes "writes") then writes_in text
-    else if pointwise nat_eq name (codes "at") then at_in text
-    else if pointwise nat_eq name (codes "whence") then whence_in text
-    else if pointwise nat_eq name (codes "because") then because_in text
-    else if pointwise nat_eq name (codes "races") then races_in text
-    else if pointwise nat_eq name (codes "help") then help_in text
-    else None
-
-abbrev pub request_by : Option Notes → Option (Line × Line) → Line → Option ExplorerCommand
-request_by notes None line = lone_request line
-request_by notes (Some parts) line = named_request notes parts.0 parts.1
-
--- the command of exploring that a line spells, where it spells one
-abbrev pub request_in : Option Notes → Line → Option ExplorerCommand
-request_in notes line = request_by notes (cut line) line
+  Some (node, asked.0, asked.1)

@@ -1,8 +1,220 @@
-//! The commands of a session of exploring with their forms, and what `help` tells of them.
+//! The commands of exploring: of each how a line spells it, what `help` says of it, and what answers it.
 
-ghost use Rattle.std.specs.Prelude.{◌≡◌, map, option_copied, slice_get};
-ghost use Rattle.ga_explorer.specs.Forms.{rows, place_from, place_of_form};
+ghost use Rattle.std.specs.Prelude.{◌≡◌, map};
+ghost use Rattle.ga_text.specs.kept.Output.{Says};
+ghost use Rattle.ga_explorer.specs.Commands.{rows, request_in, lone_request, named_request, Explored};
+ghost use Rattle.ga_explorer.specs.kept.Exploring.{exploring};
 ghost use Rattle.ga_explorer.specs.kept.Forms.{entry_of};
+
+use crate::arguments::{node_and_cell, node_and_step, node_and_steps, two_nodes};
+use crate::back_request::back_of;
+use crate::conditions_request::{Conditions, no_condition};
+use crate::forms::{place_of, say_command, say_help};
+use crate::run_request::{MOST_EVENTS, run_of};
+use crate::which::Which;
+use ga_answers::{
+    glance, ran_text, say_around, say_back, say_because, say_effects, say_races, say_saved,
+    say_whence, say_who, say_words, say_writes,
+};
+use ga_grid::NodeId;
+use ga_lab::Lab;
+use ga_notes::Notes;
+use ga_search::{Schedule, conditions_asked, run_schedule};
+use ga_text::{Output, WriteFailed, cut, node_in};
+use std::alloc::Global;
+use std::io::Write;
+
+/// A command of exploring.
+#[derive(Clone, Copy, PartialEq, Eq)]
+pub enum ExplorerCommand {
+    /// `run`: makes events in the order of a schedule, at most so many, up to one after which a condition holds.
+    Run {
+        schedule: Schedule,
+        most: u32,
+        until: Conditions,
+    },
+    /// `back until`: takes the kept events back up to the newest one behind which a condition held; of a node its newest such step.
+    BackUntil {
+        only: Option<NodeId>,
+        until: Conditions,
+    },
+    /// `effects`: tells what a rollback of a step would take, without taking it.
+    Effects {
+        node: NodeId,
+        which: Which,
+    },
+    /// `words`: tells the words that went from one node to another.
+    Words {
+        from: NodeId,
+        to: NodeId,
+    },
+    /// `writes`: tells the steps of a node that wrote at an address of its memory.
+    Writes {
+        node: NodeId,
+        address: u8,
+    },
+    /// `at`: tells the steps of a node up to so many before and behind one, each with registers behind it.
+    At {
+        node: NodeId,
+        which: Which,
+        around: u32,
+    },
+    /// `whence`: tells the steps whose values went into what a step of a node made.
+    Whence {
+        node: NodeId,
+        which: Which,
+    },
+    /// `because`: tells the last steps of a node before one, at most so many, at which a value decided where it went on.
+    Because {
+        node: NodeId,
+        which: Which,
+        most: u32,
+    },
+    /// `races`: tells the steps that could have come out otherwise, of one node or of all.
+    Races {
+        only: Option<NodeId>,
+    },
+    /// `who`: tells who waits for whom, and which nodes can never go on.
+    Who,
+    /// `chip`: shows what each node does.
+    Chip,
+    /// `save`: tells lines of the debugger that make the kept events again.
+    Save,
+    /// `help`: shows the commands.
+    Help,
+    /// `help` of one command, by its place among them.
+    HelpOf(usize),
+}
+
+/// The command of exploring that a line spells, or none.
+pub fn request_of(notes: &Option<Notes>, line: &[u8]) -> Option<ExplorerCommand>
+    ensures { result ≡ request_in notes.now line.now }
+{
+    match cut(line) {
+        Some((name, arguments)) => named_request(notes, name, arguments),
+        None => lone_request(line),
+    }
+}
+
+/// The command that is spelled by one word.
+#[tactic(auto, unfolding(crate::specs::Commands::lone_request))]
+fn lone_request(name: &[u8]) -> Option<ExplorerCommand>
+    ensures { result ≡ lone_request name.now }
+{
+    match name {
+        b"run" => Some(ExplorerCommand::Run {
+            schedule: Schedule::in_rounds(),
+            most: MOST_EVENTS,
+            until: no_condition(),
+        }),
+        b"who" => Some(ExplorerCommand::Who),
+        b"races" => Some(ExplorerCommand::Races { only: None }),
+        b"chip" => Some(ExplorerCommand::Chip),
+        b"save" => Some(ExplorerCommand::Save),
+        b"help" => Some(ExplorerCommand::Help),
+        _ => None,
+    }
+}
+
+/// The command that is spelled by a word and what follows the space behind it.
+#[tactic(auto, unfolding(crate::specs::Commands::named_request))]
+fn named_request(notes: &Option<Notes>, name: &[u8], arguments: &[u8]) -> Option<ExplorerCommand>
+    ensures { result ≡ named_request notes.now name.now arguments.now }
+{
+    if name == b"run".as_slice() {
+        run_of(notes, arguments)
+    } else if name == b"back".as_slice() {
+        back_of(notes, arguments)
+    } else if name == b"effects".as_slice() {
+        let (node, which) = node_and_step(arguments)?;
+        Some(ExplorerCommand::Effects { node, which })
+    } else if name == b"words".as_slice() {
+        let (from, to) = two_nodes(arguments)?;
+        Some(ExplorerCommand::Words { from, to })
+    } else if name == b"writes".as_slice() {
+        let (node, address) = node_and_cell(arguments)?;
+        Some(ExplorerCommand::Writes { node, address })
+    } else if name == b"at".as_slice() {
+        let (node, which, around) = node_and_steps(arguments)?;
+        Some(ExplorerCommand::At {
+            node,
+            which,
+            around,
+        })
+    } else if name == b"whence".as_slice() {
+        let (node, which) = node_and_step(arguments)?;
+        Some(ExplorerCommand::Whence { node, which })
+    } else if name == b"because".as_slice() {
+        let (node, which, most) = node_and_steps(arguments)?;
+        Some(ExplorerCommand::Because { node, which, most })
+    } else if name == b"races".as_slice() {
+        let node = node_in(arguments)?;
+        Some(ExplorerCommand::Races { only: Some(node) })
+    } else if name == b"help".as_slice() {
+        Some(ExplorerCommand::HelpOf(place_of(arguments)?))
+    } else {
+        None
+    }
+}
+
+/// Carries a command of exploring out.
+///
+/// # Errors
+/// A write failed.
+pub(crate) fn explored<W: Write>(
+    alloc: Global,
+    lab: &mut Lab,
+    notes: &Option<Notes>,
+    asked: ExplorerCommand,
+    output: &mut Output,
+    writer: &mut W,
+) -> Result<(), WriteFailed>
+    ensures { Says result (λ text. Explored (exploring lab.old notes.now) asked text (exploring lab.new notes.now))
+        (W.contents writer.old) output.old (W.contents writer.new) output.new }
+{
+    match asked {
+        ExplorerCommand::Run {
+            schedule,
+            most,
+            until,
+        } => {
+            let watched = conditions_asked(&until);
+            let ran = run_schedule(lab, schedule, u64::from(most), watched);
+            output.say_blocks(writer, ran_text(&ran, watched.len()).as_slice())
+        }
+        ExplorerCommand::BackUntil { only, until } => {
+            say_back(lab, conditions_asked(&until), only, output, writer)
+        }
+        ExplorerCommand::Effects { node, which } => {
+            let step = which.meant(lab, node);
+            say_effects(alloc, lab, node, step, output, writer)
+        }
+        ExplorerCommand::Words { from, to } => say_words(lab, from, to, output, writer),
+        ExplorerCommand::Writes { node, address } => say_writes(lab, node, address, output, writer),
+        ExplorerCommand::At {
+            node,
+            which,
+            around,
+        } => {
+            let step = which.meant(lab, node);
+            say_around(lab, notes, node, step, around, output, writer)
+        }
+        ExplorerCommand::Whence { node, which } => {
+            let step = which.meant(lab, node);
+            say_whence(alloc, lab, notes, node, step, output, writer)
+        }
+        ExplorerCommand::Because { node, which, most } => {
+            let step = which.meant(lab, node);
+            say_because(lab, notes, node, step, most, output, writer)
+        }
+        ExplorerCommand::Races { only } => say_races(alloc, lab, only, output, writer),
+        ExplorerCommand::Who => say_who(lab, output, writer),
+        ExplorerCommand::Chip => output.say_blocks(writer, glance(lab).as_slice()),
+        ExplorerCommand::Save => say_saved(lab, output, writer),
+        ExplorerCommand::Help => say_help(output, writer),
+        ExplorerCommand::HelpOf(place) => say_command(place, output, writer),
+    }
+}
 
 /// A command of a session of exploring.
 pub(crate) struct Row {
@@ -157,32 +369,4 @@ pub(crate) fn rows() -> &'static [Row]
     ensures { map entry_of result.now ≡ rows }
 {
     &ROWS
-}
-
-/// The place among some commands of the one with this name.
-fn place_among(rows: &'static [Row], word: &[u8]) -> Option<usize>
-    ensures { result ≡ place_from word.now 0 (map entry_of rows.now) }
-{
-    let mut place = 0;
-    'rows: for row in rows {
-        if row.name == word {
-            return Some(place);
-        }
-        place += 1;
-    }
-    None
-}
-
-/// The place of the command of this name.
-pub(crate) fn place_of(word: &[u8]) -> Option<usize>
-    ensures { result ≡ place_of_form word.now }
-{
-    place_among(rows(), word)
-}
-
-/// The command at a place.
-pub(crate) fn row_in(rows: &'static [Row], place: usize) -> Option<&'static Row>
-    ensures { option_copied result ≡ slice_get rows.now place }
-{
-    rows.get(place)
 }

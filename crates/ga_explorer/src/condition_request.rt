@@ -1,7 +1,7 @@
 //! Conditions, as lines spell them.
 
 ghost use Rattle.std.specs.Prelude.{◌≡◌};
-ghost use Rattle.ga_explorer.specs.Reading.{condition_in, lone_condition, named_condition, steps_condition, passes_in, passed_in, holds_in, comes_in, reaches_in, writes_to_in, written_in, address_or_label, noted_in, cell_of_line, begun_in, label_in, equal_in, hex_word_in};
+ghost use Rattle.ga_explorer.specs.Reading.{condition_in, lone_condition, named_condition, steps_condition, passes_in, passed_in, holds_in, node_and_place, writes_to_in, written_in, address_or_label, noted_in, cell_of_line, begun_in, label_in, equal_in, hex_word_in};
 
 use ga_grid::NodeId;
 use ga_notes::Notes;
@@ -44,9 +44,11 @@ fn named_condition(notes: &Option<Notes>, name: &[u8], rest: &[u8]) -> Option<Co
     } else if name == b"mem".as_slice() {
         holds_of(rest)
     } else if name == b"p".as_slice() {
-        comes_of(notes, rest)
+        let (node, address) = node_and_place(notes, rest)?;
+        Some(Condition::ComesTo { node, address })
     } else if name == b"reach".as_slice() {
-        reaches_of(notes, rest)
+        let (node, address) = node_and_place(notes, rest)?;
+        Some(Condition::Reaches { node, address })
     } else if name == b"change".as_slice() {
         changes_of(rest)
     } else {
@@ -109,25 +111,14 @@ fn holds_of(text: &[u8]) -> Option<Condition>
 }
 
 /// `NNN X`
-#[tactic(auto, unfolding(crate::specs::Reading::comes_in))]
-fn comes_of(notes: &Option<Notes>, text: &[u8]) -> Option<Condition>
-    ensures { result ≡ comes_in notes.now text.now }
+#[tactic(auto, unfolding(crate::specs::Reading::node_and_place))]
+fn node_and_place(notes: &Option<Notes>, text: &[u8]) -> Option<(NodeId, u32)>
+    ensures { result ≡ node_and_place notes.now text.now }
 {
     let (node, address) = cut(text)?;
     let node = node_in(node)?;
     let address = address_of(notes, node, address)?;
-    Some(Condition::ComesTo { node, address })
-}
-
-/// `NNN X`
-#[tactic(auto, unfolding(crate::specs::Reading::reaches_in))]
-fn reaches_of(notes: &Option<Notes>, text: &[u8]) -> Option<Condition>
-    ensures { result ≡ reaches_in notes.now text.now }
-{
-    let (node, address) = cut(text)?;
-    let node = node_in(node)?;
-    let address = address_of(notes, node, address)?;
-    Some(Condition::Reaches { node, address })
+    Some((node, address))
 }
 
 /// `NNN HH` or `NNN HH = W`

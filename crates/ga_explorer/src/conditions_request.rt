@@ -1,11 +1,12 @@
 //! Some conditions with `or` between them, as lines spell them.
 
 ghost use Rattle.std.specs.Prelude.{◌≡◌, ◌≤◌, length, drop, if◌then◌else◌, IsTrue, Some, None, option_map};
-ghost use Rattle.ga_explorer.specs.Reading.{behind_or, or_cut, or_split, conditions_in, no_condition};
+ghost use Rattle.ga_explorer.specs.Reading.{behind_or, or_cut, or_split, conditions_in, no_condition, until_in};
 
 use crate::condition_request::condition_of;
 use ga_notes::Notes;
 use ga_search::{Condition, MOST_CONDITIONS};
+use ga_text::cut;
 
 /// As many conditions as a run watches at most. Those that are given come first, and in the places that are left stand those that hold
 /// never.
@@ -70,4 +71,16 @@ pub(crate) fn conditions_of(notes: &Option<Notes>, text: &[u8]) -> Option<Condit
         };
     }
     None
+}
+
+/// `until` and the conditions that stand behind it.
+#[tactic(auto, unfolding(crate::specs::Reading::until_in))]
+pub(crate) fn until_of(notes: &Option<Notes>, text: &[u8]) -> Option<Conditions>
+    ensures { result ≡ until_in notes.now text.now }
+{
+    let (name, rest) = cut(text)?;
+    match name {
+        b"until" => conditions_of(notes, rest),
+        _ => None,
+    }
 }

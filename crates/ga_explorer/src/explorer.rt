@@ -4,22 +4,17 @@ ghost use Rattle.std.specs.Prelude.{◌≡◌, ◌≤◌, ◌++◌, length, Some
 ghost use Rattle.ga_text.specs.Lines.{Bytes};
 ghost use Rattle.ga_text.specs.Output.{IsSaid, IsSaidOrCut};
 ghost use Rattle.ga_text.specs.kept.Output.{Says};
-ghost use Rattle.ga_explorer.specs.Reading.{request_in};
+ghost use Rattle.ga_explorer.specs.Commands.{request_in};
 ghost use Rattle.ga_explorer.specs.kept.Exploring.{exploring};
-ghost use Rattle.ga_explorer.specs.Answers.{Explored, ExploresOrQuits, AnswersOther, IsOfDebugger, IsNoCommand};
+ghost use Rattle.ga_explorer.specs.Answers.{ExploresOrQuits, AnswersOther, IsOfDebugger, IsNoCommand};
 ghost use Rattle.ga_console.specs.kept.Turns.{Turns};
 
-use crate::forms::{say_command, say_help, say_no_command};
-use crate::request::{ExplorerCommand, request_of};
-use ga_answers::{
-    glance, ran_text, say_around, say_back, say_because, say_effects, say_races, say_saved,
-    say_whence, say_who, say_words, say_writes,
-};
+use crate::commands::{ExplorerCommand, explored, request_of};
+use crate::forms::say_no_command;
 use ga_console::{Command, Responder, Turn, command_of};
 use ga_image::LINE_LIMIT;
 use ga_lab::Lab;
 use ga_notes::Notes;
-use ga_search::{conditions_asked, run_schedule};
 use ga_text::{Output, WriteFailed};
 use std::alloc::Global;
 use std::io::Write;
@@ -164,63 +159,4 @@ fn is_no_command(line: &[u8]) -> bool
     ensures some { result ≡ false → IsOfDebugger line.now }
 {
     line.len() <= LINE_LIMIT && command_of(line).is_none()
-}
-
-/// Carries a command of exploring out.
-///
-/// # Errors
-/// A write failed.
-fn explored<W: Write>(
-    alloc: Global,
-    lab: &mut Lab,
-    notes: &Option<Notes>,
-    asked: ExplorerCommand,
-    output: &mut Output,
-    writer: &mut W,
-) -> Result<(), WriteFailed>
-    ensures { Says result (λ text. Explored (exploring lab.old notes.now) asked text (exploring lab.new notes.now))
-        (W.contents writer.old) output.old (W.contents writer.new) output.new }
-{
-    match asked {
-        ExplorerCommand::Run {
-            schedule,
-            most,
-            until,
-        } => {
-            let watched = conditions_asked(&until);
-            let ran = run_schedule(lab, schedule, u64::from(most), watched);
-            output.say_blocks(writer, ran_text(&ran, watched.len()).as_slice())
-        }
-        ExplorerCommand::BackUntil { only, until } => {
-            say_back(lab, conditions_asked(&until), only, output, writer)
-        }
-        ExplorerCommand::Effects { node, which } => {
-            let step = which.meant(lab, node);
-            say_effects(alloc, lab, node, step, output, writer)
-        }
-        ExplorerCommand::Words { from, to } => say_words(lab, from, to, output, writer),
-        ExplorerCommand::Writes { node, address } => say_writes(lab, node, address, output, writer),
-        ExplorerCommand::At {
-            node,
-            which,
-            around,
-        } => {
-            let step = which.meant(lab, node);
-            say_around(lab, notes, node, step, around, output, writer)
-        }
-        ExplorerCommand::Whence { node, which } => {
-            let step = which.meant(lab, node);
-            say_whence(alloc, lab, notes, node, step, output, writer)
-        }
-        ExplorerCommand::Because { node, which, most } => {
-            let step = which.meant(lab, node);
-            say_because(lab, notes, node, step, most, output, writer)
-        }
-        ExplorerCommand::Races { only } => say_races(alloc, lab, only, output, writer),
-        ExplorerCommand::Who => say_who(lab, output, writer),
-        ExplorerCommand::Chip => output.say_blocks(writer, glance(lab).as_slice()),
-        ExplorerCommand::Save => say_saved(lab, output, writer),
-        ExplorerCommand::Help => say_help(output, writer),
-        ExplorerCommand::HelpOf(place) => say_command(place, output, writer),
-    }
 }

@@ -1,13 +1,15 @@
 //! What `help` answers, and what is said of a line that spells no command.
 
-ghost use Rattle.std.specs.Prelude.{◌≡◌, ◌++◌, codes, map, option_map};
+ghost use Rattle.std.specs.Prelude.{◌≡◌, ◌++◌, codes, map, option_map, option_copied, slice_get};
 ghost use Rattle.ga_text.specs.Lines.{Bytes};
 ghost use Rattle.ga_text.specs.Output.{IsSaid, IsSaidOrCut};
 ghost use Rattle.ga_text.specs.kept.Output.{Says};
-ghost use Rattle.ga_explorer.specs.Forms.{rows, form_row_text, form_rows_text, about_text, command_text, form_of_command, near_form_in, form_for, is_near, are_exchanged, is_mark, is_return, has_blank_end, is_upper, cure, no_command};
+ghost use Rattle.ga_explorer.specs.Forms.{form_row_text, form_rows_text, about_text, place_from};
+ghost use Rattle.ga_explorer.specs.Commands.{rows, command_text, place_of_form};
+ghost use Rattle.ga_explorer.specs.NoCommand.{form_of_command, near_form_in, form_for, is_near, are_exchanged, is_mark, is_return, has_blank_end, is_upper, cure, no_command};
 ghost use Rattle.ga_explorer.specs.kept.Forms.{entry_of};
 
-use crate::commands::{Row, row_in, rows};
+use crate::commands::{Row, rows};
 use ga_text::{Output, WriteFailed, cut};
 use std::io::Write;
 
@@ -64,6 +66,34 @@ fn say_about<W: Write>(row: &Row, output: &mut Output, writer: &mut W) -> Result
 {
     say_row(row, output, writer)?;
     output.say_blocks(writer, row.more)
+}
+
+/// The place among some commands of the one with this name.
+fn place_among(rows: &'static [Row], word: &[u8]) -> Option<usize>
+    ensures { result ≡ place_from word.now 0 (map entry_of rows.now) }
+{
+    let mut place = 0;
+    'rows: for row in rows {
+        if row.name == word {
+            return Some(place);
+        }
+        place += 1;
+    }
+    None
+}
+
+/// The place of the command of this name.
+pub(crate) fn place_of(word: &[u8]) -> Option<usize>
+    ensures { result ≡ place_of_form word.now }
+{
+    place_among(rows(), word)
+}
+
+/// The command at a place.
+pub(crate) fn row_in(rows: &'static [Row], place: usize) -> Option<&'static Row>
+    ensures { option_copied result ≡ slice_get rows.now place }
+{
+    rows.get(place)
 }
 
 /// Says that a line is no command, and what to write in its place.
@@ -186,7 +216,7 @@ fn near_form_in(rows: &'static [Row], word: &[u8]) -> Option<&'static [u8]>
 }
 
 /// Whether a word is a name but for one letter: one is missing, too much or another, or two that stand together are exchanged.
-#[tactic(auto, unfolding(crate::specs::Forms::is_near))]
+#[tactic(auto, unfolding(crate::specs::NoCommand::is_near))]
 fn is_near(word: &[u8], name: &[u8]) -> bool
     ensures { result ≡ is_near word.now name.now }
 {
@@ -203,7 +233,7 @@ fn is_near(word: &[u8], name: &[u8]) -> bool
 }
 
 /// Whether the first two letters of two words are exchanged, and the others the same.
-#[tactic(auto, unfolding(crate::specs::Forms::are_exchanged))]
+#[tactic(auto, unfolding(crate::specs::NoCommand::are_exchanged))]
 fn are_exchanged(word: &[u8], name: &[u8]) -> bool
     ensures { result ≡ are_exchanged word.now name.now }
 {

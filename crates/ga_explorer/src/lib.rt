@@ -1,6 +1,7 @@
 //! A session that explores: the commands of the debugger, events made up to a condition, and what a person asks of a lab besides.
 #![tactic(auto)]
 
+mod arguments;
 mod back_request;
 mod beginning;
 mod commands;
@@ -11,14 +12,13 @@ mod forms;
 mod front;
 pub mod laws;
 mod opening;
-mod request;
 mod run_request;
 mod session;
 mod which;
 
 pub use beginning::begin;
+pub use commands::ExplorerCommand;
 pub use explorer::{Explorer, answer_line};
 pub use front::{close, is_cut_off};
-pub use request::ExplorerCommand;
 pub use session::explore;
 pub use which::Which;

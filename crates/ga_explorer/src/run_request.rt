@@ -1,13 +1,16 @@
 //! What stands behind `run`: an order, how many events, and conditions.
 
 ghost use Rattle.std.specs.Prelude.{◌≡◌};
-ghost use Rattle.ga_explorer.specs.Reading.{run_in, lone_order, named_order, seeded_in, bounded_in, bounded_by, until_in, run_until};
+ghost use Rattle.ga_explorer.specs.Reading.{run_in, lone_order, named_order, seeded_in, bounded_in, bounded_by, run_until};
 
-use crate::conditions_request::{conditions_of, no_condition};
-use crate::request::{ExplorerCommand, MOST_EVENTS};
+use crate::commands::ExplorerCommand;
+use crate::conditions_request::{conditions_of, no_condition, until_of};
 use ga_notes::Notes;
 use ga_search::Schedule;
 use ga_text::{cut, number_in};
+
+/// How many events are made at most where no number is given.
+pub(crate) const MOST_EVENTS: u32 = u32::MAX;
 
 /// What stands behind `run` and a space.
 pub(crate) fn run_of(notes: &Option<Notes>, text: &[u8]) -> Option<ExplorerCommand>
@@ -100,24 +103,15 @@ fn bounded_by(
 {
     match name {
         b"until" => run_until(notes, schedule, MOST_EVENTS, rest),
-        _ => until_of(notes, schedule, number_in(name)?, rest),
-    }
-}
-
-/// `until` and conditions.
-#[tactic(auto, unfolding(crate::specs::Reading::until_in))]
-fn until_of(
-    notes: &Option<Notes>,
-    schedule: Schedule,
-    most: u32,
-    text: &[u8],
-) -> Option<ExplorerCommand>
-    ensures { result ≡ until_in notes.now schedule most text.now }
-{
-    let (name, rest) = cut(text)?;
-    match name {
-        b"until" => run_until(notes, schedule, most, rest),
-        _ => None,
+        _ => {
+            let most = number_in(name)?;
+            let until = until_of(notes, rest)?;
+            Some(ExplorerCommand::Run {
+                schedule,
+                most,
+                until,
+            })
+        }
     }
 }
 

@@ -9,10 +9,10 @@ use Rattle.std.proofs.lemmas.Bool.{cases_Bool, eqb-true}
 use Rattle.ga_ports.specs.declared.address.Target.TheVariants.{Ram, Rom}
 use Rattle.ga_ports.specs.Address.{classified, advanced}
 use Rattle.ga_node.specs.Record.{NodeState}
-use Rattle.ga_source.specs.declared.item.Operand.TheVariants.{Number}
-use Rattle.ga_source.specs.declared.item.Item.TheVariants.{Cell}
-use Rattle.ga_source.specs.declared.item.Request.{Request}
-use Rattle.ga_source.specs.declared.item.Request.TheVariants.{Put}
+use Rattle.ga_parser.specs.declared.item.Operand.TheVariants.{Number}
+use Rattle.ga_parser.specs.declared.item.Item.TheVariants.{Cell}
+use Rattle.ga_parser.specs.declared.item.Request.{Request}
+use Rattle.ga_parser.specs.declared.item.Request.TheVariants.{Put}
 use Rattle.ga_source.specs.Programs.{is_item}
 use Rattle.ga_source.specs.Made.{with_cell, with_requests}
 use Rattle.ga_listing.specs.kept.Disassembling.{next_of, next_behind, holds_word, IsFit}

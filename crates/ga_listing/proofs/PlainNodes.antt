@@ -6,7 +6,7 @@ use Rattle.std.proofs.lemmas.Bool.{cases_Bool, eqb-true}
 use Rattle.std.proofs.lemmas.Option.{same_Some}
 use Rattle.ga_node.specs.Record.{NodeState, fresh_node}
 use Rattle.ga_grid.specs.Load.{load_p_of}
-use Rattle.ga_source.specs.Plain.{no_request, plain_of}
+use Rattle.ga_parser.specs.Plain.{no_request, plain_of}
 use Rattle.ga_source.specs.Programs.{is_item}
 use Rattle.ga_source.specs.Made.{with_requests, number_or, plain_node, IsNode}
 use Rattle.ga_listing.specs.Source.{IsLoadedAs}

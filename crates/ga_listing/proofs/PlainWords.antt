@@ -6,12 +6,12 @@ use Rattle.std.specs.List.{All}
 use Rattle.std.proofs.lemmas.List.Elements.{All-head, All-tail}
 use Rattle.std.proofs.lemmas.Bool.{lt-ltb, le-leb, cases_Bool}
 use Rattle.ga_node.specs.Record.{NodeState}
-use Rattle.ga_source.specs.declared.item.Operand.{Operand}
-use Rattle.ga_source.specs.declared.item.Operand.TheVariants.{Number}
-use Rattle.ga_source.specs.declared.item.Item.TheVariants.{Cell}
-use Rattle.ga_source.specs.declared.item.Request.{Request}
-use Rattle.ga_source.specs.declared.item.Request.TheVariants.{Put, Go}
-use Rattle.ga_source.specs.Plain.{Plain, no_request, with_request, only_if, is_cell, may_be, plain_from, plain_of}
+use Rattle.ga_parser.specs.declared.item.Operand.{Operand}
+use Rattle.ga_parser.specs.declared.item.Operand.TheVariants.{Number}
+use Rattle.ga_parser.specs.declared.item.Item.TheVariants.{Cell}
+use Rattle.ga_parser.specs.declared.item.Request.{Request}
+use Rattle.ga_parser.specs.declared.item.Request.TheVariants.{Put, Go}
+use Rattle.ga_parser.specs.Plain.{Plain, no_request, with_request, only_if, is_cell, may_be, plain_from, plain_of}
 use Rattle.ga_listing.specs.kept.Disassembling.{Word, number_word, register_words, address_words, cell_words, next_of, cells_words, next_behind, usual_p, holds_words, node_words, IsCell, IsFit}
 use Rattle.ga_listing.proofs.HexLemmas.{number_read}
 

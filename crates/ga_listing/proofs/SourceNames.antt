@@ -10,7 +10,7 @@ use Rattle.ga_grid.proofs.Chips.{node_at-default_chip}
 use Rattle.ga_node.specs.Record.{NodeState}
 use Rattle.ga_text.specs.Lines.{Text}
 use Rattle.ga_text.specs.Digits.{decimal3_of}
-use Rattle.ga_source.specs.Plain.{words_in, body_in, bodies_in, yxx_in}
+use Rattle.ga_parser.specs.Plain.{words_in, body_in, bodies_in, yxx_in}
 use Rattle.ga_source.specs.Made.{plain_node, IsNode, HasPlain}
 use Rattle.ga_source.specs.Sound.{IsSoundBody, node_number_of_words}
 use Rattle.ga_listing.specs.Source.{IsLoadedAs, IsSourceOf}

@@ -9,8 +9,8 @@ use Rattle.ga_node.specs.Record.{NodeState}
 use Rattle.ga_grid.specs.Chip.{node_at}
 use Rattle.ga_grid.specs.Load.{default_chip}
 use Rattle.ga_text.specs.Lines.{Bytes, Text, Line, HasNoFeed, ended, text_of, ends_line}
-use Rattle.ga_source.specs.Saying.{Said, is_feed, source_lines, bare, said_by, said_from, said_in, next_line, up_to_fault}
-use Rattle.ga_source.specs.Plain.{bodies_in, yxx_in}
+use Rattle.ga_parser.specs.Saying.{Said, is_feed, source_lines, bare, said_by, said_from, said_in, next_line, up_to_fault}
+use Rattle.ga_parser.specs.Plain.{bodies_in, yxx_in}
 use Rattle.ga_source.specs.Made.{HasPlain, IsChipOfSource}
 use Rattle.ga_text.specs.Image.{IsBodyLine, EndsAtEnd, end_line}
 use Rattle.ga_text.specs.Whole.{IsReadWhole}

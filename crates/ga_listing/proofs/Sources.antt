@@ -1,10 +1,10 @@
 -- From the image of a source to what is written.
 use Rattle.std.proofs.Common.{◌≡◌, ◌∙◌, ◌<◌, ℕ, List, [], ◌∷◌, ◌++◌, length, Option, Some, None, arith, ap, inl, inr, refl, sym, subst}
 use Rattle.std.specs.Prelude.{IfSome}
-use Rattle.ga_source.specs.declared.fault.Fault.{Fault}
+use Rattle.ga_parser.specs.declared.fault.Fault.{Fault}
 use Rattle.ga_source.specs.declared.program.Assembled.{Assembled}
-use Rattle.ga_source.specs.declared.scan.Token.{Token}
-use Rattle.ga_source.specs.Saying.{all_in, all_said}
+use Rattle.ga_parser.specs.declared.scan.Token.{Token}
+use Rattle.ga_parser.specs.Saying.{all_in, all_said}
 use Rattle.ga_source.specs.Mending.{with_numbers, mended, IsAssembledOf}
 use Rattle.ga_image.specs.Fault.{no_memory}
 use Rattle.ga_image.specs.declared.fault.ImageFault.{ImageFault}

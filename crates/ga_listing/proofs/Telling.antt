@@ -8,10 +8,10 @@ use Rattle.std.proofs.lemmas.Slice.Eq.{bytes_eq-Decides}
 use Rattle.std.proofs.lemmas.Bool.{cases_Bool, and_parts, and_from, cond-false, ltb-true, lt-ltb, ne_eqb, false≢true}
 use Rattle.ga_text.specs.Lines.{Text}
 use Rattle.ga_text.specs.Digits.{decimal3_of}
-use Rattle.ga_source.specs.Saying.{onto_first_part, parted, is_feed, is_blank, source_lines, has_bytes, source_words, order_mark, without_return, bare, Said, a_word, is_word, spoken, said_by, next_line, said_from}
+use Rattle.ga_parser.specs.Saying.{onto_first_part, parted, is_feed, is_blank, source_lines, has_bytes, source_words, order_mark, without_return, bare, Said, a_word, is_word, spoken, said_by, next_line, said_from}
 use Rattle.ga_listing.specs.kept.Disassembling.{Word, Says, IsOrdinary, IsUnmarked, is_inner, is_shown}
 use Rattle.ga_listing.proofs.SourceWords.{not_true}
-use Rattle.ga_source.proofs.Scanning.{short_line}
+use Rattle.ga_parser.proofs.Scanning.{short_line}
 
 -- ---- parts of texts
 

@@ -7,14 +7,14 @@ use Rattle.ga_image.specs.Grammar.{IsImage}
 use Rattle.ga_image.specs.Printing.{printed}
 use Rattle.ga_image.specs.ReadBack.{Describes}
 use Rattle.ga_image.specs.declared.fault.ImageFault.{ImageFault}
-use Rattle.ga_source.specs.declared.fault.Fault.{Fault}
-use Rattle.ga_source.specs.declared.item.Program.{Program}
+use Rattle.ga_parser.specs.declared.fault.Fault.{Fault}
+use Rattle.ga_source.specs.declared.program.Program.{Program}
 use Rattle.ga_source.specs.declared.program.Assembled.{Assembled}
-use Rattle.ga_source.specs.declared.scan.Token.{Token}
-use Rattle.ga_source.specs.Saying.{all_in, all_said}
+use Rattle.ga_parser.specs.declared.scan.Token.{Token}
+use Rattle.ga_parser.specs.Saying.{all_in, all_said}
 use Rattle.ga_source.specs.Mending.{with_numbers, mended, IsAssembledOf}
 use Rattle.ga_source.specs.Programs.{IsAssembled}
-use Rattle.ga_source.specs.Plain.{AreRead}
+use Rattle.ga_source.specs.Asks.{AreRead}
 use Rattle.ga_source.specs.Asks.{AreAsked}
 use Rattle.ga_source.specs.Made.{IsChipOfSource}
 use Rattle.ga_source.specs.Sound.{IsSoundSource}

@@ -3,10 +3,10 @@ use Rattle.std.proofs.Common.{◌≡◌, ◌∙◌, ℕ, ◌+◌, ◌<◌, ◌�
 use Rattle.std.proofs.lemmas.Bool.{cases_lt}
 use Rattle.std.proofs.lemmas.List.{drop_more, drop_all}
 use Rattle.ga_grid.specs.declared.node_id.NodeId.{NodeId}
-use Rattle.ga_source.specs.declared.labels.Label.{Label}
-use Rattle.ga_source.specs.declared.item.Item.{Item}
+use Rattle.ga_parser.specs.declared.labels.Label.{Label}
+use Rattle.ga_parser.specs.declared.item.Item.{Item}
 use Rattle.ga_source.specs.Reading.{p_behind}
-use Rattle.ga_source.specs.declared.scan.Token.{Token}
+use Rattle.ga_parser.specs.declared.scan.Token.{Token}
 use Rattle.ga_notes.specs.declared.slot_word.Begun.{Begun}
 use Rattle.ga_notes.specs.Source.{Named, named_at, named_among, literals_told}
 use Rattle.ga_notes.specs.Slots.{Worded, slot_worded, slots_worded}

@@ -3,9 +3,9 @@ use Rattle.std.proofs.Common.{◌≡◌, ◌∙◌, ℕ, zero, suc, ◌+◌, ◌
 use Rattle.std.specs.Option.{option_or}
 use Rattle.std.proofs.lemmas.Bool.{cases_eq, eq-eqb, ne_eqb}
 use Rattle.std.proofs.lemmas.List.{at_drop_more, at_drop_all}
-use Rattle.ga_source.specs.declared.item.Asked.{Asked}
-use Rattle.ga_source.specs.declared.item.Program.{Program}
-use Rattle.ga_source.specs.declared.item.Request.TheVariants.{Mark}
+use Rattle.ga_parser.specs.declared.item.Asked.{Asked}
+use Rattle.ga_source.specs.declared.program.Program.{Program}
+use Rattle.ga_parser.specs.declared.item.Request.TheVariants.{Mark}
 use Rattle.ga_notes.specs.Source.{label_cell, marked_by, last_marked, nearest_found, label_before}
 use Rattle.ga_notes.specs.kept.Marking.{label_at, IsMarked}
 

@@ -3,8 +3,8 @@ use Rattle.std.proofs.Common.{◌≡◌, ◌∙◌, ℕ, zero, suc, ◌+◌, ◌
 use Rattle.std.specs.Str.{IsTrimAscii}
 use Rattle.std.proofs.lemmas.List.{drop_all}
 use Rattle.std.proofs.lemmas.Str.Ascii.{trim_ascii_is}
-use Rattle.ga_source.specs.Saying.{parted, is_feed, source_lines, unmarked}
-use Rattle.ga_source.proofs.Scanning.{no_end}
+use Rattle.ga_parser.specs.Saying.{parted, is_feed, source_lines, unmarked}
+use Rattle.ga_parser.proofs.Scanning.{no_end}
 use Rattle.ga_notes.specs.Source.{without_front, trimmed, bare_line}
 
 -- ---- the first line

@@ -9,7 +9,7 @@ use Rattle.ga_notes.specs.declared.slot_word.SlotWord.{SlotWord}
 use Rattle.ga_notes.specs.declared.slot_word.ToldWord.{ToldWord}
 use Rattle.ga_notes.specs.Source.{named_by, names_of, noted_by, notes_of}
 use Rattle.ga_notes.specs.Slots.{AreSlotWords}
-use Rattle.ga_source.specs.declared.item.Program.{Program}
+use Rattle.ga_source.specs.declared.program.Program.{Program}
 
 -- the note is of this cell of the node
 abbrev pub is_note_of : NodeId → ℕ → Note → Bool

@@ -3,14 +3,14 @@
 use Rattle.std.specs.Prelude.{ℕ, ◌≡◌, ◌+◌, ◌-◌, ◌==◌, Bool, false, if◌then◌else◌, List, [], ◌∷◌, ◌++◌, map, length, drop, slice_get, slice_index, flat_map, codes, decimal, Option, Some, None}
 use Rattle.ga_ports.specs.Address.{advanced}
 use Rattle.ga_grid.specs.declared.node_id.NodeId.{NodeId}
-use Rattle.ga_source.specs.declared.item.Item.{Item}
-use Rattle.ga_source.specs.declared.item.Item.TheVariants.{Literal}
-use Rattle.ga_source.specs.declared.item.Group.{Group}
-use Rattle.ga_source.specs.declared.item.Program.{Program}
+use Rattle.ga_parser.specs.declared.item.Item.{Item}
+use Rattle.ga_parser.specs.declared.item.Item.TheVariants.{Literal}
+use Rattle.ga_source.specs.declared.group.Group.{Group}
+use Rattle.ga_source.specs.declared.program.Program.{Program}
 use Rattle.ga_source.specs.declared.program.Assembled.{Assembled}
-use Rattle.ga_source.specs.declared.scan.Token.{Token}
-use Rattle.ga_source.specs.Saying.{all_said, all_in}
-use Rattle.ga_source.specs.Columns.{columns_of, columns_in}
+use Rattle.ga_parser.specs.declared.scan.Token.{Token}
+use Rattle.ga_parser.specs.Saying.{all_said, all_in}
+use Rattle.ga_parser.specs.Columns.{columns_of, columns_in}
 use Rattle.ga_source.specs.Mending.{with_numbers, IsAssembledOf}
 use Rattle.ga_notes.specs.declared.slot_word.SlotWord.{SlotWord}
 use Rattle.ga_notes.specs.declared.slot_word.ToldWord.{ToldWord}

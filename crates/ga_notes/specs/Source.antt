@@ -9,15 +9,15 @@ use Rattle.ga_ports.specs.declared.address.Target.{Target}
 use Rattle.ga_ports.specs.declared.address.Target.TheVariants.{Ram, Rom}
 use Rattle.ga_ports.specs.Address.{classified, advanced}
 use Rattle.ga_grid.specs.declared.node_id.NodeId.{NodeId}
-use Rattle.ga_source.specs.declared.labels.Label.{Label}
-use Rattle.ga_source.specs.declared.item.Item.{Item}
-use Rattle.ga_source.specs.declared.item.Item.TheVariants.{Literal, Cell}
-use Rattle.ga_source.specs.declared.item.Request.{Request}
-use Rattle.ga_source.specs.declared.item.Request.TheVariants.{Mark}
-use Rattle.ga_source.specs.declared.item.Asked.{Asked}
-use Rattle.ga_source.specs.declared.item.Group.{Group}
-use Rattle.ga_source.specs.declared.item.Program.{Program}
-use Rattle.ga_source.specs.Saying.{source_lines, unmarked, has_bytes}
+use Rattle.ga_parser.specs.declared.labels.Label.{Label}
+use Rattle.ga_parser.specs.declared.item.Item.{Item}
+use Rattle.ga_parser.specs.declared.item.Item.TheVariants.{Literal, Cell}
+use Rattle.ga_parser.specs.declared.item.Request.{Request}
+use Rattle.ga_parser.specs.declared.item.Request.TheVariants.{Mark}
+use Rattle.ga_parser.specs.declared.item.Asked.{Asked}
+use Rattle.ga_source.specs.declared.group.Group.{Group}
+use Rattle.ga_source.specs.declared.program.Program.{Program}
+use Rattle.ga_parser.specs.Saying.{source_lines, unmarked, has_bytes}
 use Rattle.ga_source.specs.Reading.{are_both, p_behind}
 use Rattle.ga_notes.specs.declared.notes.Note.{Note}
 use Rattle.ga_notes.specs.declared.notes.Name.{Name}

@@ -1,7 +1,7 @@
 //! The lines of a source.
 
 ghost use Rattle.std.specs.Prelude.{◌≡◌, [], drop, slice_index_or};
-ghost use Rattle.ga_source.specs.Saying.{source_lines};
+ghost use Rattle.ga_parser.specs.Saying.{source_lines};
 ghost use Rattle.ga_notes.specs.Source.{bare_line, line_in, is_long_line};
 ghost use Rattle.ga_notes.specs.Slots.{quoted_from};
 
@@ -29,7 +29,7 @@ pub struct Lines<'s> {
 
 impl<'s> Model for Lines<'s> {
     ghost use Rattle.std.specs.Prelude.{◌≡◌, ℕ, List, drop};
-    ghost use Rattle.ga_source.specs.Saying.{source_lines};
+    ghost use Rattle.ga_parser.specs.Saying.{source_lines};
 
     ghost Value = { List ℕ };
 

@@ -9,9 +9,9 @@ use Rattle.ga_node.specs.Table.{refusal}
 use Rattle.ga_grid.specs.Chip.{record_at}
 use Rattle.ga_lab.specs.Machine.{State, chip_of, causes_of, stands}
 use Rattle.ga_search.specs.Idle.{MarksIdle}
-use Rattle.ga_search.specs.declared.readings.Reading.{Reading}
-use Rattle.ga_search.specs.Races.{races_asked}
-use Rattle.ga_search.specs.Readings.{IsTold}
+use Rattle.ga_race_detector.specs.declared.readings.Reading.{Reading}
+use Rattle.ga_race_detector.specs.Races.{races_asked}
+use Rattle.ga_race_detector.specs.Readings.{IsTold}
 use Rattle.ga_picture.specs.declared.view.View.{View}
 use Rattle.ga_picture.specs.declared.placing.PictureRow.{PictureRow}
 use Rattle.ga_picture.specs.declared.placing.Drawing.{Drawing}

@@ -3,8 +3,8 @@ use Rattle.std.specs.Prelude.{ℕ, ◌+◌, ◌==◌, if◌then◌else◌, List,
 use Rattle.ga_grid.specs.declared.node_id.NodeId.{NodeId}
 use Rattle.ga_event.specs.declared.event.Cause.{Cause}
 use Rattle.ga_causal.specs.Dependence.{place_of}
-use Rattle.ga_search.specs.declared.races.Race.{Race}
-use Rattle.ga_search.specs.declared.readings.Reading.{Reading}
+use Rattle.ga_race_detector.specs.declared.races.Race.{Race}
+use Rattle.ga_race_detector.specs.declared.readings.Reading.{Reading}
 use Rattle.ga_picture.specs.declared.placing.PictureRow.{PictureRow}
 use Rattle.ga_picture.specs.declared.race_marks.Otherwise.{Otherwise}
 use Rattle.ga_picture.specs.declared.race_marks.Otherwise.TheVariants.{Pass, Look}

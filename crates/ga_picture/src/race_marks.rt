@@ -6,7 +6,7 @@ ghost use Rattle.ga_picture.specs.RaceMarks.{step_of, row_from, mark_at, mark_of
 use crate::placing::PictureRow;
 use ga_causal::{Cause, Memory, place_of};
 use ga_grid::NodeId;
-use ga_search::{Race, Reading};
+use ga_race_detector::{Race, Reading};
 use std::alloc::Global;
 
 /// A step that could have come out otherwise.

@@ -4,7 +4,7 @@ use crate::placing::{Drawing, PictureRow, Shape};
 use crate::race_marks::{Otherwise, RaceMark};
 use crate::text::{x_of, y_of};
 use ga_grid::NodeId;
-use ga_search::{Race, Reading};
+use ga_race_detector::{Race, Reading};
 use ga_word::Word18;
 use std::alloc::AllocError;
 

@@ -5,8 +5,8 @@ ghost use Rattle.std.specs.List.{All};
 ghost use Rattle.ga_grid.specs.Chip.{records_of};
 ghost use Rattle.ga_causal.specs.Dependence.{is_marked};
 ghost use Rattle.ga_lab.specs.Machine.{causes_of};
-ghost use Rattle.ga_search.specs.Races.{races_asked};
-ghost use Rattle.ga_search.specs.Readings.{IsTold};
+ghost use Rattle.ga_race_detector.specs.Races.{races_asked};
+ghost use Rattle.ga_race_detector.specs.Readings.{IsTold};
 ghost use Rattle.ga_picture.specs.Picture.{IsPicture, IsPictureOf, IsPictureText, AreRaceMarks, is_ready, all_stand, stands_for, place_for};
 ghost use Rattle.ga_picture.specs.Items.{is_plain_at, items_of};
 ghost use Rattle.ga_picture.specs.kept.Items.{AreItemsOf, AreListed, known_in};
@@ -22,7 +22,8 @@ use crate::text::svg;
 use ga_causal::{Cause, Memory, place_of};
 use ga_grid::{Chip, NodeId};
 use ga_lab::{Lab, LabFault};
-use ga_search::{Races, find_idle, find_races};
+use ga_race_detector::{Races, find_races};
+use ga_search::find_idle;
 use std::alloc::Global;
 
 /// A step: its node and its number, counted from 1.

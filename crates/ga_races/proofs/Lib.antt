@@ -18,3 +18,9 @@ pub mod Reaching
 pub mod Asking
 pub mod Shown
 pub mod Likeness
+pub mod Nexts
+pub mod Ready
+pub mod Stuck
+pub mod Freeing
+pub mod Rounds
+mod SameLists

@@ -2,3 +2,5 @@ pub mod Marked
 pub mod Reached
 pub mod Asked
 pub mod Changed
+pub mod Same
+pub mod Freed

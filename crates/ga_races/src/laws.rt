@@ -1,6 +1,6 @@
 //! The laws of orders and races, each the contract of a function that does nothing. They stand over the definitions alone.
 
-ghost use Rattle.std.specs.Prelude.{◌≡◌, ◌≢◌, ◌<◌, ◌≤◌, ◌↔◌, ◌⊎◌, All, Contains, ℕ, Bool, true, false, length, List, [], ◌∷◌, ◌++◌, Some, IsSome, map};
+ghost use Rattle.std.specs.Prelude.{◌≡◌, ◌≢◌, ◌<◌, ◌≤◌, ◌↔◌, ◌⊎◌, All, Contains, ℕ, Bool, true, false, length, List, [], ◌∷◌, ◌++◌, Some, IsSome, map, IfSome};
 ghost use Rattle.ga_node.specs.Record.{NodeRecord};
 ghost use Rattle.ga_ports.specs.declared.side.Side.{Side};
 ghost use Rattle.ga_grid.specs.declared.node_id.NodeId.{NodeId};
@@ -8,7 +8,7 @@ ghost use Rattle.ga_event.specs.declared.event.Event.{Event};
 ghost use Rattle.ga_event.specs.declared.event.Event.TheVariants.{Pass};
 ghost use Rattle.ga_event.specs.Touches.{touches};
 ghost use Rattle.ga_event.specs.declared.event.Cause.{Cause};
-ghost use Rattle.ga_event.specs.Apply.{Told, after, replay, run};
+ghost use Rattle.ga_event.specs.Apply.{Told, after, replay, run, apply};
 ghost use Rattle.ga_event.specs.Told.{steps_of};
 ghost use Rattle.ga_causal.specs.Dependence.{rewound_list, NoneLooks};
 ghost use Rattle.ga_event.specs.Told.{events_in};
@@ -17,7 +17,12 @@ ghost use Rattle.ga_causal.specs.Words.{account_read};
 ghost use Rattle.ga_races.specs.Exploring.{IsExplored};
 ghost use Rattle.ga_races.specs.HappensBefore.{Action, action_at, IsBound, IsClock, clock_after, action_of, actions, causes_in, are_bound, HappensBefore, IsStepOf, StandsBefore, made_at, IsNear, IsContended};
 ghost use Rattle.ga_races.specs.Kahn.{HasOneWriter};
+ghost use Rattle.ga_races.specs.Rounds.{events_without, IsRound, HasNoRound};
 ghost use Rattle.ga_races.specs.Orders.{CanBe, IsAtEnd, AreOrders, AreFree, IsRace, HasNoRace, AreRivals};
+ghost use Rattle.ga_grid.specs.Chip.{record_at};
+ghost use Rattle.ga_event.specs.Next.{next};
+ghost use Rattle.ga_races.specs.Near.{IsMarkedOrBeside};
+ghost use Rattle.ga_races.specs.Stuck.{AreStuck};
 
 /// Of two different events that can be made on a chip, either both can be made one after the other, in both orders with the same
 /// chip, where they are free of one another. Where they touch a common node they are passes to one reader from two writers, over two
@@ -165,4 +170,29 @@ pub fn clocks()
         ((earlier : ℕ) → IsBound actions earlier place →
         (clock : ℕ × (ℕ → ℕ)) × Contains known clock × ((earlier ≡ clock.0) ⊎ HappensBefore actions earlier clock.0)) →
         IsClock actions place (clock_after actions place known) }
+{}
+
+/// An event changes what the next event of a node is at the nodes that it touches and at their neighbours alone.
+pub fn next_changes_near_alone()
+    ensures { (chip : List NodeRecord) (event : Event) →
+        IfSome (apply chip event) (λ done. (node : NodeId) → IsMarkedOrBeside (touches event) node.number ⊎ (next chip node ≡ next done.0 node)) }
+{}
+
+/// Whatever further events are made, each of some nodes that are stuck stays as it is.
+pub fn stuck_stay()
+    ensures { (chip : List NodeRecord) (events : List Event) (marks : ℕ → Bool) → AreStuck chip marks →
+        IfSome (replay chip events) (λ later. (n : ℕ) → marks n ≡ true → record_at chip n ≡ record_at later n) }
+{}
+
+/// A node that polls makes rounds: events of its own that leave it as it was. A round by itself leads to the chip on which it began. What
+/// other nodes make within it they make without it too, since a node that runs shows them nothing: so a list without a round leads to
+/// the same chip, whatever the looks of the round read. A shortest list to a chip has no round, so the lists without one reach each
+/// chip that any list reaches.
+pub fn rounds()
+    ensures alone { (chip : List NodeRecord) (n : ℕ) (round : List Event) → IsRound chip n round → events_without n round ≡ [] →
+        replay chip round ≡ Some chip }
+    ensures left { (chip now : List NodeRecord) (before round later : List Event) (n : ℕ) → replay chip before ≡ Some now →
+        IsRound now n round → replay chip (before ++ round ++ later) ≡ replay chip (before ++ events_without n round ++ later) }
+    ensures shortest { (chip last : List NodeRecord) (events : List Event) → replay chip events ≡ Some last →
+        ((others : List Event) → replay chip others ≡ Some last → length events ≤ length others) → HasNoRound chip events }
 {}

@@ -1,13 +1,15 @@
 -- What is sent for a request, and what then stands.
-use Rattle.std.proofs.Common.{◌≡◌, ◌∙◌, ◌++◌, ◌<◌, ◌+◌, ◌&&◌, ◌||◌, arith, inl, inr, map, ℕ, zero, suc, Bool, true, false, List, [], ◌∷◌, Option, Result, Ok, Err, refl, sym, ap, subst}
+use Rattle.std.proofs.Common.{◌≡◌, ◌∙◌, ◌++◌, ◌<◌, ◌+◌, ◌&&◌, ◌||◌, arith, inl, inr, map, ℕ, zero, suc, Bool, true, false, List, [], ◌∷◌, Option, None, Result, Ok, Err, refl, sym, ap, subst}
 use Rattle.std.specs.Prelude.{OnOk}
 use Rattle.std.specs.List.{list_all, list_any}
 use Rattle.std.proofs.lemmas.Bool.{cases_eq}
 use Rattle.ga_notes.specs.declared.notes.Notes.{Notes}
 use Rattle.ga_search.specs.Running.{Running}
 use Rattle.ga_breakpoints.specs.declared.breakpoint.Breakpoint.{Breakpoint}
+use Rattle.ga_grid.specs.declared.node_id.NodeId.{NodeId}
 use Rattle.ga_breakpoints.specs.declared.going.Halt.{Halt}
-use Rattle.ga_breakpoints.specs.Going.{HasGone, going_on, stepping_on}
+use Rattle.ga_breakpoints.specs.declared.hits.HitTally.{HitTally}
+use Rattle.ga_breakpoints.specs.Going.{HasGone, tally_on, going_on, stepping_on}
 use Rattle.ga_protocol.specs.Sent.{SentMessages}
 use Rattle.ga_protocol.specs.declared.request.ClientRequest.{ClientRequest}
 use Rattle.ga_breakpoints.specs.declared.stepping.Stepping.{Stepping}
@@ -41,11 +43,14 @@ pub steps_so : {T E : Type 0} → (kind : StepKind) (r : Result T E) (l new : La
 steps_so kind (Ok x) l new request execution old out p same = (p.0 ∷ [], (p.0, execution, p.1, refl, same), sent_one old p.0 out p.2)
 steps_so kind (Err e) l new request execution old out p same = tt
 
-pub sets_so : {T E : Type 0} → (Becomes : Message → Configuration → Type 0) (r : Result T E) (l new : Launched) (settings : Configuration) (old out : SentMessages)
-    → OnOk r ((message : Message) × Becomes message settings × Sends old message out) → new ≡ record l { settings = settings }
-    → OnOk r ((messages : Messages) × Sets Becomes l messages new × SendsAll old messages out)
-sets_so Becomes (Ok x) l new settings old out p same = (p.0 ∷ [], (p.0, settings, p.1, refl, same), sent_one old p.0 out p.2)
-sets_so Becomes (Err e) l new settings old out p same = tt
+-- what the client set is set, and hits are counted anew
+abbrev set_anew : Launched → Configuration → Launched
+set_anew l settings = record l { settings = settings; execution = record l.execution { tally = None } }
+
+pub sets_so : (Becomes : Message → Configuration → Type 0) (l : Launched) (settings : Configuration) (old out : SentMessages)
+    → ((message : Message) × Becomes message settings × Sends old message out)
+    → (messages : Messages) × Sets Becomes l messages (set_anew l settings) × SendsAll old messages out
+sets_so Becomes l settings old out p = (p.0 ∷ [], (p.0, settings, p.1, refl, refl), sent_one old p.0 out p.2)
 
 pub with_command : {T E : Type 0} → (r : Result T E) (a b : RequestName) (l : Launched) (request : ClientRequest) (new : Launched) (old out : SentMessages) → b ≡ a
     → OnOk r ((messages : Messages) × DoesInPlace a l request messages new × SendsAll old messages out)
@@ -73,16 +78,24 @@ changed_alike f g now same (suc n) =
     ap (λ (z : List Message). z ++ changed_messages (f n) (now n) n) (changed_alike f g now same n)
     ∙ ap (λ (z : Bool). changed_below g now n ++ changed_messages z (now n) n) (same n)
 
-pub gone_by : (a b : List Breakpoint) (s t : Bool) (r : Running) (most events : ℕ) (halt : Halt) → a ≡ b → s ≡ t → HasGone (going_on a s) r most events halt
-    → HasGone (going_on b t) r most events halt
-gone_by a b s t r most events halt e f p =
-    subst (λ (z : List Breakpoint). HasGone (going_on z t) r most events halt) e (subst (λ (z : Bool). HasGone (going_on a z) r most events halt) f p)
+pub gone_by : (a b : List Breakpoint) (u v : HitTally) (s t : Bool) (r : Running) (most events : ℕ) (halt : Halt) → a ≡ b → u ≡ v → s ≡ t
+    → HasGone (going_on a u s r) r most events halt → HasGone (going_on b v t r) r most events halt
+gone_by a b u v s t r most events halt e g f p =
+    subst (λ (z : List Breakpoint). HasGone (going_on z v t r) r most events halt) e
+    (subst (λ (z : HitTally). HasGone (going_on a z t r) r most events halt) g (subst (λ (z : Bool). HasGone (going_on a u z r) r most events halt) f p))
 
-pub stepped_so : (notes : Notes) (a b : List Breakpoint) (s t : Bool) (by : Stepping) (r : Running) (most events : ℕ) (halt : Halt) → a ≡ b → s ≡ t
-    → HasGone (stepping_on notes a s by r) r most events halt → HasGone (stepping_on notes b t by r) r most events halt
-stepped_so notes a b s t by r most events halt e f p =
-    subst (λ (z : List Breakpoint). HasGone (stepping_on notes z t by r) r most events halt) e
-    (subst (λ (z : Bool). HasGone (stepping_on notes a z by r) r most events halt) f p)
+pub stepped_so : (notes : Notes) (a b : List Breakpoint) (u v : HitTally) (s t : Bool) (by : Stepping) (r : Running) (most events : ℕ) (halt : Halt) → a ≡ b → u ≡ v → s ≡ t
+    → HasGone (stepping_on notes a u s by r) r most events halt → HasGone (stepping_on notes b v t by r) r most events halt
+stepped_so notes a b u v s t by r most events halt e g f p =
+    subst (λ (z : List Breakpoint). HasGone (stepping_on notes z v t by r) r most events halt) e
+    (subst (λ (z : HitTally). HasGone (stepping_on notes a z t by r) r most events halt) g
+    (subst (λ (z : Bool). HasGone (stepping_on notes a u z by r) r most events halt) f p))
+
+-- what was hit so often, by what counted it
+pub hits_so : (first : Option NodeId) (a b : List Breakpoint) (u v : HitTally) (r : Running) (events : ℕ) (tally : HitTally) → a ≡ b → u ≡ v
+    → tally ≡ tally_on first a u r events → tally ≡ tally_on first b v r events
+hits_so first a b u v r events tally e g is =
+    is ∙ ap (λ (z : List Breakpoint). tally_on first z u r events) e ∙ ap (λ (z : HitTally). tally_on first b z r events) g
 
 pub none_more : (f : ℕ → Bool) (k : ℕ) (b : Bool) → ((n : ℕ) → n < k → f n ≡ false) → b ≡ f k → b ≡ false → (n : ℕ) → n < k + 1 → f n ≡ false
 none_more f k b before e is n lt = elim (cases_eq n k) as (λ w. f n ≡ false) [

@@ -1,5 +1,5 @@
 -- The requests that go back (Debug Adapter Protocol, "StepBackRequest", "ReverseContinueRequest", "SteppingGranularity").
-use Rattle.std.specs.Prelude.{◌≡◌, ◌<◌, ◌==◌, ◌+◌, ◌-◌, nat_lt, if◌then◌else◌, ℕ, zero, suc, List, [], ◌++◌, map, filter, length, slice_index_or, codes, decimal, bytes_eq, Option, Some, None}
+use Rattle.std.specs.Prelude.{◌≡◌, ◌<◌, ◌==◌, ◌+◌, ◌-◌, nat_lt, if◌then◌else◌, ℕ, zero, suc, List, [], ◌++◌, length, slice_index_or, codes, decimal, bytes_eq, Option, Some, None}
 use Rattle.serde_json.specs.Data.{Data}
 use Rattle.ga_text.specs.Lines.{Text}
 use Rattle.ga_text.specs.Names.{name_of_node}
@@ -10,10 +10,10 @@ use Rattle.ga_lab.specs.Machine.{State}
 use Rattle.ga_grid.specs.declared.node_id.NodeId.{NodeId}
 use Rattle.ga_notes.specs.declared.notes.Notes.{Notes}
 use Rattle.ga_protocol.specs.Messages.{member_text}
-use Rattle.ga_adapter.specs.declared.moves.Watched.{Watched}
-use Rattle.ga_adapter.specs.Moves.{stepped_back, reversed}
-use Rattle.ga_adapter.specs.Stepping.{stepped_back_line}
+use Rattle.ga_breakpoints.specs.Back.{stepped_back}
+use Rattle.ga_breakpoints.specs.Lines.{stepped_back_line}
 use Rattle.ga_breakpoints.specs.declared.breakpoint.Breakpoint.{Breakpoint}
+use Rattle.ga_breakpoints.specs.Reversing.{reversed_to}
 use Rattle.ga_breakpoints.specs.declared.stepping.Grain.{Grain}
 use Rattle.ga_breakpoints.specs.declared.stepping.Grain.TheVariants.{Instruction, Line}
 use Rattle.ga_responses.specs.declared.debuggee.Debuggee.{Debuggee}
@@ -36,13 +36,9 @@ abbrev pub stepped_by : Grain → Debuggee → NodeId → Debuggee
 stepped_by Instruction p node = record p { lab = stepped_back p.lab node }
 stepped_by Line p node = record p { lab = stepped_back_line (program_notes p) p.lab node }
 
--- what is watched of a node
-abbrev pub watched_of : List Breakpoint → NodeId → List Watched
-watched_of points node = map (λ (point : Breakpoint). point.watched) (filter (λ (point : Breakpoint). point.node.number == node.number) points)
-
 -- `reverseContinue`: to the newest step by which it came to a breakpoint of its own, or right before it wrote a watched cell
-abbrev pub reversed_by : Debuggee → NodeId → List Watched → Debuggee
-reversed_by p node watched = record p { lab = reversed p.lab node watched }
+abbrev pub reversed_by : Debuggee → NodeId → List Breakpoint → Debuggee
+reversed_by p node points = record p { lab = reversed_to p.lab node points }
 
 -- ---- what is told of it ("OutputEvent"): how many events went and are kept, and of each other node which of its steps went
 

@@ -1,5 +1,5 @@
 -- `configurationDone` (Debug Adapter Protocol, "ConfigurationDoneRequest", "ThreadEvent", "StoppedEvent").
-use Rattle.std.specs.Prelude.{◌≡◌, ◌<◌, ℕ, Bool, true, false, List, [], ◌∷◌, ◌++◌, codes, Some}
+use Rattle.std.specs.Prelude.{◌≡◌, ◌<◌, ℕ, Bool, true, false, List, [], ◌∷◌, ◌++◌, codes, Some, None}
 use Rattle.ga_grid.specs.declared.node_id.NodeId.{NodeId}
 use Rattle.ga_adapter.specs.Threads.{has_thread}
 use Rattle.ga_protocol.specs.declared.request.ClientRequest.{ClientRequest}
@@ -22,7 +22,7 @@ threads_told request marks = (acknowledged request ∷ []) ++ changed_below (λ 
 abbrev pub BeginsSo : Bool → Debuggee → Execution → Messages → Execution → Type 0
 BeginsSo true p r messages new = (first : NodeId) × IsFirstShown p.lab p.nodes.items first.number
     × (messages ≡ stopped (codes "entry") (codes "at load") first.number ∷ []) × (new ≡ record r { is_configured = true })
-BeginsSo false p r messages new = (messages ≡ []) × (new ≡ record r { is_configured = true; goal = Some Continue })
+BeginsSo false p r messages new = (messages ≡ []) × (new ≡ record r { is_configured = true; goal = Some Continue; tally = None })
 
 abbrev pub ConfiguresOnce : Debuggee → Execution → ClientRequest → Messages → Execution → Type 0
 ConfiguresOnce p r request messages new = (marks : ℕ → Bool) × (more : Messages) × AreShown p marks × BeginsSo r.stops_on_entry p r more new

@@ -22,9 +22,9 @@ use Rattle.ga_responses.specs.Events.{IsFirstShown}
 use Rattle.ga_requests.specs.Stopping.{stopped}
 use Rattle.ga_responses.specs.Sending.{Message, Messages, answered, acknowledged, refused_response}
 
--- a run for this is under way; the chip stands
+-- a run for this is under way, that counts the kept hits first; the chip stands
 abbrev pub begun : Execution → Goal → Execution
-begun r goal = record r { goal = Some goal }
+begun r goal = record r { goal = Some goal; tally = None }
 
 abbrev pub run_ended : Execution → Execution
 run_ended r = record r { goal = None }

@@ -1,6 +1,6 @@
 -- Where the breakpoints stand that are asked for (Debug Adapter Protocol, "SourceBreakpoint", "FunctionBreakpoint", "InstructionBreakpoint", "DataBreakpoint"),
 -- and what is told of each ("Breakpoint").
-use Rattle.std.specs.Prelude.{◌≡◌, ℕ, ◌+◌, ◌%◌, ◌^◌, ◌==◌, nat_lt, Bool, true, false, ◌&&◌, ◌||◌, if◌then◌else◌, List, [], ◌∷◌, ◌++◌, take, drop, length, slice_index, position, codes, bytes_eq, string_bytes, Option, Some, None, option_map, option_and_then}
+use Rattle.std.specs.Prelude.{◌≡◌, ℕ, ◌+◌, ◌%◌, ◌^◌, ◌==◌, nat_lt, Bool, true, false, ◌&&◌, ◌||◌, if◌then◌else◌, List, [], ◌∷◌, ◌++◌, take, drop, length, slice_index, position, codes, bytes_eq, string_bytes, Option, Some, None, option_map, option_and_then, Result, Ok, Err}
 use Rattle.std.specs.List.{slice_get}
 use Rattle.serde_json.specs.Data.{Data, string, boolean, object, no_members, member}
 use Rattle.ga_text.specs.Lines.{Text}
@@ -10,9 +10,12 @@ use Rattle.ga_notes.specs.declared.notes.Name.{Name}
 use Rattle.ga_notes.specs.declared.notes.Notes.{Notes}
 use Rattle.ga_notes.specs.Notes.{address_of}
 use Rattle.ga_adapter.specs.Json.{whole_number}
-use Rattle.ga_adapter.specs.declared.moves.Watched.TheVariants.{Writes}
+use Rattle.ga_breakpoints.specs.declared.back.Watched.TheVariants.{Writes}
 use Rattle.ga_breakpoints.specs.declared.breakpoint.Breakpoint.{Breakpoint}
 use Rattle.ga_breakpoints.specs.declared.breakpoint.LineBreakpoint.{LineBreakpoint}
+use Rattle.ga_breakpoints.specs.declared.condition.ValueTest.{ValueTest}
+use Rattle.ga_breakpoints.specs.declared.condition.HitCount.{HitCount}
+use Rattle.ga_breakpoints.specs.Saying.{condition_said, hits_said}
 use Rattle.ga_breakpoints.specs.Breakpoints.{breakpoint_of_line, breakpoint_of_address}
 use Rattle.ga_protocol.specs.Messages.{member_text, member_number}
 use Rattle.ga_responses.specs.declared.debuggee.Debuggee.{Debuggee}
@@ -22,6 +25,8 @@ use Rattle.ga_requests.specs.declared.configuration.Family.{Family}
 use Rattle.ga_requests.specs.declared.configuration.Family.TheVariants as family
 use Rattle.ga_requests.specs.declared.configuration.SetBy.{SetBy}
 use Rattle.ga_requests.specs.declared.finding.FoundPlace.{FoundPlace}
+use Rattle.ga_requests.specs.declared.finding.Unplaced.{Unplaced}
+use Rattle.ga_requests.specs.declared.finding.Unplaced.TheVariants.{Nowhere, Condition, Hits, Uncounted}
 
 -- ---- on a line of the source
 
@@ -71,7 +76,7 @@ abbrev pub at_cell_on : ℕ → NodeId × ℕ → Option Breakpoint
 at_cell_on on at = let address = (at.1 + on) % 4096 in if nat_lt address 256 then breakpoint_of_address at.0 address else None
 
 abbrev pub on_writes : NodeId × ℕ → Option Breakpoint
-on_writes at = if nat_lt at.1 128 then Some (record { node = at.0; watched = Writes at.1 }) else None
+on_writes at = if nat_lt at.1 128 then Some (record { node = at.0; watched = Writes at.1; condition = None; hits = None }) else None
 
 abbrev pub IsReferredBy : (NodeId × ℕ → Option Breakpoint) → Option Text → Option Breakpoint → Type 0
 IsReferredBy place None point = point ≡ None
@@ -89,6 +94,38 @@ IsPlaceOf p family.Instruction d found =
 IsPlaceOf p family.Data d found =
     (point : Option Breakpoint) × IsReferredBy on_writes (member_text (codes "dataId") d) point × (found ≡ option_map on_no_line point)
 
+-- ---- which of its hits end a run: a condition or a hit condition that can't be read is told, and nothing is set
+
+abbrev pub on_condition : FoundPlace → Option ValueTest → Result FoundPlace Unplaced
+on_condition place None = Err Condition
+on_condition place (Some test) = Ok (record place { breakpoint = record place.breakpoint { condition = Some test } })
+
+abbrev pub with_condition : FoundPlace → Option Text → Result FoundPlace Unplaced
+with_condition place None = Ok place
+with_condition place (Some text) = on_condition place (condition_said text)
+
+-- hits are counted of the first 64 breakpoints
+abbrev pub on_hits : FoundPlace → ℕ → Option HitCount → Result FoundPlace Unplaced
+on_hits place before None = Err Hits
+on_hits place before (Some hits) =
+    if nat_lt before 64 then Ok (record place { breakpoint = record place.breakpoint { hits = Some hits } }) else Err Uncounted
+
+abbrev pub with_hits : FoundPlace → ℕ → Option Text → Result FoundPlace Unplaced
+with_hits place before None = Ok place
+with_hits place before (Some text) = on_hits place before (hits_said text)
+
+abbrev pub then_hits : ℕ → Data → Result FoundPlace Unplaced → Result FoundPlace Unplaced
+then_hits before d (Err why) = Err why
+then_hits before d (Ok place) = with_hits place before (member_text (codes "hitCondition") d)
+
+abbrev pub asked_there : FoundPlace → ℕ → Data → Result FoundPlace Unplaced
+asked_there place before d = then_hits before d (with_condition place (member_text (codes "condition") d))
+
+-- where so many stand before it
+abbrev pub asked_at : Option FoundPlace → ℕ → Data → Result FoundPlace Unplaced
+asked_at None before d = Err Nowhere
+asked_at (Some place) before d = asked_there place before d
+
 -- ---- what is told of one, by its number
 
 abbrev pub unfound_words : Family → Text
@@ -96,6 +133,12 @@ unfound_words family.Source = codes "no code stands on this line or behind it"
 unfound_words family.Function = codes "no node has this label"
 unfound_words family.Instruction = codes "no such memory"
 unfound_words family.Data = codes "no such cell of RAM"
+
+abbrev pub unplaced_words : Family → Unplaced → Text
+unplaced_words kind Nowhere = unfound_words kind
+unplaced_words kind Condition = codes "condition: a register or [HH], then = != < <= > or >=, then a number"
+unplaced_words kind Hits = codes "hitCondition: N, >= N or % N, from 1 on"
+unplaced_words kind Uncounted = codes "hitCondition: hits are counted of 64 breakpoints at most"
 
 unfoldable pub unverified_object : ℕ → Text → Data
 unverified_object id why =
@@ -114,9 +157,9 @@ abbrev pub verified_on : Debuggee → ℕ → Option ℕ → Data
 verified_on p id None = verified_object id
 verified_on p id (Some line) = lined_object (string_bytes p.name) (string_bytes p.path) id line
 
-abbrev pub told_placed : Debuggee → Family → ℕ → Option FoundPlace → Data
-told_placed p kind id None = unverified_object id (unfound_words kind)
-told_placed p kind id (Some found) = verified_on p id found.line
+abbrev pub told_placed : Debuggee → Family → ℕ → Result FoundPlace Unplaced → Data
+told_placed p kind id (Err why) = unverified_object id (unplaced_words kind why)
+told_placed p kind id (Ok found) = verified_on p id found.line
 
 -- ---- those of a request, one after another: what was told of them, the breakpoints that are set, and the number of the next one
 
@@ -125,16 +168,16 @@ pub record Placement : Type 0 where
   pub placed : List SetBy
   pub next : ℕ
 
-abbrev pub set_by : Family → ℕ → Option FoundPlace → List SetBy
-set_by kind id None = []
-set_by kind id (Some found) = record { breakpoint = found.breakpoint; family = kind; id = id } ∷ []
+abbrev pub set_by : Family → ℕ → Result FoundPlace Unplaced → List SetBy
+set_by kind id (Err why) = []
+set_by kind id (Ok found) = record { breakpoint = found.breakpoint; family = kind; id = id } ∷ []
 
-abbrev pub placed_next : Debuggee → Family → Option FoundPlace → Placement → Placement
+abbrev pub placed_next : Debuggee → Family → Result FoundPlace Unplaced → Placement → Placement
 placed_next p kind found old =
     record { told = old.told ++ told_placed p kind old.next found ∷ []; placed = old.placed ++ set_by kind old.next found; next = (old.next + 1) % 2 ^ 64 }
 
 abbrev pub PlacesOne : Debuggee → Family → Data → Placement → Placement → Type 0
-PlacesOne p kind d old new = (found : Option FoundPlace) × IsPlaceOf p kind d found × (new ≡ placed_next p kind found old)
+PlacesOne p kind d old new = (found : Option FoundPlace) × IsPlaceOf p kind d found × (new ≡ placed_next p kind (asked_at found (length old.placed) d) old)
 
 abbrev pub Places : Debuggee → Family → List Data → Placement → Placement → Type 0
 Places p kind [] old new = new ≡ old

@@ -1,6 +1,6 @@
 -- What a request that makes no event and takes none back does to a program that was launched (Debug Adapter Protocol, "Requests"): the messages that are
 -- sent, in order, and what then stands.
-use Rattle.std.specs.Prelude.{◌≡◌, List, [], ◌∷◌, codes}
+use Rattle.std.specs.Prelude.{◌≡◌, List, [], ◌∷◌, codes, None}
 use Rattle.ga_protocol.specs.declared.request.ClientRequest.{ClientRequest}
 use Rattle.ga_responses.specs.declared.request_name.RequestName.{RequestName}
 use Rattle.ga_responses.specs.declared.request_name.RequestName.TheVariants as the
@@ -30,10 +30,10 @@ abbrev pub Steps : StepKind → Launched → ClientRequest → Messages → Laun
 Steps kind l request messages new = (message : Message) × (execution : Execution) × BeginsStep l.program kind l.execution request message execution
     × (messages ≡ message ∷ []) × (new ≡ record l { execution = execution })
 
--- what the client set changes, and nothing else; one message is sent
+-- what the client set changes, hits are counted anew, and nothing else; one message is sent
 abbrev pub Sets : (Message → Configuration → Type 0) → Launched → Messages → Launched → Type 0
 Sets Becomes l messages new = (message : Message) × (settings : Configuration) × Becomes message settings × (messages ≡ message ∷ [])
-    × (new ≡ record l { settings = settings })
+    × (new ≡ record l { settings = settings; execution = record l.execution { tally = None } })
 
 abbrev pub DoesInPlace : RequestName → Launched → ClientRequest → Messages → Launched → Type 0
 DoesInPlace the.Threads l request messages new = OnlyAnswers (AnswersThreads l.program request) l messages new

@@ -2,7 +2,7 @@
 -- order, at most so many, and why the run ends behind them, where it does. So a run in slices is one run, however it is cut.
 use Rattle.std.specs.Prelude.{◌≡◌, ◌≤◌, ◌<◌, ◌⊎◌, ℕ, Bool, true, false, ◌&&◌, not, ◌==◌, List, Option, Some, None}
 use Rattle.std.specs.List.{slice_get}
-use Rattle.ga_search.specs.Freed.{IsSubset}
+use Rattle.ga_races.specs.Freed.{IsSubset}
 use Rattle.ga_node.specs.Record.{NodeRecord}
 use Rattle.ga_grid.specs.Chip.{record_at}
 use Rattle.ga_grid.specs.declared.node_id.NodeId.{NodeId}
@@ -11,17 +11,19 @@ use Rattle.ga_event.specs.declared.made.Made.TheVariants.{Own, Pass}
 use Rattle.ga_lab.specs.Machine.{State, chip_of}
 use Rattle.ga_search.specs.Running.{running, after_events}
 use Rattle.ga_search.specs.Watched.{after_first}
-use Rattle.ga_search.specs.Stuck.{AreStuck}
-use Rattle.ga_adapter.specs.declared.moves.Watched.{Watched}
-use Rattle.ga_adapter.specs.declared.moves.Watched.TheVariants as watched
+use Rattle.ga_races.specs.Stuck.{AreStuck}
+use Rattle.ga_breakpoints.specs.declared.back.Watched.{Watched}
+use Rattle.ga_breakpoints.specs.declared.back.Watched.TheVariants as watched
 use Rattle.ga_adapter.specs.Threads.{has_thread}
 use Rattle.ga_breakpoints.specs.declared.breakpoint.Breakpoint.{Breakpoint}
 use Rattle.ga_breakpoints.specs.declared.going.Halt.{Halt}
 use Rattle.ga_breakpoints.specs.declared.going.Halt.TheVariants as halt
 use Rattle.ga_breakpoints.specs.declared.going.Went.{Went}
 use Rattle.ga_breakpoints.specs.declared.stepping.Stepping.{Stepping}
-use Rattle.ga_breakpoints.specs.Going.{HasGone, going_on, stepping_on}
+use Rattle.ga_breakpoints.specs.Going.{HasGone, tally_on, going_on, stepping_on}
 use Rattle.ga_breakpoints.specs.Stepping.{stepped_on}
+use Rattle.ga_breakpoints.specs.declared.hits.HitTally.{HitTally}
+use Rattle.ga_breakpoints.specs.Reversing.{kept_tally}
 use Rattle.ga_requests.specs.declared.execution.Execution.{Execution}
 use Rattle.ga_requests.specs.declared.execution.Goal.{Goal}
 use Rattle.ga_requests.specs.declared.execution.Goal.TheVariants.{Continue, Step}
@@ -38,20 +40,27 @@ slice_limit = 4096
 
 -- ---- the events
 
+-- how often each breakpoint was hit before them: as the slice before left it, or as the kept events say
+abbrev pub tally_begun : State → Configuration → Option HitTally → HitTally
+tally_begun s set None = kept_tally s set.points.points.items
+tally_begun s set (Some tally) = tally
+
 -- of `continue`
 abbrev pub GoesOn : Debuggee → Configuration → Execution → Debuggee → Execution → Went → Type 0
 GoesOn p set r new next went =
     (running new.lab went.schedule ≡ after_events (running p.lab r.schedule) went.events) × (went.events ≤ slice_limit)
-    × HasGone (going_on set.points.points.items set.stops) (running p.lab r.schedule) slice_limit went.events went.halt
-    × (new ≡ record p { lab = new.lab }) × (next ≡ record r { schedule = went.schedule })
+    × (went.tally ≡ tally_on None set.points.points.items (tally_begun p.lab set r.tally) (running p.lab r.schedule) went.events)
+    × HasGone (going_on set.points.points.items (tally_begun p.lab set r.tally) set.stops (running p.lab r.schedule)) (running p.lab r.schedule) slice_limit went.events went.halt
+    × (new ≡ record p { lab = new.lab }) × (next ≡ record r { schedule = went.schedule; tally = Some went.tally })
 
 -- of a step of one node
 abbrev pub StepsOn : Stepping → Debuggee → Configuration → Execution → Debuggee → Execution → Went → Type 0
 StepsOn by p set r new next went =
     (running new.lab went.schedule ≡ after_first (Some by.node) (running p.lab r.schedule) went.events) × (went.events ≤ slice_limit)
-    × HasGone (stepping_on (program_notes p) set.points.points.items set.stops by (running p.lab r.schedule)) (running p.lab r.schedule) slice_limit went.events went.halt
+    × (went.tally ≡ tally_on (Some by.node) set.points.points.items (tally_begun p.lab set r.tally) (running p.lab r.schedule) went.events)
+    × HasGone (stepping_on (program_notes p) set.points.points.items (tally_begun p.lab set r.tally) set.stops by (running p.lab r.schedule)) (running p.lab r.schedule) slice_limit went.events went.halt
     × (new ≡ record p { lab = new.lab })
-    × (next ≡ record r { schedule = went.schedule; goal = Some (Step (stepped_on by (running p.lab r.schedule) went.events)) })
+    × (next ≡ record r { schedule = went.schedule; tally = Some went.tally; goal = Some (Step (stepped_on by (running p.lab r.schedule) went.events)) })
 
 abbrev pub Advances : Goal → Debuggee → Configuration → Execution → Debuggee → Execution → Went → Type 0
 Advances Continue p set r new next went = GoesOn p set r new next went

@@ -6,8 +6,7 @@ ghost use Rattle.ga_event.specs.Told.{steps_of};
 ghost use Rattle.ga_requests.specs.Back.{grain_asked, stepped_by, reversed_by, AreStepsOf, WentBack, gone_line, gone_with_it, gone_of, gone_below, gone_head, gone_words};
 
 use crate::moving::grain_asked;
-use ga_adapter::{Watched, reverse_continue, step_back, step_back_line};
-use ga_breakpoints::Grain;
+use ga_breakpoints::{Breakpoint, Grain, reverse_to, step_back, step_back_line};
 use ga_grid::NodeId;
 use ga_lab::Lab;
 use ga_responses::{Debuggee, add_name};
@@ -79,15 +78,15 @@ pub fn step_node_back(program: &mut Debuggee, node: NodeId, arguments: &Value) -
     }
 }
 
-/// Goes back with a node to the newest breakpoint, and says what went.
-pub fn reverse_node(program: &mut Debuggee, node: NodeId, watched: &[Watched]) -> Gone
-    ensures program { program.new ≡ reversed_by program.old node watched.now }
+/// Goes back with a node to the newest step that hit one of its breakpoints, and says what went.
+pub fn reverse_node(program: &mut Debuggee, node: NodeId, points: &[Breakpoint]) -> Gone
+    ensures program { program.new ≡ reversed_by program.old node points.now }
     ensures node { result.node ≡ node }
     ensures went { WentBack program.old.lab program.new.lab result.before result.removed }
 {
     let before = steps_kept(&program.lab);
     let kept = program.lab.counts().kept;
-    reverse_continue(&mut program.lab, node, watched);
+    reverse_to(&mut program.lab, node, points);
     let removed = kept.saturating_sub(program.lab.counts().kept);
     Gone {
         node,

@@ -4,9 +4,7 @@ ghost use Rattle.std.specs.Prelude.{◌≡◌, map, IfOk};
 ghost use Rattle.ga_requests.specs.declared.configuration.SetBy.{SetBy as ASetBy};
 ghost use Rattle.ga_requests.specs.Breakpoints.{family_number, is_of_another};
 
-use ga_adapter::Watched;
-use ga_breakpoints::{Breakpoint, Halts};
-use ga_grid::NodeId;
+use ga_breakpoints::{Breakpoint, Halts, HitTally};
 use std::alloc::{AllocError, Global};
 
 /// Which request set a breakpoint.
@@ -83,7 +81,6 @@ pub(crate) fn breakpoints_of(alloc: Global, placed: &[SetBy]) -> Result<Vec<Brea
 impl Points {
     ghost use Rattle.std.specs.Prelude.{◌≡◌, [], filter, IfOk};
     ghost use Rattle.std.specs.List.{slice_get};
-    ghost use Rattle.ga_requests.specs.Back.{watched_of};
     ghost use Rattle.ga_requests.specs.Breakpoints.{is_of_another};
     ghost use Rattle.ga_requests.specs.Slices.{id_of};
 
@@ -132,19 +129,6 @@ impl Points {
             None => None,
         }
     }
-
-    /// What is watched of a node.
-    pub fn watched_of(&self, alloc: Global, node: NodeId) -> Result<Vec<Watched>, AllocError>
-        ensures { IfOk result (λ list. list.items ≡ watched_of self.now.points.items node) }
-    {
-        let mut list = Vec::new(alloc);
-        'points: for point in &self.points {
-            if point.node.number == node.number {
-                list.push(point.watched)?;
-            }
-        }
-        Ok(list)
-    }
 }
 
 impl Configuration {
@@ -165,14 +149,16 @@ impl Configuration {
         }
     }
 
-    /// What ends a run early.
-    pub fn halts(&self) -> Halts<'_>
+    /// What ends a run early, where each breakpoint was hit so often.
+    pub fn halts(&self, tally: HitTally) -> Halts<'_>
         ensures points { result.breakpoints.now ≡ self.now.points.points.items }
         ensures stops { result.stops ≡ self.now.stops }
+        ensures hits { result.tally ≡ tally }
     {
         Halts {
             breakpoints: self.points.points.as_slice(),
             stops: self.stops,
+            tally,
         }
     }
 }

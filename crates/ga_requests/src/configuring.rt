@@ -108,6 +108,7 @@ fn begin_so(
         Ok(())
     } else {
         execution.goal = Some(Goal::Continue);
+        execution.tally = None;
         execution.is_configured = true;
         Ok(())
     }

@@ -3,20 +3,23 @@
 ghost use Rattle.std.specs.Prelude.{◌≡◌, ◌≤◌, Some};
 ghost use Rattle.ga_search.specs.Running.{running};
 ghost use Rattle.ga_search.specs.Watched.{after_first};
-ghost use Rattle.ga_breakpoints.specs.Going.{HasGone, stepping_on};
+ghost use Rattle.ga_breakpoints.specs.Going.{HasGone, tally_on, stepping_on};
 ghost use Rattle.ga_breakpoints.specs.Stepping.{stepped_on};
 ghost use Rattle.ga_lab.specs.Machine.{chip_of};
 ghost use Rattle.ga_causal.specs.Dependence.{is_marked};
-ghost use Rattle.ga_requests.specs.Slices.{slice_limit, GoesOn, StepsOn, Advances, MarksStuck, MakesSliceOf, MakesSlice, IsFirstNewly, is_newly_by, is_newly, hit_at, hit_of, end_of_move, node_told, stop_by, ended_stuck, goal_behind};
+ghost use Rattle.ga_requests.specs.Slices.{slice_limit, tally_begun, GoesOn, StepsOn, Advances, MarksStuck, MakesSliceOf, MakesSlice, IsFirstNewly, is_newly_by, is_newly, hit_at, hit_of, end_of_move, node_told, stop_by, ended_stuck, goal_behind};
 
 use crate::configuration::Configuration;
-use ga_adapter::{Watched, has_thread};
-use ga_breakpoints::{Breakpoint, Halt, Stepping, Went, go_on, step_on};
+use ga_adapter::has_thread;
+use ga_breakpoints::{
+    Breakpoint, Halt, HitTally, Stepping, Watched, Went, go_on, kept_hits, step_on,
+};
 use ga_grid::NodeId;
 use ga_lab::{Lab, LabFault, Made};
 use ga_notes::Notes;
+use ga_races::find_stuck;
 use ga_responses::Debuggee;
-use ga_search::{Schedule, find_stuck};
+use ga_search::Schedule;
 
 /// How many events are made before the client is listened to again.
 pub const SLICE: u64 = 4096;
@@ -31,12 +34,14 @@ pub enum Goal {
 }
 
 /// How the order goes on, and the run that is under way.
-#[derive(Clone, Copy, PartialEq, Eq, Debug)]
+#[derive(Clone, Copy)]
 pub struct Execution {
     /// How the order goes on.
     pub schedule: Schedule,
     /// What the run under way is for; none where the chip stands.
     pub goal: Option<Goal>,
+    /// How often each breakpoint was hit, while a run is under way and none was set since.
+    pub tally: Option<HitTally>,
     /// Whether the client ended the configuration.
     pub is_configured: bool,
     /// Whether the chip stands at load until the client goes on.
@@ -135,13 +140,25 @@ fn newly_stuck(program: &Debuggee, before: &[bool; 144], now: &[bool; 144]) -> O
     None
 }
 
+/// How often each breakpoint was hit before a slice: as the slice before left it, or as the kept events say.
+fn tally_begun(lab: &Lab, settings: &Configuration, tally: Option<HitTally>) -> HitTally
+    ensures { result ≡ tally_begun lab.now settings.now tally }
+{
+    match tally {
+        Some(tally) => tally,
+        None => kept_hits(lab, settings.points.points.as_slice()),
+    }
+}
+
 /// Makes a slice of the events of `continue`.
 fn go_on_slice(program: &mut Debuggee, settings: &Configuration, execution: &mut Execution) -> Went
     ensures { GoesOn program.old settings.now execution.old program.new execution.new result }
 {
-    let halts = settings.halts();
+    let tally = tally_begun(&program.lab, settings, execution.tally);
+    let halts = settings.halts(tally);
     let went = go_on(&mut program.lab, execution.schedule, halts, SLICE);
     execution.schedule = went.schedule;
+    execution.tally = Some(went.tally);
     went
 }
 
@@ -155,13 +172,16 @@ fn step_by(
 ) -> Went
     ensures state { running lab.new result.schedule ≡ after_first (Some stepping.node) (running lab.old execution.old.schedule) result.events }
     ensures most { result.events ≤ slice_limit }
-    ensures end { HasGone (stepping_on notes.now settings.now.points.points.items settings.now.stops stepping (running lab.old execution.old.schedule)) (running lab.old execution.old.schedule) slice_limit result.events result.halt }
-    ensures next { execution.new ≡ record execution.old { schedule = result.schedule; goal = Some (Goal.Step (stepped_on stepping (running lab.old execution.old.schedule) result.events)) } }
+    ensures hits { result.tally ≡ tally_on (Some stepping.node) settings.now.points.points.items (tally_begun lab.old settings.now execution.old.tally) (running lab.old execution.old.schedule) result.events }
+    ensures end { HasGone (stepping_on notes.now settings.now.points.points.items (tally_begun lab.old settings.now execution.old.tally) settings.now.stops stepping (running lab.old execution.old.schedule)) (running lab.old execution.old.schedule) slice_limit result.events result.halt }
+    ensures next { execution.new ≡ record execution.old { schedule = result.schedule; tally = Some result.tally; goal = Some (Goal.Step (stepped_on stepping (running lab.old execution.old.schedule) result.events)) } }
 {
     let mut by = stepping;
-    let halts = settings.halts();
+    let tally = tally_begun(lab, settings, execution.tally);
+    let halts = settings.halts(tally);
     let went = step_on(lab, execution.schedule, &mut by, notes, halts, SLICE);
     execution.schedule = went.schedule;
+    execution.tally = Some(went.tally);
     execution.goal = Some(Goal::Step(by));
     went
 }

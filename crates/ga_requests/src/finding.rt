@@ -4,11 +4,14 @@ ghost use Rattle.std.specs.Prelude.{◌≡◌, ◌<◌, length, position, codes,
 ghost use Rattle.serde_json.specs.View.{view};
 ghost use Rattle.ga_protocol.specs.Messages.{member_text};
 ghost use Rattle.ga_responses.specs.Disassembling.{offset_given, cells_on};
-ghost use Rattle.ga_requests.specs.Placing.{line_asked, found_on_line, is_label, at_any_label, at_label_of, names_node, node_named_before, at_label, at_cell_on, on_writes, on_no_line, unfound_words, IsReferredBy, IsPlaceOf};
+ghost use Rattle.ga_breakpoints.specs.Saying.{condition_said, hits_said};
+ghost use Rattle.ga_requests.specs.Placing.{line_asked, found_on_line, is_label, at_any_label, at_label_of, names_node, node_named_before, at_label, at_cell_on, on_writes, on_no_line, on_condition, with_condition, on_hits, with_hits, asked_there, asked_at, unfound_words, unplaced_words, IsReferredBy, IsPlaceOf};
 
 use crate::configuration::Family;
-use ga_adapter::Watched;
-use ga_breakpoints::{Breakpoint, breakpoint_of_address, breakpoint_of_line};
+use ga_breakpoints::{
+    Breakpoint, COUNTED, Watched, breakpoint_of_address, breakpoint_of_line, condition_said,
+    hits_said,
+};
 use ga_grid::NodeId;
 use ga_notes::{Name, Notes};
 use ga_protocol::{number_at, text_at};
@@ -21,6 +24,19 @@ use serde_json::Value;
 pub struct FoundPlace {
     pub breakpoint: Breakpoint,
     pub line: Option<u32>,
+}
+
+/// Why a breakpoint that is asked for is not set.
+#[derive(Clone, Copy, PartialEq, Eq, Debug)]
+pub enum Unplaced {
+    /// There is no such place.
+    Nowhere,
+    /// Its condition is none.
+    Condition,
+    /// Its hit condition is none.
+    Hits,
+    /// Hits are counted of so many already as may be.
+    Uncounted,
 }
 
 /// Where a breakpoint that is asked for stands; none where there is no such place.
@@ -36,7 +52,7 @@ pub fn found(program: &Debuggee, family: Family, asked: &Value) -> Option<FoundP
 }
 
 /// Why there is no such place.
-pub fn unfound(family: Family) -> &'static str
+fn unfound(family: Family) -> &'static str
     ensures { result.now ≡ unfound_words family }
 {
     match family {
@@ -44,6 +60,101 @@ pub fn unfound(family: Family) -> &'static str
         Family::Function => "no node has this label",
         Family::Instruction => "no such memory",
         Family::Data => "no such cell of RAM",
+    }
+}
+
+/// Why a breakpoint is not set.
+pub fn unplaced_reason(family: Family, why: Unplaced) -> &'static str
+    ensures { result.now ≡ unplaced_words family why }
+{
+    match why {
+        Unplaced::Nowhere => unfound(family),
+        Unplaced::Condition =>
+            "condition: a register or [HH], then = != < <= > or >=, then a number",
+        Unplaced::Hits => "hitCondition: N, >= N or % N, from 1 on",
+        Unplaced::Uncounted => "hitCondition: hits are counted of 64 breakpoints at most",
+    }
+}
+
+/// With the condition that a text says.
+fn on_condition(place: FoundPlace, text: &[u8]) -> Result<FoundPlace, Unplaced>
+    ensures { result ≡ on_condition place (condition_said text.now) }
+{
+    match condition_said(text) {
+        Some(condition) => Ok(FoundPlace {
+            breakpoint: Breakpoint {
+                condition: Some(condition),
+                ..place.breakpoint
+            },
+            ..place
+        }),
+        None => Err(Unplaced::Condition),
+    }
+}
+
+/// With the condition that is asked for, where one is.
+fn with_condition(place: FoundPlace, asked: &Value) -> Result<FoundPlace, Unplaced>
+    ensures { result ≡ with_condition place (member_text (codes "condition") (view asked.now)) }
+{
+    match text_at(asked, "condition") {
+        Some(text) => on_condition(place, text.as_bytes()),
+        None => Ok(place),
+    }
+}
+
+/// With the hits that a text says, where so many breakpoints stand before it.
+fn on_hits(place: FoundPlace, before: usize, text: &[u8]) -> Result<FoundPlace, Unplaced>
+    ensures { result ≡ on_hits place before (hits_said text.now) }
+{
+    match hits_said(text) {
+        Some(hits) => {
+            if before < COUNTED {
+                Ok(FoundPlace {
+                    breakpoint: Breakpoint {
+                        hits: Some(hits),
+                        ..place.breakpoint
+                    },
+                    ..place
+                })
+            } else {
+                Err(Unplaced::Uncounted)
+            }
+        }
+        None => Err(Unplaced::Hits),
+    }
+}
+
+/// With the hits that are asked for, where any are.
+fn with_hits(place: FoundPlace, before: usize, asked: &Value) -> Result<FoundPlace, Unplaced>
+    ensures { result ≡ with_hits place before (member_text (codes "hitCondition") (view asked.now)) }
+{
+    match text_at(asked, "hitCondition") {
+        Some(text) => on_hits(place, before, text.as_bytes()),
+        None => Ok(place),
+    }
+}
+
+/// At a place, where its condition and its hit condition can be read.
+fn asked_there(place: FoundPlace, before: usize, asked: &Value) -> Result<FoundPlace, Unplaced>
+    ensures { result ≡ asked_there place before (view asked.now) }
+{
+    match with_condition(place, asked) {
+        Ok(place) => with_hits(place, before, asked),
+        Err(why) => Err(why),
+    }
+}
+
+/// The breakpoint that is asked for, where so many stand before it; else why it is not set.
+pub fn asked_at(
+    found: Option<FoundPlace>,
+    before: usize,
+    asked: &Value,
+) -> Result<FoundPlace, Unplaced>
+    ensures { result ≡ asked_at found before (view asked.now) }
+{
+    match found {
+        Some(place) => asked_there(place, before, asked),
+        None => Err(Unplaced::Nowhere),
     }
 }
 
@@ -209,6 +320,8 @@ fn on_writes(at: (NodeId, u8)) -> Option<Breakpoint>
         Some(Breakpoint {
             node: at.0,
             watched: Watched::Writes(at.1),
+            condition: None,
+            hits: None,
         })
     } else {
         None

@@ -1,7 +1,8 @@
 //! What was launched, and the requests of it that make no event and take none back.
 
 ghost use Rattle.std.specs.Prelude.{◌≡◌, codes, OnOk, OnErr};
-ghost use Rattle.ga_requests.specs.Requests.{DoesInPlace};
+ghost use Rattle.ga_requests.specs.Breakpoints.{SetsFilters, SetsLines, SetsPoints};
+ghost use Rattle.ga_requests.specs.Requests.{Sets, DoesInPlace};
 ghost use Rattle.ga_responses.specs.Sending.{Sends, SendsAll, Messages, refused_response};
 
 use crate::breakpoints::{set_filters, set_lines, set_points};
@@ -24,6 +25,53 @@ pub struct Launched {
     pub execution: Execution,
 }
 
+/// `setBreakpoints`. Hits are counted anew.
+fn set_lines_of(
+    alloc: Global,
+    launched: &mut Launched,
+    request: &ClientRequest,
+    out: &mut Outbox,
+) -> Result<(), AllocError>
+    ensures sent { OnOk result ((messages : Messages) × Sets (SetsLines launched.old.program launched.old.settings request.now) launched.old messages launched.new × SendsAll out.old messages out.new) }
+    ensures kept { OnErr result (launched.new ≡ launched.old) }
+{
+    let settings = &mut launched.settings;
+    set_lines(alloc, &launched.program, settings, request, out)?;
+    launched.execution.tally = None;
+    Ok(())
+}
+
+/// The same of breakpoints that stand on no line.
+fn set_points_of(
+    alloc: Global,
+    launched: &mut Launched,
+    family: Family,
+    request: &ClientRequest,
+    out: &mut Outbox,
+) -> Result<(), AllocError>
+    ensures sent { OnOk result ((messages : Messages) × Sets (SetsPoints launched.old.program family launched.old.settings request.now) launched.old messages launched.new × SendsAll out.old messages out.new) }
+    ensures kept { OnErr result (launched.new ≡ launched.old) }
+{
+    let settings = &mut launched.settings;
+    set_points(alloc, &launched.program, settings, family, request, out)?;
+    launched.execution.tally = None;
+    Ok(())
+}
+
+/// The same of filters.
+fn set_filters_of(
+    launched: &mut Launched,
+    request: &ClientRequest,
+    out: &mut Outbox,
+) -> Result<(), AllocError>
+    ensures sent { OnOk result ((messages : Messages) × Sets (SetsFilters launched.old.settings request.now) launched.old messages launched.new × SendsAll out.old messages out.new) }
+    ensures kept { OnErr result (launched.new ≡ launched.old) }
+{
+    set_filters(&mut launched.settings, request, out)?;
+    launched.execution.tally = None;
+    Ok(())
+}
+
 /// Answers a request that makes no event and takes none back.
 pub fn answer_in_place(
     alloc: Global,
@@ -36,45 +84,18 @@ pub fn answer_in_place(
     ensures kept { OnErr result (launched.new ≡ launched.old) }
 {
     match command {
-        RequestName::SetBreakpoints => set_lines(
-            alloc,
-            &launched.program,
-            &mut launched.settings,
-            request,
-            out,
-        ),
+        RequestName::SetBreakpoints => set_lines_of(alloc, launched, request, out),
         RequestName::SetFunctionBreakpoints => {
-            set_points(
-                alloc,
-                &launched.program,
-                &mut launched.settings,
-                Family::Function,
-                request,
-                out,
-            )
+            set_points_of(alloc, launched, Family::Function, request, out)
         }
         RequestName::SetInstructionBreakpoints => {
-            set_points(
-                alloc,
-                &launched.program,
-                &mut launched.settings,
-                Family::Instruction,
-                request,
-                out,
-            )
+            set_points_of(alloc, launched, Family::Instruction, request, out)
         }
         RequestName::SetDataBreakpoints => {
-            set_points(
-                alloc,
-                &launched.program,
-                &mut launched.settings,
-                Family::Data,
-                request,
-                out,
-            )
+            set_points_of(alloc, launched, Family::Data, request, out)
         }
         RequestName::DataBreakpointInfo => tell_data_info(alloc, request, out),
-        RequestName::SetExceptionBreakpoints => set_filters(&mut launched.settings, request, out),
+        RequestName::SetExceptionBreakpoints => set_filters_of(launched, request, out),
         RequestName::ConfigurationDone => configure(
             alloc,
             &launched.program,

@@ -40,6 +40,7 @@ pub fn begin_continue(
     let body = continued(alloc)?;
     out.respond(request, body)?;
     execution.goal = Some(Goal::Continue);
+    execution.tally = None;
     Ok(())
 }
 
@@ -183,6 +184,7 @@ fn begin(
 {
     out.acknowledge(request)?;
     execution.goal = Some(Goal::Step(stepping));
+    execution.tally = None;
     Ok(())
 }
 

@@ -7,7 +7,7 @@ ghost use Rattle.ga_requests.specs.Placing.{Placement, IsPlaceOf, unverified_obj
 ghost use Rattle.ga_requests.specs.kept.Placings.{placement_of};
 
 use crate::configuration::{Family, SetBy};
-use crate::finding::{FoundPlace, found, unfound};
+use crate::finding::{FoundPlace, Unplaced, asked_at, found, unplaced_reason};
 use ga_breakpoints::Breakpoint;
 use ga_responses::Debuggee;
 use serde_json::{Value, json, push};
@@ -79,13 +79,13 @@ fn told_placed(
     program: &Debuggee,
     family: Family,
     id: u64,
-    found: Option<FoundPlace>,
+    found: Result<FoundPlace, Unplaced>,
 ) -> Result<Value, AllocError>
     ensures { IfOk result (λ v. view v ≡ told_placed program.now family id found) }
 {
     match found {
-        Some(found) => verified_on(alloc, program, id, found.line),
-        None => unverified(alloc, id, unfound(family)),
+        Ok(found) => verified_on(alloc, program, id, found.line),
+        Err(why) => unverified(alloc, id, unplaced_reason(family, why)),
     }
 }
 
@@ -94,13 +94,13 @@ fn add_found(
     placed: &mut Vec<SetBy>,
     family: Family,
     id: u64,
-    found: Option<FoundPlace>,
+    found: Result<FoundPlace, Unplaced>,
 ) -> Result<(), AllocError>
     ensures { OnOk result (placed.new.items ≡ placed.old.items ++ set_by family id found) }
 {
     match found {
-        Some(found) => add_one(placed, family, id, found.breakpoint),
-        None => Ok(()),
+        Ok(found) => add_one(placed, family, id, found.breakpoint),
+        Err(_) => Ok(()),
     }
 }
 
@@ -125,7 +125,7 @@ fn place_found(
     alloc: Global,
     program: &Debuggee,
     family: Family,
-    found: Option<FoundPlace>,
+    found: Result<FoundPlace, Unplaced>,
     placing: &mut Placing,
 ) -> Result<(), AllocError>
     ensures { OnOk result (placement_of placing.new ≡ placed_next program.now family found (placement_of placing.old)) }
@@ -149,7 +149,8 @@ fn place_one(
     ensures { OnOk result (PlacesOne program.now family (view asked.now) (placement_of placing.old) (placement_of placing.new)) }
 {
     let found = found(program, family, asked);
-    place_found(alloc, program, family, found, placing)
+    let asked = asked_at(found, placing.placed.len(), asked);
+    place_found(alloc, program, family, asked, placing)
 }
 
 /// Sets each breakpoint that is asked for where it can stand, and tells of it.

@@ -9,11 +9,10 @@ ghost use Rattle.ga_requests.specs.Stopping.{fault_words, fault_message, stop_me
 
 use crate::configuring::first_of;
 use crate::execution::StopReason;
-use ga_adapter::exception_info;
 use ga_grid::NodeId;
 use ga_lab::LabFault;
 use ga_protocol::{Outbox, text_at};
-use ga_responses::{Debuggee, tell_hit, tell_stopped};
+use ga_responses::{Debuggee, exception_info, tell_hit, tell_stopped};
 use serde_json::Value;
 use std::alloc::{AllocError, Global};
 

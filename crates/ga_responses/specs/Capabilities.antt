@@ -35,10 +35,10 @@ can name rest = member name (boolean true) rest
 -- what this debugger can do
 unfoldable pub capabilities : Data → Data
 capabilities faults =
-    object (member (codes "exceptionBreakpointFilters") faults (can (codes "supportsConfigurationDoneRequest") (can (codes "supportsDataBreakpoints")
+    object (member (codes "exceptionBreakpointFilters") faults (can (codes "supportsConditionalBreakpoints") (can (codes "supportsConfigurationDoneRequest") (can (codes "supportsDataBreakpoints")
     (can (codes "supportsDisassembleRequest") (can (codes "supportsEvaluateForHovers") (can (codes "supportsExceptionInfoRequest")
-    (can (codes "supportsFunctionBreakpoints") (can (codes "supportsInstructionBreakpoints") (can (codes "supportsStepBack")
-    (can (codes "supportsSteppingGranularity") (can (codes "supportsTerminateRequest") no_members)))))))))))
+    (can (codes "supportsFunctionBreakpoints") (can (codes "supportsHitConditionalBreakpoints") (can (codes "supportsInstructionBreakpoints") (can (codes "supportsStepBack")
+    (can (codes "supportsSteppingGranularity") (can (codes "supportsTerminateRequest") no_members)))))))))))))
 
 abbrev pub AnswersInitialize : ClientRequest → Message → Type 0
 AnswersInitialize request message =

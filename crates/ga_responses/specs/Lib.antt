@@ -6,6 +6,8 @@ pub mod Launching
 pub mod Events
 pub mod Capabilities
 pub mod Readings
+pub mod Evaluating
+pub mod Exceptions
 pub mod Disassembling
 pub mod Watching
 pub mod kept

@@ -2,17 +2,17 @@
 -- what each is answered. The machine stays.
 use Rattle.std.specs.Prelude.{◌≡◌, ℕ, Bool, List, codes, Option, Some, None}
 use Rattle.serde_json.specs.View.{view}
-use Rattle.ga_search.specs.Freed.{IsSubset}
+use Rattle.ga_races.specs.Freed.{IsSubset}
 use Rattle.ga_node.specs.Record.{NodeRecord}
 use Rattle.ga_grid.specs.declared.node_id.NodeId.{NodeId}
 use Rattle.ga_lab.specs.Machine.{chip_of}
-use Rattle.ga_search.specs.Stuck.{AreStuck}
+use Rattle.ga_races.specs.Stuck.{AreStuck}
 use Rattle.ga_adapter.specs.declared.frames.SourceFile.{SourceFile}
 use Rattle.ga_adapter.specs.declared.scope.Scope.{Scope}
 use Rattle.ga_adapter.specs.Threads.{threads_in}
 use Rattle.ga_adapter.specs.Frames.{stack_trace}
 use Rattle.ga_adapter.specs.Variables.{scopes_of, variables_in}
-use Rattle.ga_adapter.specs.Exceptions.{exception_of}
+use Rattle.ga_responses.specs.Exceptions.{exception_of}
 use Rattle.ga_protocol.specs.declared.request.ClientRequest.{ClientRequest}
 use Rattle.ga_responses.specs.declared.debuggee.Debuggee.{Debuggee}
 use Rattle.ga_responses.specs.Arguments.{AsksOfThread, AsksOfFrame, AsksForVariables, number_given_or}

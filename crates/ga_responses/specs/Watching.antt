@@ -6,7 +6,7 @@ use Rattle.ga_text.specs.Lines.{Text}
 use Rattle.ga_text.specs.Names.{name_of_node}
 use Rattle.ga_text.specs.Digits.{hex2_of}
 use Rattle.ga_grid.specs.declared.node_id.NodeId.{NodeId}
-use Rattle.ga_adapter.specs.Evaluating.{cell_in_brackets}
+use Rattle.ga_responses.specs.Evaluating.{cell_in_brackets}
 use Rattle.ga_adapter.specs.Numbers.{chip_address}
 use Rattle.ga_adapter.specs.Variables.{memory_reference}
 use Rattle.ga_adapter.specs.declared.scope.Scope.{Scope}

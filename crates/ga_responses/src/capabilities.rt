@@ -33,12 +33,14 @@ fn capabilities(alloc: Global, filters: Value) -> Result<Value, AllocError>
 {
     json!(in alloc; {
         "exceptionBreakpointFilters": filters,
+        "supportsConditionalBreakpoints": true,
         "supportsConfigurationDoneRequest": true,
         "supportsDataBreakpoints": true,
         "supportsDisassembleRequest": true,
         "supportsEvaluateForHovers": true,
         "supportsExceptionInfoRequest": true,
         "supportsFunctionBreakpoints": true,
+        "supportsHitConditionalBreakpoints": true,
         "supportsInstructionBreakpoints": true,
         "supportsStepBack": true,
         "supportsSteppingGranularity": true,

@@ -7,8 +7,9 @@ ghost use Rattle.ga_responses.specs.Readings.{TellsVariables, AnswersThreads, An
 
 use crate::arguments::{framed_node_asked, node_asked, number_given_or, scope_asked};
 use crate::debuggee::Debuggee;
+use crate::exceptions::exception_info;
 use crate::stuck::is_stuck;
-use ga_adapter::{Scope, exception_info, scopes, stack_trace, threads, variables};
+use ga_adapter::{Scope, scopes, stack_trace, threads, variables};
 use ga_grid::NodeId;
 use ga_protocol::{ClientRequest, Outbox};
 use std::alloc::{AllocError, Global};

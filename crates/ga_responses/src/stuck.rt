@@ -4,7 +4,7 @@ ghost use Rattle.ga_grid.specs.Chip.{records_of};
 ghost use Rattle.ga_responses.specs.Readings.{TellsStuck};
 
 use ga_grid::{Chip, NodeId};
-use ga_search::find_stuck;
+use ga_races::find_stuck;
 
 /// Whether a node can never go on.
 pub fn is_stuck(chip: &Chip, node: NodeId) -> bool

@@ -5,7 +5,7 @@ ghost use Rattle.serde_json.specs.View.{view};
 ghost use Rattle.hex.specs.Hex.{encode_lower};
 ghost use Rattle.ga_word.specs.Word.{hex6_of};
 ghost use Rattle.ga_text.specs.Digits.{hex2_of};
-ghost use Rattle.ga_adapter.specs.Evaluating.{cell_in_brackets};
+ghost use Rattle.ga_responses.specs.Evaluating.{cell_in_brackets};
 ghost use Rattle.ga_adapter.specs.Variables.{memory_reference};
 ghost use Rattle.ga_adapter.specs.declared.scope.Scope.TheVariants.{Ram};
 ghost use Rattle.ga_adapter.specs.declared.variable.Variable.TheVariants.{Cell};

@@ -1,12 +1,8 @@
--- Lists that are the same in each place, and marks that are put one after another.
-use Rattle.std.proofs.Common.{◌≡◌, ◌↔◌, ℕ, ◌+◌, ◌<◌, Bool, true, false, List, length, get_or, set, IsTrue, refl, sym, ◌∙◌, subst, inl, inr, arith, get_or-set_other}
-use Rattle.std.proofs.lemmas.List.{ext_get_or}
+-- Marks that are put one after another.
+use Rattle.std.proofs.Common.{◌≡◌, ◌↔◌, ℕ, ◌+◌, ◌<◌, Bool, true, false, List, length, set, IsTrue, sym, ◌∙◌, subst, inl, inr, arith, get_or-set_other}
 use Rattle.std.proofs.lemmas.Bool.{cases_eq}
 use Rattle.std.proofs.lemmas.Grind.{get_or-set_at}
 use Rattle.ga_causal.specs.Dependence.{is_marked}
-
-pub same_lists : (xs ys : List ℕ) (n : ℕ) → length xs ≡ n → length ys ≡ n → ((k : ℕ) → k < n → get_or xs k 0 ≡ get_or ys k 0) → xs ≡ ys
-same_lists xs ys n a b h = ext_get_or 0 xs ys (a ∙ sym b) (λ k l. h k (subst (λ (z : ℕ). k < z) a l))
 
 -- the nodes below a number are marked where this holds of them, and so is one more
 pub marked_more : (marks : List Bool) (number at : ℕ) (b : Bool) (P : ℕ → Type 0) → length marks ≡ 144 → number < 144 → at ≡ number

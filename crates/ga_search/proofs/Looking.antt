@@ -20,15 +20,10 @@ use Rattle.ga_event.specs.declared.made.Made.{Made}
 use Rattle.ga_event.specs.declared.made.Made.TheVariants as made
 use Rattle.ga_search.specs.declared.numbers.Numbers.{Numbers}
 use Rattle.ga_search.specs.kept.Numbers.{has}
-use Rattle.ga_search.specs.Ready.{can_go}
+use Rattle.ga_races.specs.Ready.{can_go}
 use Rattle.ga_search.specs.kept.Ready.{IsRight, HoldsReady, StaysRight, IsRightAround, IsRefreshed}
-use Rattle.ga_search.proofs.Nexts.{near_or_same, runs_on}
+use Rattle.ga_races.proofs.Nexts.{near_or_same, runs_on}
 use Rattle.ga_journal.proofs.Parts.{two_touched as pass_touched}
-
-pub can_go_is : (chip : List NodeRecord) (node : NodeId) → can_go chip node.number ≡ is_ok (next chip node)
-can_go_is chip node =
-    ap (λ b. b && is_ok (next chip (node_id node.number))) (lt-ltb node.number 144 node.in_range)
-    ∙ ap (λ z. is_ok (next chip z)) (node_id-number node)
 
 pub none_past : (chip : List NodeRecord) (n : ℕ) → 144 ≤ n → can_go chip n ≡ false
 none_past chip n l = ap (λ b. b && is_ok (next chip (node_id n))) (le-ltb n 144 l)

@@ -30,7 +30,7 @@ guarded true x h = h refl
 guarded false x h = refl
 
 -- Where more is needed, what was needed is.
-pub covers_more : (a b : Needs) (one : Condition) → Covers a one → a.opcodes ≤ b.opcodes → (a.fetches ≡ true → b.fetches ≡ true) → Covers b one
+pub covers_more : (a b : Needs) (one : Condition) → Covers a one → a.opcodes ≤ b.opcodes → (a.slot ≡ 4 → b.slot ≡ 4) → Covers b one
 covers_more a b Never h more fetches = tt
 covers_more a b (Passes writer reader word) h more fetches = tt
 covers_more a b (PassesNumber writer reader number) h more fetches = tt
@@ -44,7 +44,7 @@ covers_more a b (Reaches node address) h more fetches = fetches h
 covers_more a b (Writes node address word) h more fetches = omega (arith, h, more)
 
 pub needed_more : (a b : Needs) (until : List Condition) (n : ℕ) (next : Condition) → slice_get until n ≡ Some next → Covers b next
-    → a.opcodes ≤ b.opcodes → (a.fetches ≡ true → b.fetches ≡ true)
+    → a.opcodes ≤ b.opcodes → (a.slot ≡ 4 → b.slot ≡ 4)
     → ((k : ℕ) (one : Condition) → slice_get until k ≡ Some one → k < n → Covers a one)
     → (k : ℕ) (one : Condition) → slice_get until k ≡ Some one → k < n + 1 → Covers b one
 needed_more a b until n next is here more fetches before k one at l = elim (cases_lt k n) [
@@ -77,13 +77,12 @@ stores_none needs cell before n (kind.Run code) many off =
 stores_none needs cell before n kind.Wait many off = refl
 stores_none needs cell before n (kind.Stop code) many off = refl
 
-not_before : (f s : Bool) → f ≡ true → not (f && s) ≡ true → s ≡ false
-not_before true s h off = not-true s off
-not_before false s h off = absurd (true≢false (sym h))
+not_due : (needs : Needs) (n : NodeRecord) → needs.slot ≡ 4 → not (may_fetch needs n) ≡ true → (n.slot == 4) ≡ false
+not_due needs n h off = subst (λ (z : ℕ). (n.slot == z) ≡ false) h (not-true (n.slot == needs.slot) off)
 
-fetches_not : (needs : Needs) (n : NodeRecord) (what : Kind) → needs.fetches ≡ true → lacks needs n what ≡ true → (n.slot == 4) ≡ false
-fetches_not needs n kind.Fetch h off = not_before needs.fetches (n.slot == 4) h (both (nat_lt needs.opcodes 256) (not (may_fetch needs n)) off).1
-fetches_not needs n (kind.Run code) h off = not_before needs.fetches (n.slot == 4) h (both (not (is_one_of needs.opcodes code)) (not (may_fetch needs n)) off).1
+fetches_not : (needs : Needs) (n : NodeRecord) (what : Kind) → needs.slot ≡ 4 → lacks needs n what ≡ true → (n.slot == 4) ≡ false
+fetches_not needs n kind.Fetch h off = not_due needs n h (both (nat_lt needs.opcodes 256) (not (may_fetch needs n)) off).1
+fetches_not needs n (kind.Run code) h off = not_due needs n h (both (not (is_one_of needs.opcodes code)) (not (may_fetch needs n)) off).1
 fetches_not needs n kind.Wait h off = absurd (true≢false (sym off))
 fetches_not needs n (kind.Stop code) h off = absurd (true≢false (sym off))
 

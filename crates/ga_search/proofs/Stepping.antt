@@ -22,11 +22,11 @@ use Rattle.ga_lab.specs.Machine.{State, chip_of, told_next, answer_to, step_answ
 use Rattle.ga_lab.proofs.Called.{Runs, runs_of, chip_is}
 use Rattle.ga_search.specs.declared.numbers.Numbers.{Numbers}
 use Rattle.ga_search.specs.kept.Numbers.{has}
-use Rattle.ga_search.specs.Ready.{can_go, first_in}
+use Rattle.ga_races.specs.Ready.{can_go, first_in}
 use Rattle.ga_search.specs.kept.Ready.{HoldsReady, StaysRight, IsRefreshed}
 use Rattle.ga_search.specs.Running.{IsQuiet, IsRefusedFor}
 use Rattle.ga_search.proofs.Looking.{IsOf, refreshed, none_past}
-use Rattle.ga_search.proofs.Rounds.{first_same, none_of}
+use Rattle.ga_races.proofs.Ready.{first_same, none_of}
 
 -- the event of a step that was made
 pub record StepIs (s : State) (n : NodeId) (m : Made) : Type 0 where

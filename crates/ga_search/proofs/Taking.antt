@@ -1,6 +1,6 @@
 -- Telling what a rollback would take.
-use Rattle.std.proofs.Common.{◌≡◌, ◌≢◌, ℕ, zero, suc, ◌+◌, ◌-◌, ◌<◌, ◌≤◌, List, [], ◌∷◌, ◌++◌, Ok, Err, OnOk, refl, sym, ◌∙◌, ap, arith, append-nil, add-one, eq-eqb}
-use Rattle.std.specs.Prelude.{◌==◌, Result, slice_index}
+use Rattle.std.proofs.Common.{◌≡◌, ◌≢◌, ℕ, zero, suc, ◌+◌, ◌-◌, ◌<◌, ◌≤◌, List, [], ◌∷◌, ◌++◌, refl, sym, ◌∙◌, ap, arith, append-nil, add-one, eq-eqb}
+use Rattle.std.specs.Prelude.{◌==◌, slice_index}
 use Rattle.std.proofs.lemmas.Bool.{cond-true, cond-false, ne_eqb}
 use Rattle.ga_grid.specs.Grid.{node_id}
 use Rattle.ga_grid.specs.declared.node_id.NodeId.{NodeId}
@@ -41,11 +41,6 @@ told_some left all node steps first e some f =
 pub effects_step : (left all : ℕ → ℕ) (m n : ℕ) (items new : List RollbackEffect) → n ≡ m → items ≡ effects_below left all m → new ≡ items ++ effect_on left all n → new ≡ effects_below left all (m + 1)
 effects_step left all m n items new e h g =
     g ∙ ap (λ z. z ++ effect_on left all n) h ∙ ap (λ (z : ℕ). effects_below left all m ++ effect_on left all z) e ∙ sym (effects_more left all m)
-
--- what follows of a call that went well
-pub on_ok : {T E A B : Type 0} → (r : Result T E) → (A → B) → OnOk r A → OnOk r B
-on_ok (Ok x) f h = f h
-on_ok (Err e) f h = h
 
 -- nodes of which all would be left
 idle_one : (left all : ℕ → ℕ) (m : ℕ) → left m ≡ all m → effects_below left all (suc m) ≡ effects_below left all m

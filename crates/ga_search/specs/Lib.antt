@@ -1,16 +1,9 @@
 pub mod Schedules
 pub mod Conditions
-pub mod Near
-pub mod Ready
 pub mod Running
 pub mod Watched
 pub mod Backward
-pub mod Stuck
 pub mod Effects
-pub mod Freed
 pub mod Words
 pub mod kept
-pub mod Offered
 pub mod Idle
-pub mod Races
-pub mod Readings

@@ -1,14 +1,6 @@
 pub mod Counted
-pub mod Freed
-pub mod Idle
 pub mod Numbers
 pub mod Ready
 pub mod Needs
-pub mod Writers
-pub mod Readings
-pub mod Acts
 pub mod Backward
-pub mod Left
-pub mod Besides
-pub mod Around
-pub mod Glances
+pub mod Over

@@ -1,15 +1,11 @@
-//! How many words went over a link, and which nodes have one.
+//! How many words went over a link.
 
 ghost use Rattle.std.specs.Prelude.{◌≡◌, ◌≤◌};
-ghost use Rattle.ga_grid.specs.Grid.{neighbour_of};
-ghost use Rattle.ga_event.specs.Apply.{is_number};
-ghost use Rattle.ga_search.specs.Near.{are_linked};
 ghost use Rattle.ga_search.specs.Words.{is_over, one_over, word_count};
 
 use crate::words::ends::{end_of, is_shorter};
-use ga_grid::{NodeId, neighbour};
+use ga_grid::NodeId;
 use ga_lab::{Lab, Made};
-use ga_ports::Side;
 
 // Whether the event carried a word over the link.
 pub(crate) fn is_over(made: &Made, writer: NodeId, reader: NodeId) -> bool
@@ -46,25 +42,4 @@ pub fn count_words(lab: &Lab, writer: NodeId, reader: NodeId) -> u32
         }
     }
     words
-}
-
-// Whether the other node stands on this side of the first.
-fn is_beside(node: NodeId, side: Side, other: NodeId) -> bool
-    ensures { result ≡ is_number (neighbour_of node.number side) other.number }
-{
-    match neighbour(node, side) {
-        Some(beside) => beside.number == other.number,
-        None => false,
-    }
-}
-
-/// Whether two nodes are neighbours, so that words can go between them.
-pub fn are_linked(node: NodeId, other: NodeId) -> bool
-    ensures { result ≡ are_linked node.number other.number }
-{
-    let right = is_beside(node, Side::Right, other);
-    let down = is_beside(node, Side::Down, other);
-    let left = is_beside(node, Side::Left, other);
-    let up = is_beside(node, Side::Up, other);
-    right || (down || (left || up))
 }

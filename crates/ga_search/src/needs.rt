@@ -18,13 +18,18 @@ const STORES: u32 = 4;
 // So many opcodes are all that a code can tell.
 const ALL: u32 = 256;
 
+// The slot where a fetch is due, and one that no node has.
+const FETCH_DUE: u32 = 4;
+
+const NO_SLOT: u32 = 5;
+
 /// What an own event needs: to be a wait or a stop, or one of these.
 #[derive(Clone, Copy)]
 pub(crate) struct Needs {
     // One of so many opcodes from `!p` on; of all of them a fetch does too.
     opcodes: u32,
-    // Any after which its node fetches next.
-    fetches: bool,
+    // Any after which this slot of its node is next.
+    slot: u32,
 }
 
 impl Needs {
@@ -37,11 +42,11 @@ impl Needs {
     fn with(self, condition: &Condition) -> Self
         ensures covers { Covers result condition.now }
         ensures opcodes { self.opcodes ≤ result.opcodes }
-        ensures fetches { self.fetches ≡ true → result.fetches ≡ true }
+        ensures fetches { self.slot ≡ 4 → result.slot ≡ 4 }
     {
         match condition {
             Condition::Reaches { .. } => Needs {
-                fetches: true,
+                slot: FETCH_DUE,
                 ..self
             },
             Condition::Writes { .. } => self.with_opcodes(STORES),
@@ -61,7 +66,7 @@ impl Needs {
     fn with_opcodes(self, opcodes: u32) -> Self
         ensures asked { opcodes ≤ result.opcodes }
         ensures opcodes { self.opcodes ≤ result.opcodes }
-        ensures fetches { result.fetches ≡ self.fetches }
+        ensures fetches { result.slot ≡ self.slot }
     {
         if self.opcodes < opcodes {
             Needs { opcodes, ..self }
@@ -83,7 +88,7 @@ impl Needs {
     fn may_fetch(&self, lab: &Lab, node: NodeId) -> bool
         ensures { result ≡ may_fetch self.now (record_at (chip_of lab.now) node.number) }
     {
-        self.fetches && slot_of(lab, node) == 4
+        slot_of(lab, node) == self.slot
     }
 
     // Whether an opcode lacks what it needs.
@@ -125,7 +130,7 @@ pub(crate) fn needs_of(until: &[Condition]) -> Needs
 {
     let mut needs = Needs {
         opcodes: 0,
-        fetches: false,
+        slot: NO_SLOT,
     };
     for condition in until {
         needs = needs.with(condition);

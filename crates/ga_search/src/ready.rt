@@ -4,7 +4,7 @@ ghost use Rattle.std.specs.Prelude.{◌≡◌, ◌<◌, ◌≤◌, ℕ, true, fa
 ghost use Rattle.ga_grid.specs.Chip.{records_of};
 ghost use Rattle.ga_grid.specs.Grid.{neighbour_of};
 ghost use Rattle.ga_search.specs.kept.Numbers.{has};
-ghost use Rattle.ga_search.specs.Ready.{first_in};
+ghost use Rattle.ga_races.specs.Ready.{first_in};
 ghost use Rattle.ga_search.specs.kept.Ready.{IsRight, HoldsReady, StaysRight, IsRightAround, IsRefreshed, IsAlone};
 
 use crate::numbers::Numbers;
@@ -33,6 +33,7 @@ fn look_beside(ready: &mut Numbers, chip: &Chip, node: NodeId, side: Side)
 }
 
 // Looks at a node and its neighbours.
+#[inline(never)]
 fn look_around(ready: &mut Numbers, chip: &Chip, node: NodeId)
     ensures around { IsRightAround (records_of chip.now) ready.new node.number }
     ensures kept { StaysRight (records_of chip.now) ready.old ready.new }
@@ -56,6 +57,7 @@ pub(crate) fn ready_nodes(chip: &Chip) -> Numbers
 }
 
 // Looks at what an event that was made may have changed. Then it isn't known any more that one node is alone.
+#[inline(always)]
 pub(crate) fn refresh(ready: &mut Numbers, alone: &mut Option<NodeId>, chip: &Chip, made: &Made)
     ensures around { IsRefreshed (records_of chip.now) made.now ready.new }
     ensures kept { StaysRight (records_of chip.now) ready.old ready.new }
@@ -103,6 +105,7 @@ pub(crate) fn first_from(ready: &Numbers, turn: NodeId) -> Option<NodeId>
 }
 
 // The same where none from the turn on is in the set. One that is found right before the turn is alone.
+#[inline(never)]
 fn first_before(ready: &Numbers, alone: &mut Option<NodeId>, turn: NodeId) -> Option<NodeId>
     requires past { (n : ℕ) → 144 ≤ n → n < 192 → has ready.now n ≡ false }
     requires alone { IfSome alone.old (IsAlone ready.now) }

@@ -1,15 +1,15 @@
 //! Events in the order of a schedule.
 
-ghost use Rattle.std.specs.Prelude.{◌≡◌, ◌≤◌, ◌+◌, ℕ, length, Ok, IfOk, IfErr, IfSome, IsSome, OnOk, OnErr, Some};
+ghost use Rattle.std.specs.Prelude.{◌≡◌, ◌≤◌, ◌+◌, ℕ, length, Ok, Err, IfOk, IfErr, IfSome, IsSome, IsOk, OnOk, OnErr, Some, None, ◌⊎◌, ◌<◌, ◌^◌};
 ghost use Rattle.ga_event.specs.Apply.{replay};
 ghost use Rattle.ga_lab.specs.Machine.{chip_of, step_answer, stepped};
 ghost use Rattle.ga_search.specs.Words.{one_over, word_count};
 ghost use Rattle.ga_search.specs.kept.Ready.{HoldsReady, IsAlone};
 ghost use Rattle.ga_search.specs.kept.Counted.{AreCounted, newest_told};
 ghost use Rattle.ga_search.specs.kept.Needs.{IsNeeded};
-ghost use Rattle.ga_search.specs.Conditions.{first_held};
 ghost use Rattle.ga_search.specs.Schedules.{passed_on};
-ghost use Rattle.ga_search.specs.Running.{running, told, run_moved, after_events, AreMade, IsRefusedFor, IsHalted, HasEnded};
+ghost use Rattle.ga_search.specs.kept.Over.{IsOver, events_at};
+ghost use Rattle.ga_search.specs.Running.{running, told, run_moved, held_next, after_events, AreMade, IsRefusedFor, HasEnded};
 
 use crate::condition::Condition;
 use crate::needs::{Needs, needs_of};
@@ -45,7 +45,21 @@ pub struct Ran {
     pub schedule: Schedule,
 }
 
-// Makes this node's next event, and looks at what that may have changed.
+// A node's next event: by a step that stands where this is called, or by a call of it.
+#[inline(always)]
+fn step_once(lab: &mut Lab, node: NodeId, is_here: bool) -> Result<Made, LabFault>
+    ensures answer { (result ≡ step_answer lab.old node) ⊎ ((result ≡ Err LabFault.Memory) × IsOk (step_answer lab.old node)) }
+    ensures ok { OnOk result (lab.new ≡ stepped lab.old node) }
+    ensures err { OnErr result (lab.new ≡ lab.old) }
+{
+    if is_here {
+        lab.step_inlined(node)
+    } else {
+        lab.step(node)
+    }
+}
+
+// Makes this node's next event, by such a step, and looks at what that may have changed.
 #[inline(always)]
 pub(crate) fn make(
     lab: &mut Lab,
@@ -53,6 +67,7 @@ pub(crate) fn make(
     alone: &mut Option<NodeId>,
     schedule: &mut Schedule,
     node: NodeId,
+    is_here: bool,
 ) -> Result<Made, LabFault>
     requires ready { HoldsReady (chip_of lab.old) ready.old }
     requires alone { IfSome alone.old (IsAlone ready.old) }
@@ -70,7 +85,7 @@ pub(crate) fn make(
     ensures same { OnErr result (lab.new ≡ lab.old) }
     ensures stays { OnErr result (schedule.new ≡ schedule.old) }
 {
-    match lab.step_inlined(node) {
+    match step_once(lab, node, is_here) {
         Ok(made) => {
             *schedule = schedule.pass_on(node);
             refresh(ready, alone, lab.chip(), &made);
@@ -80,48 +95,12 @@ pub(crate) fn make(
     }
 }
 
-// The same, out of the way of a node that runs.
-fn make_by_wait(
-    lab: &mut Lab,
-    ready: &mut Numbers,
-    alone: &mut Option<NodeId>,
-    schedule: &mut Schedule,
-    node: NodeId,
-) -> Result<Made, LabFault>
-    requires ready { HoldsReady (chip_of lab.old) ready.old }
-    requires alone { IfSome alone.old (IsAlone ready.old) }
-    requires replays { IsSome (replay lab.old.load lab.old.kept) }
-    ensures ok { IfOk result (λ made. step_answer lab.old node ≡ Ok made) }
-    ensures state { OnOk result (lab.new ≡ stepped lab.old node) }
-    ensures schedule { OnOk result (schedule.new ≡ passed_on schedule.old node) }
-    ensures ready { OnOk result (HoldsReady (chip_of lab.new) ready.new) }
-    ensures alone { OnOk result (IfSome alone.new (IsAlone ready.new)) }
-    ensures words { IfOk result (λ made. (writer reader : ℕ) →
-        word_count lab.new writer reader ≡ word_count lab.old writer reader + one_over writer reader made) }
-    ensures newest { IfOk result (λ made. newest_told lab.new ≡ Some made) }
-    ensures replays { OnOk result (IsSome (replay lab.new.load lab.new.kept)) }
-    ensures refused { IfErr result (λ why. IsRefusedFor why (step_answer lab.old node)) }
-    ensures same { OnErr result (lab.new ≡ lab.old) }
-    ensures stays { OnErr result (schedule.new ≡ schedule.old) }
-{
-    match lab.step(node) {
-        Ok(made) => {
-            *schedule = schedule.pass_on(node);
-            refresh(ready, alone, lab.chip(), &made);
-            Ok(made)
-        }
-        Err(why) => Err(why),
-    }
-}
-
-// What was made, and the place of the first condition that holds right after it.
+// A run is over.
 #[derive(Clone, Copy)]
-struct Seen {
-    made: Made,
-    held: Option<u8>,
-}
+struct Over;
 
-// Makes the next event of the schedule, where nothing halts it. A node that runs goes on here, and any other out of the way.
+// Makes the next event of the schedule, where nothing halts it. Where the run is over with it, or before it, its end is told: so what
+// was made is kept only then. A node that runs goes on here, and any other out of the way.
 #[inline(always)]
 fn advance(
     lab: &mut Lab,
@@ -131,7 +110,8 @@ fn advance(
     until: &[Condition],
     needs: &Needs,
     words: &mut LinkCounts,
-) -> Result<Seen, End>
+    end: &mut End,
+) -> Result<(), Over>
     requires ready { HoldsReady (chip_of lab.old) ready.old }
     requires alone { IfSome alone.old (IsAlone ready.old) }
     requires replays { IsSome (replay lab.old.load lab.old.kept) }
@@ -139,39 +119,65 @@ fn advance(
     requires most { length until.now ≤ 8 }
     requires size { length words.old ≡ 8 }
     requires counted { AreCounted until.now lab.old words.old }
-    ensures told { IfOk result (λ seen. told (running lab.old schedule.old) ≡ Some seen.made) }
+    ensures made { OnOk result (IsSome (told (running lab.old schedule.old))) }
+    ensures unmet { OnOk result (held_next until.now (running lab.old schedule.old) ≡ None) }
     ensures moved { OnOk result (running lab.new schedule.new ≡ run_moved (running lab.old schedule.old)) }
-    ensures held { IfOk result (λ seen. seen.held ≡ first_held until.now seen.made lab.new) }
     ensures ready { OnOk result (HoldsReady (chip_of lab.new) ready.new) }
     ensures alone { OnOk result (IfSome alone.new (IsAlone ready.new)) }
     ensures replays { OnOk result (IsSome (replay lab.new.load lab.new.kept)) }
     ensures size { OnOk result (length words.new ≡ 8) }
     ensures counted { OnOk result (AreCounted until.now lab.new words.new) }
-    ensures halted { IfErr result (IsHalted (running lab.old schedule.old)) }
-    ensures same { OnErr result (lab.new ≡ lab.old) }
-    ensures stays { OnErr result (schedule.new ≡ schedule.old) }
+    ensures over { OnErr result (IsOver until.now (running lab.old schedule.old) (running lab.new schedule.new) end.new) }
 {
     match next_from(ready, alone, schedule.turn) {
         Some(node) => {
             if lab.node(node).not_ready().is_none() {
-                match make(lab, ready, alone, schedule, node) {
+                match make(lab, ready, alone, schedule, node, true) {
                     Ok(made) => {
-                        let held = first_held(until, needs, words, &made, lab);
-                        Ok(Seen { made, held })
+                        if let Some(which) = first_held(until, needs, words, &made, lab) {
+                            *end = End::Reached { made, which };
+                            return Err(Over);
+                        }
+                        Ok(())
                     }
-                    Err(why) => Err(End::Refused(why)),
+                    Err(why) => {
+                        *end = End::Refused(why);
+                        Err(Over)
+                    }
                 }
             } else {
-                match make_by_wait(lab, ready, alone, schedule, node) {
+                match make(lab, ready, alone, schedule, node, false) {
                     Ok(made) => {
-                        let held = first_held(until, needs, words, &made, lab);
-                        Ok(Seen { made, held })
+                        if let Some(which) = first_held(until, needs, words, &made, lab) {
+                            *end = End::Reached { made, which };
+                            return Err(Over);
+                        }
+                        Ok(())
                     }
-                    Err(why) => Err(End::Refused(why)),
+                    Err(why) => {
+                        *end = End::Refused(why);
+                        Err(Over)
+                    }
                 }
             }
         }
-        None => Err(End::Quiet),
+        None => {
+            *end = End::Quiet;
+            Err(Over)
+        }
+    }
+}
+
+// So many events, and one more where that is at the end.
+fn events_at(before: u64, end: End) -> u64
+    requires { before + 1 < 2 ^ 64 }
+    ensures { result ≡ events_at before end }
+{
+    match end {
+        End::Reached { .. } => before + 1,
+        End::Made => before,
+        End::Quiet => before,
+        End::Refused(_) => before,
     }
 }
 
@@ -190,6 +196,7 @@ pub fn run_schedule(lab: &mut Lab, mut schedule: Schedule, most: u64, until: &[C
     let needs = needs_of(until);
     let mut words = count_all(until, lab);
     let mut events = 0;
+    let mut end = End::Made;
     while events < most {
         match advance(
             lab,
@@ -199,22 +206,11 @@ pub fn run_schedule(lab: &mut Lab, mut schedule: Schedule, most: u64, until: &[C
             until,
             &needs,
             &mut words,
+            &mut end,
         ) {
-            Ok(seen) => {
-                if let Some(which) = seen.held {
-                    let end = End::Reached {
-                        made: seen.made,
-                        which,
-                    };
-                    return Ran {
-                        events: events + 1,
-                        end,
-                        schedule,
-                    };
-                }
-                events += 1;
-            }
-            Err(end) => {
+            Ok(()) => events += 1,
+            Err(Over) => {
+                let events = events_at(events, end);
                 return Ran {
                     events,
                     end,

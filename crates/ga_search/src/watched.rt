@@ -91,7 +91,7 @@ fn go(
     ensures stays { OnErr result (schedule.new ≡ schedule.old) }
 {
     match next_first(ready, alone, first, schedule, lab) {
-        Some(node) => match make(lab, ready, alone, schedule, node) {
+        Some(node) => match make(lab, ready, alone, schedule, node, true) {
             Ok(made) => Ok(made),
             Err(why) => Err(WatchedEnd::Refused(why)),
         },

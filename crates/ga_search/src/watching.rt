@@ -71,6 +71,19 @@ fn first_asked(until: &[Condition], words: &LinkCounts, made: &Made, lab: &Lab) 
     None
 }
 
+// The same of what is copied here: so it needn't be in memory where nothing is asked.
+#[inline(always)]
+fn first_seen(until: &[Condition], words: &LinkCounts, made: &Made, lab: &Lab) -> Option<u8>
+    requires most { length until.now ≤ 8 }
+    requires size { length words.now ≡ 8 }
+    requires counted { AreCounted until.now lab.now words.now }
+    requires newest { newest_told lab.now ≡ Some made.now }
+    ensures { result ≡ first_held until.now made.now lab.now }
+{
+    let seen = *made;
+    first_asked(until, words, &seen, lab)
+}
+
 // The same right after an event, where so many words were kept before, and it is known what an event needs.
 #[inline(always)]
 pub(crate) fn first_held(
@@ -92,14 +105,34 @@ pub(crate) fn first_held(
     if until.is_empty() {
         return None;
     }
+    first_among(until, needs, words, made, lab)
+}
+
+// The same where there are conditions: apart, since what it needs of memory is made ready where it begins.
+#[inline(always)]
+fn first_among(
+    until: &[Condition],
+    needs: &Needs,
+    words: &mut LinkCounts,
+    made: &Made,
+    lab: &Lab,
+) -> Option<u8>
+    requires needed { IsNeeded needs.now until.now }
+    requires most { length until.now ≤ 8 }
+    requires size { length words.old ≡ 8 }
+    requires counted { WereCounted until.now lab.now made.now words.old }
+    requires newest { newest_told lab.now ≡ Some made.now }
+    ensures first { result ≡ first_held until.now made.now lab.now }
+    ensures size { length words.new ≡ 8 }
+    ensures counted { AreCounted until.now lab.now words.new }
+{
     match made {
         // It carries no word.
         Made::Own { node, kind, .. } => {
             if needs.lacks(lab, *node, *kind) {
                 None
             } else {
-                let seen = *made;
-                first_asked(until, words, &seen, lab)
+                first_seen(until, words, made, lab)
             }
         }
         Made::Pass { .. } => {

@@ -1,11 +1,11 @@
 -- The words of each node with their lines, and the programs that are read of them.
 use Rattle.std.proofs.Common.{◌≡◌, ◌∙◌, ℕ, zero, suc, ◌<◌, ◌≤◌, ◌+◌, true, false, List, [], ◌∷◌, ◌++◌, length, take, drop, get_or, Some, arith, ap, sym, refl, subst}
-use Rattle.ga_source.specs.declared.item.Program.{Program}
-use Rattle.ga_source.specs.declared.scan.Token.{Token}
-use Rattle.ga_source.specs.Saying.{Said, all_said}
-use Rattle.ga_source.specs.Plain.{is_node, yxx_in}
+use Rattle.ga_source.specs.declared.program.Program.{Program}
+use Rattle.ga_parser.specs.declared.scan.Token.{Token}
+use Rattle.ga_parser.specs.Saying.{Said, all_said}
+use Rattle.ga_parser.specs.Plain.{is_node, yxx_in}
 use Rattle.ga_source.specs.Asks.{said_body, said_bodies, AsksFor, IsAsked, AreAskedBy}
-use Rattle.ga_source.specs.kept.Hearing.{texts_of}
+use Rattle.ga_parser.specs.kept.Hearing.{texts_of}
 use Rattle.ga_source.specs.kept.Programs.{AreAskedFirst}
 use Rattle.ga_source.proofs.Bodies.{name_is_other, drop_twice}
 

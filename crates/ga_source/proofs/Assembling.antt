@@ -3,12 +3,13 @@ use Rattle.std.specs.Prelude.{ℕ, ◌≡◌, List, Result, Ok, Err, IfOk, IfErr
 use Rattle.std.proofs.Common.{sym, subst}
 use Rattle.ga_grid.specs.Chip.{records_of}
 use Rattle.ga_grid.specs.Steady.{AreSteady}
-use Rattle.ga_source.specs.declared.fault.Fault.{Fault}
-use Rattle.ga_source.specs.declared.fault.SourceCause.TheVariants.{Memory}
+use Rattle.ga_parser.specs.declared.fault.Fault.{Fault}
+use Rattle.ga_parser.specs.declared.fault.SourceCause.TheVariants.{Memory}
 use Rattle.ga_source.specs.declared.program.Assembled.{Assembled}
-use Rattle.ga_source.specs.declared.scan.Token.{Token}
-use Rattle.ga_source.specs.Saying.{Said, said_in, all_said}
-use Rattle.ga_source.specs.Plain.{texts_in, bodies_in, AreOf, AreRead}
+use Rattle.ga_parser.specs.declared.scan.Token.{Token}
+use Rattle.ga_parser.specs.Saying.{Said, said_in, all_said}
+use Rattle.ga_parser.specs.Plain.{texts_in, bodies_in}
+use Rattle.ga_source.specs.Asks.{AreOf, AreRead}
 use Rattle.ga_source.specs.Asks.{said_bodies, AreAskedBy, AreAsked}
 use Rattle.ga_source.specs.Cells.{IsEmptyElsewhere}
 use Rattle.ga_source.specs.Made.{IsChipOfSource}

@@ -1,15 +1,17 @@
 -- The words of each node, and the programs that are read of them.
 use Rattle.std.proofs.Common.{◌≡◌, ◌∙◌, ℕ, zero, suc, inl, inr, ◌<◌, ◌≤◌, ◌+◌, Bool, true, false, List, [], ◌∷◌, ◌++◌, length, take, drop, get_or, Option, Some, None, arith, ap, sym, refl, subst}
 use Rattle.std.proofs.lemmas.List.{get_or-map, take-map, drop-map, drop_all}
-use Rattle.ga_source.specs.declared.item.Program.{Program}
-use Rattle.ga_source.specs.declared.scan.Token.{Token}
-use Rattle.ga_source.specs.kept.Hearing.{texts_of}
+use Rattle.ga_source.specs.declared.program.Program.{Program}
+use Rattle.ga_parser.specs.declared.scan.Token.{Token}
+use Rattle.ga_parser.specs.kept.Hearing.{texts_of}
 use Rattle.std.specs.Prelude.{codes, map}
 use Rattle.std.proofs.lemmas.Bool.{cases_Bool}
 use Rattle.ga_grid.specs.Names.{node_number}
-use Rattle.ga_source.specs.Plain.{Plain, is_node, body_in, bodies_in, yxx_in, plain_of, asked_by, texts_in, words_in, IsOf, AreOf}
-use Rattle.ga_source.specs.Saying.{said_in, all_said}
-use Rattle.ga_source.proofs.Hearing.{same_text}
+use Rattle.ga_parser.specs.Plain.{Plain, is_node, body_in, bodies_in, yxx_in, plain_of, asked_by, texts_in, words_in}
+use Rattle.ga_source.specs.Asks.{IsOf, AreOf}
+use Rattle.ga_parser.specs.Saying.{said_in, all_said}
+use Rattle.ga_parser.proofs.Hearing.{same_text}
+use Rattle.ga_parser.proofs.PlainAsked.{map_map}
 use Rattle.ga_source.specs.kept.Programs.{AreOfFirst}
 
 -- ---- up to the next `node`
@@ -145,10 +147,6 @@ one_more_read words behind body d first name count program programs after all tw
     (subst (λ (p : List Program). AreOfFirst all p (bodies_in (texts_of behind))) (sym pushed) more)
 
 -- ---- a source
-
-pub map_map : (tokens : List Token) → map (λ said. said.text) (all_said tokens) ≡ texts_of tokens
-map_map [] = refl
-map_map (token ∷ tokens) = ap (λ (rest : List (List ℕ)). token.text.now ∷ rest) (map_map tokens)
 
 -- the words of the tokens are those of the source
 pub words_told : (source : List ℕ) (tokens : List Token) → all_said tokens ≡ said_in source → texts_of tokens ≡ words_in source

@@ -2,13 +2,13 @@
 use Rattle.std.proofs.Common.{◌≡◌, ◌≢◌, ◌∙◌, ◌+◌, ◌%◌, ◌^◌, inl, inr, set, replicate, get_or-set_other, ℕ, zero, suc, ◌<◌, length, slice_index_or, arith, refl, sym, ap, subst, true, List, [], ◌∷◌, ◌++◌, Option, None, append-nil, append_assoc}
 use Rattle.std.proofs.lemmas.Bool.{cases_lt}
 use Rattle.std.proofs.lemmas.List.{get_or-replicate, get_or_past, length-replicate}
-use Rattle.ga_source.specs.declared.item.Operand.TheVariants.{Number}
-use Rattle.ga_source.specs.declared.item.Item.{Item}
-use Rattle.ga_source.specs.declared.item.Item.TheVariants.{Cell}
-use Rattle.ga_source.specs.declared.item.Group.{Group}
-use Rattle.ga_source.specs.declared.item.Request.{Request}
-use Rattle.ga_source.specs.declared.item.Request.TheVariants.{Put, Go}
-use Rattle.ga_source.specs.declared.item.Asked.{Asked}
+use Rattle.ga_parser.specs.declared.item.Operand.TheVariants.{Number}
+use Rattle.ga_parser.specs.declared.item.Item.{Item}
+use Rattle.ga_parser.specs.declared.item.Item.TheVariants.{Cell}
+use Rattle.ga_source.specs.declared.group.Group.{Group}
+use Rattle.ga_parser.specs.declared.item.Request.{Request}
+use Rattle.ga_parser.specs.declared.item.Request.TheVariants.{Put, Go}
+use Rattle.ga_parser.specs.declared.item.Asked.{Asked}
 use Rattle.ga_source.specs.declared.packing.Packer.{Packer}
 use Rattle.ga_source.specs.declared.spot.Spot.{Spot}
 use Rattle.ga_source.specs.Reading.{begin_at, behind, fits}

@@ -8,9 +8,9 @@ use Rattle.ga_slots.specs.Slots.{opcode, target}
 use Rattle.ga_slots.specs.declared.op.Op.{Op}
 use Rattle.ga_slots.specs.declared.op.Op.TheVariants.{Nop}
 use Rattle.std.specs.Prelude.{IfSome}
-use Rattle.ga_source.specs.declared.item.Item.{Item}
-use Rattle.ga_source.specs.declared.item.Item.TheVariants.{Opcode, Literal, Back, Ahead, Cell}
-use Rattle.ga_source.specs.declared.item.Operand.TheVariants.{Label}
+use Rattle.ga_parser.specs.declared.item.Item.{Item}
+use Rattle.ga_parser.specs.declared.item.Item.TheVariants.{Opcode, Literal, Back, Ahead, Cell}
+use Rattle.ga_parser.specs.declared.item.Operand.TheVariants.{Label}
 use Rattle.ga_source.specs.declared.spot.Spot.{Spot}
 use Rattle.ga_source.specs.Reading.{begin_at, behind, resolved, are_both, reaches, fits, ends_cell}
 use Rattle.ga_source.specs.kept.Words.{op_in, nothing}

@@ -3,9 +3,9 @@ use Rattle.std.specs.Prelude.{◌==◌, ◌&&◌, ◌||◌, not, nat_lt, cond}
 use Rattle.std.proofs.Common.{◌≡◌, ◌≢◌, ◌∙◌, ℕ, ◌+◌, ◌⊎◌, inl, inr, refl, sym, ap, subst, Bool, true, false, List, [], ◌∷◌, ◌++◌, Option, Some, None, slice_index_or, arith}
 use Rattle.std.proofs.lemmas.Bool.{or_cases, or_left, or_right, and_from, or_parts, cond-true, cond-false, true≢false, cases_eq, eqb-false, eq-eqb, ne_eqb}
 use Rattle.ga_node.specs.Record.{NodeState}
-use Rattle.ga_source.specs.declared.item.Item.{Item}
-use Rattle.ga_source.specs.declared.item.Item.TheVariants.{Opcode, Literal, Back, Ahead, Cell}
-use Rattle.ga_source.specs.declared.item.Asked.{Asked}
+use Rattle.ga_parser.specs.declared.item.Item.{Item}
+use Rattle.ga_parser.specs.declared.item.Item.TheVariants.{Opcode, Literal, Back, Ahead, Cell}
+use Rattle.ga_parser.specs.declared.item.Asked.{Asked}
 use Rattle.ga_source.specs.declared.spot.Spot.{Spot}
 use Rattle.ga_source.specs.Reading.{begin_at, next_cell, behind, ends_cell, p_behind, moves_p, item_stands, is_filled, fits, spot_of, reaches, is_met, after_request, follows}
 use Rattle.ga_source.specs.Cells.{takes, asks_for, is_asked}

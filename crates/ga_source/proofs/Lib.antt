@@ -9,16 +9,7 @@ pub mod Written
 pub mod Loaded
 pub mod Steady
 pub mod Empty
-pub mod Scanning
-pub mod Columns
-pub mod Numbers
-pub mod Ranges
-pub mod Hearing
-pub mod Naming
-pub mod Asking
-pub mod PlainAsked
 pub mod AskedBodies
-pub mod Labelling
 pub mod Bodies
 pub mod CellGroups
 pub mod Refusing

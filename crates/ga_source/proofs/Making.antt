@@ -7,11 +7,11 @@ use Rattle.ga_ports.specs.declared.address.Target.{Target}
 use Rattle.ga_ports.specs.declared.address.Target.TheVariants.{Ram, Rom, Io, Ports, Bad}
 use Rattle.ga_ports.specs.Address.{classified, advanced}
 use Rattle.ga_node.specs.Record.{NodeState}
-use Rattle.ga_source.specs.declared.item.Operand.TheVariants.{Number}
-use Rattle.ga_source.specs.declared.item.Item.TheVariants.{Cell}
-use Rattle.ga_source.specs.declared.item.Request.{Request}
-use Rattle.ga_source.specs.declared.item.Request.TheVariants.{Put, Go}
-use Rattle.ga_source.specs.declared.item.Asked.{Asked}
+use Rattle.ga_parser.specs.declared.item.Operand.TheVariants.{Number}
+use Rattle.ga_parser.specs.declared.item.Item.TheVariants.{Cell}
+use Rattle.ga_parser.specs.declared.item.Request.{Request}
+use Rattle.ga_parser.specs.declared.item.Request.TheVariants.{Put, Go}
+use Rattle.ga_parser.specs.declared.item.Asked.{Asked}
 use Rattle.ga_source.specs.Reading.{begin_at, are_both, word_of_target, is_met, after_request, follows}
 use Rattle.ga_source.specs.Cells.{is_at, asks_for, is_asked}
 use Rattle.ga_source.specs.Made.{with_cell, with_asked, address_behind, with_requests}

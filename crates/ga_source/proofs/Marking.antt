@@ -6,13 +6,13 @@ use Rattle.std.proofs.lemmas.Bool.{or_right, and_from, true≢false, cases_eq, e
 use Rattle.std.proofs.lemmas.List.Elements.{All-nil}
 use Rattle.ga_node.specs.Record.{NodeState}
 use Rattle.ga_slots.specs.declared.op.Op.TheVariants.{Unext as UnextOp}
-use Rattle.ga_source.specs.declared.item.Item.{Item}
-use Rattle.ga_source.specs.declared.item.Item.TheVariants.{Opcode}
-use Rattle.ga_source.specs.declared.item.Asked.{Asked}
-use Rattle.ga_source.specs.declared.item.Group.{Group}
-use Rattle.ga_source.specs.declared.item.Request.{Request}
-use Rattle.ga_source.specs.declared.item.Request.TheVariants.{Put, Unext, Mark, Fill, Go, Carry}
-use Rattle.ga_source.specs.declared.item.Operand.TheVariants.{Label as LabelOf}
+use Rattle.ga_parser.specs.declared.item.Item.{Item}
+use Rattle.ga_parser.specs.declared.item.Item.TheVariants.{Opcode}
+use Rattle.ga_parser.specs.declared.item.Asked.{Asked}
+use Rattle.ga_source.specs.declared.group.Group.{Group}
+use Rattle.ga_parser.specs.declared.item.Request.{Request}
+use Rattle.ga_parser.specs.declared.item.Request.TheVariants.{Put, Unext, Mark, Fill, Go, Carry}
+use Rattle.ga_parser.specs.declared.item.Operand.TheVariants.{Label as LabelOf}
 use Rattle.ga_source.specs.declared.packing.Packed.{Packed}
 use Rattle.ga_source.specs.declared.packing.Packer.{Packer}
 use Rattle.ga_source.specs.declared.spot.Spot.{Spot}

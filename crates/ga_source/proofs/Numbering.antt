@@ -1,8 +1,8 @@
 -- Words with faults, one after another.
 use Rattle.std.proofs.Common.{◌≡◌, ◌∙◌, ℕ, suc, ◌+◌, ◌<◌, List, [], ◌∷◌, ◌++◌, length, take, drop, get_or, arith, ap, sym, refl, append_assoc, append-nil, drop-cons}
-use Rattle.ga_source.specs.declared.fault.Fault.{Fault}
-use Rattle.ga_source.specs.declared.scan.Token.{Token}
-use Rattle.ga_source.specs.Saying.{next_line}
+use Rattle.ga_parser.specs.declared.fault.Fault.{Fault}
+use Rattle.ga_parser.specs.declared.scan.Token.{Token}
+use Rattle.ga_parser.specs.Saying.{next_line}
 use Rattle.ga_source.specs.Mending.{place_of_token, first_gone, back, without_at, with_line, with_numbers, mended, without_token}
 
 -- ---- numbers

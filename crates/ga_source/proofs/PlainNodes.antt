@@ -11,30 +11,29 @@ use Rattle.ga_ports.specs.Address.{classified}
 use Rattle.ga_node.specs.Record.{NodeState, HasSizes, fresh_node, record_of}
 use Rattle.ga_grid.specs.Chip.{node_at}
 use Rattle.ga_grid.specs.Load.{default_chip}
-use Rattle.ga_source.specs.declared.number.Number.{Number as NumberIn}
-use Rattle.ga_source.specs.declared.number.Number.TheVariants.{Of, OutOfRange, Nothing}
-use Rattle.ga_source.specs.declared.item.Operand.{Operand}
-use Rattle.ga_source.specs.declared.item.Operand.TheVariants.{Number, Label}
-use Rattle.ga_source.specs.declared.item.Given.{Given}
-use Rattle.ga_source.specs.declared.item.Item.TheVariants.{Cell}
-use Rattle.ga_source.specs.declared.item.Request.{Request}
-use Rattle.ga_source.specs.declared.item.Request.TheVariants.{Put, Go}
-use Rattle.ga_source.specs.declared.item.Registers.{Registers}
-use Rattle.ga_source.specs.declared.item.Asked.{Asked}
-use Rattle.ga_source.specs.declared.item.Program.{Program}
-use Rattle.ga_source.specs.declared.labels.Label.{Label as Name}
+use Rattle.ga_parser.specs.declared.item.Operand.{Operand}
+use Rattle.ga_parser.specs.declared.item.Operand.TheVariants.{Number, Label}
+use Rattle.ga_parser.specs.declared.item.Given.{Given}
+use Rattle.ga_parser.specs.declared.item.Item.TheVariants.{Cell}
+use Rattle.ga_parser.specs.declared.item.Request.{Request}
+use Rattle.ga_parser.specs.declared.item.Request.TheVariants.{Put, Go}
+use Rattle.ga_parser.specs.declared.item.Registers.{Registers}
+use Rattle.ga_parser.specs.declared.item.Asked.{Asked}
+use Rattle.ga_source.specs.declared.program.Program.{Program}
+use Rattle.ga_parser.specs.declared.labels.Label.{Label as Name}
 use Rattle.ga_ports.specs.Steps.{◌>>=◌}
-use Rattle.ga_source.specs.Numbers.{number_by_word}
+use Rattle.ga_parser.specs.Numbers.{number_by_word}
 use Rattle.ga_source.specs.Programs.{given_of, value_or, is_item, has_cells, or_start, at_load, HasProgram, IsLoaded, IsUnnamed, IsAssembled}
 use Rattle.ga_source.specs.Cells.{is_asked}
 use Rattle.ga_source.specs.Reading.{begin_at, resolved}
-use Rattle.ga_source.specs.Plain.{Plain, no_request, by_number, only_if, is_cell, may_be, with_two_words, plain_from, plain_of, value_in, asked_by, words_in, bodies_in, yxx_in, IsOf, AreOf, AreRead}
+use Rattle.ga_parser.specs.Plain.{Plain, no_request, by_number, only_if, is_cell, may_be, with_two_words, plain_from, plain_of, value_in, asked_by, words_in, bodies_in, yxx_in}
+use Rattle.ga_source.specs.Asks.{IsOf, AreOf, AreRead}
 use Rattle.ga_source.specs.Made.{with_cell, with_asked, address_behind, with_requests, number_or, plain_node, IsNode, HasPlain, IsChipOfSource}
 use Rattle.ga_source.specs.kept.Packing.{requests_of, ArePlain, IsNumber, AreNumbers}
 use Rattle.ga_source.specs.kept.Places.{KeepsRest}
 use Rattle.ga_source.proofs.Empty.{of_each_at_load}
-use Rattle.ga_source.proofs.Hearing.{some_same, no_some, allowed}
-use Rattle.ga_source.proofs.Ranges.{number_small}
+use Rattle.ga_parser.proofs.Hearing.{some_same, no_some, allowed}
+use Rattle.ga_parser.proofs.Ranges.{number_asks}
 use Rattle.ga_source.proofs.Making.{Stays, with_cell_ram, with_cell_rom, one_plain_more, requests_made}
 
 -- ---- plain words ask for plain requests and numbers
@@ -46,10 +45,8 @@ pub record IsPlain (plain : Plain) : Type 0 where
   pub b : IsNumber 0x200 plain.b
 
 -- what a number asks for is plain where it is for each number
-number_plain : (number : NumberIn) (asks : ℕ → Option Plain) (more : Plain) → ((n : ℕ) → number ≡ Of n → asks n ≡ Some more → IsPlain more) → by_number number asks ≡ Some more → IsPlain more
-number_plain (Of n) asks more each is = each n refl is
-number_plain OutOfRange asks more each is = absurd (no_some is)
-number_plain Nothing asks more each is = absurd (no_some is)
+number_plain : (word : List ℕ) (asks : ℕ → Option Plain) (more : Plain) → ((n : ℕ) → n < 262144 → asks n ≡ Some more → IsPlain more) → by_number (number_by_word word) asks ≡ Some more → IsPlain more
+number_plain word asks more each is = number_asks word asks more (IsPlain more) each is
 
 -- what a test allows
 only_plain : (b : Bool) (plain more : Plain) → (b ≡ true → IsPlain plain) → only_if b plain ≡ Some more → IsPlain more
@@ -61,19 +58,19 @@ below given n bound may = ltb-true n bound ((and_parts (is_none given) (ltb n bo
 
 words_plain : (plain more : Plain) (first second : List ℕ) → IsPlain plain → with_two_words plain first second ≡ Some more → IsPlain more
 words_plain plain more first second is found = elim (cases_Bool (bytes_eq second (codes ","))) [
-  | inl comma ↦ number_plain (number_by_word first) _ more (λ n number e. subst IsPlain (some_same _ more e)
-      (record { requests = one_plain_more plain.requests (Put (Cell (Number n))) is.requests (number_small first n number); p = is.p; a = is.a; b = is.b })) (rw comma at found)
+  | inl comma ↦ number_plain first _ more (λ n small e. subst IsPlain (some_same _ more e)
+      (record { requests = one_plain_more plain.requests (Put (Cell (Number n))) is.requests small; p = is.p; a = is.a; b = is.b })) (rw comma at found)
   | inr other ↦ elim (cases_Bool (bytes_eq first (codes "org"))) [
-    | inl org ↦ number_plain (number_by_word second) _ more (λ n number. only_plain (is_cell n) _ more (λ may.
+    | inl org ↦ number_plain second _ more (λ n small. only_plain (is_cell n) _ more (λ may.
         record { requests = one_plain_more plain.requests (Go n) is.requests tt; p = is.p; a = is.a; b = is.b })) (rw (other, org) at found)
     | inr no_org ↦ elim (cases_Bool (bytes_eq first (codes "/p"))) [
-      | inl p ↦ number_plain (number_by_word second) _ more (λ n number. only_plain (may_be plain.p n 0x400) _ more (λ may.
+      | inl p ↦ number_plain second _ more (λ n small. only_plain (may_be plain.p n 0x400) _ more (λ may.
           record { requests = is.requests; p = below plain.p n 0x400 may; a = is.a; b = is.b })) (rw (other, no_org, p) at found)
       | inr no_p ↦ elim (cases_Bool (bytes_eq first (codes "/a"))) [
-        | inl a ↦ number_plain (number_by_word second) _ more (λ n number. only_plain (may_be plain.a n 0x40000) _ more (λ may.
+        | inl a ↦ number_plain second _ more (λ n small. only_plain (may_be plain.a n 0x40000) _ more (λ may.
             record { requests = is.requests; p = is.p; a = below plain.a n 0x40000 may; b = is.b })) (rw (other, no_org, no_p, a) at found)
         | inr no_a ↦ elim (cases_Bool (bytes_eq first (codes "/b"))) [
-          | inl b ↦ number_plain (number_by_word second) _ more (λ n number. only_plain (may_be plain.b n 0x200) _ more (λ may.
+          | inl b ↦ number_plain second _ more (λ n small. only_plain (may_be plain.b n 0x200) _ more (λ may.
               record { requests = is.requests; p = is.p; a = is.a; b = below plain.b n 0x200 may })) (rw (other, no_org, no_p, no_a, b) at found)
           | inr no_b ↦ absurd (no_some (rw (other, no_org, no_p, no_a, no_b) at found))
         ]

@@ -4,14 +4,14 @@ use Rattle.std.proofs.Common.{◌≡◌, ◌∙◌, ℕ, suc, ◌+◌, ◌<◌, 
 use Rattle.std.proofs.lemmas.Bool.{cases_Bool, cases_lt, and_parts, both_ways}
 use Rattle.std.proofs.lemmas.List.{get_or-replicate, get_or_past, length-replicate}
 use Rattle.std.proofs.lemmas.List.Elements.{All-nil, All-cons, All-head, All-tail, All-drop, All-take}
-use Rattle.ga_source.specs.declared.scan.TokenKind.{TokenKind}
-use Rattle.ga_source.specs.declared.scan.TokenKind.TheVariants.{Word, LongLine, OpenComment}
-use Rattle.ga_source.specs.declared.scan.Token.{Token}
-use Rattle.ga_source.specs.Saying.{is_word, is_word_kind, said_in, all_said}
+use Rattle.ga_parser.specs.declared.scan.TokenKind.{TokenKind}
+use Rattle.ga_parser.specs.declared.scan.TokenKind.TheVariants.{Word, LongLine, OpenComment}
+use Rattle.ga_parser.specs.declared.scan.Token.{Token}
+use Rattle.ga_parser.specs.Saying.{is_word, is_word_kind, said_in, all_said}
 use Rattle.ga_grid.specs.Names.{node_number}
-use Rattle.ga_source.specs.Plain.{Plain, is_node, body_in, bodies_in, yxx_in, words_in, plain_of}
+use Rattle.ga_parser.specs.Plain.{Plain, is_node, body_in, bodies_in, yxx_in, words_in, plain_of}
 use Rattle.ga_source.specs.Sound.{cells_from, AreDistinctCells, IsSoundBody, IsSoundSource}
-use Rattle.ga_source.specs.kept.Hearing.{texts_of}
+use Rattle.ga_parser.specs.kept.Hearing.{texts_of}
 use Rattle.ga_source.specs.kept.Refusing.{AreSound, IsSoundFrom}
 use Rattle.ga_source.proofs.Bodies.{no_number, drop_twice, words_told}
 

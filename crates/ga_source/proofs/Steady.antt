@@ -6,7 +6,7 @@ use Rattle.ga_grid.specs.Chip.{node_at, records_of}
 use Rattle.ga_grid.specs.Load.{default_chip, load_p_of}
 use Rattle.ga_grid.specs.Steady.{AreSteady}
 use Rattle.ga_grid.proofs.Chips.{record_at-records_of, node_at-default_chip}
-use Rattle.ga_source.specs.declared.item.Program.{Program}
+use Rattle.ga_source.specs.declared.program.Program.{Program}
 use Rattle.ga_source.specs.Programs.{KeepsState, IsAssembled}
 
 fresh_steady : (p : ℕ) → FitsWait (fresh_node p).wait (fresh_node p).slot (fresh_node p).stop

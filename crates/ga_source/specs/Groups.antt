@@ -2,13 +2,13 @@
 -- own). A literal is told by its item: the cell of its value, behind, is none of these.
 use Rattle.std.specs.Prelude.{ℕ, ◌≡◌, ◌==◌, if◌then◌else◌, List, [], ◌∷◌, ◌++◌, map, Option}
 use Rattle.ga_slots.specs.declared.op.Op.TheVariants.{Unext as UnextOp}
-use Rattle.ga_source.specs.declared.item.Item.{Item}
-use Rattle.ga_source.specs.declared.item.Item.TheVariants.{Opcode}
-use Rattle.ga_source.specs.declared.item.Request.{Request}
-use Rattle.ga_source.specs.declared.item.Request.TheVariants.{Put, Unext}
-use Rattle.ga_source.specs.declared.item.Asked.{Asked}
-use Rattle.ga_source.specs.declared.item.Group.{Group}
-use Rattle.ga_source.specs.declared.item.Program.{Program}
+use Rattle.ga_parser.specs.declared.item.Item.{Item}
+use Rattle.ga_parser.specs.declared.item.Item.TheVariants.{Opcode}
+use Rattle.ga_parser.specs.declared.item.Request.{Request}
+use Rattle.ga_parser.specs.declared.item.Request.TheVariants.{Put, Unext}
+use Rattle.ga_parser.specs.declared.item.Asked.{Asked}
+use Rattle.ga_source.specs.declared.group.Group.{Group}
+use Rattle.ga_source.specs.declared.program.Program.{Program}
 use Rattle.ga_source.specs.declared.spot.Spot.{Spot}
 use Rattle.ga_source.specs.Reading.{begin_at, spot_of, after_request}
 

@@ -7,13 +7,13 @@ use Rattle.ga_ports.specs.Address.{classified, advanced}
 use Rattle.ga_node.specs.Record.{NodeState}
 use Rattle.ga_grid.specs.Chip.{node_at}
 use Rattle.ga_grid.specs.Load.{default_chip}
-use Rattle.ga_source.specs.declared.item.Operand.{Operand}
-use Rattle.ga_source.specs.declared.item.Operand.TheVariants.{Number}
-use Rattle.ga_source.specs.declared.item.Item.TheVariants.{Cell}
-use Rattle.ga_source.specs.declared.item.Request.{Request}
-use Rattle.ga_source.specs.declared.item.Request.TheVariants.{Put, Go}
+use Rattle.ga_parser.specs.declared.item.Operand.{Operand}
+use Rattle.ga_parser.specs.declared.item.Operand.TheVariants.{Number}
+use Rattle.ga_parser.specs.declared.item.Item.TheVariants.{Cell}
+use Rattle.ga_parser.specs.declared.item.Request.{Request}
+use Rattle.ga_parser.specs.declared.item.Request.TheVariants.{Put, Go}
 use Rattle.ga_source.specs.Programs.{is_item}
-use Rattle.ga_source.specs.Plain.{Plain, words_in, bodies_in, yxx_in, plain_of}
+use Rattle.ga_parser.specs.Plain.{Plain, words_in, bodies_in, yxx_in, plain_of}
 
 -- ---- cells
 

@@ -2,14 +2,14 @@
 -- "Source"; this project's own).
 use Rattle.std.specs.Prelude.{ℕ, ◌+◌, ◌-◌, ◌==◌, nat_lt, Bool, true, false, ◌&&◌, ◌||◌, if◌then◌else◌, List, [], ◌∷◌, ◌++◌, length, map, min, take, drop, position, slice_index_or, codes, bytes_eq, Option, Some, None}
 use Rattle.std.specs.List.{All}
-use Rattle.ga_source.specs.declared.fault.Fault.{Fault}
+use Rattle.ga_parser.specs.declared.fault.Fault.{Fault}
 use Rattle.ga_source.specs.declared.program.Assembled.{Assembled}
-use Rattle.ga_source.specs.declared.scan.Token.{Token}
-use Rattle.ga_source.specs.declared.vocabulary.Directive.{Directive}
-use Rattle.ga_source.specs.declared.vocabulary.Directive.TheVariants.{Label, Address, Register}
-use Rattle.ga_source.specs.Saying.{next_line, all_said}
-use Rattle.ga_source.specs.Plain.{is_node}
-use Rattle.ga_source.specs.Vocabulary.{directive_in}
+use Rattle.ga_parser.specs.declared.scan.Token.{Token}
+use Rattle.ga_parser.specs.declared.vocabulary.Directive.{Directive}
+use Rattle.ga_parser.specs.declared.vocabulary.Directive.TheVariants.{Label, Address, Register}
+use Rattle.ga_parser.specs.Saying.{next_line, all_said}
+use Rattle.ga_parser.specs.Plain.{is_node}
+use Rattle.ga_parser.specs.Vocabulary.{directive_in}
 use Rattle.ga_source.specs.Asks.{said_bodies, AreAskedBy}
 use Rattle.ga_source.specs.Groups.{HasGroups}
 use Rattle.ga_source.specs.Programs.{IsAssembled}

@@ -5,15 +5,15 @@ use Rattle.std.specs.Option.{option_map_or}
 use Rattle.ga_node.specs.Record.{NodeState}
 use Rattle.ga_grid.specs.Chip.{node_at}
 use Rattle.ga_grid.specs.Load.{default_chip}
-use Rattle.ga_source.specs.declared.item.Given.{Given}
-use Rattle.ga_source.specs.declared.item.Registers.{Registers}
-use Rattle.ga_source.specs.declared.item.Program.{Program}
-use Rattle.ga_source.specs.declared.item.Operand.{Operand}
-use Rattle.ga_source.specs.declared.item.Operand.TheVariants.{Number, Label as LabelOf}
-use Rattle.ga_source.specs.declared.item.Request.{Request}
-use Rattle.ga_source.specs.declared.item.Request.TheVariants.{Put, Unext}
-use Rattle.ga_source.specs.declared.item.Asked.{Asked}
-use Rattle.ga_source.specs.declared.labels.Label.{Label}
+use Rattle.ga_parser.specs.declared.item.Given.{Given}
+use Rattle.ga_parser.specs.declared.item.Registers.{Registers}
+use Rattle.ga_source.specs.declared.program.Program.{Program}
+use Rattle.ga_parser.specs.declared.item.Operand.{Operand}
+use Rattle.ga_parser.specs.declared.item.Operand.TheVariants.{Number, Label as LabelOf}
+use Rattle.ga_parser.specs.declared.item.Request.{Request}
+use Rattle.ga_parser.specs.declared.item.Request.TheVariants.{Put, Unext}
+use Rattle.ga_parser.specs.declared.item.Asked.{Asked}
+use Rattle.ga_parser.specs.declared.labels.Label.{Label}
 use Rattle.ga_source.specs.Reading.{resolved, begin_at, follows}
 use Rattle.ga_source.specs.Cells.{program_names, KeepsElsewhere}
 

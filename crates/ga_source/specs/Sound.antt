@@ -1,12 +1,12 @@
 -- Sources that only want of memory keeps from being assembled (docs/REFERENCE.md, "Source"; this project's own).
 use Rattle.std.specs.Prelude.{ℕ, ◌≡◌, ◌≢◌, ◌%◌, ◌<◌, ◌≤◌, ◌⊎◌, true, List, [], ◌∷◌, ◌++◌, length, drop, slice_index_or, Option, Some}
 use Rattle.std.specs.List.{All, list_all}
-use Rattle.ga_source.specs.declared.item.Operand.TheVariants.{Number}
-use Rattle.ga_source.specs.declared.item.Item.TheVariants.{Cell}
-use Rattle.ga_source.specs.declared.item.Request.{Request}
-use Rattle.ga_source.specs.declared.item.Request.TheVariants.{Put}
-use Rattle.ga_source.specs.Saying.{is_word, said_in}
-use Rattle.ga_source.specs.Plain.{Plain, words_in, body_in, bodies_in, yxx_in, plain_of}
+use Rattle.ga_parser.specs.declared.item.Operand.TheVariants.{Number}
+use Rattle.ga_parser.specs.declared.item.Item.TheVariants.{Cell}
+use Rattle.ga_parser.specs.declared.item.Request.{Request}
+use Rattle.ga_parser.specs.declared.item.Request.TheVariants.{Put}
+use Rattle.ga_parser.specs.Saying.{is_word, said_in}
+use Rattle.ga_parser.specs.Plain.{Plain, words_in, body_in, bodies_in, yxx_in, plain_of}
 use Rattle.ga_source.specs.Made.{address_behind}
 
 -- the cell that a request asks for at this address, and its number

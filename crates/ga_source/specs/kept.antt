@@ -1,13 +1,8 @@
-pub mod Answering
-pub mod Drafting
 pub mod Grouping
-pub mod Hearing
 pub mod Layout
 pub mod Loading
-pub mod Names
 pub mod Packing
 pub mod Places
 pub mod Programs
 pub mod Refusing
-pub mod Telling
 pub mod Words

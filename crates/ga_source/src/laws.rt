@@ -4,7 +4,7 @@ ghost use Rattle.std.specs.Prelude.{◌≡◌, ℕ, List, [], Some, drop, slice_
 ghost use Rattle.ga_node.specs.Record.{NodeState, HasSizes, record_of};
 ghost use Rattle.ga_grid.specs.Chip.{node_at};
 ghost use Rattle.ga_grid.specs.Load.{default_chip};
-ghost use Rattle.ga_source.specs.Plain.{Plain, yxx_in, plain_of};
+ghost use Rattle.ga_parser.specs.Plain.{Plain, yxx_in, plain_of};
 ghost use Rattle.ga_source.specs.Made.{HasPlain, plain_node};
 
 /// Where the words behind a `node` are plain, the whole node is the one at load with what they ask for.

@@ -8,18 +8,18 @@ ghost use Rattle.ga_source.specs.Reading.{begin_at as begin_of, ends_cell, follo
 ghost use Rattle.ga_source.specs.kept.Layout.{IsFitGroup, IsLaidOut, takes_group};
 ghost use Rattle.ga_source.specs.kept.Loading.{HasItem, HasRest, Holds, HoldsRest, IsLoadedGroup, IsMemory, IsWordOf, Keeps, Leads, MayEnd};
 ghost use Rattle.ga_source.specs.kept.Places.{IsCell, KeepsRest};
-ghost use Rattle.ga_source.specs.declared.item.Operand.{Operand as ValueOf};
+ghost use Rattle.ga_parser.specs.declared.item.Operand.{Operand as ValueOf};
 ghost use Rattle.ga_source.specs.Sound.{IsMemoryAddress, AreDistinctCells};
 ghost use Rattle.ga_source.specs.kept.Packing.{IsCellGroup, AreCellGroups, AreWords};
 ghost use Rattle.ga_source.specs.Cells.{KeepsElsewhere, is_asked, is_at, takes};
 ghost use Rattle.ga_source.specs.kept.Words.{op_in, nothing};
 
-use super::fault::{Fault, SourceCause, at};
-use super::item::{Asked, Group, Item, Operand};
+use super::group::Group;
 use super::packing::Packed;
 use super::reading::{begin_at, behind, reaches, resolve};
 use super::spot::Spot;
 use ga_node::{Node, Place};
+use ga_parser::{Asked, Fault, Item, Operand, SourceCause, fault_at};
 use ga_slots::{Op, encode};
 use ga_word::Word18;
 
@@ -178,18 +178,18 @@ fn write(
 {
     let low = address % 512;
     let Some(place) = place_of(address) else {
-        return Err(at(line, SourceCause::Past(low)));
+        return Err(fault_at(line, SourceCause::Past(low)));
     };
     let cell = low as usize;
     if cell >= given.len() {
-        return Err(at(line, SourceCause::Past(low)));
+        return Err(fault_at(line, SourceCause::Past(low)));
     }
     if let Some(before) = given[cell] {
         let cause = SourceCause::CellTwice {
             cell: low,
             line: before,
         };
-        return Err(at(line, cause));
+        return Err(fault_at(line, cause));
     }
     given[cell] = Some(line);
     set_cell(node, place, word);
@@ -213,7 +213,7 @@ fn see_jump(
             cell: spot.at,
             target: to.unwrap_or(0),
         };
-        Err(at(line, cause))
+        Err(fault_at(line, cause))
     }
 }
 
@@ -237,7 +237,7 @@ fn write_item(
     match item {
         Item::Literal(value) => match value_in(labels, value) {
             Some(word) => write(node, given, line, spot.p, word),
-            None => Err(at(line, SourceCause::Number)),
+            None => Err(fault_at(line, SourceCause::Number)),
         },
         Item::Back(_, label) => see_jump(labels, line, spot, label),
         Item::Ahead(_, label) => see_jump(labels, line, spot, label),
@@ -263,14 +263,14 @@ fn write_group(
         slice_index_or given.old (cell.0 % 512) None ≢ None) }
 {
     if let Some(line) = group.broken {
-        return Err(at(line, SourceCause::Loop(group.address)));
+        return Err(fault_at(line, SourceCause::Loop(group.address)));
     }
     let items = group.items.as_slice();
     if items.is_empty() {
         return Ok(());
     }
     let Some(word) = word_of(labels, group) else {
-        return Err(at(group.line(), SourceCause::Number));
+        return Err(fault_at(group.line(), SourceCause::Number));
     };
     write(node, given, group.line(), group.address, word)?;
     let mut spot = begin_at(group.address);

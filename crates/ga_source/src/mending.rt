@@ -1,13 +1,11 @@
 //! Words with faults: what can be assembled of them all the same.
 
 ghost use Rattle.std.specs.Prelude.{◌≡◌, ◌≤◌, ◌<◌, length, take, drop, position, slice_index_or, IfOk, IfErr, IfSome, None, true};
-ghost use Rattle.ga_source.specs.declared.fault.SourceCause.TheVariants.{Memory};
+ghost use Rattle.ga_parser.specs.declared.fault.SourceCause.TheVariants.{Memory};
 ghost use Rattle.ga_source.specs.Mending.{is_numbered as has_number, place_in as place_of_found, place_of_token as place_by, begins_node, token_text as text_by, is_leading as leads_to, first_gone as first_of, behind_gone as behind_of, is_head as is_head_of, tokens_past, from_node as node_on, back as back_of, without_token as without_word, with_line, with_numbers, mended, IsAssembledOf};
 
-use super::fault::{Fault, SourceCause};
 use super::program::{Assembled, assemble_words, is_node};
-use super::scan::Token;
-use super::vocabulary::{Directive, directive_named};
+use ga_parser::{Directive, Fault, SourceCause, Token, directive_named};
 use std::alloc::{AllocError, Global};
 
 /// The most faults of a source that are passed over.

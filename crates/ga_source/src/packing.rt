@@ -1,11 +1,11 @@
 //! Requests packed into groups.
 
 ghost use Rattle.std.specs.Prelude.{◌≡◌, ℕ, [], ◌∷◌, ◌++◌, List, IsTrue, true, IfOk, IfErr, OnOk, map, slice_index_or};
-ghost use Rattle.ga_source.specs.declared.item.Asked.{Asked};
+ghost use Rattle.ga_parser.specs.declared.item.Asked.{Asked};
 ghost use Rattle.ga_source.specs.Reading.{after_request};
-ghost use Rattle.ga_source.specs.declared.fault.SourceCause.TheVariants.{Memory};
-ghost use Rattle.ga_source.specs.declared.item.Operand.TheVariants.{Number};
-ghost use Rattle.ga_source.specs.declared.item.Request.{Request as RequestOf};
+ghost use Rattle.ga_parser.specs.declared.fault.SourceCause.TheVariants.{Memory};
+ghost use Rattle.ga_parser.specs.declared.item.Operand.TheVariants.{Number};
+ghost use Rattle.ga_parser.specs.declared.item.Request.{Request as RequestOf};
 ghost use Rattle.ga_source.specs.Reading.{fits as fits_of, begin_at as begin_of};
 ghost use Rattle.ga_source.specs.Sound.{cells_from};
 ghost use Rattle.ga_source.specs.Groups.{laid_by, groups_of};
@@ -13,11 +13,11 @@ ghost use Rattle.ga_source.specs.kept.Grouping.{IsGathered, IsGrouped, IsPutting
 ghost use Rattle.ga_source.specs.kept.Packing.{requests_of, IsPlainRequest, ArePlain, AreCellGroups, IsPackedPlain};
 ghost use Rattle.ga_source.specs.kept.Layout.{IsClosed, IsFilling, IsInCell, IsKnown, IsLaidOut, IsPending, IsWalked};
 
-use super::fault::{Fault, SourceCause, at};
-use super::item::{Asked, Group, Item, Request};
-use super::reading::{begin_at, behind, carried, fits, next_cell};
+use super::group::Group;
+use super::reading::{begin_at, behind, fits, next_cell};
 use super::spot::Spot;
 use arrayvec::ArrayVec;
+use ga_parser::{Asked, Fault, Item, Request, SourceCause, carried, fault_at};
 use ga_slots::Op;
 use std::alloc::{AllocError, Global};
 use std::mem;
@@ -159,7 +159,7 @@ impl Packer {
         ensures refused { IfErr result (λ fault. (n : ℕ) → item ≡ Item.Cell (Number n) → fault.cause ≡ Memory) }
     {
         if !self.is_known(item) {
-            return Err(at(asked.line, SourceCause::Unmatched));
+            return Err(fault_at(asked.line, SourceCause::Unmatched));
         }
         self.make_room(item)?;
         self.add(asked.line, item)?;
@@ -193,10 +193,10 @@ impl Packer {
         let next = next_cell(self.spot);
         self.spot = next;
         if label >= self.labels.len() {
-            return Err(at(asked.line, SourceCause::Unmatched));
+            return Err(fault_at(asked.line, SourceCause::Unmatched));
         }
         if self.labels[label].is_some() {
-            return Err(at(asked.line, SourceCause::LabelTwice));
+            return Err(fault_at(asked.line, SourceCause::LabelTwice));
         }
         self.labels[label] = Some(self.spot.at);
         Ok(())

@@ -7,29 +7,30 @@ ghost use Rattle.ga_grid.specs.Steady.{AreSteady};
 ghost use Rattle.ga_source.specs.Programs.{given_of, with_registers, has_cells as has_cells_of, is_item as is_item_of, start_of as start, is_named, at_load, HasProgram, IsAssembled};
 ghost use Rattle.ga_source.specs.Cells.{IsEmptyElsewhere};
 ghost use Rattle.ga_grid.specs.Grid.{number_where_any};
-ghost use Rattle.ga_source.specs.Plain.{Plain, is_node as is_node_word, body_in, bodies_in, yxx_in, texts_in, plain_of, value_in, asked_by, AreOf, AreRead};
+ghost use Rattle.ga_parser.specs.Plain.{Plain, is_node as is_node_word, body_in, bodies_in, yxx_in, texts_in, plain_of, value_in, asked_by};
+ghost use Rattle.ga_source.specs.Asks.{AreOf, AreRead};
 ghost use Rattle.ga_source.specs.Asks.{said_body, said_bodies, AsksFor, AreAskedBy, AreAsked};
 ghost use Rattle.ga_source.specs.Groups.{HasGroups};
-ghost use Rattle.ga_source.specs.Saying.{all_said, said_in, Said};
+ghost use Rattle.ga_parser.specs.Saying.{all_said, said_in, Said};
 ghost use Rattle.ga_source.specs.Made.{IsChipOfSource};
-ghost use Rattle.ga_source.specs.declared.fault.SourceCause.TheVariants.{Memory};
-ghost use Rattle.ga_source.specs.declared.scan.TokenKind.TheVariants.{Word};
+ghost use Rattle.ga_parser.specs.declared.fault.SourceCause.TheVariants.{Memory};
+ghost use Rattle.ga_parser.specs.declared.scan.TokenKind.TheVariants.{Word};
 ghost use Rattle.ga_source.specs.Sound.{AreDistinctCells, cells_from, IsSoundSource};
 ghost use Rattle.ga_source.specs.kept.Refusing.{IsSoundFrom};
 ghost use Rattle.ga_source.specs.kept.Packing.{IsNumber, AreNumbers};
-ghost use Rattle.ga_source.specs.kept.Hearing.{texts_of};
+ghost use Rattle.ga_parser.specs.kept.Hearing.{texts_of};
 ghost use Rattle.ga_source.specs.kept.Programs.{AreLoaded, AreOfFirst, AreAskedFirst};
 
-use super::draft::{Draft, read_node};
-use super::fault::{Fault, SourceCause, at};
-use super::item::{Asked, Given, Operand, Program, Registers, Request};
-use super::labels::Label;
+use super::group::Group;
 use super::loading::load;
 use super::packing::pack;
 use super::reading::resolve;
-use super::scan::{Token, scan};
 use ga_grid::{Chip, NODES, NodeId, node_number};
 use ga_node::{Node, Place};
+use ga_parser::{
+    Asked, Fault, Given, Label, NodeRequests, Operand, Registers, Request, SourceCause, Token,
+    fault_at, read_requests, words_up_to_fault,
+};
 use std::alloc::Global;
 
 /// The node of a name of three digits.
@@ -133,7 +134,7 @@ fn value_given(
     };
     match resolve(labels, given.value) {
         Some(found) if found < bound => Ok(Some(found)),
-        _ => Err(at(given.line, SourceCause::Number)),
+        _ => Err(fault_at(given.line, SourceCause::Number)),
     }
 }
 
@@ -156,6 +157,21 @@ fn set_registers(
         node.set(Place::B, value);
     }
     Ok(())
+}
+
+/// What the source asks of a node, and where that went.
+#[derive(Drop)]
+pub struct Program<'s> {
+    pub node: NodeId,
+    /// The line of the node's name.
+    pub line: u32,
+    pub asked: Vec<Asked>,
+    /// The addresses of the labels by their numbers.
+    pub labels: Vec<Option<u32>>,
+    /// The labels' names, empty for one that a control word made.
+    pub names: Vec<Label<'s>>,
+    pub registers: Registers,
+    pub groups: Vec<Group>,
 }
 
 /// A chip with programs, and what the source asks of each node that it names.
@@ -182,13 +198,11 @@ fn assemble_node<'s>(
     ensures refused { IfErr result (λ fault. (plain : Plain) → All (λ token. token.kind ≡ Word) tokens.now → plain_of (texts_of tokens.now) ≡ Some plain →
         AreDistinctCells (cells_from 0 plain.requests) → fault.cause ≡ Memory) }
 {
-    let Draft {
+    let NodeRequests {
         asked,
-        labels,
+        names,
         registers: given,
-        ..
-    } = read_node(alloc, line, tokens)?;
-    let names = labels.into_list();
+    } = read_requests(alloc, line, tokens)?;
     let packed = pack(alloc, asked.as_slice(), names.len())?;
     let registers = registers_of(given, names.as_slice(), has_cells(asked.as_slice()));
     set_registers(node, packed.labels.as_slice(), registers)?;
@@ -235,17 +249,17 @@ fn assemble_first<'s>(
 {
     let first = words[0];
     if !is_node(first.word()?) {
-        return Err(at(first.line, SourceCause::NoNode));
+        return Err(fault_at(first.line, SourceCause::NoNode));
     }
     if words.len() < 2 {
-        return Err(at(first.line, SourceCause::Missing));
+        return Err(fault_at(first.line, SourceCause::Missing));
     }
     let name = words[1];
     let Some(id) = node_named(name.word()?) else {
-        return Err(at(name.line, SourceCause::NoSuchNode));
+        return Err(fault_at(name.line, SourceCause::NoSuchNode));
     };
     if begun[id.index()] {
-        return Err(at(name.line, SourceCause::NodeTwice));
+        return Err(fault_at(name.line, SourceCause::NodeTwice));
     }
     begun[id.index()] = true;
     let (_, behind) = words.split_at(2);
@@ -278,7 +292,7 @@ pub fn assemble_words<'s>(alloc: Global, words: &[Token<'s>]) -> Result<Assemble
 {
     let mut chip = match Chip::new(alloc) {
         Ok(chip) => chip,
-        Err(_) => return Err(at(0, SourceCause::Memory)),
+        Err(_) => return Err(fault_at(0, SourceCause::Memory)),
     };
     let mut begun = none_begun();
     let mut programs = Vec::new(alloc);
@@ -319,6 +333,6 @@ pub fn assemble(alloc: Global, source: &[u8]) -> Result<Assembled<'_>, Fault<'_>
     // And no node waits, so that the chip has an image.
     ensures steady { IfOk result (λ all. AreSteady (records_of all.chip)) }
 {
-    let tokens = scan(alloc, source)?;
+    let tokens = words_up_to_fault(alloc, source)?;
     assemble_words(alloc, tokens.as_slice())
 }

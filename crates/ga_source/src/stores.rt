@@ -2,8 +2,10 @@
 
 ghost use Rattle.std.specs.Prelude.{◌≡◌, None};
 
-use super::item::{Group, Item, Program, Request};
+use super::group::Group;
+use super::program::Program;
 use super::reading::resolve;
+use ga_parser::{Item, Request};
 use ga_ports::advance_p;
 use ga_slots::Op;
 use std::alloc::{AllocError, Global};

@@ -2,12 +2,13 @@
 
 use crate::asserts::same;
 use ga_adapter::{
-    Scope, asked_variable, cell_of_chip, chip_address, evaluate, exception_info, frame_of,
-    node_of_frame, node_of_thread, reference_of, referred, scopes, thread_of, threads, variables,
+    Scope, cell_of_chip, chip_address, frame_of, node_of_frame, node_of_thread, reference_of,
+    referred, scopes, thread_of, threads, variables,
 };
 use ga_fixtures::{load, sender};
 use ga_grid::{Chip, NodeId};
 use ga_lab::Lab;
+use ga_responses::{asked_variable, evaluate, exception_info};
 use serde_json::Value;
 use std::alloc::{AllocError, Global};
 use std::process::Abort;

@@ -1,10 +1,11 @@
 //! The moves of an editor that go forward, over a program with calls and one that stores.
 
 use crate::asserts::same;
-use ga_adapter::{Spot, Watched, step_back_line};
+use ga_adapter::{Spot, Variable};
 use ga_breakpoints::{
-    Breakpoint, Grain, Halt, Halts, Stepping, Went, breakpoint_of_address, breakpoint_of_line,
-    go_on, step_on,
+    Breakpoint, Comparison, Grain, Halt, Halts, HitCount, Stepping, ValueTest, Watched, Went,
+    breakpoint_of_address, breakpoint_of_line, go_on, kept_hits, reverse_to, step_back_line,
+    step_on,
 };
 use ga_grid::NodeId;
 use ga_lab::Lab;
@@ -37,6 +38,7 @@ fn moves(rt: &impl Abort, lab: &mut Lab, notes: &Notes, mut by: Stepping, wanted
     let halts = Halts {
         breakpoints: &[],
         stops: true,
+        tally: kept_hits(lab, &[]),
     };
     let went = step_on(lab, Schedule::in_rounds(), &mut by, notes, halts, 100);
     same(rt, &went.events, &wanted);
@@ -117,12 +119,15 @@ fn slices_stop_at_a_breakpoint(rt: HostRuntime) -> Result<(), Fail> {
     let second_dup = Breakpoint {
         node,
         watched: Watched::Comes(Spot { cell: 5, slot: 2 }),
+        condition: None,
+        hits: None,
     };
     same(&rt, &on_line.breakpoint, &second_dup);
     same(&rt, &on_line.line, &10);
     let halts = Halts {
         breakpoints: &[on_line.breakpoint],
         stops: true,
+        tally: kept_hits(&lab, &[]),
     };
     let slice = go_on(&mut lab, Schedule::greedily(), halts, 5);
     same(&rt, &slice.halt, &Halt::Cut);
@@ -135,12 +140,46 @@ fn slices_stop_at_a_breakpoint(rt: HostRuntime) -> Result<(), Fail> {
 }
 
 #[test]
+fn each_third_hit_is_stopped_at(rt: HostRuntime) -> Result<(), Fail> {
+    let node = NodeId::new(0);
+    let (mut lab, _) = begun(&rt, rt.alloc(), CALLS)?;
+    let ten = ValueTest {
+        variable: Variable::DataWord(0),
+        comparison: Comparison::Equal,
+        number: 10,
+    };
+    let third = [Breakpoint {
+        node,
+        watched: Watched::Comes(Spot { cell: 5, slot: 2 }),
+        condition: Some(ten),
+        hits: Some(HitCount::Each(3)),
+    }];
+    let mut halts = Halts {
+        breakpoints: &third,
+        stops: true,
+        tally: kept_hits(&lab, &third),
+    };
+    // The second `dup` is come to by event 8, and then by each 18th.
+    let hit = go_on(&mut lab, Schedule::greedily(), halts, 100);
+    same(&rt, &hit.events, &44);
+    halts.tally = hit.tally;
+    let again = go_on(&mut lab, hit.schedule, halts, 100);
+    same(&rt, &again.events, &54);
+    same(&rt, &reverse_to(&mut lab, node, &third), &54);
+    same(&rt, &kept_hits(&lab, &third).counts[0], &3);
+    same(&rt, &reverse_to(&mut lab, node, &third), &44);
+    Ok(())
+}
+
+#[test]
 fn a_store_is_stopped_at(rt: HostRuntime) -> Result<(), Fail> {
     let node = NodeId::new(0);
     let (mut lab, _) = begun(&rt, rt.alloc(), STORES)?;
     let written = Breakpoint {
         node,
         watched: Watched::Writes(9),
+        condition: None,
+        hits: None,
     };
     let Some(main) = breakpoint_of_address(node, 0) else {
         panic!(&rt; "address 0 is a cell");
@@ -148,6 +187,7 @@ fn a_store_is_stopped_at(rt: HostRuntime) -> Result<(), Fail> {
     let halts = Halts {
         breakpoints: &[written, main],
         stops: true,
+        tally: kept_hits(&lab, &[]),
     };
     let hit = go_on(&mut lab, Schedule::greedily(), halts, 100);
     same(&rt, &hit.events, &7);

@@ -2,10 +2,8 @@
 
 use crate::adapter::assert_body;
 use crate::asserts::same;
-use ga_adapter::{
-    SourceFile, Spot, Watched, disassembled, open_calls, reverse_continue, spot_behind,
-    stack_trace, step_back, step_back_line,
-};
+use ga_adapter::{SourceFile, Spot, disassembled, open_calls, spot_behind, stack_trace};
+use ga_breakpoints::{Breakpoint, Watched, reverse_to, step_back, step_back_line};
 use ga_grid::NodeId;
 use ga_lab::Lab;
 use ga_notes::{Notes, notes_of};
@@ -102,8 +100,13 @@ fn steps_are_taken_back(rt: HostRuntime) -> Result<(), Fail> {
     same(&rt, &step_back_line(&mut lab, &notes, node), &2);
     same(&rt, &step_back_line(&mut lab, &notes, node), &3);
     let (mut lab, _) = begun(&rt, alloc, 14)?;
-    let double = Watched::Comes(Spot { cell: 3, slot: 0 });
-    same(&rt, &reverse_continue(&mut lab, node, &[double]), &11);
-    same(&rt, &reverse_continue(&mut lab, node, &[double]), &3);
+    let double = Breakpoint {
+        node,
+        watched: Watched::Comes(Spot { cell: 3, slot: 0 }),
+        condition: None,
+        hits: None,
+    };
+    same(&rt, &reverse_to(&mut lab, node, &[double]), &11);
+    same(&rt, &reverse_to(&mut lab, node, &[double]), &3);
     Ok(())
 }

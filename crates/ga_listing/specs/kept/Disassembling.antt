@@ -7,7 +7,7 @@ use Rattle.ga_grid.specs.Load.{load_p_of}
 use Rattle.ga_node.specs.Record.{NodeState}
 use Rattle.ga_text.specs.Lines.{Bytes, Text}
 use Rattle.ga_text.specs.Digits.{decimal3_of}
-use Rattle.ga_source.specs.Saying.{has_bytes, Said, is_word, source_lines, said_from}
+use Rattle.ga_parser.specs.Saying.{has_bytes, Said, is_word, source_lines, said_from}
 
 -- ---- texts that say words
 

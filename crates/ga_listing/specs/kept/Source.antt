@@ -9,7 +9,7 @@ use Rattle.ga_console.specs.Run.{IsFault}
 use Rattle.ga_console.specs.Race.{IsCutShort}
 use Rattle.ga_console.specs.declared.run.Status.{Status}
 use Rattle.ga_console.specs.declared.run.Status.TheVariants.{Done, ImageRefused, StreamFault, NotFinished}
-use Rattle.ga_source.specs.declared.fault.Fault.{Fault}
+use Rattle.ga_parser.specs.declared.fault.Fault.{Fault}
 use Rattle.ga_listing.specs.Source.{IsAssembly, IsAccepted, IsMendedBy, IsFaulty}
 
 -- What may be written once the source was read: nothing where it is refused.

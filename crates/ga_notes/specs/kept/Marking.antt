@@ -1,6 +1,6 @@
 -- The labels that stand last at the cells of a node, as they are noted.
 use Rattle.std.specs.Prelude.{◌≡◌, ◌<◌, ℕ, List, Option, None, slice_index_or}
-use Rattle.ga_source.specs.declared.item.Program.{Program}
+use Rattle.ga_source.specs.declared.program.Program.{Program}
 use Rattle.ga_notes.specs.Source.{last_marked}
 
 -- the label at a cell

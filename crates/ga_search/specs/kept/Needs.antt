@@ -12,9 +12,9 @@ use Rattle.ga_search.specs.declared.needs.Needs.{Needs}
 abbrev pub is_one_of : ℕ → ℕ → Bool
 is_one_of opcodes code = nat_lt ((code + 244) % 256) opcodes
 
--- the node, as an event left it, fetches next, and that may do
+-- this slot of the node, as an event left it, is next, and that may do: slot 4, where it fetches
 abbrev pub may_fetch : Needs → NodeRecord → Bool
-may_fetch needs n = needs.fetches && (n.slot == 4)
+may_fetch needs n = n.slot == needs.slot
 
 -- an own event of this kind, which left its node so, lacks what it needs
 abbrev pub lacks : Needs → NodeRecord → Kind → Bool
@@ -34,7 +34,7 @@ Covers needs (StopsAt node) = Unit
 Covers needs (WaitsAt node) = Unit
 Covers needs (Holds node address word) = 256 ≤ needs.opcodes
 Covers needs (ComesTo node address) = 256 ≤ needs.opcodes
-Covers needs (Reaches node address) = needs.fetches ≡ true
+Covers needs (Reaches node address) = needs.slot ≡ 4
 Covers needs (Writes node address word) = 4 ≤ needs.opcodes
 
 -- and of each of some conditions

@@ -10,7 +10,7 @@ use Rattle.ga_event.specs.declared.made.Made.{Made}
 use Rattle.ga_event.specs.declared.made.Made.TheVariants.{Own, Pass}
 use Rattle.ga_search.specs.declared.numbers.Numbers.{Numbers}
 use Rattle.ga_search.specs.kept.Numbers.{has}
-use Rattle.ga_search.specs.Ready.{can_go}
+use Rattle.ga_races.specs.Ready.{can_go}
 
 -- the set is right about the number
 abbrev pub IsRight : List NodeRecord → Numbers → ℕ → Type 0

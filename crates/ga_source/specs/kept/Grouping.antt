@@ -1,9 +1,9 @@
 -- Groups as the places of their items, while requests are packed.
 use Rattle.std.specs.Prelude.{ℕ, ◌≡◌, ◌<◌, suc, List, [], ◌∷◌, ◌++◌, Option, None, length}
 use Rattle.std.specs.List.{All, flat_map}
-use Rattle.ga_source.specs.declared.item.Item.{Item}
-use Rattle.ga_source.specs.declared.item.Asked.{Asked}
-use Rattle.ga_source.specs.declared.item.Group.{Group}
+use Rattle.ga_parser.specs.declared.item.Item.{Item}
+use Rattle.ga_parser.specs.declared.item.Asked.{Asked}
+use Rattle.ga_source.specs.declared.group.Group.{Group}
 use Rattle.ga_source.specs.declared.packing.Packer.{Packer}
 use Rattle.ga_source.specs.Reading.{begin_at}
 use Rattle.ga_source.specs.Groups.{Placed, placed_at, placed_from}

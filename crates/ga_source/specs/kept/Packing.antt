@@ -1,12 +1,12 @@
 -- Plain requests as groups: each cell a group of its own (docs/REFERENCE.md, "Source"; this project's own).
 use Rattle.std.specs.Prelude.{ℕ, ◌≡◌, ◌%◌, ◌<◌, ◌≤◌, ◌^◌, List, [], ◌∷◌, map, length, slice_index_or, Option, Some, None}
-use Rattle.ga_source.specs.declared.item.Operand.{Operand}
-use Rattle.ga_source.specs.declared.item.Operand.TheVariants.{Number, Label}
-use Rattle.ga_source.specs.declared.item.Item.TheVariants.{Cell}
-use Rattle.ga_source.specs.declared.item.Group.{Group}
-use Rattle.ga_source.specs.declared.item.Request.{Request}
-use Rattle.ga_source.specs.declared.item.Request.TheVariants.{Put, Go}
-use Rattle.ga_source.specs.declared.item.Asked.{Asked}
+use Rattle.ga_parser.specs.declared.item.Operand.{Operand}
+use Rattle.ga_parser.specs.declared.item.Operand.TheVariants.{Number, Label}
+use Rattle.ga_parser.specs.declared.item.Item.TheVariants.{Cell}
+use Rattle.ga_source.specs.declared.group.Group.{Group}
+use Rattle.ga_parser.specs.declared.item.Request.{Request}
+use Rattle.ga_parser.specs.declared.item.Request.TheVariants.{Put, Go}
+use Rattle.ga_parser.specs.declared.item.Asked.{Asked}
 use Rattle.ga_source.specs.declared.packing.Packer.{Packer}
 use Rattle.ga_source.specs.Reading.{begin_at}
 use Rattle.ga_source.specs.Made.{address_behind}

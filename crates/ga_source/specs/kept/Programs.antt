@@ -2,10 +2,10 @@
 use Rattle.std.specs.Prelude.{ℕ, ◌≡◌, Bool, true, false, List, [], ◌∷◌, slice_index_or}
 use Rattle.std.specs.List.{All}
 use Rattle.ga_node.specs.Record.{NodeState}
-use Rattle.ga_source.specs.declared.item.Program.{Program}
+use Rattle.ga_source.specs.declared.program.Program.{Program}
 use Rattle.ga_source.specs.Programs.{IsAssembled}
-use Rattle.ga_source.specs.Saying.{Said}
-use Rattle.ga_source.specs.Plain.{IsOf}
+use Rattle.ga_parser.specs.Saying.{Said}
+use Rattle.ga_source.specs.Asks.{IsOf}
 use Rattle.ga_source.specs.Asks.{IsAsked}
 
 -- a program whose node is marked as begun

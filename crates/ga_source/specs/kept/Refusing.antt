@@ -1,11 +1,11 @@
 -- What is left of a source that only want of memory keeps from being assembled.
 use Rattle.std.specs.Prelude.{ℕ, ◌≡◌, ◌≢◌, ◌<◌, Bool, false, List, [], length, slice_index_or, Some}
 use Rattle.std.specs.List.{All}
-use Rattle.ga_source.specs.declared.scan.TokenKind.TheVariants.{Word}
-use Rattle.ga_source.specs.declared.scan.Token.{Token}
-use Rattle.ga_source.specs.Plain.{body_in, bodies_in}
+use Rattle.ga_parser.specs.declared.scan.TokenKind.TheVariants.{Word}
+use Rattle.ga_parser.specs.declared.scan.Token.{Token}
+use Rattle.ga_parser.specs.Plain.{body_in, bodies_in}
 use Rattle.ga_source.specs.Sound.{node_number_of_words, IsSoundBody}
-use Rattle.ga_source.specs.kept.Hearing.{texts_of}
+use Rattle.ga_parser.specs.kept.Hearing.{texts_of}
 
 -- the words of nodes that haven't begun, each once
 pub record AreSound (begun : List Bool) (bodies : List (List (List ℕ))) : Type 0 where

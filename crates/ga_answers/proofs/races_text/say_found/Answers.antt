@@ -1,8 +1,8 @@
 use Rattle.std.proofs.Common.{ℕ, ◌+◌, List, length, ◌++◌, refl, ap, ◌∙◌}
 use Rattle.std.specs.Prelude.{flat_map}
 use Rattle.ga_text.proofs.SaidLemmas.{cut_here, cut_within}
-use Rattle.ga_search.specs.declared.races.Race.{Race}
-use Rattle.ga_search.specs.declared.readings.Reading.{Reading}
+use Rattle.ga_race_detector.specs.declared.races.Race.{Race}
+use Rattle.ga_race_detector.specs.declared.readings.Reading.{Reading}
 use Rattle.ga_answers.specs.Races.{race_lines_text, reading_text, last_line, listed_text}
 use Rattle.ga_answers.proofs.Saying.{joined_said}
 use Rattle.ga_answers.proofs.races_text.say_found.Goals as goal

@@ -1,7 +1,7 @@
 use Rattle.std.proofs.Common.{◌∙◌, ℕ, ◌-◌, ◌≤◌, length, ap, arith}
 use Rattle.ga_event.specs.Told.{steps_of}
 use Rattle.ga_lab.specs.Machine.{history_of}
-use Rattle.ga_adapter.specs.Moves.{comes_to}
+use Rattle.ga_breakpoints.specs.Back.{comes_to}
 use Rattle.ga_breakpoints.proofs.NodesNow.{not_come, none_came}
 use Rattle.ga_breakpoints.proofs.hits.has_come.Goals as goal
 

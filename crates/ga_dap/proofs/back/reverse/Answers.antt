@@ -2,7 +2,7 @@ use Rattle.std.proofs.Common.{◌∙◌, List, Some, None, refl, ap, subst}
 use Rattle.ga_causal.specs.Dependence.{is_marked}
 use Rattle.ga_text.specs.Lines.{Text}
 use Rattle.ga_grid.specs.declared.node_id.NodeId.{NodeId}
-use Rattle.ga_adapter.specs.declared.moves.Watched.{Watched}
+use Rattle.ga_breakpoints.specs.declared.breakpoint.Breakpoint.{Breakpoint}
 use Rattle.ga_requests.specs.Back.{gone_words, reversed_by}
 use Rattle.ga_dap.specs.Telling.{BackTold}
 use Rattle.ga_dap.proofs.Sends.{carries_so}
@@ -22,7 +22,7 @@ returns c =
       c.in-Some.ensures,
       (
         c.reverse_node-gone.ensures.program
-            ∙ ap (λ (z : List Watched). reversed_by c.args.program.now c.in-Some.node z) (c.as_slice-2.ensures.value ∙ c.in-Ok.ensures),
+            ∙ ap (λ (z : List Breakpoint). reversed_by c.args.program.now c.in-Some.node z) c.as_slice-2.ensures.value,
         (
           before,
           c.reverse_node-gone.result.before,

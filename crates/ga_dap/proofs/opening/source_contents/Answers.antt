@@ -1,5 +1,5 @@
 use Rattle.std.proofs.Common.{List, refl, subst}
-use Rattle.ga_source.specs.declared.item.Program.{Program}
+use Rattle.ga_source.specs.declared.program.Program.{Program}
 use Rattle.ga_notes.specs.Notes.{AreOfSource}
 use Rattle.ga_dap.proofs.opening.source_contents.Goals as goal
 

@@ -1,7 +1,7 @@
 use Rattle.std.proofs.Common.{◌∙◌, ap, sym, arith}
 use Rattle.std.specs.Prelude.{map}
 use Rattle.std.proofs.lemmas.List.{drop_all}
-use Rattle.ga_explorer.specs.Forms.{form_of_command}
+use Rattle.ga_explorer.specs.NoCommand.{form_of_command}
 use Rattle.ga_explorer.specs.kept.Forms.{entry_of}
 use Rattle.ga_explorer.proofs.Finding.{named_here, named_behind}
 use Rattle.ga_explorer.proofs.forms.form_in.Goals as goal

@@ -1,6 +1,6 @@
 use Rattle.std.proofs.Common.{◌≡◌, drop}
 use Rattle.std.specs.Prelude.{map}
-use Rattle.ga_explorer.specs.Forms.{form_of_command}
+use Rattle.ga_explorer.specs.NoCommand.{form_of_command}
 use Rattle.ga_explorer.specs.kept.Forms.{entry_of}
 use Rattle.ga_explorer.proofs.forms.form_in.Given as goal
 

@@ -1,6 +1,6 @@
 use Rattle.std.proofs.Common.{◌∙◌, ◌||◌, Bool, ap, sym, arith, drop, ◌+◌}
 use Rattle.std.proofs.lemmas.List.{drop_all}
-use Rattle.ga_explorer.specs.Forms.{is_upper}
+use Rattle.ga_explorer.specs.NoCommand.{is_upper}
 use Rattle.ga_explorer.proofs.Finding.{upper_at}
 use Rattle.ga_explorer.proofs.forms.is_upper.Goals as goal
 

@@ -1,7 +1,7 @@
 use Rattle.std.proofs.Common.{◌∙◌, ap, sym, arith}
 use Rattle.std.specs.Prelude.{map}
 use Rattle.std.proofs.lemmas.List.{drop_all}
-use Rattle.ga_explorer.specs.Forms.{near_form_in}
+use Rattle.ga_explorer.specs.NoCommand.{near_form_in}
 use Rattle.ga_explorer.specs.kept.Forms.{entry_of}
 use Rattle.ga_explorer.proofs.Finding.{near_here, near_behind}
 use Rattle.ga_explorer.proofs.forms.near_form_in.Goals as goal

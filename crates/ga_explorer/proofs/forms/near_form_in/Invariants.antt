@@ -1,6 +1,6 @@
 use Rattle.std.proofs.Common.{◌≡◌, drop}
 use Rattle.std.specs.Prelude.{map}
-use Rattle.ga_explorer.specs.Forms.{near_form_in}
+use Rattle.ga_explorer.specs.NoCommand.{near_form_in}
 use Rattle.ga_explorer.specs.kept.Forms.{entry_of}
 use Rattle.ga_explorer.proofs.forms.near_form_in.Given as goal
 

@@ -1,7 +1,7 @@
 use Rattle.std.proofs.Common.{◌++◌, refl}
 use Rattle.std.specs.Prelude.{codes}
 use Rattle.ga_text.proofs.SaidLemmas.{cut_here, cut_within}
-use Rattle.ga_explorer.specs.Forms.{cure, no_command}
+use Rattle.ga_explorer.specs.NoCommand.{cure, no_command}
 use Rattle.ga_answers.proofs.Saying.{joined_said}
 use Rattle.ga_explorer.proofs.forms.say_no_command.Goals as goal
 

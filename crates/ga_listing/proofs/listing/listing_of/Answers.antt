@@ -1,5 +1,5 @@
 use Rattle.std.proofs.Common.{◌∙◌, ap}
-use Rattle.ga_source.specs.Saying.{all_said}
+use Rattle.ga_parser.specs.Saying.{all_said}
 use Rattle.ga_listing.proofs.Sources.{listed_seen}
 use Rattle.ga_listing.proofs.listing.listing_of.Goals as goal
 

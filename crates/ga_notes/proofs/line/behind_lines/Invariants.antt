@@ -1,5 +1,5 @@
 use Rattle.std.proofs.Common.{◌≡◌, drop}
-use Rattle.ga_source.specs.Saying.{source_lines}
+use Rattle.ga_parser.specs.Saying.{source_lines}
 use Rattle.ga_notes.proofs.line.behind_lines.Given as goal
 
 abbrev pub invariant-loop-left : goal.invariant-loop-left

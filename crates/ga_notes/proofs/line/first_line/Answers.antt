@@ -1,7 +1,7 @@
 use Rattle.std.proofs.Common.{arith, refl}
 use Rattle.std.proofs.lemmas.Bool.{eq-eqb}
-use Rattle.ga_source.specs.Saying.{is_feed}
-use Rattle.ga_source.proofs.Scanning.{at_end}
+use Rattle.ga_parser.specs.Saying.{is_feed}
+use Rattle.ga_parser.proofs.Scanning.{at_end}
 use Rattle.ga_notes.proofs.LineLemmas.{only_line, none_behind}
 use Rattle.ga_notes.proofs.line.first_line.Goals as goal
 

@@ -1,5 +1,5 @@
 use Rattle.std.proofs.Common.{◌≡◌, ℕ, ◌<◌, get_or, false}
-use Rattle.ga_source.specs.Saying.{is_feed}
+use Rattle.ga_parser.specs.Saying.{is_feed}
 use Rattle.ga_notes.proofs.line.first_line.Given as goal
 
 abbrev pub invariant-loop-i : goal.invariant-loop-i

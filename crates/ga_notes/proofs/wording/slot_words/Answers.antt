@@ -1,5 +1,5 @@
 use Rattle.std.proofs.Common.{List, subst}
-use Rattle.ga_source.specs.declared.scan.Token.{Token}
+use Rattle.ga_parser.specs.declared.scan.Token.{Token}
 use Rattle.ga_source.specs.Mending.{with_numbers, IsAssembledOf}
 use Rattle.ga_notes.proofs.wording.slot_words.Goals as goal
 

@@ -1,5 +1,5 @@
 use Rattle.std.proofs.Common.{List, ◌++◌, arith}
-use Rattle.ga_search.specs.declared.races.Race.{Race}
+use Rattle.ga_race_detector.specs.declared.races.Race.{Race}
 use Rattle.ga_picture.specs.declared.race_marks.Otherwise.TheVariants.{Pass}
 use Rattle.ga_picture.specs.declared.race_marks.RaceMark.{RaceMark}
 use Rattle.ga_picture.specs.RaceMarks.{mark_of_race, marks_of_passes}

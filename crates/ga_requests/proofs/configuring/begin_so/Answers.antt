@@ -1,4 +1,4 @@
-use Rattle.std.proofs.Common.{Bool, true, Some, [], ◌∷◌, codes, refl, sym, subst}
+use Rattle.std.proofs.Common.{Bool, true, Some, None, [], ◌∷◌, codes, refl, sym, subst}
 use Rattle.ga_responses.specs.Sending.{Message}
 use Rattle.ga_responses.proofs.Sent.{sent_one}
 use Rattle.ga_requests.specs.declared.execution.Execution.{Execution}
@@ -18,5 +18,5 @@ returns-in_ok-tell_stopped-clause-sent c =
 
 pub returns-else-stops-clause-sent : goal.returns-else-stops-clause-sent
 returns-else-stops-clause-sent c =
-    let new : Execution = record c.args.execution.now { is_configured = true; goal = Some Continue } in
+    let new : Execution = record c.args.execution.now { is_configured = true; goal = Some Continue; tally = None } in
     ([], subst (λ (z : Bool). BeginsSo z c.args.program.now c.args.execution.now [] new) (sym c.if-stops.false) (refl, refl), refl)

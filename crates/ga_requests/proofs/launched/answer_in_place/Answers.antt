@@ -3,28 +3,28 @@ use Rattle.ga_responses.specs.Sending.{refused_response}
 use Rattle.ga_responses.proofs.Sent.{ok_then, sent_one}
 use Rattle.ga_requests.specs.declared.moving.StepKind.TheVariants.{Over, In, Out}
 use Rattle.ga_responses.specs.declared.request_name.RequestName.TheVariants as the
-use Rattle.ga_requests.proofs.Answered.{only_answers, moves_so, steps_so, sets_so, with_command}
+use Rattle.ga_requests.proofs.Answered.{only_answers, moves_so, steps_so, with_command}
 use Rattle.ga_requests.proofs.launched.answer_in_place.Goals as goal
 
 pub returns-in-SetBreakpoints-clause-sent : goal.returns-in-SetBreakpoints-clause-sent
 returns-in-SetBreakpoints-clause-sent c = with_command _ the.SetBreakpoints c.args.command c.args.launched.now c.args.request.now _ c.args.out.now _ c.in-SetBreakpoints.is
-    (sets_so _ c.set_lines.result c.args.launched.now _ c.set_lines.new.settings c.args.out.now c.set_lines.new.out c.set_lines.ensures.sent refl)
+    c.set_lines_of.ensures.sent
 
 pub returns-in-SetFunctionBreakpoints-clause-sent : goal.returns-in-SetFunctionBreakpoints-clause-sent
 returns-in-SetFunctionBreakpoints-clause-sent c = with_command _ the.SetFunctionBreakpoints c.args.command c.args.launched.now c.args.request.now _ c.args.out.now _ c.in-SetFunctionBreakpoints.is
-    (sets_so _ c.set_points.result c.args.launched.now _ c.set_points.new.settings c.args.out.now c.set_points.new.out c.set_points.ensures.sent refl)
+    c.set_points_of.ensures.sent
 
 pub returns-in-SetInstructionBreakpoints-clause-sent : goal.returns-in-SetInstructionBreakpoints-clause-sent
 returns-in-SetInstructionBreakpoints-clause-sent c = with_command _ the.SetInstructionBreakpoints c.args.command c.args.launched.now c.args.request.now _ c.args.out.now _ c.in-SetInstructionBreakpoints.is
-    (sets_so _ c.set_points-in-SetInstructionBreakpoints.result c.args.launched.now _ c.set_points-in-SetInstructionBreakpoints.new.settings c.args.out.now c.set_points-in-SetInstructionBreakpoints.new.out c.set_points-in-SetInstructionBreakpoints.ensures.sent refl)
+    c.set_points_of-in-SetInstructionBreakpoints.ensures.sent
 
 pub returns-in-SetDataBreakpoints-clause-sent : goal.returns-in-SetDataBreakpoints-clause-sent
 returns-in-SetDataBreakpoints-clause-sent c = with_command _ the.SetDataBreakpoints c.args.command c.args.launched.now c.args.request.now _ c.args.out.now _ c.in-SetDataBreakpoints.is
-    (sets_so _ c.set_points-in-SetDataBreakpoints.result c.args.launched.now _ c.set_points-in-SetDataBreakpoints.new.settings c.args.out.now c.set_points-in-SetDataBreakpoints.new.out c.set_points-in-SetDataBreakpoints.ensures.sent refl)
+    c.set_points_of-in-SetDataBreakpoints.ensures.sent
 
 pub returns-in-SetExceptionBreakpoints-clause-sent : goal.returns-in-SetExceptionBreakpoints-clause-sent
 returns-in-SetExceptionBreakpoints-clause-sent c = with_command _ the.SetExceptionBreakpoints c.args.command c.args.launched.now c.args.request.now _ c.args.out.now _ c.in-SetExceptionBreakpoints.is
-    (sets_so _ c.set_filters.result c.args.launched.now _ c.set_filters.new.settings c.args.out.now c.set_filters.new.out c.set_filters.ensures.sent refl)
+    c.set_filters_of.ensures.sent
 
 pub returns-in-DataBreakpointInfo-clause-sent : goal.returns-in-DataBreakpointInfo-clause-sent
 returns-in-DataBreakpointInfo-clause-sent c = with_command _ the.DataBreakpointInfo c.args.command c.args.launched.now c.args.request.now _ c.args.out.now _ c.in-DataBreakpointInfo.is

@@ -1,6 +1,6 @@
 use Rattle.std.proofs.Common.{Some, None, arith}
 use Rattle.ga_search.specs.kept.Numbers.{has}
-use Rattle.ga_search.proofs.Rounds.{behind_is, none_other}
+use Rattle.ga_races.proofs.Ready.{behind_is, none_other}
 use Rattle.ga_search.proofs.ready.first_before.Goals as goal
 
 pub returns-then-node-turn-clause-first : goal.returns-then-node-turn-clause-first

@@ -1,5 +1,5 @@
 use Rattle.ga_search.specs.kept.Numbers.{has}
-use Rattle.ga_search.proofs.Rounds.{ahead_is}
+use Rattle.ga_races.proofs.Ready.{ahead_is}
 use Rattle.ga_search.proofs.ready.first_behind.Goals as goal
 
 pub returns-in-Some-clause-first : goal.returns-in-Some-clause-first

@@ -1,5 +1,5 @@
 use Rattle.ga_search.specs.kept.Numbers.{has}
-use Rattle.ga_search.proofs.Rounds.{ahead_is, behind_is}
+use Rattle.ga_races.proofs.Ready.{ahead_is, behind_is}
 use Rattle.ga_search.proofs.ready.first_from.Goals as goal
 
 pub returns-in-Some : goal.returns-in-Some

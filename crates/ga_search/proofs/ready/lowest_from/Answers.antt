@@ -1,5 +1,5 @@
 use Rattle.ga_search.specs.kept.Numbers.{has}
-use Rattle.ga_search.proofs.Rounds.{within}
+use Rattle.ga_races.proofs.Ready.{within}
 use Rattle.ga_search.proofs.ready.lowest_from.Goals as goal
 
 pub new-requires : goal.new-requires

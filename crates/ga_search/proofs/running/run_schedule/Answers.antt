@@ -1,8 +1,9 @@
-use Rattle.std.proofs.Common.{◌≡◌, ◌∙◌, None, Some, refl, sym, ap, arith, subst}
+use Rattle.std.proofs.Common.{◌≡◌, ◌∙◌, refl, sym, ap, arith, subst}
 use Rattle.std.specs.Prelude.{is_some}
 use Rattle.ga_search.specs.kept.Ready.{HoldsReady}
-use Rattle.ga_search.specs.Running.{Running, running, held_next}
-use Rattle.ga_search.proofs.Events.{gone_on, made_more, never_more, held_is, ended_reached, ended_halted}
+use Rattle.ga_search.specs.Running.{Running, running, after_events, AreMade, HasEnded}
+use Rattle.ga_search.proofs.Events.{gone_on, never_more}
+use Rattle.ga_search.proofs.Overs.{made_one, over_state, over_made, over_end, over_most}
 use Rattle.ga_search.proofs.running.run_schedule.Goals as goal
 
 pub loop-events-preserved : goal.loop-events-preserved
@@ -11,17 +12,16 @@ loop-events-preserved c =
     let start : Running = running c.args.lab.now c.args.schedule in
     let here : Running = running c.loop-events.lab c.loop-events.schedule in
     let next : Running = running c.advance.new.lab c.advance.new.schedule in
-    let unmet : held_next c.args.until.now here ≡ None =
-    held_is c.args.until.now here next c.in-Ok.seen.made None c.in-Ok.ensures.told c.in-Ok.ensures.moved (sym c.in_default.is ∙ c.in-Ok.ensures.held) in
+    let now = c.in-Ok.ensures in
     record {
-      at = gone_on start here next c.loop-events.events i.at c.in-Ok.ensures.moved;
-      made = made_more start here c.loop-events.events c.in-Ok.seen.made i.at c.in-Ok.ensures.told i.made;
-      never = never_more c.args.until.now start here c.loop-events.events i.at unmet i.never;
-      ready = c.in-Ok.ensures.ready;
-      alone = c.in-Ok.ensures.alone;
-      size = c.in-Ok.ensures.size;
-      words = c.in-Ok.ensures.counted;
-      replays = c.in-Ok.ensures.replays;
+      at = gone_on start here next c.loop-events.events i.at now.moved;
+      made = made_one start here c.loop-events.events i.at now.made i.made;
+      never = never_more c.args.until.now start here c.loop-events.events i.at now.unmet i.never;
+      ready = now.ready;
+      alone = now.alone;
+      size = now.size;
+      words = now.counted;
+      replays = now.replays;
       most = omega arith;
     }
 
@@ -38,30 +38,26 @@ loop-events-init c = record {
   most = omega arith;
 }
 
-pub returns-in-Some-clause-state : goal.returns-in-Some-clause-state
-returns-in-Some-clause-state c =
-    gone_on (running c.args.lab.now c.args.schedule) (running c.loop-events.lab c.loop-events.schedule) (running c.advance.new.lab c.advance.new.schedule) c.loop-events.events c.loop-events.invariant.at c.in-Ok.ensures.moved
-
-pub returns-in-Some-clause-made : goal.returns-in-Some-clause-made
-returns-in-Some-clause-made c =
-    made_more (running c.args.lab.now c.args.schedule) (running c.loop-events.lab c.loop-events.schedule) c.loop-events.events c.in-Ok.seen.made c.loop-events.invariant.at c.in-Ok.ensures.told c.loop-events.invariant.made
-
-pub returns-in-Some-clause-end : goal.returns-in-Some-clause-end
-returns-in-Some-clause-end c =
-    let start : Running = running c.args.lab.now c.args.schedule in
-    let here : Running = running c.loop-events.lab c.loop-events.schedule in
-    let next : Running = running c.advance.new.lab c.advance.new.schedule in
-    let met : held_next c.args.until.now here ≡ Some c.in-Some.which = held_is c.args.until.now here next c.in-Ok.seen.made (Some c.in-Some.which) c.in-Ok.ensures.told c.in-Ok.ensures.moved (sym c.in-Some.is ∙ c.in-Ok.ensures.held) in
-    ended_reached c.args.until.now start here c.args.most c.loop-events.events c.in-Ok.seen.made c.in-Some.which c.loop-events.invariant.at c.loop-events.invariant.never c.in-Ok.ensures.told met
-
 pub returns-in-Err-clause-state : goal.returns-in-Err-clause-state
 returns-in-Err-clause-state c =
-    ap (λ z. running z c.advance.new.schedule) c.in-Err.ensures.same ∙ ap (running c.loop-events.lab) c.in-Err.ensures.stays ∙ c.loop-events.invariant.at
+    over_state c.args.until.now (running c.args.lab.now c.args.schedule) (running c.loop-events.lab c.loop-events.schedule) (running c.advance.new.lab c.advance.new.schedule) c.loop-events.events c.advance.new.end
+    c.loop-events.invariant.at c.in-Err.ensures.over
+    ∙ ap (after_events (running c.args.lab.now c.args.schedule)) (sym c.events_at-events.ensures)
+
+pub returns-in-Err-clause-made : goal.returns-in-Err-clause-made
+returns-in-Err-clause-made c =
+    subst (AreMade (running c.args.lab.now c.args.schedule)) (sym c.events_at-events.ensures)
+    (over_made c.args.until.now (running c.args.lab.now c.args.schedule) (running c.loop-events.lab c.loop-events.schedule) (running c.advance.new.lab c.advance.new.schedule) c.loop-events.events c.advance.new.end
+    c.loop-events.invariant.at c.in-Err.ensures.over c.loop-events.invariant.made)
+
+pub returns-in-Err-clause-most : goal.returns-in-Err-clause-most
+returns-in-Err-clause-most c = omega (arith, c.events_at-events.ensures, over_most c.loop-events.events c.args.most c.advance.new.end c.loop-events-test.true)
 
 pub returns-in-Err-clause-end : goal.returns-in-Err-clause-end
 returns-in-Err-clause-end c =
-    ended_halted c.args.until.now (running c.args.lab.now c.args.schedule) (running c.loop-events.lab c.loop-events.schedule) c.args.most c.loop-events.events c.in-Err.end
-    c.loop-events.invariant.at c.loop-events-test.true c.loop-events.invariant.never c.in-Err.ensures.halted
+    subst (λ z. HasEnded (running c.args.lab.now c.args.schedule) c.args.most c.args.until.now z c.advance.new.end) (sym c.events_at-events.ensures)
+    (over_end c.args.until.now (running c.args.lab.now c.args.schedule) (running c.loop-events.lab c.loop-events.schedule) (running c.advance.new.lab c.advance.new.schedule) c.args.most c.loop-events.events c.advance.new.end
+    c.loop-events.invariant.at c.loop-events-test.true c.in-Err.ensures.over c.loop-events.invariant.never)
 
 pub returns-clause-state : goal.returns-clause-state
 returns-clause-state c = c.loop-events.invariant.at

@@ -1,6 +1,6 @@
 use Rattle.std.proofs.Common.{rules, refl, ◌≡◌, ◌<◌, ◌≤◌, length, slice_index_or, subst}
 use Rattle.std.specs.Prelude.{Err}
-use Rattle.ga_source.specs.declared.item.Group.{Group}
+use Rattle.ga_source.specs.declared.group.Group.{Group}
 use Rattle.ga_source.specs.Cells.{KeepsElsewhere}
 use Rattle.ga_source.specs.kept.Layout.{takes_group}
 use Rattle.ga_source.specs.kept.Loading.{IsLoadedGroup}

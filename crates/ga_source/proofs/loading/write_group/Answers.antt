@@ -1,7 +1,7 @@
 use Rattle.std.proofs.Common.{rules, ◌≡◌, ◌∙◌, ℕ, Option, ◌<◌, ◌≤◌, None, ap, subst, List, length, slice_index_or}
-use Rattle.ga_source.specs.declared.item.Item.{Item}
+use Rattle.ga_parser.specs.declared.item.Item.{Item}
 use Rattle.ga_source.specs.kept.Words.{nothing}
-use Rattle.ga_source.specs.declared.item.Operand.TheVariants.{Number}
+use Rattle.ga_parser.specs.declared.item.Operand.TheVariants.{Number}
 use Rattle.ga_source.proofs.CellGroups.{given_set, cell_item}
 use Rattle.ga_source.proofs.Walking.{nil_of}
 use Rattle.ga_source.proofs.Held.{written_first, written_step, written_last, slot_there, empty_loaded}

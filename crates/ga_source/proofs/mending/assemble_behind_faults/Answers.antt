@@ -1,6 +1,6 @@
 use Rattle.std.proofs.Common.{rules, arith, sym, subst, ◌≡◌, ◌∙◌, ◌++◌, ◌∷◌, [], List, length}
 use Rattle.std.proofs.lemmas.List.{length-append}
-use Rattle.ga_source.specs.declared.scan.Token.{Token}
+use Rattle.ga_parser.specs.declared.scan.Token.{Token}
 use Rattle.ga_source.specs.Mending.{IsAssembledOf}
 use Rattle.ga_source.proofs.Numbering.{next_mended, none_mended}
 use Rattle.ga_source.proofs.mending.assemble_behind_faults.Goals as goal

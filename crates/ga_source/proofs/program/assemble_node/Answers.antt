@@ -1,41 +1,36 @@
 use Rattle.std.specs.Prelude.{Err}
 use Rattle.std.proofs.Common.{inl, inr, refl, rules, ◌≡◌, ◌∙◌, sym, ap, subst, List}
-use Rattle.ga_source.specs.declared.item.Asked.{Asked}
-use Rattle.ga_source.specs.declared.item.Request.{Request}
-use Rattle.ga_source.specs.declared.item.Registers.{Registers}
-use Rattle.ga_source.specs.Plain.{Plain, value_in}
+use Rattle.ga_parser.specs.declared.item.Asked.{Asked}
+use Rattle.ga_parser.specs.declared.item.Request.{Request}
+use Rattle.ga_parser.specs.declared.item.Registers.{Registers}
+use Rattle.ga_parser.specs.Plain.{Plain, value_in}
 use Rattle.ga_source.specs.Sound.{cells_from, AreDistinctCells}
-use Rattle.ga_source.specs.kept.Hearing.{texts_of}
+use Rattle.ga_parser.specs.kept.Hearing.{texts_of}
 use Rattle.ga_source.specs.kept.Packing.{requests_of, ArePlain, AreNumbers}
 use Rattle.ga_source.proofs.CellGroups.{plain_words}
 use Rattle.ga_source.proofs.PlainNodes.{plain_requests, plain_registers}
-use Rattle.ga_source.proofs.PlainAsked.{plain_told, plain_untold, no_names}
-use Rattle.ga_source.specs.kept.Answering.{refusal_of}
-use Rattle.ga_source.specs.kept.Drafting.{asking_of}
+use Rattle.ga_parser.proofs.PlainAsked.{plain_told, plain_untold}
+use Rattle.ga_parser.specs.Requests.{word_refusal}
 use Rattle.ga_source.proofs.program.assemble_node.Goals as goal
 
 pub returns-clause-asked : goal.returns-clause-asked
 returns-clause-asked c = record {
   begins = refl;
-  last = asking_of c.in_ok-asked.field-0;
-  asks = c.in_ok-asked.ensures;
-  asked = refl;
-  names = c.into_list-names.ensures;
-  registers = refl;
+  requests = c.in_ok-asked.ensures.asked;
 }
 
 pub returns-clause-asks : goal.returns-clause-asks
-returns-clause-asks c = λ plain is. (plain_told c.args.line c.args.tokens.now plain is c.in_ok-asked.field-0 c.in_ok-asked.ensures).0
+returns-clause-asks c = λ plain is. (plain_told c.args.line c.args.tokens.now plain is c.in_ok-asked.field-0 c.in_ok-asked.ensures.asked).0
 
 pub returns-clause-names : goal.returns-clause-names
-returns-clause-names c = λ plain is. no_names c.into_list-names.result.items c.in_ok-asked.field-0.labels c.into_list-names.ensures (plain_told c.args.line c.args.tokens.now plain is c.in_ok-asked.field-0 c.in_ok-asked.ensures).1
+returns-clause-names c = λ plain is. (plain_told c.args.line c.args.tokens.now plain is c.in_ok-asked.field-0 c.in_ok-asked.ensures.asked).1
 
 pub returns-in_err-asked-clause-refused : goal.returns-in_err-asked-clause-refused
 returns-in_err-asked-clause-refused c =
     let e : c.from_residual.result ≡ Err c.in_err-asked.field-0.0 = search rules in
-    rw e (λ plain kinds is free. elim c.in_err-asked.ensures [
+    rw e (λ plain kinds is free. elim c.in_err-asked.ensures.refused [
       | inl memory ↦ memory
-      | inr refused ↦ absurd (plain_untold c.args.line c.args.tokens.now plain is (refusal_of c.in_err-asked.field-0.0) refused kinds)
+      | inr refused ↦ absurd (plain_untold c.args.line c.args.tokens.now plain is (word_refusal c.in_err-asked.field-0.0) refused kinds)
     ])
 
 pub returns-in_err-packed-clause-refused : goal.returns-in_err-packed-clause-refused
@@ -43,21 +38,21 @@ returns-in_err-packed-clause-refused c =
     let e : c.from_residual-in_err-packed.result ≡ Err c.in_err-packed.field-0.0 = search rules in
     rw e (λ plain kinds is free.
     c.in_err-packed.ensures.refused (subst (λ (list : List Asked). ArePlain (requests_of list)) (sym c.as_slice.ensures.value)
-    (plain_requests (texts_of c.args.tokens.now) plain c.in_ok-asked.field-0.asked.items c.in_ok-asked.field-0.registers is (plain_told c.args.line c.args.tokens.now plain is c.in_ok-asked.field-0 c.in_ok-asked.ensures).0)))
+    (plain_requests (texts_of c.args.tokens.now) plain c.in_ok-asked.field-0.asked.items c.in_ok-asked.field-0.registers is (plain_told c.args.line c.args.tokens.now plain is c.in_ok-asked.field-0 c.in_ok-asked.ensures.asked).0)))
 
 pub returns-in_err-set_registers-clause-refused : goal.returns-in_err-set_registers-clause-refused
 returns-in_err-set_registers-clause-refused c =
     let e : c.from_residual-in_err-set_registers.result ≡ Err c.in_err-set_registers.field-0.0 = search rules in
     rw e (λ plain kinds is free.
     absurd (c.in_err-set_registers.ensures.refused (subst (λ (r : Registers). AreNumbers (value_in r.p) (value_in r.a) (value_in r.b)) (sym c.registers_of-registers.ensures)
-    (plain_registers (texts_of c.args.tokens.now) plain c.in_ok-asked.field-0.asked.items c.in_ok-asked.field-0.registers c.as_slice-2.result.now c.has_cells.result is (plain_told c.args.line c.args.tokens.now plain is c.in_ok-asked.field-0 c.in_ok-asked.ensures).0
-    (c.as_slice-2.ensures.value ∙ no_names c.into_list-names.result.items c.in_ok-asked.field-0.labels c.into_list-names.ensures (plain_told c.args.line c.args.tokens.now plain is c.in_ok-asked.field-0 c.in_ok-asked.ensures).1)))))
+    (plain_registers (texts_of c.args.tokens.now) plain c.in_ok-asked.field-0.asked.items c.in_ok-asked.field-0.registers c.as_slice-2.result.now c.has_cells.result is (plain_told c.args.line c.args.tokens.now plain is c.in_ok-asked.field-0 c.in_ok-asked.ensures.asked).0
+    (c.as_slice-2.ensures.value ∙ (plain_told c.args.line c.args.tokens.now plain is c.in_ok-asked.field-0 c.in_ok-asked.ensures.asked).1)))))
 
 pub returns-in_err-load-clause-refused : goal.returns-in_err-load-clause-refused
 returns-in_err-load-clause-refused c =
     let e : c.from_residual-in_err-load.result ≡ Err c.in_err-load.field-0.0 = search rules in
     rw e (λ plain kinds is free.
-    let asks = (plain_told c.args.line c.args.tokens.now plain is c.in_ok-asked.field-0 c.in_ok-asked.ensures).0 in
+    let asks = (plain_told c.args.line c.args.tokens.now plain is c.in_ok-asked.field-0 c.in_ok-asked.ensures.asked).0 in
     let same : plain.requests ≡ requests_of c.as_slice.result.now = ap (λ (p : Plain). p.requests) (sym asks) ∙ ap requests_of (sym c.as_slice.ensures.value) in
     let are : ArePlain (requests_of c.as_slice.result.now) = subst (λ (list : List Asked). ArePlain (requests_of list)) (sym c.as_slice.ensures.value)
     (plain_requests (texts_of c.args.tokens.now) plain c.in_ok-asked.field-0.asked.items c.in_ok-asked.field-0.registers is asks) in

@@ -1,7 +1,7 @@
 use Rattle.std.specs.Prelude.{not, is_some}
 use Rattle.std.proofs.Common.{rules, ◌≡◌, ◌∙◌, [], ap, sym, refl, length}
 use Rattle.std.proofs.lemmas.Bool.{true≢false, eq-eqb}
-use Rattle.ga_source.specs.declared.item.Group.{Group}
+use Rattle.ga_source.specs.declared.group.Group.{Group}
 use Rattle.ga_source.specs.declared.packing.Packer.{Packer}
 use Rattle.ga_source.proofs.CellGroups.{one_group}
 use Rattle.ga_source.proofs.Walking.{closed_nothing, closed_group, nil_of, none_of}

@@ -1,7 +1,7 @@
 use Rattle.std.proofs.Common.{rules, ◌++◌, ◌∷◌, [], sym, subst}
 use Rattle.std.proofs.lemmas.Bool.{both_ways}
-use Rattle.ga_source.specs.declared.item.Asked.{Asked}
-use Rattle.ga_source.specs.declared.item.Request.TheVariants.{Put}
+use Rattle.ga_parser.specs.declared.item.Asked.{Asked}
+use Rattle.ga_parser.specs.declared.item.Request.TheVariants.{Put}
 use Rattle.ga_source.specs.kept.Layout.{IsKnown, IsWalked}
 use Rattle.ga_source.specs.kept.Grouping.{IsGrouped}
 use Rattle.ga_source.specs.kept.Packing.{IsPackedPlain}

@@ -1,9 +1,0 @@
-use Rattle.std.proofs.Common.{ap, ◌∙◌}
-use Rattle.ga_adapter.specs.Stepping.{op_told}
-use Rattle.ga_adapter.proofs.Beginnings.{begins_so}
-use Rattle.ga_adapter.proofs.stepping.begins_behind.Goals as goal
-
-pub returns : goal.returns
-returns c =
-    begins_so c.args.notes.now c.args.lab.now c.args.node c.args.step c.place_back-before.result c.spot_back-there.result c.spot_back-spot.result c.op_told.result c.comes_on.result
-    c.place_back-before.ensures.value c.spot_back-there.ensures.spot c.spot_back-spot.ensures.spot (c.op_told.ensures ∙ ap op_told c.told-told.ensures) c.comes_on.ensures

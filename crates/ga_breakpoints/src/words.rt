@@ -1,0 +1,97 @@
+//! From which cell the instruction word of a node came, followed from step to step: no step looks back for it.
+
+ghost use Rattle.std.specs.Prelude.{◌≡◌, ◌<◌, ◌≤◌, ◌+◌};
+ghost use Rattle.ga_node.specs.Record.{record_of};
+ghost use Rattle.ga_event.specs.Told.{steps_of};
+ghost use Rattle.ga_lab.specs.Machine.{standing};
+ghost use Rattle.ga_origin.specs.Fetched.{fetched_cell};
+ghost use Rattle.ga_adapter.specs.Spots.{spot_by};
+ghost use Rattle.ga_breakpoints.specs.kept.Words.{keeps_kind, awaits_code, keeps_word, word_after};
+
+use ga_adapter::{Spot, memory_cell, slot_and_p};
+use ga_grid::NodeId;
+use ga_lab::{Lab, Made, Walk};
+use ga_node::{Kind, Node, Wait};
+use ga_origin::fetched_near;
+
+/// Whether an event of a node's own leaves its word.
+fn keeps_kind(kind: Kind) -> bool
+    ensures { result ≡ keeps_kind kind }
+{
+    match kind {
+        Kind::Fetch => false,
+        Kind::Run(code) => code < 32,
+        Kind::Wait => true,
+        Kind::Stop(_) => true,
+    }
+}
+
+fn awaits_code(wait: Wait) -> bool
+    ensures { result ≡ awaits_code wait }
+{
+    match wait {
+        Wait::Fetch(_) => true,
+        Wait::Read(_) => false,
+        Wait::Write(_) => false,
+        Wait::Nothing => false,
+    }
+}
+
+/// Whether a step of which this is told leaves the word of a node that was so before it.
+fn keeps_word(told: &Option<Made>, before: &Node, node: NodeId) -> bool
+    ensures { result ≡ keeps_word told.now (record_of before.now) node.number }
+{
+    match told {
+        Some(Made::Own { kind, .. }) => keeps_kind(*kind),
+        Some(Made::Pass { reader, .. }) => {
+            if node.number == reader.number {
+                !awaits_code(before.wait())
+            } else {
+                true
+            }
+        }
+        None => false,
+    }
+}
+
+/// The cell from which the word came that stands in a node behind so many steps. Takes time by how many it made since the fetch.
+pub(crate) fn word_behind(lab: &Lab, node: NodeId, step: u32) -> Option<u8>
+    requires { step ≤ steps_of node.number lab.now.kept }
+    ensures { result ≡ fetched_cell lab.now node step }
+{
+    fetched_near(lab, &lab.walk(node, step), node, node, step)
+}
+
+/// The same behind the step at which a walk of the node stands, where the word before it came from this cell. Takes as long whatever is kept.
+pub(crate) fn word_after(lab: &Lab, walk: &Walk<'_>, node: NodeId, word: Option<u8>) -> Option<u8>
+    requires walk { walk.now ≡ standing lab.now node walk.now.step }
+    requires within { walk.now.step < steps_of node.number lab.now.kept }
+    ensures { result ≡ word_after lab.now node walk.now.step word }
+{
+    // It is less than the node's steps, so that one more can be counted.
+    let steps = lab.steps(node);
+    let place = walk.step();
+    prove!(place < steps);
+    if keeps_word(&lab.told(node, place), walk.node(), node) {
+        word
+    } else {
+        word_behind(lab, node, place + 1)
+    }
+}
+
+/// Where a node stands whose word came from this cell.
+pub(crate) fn spot_by(node: &Node, word: Option<u8>) -> Option<Spot>
+    ensures { result ≡ spot_by (record_of node.now) word }
+{
+    let (slot, p) = slot_and_p(node);
+    if slot == 4 {
+        return match memory_cell(p) {
+            Some(cell) => Some(Spot { cell, slot: 0 }),
+            None => None,
+        };
+    }
+    match word {
+        Some(cell) => Some(Spot { cell, slot }),
+        None => None,
+    }
+}

@@ -1,0 +1,147 @@
+-- The commands of exploring: of each how a line spells it, what it answers, and what `help` says of it (docs/REFERENCE.md, "Exploring";
+-- this project's own).
+use Rattle.std.specs.Prelude.{◌≡◌, ℕ, ◌≤◌, nat_eq, if◌then◌else◌, List, [], ◌∷◌, length, slice_get, codes, Option, Some, None, option_map}
+use Rattle.std.specs.Cmp.Lexicographic.{pointwise}
+use Rattle.ga_text.specs.Lines.{Text, Line}
+use Rattle.ga_text.specs.Parsing.{cut, node_in}
+use Rattle.ga_ports.specs.Steps.{◌>>=◌}
+use Rattle.ga_lab.specs.Machine.{State}
+use Rattle.ga_search.specs.Conditions.{conditions_asked}
+use Rattle.ga_search.specs.Backward.{newest_held, left_from, gone_from}
+use Rattle.ga_search.specs.Running.{running, after_events, AreMade, HasEnded}
+use Rattle.ga_search.specs.Schedules.{in_rounds}
+use Rattle.ga_search.specs.declared.schedule.Schedule.{Schedule}
+use Rattle.ga_search.specs.declared.condition.Condition.{Condition}
+use Rattle.ga_search.specs.declared.running.End.{End}
+use Rattle.ga_notes.specs.declared.notes.Notes.{Notes}
+use Rattle.ga_answers.specs.Texts.{run_text, back_text, link_words_text, chip_text}
+use Rattle.ga_answers.specs.Telling.{TellsEffects, TellsWho}
+use Rattle.ga_answers.specs.Saved.{saved_text}
+use Rattle.ga_answers.specs.Writing.{writes_text}
+use Rattle.ga_answers.specs.Around.{around_text}
+use Rattle.ga_answers.specs.Trees.{TellsWhence}
+use Rattle.ga_answers.specs.Because.{because_text}
+use Rattle.ga_answers.specs.Races.{TellsRaces}
+use Rattle.ga_explorer.specs.Which.{step_meant}
+use Rattle.ga_explorer.specs.Forms.{CommandForm, entry, place_from, form_rows_text, about_found}
+use Rattle.ga_explorer.specs.Reading.{run_in, back_in, most_events, no_condition, node_and_step, two_nodes, node_and_cell, node_and_steps}
+use Rattle.ga_explorer.specs.Exploring.{Exploring}
+use Rattle.ga_explorer.specs.declared.commands.ExplorerCommand.{ExplorerCommand}
+use Rattle.ga_explorer.specs.declared.commands.ExplorerCommand.TheVariants as asked
+
+-- ---- what `help` says of them
+
+-- those of the debugger too, in the order of `help`
+unfoldable pub rows : List CommandForm
+rows =
+    entry (codes "run") (codes "run [greedy|random SEED] [N] [until COND]") (codes "\n                      make up to N events, in rounds or in this order\nCOND: pass NNN MMM = W, pass NNN MMM J, step NNN K, stop, stop NNN, wait NNN,\n      mem NNN HH = W, p NNN X, reach NNN X, change NNN HH [= W], COND or COND\nX: an address, a label, line N\n") (codes "answers: reached M EVENT, made M, quiet M or full M: how many events, and why no more\nexample: run 1000 until stop or reach 001 000012\n")
+    ∷ entry (codes "chip") (codes "chip") (codes "                  what each node does\n") (codes "answers: rows 7 to 0 of nodes: . made no step, * runs, x stopped, @ waits for code, ? reads, ! writes\nexample: chip\n")
+    ∷ entry (codes "who") (codes "who") (codes "                   who waits for whom, and which nodes can never go on\n") (codes "answers: for each that waits what it does, and the nodes that it awaits; then stuck, ring and idle\nexample: who\n")
+    ∷ entry (codes "effects") (codes "effects NNN K") (codes "         what rewind NNN K would take\n") (codes "answers: effects X N, and for each of N nodes its first step that would go, and how many would\nexample: effects 001 last\n")
+    ∷ entry (codes "words") (codes "words NNN MMM") (codes "         the words that went from NNN to MMM\n") (codes "answers: words NNN MMM C, and for each of C words its number, the steps of both nodes and the word\nexample: words 000 001\n")
+    ∷ entry (codes "writes") (codes "writes NNN HH") (codes "         the steps that wrote the cell HH of NNN, the newest first\n") (codes "answers: for each the step, the opcode and the word that stood there then\nexample: writes 001 20\n")
+    ∷ entry (codes "at") (codes "at NNN K [N]") (codes "          N steps before and behind step K of NNN, with registers\n") (codes "answers: for each the step, what it did, and the registers t, s, r, a, b and p behind it\nexample: at 001 last 5\n")
+    ∷ entry (codes "whence") (codes "whence NNN K") (codes "          the steps whose values went into what step K of NNN made\n") (codes "answers: a tree: below each step, two blanks deeper, the steps that made the values it used\nexample: whence 001 last\n")
+    ∷ entry (codes "because") (codes "because NNN K [N]") (codes "     N steps before step K at which a value decided where NNN went on\nK of effects, at, whence, because: a step's number, or last\n") (codes "answers: for each the step and the word that it tested, and below it the step that made that word\nexample: because 001 last\n")
+    ∷ entry (codes "races") (codes "races [NNN]") (codes "           steps that could have come out otherwise, and how\n") (codes "answers: races N, and for each of N steps what else it could have got, and two commands that lead there\nexample: races 001\n")
+    ∷ entry (codes "save") (codes "save") (codes "                  the kept events as lines of debug\n") (codes "answers: step NNN for each kept event, the oldest first\nexample: save\n")
+    ∷ entry (codes "help") (codes "help [COMMAND]") (codes "        these lines, or more of one command\n") (codes "answers: the command's form and what it does, what it answers, and an example\nexample: help why\n")
+    ∷ entry (codes "step") (codes "step NNN") (codes "              make the next event of NNN\n") (codes "answers: NNN K and what the step did, or pass WWW K RRR J W: the word W went from WWW to RRR\nexample: step 001\n")
+    ∷ entry (codes "back") (codes "back [[NNN] until COND]") (codes "\n                      take the newest event back; or that behind which COND held last,\n                      with all since; or such a step of NNN, with what depends on it\n") (codes "answers: removed X kept M: X events went, and M are left; or none, and nothing changes, where COND held behind no event\nexample: back until change 001 20\n")
+    ∷ entry (codes "rewind") (codes "rewind NNN K") (codes "          take step K of NNN back, with all that depends on it\n") (codes "answers: removed X kept M: X events went, and M are left\nexample: rewind 001 4\n")
+    ∷ entry (codes "node") (codes "node NNN") (codes "              what NNN holds\n") (codes "answers: the state, the registers and both stacks, the top first\nexample: node 001\n")
+    ∷ entry (codes "mem") (codes "mem NNN HH") (codes "            the word at HH of the memory of NNN\n") (codes "answers: mem NNN HH W: RAM below 80, ROM from there on\nexample: mem 001 20\n")
+    ∷ entry (codes "trace") (codes "trace NNN") (codes "             the steps of NNN\n") (codes "answers: trace NNN C, and C events, the oldest first\nexample: trace 001\n")
+    ∷ entry (codes "why") (codes "why NNN K MMM J") (codes "       by which events step K of NNN led to step J of MMM\n") (codes "answers: chain C, and C events from the cause to what came of it; or independent\nexample: why 000 3 001 7, the cause first: did step 3 of 000 lead to step 7 of 001?\n")
+    ∷ entry (codes "count") (codes "count") (codes "                 how many events are kept and were made\n") (codes "answers: kept K made M limit L\nexample: count\n")
+    ∷ entry (codes "dump") (codes "dump") (codes "                  the chip as an image\n") (codes "answers: an image of format 2, which every command reads\nexample: dump\n")
+    ∷ entry (codes "quit") (codes "quit") (codes "                  end\n") (codes "answers: nothing\nexample: quit\n")
+    ∷ []
+
+-- the place of the command of this name
+abbrev pub place_of_form : Line → Option ℕ
+place_of_form word = place_from word 0 rows
+
+-- what is told of the command at a place
+abbrev pub command_text : ℕ → Text
+command_text place = about_found (slice_get rows place)
+
+-- ---- how a line spells one of exploring
+
+-- a command of one word
+unfoldable pub lone_request : Line → Option ExplorerCommand
+lone_request name =
+    if pointwise nat_eq name (codes "run") then Some (asked.Run in_rounds most_events no_condition)
+    else if pointwise nat_eq name (codes "who") then Some asked.Who
+    else if pointwise nat_eq name (codes "races") then Some (asked.Races None)
+    else if pointwise nat_eq name (codes "chip") then Some asked.Chip
+    else if pointwise nat_eq name (codes "save") then Some asked.Save
+    else if pointwise nat_eq name (codes "help") then Some asked.Help
+    else None
+
+-- a command of a word and what stands behind it
+unfoldable pub named_request : Option Notes → Line → Line → Option ExplorerCommand
+named_request notes name text =
+    if pointwise nat_eq name (codes "run") then run_in notes text
+    else if pointwise nat_eq name (codes "back") then back_in notes text
+    else if pointwise nat_eq name (codes "effects") then (do
+      it ← node_and_step text
+      Some (asked.Effects it.0 it.1))
+    else if pointwise nat_eq name (codes "words") then (do
+      it ← two_nodes text
+      Some (asked.Words it.0 it.1))
+    else if pointwise nat_eq name (codes "writes") then (do
+      it ← node_and_cell text
+      Some (asked.Writes it.0 it.1))
+    else if pointwise nat_eq name (codes "at") then (do
+      it ← node_and_steps text
+      Some (asked.At it.0 it.1 it.2))
+    else if pointwise nat_eq name (codes "whence") then (do
+      it ← node_and_step text
+      Some (asked.Whence it.0 it.1))
+    else if pointwise nat_eq name (codes "because") then (do
+      it ← node_and_steps text
+      Some (asked.Because it.0 it.1 it.2))
+    else if pointwise nat_eq name (codes "races") then option_map (λ node. asked.Races (Some node)) (node_in text)
+    else if pointwise nat_eq name (codes "help") then option_map asked.HelpOf (place_of_form text)
+    else None
+
+abbrev pub request_by : Option Notes → Option (Line × Line) → Line → Option ExplorerCommand
+request_by notes None line = lone_request line
+request_by notes (Some parts) line = named_request notes parts.0 parts.1
+
+-- the command of exploring that a line spells, where it spells one
+abbrev pub request_in : Option Notes → Line → Option ExplorerCommand
+request_in notes line = request_by notes (cut line) line
+
+-- ---- what one of exploring answers
+
+-- Events were made in the order of the schedule, at most so many, up to the first after which one of the conditions holds: the text
+-- says how many and why no more, and the machine is the one after them.
+pub record IsRun (s : State) (schedule : Schedule) (most : ℕ) (until : List Condition) (answer : Text) (new : State) : Type 0 where
+  pub events : ℕ
+  pub end : End
+  pub made : AreMade (running s schedule) events
+  pub within : events ≤ most
+  pub ended : HasEnded (running s schedule) most until events end
+  pub state : new ≡ (after_events (running s schedule) events).state
+  pub text : answer ≡ run_text (length until) events end
+
+-- what is answered to a command of exploring, and what is explored then
+abbrev pub Explored : Exploring → ExplorerCommand → Text → Exploring → Type 0
+Explored e (asked.Run schedule most until) answer new = IsRun e.lab schedule most (conditions_asked until) answer new.lab × (new.notes ≡ e.notes)
+Explored e (asked.BackUntil only until) answer new =
+    (answer ≡ back_text (gone_from only e.lab (newest_held (conditions_asked until) only e.lab)) (length new.lab.kept))
+    × (new.lab ≡ left_from only e.lab (newest_held (conditions_asked until) only e.lab)) × (new.notes ≡ e.notes)
+Explored e (asked.Effects node which) answer new = TellsEffects e.lab node (step_meant e.lab node which) answer × (new ≡ e)
+Explored e (asked.Words from to) answer new = (answer ≡ link_words_text e.lab from to) × (new ≡ e)
+Explored e (asked.Writes node address) answer new = (answer ≡ writes_text e.lab node address) × (new ≡ e)
+Explored e (asked.At node which around) answer new = (answer ≡ around_text e.notes e.lab node (step_meant e.lab node which) around) × (new ≡ e)
+Explored e (asked.Whence node which) answer new = TellsWhence e.notes e.lab node (step_meant e.lab node which) answer × (new ≡ e)
+Explored e (asked.Because node which most) answer new = (answer ≡ because_text e.notes e.lab node (step_meant e.lab node which) most) × (new ≡ e)
+Explored e (asked.Races only) answer new = TellsRaces e.lab only answer × (new ≡ e)
+Explored e asked.Who answer new = TellsWho e.lab answer × (new ≡ e)
+Explored e asked.Chip answer new = (answer ≡ chip_text e.lab) × (new ≡ e)
+Explored e asked.Save answer new = (answer ≡ saved_text e.lab) × (new ≡ e)
+Explored e asked.Help answer new = (answer ≡ form_rows_text rows) × (new ≡ e)
+Explored e (asked.HelpOf place) answer new = (answer ≡ command_text place) × (new ≡ e)

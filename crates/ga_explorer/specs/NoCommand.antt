@@ -1,0 +1,73 @@
+-- What is said of a line that spells no command (docs/REFERENCE.md, "Exploring"; this project's own).
+use Rattle.std.specs.Prelude.{nat_eq, nat_le, Bool, false, ◌==◌, ◌&&◌, ◌||◌, if◌then◌else◌, List, [], ◌∷◌, ◌++◌, length, codes, Option, Some, None}
+use Rattle.std.specs.Cmp.Lexicographic.{pointwise}
+use Rattle.std.specs.List.{starts_with, ends_with}
+use Rattle.ga_text.specs.Lines.{Text, Line}
+use Rattle.ga_text.specs.Parsing.{cut}
+use Rattle.ga_explorer.specs.Forms.{CommandForm}
+use Rattle.ga_explorer.specs.Commands.{rows}
+
+-- the first two letters are exchanged, and the others the same
+unfoldable pub are_exchanged : Line → Text → Bool
+are_exchanged (first ∷ second ∷ rest) (other ∷ letter ∷ more) = (first == letter) && (second == other) && pointwise nat_eq rest more
+are_exchanged _ _ = false
+
+-- The word is the name but for one letter, which is missing, too much or another; or but for two that stand together and are
+-- exchanged. So their distance is one at most, where it counts insertions, deletions, substitutions and transpositions of
+-- neighbours (Damerau 1964).
+unfoldable pub is_near : Line → Text → Bool
+is_near [] name = nat_le (length name) 1
+is_near (first ∷ rest) [] = length rest == 0
+is_near (first ∷ rest) (letter ∷ more) =
+    if first == letter then is_near rest more
+    else pointwise nat_eq rest more || (pointwise nat_eq rest (letter ∷ more) || (pointwise nat_eq (first ∷ rest) more || are_exchanged (first ∷ rest) (letter ∷ more)))
+
+-- the form of the command of this name
+unfoldable pub form_of_command : Line → List CommandForm → Option Text
+form_of_command word [] = None
+form_of_command word (row ∷ more) = if pointwise nat_eq row.name word then Some row.form else form_of_command word more
+
+-- the form of the first command that has nearly this name
+unfoldable pub near_form_in : Line → List CommandForm → Option Text
+near_form_in word [] = None
+near_form_in word (row ∷ more) = if is_near word row.name then Some row.form else near_form_in word more
+
+abbrev pub form_or : Option Text → Text → Text
+form_or None other = other
+form_or (Some form) other = form
+
+abbrev pub form_for : Line → Text
+form_for word = form_or (form_of_command word rows) (form_or (near_form_in word rows) (codes "help"))
+
+-- the word with which a line begins
+abbrev pub first_word : Option (Line × Line) → Line → Line
+first_word None line = line
+first_word (Some parts) line = parts.0
+
+-- the byte order mark of UTF-8 stands before it
+abbrev pub is_mark : Line → Bool
+is_mark line = starts_with nat_eq line (239 ∷ 187 ∷ 191 ∷ [])
+
+abbrev pub is_return : Line → Bool
+is_return line = ends_with nat_eq line (13 ∷ [])
+
+-- a blank or a tab stands at an end
+abbrev pub has_blank_end : Line → Bool
+has_blank_end line = starts_with nat_eq line (32 ∷ []) || (starts_with nat_eq line (9 ∷ []) || (ends_with nat_eq line (32 ∷ []) || ends_with nat_eq line (9 ∷ [])))
+
+-- A letter is in upper case.
+unfoldable pub is_upper : Line → Bool
+is_upper [] = false
+is_upper (letter ∷ more) = (nat_le 65 letter && nat_le letter 90) || is_upper more
+
+-- what to write in place of the line
+abbrev pub cure : Line → Text
+cure line =
+    if is_mark line then codes "a byte order mark stands before the command; leave it out"
+    else if is_return line then codes "a carriage return ends the line; end it with a line feed alone"
+    else if has_blank_end line then codes "a blank stands at an end of the line; leave it out"
+    else if is_upper (first_word (cut line) line) then codes "the command is in upper case; write it in lower case"
+    else form_for (first_word (cut line) line)
+
+abbrev pub no_command : Line → Text
+no_command line = codes "no 31 syntax: " ++ cure line ++ codes "\n"

@@ -1,0 +1,171 @@
+-- Plain words, heard one by one.
+use Rattle.std.proofs.Common.{◌≡◌, ◌∙◌, ℕ, ◌<◌, inl, inr, Bool, true, false, List, [], ◌∷◌, Option, Some, None, arith, ap, sym, refl, subst, slice_index_or, get_or}
+use Rattle.std.specs.Prelude.{Result, Ok, Err, IfErr, codes, bytes_eq}
+use Rattle.std.proofs.lemmas.Bool.{cond-true, cond-false, cases_Bool}
+use Rattle.std.proofs.lemmas.Slice.Eq.{bytes_eq-Decides}
+use Rattle.ga_parser.specs.declared.number.Number.{Number as NumberIn}
+use Rattle.ga_parser.specs.declared.number.Number.TheVariants.{Of, OutOfRange, Nothing as NoNumber}
+use Rattle.ga_parser.specs.declared.item.Operand.TheVariants.{Number}
+use Rattle.ga_parser.specs.declared.item.Item.TheVariants.{Cell}
+use Rattle.ga_parser.specs.declared.vocabulary.Directive.{Directive}
+use Rattle.ga_parser.specs.declared.vocabulary.Directive.TheVariants.{Address as GoesOn, Register as Gives}
+use Rattle.ga_parser.specs.declared.vocabulary.Register.TheVariants.{P, A, B}
+use Rattle.ga_parser.specs.declared.item.Request.TheVariants.{Put, Go}
+use Rattle.ga_parser.specs.declared.draft.Expect.{Expect}
+use Rattle.ga_parser.specs.declared.draft.Expect.TheVariants.{Word, Address, Name, Register, Nothing}
+use Rattle.ga_parser.specs.Asking.{carried}
+use Rattle.ga_ports.specs.Steps.{◌>>=◌}
+use Rattle.ga_ports.specs.Letters.{set_number}
+use Rattle.ga_parser.specs.Numbers.{by_name, number_by_word}
+use Rattle.ga_parser.specs.Plain.{Plain, with_two_words, with_request, by_number, only_if, is_cell, plain_from}
+use Rattle.ga_parser.specs.Vocabulary.{directives}
+use Rattle.ga_parser.specs.kept.Hearing.{Heard, end_of, may_give, next_of, hear, hear_all}
+
+abbrev is_some : {X : Type 0} → Option X → Type 0
+is_some (Some _) = Unit {0}
+is_some None = ⊥
+
+pub no_some : {X : Type 0} {x : X} → None ≡ Some x → ⊥
+no_some e = subst is_some (sym e) tt
+
+abbrev option_or_default : {X : Type 0} → X → Option X → X
+option_or_default x (Some y) = y
+option_or_default x None = x
+
+-- what holds of an error
+pub if_err_weaker : {T E : Type 0} (r : Result T E) (Before After : E → Type 0) → ((e : E) → Before e → After e) → IfErr r Before → IfErr r After
+if_err_weaker (Ok x) Before After weaker h = tt
+if_err_weaker (Err e) Before After weaker h = weaker e h
+
+-- ---- directives
+
+pub same_text : (text name : List ℕ) → bytes_eq text name ≡ true → text ≡ name
+same_text text name same = (bytes_eq-Decides text name).0 same
+
+named : (text name : List ℕ) (d : Directive) → by_name directives name ≡ Some d → bytes_eq text name ≡ true → by_name directives text ≡ Some d
+named text name d is same = subst (λ t. by_name directives t ≡ Some d) (sym (same_text text name same)) is
+
+-- ---- numbers
+
+abbrev is_of : NumberIn → Type 0
+is_of (Of _) = ⊥
+is_of _ = Unit {0}
+
+abbrev number_or_0 : NumberIn → ℕ
+number_or_0 (Of n) = n
+number_or_0 _ = 0
+
+pub of_same : (n m : ℕ) → Of n ≡ Of m → n ≡ m
+of_same n m e = ap number_or_0 e
+
+no_number : {n : ℕ} → NoNumber ≡ Of n → ⊥
+no_number e = subst is_of e tt
+
+-- a word with an apostrophe in front says no number
+label_no_number : (name : List ℕ) → number_by_word (39 ∷ name) ≡ NoNumber
+unfolding set_number
+label_no_number [] = refl
+label_no_number (a ∷ []) = refl
+label_no_number (a ∷ b ∷ []) = refl
+label_no_number (a ∷ b ∷ c ∷ []) = refl
+label_no_number (a ∷ b ∷ c ∷ d ∷ name) = refl
+
+pub no_label : (text : List ℕ) (n : ℕ) → get_or text 0 0 ≡ 39 → number_by_word text ≡ Of n → ⊥
+no_label [] n first is = absurd (omega arith)
+no_label (b ∷ name) n first is = no_number (sym (label_no_number name) ∙ (ap (λ (c : ℕ). number_by_word (c ∷ name)) (sym first) ∙ is))
+
+-- what is done on `Ok`, of one number
+pub same_number : (n m : ℕ) (number : NumberIn) → Of n ≡ number → number ≡ Of m → n ≡ m
+same_number n m number is asked = of_same n m (is ∙ asked)
+
+-- an address of a cell, without bit 9, is itself
+pub not_carried : (n : ℕ) (is_set : Bool) → is_set ≡ false → n < 512 → carried is_set n ≡ n
+not_carried n is_set e small = ap (λ (b : Bool). carried b n) e ∙ omega arith
+
+-- where a number asks for something, there is one
+pub record IsNumbered {X : Type 0} (number : NumberIn) (asks : ℕ → Option X) (x : X) : Type 0 where
+  pub n : ℕ
+  pub is : number ≡ Of n
+  pub gives : asks n ≡ Some x
+
+pub some_same : {X : Type 0} (x y : X) → Some x ≡ Some y → x ≡ y
+some_same x y e = ap (λ o. option_or_default x o) e
+
+pub numbered : {X : Type 0} (number : NumberIn) (asks : ℕ → Option X) (x : X) → by_number number asks ≡ Some x → IsNumbered number asks x
+numbered (Of n) asks x e = record { n = n; is = refl; gives = e }
+numbered OutOfRange asks x e = absurd (no_some e)
+numbered NoNumber asks x e = absurd (no_some e)
+
+-- what a test allows
+pub allowed : {X : Type 0} (b : Bool) (x y : X) → only_if b x ≡ Some y → (b ≡ true) × (x ≡ y)
+allowed true x y e = (refl, some_same x y e)
+allowed false x y e = absurd (no_some e)
+
+-- ---- plain words are heard as they are read in pairs
+
+-- a number, where the rest is heard as it is read
+number_pair : (number : NumberIn) (f : ℕ → Option Plain) (g : ℕ → Option Heard) (read : Plain → Option Plain) (k : Heard → Option Plain) (all : Plain) → ((n : ℕ) → (f n >>= read) ≡ Some all → (g n >>= k) ≡ Some all) → (by_number number f >>= read) ≡ Some all → (by_number number g >>= k) ≡ Some all
+number_pair (Of n) f g read k all goes is = goes n is
+number_pair OutOfRange f g read k all goes is = absurd (no_some is)
+number_pair NoNumber f g read k all goes is = absurd (no_some is)
+
+-- the same where a test allows it
+allowed_pair : (b : Bool) (plain : Plain) (heard : Heard) (read : Plain → Option Plain) (k : Heard → Option Plain) (all : Plain) → (read plain ≡ Some all → k heard ≡ Some all) → (only_if b plain >>= read) ≡ Some all → (only_if b heard >>= k) ≡ Some all
+allowed_pair true plain heard read k all goes is = goes is
+allowed_pair false plain heard read k all goes is = absurd (no_some is)
+
+module _ (plain all : Plain) (first second : List ℕ) (words : List (List ℕ)) (again : (more : Plain) → plain_from more words ≡ Some all → hear_all (record { expect = Word; plain = more }) words ≡ Some all) where
+  comma_pair : bytes_eq second (codes ",") ≡ true → (with_two_words plain first second >>= (λ more. plain_from more words)) ≡ Some all → hear_all (record { expect = Word; plain = plain }) (first ∷ second ∷ words) ≡ Some all
+  unfolding hear_all
+  comma_pair comma is =
+      ap (λ (o : Option Heard). o >>= (λ now. hear_all now (second ∷ words))) (cond-true (bytes_eq second (codes ",")) _ _ comma)
+      ∙ number_pair (number_by_word first) (λ n. Some (with_request plain (Put (Cell (Number n))))) (λ n. Some (record { expect = Nothing; plain = with_request plain (Put (Cell (Number n))) }))
+      (λ more. plain_from more words) (λ now. hear_all now (second ∷ words)) all (λ n. again (with_request plain (Put (Cell (Number n)))))
+      (ap (λ (o : Option Plain). o >>= (λ more. plain_from more words)) (sym (cond-true (bytes_eq second (codes ",")) _ _ comma)) ∙ is)
+
+  directive_pair : (d : Directive) (e : Expect) (may : ℕ → Bool) (f : ℕ → Plain) → bytes_eq second (codes ",") ≡ false → by_name directives first ≡ Some d → next_of d ≡ Some e → ((n : ℕ) → hear (record { expect = e; plain = plain }) second (slice_index_or words 0 []) ≡ by_number (number_by_word second) (λ n. only_if (may n) (record { expect = Word; plain = f n }))) → (by_number (number_by_word second) (λ n. only_if (may n) (f n)) >>= (λ more. plain_from more words)) ≡ Some all → hear_all (record { expect = Word; plain = plain }) (first ∷ second ∷ words) ≡ Some all
+  unfolding hear_all
+  directive_pair d e may f no_comma named next hears is =
+      ap (λ (o : Option Heard). o >>= (λ now. hear_all now (second ∷ words)))
+      (cond-false (bytes_eq second (codes ",")) _ _ no_comma
+      ∙ (ap (λ (o : Option Directive). (o >>= next_of) >>= (λ x. Some (record { expect = x; plain = plain }))) named
+      ∙ ap (λ (o : Option Expect). o >>= (λ x. Some (record { expect = x; plain = plain }))) next))
+      ∙ (ap (λ (o : Option Heard). o >>= (λ now. hear_all now words)) (hears 0)
+      ∙ number_pair (number_by_word second) (λ n. only_if (may n) (f n)) (λ n. only_if (may n) (record { expect = Word; plain = f n })) (λ more. plain_from more words) (λ now. hear_all now words) all
+      (λ n. allowed_pair (may n) (f n) (record { expect = Word; plain = f n }) (λ more. plain_from more words) (λ now. hear_all now words) all (again (f n))) is)
+
+  pub pair : (with_two_words plain first second >>= (λ more. plain_from more words)) ≡ Some all → hear_all (record { expect = Word; plain = plain }) (first ∷ second ∷ words) ≡ Some all
+  pair is = elim (cases_Bool (bytes_eq second (codes ","))) [
+    | inl comma ↦ comma_pair comma is
+    | inr other ↦ elim (cases_Bool (bytes_eq first (codes "org"))) [
+      | inl org ↦ directive_pair GoesOn Address (λ n. is_cell n) (λ n. with_request plain (Go n)) other (named first (codes "org") GoesOn refl org) refl (λ n. refl) (rw (other, org) at is)
+      | inr no_org ↦ elim (cases_Bool (bytes_eq first (codes "/p"))) [
+        | inl p ↦ directive_pair (Gives P) (Register P) (λ n. may_give plain P n) (λ n. record plain { p = Some (Number n) }) other (named first (codes "/p") (Gives P) refl p) refl (λ n. refl) (rw (other, no_org, p) at is)
+        | inr no_p ↦ elim (cases_Bool (bytes_eq first (codes "/a"))) [
+          | inl a ↦ directive_pair (Gives A) (Register A) (λ n. may_give plain A n) (λ n. record plain { a = Some (Number n) }) other (named first (codes "/a") (Gives A) refl a) refl (λ n. refl) (rw (other, no_org, no_p, a) at is)
+          | inr no_a ↦ elim (cases_Bool (bytes_eq first (codes "/b"))) [
+            | inl b ↦ directive_pair (Gives B) (Register B) (λ n. may_give plain B n) (λ n. record plain { b = Some (Number n) }) other (named first (codes "/b") (Gives B) refl b) refl (λ n. refl) (rw (other, no_org, no_p, no_a, b) at is)
+            | inr no_b ↦ absurd (no_some (rw (other, no_org, no_p, no_a, no_b) at is))
+          ]
+        ]
+      ]
+    ]
+  ]
+
+-- plain words are heard one by one as they are read
+pub hear_plain : (words : List (List ℕ)) (plain all : Plain) → plain_from plain words ≡ Some all → hear_all (record { expect = Word; plain = plain }) words ≡ Some all
+unfolding hear_all plain_from
+hear_plain [] plain all is = is
+hear_plain (word ∷ []) plain all is = absurd (no_some is)
+hear_plain (first ∷ second ∷ words) plain all is = pair plain all first second words (λ more. hear_plain words more all) is
+
+-- behind the last
+ended : (e : Expect) (plain all : Plain) → end_of (record { expect = e; plain = plain }) ≡ Some all → plain ≡ all
+ended Word plain all is = some_same plain all is
+ended Address plain all is = absurd (no_some is)
+ended Name plain all is = absurd (no_some is)
+ended (Register register) plain all is = absurd (no_some is)
+ended Nothing plain all is = some_same plain all is
+
+pub end_heard : (heard : Heard) (all : Plain) → end_of heard ≡ Some all → heard.plain ≡ all
+end_heard heard all is = ended heard.expect heard.plain all is

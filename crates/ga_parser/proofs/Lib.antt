@@ -1,0 +1,9 @@
+pub mod Scanning
+pub mod Columns
+pub mod Numbers
+pub mod Ranges
+pub mod Hearing
+pub mod Naming
+pub mod Asking
+pub mod PlainAsked
+pub mod Labelling

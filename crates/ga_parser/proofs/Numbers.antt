@@ -1,0 +1,95 @@
+-- The number that digits write, as it is read digit by digit.
+use Rattle.std.specs.Prelude.{min, option_map}
+use Rattle.std.proofs.Common.{◌≡◌, ◌∙◌, ℕ, ◌+◌, ◌*◌, ◌<◌, ◌≤◌, inl, inr, true, false, ltb, leb, List, [], ◌∷◌, length, take, get_or, Option, Some, None, arith, ap, sym, refl}
+use Rattle.std.specs.List.{list_all}
+use Rattle.std.specs.Char.{digit_value, is_digit}
+use Rattle.std.specs.Str.Parse.{digits_value}
+use Rattle.std.specs.Option.{option_map_or}
+use Rattle.std.proofs.Math.Nat.{mul-le-mul_left}
+use Rattle.std.proofs.lemmas.Bool.{cases_lt, cond-false, and_from, lt-ltb, le-ltb, lt-leb}
+use Rattle.std.proofs.lemmas.List.{take_all}
+use Rattle.std.proofs.lemmas.List.Folds.{list_all_more, list_all_at}
+use Rattle.std.proofs.lemmas.Int.Digits.{digits_value_more}
+use Rattle.ga_parser.specs.declared.number.Number.TheVariants.{Of, OutOfRange, Nothing}
+use Rattle.ga_parser.specs.Numbers.{digits_in, word_of_size, word_below}
+
+-- a number, or the greatest that is told
+abbrev told : ℕ → ℕ
+told n = min n 16777216
+
+-- a digit behind a number that is told as the greatest doesn't bring it back
+next_told : (base n d : ℕ) → 1 ≤ base → told (told n * base + d) ≡ told (n * base + d)
+next_told base n d one = elim (cases_lt n 16777216) [
+  | inl small ↦ let e : min n 16777216 ≡ n = omega arith in ap (λ (m : ℕ). min (m * base + d) 16777216) e
+  | inr large ↦
+      let e : min n 16777216 ≡ 16777216 = omega arith in
+      let more : n * 1 ≤ n * base = mul-le-mul_left n one in
+      ap (λ (m : ℕ). min (m * base + d) 16777216) e ∙ omega arith
+]
+
+-- ---- one digit more
+
+pub digit_more : (base : ℕ) (text : List ℕ) (i : ℕ) → i < length text → digit_value (get_or text i 0) < base → list_all (λ byte. is_digit byte base) (take i text) ≡ true → list_all (λ byte. is_digit byte base) (take (i + 1) text) ≡ true
+digit_more base text i below digit all =
+    list_all_more (λ byte. is_digit byte base) text i 0 below
+    ∙ and_from (list_all (λ byte. is_digit byte base) (take i text)) (is_digit (get_or text i 0) base) all (lt-ltb (digit_value (get_or text i 0)) base digit)
+
+pub digits_more : (base : ℕ) (text : List ℕ) (i n d : ℕ) → i < length text → 2 ≤ base → n ≡ min (digits_value base (take i text)) 16777216 → d ≡ digit_value (get_or text i 0) → min (n * base + d) 16777216 ≡ min (digits_value base (take (i + 1) text)) 16777216
+digits_more base text i n d below two is_n is_d =
+    ap (λ (m : ℕ). told (m * base + d)) is_n
+    ∙ (next_told base (digits_value base (take i text)) d (omega arith)
+    ∙ (ap (λ (z : ℕ). told (digits_value base (take i text) * base + z)) is_d
+    ∙ ap told (sym (digits_value_more base text i below))))
+
+-- ---- where the text ends, and where it is no numeral
+
+pub no_digits : (base : ℕ) (text : List ℕ) → length text ≡ 0 → None ≡ option_map (λ n. min n 16777216) (digits_in base text)
+no_digits base [] none = refl
+no_digits base (b ∷ text) none = absurd (omega arith)
+
+no_numeral : (base : ℕ) (text : List ℕ) → list_all (λ byte. is_digit byte base) text ≡ false → None ≡ option_map (λ n. min n 16777216) (digits_in base text)
+no_numeral base [] some = refl
+no_numeral base (b ∷ text) some = rw some refl
+
+pub no_digit : (base : ℕ) (text : List ℕ) (i : ℕ) → i < length text → (digit_value (get_or text i 0) < base → ⊥) → None ≡ option_map (λ n. min n 16777216) (digits_in base text)
+no_digit base text i below none =
+    no_numeral base text (list_all_at (λ byte. is_digit byte base) text i 0 below
+    (let least : base ≤ digit_value (get_or text i 0) = omega arith in le-ltb (digit_value (get_or text i 0)) base least))
+
+numeral : (base : ℕ) (text : List ℕ) → 0 < length text → list_all (λ byte. is_digit byte base) text ≡ true → digits_in base text ≡ Some (digits_value base text)
+numeral base [] some all = absurd (omega arith)
+numeral base (b ∷ text) some all = rw all refl
+
+pub all_digits : (base : ℕ) (text : List ℕ) (i n : ℕ) → 0 < length text → length text ≤ i → list_all (λ byte. is_digit byte base) (take i text) ≡ true → n ≡ min (digits_value base (take i text)) 16777216 → Some n ≡ option_map (λ n. min n 16777216) (digits_in base text)
+all_digits base text i n some end all is_n =
+    let whole = take_all i text end in
+    ap Some (is_n ∙ ap (λ (front : List ℕ). told (digits_value base front)) whole)
+    ∙ ap (option_map told) (sym (numeral base text some (ap (list_all (λ byte. is_digit byte base)) (sym whole) ∙ all)))
+
+-- ---- what is told of the number suffices
+
+size_told : (n : ℕ) → word_of_size (told n) ≡ word_of_size n
+size_told n = elim (cases_lt n 16777216) [
+  | inl small ↦ let e : min n 16777216 ≡ n = omega arith in ap word_of_size e
+  | inr large ↦
+      let e : min n 16777216 ≡ 16777216 = omega arith in
+      let past : 262144 ≤ n = omega arith in
+      ap word_of_size e ∙ sym (cond-false (ltb n 262144) (Of n) OutOfRange (le-ltb n 262144 past))
+]
+
+below_told : (n : ℕ) → word_below (told n) ≡ word_below n
+below_told n = elim (cases_lt n 16777216) [
+  | inl small ↦ let e : min n 16777216 ≡ n = omega arith in ap word_below e
+  | inr large ↦
+      let e : min n 16777216 ≡ 16777216 = omega arith in
+      let past : 131072 < n = omega arith in
+      ap word_below e ∙ sym (cond-false (leb n 131072) _ OutOfRange (lt-leb n 131072 past))
+]
+
+pub read_size : (number read : Option ℕ) → read ≡ option_map (λ n. min n 16777216) number → option_map_or word_of_size read Nothing ≡ option_map_or word_of_size number Nothing
+read_size None read e = ap (λ (o : Option ℕ). option_map_or word_of_size o Nothing) e
+read_size (Some n) read e = ap (λ (o : Option ℕ). option_map_or word_of_size o Nothing) e ∙ size_told n
+
+pub read_below : (number read : Option ℕ) → read ≡ option_map (λ n. min n 16777216) number → option_map_or word_below read Nothing ≡ option_map_or word_below number Nothing
+read_below None read e = ap (λ (o : Option ℕ). option_map_or word_below o Nothing) e
+read_below (Some n) read e = ap (λ (o : Option ℕ). option_map_or word_below o Nothing) e ∙ below_told n

@@ -1,0 +1,211 @@
+-- What a text says, as it is read line by line and word by word.
+use Rattle.std.proofs.Common.{◌≡◌, ◌∙◌, ℕ, zero, suc, ◌+◌, ◌<◌, ◌≤◌, inl, inr, Bool, true, false, not, cond, ltb, List, [], ◌∷◌, ◌++◌, length, take, drop, get_or, arith, ap, sym, refl, add-one, append_assoc, append-nil}
+use Rattle.std.specs.Prelude.{if◌then◌else◌, codes, bytes_eq, filter}
+use Rattle.std.specs.List.{list_all}
+use Rattle.std.proofs.lemmas.Bool.{cond-true, cond-false, both_ways, and_parts, cases_Bool, le-ltb, lt-ltb}
+use Rattle.ga_parser.specs.declared.scan.TokenKind.TheVariants.{LongLine, OpenComment}
+use Rattle.ga_parser.specs.Saying.{onto_first_part, parted, is_blank, source_lines, has_bytes, source_words, longest_source_line, bare, Said, a_word, a_fault, is_word, closes, spoken, said_by, up_to_fault, next_line, said_from}
+use Rattle.ga_parser.specs.kept.Telling.{IsTold}
+
+-- ---- parts
+
+-- a byte that doesn't end it belongs to the part
+pub past_byte : (ends : ℕ → Bool) (b : ℕ) (text : List ℕ) → ends b ≡ false → parted ends (b ∷ text) ≡ onto_first_part b (parted ends text)
+unfolding parted
+past_byte ends b text other = rw other refl
+
+-- the first part ends before the first byte that ends one
+pub at_end : (ends : ℕ → Bool) (text : List ℕ) (i : ℕ) → i < length text → ((k : ℕ) → k < i → ends (get_or text k 0) ≡ false) → ends (get_or text i 0) ≡ true → parted ends text ≡ take i text ∷ parted ends (drop (i + 1) text)
+unfolding parted
+at_end ends [] i within none here = absurd (omega arith)
+at_end ends (b ∷ text) zero within none here = rw here refl
+at_end ends (b ∷ text) (suc i) within none here =
+    let again : parted ends text ≡ take i text ∷ parted ends (drop (i + 1) text) = at_end ends text i (omega arith) (λ k below. none (suc k) (omega arith)) here in
+    past_byte ends b text (none 0 (omega arith)) ∙ ap (onto_first_part b) again ∙ rw (add-one, add-one) refl
+
+-- without one the text is a part
+pub no_end : (ends : ℕ → Bool) (text : List ℕ) → 0 < length text → ((k : ℕ) → k < length text → ends (get_or text k 0) ≡ false) → parted ends text ≡ text ∷ parted ends []
+unfolding parted
+no_end ends [] some none = absurd (omega arith)
+no_end ends (b ∷ []) some none = past_byte ends b [] (none 0 (omega arith))
+no_end ends (b ∷ c ∷ text) some none =
+    past_byte ends b (c ∷ text) (none 0 (omega arith)) ∙ ap (onto_first_part b) (no_end ends (c ∷ text) (omega arith) (λ k below. none (suc k) (omega arith)))
+
+-- ---- the words of a line
+
+-- a part with bytes is a word, and one without is none
+words_split : (rest part behind : List ℕ) → parted is_blank rest ≡ part ∷ parted is_blank behind → source_words rest ≡ cond (has_bytes part) (part ∷ source_words behind) (source_words behind)
+words_split rest part behind e = ap (λ (parts : List (List ℕ)). filter has_bytes parts) e
+
+-- a line without bytes has no word
+pub no_words : (rest : List ℕ) → length rest ≡ 0 → source_words rest ≡ []
+unfolding parted
+no_words [] none = refl
+no_words (b ∷ rest) none = absurd (omega arith)
+
+-- a word, or no bytes, behind a `(` that isn't closed yet
+pub hear_open : (line : ℕ) (rest part behind : List ℕ) → parted is_blank rest ≡ part ∷ parted is_blank behind → spoken line true (source_words rest) ≡ spoken line (not (closes part)) (source_words behind)
+unfolding spoken
+hear_open line rest [] behind e = ap (spoken line true) (words_split rest [] behind e)
+hear_open line rest (b ∷ part) behind e = ap (spoken line true) (words_split rest (b ∷ part) behind e)
+
+-- `\` as a word
+pub hear_remark : (line : ℕ) (rest part behind : List ℕ) → parted is_blank rest ≡ part ∷ parted is_blank behind → bytes_eq part (codes "\\") ≡ true → spoken line false (source_words rest) ≡ []
+unfolding spoken
+hear_remark line rest [] behind e remark = absurd (both_ways false refl remark)
+hear_remark line rest (b ∷ part) behind e remark =
+    ap (spoken line false) (words_split rest (b ∷ part) behind e) ∙ cond-true (bytes_eq (b ∷ part) (codes "\\")) [] _ remark
+
+-- `(` as a word
+pub hear_opening : (line : ℕ) (rest part behind : List ℕ) → parted is_blank rest ≡ part ∷ parted is_blank behind → bytes_eq part (codes "\\") ≡ false → bytes_eq part (codes "(") ≡ true → spoken line false (source_words rest) ≡ spoken line true (source_words behind)
+unfolding spoken
+hear_opening line rest [] behind e no_remark opening = absurd (both_ways false refl opening)
+hear_opening line rest (b ∷ part) behind e no_remark opening =
+    ap (spoken line false) (words_split rest (b ∷ part) behind e)
+    ∙ (cond-false (bytes_eq (b ∷ part) (codes "\\")) [] _ no_remark
+    ∙ cond-true (bytes_eq (b ∷ part) (codes "(")) (spoken line true (source_words behind)) _ opening)
+
+-- no bytes
+pub hear_nothing : (line : ℕ) (rest part behind : List ℕ) → parted is_blank rest ≡ part ∷ parted is_blank behind → length part ≡ 0 → spoken line false (source_words rest) ≡ spoken line false (source_words behind)
+hear_nothing line rest [] behind e none = ap (spoken line false) (words_split rest [] behind e)
+hear_nothing line rest (b ∷ part) behind e none = absurd (omega arith)
+
+-- any other word
+pub hear_word : (line : ℕ) (rest part behind : List ℕ) → parted is_blank rest ≡ part ∷ parted is_blank behind → 0 < length part → bytes_eq part (codes "\\") ≡ false → bytes_eq part (codes "(") ≡ false → spoken line false (source_words rest) ≡ a_word line part ∷ spoken line false (source_words behind)
+unfolding spoken
+hear_word line rest [] behind e some no_remark no_opening = absurd (omega arith)
+hear_word line rest (b ∷ part) behind e some no_remark no_opening =
+    ap (spoken line false) (words_split rest (b ∷ part) behind e)
+    ∙ (cond-false (bytes_eq (b ∷ part) (codes "\\")) [] _ no_remark
+    ∙ cond-false (bytes_eq (b ∷ part) (codes "(")) (spoken line true (source_words behind)) _ no_opening)
+
+-- ---- faults of lines
+
+-- nothing is left out where there is no fault
+whole_front : (front rest : List Said) → list_all is_word front ≡ true → up_to_fault (front ++ rest) ≡ front ++ up_to_fault rest
+unfolding up_to_fault
+whole_front [] rest whole = refl
+whole_front (said ∷ front) rest whole =
+    let parts = and_parts (is_word said) (list_all is_word front) whole in
+    ap (λ (tail : List Said). said ∷ tail) (cond-true (is_word said) (up_to_fault (front ++ rest)) [] parts.0 ∙ whole_front front rest parts.1)
+
+-- a fault stands last in what words say
+fault_last : (line : ℕ) (is_open : Bool) (words : List (List ℕ)) (rest : List Said) → list_all is_word (spoken line is_open words) ≡ false → up_to_fault (spoken line is_open words ++ rest) ≡ spoken line is_open words
+unfolding spoken up_to_fault
+fault_last line false [] rest faulty = absurd (both_ways true faulty refl)
+fault_last line true [] rest faulty = refl
+fault_last line true (word ∷ words) rest faulty = fault_last line (not (closes word)) words rest faulty
+fault_last line false (word ∷ words) rest faulty = elim (cases_Bool (bytes_eq word (codes "\\"))) [
+  | inl remark ↦ absurd (both_ways true (rw remark at faulty) refl)
+  | inr other ↦ elim (cases_Bool (bytes_eq word (codes "("))) [
+    | inl opening ↦ rw (other, opening) (fault_last line true words rest (rw (other, opening) at faulty))
+    | inr plain ↦ rw (other, plain) (ap (λ (tail : List Said). a_word line word ∷ tail) (fault_last line false words rest (rw (other, plain) at faulty)))
+  ]
+]
+
+-- and so in what a line says
+line_fault_last : (line : ℕ) (text : List ℕ) (rest : List Said) → list_all is_word (said_by line text) ≡ false → up_to_fault (said_by line text ++ rest) ≡ said_by line text
+unfolding up_to_fault
+line_fault_last line text rest faulty = elim (cases_Bool (ltb longest_source_line (length text))) [
+  | inl long ↦ rw long refl
+  | inr short ↦ rw short (fault_last line false (source_words text) rest (rw short at faulty))
+]
+
+-- ---- one line after another
+
+module _ (line : ℕ) (rest whole first behind : List ℕ) (e : source_lines rest ≡ whole ∷ source_lines behind) (without : first ≡ bare line whole) where
+  -- the line without what an editor added
+  line_said : said_from line (source_lines rest) ≡ (if bytes_eq first (codes "end") then [] else said_by line first ++ said_from (next_line line) (source_lines behind))
+  unfolding said_from
+  line_said =
+      ap (said_from line) e
+      ∙ ap (λ (text : List ℕ). if bytes_eq text (codes "end") then [] else said_by line text ++ said_from (next_line line) (source_lines behind)) (sym without)
+
+  -- a line `end`
+  pub at_end_line : bytes_eq first (codes "end") ≡ true → up_to_fault (said_from line (source_lines rest)) ≡ []
+  unfolding up_to_fault
+  at_end_line is = ap up_to_fault (line_said ∙ cond-true (bytes_eq first (codes "end")) [] (said_by line first ++ said_from (next_line line) (source_lines behind)) is)
+
+  pub ends_here : bytes_eq first (codes "end") ≡ true → said_from line (source_lines rest) ≡ []
+  ends_here is = line_said ∙ cond-true (bytes_eq first (codes "end")) [] (said_by line first ++ said_from (next_line line) (source_lines behind)) is
+
+  -- any other line
+  pub other_line : bytes_eq first (codes "end") ≡ false → said_from line (source_lines rest) ≡ said_by line first ++ said_from (next_line line) (source_lines behind)
+  other_line other = line_said ∙ cond-false (bytes_eq first (codes "end")) [] (said_by line first ++ said_from (next_line line) (source_lines behind)) other
+
+  -- a line with a fault
+  pub at_faulty_line : bytes_eq first (codes "end") ≡ false → list_all is_word (said_by line first) ≡ false → up_to_fault (said_from line (source_lines rest)) ≡ said_by line first
+  at_faulty_line other faulty = ap up_to_fault (other_line other) ∙ line_fault_last line first (said_from (next_line line) (source_lines behind)) faulty
+
+  -- a line without
+  pub at_whole_line : bytes_eq first (codes "end") ≡ false → list_all is_word (said_by line first) ≡ true → up_to_fault (said_from line (source_lines rest)) ≡ said_by line first ++ up_to_fault (said_from (next_line line) (source_lines behind))
+  at_whole_line other whole_line = ap up_to_fault (other_line other) ∙ whole_front (said_by line first) (said_from (next_line line) (source_lines behind)) whole_line
+
+-- no line is left
+pub no_line_left : (line : ℕ) (rest : List ℕ) → length rest ≡ 0 → said_from line (source_lines rest) ≡ []
+unfolding parted said_from
+no_line_left line [] none = refl
+no_line_left line (b ∷ rest) none = absurd (omega arith)
+
+-- so none is left up to a fault
+pub nothing_left : (line : ℕ) (rest : List ℕ) → length rest ≡ 0 → up_to_fault (said_from line (source_lines rest)) ≡ []
+unfolding parted said_from up_to_fault
+nothing_left line [] none = refl
+nothing_left line (b ∷ rest) none = absurd (omega arith)
+
+-- ---- joined with what was said before
+
+-- nothing is left
+pub said_all : (told left said : List Said) → left ≡ [] → told ++ left ≡ said → told ≡ said
+said_all told left said none all = sym (append-nil told) ∙ (ap (λ (l : List Said). told ++ l) (sym none) ∙ all)
+
+-- what was left was told
+pub said_last : (told left said new part : List Said) → new ≡ told ++ part → left ≡ part → told ++ left ≡ said → new ≡ said
+said_last told left said new part e is all = e ∙ (ap (λ (l : List Said). told ++ l) (sym is) ∙ all)
+
+-- what was left was told but for some
+pub said_more : (told left said new part rest : List Said) → new ≡ told ++ part → left ≡ part ++ rest → told ++ left ≡ said → new ++ rest ≡ said
+said_more told left said new part rest e parts all =
+    ap (λ (l : List Said). l ++ rest) e ∙ (append_assoc told part rest ∙ (ap (λ (l : List Said). told ++ l) (sym parts) ∙ all))
+
+-- ---- within a line
+
+-- the same is left to say behind a part
+pub told_same : (line : ℕ) (text : List ℕ) (before now : List Said) (was is : Bool) (rest behind : List ℕ) → spoken line was (source_words rest) ≡ spoken line is (source_words behind) → IsTold line text before now was rest → IsTold line text before now is behind
+told_same line text before now was is rest behind e told = record {
+  says = ap (λ (l : List Said). now ++ l) (sym e) ∙ told.says;
+  whole = ap (list_all is_word) (sym e) ∙ told.whole;
+}
+
+-- a word was told
+pub told_word : (line : ℕ) (text : List ℕ) (before now new : List Said) (is_open : Bool) (rest part behind : List ℕ) → is_open ≡ false → new ≡ now ++ a_word line part ∷ [] → spoken line false (source_words rest) ≡ a_word line part ∷ spoken line false (source_words behind) → IsTold line text before now is_open rest → IsTold line text before new is_open behind
+told_word line text before now new true rest part behind closed pushed e told = absurd (both_ways true closed refl)
+told_word line text before now new false rest part behind closed pushed e told = record {
+  says = said_more now (spoken line false (source_words rest)) (before ++ spoken line false (source_words text)) new (a_word line part ∷ []) (spoken line false (source_words behind)) pushed e told.says;
+  whole = ap (list_all is_word) (sym e) ∙ told.whole;
+}
+
+-- at the end of a line
+pub none_left : (line : ℕ) (rest : List ℕ) → length rest ≡ 0 → spoken line false (source_words rest) ≡ []
+unfolding spoken
+none_left line rest none = ap (spoken line false) (no_words rest none)
+
+pub open_left : (line : ℕ) (rest : List ℕ) → length rest ≡ 0 → spoken line true (source_words rest) ≡ a_fault line OpenComment ∷ []
+unfolding spoken
+open_left line rest none = ap (spoken line true) (no_words rest none)
+
+-- a line that isn't too long says what its words say
+pub short_line : (line : ℕ) (text : List ℕ) → length text ≤ 200 → said_by line text ≡ spoken line false (source_words text)
+short_line line text short = cond-false (ltb longest_source_line (length text)) (a_fault line LongLine ∷ []) (spoken line false (source_words text)) (le-ltb longest_source_line (length text) short)
+
+pub long_line : (line : ℕ) (text : List ℕ) → 200 < length text → said_by line text ≡ a_fault line LongLine ∷ []
+long_line line text long = cond-true (ltb longest_source_line (length text)) (a_fault line LongLine ∷ []) (spoken line false (source_words text)) (lt-ltb longest_source_line (length text) long)
+
+pub line_told : (line : ℕ) (text : List ℕ) (before now new left : List Said) (is_open : Bool) (rest : List ℕ) → length text ≤ 200 → IsTold line text before now is_open rest → spoken line is_open (source_words rest) ≡ left → new ≡ now ++ left → new ≡ before ++ said_by line text
+line_told line text before now new left is_open rest short told e pushed =
+    said_last now (spoken line is_open (source_words rest)) (before ++ spoken line false (source_words text)) new left pushed e told.says
+    ∙ ap (λ (l : List Said). before ++ l) (sym (short_line line text short))
+
+pub line_whole : (line : ℕ) (text : List ℕ) (before now left : List Said) (is_open : Bool) (rest : List ℕ) → length text ≤ 200 → IsTold line text before now is_open rest → spoken line is_open (source_words rest) ≡ left → list_all is_word left ≡ list_all is_word (said_by line text)
+line_whole line text before now left is_open rest short told e =
+    ap (list_all is_word) (sym e) ∙ (told.whole ∙ ap (list_all is_word) (sym (short_line line text short)))

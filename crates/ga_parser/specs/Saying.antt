@@ -1,0 +1,131 @@
+-- What a source says: its words with their lines, comments left out (docs/REFERENCE.md, "Source"; the notation is this project's own).
+use Rattle.std.specs.Prelude.{ℕ, ◌+◌, ◌-◌, ◌^◌, ◌==◌, nat_lt, Bool, true, false, ◌||◌, ◌&&◌, not, if◌then◌else◌, List, [], ◌∷◌, ◌++◌, length, map, min, filter, take, drop, slice_index, codes, bytes_eq}
+use Rattle.ga_parser.specs.declared.scan.TokenKind.{TokenKind}
+use Rattle.ga_parser.specs.declared.scan.TokenKind.TheVariants.{Word, LongLine, OpenComment}
+use Rattle.ga_parser.specs.declared.scan.Token.{Token}
+
+-- ---- lines, and the words of a line
+
+-- parts of a text, with one byte more at the front of the first
+abbrev pub onto_first_part : ℕ → List (List ℕ) → List (List ℕ)
+onto_first_part byte [] = (byte ∷ []) ∷ []
+onto_first_part byte (part ∷ parts) = (byte ∷ part) ∷ parts
+
+-- The parts of a text that some bytes end. The last may lack its end. An empty text has no part.
+unfoldable pub parted : (ℕ → Bool) → List ℕ → List (List ℕ)
+parted ends [] = []
+parted ends (byte ∷ text) = if ends byte then [] ∷ parted ends text else onto_first_part byte (parted ends text)
+
+-- a line feed
+abbrev pub is_feed : ℕ → Bool
+is_feed byte = byte == 10
+
+-- a blank or a tab
+abbrev pub is_blank : ℕ → Bool
+is_blank byte = byte == 32 || byte == 9
+
+abbrev pub source_lines : List ℕ → List (List ℕ)
+source_lines text = parted is_feed text
+
+abbrev pub has_bytes : List ℕ → Bool
+has_bytes [] = false
+has_bytes (byte ∷ text) = true
+
+abbrev pub source_words : List ℕ → List (List ℕ)
+source_words line = filter has_bytes (parted is_blank line)
+
+-- ---- what some editors write into a text
+
+-- the byte order mark (Unicode, U+FEFF in UTF-8)
+abbrev pub order_mark : List ℕ
+order_mark = 0xef ∷ 0xbb ∷ 0xbf ∷ []
+
+-- a line without the mark, where it is the first and begins with one
+abbrev pub unmarked : ℕ → List ℕ → List ℕ
+unmarked line text = if line == 1 && bytes_eq (take 3 text) order_mark then drop 3 text else text
+
+-- a line without the carriage return at its end
+abbrev pub without_return : List ℕ → List ℕ
+without_return text = if slice_index text (length text - 1) == 13 then take (length text - 1) text else text
+
+-- a line without either
+abbrev pub bare : ℕ → List ℕ → List ℕ
+bare line text = without_return (unmarked line text)
+
+-- ---- what a line says
+
+-- the most bytes of a line, without these and its line feed
+abbrev pub longest_source_line : ℕ
+longest_source_line = 200
+
+-- a word, or what is wrong with a line and then no text, with the line's number
+pub record Said : Type 0 where
+  pub line : ℕ
+  pub text : List ℕ
+  pub kind : TokenKind
+
+abbrev pub a_word : ℕ → List ℕ → Said
+a_word line text = record { line = line; text = text; kind = Word }
+
+abbrev pub a_fault : ℕ → TokenKind → Said
+a_fault line kind = record { line = line; text = []; kind = kind }
+
+abbrev pub is_word_kind : TokenKind → Bool
+is_word_kind Word = true
+is_word_kind LongLine = false
+is_word_kind OpenComment = false
+
+abbrev pub is_word : Said → Bool
+is_word said = is_word_kind said.kind
+
+-- the word ends with `)`
+abbrev pub closes : List ℕ → Bool
+closes word = slice_index word (length word - 1) == 41
+
+-- What words of a line say, behind a `(` that isn't closed yet or not: `\` leaves out all behind it, and `(` all up to a word that
+-- ends with `)`.
+unfoldable pub spoken : ℕ → Bool → List (List ℕ) → List Said
+spoken line false [] = []
+spoken line true [] = a_fault line OpenComment ∷ []
+spoken line false (word ∷ words) =
+    if bytes_eq word (codes "\\") then []
+    else if bytes_eq word (codes "(") then spoken line true words
+    else a_word line word ∷ spoken line false words
+spoken line true (word ∷ words) = spoken line (not (closes word)) words
+
+abbrev pub said_by : ℕ → List ℕ → List Said
+said_by line text = if nat_lt longest_source_line (length text) then a_fault line LongLine ∷ [] else spoken line false (source_words text)
+
+-- ---- what a text says
+
+-- up to the first fault
+unfoldable pub up_to_fault : List Said → List Said
+up_to_fault [] = []
+up_to_fault (said ∷ rest) = said ∷ (if is_word said then up_to_fault rest else [])
+
+-- the number of the next line
+abbrev pub next_line : ℕ → ℕ
+next_line line = min (line + 1) (2 ^ 32 - 1)
+
+-- the lines up to one that is `end`, numbered from here on
+unfoldable pub said_from : ℕ → List (List ℕ) → List Said
+said_from line [] = []
+said_from line (text ∷ texts) =
+    if bytes_eq (bare line text) (codes "end") then [] else said_by line (bare line text) ++ said_from (next_line line) texts
+
+-- what a source says, up to its end or to a line `end`
+abbrev pub all_in : List ℕ → List Said
+all_in source = said_from 1 (source_lines source)
+
+-- what a source says, up to its end, to a line `end` or to the first fault of a line
+unfoldable pub said_in : List ℕ → List Said
+said_in source = up_to_fault (all_in source)
+
+-- ---- what was read
+
+-- what a word that was read says, and what some say
+abbrev pub said_of : Token → Said
+said_of token = record { line = token.line; text = token.text.now; kind = token.kind }
+
+abbrev pub all_said : List Token → List Said
+all_said tokens = map said_of tokens

@@ -1,0 +1,94 @@
+-- The words of a node as they are heard one by one, with the next (docs/REFERENCE.md, "Source"; this project's own).
+use Rattle.std.specs.Prelude.{ℕ, ◌≡◌, if◌then◌else◌, false, List, [], ◌∷◌, slice_index_or, codes, bytes_eq, Option, Some, None, map, Bool}
+use Rattle.ga_parser.specs.declared.item.Operand.TheVariants.{Number}
+use Rattle.ga_parser.specs.declared.item.Item.TheVariants.{Cell}
+use Rattle.ga_parser.specs.declared.item.Request.{Request}
+use Rattle.ga_parser.specs.declared.item.Request.TheVariants.{Put, Go}
+use Rattle.ga_parser.specs.declared.vocabulary.Directive.{Directive}
+use Rattle.ga_parser.specs.declared.vocabulary.Directive.TheVariants.{Label, Address as GoesOn, Register as Gives, Fill, Carry}
+use Rattle.ga_parser.specs.declared.vocabulary.Register.{Register as RegisterName}
+use Rattle.ga_parser.specs.declared.vocabulary.Register.TheVariants.{P, A, B}
+use Rattle.ga_parser.specs.declared.draft.Expect.{Expect}
+use Rattle.ga_parser.specs.declared.draft.Expect.TheVariants.{Word, Address, Name, Register, Nothing}
+use Rattle.ga_parser.specs.declared.scan.Token.{Token}
+use Rattle.ga_parser.specs.Asking.{Asking}
+use Rattle.ga_ports.specs.Steps.{◌>>=◌}
+use Rattle.ga_parser.specs.Numbers.{by_name, number_by_word}
+use Rattle.ga_parser.specs.Plain.{Plain, no_request, with_request, by_number, only_if, is_cell, may_be, asked_by}
+use Rattle.ga_parser.specs.Vocabulary.{directives}
+
+-- what the next word is, and what the words so far ask for
+pub record Heard : Type 0 where
+  pub expect : Expect
+  pub plain : Plain
+
+-- before the first word
+abbrev pub nothing_heard : Heard
+nothing_heard = record { expect = Word; plain = no_request }
+
+-- one request more
+abbrev pub asking : Heard → Request → Heard
+asking heard request = record heard { plain = with_request heard.plain request }
+
+-- a register is given
+abbrev pub with_register : Plain → RegisterName → ℕ → Plain
+with_register plain P n = record plain { p = Some (Number n) }
+with_register plain A n = record plain { a = Some (Number n) }
+with_register plain B n = record plain { b = Some (Number n) }
+
+-- the register may be given so
+abbrev pub may_give : Plain → RegisterName → ℕ → Bool
+may_give plain P n = may_be plain.p n 0x400
+may_give plain A n = may_be plain.a n 0x40000
+may_give plain B n = may_be plain.b n 0x200
+
+-- what is next behind a directive that plain words have
+abbrev pub next_of : Directive → Option Expect
+next_of Label = None
+next_of GoesOn = Some Address
+next_of (Gives register) = Some (Register register)
+next_of Fill = None
+next_of (Carry _) = None
+
+-- a word where one is expected
+abbrev pub hear_word : Plain → List ℕ → List ℕ → Option Heard
+hear_word plain word next =
+    if bytes_eq next (codes ",") then by_number (number_by_word word) (λ n. Some (record { expect = Nothing; plain = with_request plain (Put (Cell (Number n))) }))
+    else (by_name directives word >>= next_of) >>= (λ e. Some (record { expect = e; plain = plain }))
+
+-- one word
+abbrev pub hear : Heard → List ℕ → List ℕ → Option Heard
+hear heard word next = elim heard.expect as (λ _. Option Heard) [
+  | Word ↦ hear_word heard.plain word next
+  | Address ↦ by_number (number_by_word word) (λ n. only_if (is_cell n) (record { expect = Word; plain = with_request heard.plain (Go n) }))
+  | Name ↦ None
+  | Register register ↦ by_number (number_by_word word) (λ n. only_if (may_give heard.plain register n) (record { expect = Word; plain = with_register heard.plain register n }))
+  | Nothing ↦ Some (record { expect = Word; plain = heard.plain })
+]
+
+-- at the end
+abbrev pub end_of : Heard → Option Plain
+end_of heard = elim heard.expect as (λ _. Option Plain) [
+  | Word ↦ Some heard.plain
+  | Address ↦ None
+  | Name ↦ None
+  | Register _ ↦ None
+  | Nothing ↦ Some heard.plain
+]
+
+-- words, one by one
+unfoldable pub hear_all : Heard → List (List ℕ) → Option Plain
+hear_all heard [] = end_of heard
+hear_all heard (word ∷ words) = hear heard word (slice_index_or words 0 []) >>= (λ now. hear_all now words)
+
+-- the words of tokens
+abbrev pub texts_of : List Token → List (List ℕ)
+texts_of tokens = map (λ token. token.text.now) tokens
+
+-- what is asked is what was heard, and no name
+pub record HasHeard (now : Asking) (heard : Heard) : Type 0 where
+  pub expect : now.expect ≡ heard.expect
+  pub plain : asked_by now.asked now.registers ≡ heard.plain
+  pub names : now.labels ≡ []
+  pub opened : now.opened ≡ []
+  pub carries : now.carries ≡ false

@@ -1,0 +1,176 @@
+//! The control words: loops and jumps ahead.
+
+ghost use Rattle.std.specs.Prelude.{◌≡◌, Ok};
+ghost use Rattle.ga_parser.specs.Asking.{asking, begin_loop as begin_row, ahead as ahead_row, end_loop, end_ahead, end_around, control as control_row, jump as jump_row, line_of, ◌▷◌};
+ghost use Rattle.ga_parser.specs.kept.Answering.{Answers};
+ghost use Rattle.ga_parser.specs.kept.Drafting.{asking_of};
+ghost use Rattle.ga_parser.specs.declared.vocabulary.Control.TheVariants.{Else as ElseWord, Then as ThenWord, NextAround as NextAroundWord, Unext as UnextWord, While as WhileWord, Repeat as RepeatWord, For as ForWord};
+
+use super::draft::Draft;
+use super::fault::{Fault, SourceCause, fault_at};
+use super::item::{Item, Request};
+use super::vocabulary::Control;
+use ga_slots::Op;
+
+/// What a control word left open, with its line and its label.
+#[derive(Clone, Copy)]
+pub(crate) enum Open {
+    /// A loop from the label on.
+    Loop(u32, usize),
+    /// A jump ahead to the label.
+    Ahead(u32, usize),
+}
+
+impl Open {
+    /// The line of the control word.
+    pub(crate) fn line(self) -> u32
+        ensures { result ≡ line_of self }
+    {
+        match self {
+            Open::Loop(line, _) | Open::Ahead(line, _) => line,
+        }
+    }
+}
+
+impl<'s> Draft<'s> {
+    /// What a control word asks for.
+    pub(crate) fn control(&mut self, line: u32, word: Control) -> Result<(), Fault<'s>>
+        ensures { Answers result (control_row (asking_of self.old) line word) (λ _. asking_of self.new) }
+    {
+        match word {
+            Control::Begin => self.begin(line),
+            Control::For => self.begin_for(line),
+            Control::If(op) => self.ahead(line, op),
+            Control::Else => self.otherwise(line),
+            Control::Then => self.join(line),
+            Control::Again => self.back(line, Op::Jump),
+            Control::Until(op) => self.back(line, op),
+            Control::Next => self.back(line, Op::Next),
+            Control::NextAround => self.next_around(line),
+            Control::Unext => self.unext(line),
+            Control::While(op) => self.leave(line, op),
+            Control::Repeat => self.repeat(line),
+        }
+    }
+
+    /// A loop from here on.
+    fn begin(&mut self, line: u32) -> Result<(), Fault<'s>>
+        ensures { Answers result (Ok (begin_row (asking_of self.old) line)) (λ _. asking_of self.new) }
+    {
+        let label = self.labels.nameless(line, true)?;
+        self.ask(line, Request::Mark(label))?;
+        self.open.push(Open::Loop(line, label))?;
+        Ok(())
+    }
+
+    /// `for`: a loop that counts.
+    fn begin_for(&mut self, line: u32) -> Result<(), Fault<'s>>
+        ensures { Answers result (control_row (asking_of self.old) line ForWord) (λ _. asking_of self.new) }
+    {
+        self.ask(line, Request::Put(Item::Opcode(Op::Push)))?;
+        self.begin(line)
+    }
+
+    /// A jump ahead, open until its label is marked.
+    fn ahead(&mut self, line: u32, op: Op) -> Result<(), Fault<'s>>
+        ensures { Answers result (Ok (ahead_row (asking_of self.old) line op)) (λ _. asking_of self.new) }
+    {
+        let label = self.labels.nameless(line, false)?;
+        self.jump(line, op, label)?;
+        self.open.push(Open::Ahead(line, label))?;
+        Ok(())
+    }
+
+    /// `else`.
+    fn otherwise(&mut self, line: u32) -> Result<(), Fault<'s>>
+        ensures { Answers result (control_row (asking_of self.old) line ElseWord) (λ _. asking_of self.new) }
+    {
+        let label = self.close_ahead(line)?;
+        self.ahead(line, Op::Jump)?;
+        self.mark(line, label)
+    }
+
+    /// `then`.
+    fn join(&mut self, line: u32) -> Result<(), Fault<'s>>
+        ensures { Answers result (control_row (asking_of self.old) line ThenWord) (λ _. asking_of self.new) }
+    {
+        let label = self.close_ahead(line)?;
+        self.mark(line, label)
+    }
+
+    /// A jump back that ends the innermost loop.
+    fn back(&mut self, line: u32, op: Op) -> Result<(), Fault<'s>>
+        ensures { Answers result (end_loop (asking_of self.old) line ▷ (λ end. Ok (jump_row end.1 line op end.0))) (λ _. asking_of self.new) }
+    {
+        let label = self.close_loop(line)?;
+        self.jump(line, op, label)
+    }
+
+    /// `*next`.
+    fn next_around(&mut self, line: u32) -> Result<(), Fault<'s>>
+        ensures { Answers result (control_row (asking_of self.old) line NextAroundWord) (λ _. asking_of self.new) }
+    {
+        let label = self.close_around(line)?;
+        self.jump(line, Op::Next, label)
+    }
+
+    /// `unext`.
+    fn unext(&mut self, line: u32) -> Result<(), Fault<'s>>
+        ensures { Answers result (control_row (asking_of self.old) line UnextWord) (λ _. asking_of self.new) }
+    {
+        let label = self.close_loop(line)?;
+        self.ask(line, Request::Unext(label))
+    }
+
+    /// `while` and `-while`.
+    fn leave(&mut self, line: u32, op: Op) -> Result<(), Fault<'s>>
+        ensures { Answers result (control_row (asking_of self.old) line (WhileWord op)) (λ _. asking_of self.new) }
+    {
+        let label = self.close_loop(line)?;
+        self.ahead(line, op)?;
+        self.open.push(Open::Loop(line, label))?;
+        Ok(())
+    }
+
+    /// `repeat`.
+    fn repeat(&mut self, line: u32) -> Result<(), Fault<'s>>
+        ensures { Answers result (control_row (asking_of self.old) line RepeatWord) (λ _. asking_of self.new) }
+    {
+        let label = self.close_loop(line)?;
+        self.jump(line, Op::Jump, label)?;
+        let behind = self.close_ahead(line)?;
+        self.mark(line, behind)
+    }
+
+    /// The label of the innermost open word, which is a loop.
+    fn close_loop(&mut self, line: u32) -> Result<usize, Fault<'s>>
+        ensures { Answers result (end_loop (asking_of self.old) line) (λ label. (label, asking_of self.new)) }
+    {
+        match self.open.pop() {
+            Some(Open::Loop(_, label)) => Ok(label),
+            _ => Err(fault_at(line, SourceCause::Unmatched)),
+        }
+    }
+
+    /// The label of the innermost open word, which is a jump ahead.
+    fn close_ahead(&mut self, line: u32) -> Result<usize, Fault<'s>>
+        ensures { Answers result (end_ahead (asking_of self.old) line) (λ label. (label, asking_of self.new)) }
+    {
+        match self.open.pop() {
+            Some(Open::Ahead(_, label)) => Ok(label),
+            _ => Err(fault_at(line, SourceCause::Unmatched)),
+        }
+    }
+
+    /// The label of the loop that stands right around the innermost open word, which stays open.
+    fn close_around(&mut self, line: u32) -> Result<usize, Fault<'s>>
+        ensures { Answers result (end_around (asking_of self.old) line) (λ label. (label, asking_of self.new)) }
+    {
+        let Some(innermost) = self.open.pop() else {
+            return Err(fault_at(line, SourceCause::Unmatched));
+        };
+        let label = self.close_loop(line)?;
+        self.open.push(innermost)?;
+        Ok(label)
+    }
+}

@@ -1,0 +1,355 @@
+//! The words of one node as requests.
+
+ghost use Rattle.std.specs.Prelude.{◌≡◌, ◌⊎◌, Err, IfOk, IfErr, codes, [], bytes_eq, if◌then◌else◌, slice_index_or};
+ghost use Rattle.ga_slots.specs.declared.op.Op.TheVariants.{Jump, Call};
+ghost use Rattle.ga_parser.specs.declared.fault.SourceCause.TheVariants.{Memory};
+ghost use Rattle.ga_parser.specs.Asking.{asked_by_words, carried as carried_of, is_waiting as is_waiting_for};
+ghost use Rattle.ga_parser.specs.Requests.{AreRequestsOf, word_refusal};
+ghost use Rattle.ga_parser.specs.kept.Answering.{Answers};
+ghost use Rattle.ga_parser.specs.kept.Drafting.{asking_of};
+ghost use Rattle.ga_parser.specs.kept.Hearing.{texts_of};
+ghost use Rattle.ga_parser.specs.Saying.{all_said};
+
+use super::controls::Open;
+use super::fault::{Fault, SourceCause, fault_at};
+use super::item::{Asked, Given, Item, NodeRequests, Operand, Registers, Request};
+use super::labels::Labels;
+use super::number::{Number, number_of};
+use super::scan::Token;
+use super::vocabulary::{
+    Directive, Register, control_named, directive_named, is_taken, opcode_named,
+};
+use ga_slots::Op;
+use std::alloc::Global;
+use std::mem;
+
+/// What the next word is.
+#[derive(Clone, Copy, PartialEq, Eq)]
+enum Expect {
+    Word,
+    Address,
+    Name,
+    Register(Register),
+    /// A word that the one before took with it.
+    Nothing,
+}
+
+/// What the words so far ask for.
+#[derive(Drop)]
+pub(crate) struct Draft<'s> {
+    pub asked: Vec<Asked>,
+    pub labels: Labels<'s>,
+    pub registers: Registers,
+    pub open: Vec<Open>,
+    /// Bit 9 of the addresses from here on.
+    carries: bool,
+    expect: Expect,
+}
+
+impl<'s> Draft<'s> {
+    ghost use Rattle.std.specs.Prelude.{◌≡◌, Ok};
+    ghost use Rattle.ga_parser.specs.Asking.{◌▷◌, nothing_asked, asking, jump as jump_row, mark as mark_row, value_said, name_asks, register_asks, address_asks, directive as directive_row, cell as cell_row, call as call_row, word_asks, hear, give, naming, label_number as number_of_label, finished};
+    ghost use Rattle.ga_parser.specs.declared.item.Operand.TheVariants.{Label as LabelOf};
+    ghost use Rattle.ga_parser.specs.kept.Answering.{Answers};
+    ghost use Rattle.ga_parser.specs.kept.Drafting.{asking_of};
+    ghost use Rattle.ga_parser.specs.Saying.{said_of};
+
+    fn new(alloc: Global) -> Self
+        ensures { asking_of result ≡ nothing_asked }
+    {
+        Draft {
+            asked: Vec::new(alloc),
+            labels: Labels::new(alloc),
+            registers: Registers {
+                p: None,
+                a: None,
+                b: None,
+            },
+            open: Vec::new(alloc),
+            carries: false,
+            expect: Expect::Word,
+        }
+    }
+
+    pub(crate) fn ask(&mut self, line: u32, request: Request) -> Result<(), Fault<'s>>
+        ensures { Answers result (Ok (asking (asking_of self.old) line request)) (λ _. asking_of self.new) }
+    {
+        self.asked.push(Asked { line, request })?;
+        Ok(())
+    }
+
+    /// Asks for an opcode with the address of a label.
+    pub(crate) fn jump(&mut self, line: u32, op: Op, label: usize) -> Result<(), Fault<'s>>
+        ensures { Answers result (Ok (jump_row (asking_of self.old) line op label)) (λ _. asking_of self.new) }
+    {
+        let item = if self.labels.is_marked(label) {
+            Item::Back(op, label)
+        } else {
+            Item::Ahead(op, label)
+        };
+        self.ask(line, Request::Put(item))
+    }
+
+    /// The label stands here.
+    pub(crate) fn mark(&mut self, line: u32, label: usize) -> Result<(), Fault<'s>>
+        ensures { Answers result (mark_row (asking_of self.old) line label) (λ _. asking_of self.new) }
+    {
+        if self.labels.is_marked(label) {
+            return Err(fault_at(line, SourceCause::LabelTwice));
+        }
+        self.labels.mark(label);
+        self.ask(line, Request::Mark(label))
+    }
+
+    /// A number, a port, or the address of a label behind an apostrophe.
+    #[tactic(auto, unfolding(crate::specs::Asking::value_said))]
+    fn value(&mut self, line: u32, text: &'s [u8]) -> Result<Option<Operand>, Fault<'s>>
+        ensures { Answers result (value_said (asking_of self.old) line text.now) (λ found. (found, asking_of self.new)) }
+    {
+        if let [b'\'', name @ ..] = text {
+            if name.is_empty() {
+                return Err(fault_at(line, SourceCause::Missing));
+            }
+            let label = self.labels.named(line, name)?;
+            return Ok(Some(Operand::Label(label)));
+        }
+        match number_of(text) {
+            Number::Of(number) => Ok(Some(Operand::Number(number))),
+            Number::OutOfRange => Err(fault_at(line, SourceCause::Number)),
+            Number::Nothing => Ok(None),
+        }
+    }
+
+    #[tactic(auto, unfolding(crate::specs::Asking::name_asks))]
+    fn name(&mut self, line: u32, name: &'s [u8]) -> Result<(), Fault<'s>>
+        ensures { Answers result (name_asks (asking_of self.old) line name.now) (λ _. asking_of self.new) }
+    {
+        if is_taken(name) {
+            return Err(fault_at(line, SourceCause::Taken));
+        }
+        let label = self.labels.named(line, name)?;
+        self.mark(line, label)
+    }
+
+    /// A number, a port or a label, as a register's value at load.
+    #[tactic(auto, unfolding(crate::specs::Asking::register_asks))]
+    fn register(&mut self, line: u32, register: Register, text: &'s [u8]) -> Result<(), Fault<'s>>
+        ensures { Answers result (register_asks (asking_of self.old) line register text.now) (λ _. asking_of self.new) }
+    {
+        let value = match number_of(text) {
+            Number::Of(number) => {
+                if number >= register.bound() {
+                    return Err(fault_at(line, SourceCause::Number));
+                }
+                Operand::Number(number)
+            }
+            Number::OutOfRange => return Err(fault_at(line, SourceCause::Number)),
+            Number::Nothing => {
+                if is_taken(text) {
+                    return Err(fault_at(line, SourceCause::Missing));
+                }
+                Operand::Label(self.labels.named(line, text)?)
+            }
+        };
+        let given = Some(Given { line, value });
+        let before = match register {
+            Register::P => mem::replace(&mut self.registers.p, given),
+            Register::A => mem::replace(&mut self.registers.a, given),
+            Register::B => mem::replace(&mut self.registers.b, given),
+        };
+        if before.is_some() {
+            return Err(fault_at(line, SourceCause::RegisterTwice));
+        }
+        Ok(())
+    }
+
+    fn directive(&mut self, line: u32, directive: Directive) -> Result<(), Fault<'s>>
+        ensures { Answers result (Ok (directive_row (asking_of self.old) line directive)) (λ _. asking_of self.new) }
+    {
+        match directive {
+            Directive::Label => self.expect = Expect::Name,
+            Directive::Address => self.expect = Expect::Address,
+            Directive::Register(register) => self.expect = Expect::Register(register),
+            Directive::Fill => self.ask(line, Request::Fill)?,
+            Directive::Carry(is_set) => {
+                self.carries = is_set;
+                self.ask(line, Request::Carry(is_set))?;
+            }
+        }
+        Ok(())
+    }
+
+    #[tactic(auto, unfolding(crate::specs::Asking::address_asks))]
+    fn address(&mut self, line: u32, text: &[u8]) -> Result<(), Fault<'s>>
+        ensures { Answers result (address_asks (asking_of self.old) line text.now) (λ _. asking_of self.new) }
+    {
+        match number_of(text) {
+            Number::Of(found) => {
+                if found < 0x40 || 0x80 <= found && found < 0xc0 {
+                    self.ask(line, Request::Go(carried(self.carries, found)))
+                } else {
+                    Err(fault_at(line, SourceCause::Number))
+                }
+            }
+            Number::OutOfRange => Err(fault_at(line, SourceCause::Number)),
+            Number::Nothing => Err(fault_at(line, SourceCause::Missing)),
+        }
+    }
+
+    /// A cell with a value.
+    fn cell(&mut self, line: u32, text: &'s [u8]) -> Result<(), Fault<'s>>
+        ensures { Answers result (value_said (asking_of self.old) line text.now ▷ (λ said. cell_row said.1 line said.0)) (λ _. asking_of self.new) }
+    {
+        let Some(value) = self.value(line, text)? else {
+            return Err(fault_at(line, SourceCause::Missing));
+        };
+        self.expect = Expect::Nothing;
+        self.ask(line, Request::Put(Item::Cell(value)))
+    }
+
+    /// A call of a label, or a jump there where `;` is next.
+    #[tactic(auto, unfolding(crate::specs::Asking::call))]
+    fn call(&mut self, line: u32, name: &'s [u8], next: &[u8]) -> Result<(), Fault<'s>>
+        ensures { Answers result (call_row (asking_of self.old) line name.now next.now) (λ _. asking_of self.new) }
+    {
+        if is_taken(name) {
+            return Err(fault_at(line, SourceCause::Unknown(name)));
+        }
+        let label = self.labels.named(line, name)?;
+        let op = calling_op(next);
+        if op == Op::Jump {
+            self.expect = Expect::Nothing;
+        }
+        self.jump(line, op, label)
+    }
+
+    /// A word that stands for itself. The next word decides whether it is a cell, and whether a call is a jump.
+    #[tactic(auto, unfolding(crate::specs::Asking::word_asks))]
+    fn word(&mut self, line: u32, text: &'s [u8], next: &[u8]) -> Result<(), Fault<'s>>
+        ensures { Answers result (word_asks (asking_of self.old) line text.now next.now) (λ _. asking_of self.new) }
+    {
+        if next == b",".as_slice() {
+            return self.cell(line, text);
+        }
+        if let Some(directive) = directive_named(text) {
+            return self.directive(line, directive);
+        }
+        if let Some(op) = opcode_named(text) {
+            return self.ask(line, Request::Put(Item::Opcode(op)));
+        }
+        if let Some(control) = control_named(text) {
+            return self.control(line, control);
+        }
+        if let Some(value) = self.value(line, text)? {
+            return self.ask(line, Request::Put(Item::Literal(value)));
+        }
+        self.call(line, text, next)
+    }
+
+    fn take(&mut self, token: Token<'s>, next: &[u8]) -> Result<(), Fault<'s>>
+        ensures { Answers result (hear (asking_of self.old) (said_of token.entry) next.now) (λ _. asking_of self.new) }
+    {
+        let text = token.word()?;
+        let expect = self.expect;
+        self.expect = Expect::Word;
+        match expect {
+            Expect::Word => self.word(token.line, text, next),
+            Expect::Address => self.address(token.line, text),
+            Expect::Name => self.name(token.line, text),
+            Expect::Register(register) => self.register(token.line, register, text),
+            Expect::Nothing => Ok(()),
+        }
+    }
+
+    /// What is missing or still open behind the last word, and a name that is no label's.
+    #[tactic(auto, unfolding(crate::specs::Asking::all_closed))]
+    fn finish(&self, line: u32) -> Result<(), Fault<'s>>
+        ensures { Answers result (finished (asking_of self.now) line) (λ _. asking_of self.now) }
+    {
+        if is_waiting(self.expect) {
+            return Err(fault_at(line, SourceCause::Missing));
+        }
+        if let Some(open) = self.open.first() {
+            return Err(fault_at(open.line(), SourceCause::Open));
+        }
+        self.labels.check()
+    }
+}
+
+/// Whether a word is missing.
+fn is_waiting(expect: Expect) -> bool
+    ensures { result ≡ is_waiting_for expect }
+{
+    match expect {
+        Expect::Word | Expect::Nothing => false,
+        _ => true,
+    }
+}
+
+/// The opcode of a label's name: a call, or a jump where `;` is the next word.
+fn calling_op(next: &[u8]) -> Op
+    ensures { result ≡ (if bytes_eq next.now (codes ";") then Jump else Call) }
+{
+    if next == b";".as_slice() {
+        Op::Jump
+    } else {
+        Op::Call
+    }
+}
+
+/// The text of a token, empty where there is none.
+fn text_at<'s>(tokens: &[Token<'s>], i: usize) -> &'s [u8]
+    ensures { result.now ≡ slice_index_or (texts_of tokens.now) i [] }
+{
+    match tokens.get(i) {
+        Some(token) => token.text,
+        None => &[],
+    }
+}
+
+/// What the words of a node ask for.
+fn read_node<'s>(alloc: Global, line: u32, tokens: &[Token<'s>]) -> Result<Draft<'s>, Fault<'s>>
+    ensures { Answers result (asked_by_words line (all_said tokens.now)) asking_of }
+{
+    let mut draft = Draft::new(alloc);
+    let mut last = line;
+    for (i, token) in tokens.iter().enumerate() {
+        draft.take(*token, text_at(tokens, i + 1))?;
+        last = token.line;
+    }
+    draft.finish(last)?;
+    Ok(draft)
+}
+
+/// An address with this bit 9.
+pub fn carried(is_set: bool, address: u32) -> u32
+    ensures { result ≡ carried_of is_set address }
+{
+    (if is_set { 512 } else { 0 }) + address % 512
+}
+
+/// What the words of a node ask for, whose name stands on this line.
+///
+/// # Errors
+/// The first fault of a word, or else a word that is missing at the end, a control word that is open, a name that is no label's; or
+/// memory was refused.
+pub fn read_requests<'s>(
+    alloc: Global,
+    line: u32,
+    tokens: &[Token<'s>],
+) -> Result<NodeRequests<'s>, Fault<'s>>
+    ensures asked { IfOk result (AreRequestsOf line (all_said tokens.now)) }
+    ensures refused { IfErr result (λ fault. (fault.cause ≡ Memory) ⊎ (asked_by_words line (all_said tokens.now) ≡ Err (word_refusal fault))) }
+{
+    let Draft {
+        asked,
+        labels,
+        registers,
+        ..
+    } = read_node(alloc, line, tokens)?;
+    Ok(NodeRequests {
+        asked,
+        names: labels.into_list(),
+        registers,
+    })
+}

@@ -1,0 +1,89 @@
+//! Why a text is no program.
+
+ghost use Rattle.std.specs.Prelude.{◌≡◌};
+
+use std::alloc::{AllocError, AllocFailed};
+use thiserror::Error;
+
+/// What is wrong.
+#[derive(Clone, Copy, PartialEq, Eq, Debug, Error)]
+pub enum SourceCause<'s> {
+    #[error("no memory")]
+    Memory,
+    #[error("the line has more than 200 bytes")]
+    LongLine,
+    #[error("a comment without its )")]
+    OpenComment,
+    #[error("no node has begun")]
+    NoNode,
+    #[error("no such node")]
+    NoSuchNode,
+    #[error("the node has a program already")]
+    NodeTwice,
+    /// No opcode, control word, number or port has this name, and no label of the node.
+    #[error("what is this")]
+    Unknown(&'s [u8]),
+    #[error("the name is taken")]
+    Taken,
+    #[error("a name or a value is missing")]
+    Missing,
+    #[error("the label stands twice")]
+    LabelTwice,
+    #[error("the register is given twice")]
+    RegisterTwice,
+    #[error("nothing is open that this closes")]
+    Unmatched,
+    #[error("this is never closed")]
+    Open,
+    #[error("number out of range")]
+    Number,
+    /// A cell that a line gave already: 00 to 3f of RAM, 80 to bf of ROM.
+    #[error("cell {cell:03x} given before on line {line} (org {cell} is {cell:03x})")]
+    CellTwice { cell: u32, line: u32 },
+    /// The address at which no memory is.
+    #[error("{0:03x} is past the end of RAM or ROM")]
+    Past(u32),
+    /// The address of the jump's cell, and the one that it can't lead to.
+    #[error("{target:03x} is out of reach of a jump in {cell:03x}")]
+    Reach { cell: u32, target: u32 },
+    /// The address of the cell of `unext`.
+    #[error("the loop of unext in {0:03x} is longer than its cell")]
+    Loop(u32),
+}
+
+/// A fault of a text, and its line from 1 on; 0 where memory was refused.
+#[derive(Clone, Copy, PartialEq, Eq, Debug)]
+pub struct Fault<'s> {
+    pub line: u32,
+    pub cause: SourceCause<'s>,
+}
+
+impl<'s> From<AllocError> for Fault<'s> {
+    ghost use Rattle.std.specs.Prelude.{◌≡◌};
+    ghost use Rattle.ga_parser.specs.declared.fault.SourceCause.TheVariants.{Memory};
+
+    ghost from_gives = { λ _ fault. fault.cause ≡ Memory };
+
+    fn from(_refused: AllocError) -> Self {
+        fault_at(0, SourceCause::Memory)
+    }
+}
+
+impl<'s, T: Drop> From<AllocFailed<T>> for Fault<'s> {
+    ghost use Rattle.std.specs.Prelude.{◌≡◌};
+    ghost use Rattle.ga_parser.specs.declared.fault.SourceCause.TheVariants.{Memory};
+
+    ghost from_gives = { λ _ fault. fault.cause ≡ Memory };
+
+    fn from(_refused: AllocFailed<T>) -> Self {
+        fault_at(0, SourceCause::Memory)
+    }
+}
+
+/// A fault at a line.
+pub fn fault_at(line: u32, cause: SourceCause<'_>) -> Fault<'_>
+    ensures line { result.line ≡ line }
+    ensures cause { result.cause ≡ cause.entry }
+{
+    Fault { line, cause }
+}

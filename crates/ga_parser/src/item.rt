@@ -1,0 +1,80 @@
+//! What the words of a node ask for.
+
+use super::labels::Label;
+use ga_slots::Op;
+
+/// A number, or the address of a label by the label's number.
+#[derive(Clone, Copy, PartialEq, Eq)]
+pub enum Operand {
+    Number(u32),
+    Label(usize),
+}
+
+/// Something that stands in a slot or in a cell.
+#[derive(Clone, Copy)]
+pub enum Item {
+    /// An opcode without an address.
+    Opcode(Op),
+    /// `@p`, and its value in a cell behind.
+    Literal(Operand),
+    /// An opcode with the address of a label that stands before it in the source.
+    Back(Op, usize),
+    /// An opcode with the address of a label that stands behind it.
+    Ahead(Op, usize),
+    /// A cell of data.
+    Cell(Operand),
+}
+
+impl Default for Item {
+    fn default() -> Self {
+        Item::Opcode(Op::Nop)
+    }
+}
+
+/// A request of the source.
+#[derive(Clone, Copy)]
+pub enum Request {
+    /// An item in the next place where it fits.
+    Put(Item),
+    /// `unext` to this label.
+    Unext(usize),
+    /// The label is the address of the next cell.
+    Mark(usize),
+    /// The next item stands in a new cell.
+    Fill,
+    /// The next cell is the one at this address.
+    Go(u32),
+    /// Bit 9 of the next cell's address, and so of those behind.
+    Carry(bool),
+}
+
+/// A request and its line.
+#[derive(Clone, Copy)]
+pub struct Asked {
+    pub line: u32,
+    pub request: Request,
+}
+
+/// A register's value at load, and the line that gives it; line 0 where none does.
+#[derive(Clone, Copy, PartialEq, Eq)]
+pub struct Given {
+    pub line: u32,
+    pub value: Operand,
+}
+
+/// What the source gives a node's registers at load.
+#[derive(Clone, Copy, PartialEq, Eq)]
+pub struct Registers {
+    pub p: Option<Given>,
+    pub a: Option<Given>,
+    pub b: Option<Given>,
+}
+
+/// What the words of a node ask for.
+#[derive(Drop)]
+pub struct NodeRequests<'s> {
+    pub asked: Vec<Asked>,
+    /// The labels by their numbers; the name is empty where a control word made the label.
+    pub names: Vec<Label<'s>>,
+    pub registers: Registers,
+}

@@ -1,0 +1,150 @@
+//! Words that say a number: digits, ports and sets of ports.
+
+ghost use Rattle.std.specs.Prelude.{◌≡◌, ◌<◌, ◌≤◌, ◌^◌, min, IfSome, option_map};
+ghost use Rattle.std.specs.Char.{digit_value};
+ghost use Rattle.std.specs.Option.{option_map_or, SomeIff};
+ghost use Rattle.ga_parser.specs.declared.number.Number.TheVariants.{Nothing};
+ghost use Rattle.ga_parser.specs.Numbers.{digits_in, plain_in, word_of_size, word_below, numeral_in, set_in, port_in, number_by_word};
+
+use ga_ports::set_number;
+
+/// What a word says of a number.
+#[derive(Clone, Copy, PartialEq, Eq)]
+pub(crate) enum Number {
+    Of(u32),
+    OutOfRange,
+    Nothing,
+}
+
+/// The greatest number that is told; it stands for any greater one too.
+const GREATEST: u32 = 0x100_0000;
+
+/// The value of a digit of a base.
+fn digit(byte: u8, base: u32) -> Option<u32>
+    requires least { 2 ≤ base }
+    requires most { base ≤ 16 }
+    ensures { SomeIff result (digit_value byte < base) (digit_value byte) }
+{
+    char::from(byte).to_digit(base)
+}
+
+/// The number of some digits of a base, where there are only such.
+#[tactic(auto, using(crate::proofs::Numbers::no_digits))]
+fn digits(text: &[u8], base: u32) -> Option<u32>
+    requires least { 2 ≤ base }
+    requires most { base ≤ 16 }
+    ensures { result ≡ option_map (λ number. min number (2 ^ 24)) (digits_in base text.now) }
+{
+    if text.is_empty() {
+        return None;
+    }
+    let mut number = 0u32;
+    for byte in text {
+        let digit = digit(*byte, base)?;
+        number = (number * base + digit).min(GREATEST);
+    }
+    Some(number)
+}
+
+/// A number as it is written, where the word is one.
+fn plain(text: &[u8]) -> Option<u32>
+    ensures { result ≡ option_map (λ number. min number (2 ^ 24)) (plain_in text.now) }
+{
+    match text.strip_prefix(b"0x") {
+        Some(rest) => digits(rest, 16),
+        None => digits(text, 10),
+    }
+}
+
+/// A number of this size.
+fn word_of_size(size: u32) -> Number
+    ensures { result ≡ word_of_size size }
+{
+    if size < 0x4_0000 {
+        Number::Of(size)
+    } else {
+        Number::OutOfRange
+    }
+}
+
+/// A number of this size below 0.
+fn word_below(size: u32) -> Number
+    ensures { result ≡ word_below size }
+{
+    if size <= 0x2_0000 {
+        Number::Of((0x4_0000 - size) % 0x4_0000)
+    } else {
+        Number::OutOfRange
+    }
+}
+
+/// What digits behind a `-` say of a number.
+fn negative(text: &[u8]) -> Number
+    ensures { result ≡ option_map_or word_below (plain_in text.now) Nothing }
+{
+    match plain(text) {
+        Some(size) => word_below(size),
+        None => Number::Nothing,
+    }
+}
+
+/// What digits say of a number.
+fn positive(text: &[u8]) -> Number
+    ensures { result ≡ option_map_or word_of_size (plain_in text.now) Nothing }
+{
+    match plain(text) {
+        Some(size) => word_of_size(size),
+        None => Number::Nothing,
+    }
+}
+
+/// What digits say of a number, behind a `-` or without.
+fn numeral(text: &[u8]) -> Number
+    ensures { result ≡ numeral_in text.now }
+{
+    match text.strip_prefix(b"-") {
+        Some(rest) => negative(rest),
+        None => positive(text),
+    }
+}
+
+/// The number of a word modulo 2^18.
+pub(crate) fn number_of(text: &[u8]) -> Number
+    ensures { result ≡ number_by_word text.now }
+{
+    match port(text) {
+        Some(address) => Number::Of(address),
+        None => numeral(text),
+    }
+}
+
+/// The address of a port or of a set of ports.
+fn port(text: &[u8]) -> Option<u32>
+    ensures { result ≡ port_in text.now }
+{
+    if text == b"right".as_slice() {
+        Some(0x1d5)
+    } else if text == b"down".as_slice() {
+        Some(0x115)
+    } else if text == b"left".as_slice() {
+        Some(0x175)
+    } else if text == b"up".as_slice() {
+        Some(0x145)
+    } else if text == b"io".as_slice() {
+        Some(0x15d)
+    } else {
+        ports(text)
+    }
+}
+
+/// The address of a set of ports.
+fn ports(text: &[u8]) -> Option<u32>
+    ensures { result ≡ set_in text.now }
+{
+    let set = set_number(text)?;
+    if set == 0 {
+        None
+    } else {
+        Some(0x155 ^ (16 * set))
+    }
+}

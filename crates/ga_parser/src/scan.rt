@@ -1,0 +1,221 @@
+//! A text as words.
+
+ghost use Rattle.std.specs.Prelude.{◌≡◌, ◌<◌, ◌+◌, ◌-◌, [], ◌∷◌, ◌++◌, length, IsOkAnd, IsErrAnd, IfOk, OnOk};
+ghost use Rattle.std.specs.List.{list_all};
+ghost use Rattle.ga_parser.specs.Saying.{source_lines, is_blank as is_blank_byte, parted, closes as closes_comment, unmarked as without_mark, bare as bare_line, without_return as without_end, said_by, is_word, all_in, said_in, all_said};
+ghost use Rattle.ga_parser.specs.Columns.{columns_by, columns_in, columns_of};
+ghost use Rattle.ga_parser.specs.declared.scan.TokenKind.TheVariants.{Word, LongLine, OpenComment};
+ghost use Rattle.ga_parser.specs.declared.fault.SourceCause.TheVariants.{LongLine as TooLong, OpenComment as LeftOpen};
+
+use super::fault::{Fault, SourceCause, fault_at};
+use std::alloc::{AllocError, Global};
+
+/// A word of the source, or what is wrong with a line, and the line's number from 1 on.
+#[derive(Clone, Copy)]
+pub struct Token<'s> {
+    pub line: u32,
+    /// That of the word's first byte, in bytes from 1 on, behind a byte order mark; 1 where the line is at fault.
+    pub column: u32,
+    /// Empty where the line is at fault.
+    pub text: &'s [u8],
+    pub kind: TokenKind,
+}
+
+/// What a line says here.
+#[derive(Clone, Copy, PartialEq, Eq)]
+pub enum TokenKind {
+    Word,
+    /// The line is too long.
+    LongLine,
+    /// A comment is left open.
+    OpenComment,
+}
+
+impl<'s> Token<'s> {
+    /// The word.
+    ///
+    /// # Errors
+    /// The line's fault.
+    pub fn word(self) -> Result<&'s [u8], Fault<'s>>
+        ensures told { IfOk result (λ text. text.now ≡ self.entry.text.now) }
+        ensures word { self.entry.kind ≡ Word → IsOkAnd result (λ text. text.now ≡ self.entry.text.now) }
+        ensures long { self.entry.kind ≡ LongLine → IsErrAnd result (λ fault. (fault.line ≡ self.entry.line) × (fault.cause ≡ TooLong)) }
+        ensures open { self.entry.kind ≡ OpenComment → IsErrAnd result (λ fault. (fault.line ≡ self.entry.line) × (fault.cause ≡ LeftOpen)) }
+    {
+        match self.kind {
+            TokenKind::Word => Ok(self.text),
+            TokenKind::LongLine => Err(fault_at(self.line, SourceCause::LongLine)),
+            TokenKind::OpenComment => Err(fault_at(self.line, SourceCause::OpenComment)),
+        }
+    }
+}
+
+/// How many bytes a line may have.
+const LONGEST: usize = 200;
+
+fn is_blank(byte: u8) -> bool
+    ensures { result ≡ is_blank_byte byte }
+{
+    byte == b' ' || byte == b'\t'
+}
+
+/// Whether a word closes a comment.
+fn closes(word: &[u8]) -> bool
+    ensures { result ≡ closes_comment word.now }
+{
+    if let [.., b')'] = word { true } else { false }
+}
+
+/// What stands before the first blank or tab, and what behind it.
+fn first_part(text: &[u8]) -> (&[u8], &[u8])
+    requires { 0 < length text.now }
+    ensures splits { parted is_blank_byte text.now ≡ result.0.now ∷ parted is_blank_byte result.1.now }
+    ensures left { length result.1.now ≡ length text.now - (length result.0.now + 1) }
+    ensures shorter { length result.1.now < length text.now }
+{
+    for (i, byte) in text.iter().enumerate() {
+        if is_blank(*byte) {
+            return (text.split_at(i).0, text.split_at(i + 1).1);
+        }
+    }
+    (text, &[])
+}
+
+/// Adds the words of a line, and then its fault where it has one. True where it has none.
+fn scan_line<'s>(tokens: &mut Vec<Token<'s>>, line: u32, text: &'s [u8]) -> Result<bool, AllocError>
+    ensures says { OnOk result (all_said tokens.new.items ≡ all_said tokens.old.items ++ said_by line text.now) }
+    ensures columns { OnOk result (columns_of tokens.new.items ≡ columns_of tokens.old.items ++ columns_by text.now) }
+    ensures whole { IfOk result (λ whole. whole ≡ list_all is_word (said_by line text.now)) }
+{
+    if text.len() > LONGEST {
+        push(tokens, line, 1, &[], TokenKind::LongLine)?;
+        return Ok(false);
+    }
+    let mut is_open = false;
+    let mut rest = text;
+    while !rest.is_empty() {
+        let (part, behind) = first_part(rest);
+        let column = (text.len() - rest.len()) as u32 + 1;
+        if is_open {
+            is_open = !closes(part);
+        } else if part == b"\\".as_slice() {
+            return Ok(true);
+        } else if part == b"(".as_slice() {
+            is_open = true;
+        } else if !part.is_empty() {
+            push(tokens, line, column, part, TokenKind::Word)?;
+        }
+        rest = behind;
+    }
+    if is_open {
+        push(tokens, line, 1, &[], TokenKind::OpenComment)?;
+        return Ok(false);
+    }
+    Ok(true)
+}
+
+fn push<'s>(
+    tokens: &mut Vec<Token<'s>>,
+    line: u32,
+    column: u32,
+    text: &'s [u8],
+    kind: TokenKind,
+) -> Result<(), AllocError>
+    ensures says { OnOk result (all_said tokens.new.items ≡ all_said tokens.old.items ++ record { line = line; text = text.now; kind = kind } ∷ []) }
+    ensures column { OnOk result (columns_of tokens.new.items ≡ columns_of tokens.old.items ++ column ∷ []) }
+{
+    tokens.push(Token {
+        line,
+        column,
+        text,
+        kind,
+    })?;
+    Ok(())
+}
+
+/// The first line and the text behind it.
+fn first_line(text: &[u8]) -> (&[u8], &[u8])
+    requires { 0 < length text.now }
+    ensures splits { source_lines text.now ≡ result.0.now ∷ source_lines result.1.now }
+    ensures shorter { length result.1.now < length text.now }
+{
+    for (i, byte) in text.iter().enumerate() {
+        if *byte == b'\n' {
+            return (text.split_at(i).0, text.split_at(i + 1).1);
+        }
+    }
+    (text, &[])
+}
+
+/// A line without the byte order mark with which the first line of a text may begin. Lines count from 1.
+pub fn unmarked(line: u32, text: &[u8]) -> &[u8]
+    ensures { result.now ≡ without_mark line text.now }
+{
+    match text {
+        [0xef, 0xbb, 0xbf, rest @ ..] if line == 1 => rest,
+        _ => text,
+    }
+}
+
+/// A line without the carriage return at its end.
+fn without_return(text: &[u8]) -> &[u8]
+    ensures { result.now ≡ without_end text.now }
+{
+    match text {
+        [rest @ .., b'\r'] => rest,
+        _ => text,
+    }
+}
+
+/// A line without what some editors write before or behind it.
+fn bare(line: u32, text: &[u8]) -> &[u8]
+    ensures { result.now ≡ bare_line line text.now }
+{
+    without_return(unmarked(line, text))
+}
+
+/// The words of a text, up to its end or to a line `end`. What stands behind a line with a fault is read too.
+///
+/// # Errors
+/// Memory was refused.
+pub fn source_words(alloc: Global, source: &[u8]) -> Result<Vec<Token<'_>>, AllocError>
+    ensures says { IfOk result (λ words. all_said words.items ≡ all_in source.now) }
+    ensures columns { IfOk result (λ words. columns_of words.items ≡ columns_in source.now) }
+{
+    let mut words = Vec::new(alloc);
+    let mut rest = source;
+    let mut line = 1u32;
+    while !rest.is_empty() {
+        let (whole, behind) = first_line(rest);
+        let first = bare(line, whole);
+        if first == b"end".as_slice() {
+            return Ok(words);
+        }
+        let _is_whole = scan_line(&mut words, line, first)?;
+        rest = behind;
+        line = line.saturating_add(1);
+    }
+    Ok(words)
+}
+
+/// The words of a text, up to its end, to a line `end` or to the first line with a fault.
+///
+/// # Errors
+/// Memory was refused.
+pub fn words_up_to_fault(alloc: Global, source: &[u8]) -> Result<Vec<Token<'_>>, AllocError>
+    ensures { IfOk result (λ tokens. all_said tokens.items ≡ said_in source.now) }
+{
+    let mut tokens = Vec::new(alloc);
+    let mut rest = source;
+    let mut line = 1u32;
+    while !rest.is_empty() {
+        let (whole, behind) = first_line(rest);
+        let first = bare(line, whole);
+        if first == b"end".as_slice() || !scan_line(&mut tokens, line, first)? {
+            return Ok(tokens);
+        }
+        rest = behind;
+        line = line.saturating_add(1);
+    }
+    Ok(tokens)
+}

@@ -1,0 +1,184 @@
+-- What is told of a look and a change at two places.
+use Rattle.std.proofs.Common.{◌≡◌, ◌≢◌, ℕ, ◌+◌, ◌<◌, ◌≤◌, cond, Bool, true, false, inl, inr, List, length, take, get_or, Option, Some, None, IsSome, refl, sym, ◌∙◌, ap, subst, arith, true≢false}
+use Rattle.std.specs.Prelude.{nat_lt, is_some, is_none, ◌&&◌}
+use Rattle.std.proofs.lemmas.Bool.{cases_Bool}
+use Rattle.std.specs.List.{All}
+use Rattle.std.proofs.lemmas.List.{take_all}
+use Rattle.std.proofs.lemmas.List.Elements.{All-weaker}
+use Rattle.ga_ports.specs.declared.side.Side.{Side}
+use Rattle.ga_node.specs.Record.{NodeRecord}
+use Rattle.ga_node.specs.Table.{refusal, looks}
+use Rattle.ga_node.specs.declared.kind.NotReady.{NotReady}
+use Rattle.ga_grid.specs.Chip.{record_at}
+use Rattle.ga_grid.specs.declared.node_id.NodeId.{NodeId}
+use Rattle.ga_event.specs.declared.event.Event.{Event}
+use Rattle.ga_event.specs.declared.event.Event.TheVariants.{Own, Pass}
+use Rattle.ga_event.specs.declared.event.Cause.{Cause}
+use Rattle.ga_event.specs.Touches.{touches}
+use Rattle.ga_event.specs.Apply.{replay, cause_of}
+use Rattle.ga_event.specs.Told.{steps_of, events_in}
+use Rattle.ga_causal.specs.Dependence.{cause_touches, event_at}
+use Rattle.ga_causal.specs.Steps.{touching}
+use Rattle.ga_causal.proofs.Places.{touching_before}
+use Rattle.ga_races.specs.HappensBefore.{Action, actions}
+use Rattle.ga_races.specs.declared.near.Near.{Near}
+use Rattle.ga_races.proofs.Frees.{touches_own, touches_writer, touches_reader}
+use Rattle.ga_races.proofs.Before.{actions_length}
+use Rattle.ga_lab.specs.Machine.{State, chip_of, causes_of, earlier, rewound}
+use Rattle.ga_races.specs.Near.{are_linked}
+use Rattle.ga_race_detector.specs.Races.{looks_next}
+use Rattle.ga_race_detector.specs.Readings.{IsOtherwise}
+use Rattle.ga_race_detector.specs.kept.Acts.{IsMoment, AreMoments, first_part, last_part, no_moment}
+use Rattle.ga_race_detector.specs.kept.Readings.{part_beside}
+use Rattle.ga_race_detector.specs.kept.Glances.{IsGlance, IsGlanced, IsOtherWord, HasStep}
+use Rattle.ga_race_detector.specs.declared.moments.Moment.{Moment}
+use Rattle.ga_race_detector.specs.declared.glances.Glance.{Glance}
+use Rattle.ga_race_detector.proofs.Acting.{Made, made_at, cause_at, cause_there, causes_are, causes_long}
+use Rattle.ga_race_detector.proofs.NearReadings.{kept_caused}
+use Rattle.ga_race_detector.proofs.Placed.{steps_at}
+use Rattle.ga_race_detector.proofs.Posted.{stood_alike}
+use Rattle.ga_race_detector.proofs.Standing.{Stands, stands_somewhere}
+
+some_led : (s : State) (last : List NodeRecord) → replay s.load s.kept ≡ Some last → IsSome (replay s.load s.kept)
+some_led s last led = ap is_some led
+
+moment_is : (s : State) (causes : List Cause) (moments : List Moment) (p : ℕ) (e : Cause) (at : Moment) → AreMoments s causes moments → p < length causes → e ≡ get_or causes p e → at ≡ get_or moments p no_moment → IsMoment s p e at
+moment_is s causes moments p e at known l is told =
+    let size : length moments ≡ length causes = known.size in
+    subst (λ (z : Cause). IsMoment s p z at) (sym (cause_at causes p e l is))
+    (subst (IsMoment s p (event_at causes p)) (sym told) (known.each p (omega arith) (omega (arith, l, size))))
+
+-- a pass stands beside a node by its writer, where that is linked to it, and else by its reader
+pub beside_first : {e : Event} {w r : NodeId} {side : Side} (n : ℕ) → e ≡ Pass w r side → are_linked n w.number ≡ true → first_part e ≡ part_beside e n
+beside_first {w} {r} n is on = ap first_part is ∙ sym (ap (λ (b : Bool). cond {A = NodeId} b w r) on) ∙ sym (ap (λ (z : Event). part_beside z n) is)
+
+pub beside_last : {e : Event} {w r : NodeId} {side : Side} (n : ℕ) → e ≡ Pass w r side → are_linked n w.number ≡ false → last_part e ≡ part_beside e n
+beside_last {w} {r} n is off = ap last_part is ∙ sym (ap (λ (b : Bool). cond {A = NodeId} b w r) off) ∙ sym (ap (λ (z : Event). part_beside z n) is)
+
+-- as the code reads them
+pub glanced : (s : State) (last : List NodeRecord) (causes : List Cause) (moments : List Moment) (near : Near) (e f : Cause) (at by : Moment) (node neighbour : NodeId) (before : ℕ)
+    → replay s.load s.kept ≡ Some last → causes ≡ causes_of s → AreMoments s causes moments → near.look < length causes → near.change < length causes
+    → e ≡ get_or causes near.look e → f ≡ get_or causes near.change f → at ≡ get_or moments near.look no_moment → by ≡ get_or moments near.change no_moment
+    → e ≡ record { event = Own node; look = true } → neighbour ≡ part_beside f.event node.number
+    → ((s : State) (p : ℕ) → IsMoment s p f by → before ≡ steps_of (part_beside f.event node.number).number (take p s.kept))
+    → IsGlance s near (record { node = node; step = at.first + 1; word = at.word; neighbour = neighbour; change = before + 1; early = nat_lt near.look near.change })
+glanced s last causes moments near e f at by node neighbour before led all known l m ise isf isat isby own part count = record {
+  look = subst (λ (z : List Cause). near.look < length z) all l;
+  change_at = subst (λ (z : List Cause). near.change < length z) all m;
+  looked = there_e ∙ own;
+  step = ap (λ (z : ℕ). z + 1) (moment.first ∙ sym (steps_at (causes_of s) s.kept near.look node.number kept));
+  word = moment.word refl;
+  neighbour = part ∙ ap (λ (z : Cause). part_beside z.event node.number) (sym there_f);
+  change = ap (λ (z : ℕ). z + 1) (count s near.change (moment_is s causes moments near.change f by known m isf isby) ∙ ap (λ (z : NodeId). steps_of z.number (take near.change s.kept)) (sym part) ∙ sym (steps_at (causes_of s) s.kept near.change neighbour.number kept));
+  early = refl;
+}
+  where
+    kept : events_in (causes_of s) ≡ s.kept
+    kept = kept_caused s (some_led s last led)
+
+    there_e : event_at (causes_of s) near.look ≡ e
+    there_e = ap (λ (z : List Cause). event_at z near.look) (sym all) ∙ sym (cause_at causes near.look e l ise)
+
+    there_f : event_at (causes_of s) near.change ≡ f
+    there_f = ap (λ (z : List Cause). event_at z near.change) (sym all) ∙ sym (cause_at causes near.change f m isf)
+
+    moment : IsMoment s near.look (record { event = Own node; look = true }) at
+    moment = subst (λ (z : Cause). IsMoment s near.look z at) own (moment_is s causes moments near.look e at known l ise isat)
+
+record IsOneOf (es : List Cause) (step : NodeId × ℕ) : Type 0 where
+  first : 0 < step.1
+  within : step.1 ≤ touching step.0.number es
+
+part_touched : (e : Event) (n : ℕ) → touches e (part_beside e n).number ≡ true
+part_touched (Own a) n = touches_own a
+part_touched (Pass w r side) n = elim (cases_Bool (are_linked n w.number)) [
+  | inl t ↦ subst (λ (b : Bool). touches (Pass w r side) (cond {A = NodeId} b w r).number ≡ true) (sym t) (touches_writer w r side)
+  | inr f ↦ subst (λ (b : Bool). touches (Pass w r side) (cond {A = NodeId} b w r).number ≡ true) (sym f) (touches_reader w r side)
+]
+
+-- the step that is taken back is one of the list
+pub has_step : (s : State) (last : List NodeRecord) (near : Near) (glance : Glance) → replay s.load s.kept ≡ Some last → IsGlance s near glance → HasStep (causes_of s) glance
+has_step s last near glance led g = (let one = go glance.early in record { first = one.first; within = one.within })
+  where
+    es : List Cause
+    es = causes_of s
+
+    within : (n k p : ℕ) → p < length es → cause_touches (event_at es p) n ≡ true → k ≡ touching n (take p es) + 1 → k ≤ touching n es
+    within n k p l touch is =
+        let more = touching_before es n p (length es) l l touch in
+        let whole : touching n (take (length es) es) ≡ touching n es = ap (touching n) (take_all (length es) es (omega arith)) in
+        omega (arith, is, more, whole)
+
+    look_touched : cause_touches (event_at es near.look) glance.node.number ≡ true
+    look_touched = ap (λ (z : Cause). cause_touches z glance.node.number) g.looked ∙ touches_own glance.node
+
+    change_touched : cause_touches (event_at es near.change) glance.neighbour.number ≡ true
+    change_touched = ap (λ (z : NodeId). cause_touches (event_at es near.change) z.number) g.neighbour ∙ part_touched (event_at es near.change).event glance.node.number
+
+    go : (b : Bool) → IsOneOf es (cond {A = NodeId × ℕ} b (glance.node, glance.step) (glance.neighbour, glance.change))
+    go true = record { first = (let q : glance.step ≡ touching glance.node.number (take near.look es) + 1 = g.step in omega (arith, q)); within = within glance.node.number glance.step near.look g.look look_touched g.step }
+    go false = record { first = (let q : glance.change ≡ touching glance.neighbour.number (take near.change es) + 1 = g.change in omega (arith, q)); within = within glance.neighbour.number glance.change near.change g.change_at change_touched g.change }
+
+-- the look comes next where as many steps of its node are left as stood before it
+pub looks_again : (s : State) (last : List NodeRecord) (near : Near) (glance : Glance) (b k : ℕ) → replay s.load s.kept ≡ Some last → IsGlance s near glance
+    → steps_of glance.node.number (rewound s b k).kept + 1 ≡ glance.step → looks_next (chip_of (rewound s b k)) glance.node.number ≡ true
+looks_again s last near glance b k led g one =
+    subst (λ (z : NodeRecord). (is_none (refusal z) && looks z) ≡ true) (sym (a.same ∙ stood_alike s last n a.place near.look led count)) here
+  where
+    n : ℕ
+    n = glance.node.number
+
+    a : Stands s b k n
+    a = stands_somewhere s b k n (some_led s last led)
+
+    kept : events_in (causes_of s) ≡ s.kept
+    kept = kept_caused s (some_led s last led)
+
+    count : steps_of n (take a.place s.kept) ≡ steps_of n (take near.look s.kept)
+    count =
+        let x : steps_of n (take a.place s.kept) ≡ steps_of n (rewound s b k).kept = a.count in
+        let y : glance.step ≡ touching n (take near.look (causes_of s)) + 1 = g.step in
+        let z : touching n (take near.look (causes_of s)) ≡ steps_of n (take near.look s.kept) = steps_at (causes_of s) s.kept near.look n kept in
+        omega (arith, one, x, y, z)
+
+    before : List NodeRecord
+    before = chip_of (earlier s near.look)
+
+    within : near.look < length s.kept
+    within = (let l : near.look < length (causes_of s) = g.look in let long = causes_long s last led in omega (arith, l, long))
+
+    made : Made s near.look (Own glance.node)
+    made = made_at s last near.look (record { event = Own glance.node; look = true }) led (record { within = within; is = g.looked })
+
+    look : looks (record_at before n) ≡ true
+    look =
+        let long : length (actions s.load s.kept) ≡ length s.kept = actions_length s.load s.kept in
+        let there : event_at (causes_of s) near.look ≡ cause_of before (Own glance.node) =
+        ap (λ (z : List Cause). event_at z near.look) (sym (causes_are s last led)) ∙ cause_there (actions s.load s.kept) near.look (let l = within in omega (arith, l, long)) ∙ ap (λ (z : Action). z.cause) made.action in
+        ap (λ (z : Cause). z.look) (sym there ∙ g.looked)
+
+    here : (is_none (refusal (record_at before n)) && looks (record_at before n)) ≡ true
+    here = ap (λ (z : Option NotReady). is_none z && looks (record_at before n)) made.can ∙ look
+
+-- a look that reads another word is told
+pub otherwise : (s : State) (near : Near) (glance : Glance) (word : ℕ) → IsGlance s near glance → IsOtherWord s glance word → word ≢ glance.word
+    → IsOtherwise s (record { node = glance.node; step = glance.step; word = glance.word; neighbour = glance.neighbour; change = glance.change; early = glance.early; other = word })
+otherwise s near glance word g o ne = record {
+  place = near.look;
+  stands = record { within = g.look; touched = ap (λ (z : Cause). cause_touches z glance.node.number) g.looked ∙ touches_own glance.node; before = sym g.step };
+  looked = g.looked;
+  read = g.word;
+  next = o.next;
+  step = o.step;
+  other = o.is;
+  differ = ne;
+}
+
+pub not_shown : (o : Option Glance) → o ≡ None → IsSome o → ⊥
+not_shown None h k = true≢false (sym k)
+not_shown (Some x) h k = absurd (cc)
+
+-- each of these stands in the list
+pub all_steps : (s : State) (causes : List Cause) (only : Option NodeId) (glances : List Glance) → replay s.load s.kept ≡ Some (chip_of s) → causes ≡ causes_of s → All (IsGlanced s only) glances → All (HasStep causes) glances
+all_steps s causes only glances led all glanced =
+    All-weaker (IsGlanced s only) (HasStep causes) (λ glance g. subst (λ (z : List Cause). HasStep z glance) (sym all) (has_step s (chip_of s) g.0.0 glance led g.0.1)) glances glanced

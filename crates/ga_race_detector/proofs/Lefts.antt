@@ -1,0 +1,125 @@
+-- How many steps would be left around the looks of a list.
+use Rattle.std.proofs.Common.{◌≡◌, ℕ, ◌+◌, ◌-◌, ◌<◌, ◌≤◌, cond, inl, inr, List, ◌∷◌, length, take, drop, get_or, set, Option, Some, None, sym, ◌∙◌, ap, subst, arith, get_or-set_other}
+use Rattle.std.specs.Prelude.{slice_index, ◌^◌, Result, Ok, Err, IfOk}
+use Rattle.std.specs.List.{All}
+use Rattle.std.proofs.lemmas.Bool.{cases_eq, cases_lt}
+use Rattle.std.proofs.lemmas.Option.{same_Some}
+use Rattle.std.proofs.lemmas.List.{get_or-set_same, get_or_default}
+use Rattle.std.proofs.lemmas.List.Elements.{All-get_or}
+use Rattle.std.proofs.Math.ListN.{get_or-eq_default}
+use Rattle.ga_ports.specs.declared.side.Side.{Side}
+use Rattle.ga_ports.specs.declared.side.Side.TheVariants.{Right, Down, Left, Up}
+use Rattle.ga_grid.specs.declared.node_id.NodeId.{NodeId}
+use Rattle.ga_grid.specs.Grid.{neighbour_of}
+use Rattle.ga_event.specs.declared.event.Cause.{Cause}
+use Rattle.ga_causal.specs.Dependence.{cause_touches, rewound_list}
+use Rattle.ga_causal.specs.Steps.{touching}
+use Rattle.ga_lab.specs.declared.fault.LabFault.{LabFault}
+use Rattle.ga_race_detector.specs.kept.Left.{AreLeft, IsFilled, depth}
+use Rattle.ga_race_detector.specs.kept.Around.{IsAround, AreAround, AreFirst, AreTaken, AreFew, around_over, lists_over, sweep_over}
+use Rattle.ga_race_detector.specs.kept.Glances.{taken_of, HangTogether, IsAroundOf, AreKnown}
+use Rattle.ga_race_detector.specs.declared.around.Around.{Around}
+use Rattle.ga_race_detector.specs.declared.around.LeftAround.{LeftAround}
+use Rattle.ga_race_detector.specs.declared.around.Sweep.{Sweep}
+use Rattle.ga_race_detector.proofs.Depths.{IsGoing, IsBehindOne, going_none, going_taken, going_end, one_most}
+use Rattle.ga_race_detector.specs.declared.glances.Glance.{Glance}
+
+pub left_at : (causes : List Cause) (b m step number : ℕ) (list : List ℕ) → AreLeft causes b m list → 0 < step → step ≤ touching b causes → number ≡ slice_index list (step - 1) → number ≡ touching m (rewound_list causes b step)
+left_at causes b m step number list a first within is =
+    let size : length list ≡ touching b causes = a.size in
+    is ∙ a.each (step - 1) (omega (arith, first, within, size)) ∙ ap (λ (z : ℕ). touching m (rewound_list causes b z)) (let q : step - 1 + 1 ≡ step = omega (arith, first) in q)
+
+pub by_sides : (P : Side → Type 0) → P Right → P Down → P Left → P Up → (side : Side) → P side
+by_sides P right down left up Right = right
+by_sides P right down left up Down = down
+by_sides P right down left up Left = left
+by_sides P right down left up Up = up
+
+pub around_at : (causes : List Cause) (b n step : ℕ) (lists : LeftAround) (around : Around) → AreAround causes b n lists → 0 < step → step ≤ touching b causes → around.node ≡ slice_index lists.node.items (step - 1)
+    → ((side : Side) → around_over around side ≡ slice_index (lists_over lists side) (step - 1)) → IsAround causes b step n around
+around_at causes b n step lists around a first within node beside = record {
+  node = left_at causes b n step around.node lists.node.items a.node first within node;
+  beside = λ side m h. left_at causes b m step (around_over around side) (lists_over lists side) (a.beside side m h) first within (beside side);
+}
+
+pub hang_around : (causes : List Cause) (one other : Glance) (lists : LeftAround) → HangTogether one other → AreAround causes (taken_of other).0.number other.node.number lists → AreAround causes (taken_of one).0.number one.node.number lists
+hang_around causes one other lists h a =
+    subst (λ (z : ℕ). AreAround causes z one.node.number lists) (sym h.taken) (subst (λ (z : ℕ). AreAround causes (taken_of other).0.number z lists) (sym h.node) a)
+
+pub known_none : (causes : List Cause) (glances : List Glance) (known : List (Option Around)) → All (λ (a : Option Around). a ≡ None) known → AreKnown causes glances known
+known_none causes glances known none i glance around is told = elim (cases_lt i (length known)) [
+  | inl l ↦ absurd (let q : get_or known i None ≡ None = All-get_or (λ (a : Option Around). a ≡ None) known i None l none in cc)
+  | inr past ↦ absurd (let q : get_or known i None ≡ None = get_or-eq_default known None past in cc)
+]
+
+pub known_next : (causes : List Cause) (glances : List Glance) (known : List (Option Around)) (at : ℕ) (one : Glance) (around : Around) → at < length known → at < length glances → one ≡ get_or glances at one
+    → IsAroundOf causes one around → AreKnown causes glances known → AreKnown causes glances (set known at (Some around))
+known_next causes glances known at one around l m here right before i glance other is told = elim (cases_eq i at) [
+  | inl q ↦ (
+      let same : around ≡ other = same_Some around other (sym (get_or-set_same known at (Some around) None l) ∙ ap (λ (z : ℕ). get_or (set known at (Some around)) z None) (sym q) ∙ told) in
+      let there : one ≡ glance = here ∙ get_or_default glances at one glance m ∙ ap (λ (z : ℕ). get_or glances z glance) (sym q) ∙ sym is in
+      subst (λ (z : Glance). IsAroundOf causes z other) there (subst (IsAroundOf causes one) same right))
+  | inr ne ↦ before i glance other is (sym (get_or-set_other known at i (Some around) None ne) ∙ told)
+]
+
+-- ---- one pass over the events
+
+-- of the node and of its neighbours the lists are as far as the events have gone
+pub record AreGoing (all : List Cause) (b n : ℕ) (known : ℕ → ℕ) (made : ℕ) (sweep : Sweep) (es : List Cause) : Type 0 where
+  pub node : sweep.here.node.number ≡ n
+  pub nodes : (side : Side) (m : ℕ) → neighbour_of n side ≡ Some m → (sweep_over sweep side).node.number ≡ m
+  pub here : IsGoing all b n known made sweep.here.count sweep.here.list.items es
+  pub beside : (side : Side) (m : ℕ) → neighbour_of n side ≡ Some m → IsGoing all b m known made (sweep_over sweep side).count (sweep_over sweep side).list.items es
+
+-- none has more steps than there were events
+pub record AreMost (sweep : Sweep) (i : ℕ) : Type 0 where
+  pub here : sweep.here.count ≤ i
+  pub beside : (side : Side) → (sweep_over sweep side).count ≤ i
+
+pub are_first : (all : List Cause) (b : ℕ) (node : NodeId) (known : ℕ → ℕ) (sweep : Sweep) → ((n : ℕ) → known n ≡ 0) → AreFirst node sweep → AreGoing all b node.number known 0 sweep all
+are_first all b node known sweep none f = record {
+  node = ap (λ (z : NodeId). z.number) f.own;
+  nodes = f.nodes;
+  here = going_none all b node.number known sweep.here none f.here.count f.here.list;
+  beside = λ side m h. going_none all b m known (sweep_over sweep side) none (f.beside side).count (f.beside side).list;
+}
+
+pub none_most : (node : NodeId) (sweep : Sweep) → AreFirst node sweep → AreMost sweep 0
+none_most node sweep f = record {
+  here = (let q : sweep.here.count ≡ 0 = f.here.count in omega (arith, q));
+  beside = λ side. let q : (sweep_over sweep side).count ≡ 0 = (f.beside side).count in omega (arith, q);
+}
+
+pub are_few : (sweep : Sweep) (i : ℕ) → i + 1 < 2 ^ 32 → AreMost sweep i → AreFew sweep
+are_few sweep i l most = record {
+  here = (let q : sweep.here.count ≤ i = most.here in omega (arith, q, l));
+  right = (let q : sweep.right.count ≤ i = most.beside Right in omega (arith, q, l));
+  down = (let q : sweep.down.count ≤ i = most.beside Down in omega (arith, q, l));
+  left = (let q : sweep.left.count ≤ i = most.beside Left in omega (arith, q, l));
+  up = (let q : sweep.up.count ≤ i = most.beside Up in omega (arith, q, l));
+}
+
+pub are_most : (old new : Sweep) (e : Cause) (d i : ℕ) → AreTaken old new e d → AreMost old i → AreMost new (i + 1)
+are_most old new e d i taken most = record {
+  here = one_most (cause_touches e old.here.node.number) old.here.count new.here.count i taken.here.count most.here;
+  beside = λ side. one_most (cause_touches e (sweep_over old side).node.number) (sweep_over old side).count (sweep_over new side).count i (taken.beside side).count (most.beside side);
+}
+
+pub are_taken : (all : List Cause) (b n : ℕ) (known next : ℕ → ℕ) (made then : ℕ) (old new : Sweep) (e : Cause) (es : List Cause) → AreGoing all b n known made old (e ∷ es) → IsBehindOne known next b made e
+    → AreTaken old new e (depth known b made e) → then ≡ made + cond (cause_touches e b) 1 0 → AreGoing all b n next then new es
+are_taken all b n known next made then old new e es g is taken steps = record {
+  node = ap (λ (z : NodeId). z.number) taken.here.node ∙ g.node;
+  nodes = λ side m h. ap (λ (z : NodeId). z.number) (taken.beside side).node ∙ g.nodes side m h;
+  here = going_taken all b n known next made then old.here new.here e es g.node g.here is taken.here steps;
+  beside = λ side m h. going_taken all b m known next made then (sweep_over old side) (sweep_over new side) e es (g.nodes side m h) (g.beside side m h) is (taken.beside side) steps;
+}
+
+pub are_ended : (all : List Cause) (b n : ℕ) (known : ℕ → ℕ) (made i : ℕ) (sweep : Sweep) (r : Result LeftAround LabFault) → length all ≤ i → AreGoing all b n known made sweep (drop i all) → made ≡ touching b (take i all)
+    → IfOk r (λ lists. IsFilled sweep.here.list.items lists.node.items made sweep.here.count)
+    → IfOk r (λ lists. (side : Side) → IsFilled (sweep_over sweep side).list.items (lists_over lists side) made (sweep_over sweep side).count)
+    → IfOk r (λ lists. AreAround all b n lists)
+are_ended all b n known made i sweep (Ok lists) past g counted here beside = record {
+  node = going_end all b n known made sweep.here.count i sweep.here.list.items lists.node.items past g.here counted here;
+  beside = λ side m h. going_end all b m known made (sweep_over sweep side).count i (sweep_over sweep side).list.items (lists_over lists side) past (g.beside side m h) counted (beside side);
+}
+are_ended all b n known made i sweep (Err why) past g counted here beside = here

@@ -1,0 +1,16 @@
+pub mod Sessions
+pub mod Standing
+pub mod Offering
+pub mod Behind
+pub mod Untold
+pub mod Silent
+pub mod Racing
+pub mod Acting
+pub mod Placed
+pub mod NearReadings
+pub mod Depths
+pub mod Posted
+pub mod AtMoments
+pub mod Glancing
+pub mod Showing
+pub mod Lefts

@@ -1,0 +1,324 @@
+-- No look is left out that could have read another word where a change that is near to it comes on its other side.
+use Rattle.std.proofs.Common.{◌≡◌, ◌≢◌, ℕ, zero, suc, ◌+◌, ◌/◌, ◌%◌, ◌<◌, ◌≤◌, ◌⊎◌, cond, Bool, true, false, ◌||◌, ◌&&◌, inl, inr, List, [], ◌∷◌, ◌++◌, length, take, get_or, Contains, Option, Some, None, IsSome, refl, sym, ◌∙◌, ap, subst, arith, true≢false, eq-eqb}
+use Rattle.std.specs.Prelude.{is_some, Err, IfSome}
+use Rattle.std.proofs.lemmas.Bool.{cases_Bool, cases_eq, cases_lt, or_cases, or_left, or_right}
+use Rattle.std.proofs.lemmas.List.{take_all, take_more, get_or_default, length-map}
+use Rattle.std.proofs.lemmas.List.Elements.{Contains-push_cases}
+use Rattle.ga_ports.specs.declared.side.Side.{Side}
+use Rattle.ga_ports.specs.declared.side.Side.TheVariants.{Right, Down, Left, Up}
+use Rattle.ga_node.specs.Record.{NodeRecord}
+use Rattle.ga_node.specs.Io.{io_word}
+use Rattle.ga_grid.specs.declared.node_id.NodeId.{NodeId}
+use Rattle.ga_grid.specs.Grid.{neighbour_of}
+use Rattle.ga_grid.proofs.NodeIds.{NodeId-same}
+use Rattle.ga_event.specs.declared.event.Event.{Event}
+use Rattle.ga_event.specs.declared.event.Event.TheVariants.{Own, Pass}
+use Rattle.ga_event.specs.declared.event.Cause.{Cause}
+use Rattle.ga_event.specs.Touches.{touches}
+use Rattle.ga_event.specs.Apply.{is_number, seen_from, replay}
+use Rattle.ga_event.specs.Told.{steps_of, events_in}
+use Rattle.ga_causal.specs.Dependence.{event_at, place_of}
+use Rattle.ga_causal.specs.Steps.{touching, IsStep}
+use Rattle.ga_causal.proofs.Places.{touching_before, touching_in}
+use Rattle.ga_races.specs.Orders.{CanBe}
+use Rattle.ga_races.specs.declared.act.EventAccess.{EventAccess}
+use Rattle.ga_races.specs.declared.near.Near.{Near}
+use Rattle.ga_races.specs.HappensBefore.{action_at, actions, AreNear}
+use Rattle.ga_races.specs.Acts.{action_in, actions_in, is_own_of, IsNearLook}
+use Rattle.ga_races.specs.kept.Changed.{AreAlike}
+use Rattle.ga_races.proofs.Likeness.{alike-sym, near_alike}
+use Rattle.ga_races.proofs.Rivals.{open_of, number_of, at_node, at_two}
+use Rattle.ga_lab.specs.Machine.{State, chip_of, causes_of, rest_answer, rewind_answer, earlier, rewound, stands}
+use Rattle.ga_lab.specs.declared.fault.LabFault.{LabFault}
+use Rattle.ga_lab.proofs.Called.{Runs, runs_of, causes_is, events_run}
+use Rattle.ga_lab.proofs.Reasons.{stands_place}
+use Rattle.ga_lab.proofs.Reasoned.{replayed}
+use Rattle.ga_races.specs.Near.{are_linked}
+use Rattle.ga_race_detector.specs.Races.{looks_next, has_look}
+use Rattle.ga_race_detector.specs.Readings.{back_of, IsOtherwise, IsNearReading, IsTold}
+use Rattle.ga_race_detector.specs.kept.Readings.{part_beside, IsAtNear}
+use Rattle.ga_race_detector.specs.kept.Glances.{IsGlance, AreGlanced, IsShownBy, AreRead}
+use Rattle.ga_race_detector.specs.declared.readings.Reading.{Reading}
+use Rattle.ga_race_detector.specs.declared.glances.Glance.{Glance}
+use Rattle.ga_race_detector.proofs.Acting.{Made, made_at, causes_long, causes_are, cause_there}
+use Rattle.ga_race_detector.proofs.Behind.{stands_within}
+
+-- ---- steps and places
+
+-- a step has one place
+pub one_place : (es : List Cause) (n k p q : ℕ) → IsStep es n k p → IsStep es n k q → p ≡ q
+one_place es n k p q a b = elim (cases_lt p q) [
+  | inl l ↦ absurd (let u = touching_before es n p q l a.within a.touched in let x : touching n (take p es) + 1 ≡ k = a.before in let y : touching n (take q es) + 1 ≡ k = b.before in omega (arith, u, x, y))
+  | inr g ↦ elim (cases_lt q p) [
+    | inl l ↦ absurd (let u = touching_before es n q p l b.within b.touched in let x : touching n (take p es) + 1 ≡ k = a.before in let y : touching n (take q es) + 1 ≡ k = b.before in omega (arith, u, x, y))
+    | inr h ↦ omega (arith, g, h)
+  ]
+]
+
+-- and stands
+step_stands : (s : State) (n k p : ℕ) → events_in (causes_of s) ≡ s.kept → IsStep (causes_of s) n k p → stands s n k ≡ true
+step_stands s n k p caused a =
+    let es = causes_of s in
+    let l : p < length es = a.within in
+    let x : touching n (take p es) + 1 ≡ k = a.before in
+    let u = touching_before es n p (length es) l l a.touched in
+    let all : touching n (take (length es) es) ≡ steps_of n s.kept = ap (touching n) (take_all (length es) es (omega arith)) ∙ touching_in n es ∙ ap (steps_of n) caused in
+    stands_within s n k (omega (arith, x)) (omega (arith, x, u, all))
+
+pub answered : (s : State) (n k : ℕ) (why : LabFault) → IsSome (replay s.load s.kept) → stands s n k ≡ true → rewind_answer s n k ≡ Err why → ⊥
+answered s n k why some on = go (place_of (causes_of s) n k) (stands_place s n k (replayed s some) ∙ on)
+  where
+    go : (o : Option ℕ) → is_some o ≡ true → rest_answer (causes_of s) o ≡ Err why → ⊥
+    go None is h = true≢false (sym is)
+    go (Some i) is h = absurd (cc)
+
+pub kept_caused : (s : State) → IsSome (replay s.load s.kept) → events_in (causes_of s) ≡ s.kept
+kept_caused s some = let r : Runs s = runs_of s some in ap events_in (causes_is s r) ∙ events_run s.load r.last s.kept r.told r.run_is
+
+pub some_none : {A : Type 0} (x : A) → Some x ≡ None → ⊥
+some_none x h = absurd (cc)
+
+pub no_some : (o : Option ℕ) → o ≡ None → IsSome o → ⊥
+no_some None h k = true≢false (sym k)
+no_some (Some x) h k = absurd (cc)
+
+-- ---- the node of an event that is beside another
+
+-- neighbours stand on fields of different colours, as on a chessboard
+abbrev colour : ℕ → ℕ
+colour n = (n / 18 + n % 18) % 2
+
+colours : (n m : ℕ) (side : Side) → neighbour_of n side ≡ Some m → colour m ≢ colour n
+colours n m Right h = grind arith
+colours n m Down h = grind arith
+colours n m Left h = grind arith
+colours n m Up h = grind arith
+
+two_colours : (a b c : ℕ) → b % 2 ≢ a % 2 → c % 2 ≢ a % 2 → c % 2 ≢ b % 2 → ⊥
+two_colours a b c x y z = omega (arith, x, y, z)
+
+linked_by : (n m : ℕ) (side : Side) → neighbour_of n side ≡ Some m → are_linked n m ≡ true
+linked_by n m side h = go side here
+  where
+    here : is_number (neighbour_of n side) m ≡ true
+    here = ap (λ (o : Option ℕ). is_number o m) h ∙ eq-eqb m m refl
+
+    go : (side : Side) → is_number (neighbour_of n side) m ≡ true → are_linked n m ≡ true
+    go Right t = or_left (is_number (neighbour_of n Right) m) _ t
+    go Down t = or_right (is_number (neighbour_of n Right) m) _ (or_left (is_number (neighbour_of n Down) m) _ t)
+    go Left t = or_right (is_number (neighbour_of n Right) m) _ (or_right (is_number (neighbour_of n Down) m) _ (or_left (is_number (neighbour_of n Left) m) _ t))
+    go Up t = or_right (is_number (neighbour_of n Right) m) _ (or_right (is_number (neighbour_of n Down) m) _ (or_right (is_number (neighbour_of n Left) m) (is_number (neighbour_of n Up) m) t))
+
+linked_over : (n m : ℕ) → are_linked n m ≡ true → (side : Side) × (neighbour_of n side ≡ Some m)
+linked_over n m t = elim (or_cases (is_number (neighbour_of n Right) m) (is_number (neighbour_of n Down) m || (is_number (neighbour_of n Left) m || is_number (neighbour_of n Up) m)) t) [
+  | inl a ↦ (Right, number_of (neighbour_of n Right) m a)
+  | inr u ↦ elim (or_cases (is_number (neighbour_of n Down) m) (is_number (neighbour_of n Left) m || is_number (neighbour_of n Up) m) u) [
+    | inl a ↦ (Down, number_of (neighbour_of n Down) m a)
+    | inr v ↦ elim (or_cases (is_number (neighbour_of n Left) m) (is_number (neighbour_of n Up) m) v) [
+      | inl a ↦ (Left, number_of (neighbour_of n Left) m a)
+      | inr a ↦ (Up, number_of (neighbour_of n Up) m a)
+    ]
+  ]
+]
+
+-- of two linked nodes one alone is beside a third
+the_part : (c : List NodeRecord) (e : Event) (n m : NodeId) (side : Side) → CanBe c e → touches e m.number ≡ true → neighbour_of n.number side ≡ Some m.number → part_beside e n.number ≡ m
+the_part c (Own a) n m side can touch beside = NodeId-same a m (at_node a.number m.number touch)
+the_part c (Pass w r s) n m side can touch beside = elim (at_two w.number r.number m.number touch) [
+  | inl from ↦ ap (λ (b : Bool). cond {A = NodeId} b w r) (linked_by n.number w.number side (beside ∙ ap Some (sym from))) ∙ NodeId-same w m from
+  | inr to ↦ elim (cases_Bool (are_linked n.number w.number)) [
+    | inl on ↦ (
+        let o = linked_over n.number w.number on in
+        let near : neighbour_of w.number s ≡ Some r.number = number_of (neighbour_of w.number s) r.number (open_of c w r s can).near in
+        absurd (two_colours (n.number / 18 + n.number % 18) (w.number / 18 + w.number % 18) (r.number / 18 + r.number % 18)
+        (colours n.number w.number o.0 o.1) (colours n.number r.number side (beside ∙ ap Some (sym to))) (colours w.number r.number s near)))
+    | inr off ↦ ap (λ (b : Bool). cond {A = NodeId} b w r) off ∙ NodeId-same r m to
+  ]
+]
+
+-- ---- the look and the change at their places
+
+-- what is read of the look and of the change is what the reading tells
+pub record IsSaidOf (reading : Reading) (who : NodeId) (at : ℕ) (beside : NodeId) (by : ℕ) (first : Bool) : Type 0 where
+  pub node : who ≡ reading.node
+  pub step : at ≡ reading.step
+  pub neighbour : beside ≡ reading.neighbour
+  pub change : by ≡ reading.change
+  pub early : first ≡ reading.early
+
+-- the event of the look
+looked_there : (s : State) (near : Near) (reading : Reading) → IsOtherwise s reading → IsAtNear s near reading → event_at (causes_of s) near.look ≡ record { event = Own reading.node; look = true }
+looked_there s near reading o a = ap (event_at (causes_of s)) (sym (one_place (causes_of s) reading.node.number reading.step o.place near.look o.stands a.looks)) ∙ o.looked
+
+pub said_of : (s : State) (near : Near) (glance : Glance) (reading : Reading) → replay s.load s.kept ≡ Some (chip_of s) → IsGlance s near glance → IsOtherwise s reading → IsAtNear s near reading
+    → IsSaidOf reading glance.node glance.step glance.neighbour glance.change glance.early
+said_of s near glance reading led g o a = record {
+  node = node_is;
+  step = g.step ∙ ap (λ (x : NodeId). touching x.number (take near.look (causes_of s)) + 1) node_is ∙ a.looks.before;
+  neighbour = beside_is;
+  change = g.change ∙ ap (λ (x : NodeId). touching x.number (take near.change (causes_of s)) + 1) beside_is ∙ a.changes.before;
+  early = g.early ∙ sym a.order;
+}
+  where
+    node_of : Event → NodeId → NodeId
+    node_of (Own x) other = x
+    node_of (Pass w r side) other = other
+
+    node_is : glance.node ≡ reading.node
+    node_is = ap (λ (z : Cause). node_of z.event glance.node) (sym g.looked ∙ looked_there s near reading o a)
+
+    f : Cause
+    f = event_at (causes_of s) near.change
+
+    within : near.change < length s.kept
+    within = (let l : near.change < length (causes_of s) = g.change_at in let long = causes_long s (chip_of s) led in omega (arith, l, long))
+
+    made : Made s near.change f.event
+    made = made_at s (chip_of s) near.change f led (record { within = within; is = refl })
+
+    beside_is : glance.neighbour ≡ reading.neighbour
+    beside_is = g.neighbour ∙ ap (λ (x : NodeId). part_beside f.event x.number) node_is ∙ the_part _ f.event reading.node reading.neighbour a.side made.can a.changes.touched a.beside
+
+pub back_stands : (s : State) (near : Near) (reading : Reading) → events_in (causes_of s) ≡ s.kept → IsAtNear s near reading → (early : Bool)
+    → (let back : NodeId × ℕ = cond early (reading.node, reading.step) (reading.neighbour, reading.change) in stands s back.0.number back.1 ≡ true)
+back_stands s near reading caused a true = step_stands s reading.node.number reading.step near.look caused a.looks
+back_stands s near reading caused a false = step_stands s reading.neighbour.number reading.change near.change caused a.changes
+
+back_is : (reading : Reading) (node : NodeId) (step : ℕ) (neighbour : NodeId) (change : ℕ) (early : Bool) → IsSaidOf reading node step neighbour change early
+    → cond {A = NodeId × ℕ} early (node, step) (neighbour, change) ≡ back_of reading
+back_is reading node step neighbour change early said =
+    ap (λ (z : NodeId). cond {A = NodeId × ℕ} early (z, step) (neighbour, change)) said.node
+    ∙ ap (λ (z : ℕ). cond {A = NodeId × ℕ} early (reading.node, z) (neighbour, change)) said.step
+    ∙ ap (λ (z : NodeId). cond {A = NodeId × ℕ} early (reading.node, reading.step) (z, change)) said.neighbour
+    ∙ ap (λ (z : ℕ). cond {A = NodeId × ℕ} early (reading.node, reading.step) (reading.neighbour, z)) said.change
+    ∙ ap (λ (z : Bool). cond {A = NodeId × ℕ} z (reading.node, reading.step) (reading.neighbour, reading.change)) said.early
+
+-- the step that is taken back stands, and behind it the node looks again and reads the other word
+pub record IsReadAgain (s : State) (reading : Reading) (back : NodeId × ℕ) (node : NodeId) (number : ℕ) : Type 0 where
+  pub stands : stands s back.0.number back.1 ≡ true
+  pub next : looks_next (chip_of (rewound s back.0.number back.1)) node.number ≡ true
+  pub step : steps_of node.number (rewound s back.0.number back.1).kept + 1 ≡ number
+  pub other : reading.other ≡ io_word (seen_from (chip_of (rewound s back.0.number back.1)) node.number)
+
+pub read_again : (s : State) (near : Near) (reading : Reading) (node : NodeId) (step : ℕ) (neighbour : NodeId) (change : ℕ) (early : Bool) → events_in (causes_of s) ≡ s.kept
+    → IsSaidOf reading node step neighbour change early → IsOtherwise s reading → IsAtNear s near reading
+    → IsReadAgain s reading (cond {A = NodeId × ℕ} early (node, step) (neighbour, change)) node step
+read_again s near reading node step neighbour change early caused said o a =
+    subst (λ (z : NodeId × ℕ). IsReadAgain s reading z node step) (sym (back_is reading node step neighbour change early said))
+    (subst (λ (z : NodeId). IsReadAgain s reading (back_of reading) z step) (sym said.node)
+    (subst (λ (z : ℕ). IsReadAgain s reading (back_of reading) reading.node z) (sym said.step)
+    (record { stands = back_stands s near reading caused a reading.early; next = o.next; step = o.step; other = o.other })))
+
+-- the word that it read
+pub word_there : (s : State) (near : Near) (reading : Reading) (node : NodeId) → node ≡ reading.node → IsOtherwise s reading → IsAtNear s near reading
+    → io_word (seen_from (chip_of (earlier s near.look)) node.number) ≡ reading.word
+word_there s near reading node is o a =
+    let same : o.place ≡ near.look = one_place (causes_of s) reading.node.number reading.step o.place near.look o.stands a.looks in
+    ap (λ (z : NodeId). io_word (seen_from (chip_of (earlier s near.look)) z.number)) is
+    ∙ ap (λ (z : ℕ). io_word (seen_from (chip_of (earlier s z)) reading.node.number)) (sym same) ∙ sym o.read
+
+pub same_reading : (reading : Reading) (node : NodeId) (step word : ℕ) (neighbour : NodeId) (change : ℕ) (early : Bool) (other : ℕ) → IsSaidOf reading node step neighbour change early
+    → word ≡ reading.word → other ≡ reading.other
+    → record { node = node; step = step; word = word; neighbour = neighbour; change = change; early = early; other = other } ≡ reading
+same_reading reading node step word neighbour change early other said w u =
+    ap (λ (z : NodeId). let r : Reading = record { node = z; step = step; word = word; neighbour = neighbour; change = change; early = early; other = other } in r) said.node
+    ∙ ap (λ (z : ℕ). let r : Reading = record { node = reading.node; step = z; word = word; neighbour = neighbour; change = change; early = early; other = other } in r) said.step
+    ∙ ap (λ (z : ℕ). let r : Reading = record { node = reading.node; step = reading.step; word = z; neighbour = neighbour; change = change; early = early; other = other } in r) w
+    ∙ ap (λ (z : NodeId). let r : Reading = record { node = reading.node; step = reading.step; word = reading.word; neighbour = z; change = change; early = early; other = other } in r) said.neighbour
+    ∙ ap (λ (z : ℕ). let r : Reading = record { node = reading.node; step = reading.step; word = reading.word; neighbour = reading.neighbour; change = z; early = early; other = other } in r) said.change
+    ∙ ap (λ (z : Bool). let r : Reading = record { node = reading.node; step = reading.step; word = reading.word; neighbour = reading.neighbour; change = reading.change; early = z; other = other } in r) said.early
+    ∙ ap (λ (z : ℕ). let r : Reading = record { node = reading.node; step = reading.step; word = reading.word; neighbour = reading.neighbour; change = reading.change; early = reading.early; other = z } in r) u
+
+-- ---- what is near in the list of acts
+
+look_found : (cs : List Cause) (p : ℕ) → p < length cs → (event_at cs p).look ≡ true → has_look cs ≡ true
+unfolding has_look
+look_found [] p l h = absurd (omega (arith, l))
+look_found (c ∷ cs) zero l h = or_left c.look (has_look cs) h
+look_found (c ∷ cs) (suc p) l h = or_right c.look (has_look cs) (look_found cs p (omega (arith, l)) h)
+
+pub none_without_looks : (s : State) (reading : Reading) → has_look (causes_of s) ≡ false → IsOtherwise s reading → ⊥
+none_without_looks s reading none o =
+    true≢false (sym (look_found (causes_of s) o.place o.stands.within (ap (λ (z : Cause). z.look) o.looked)) ∙ none)
+
+pub is_near : (s : State) (acts : List EventAccess) (causes : List Cause) (reading : Reading) → replay s.load s.kept ≡ Some (chip_of s) → causes ≡ causes_of s → length acts ≡ length causes
+    → AreAlike (actions_in acts) (actions s.load s.kept) → IsOtherwise s reading → (n : IsNearReading s reading) → IsNearLook acts (record { look = n.look; change = n.change })
+is_near s acts causes reading led all size alike o n = record {
+  node = reading.node.number;
+  look = ap (λ (z : Cause). z.look && is_own_of z.event reading.node.number) (cause_is n.look look_within ∙ looked)
+      ∙ eq-eqb reading.node.number reading.node.number refl;
+  change = alike.changes n.change reading.node.number change_within reading.node.in_range ∙ n.shown;
+  order = order n.near;
+}
+  where
+    long : length (actions_in acts) ≡ length (causes_of s)
+    long = length-map acts action_in ∙ size ∙ ap length all
+
+    look_within : n.look < length (actions_in acts)
+    look_within = (let l : n.look < length (causes_of s) = n.looks.within in let q = long in omega (arith, l, q))
+
+    change_within : n.change < length (actions_in acts)
+    change_within = (let l : n.change < length (causes_of s) = n.changes.within in let q = long in omega (arith, l, q))
+
+    cause_is : (i : ℕ) → i < length (actions_in acts) → (action_at (actions_in acts) i).cause ≡ event_at (causes_of s) i
+    cause_is i l =
+        alike.cause i l ∙ sym (cause_there (actions s.load s.kept) i (let q : length (actions_in acts) ≡ length (actions s.load s.kept) = alike.size in omega (arith, l, q)))
+        ∙ ap (λ z. event_at z i) (causes_are s (chip_of s) led)
+
+    looked : event_at (causes_of s) n.look ≡ record { event = Own reading.node; look = true }
+    looked = ap (event_at (causes_of s)) (sym (one_place (causes_of s) reading.node.number reading.step o.place n.look o.stands n.looks)) ∙ o.looked
+
+    back_alike : AreAlike (actions s.load s.kept) (actions_in acts)
+    back_alike = alike-sym (actions_in acts) (actions s.load s.kept) alike
+
+    order : AreNear (actions s.load s.kept) n.look n.change ⊎ AreNear (actions s.load s.kept) n.change n.look
+        → AreNear (actions_in acts) n.look n.change ⊎ AreNear (actions_in acts) n.change n.look
+    order (inl near) = inl (near_alike (actions s.load s.kept) (actions_in acts) n.look n.change back_alike near)
+    order (inr near) = inr (near_alike (actions s.load s.kept) (actions_in acts) n.change n.look back_alike near)
+
+pub at_near : (s : State) (reading : Reading) (n : IsNearReading s reading) → IsAtNear s (record { look = n.look; change = n.change }) reading
+at_near s reading n = record { looks = n.looks; changes = n.changes; side = n.side; beside = n.beside; order = n.order }
+
+-- ---- one of the list more
+
+-- the look is there, where it is told
+pub look_there : (s : State) (near : Near) (reading : Reading) → IsOtherwise s reading → IsAtNear s near reading → event_at (causes_of s) near.look ≡ record { event = Own reading.node; look = true }
+look_there s near reading o a = looked_there s near reading o a
+
+-- it is of the node that was asked for
+pub asked_of : (s : State) (only : Option NodeId) (near : Near) (glance : Glance) (reading : Reading) → replay s.load s.kept ≡ Some (chip_of s) → IsGlance s near glance → IsTold s only reading → IsAtNear s near reading
+    → IfSome only (λ it. glance.node ≡ it)
+asked_of s only near glance reading led g t a = subst (λ (z : NodeId). IfSome only (λ it. z ≡ it)) (sym (said_of s near glance reading led g t.0 a).node) t.1
+
+pub glanced_first : (s : State) (only : Option NodeId) (list : List Glance) → AreGlanced s only [] list
+glanced_first s only list reading near h told at = absurd (let l : h.0 < 0 = h.1 in omega (arith, l))
+
+pub glanced_next : (s : State) (only : Option NodeId) (nears : List Near) (i : ℕ) (one : Near) (old new : List Glance) → i < length nears → one ≡ get_or nears i one
+    → ((glance : Glance) → Contains old glance → Contains new glance) → ((reading : Reading) → IsTold s only reading → IsAtNear s one reading → IsShownBy s one new)
+    → AreGlanced s only (take i nears) old → AreGlanced s only (take (i + 1) nears) new
+glanced_next s only nears i one old new l is kept here before reading near h told at =
+    elim (Contains-push_cases (take i nears) one near (subst (λ (z : List Near). Contains z near) (take_more nears i one l ∙ ap (λ (z : Near). take i nears ++ z ∷ []) (sym is)) h)) [
+      | inl u ↦ (let g = before reading near u told at in (g.0, kept g.0 g.1, g.2))
+      | inr q ↦ subst (λ (z : Near). IsShownBy s z new) q (here reading told (subst (λ (z : Near). IsAtNear s z reading) (sym q) at))
+    ]
+
+-- of the first so many looks none is left out
+abbrev pub AreReadUpto : State → Option NodeId → List Glance → ℕ → List Reading → Type 0
+AreReadUpto s only glances place list = (near : Near) (i : ℕ) (glance : Glance) (reading : Reading) → i < place → glance ≡ get_or glances i glance → IsGlance s near glance → IsTold s only reading → IsAtNear s near reading
+    → Contains list reading
+
+pub read_first : (s : State) (only : Option NodeId) (glances : List Glance) (list : List Reading) → AreReadUpto s only glances 0 list
+read_first s only glances list near i glance reading l is g told at = absurd (omega (arith, l))
+
+pub read_next : (s : State) (only : Option NodeId) (glances : List Glance) (place : ℕ) (one : Glance) (old new : List Reading) → place < length glances → one ≡ get_or glances place one
+    → ((reading : Reading) → Contains old reading → Contains new reading) → ((near : Near) (reading : Reading) → IsGlance s near one → IsTold s only reading → IsAtNear s near reading → Contains new reading)
+    → AreReadUpto s only glances place old → AreReadUpto s only glances (place + 1) new
+read_next s only glances place one old new within there kept here before near i glance reading l is g told at = elim (cases_eq i place) [
+  | inl q ↦ here near reading (subst (IsGlance s near) (is ∙ ap (λ (z : ℕ). get_or glances z glance) q ∙ get_or_default glances place glance one within ∙ sym there) g) told at
+  | inr ne ↦ kept reading (before near i glance reading (omega (arith, l, ne)) is g told at)
+]
+
+pub read_all : (s : State) (only : Option NodeId) (glances : List Glance) (place : ℕ) (list : List Reading) → length glances ≤ place → AreReadUpto s only glances place list → AreRead s only glances list
+read_all s only glances place list past upto near glance reading has g told at =
+    let l : has.0 < length glances = has.1 in
+    upto near has.0 glance reading (omega (arith, l, past)) (sym has.2) g told at

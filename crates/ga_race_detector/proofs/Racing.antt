@@ -1,0 +1,116 @@
+-- Races put one behind another.
+use Rattle.std.proofs.Common.{◌≡◌, ◌≢◌, ℕ, zero, suc, ◌+◌, ◌<◌, ◌≤◌, ◌%◌, ◌^◌, ◌==◌, cond, Bool, true, false, ◌||◌, List, [], ◌∷◌, ◌++◌, length, drop, get_or, Option, Some, None, refl, sym, ◌∙◌, ap, append_assoc, eq-eqb, arith, true≢false, inl, inr, is_none}
+use Rattle.std.specs.Prelude.{IfSome, is_ok}
+use Rattle.std.specs.List.{slice_get}
+use Rattle.std.proofs.lemmas.Bool.{eqb-true, cases_eq}
+use Rattle.std.proofs.lemmas.Option.{same_Some}
+use Rattle.std.proofs.lemmas.List.{append-nil, drop_more, drop_all}
+use Rattle.std.proofs.Math.Nat.{mod-eq_of_lt}
+use Rattle.ga_node.specs.Record.{NodeRecord}
+use Rattle.ga_grid.specs.declared.node_id.NodeId.{NodeId}
+use Rattle.ga_grid.specs.Grid.{node_id, neighbour_of}
+use Rattle.ga_grid.proofs.NodeIds.{node_id-number}
+use Rattle.ga_event.specs.declared.event.Cause.{Cause}
+use Rattle.ga_event.specs.declared.made.Made.{Made}
+use Rattle.ga_ports.specs.declared.side.Side.{Side}
+use Rattle.ga_lab.specs.Machine.{State, chip_of, history_of, rewound}
+use Rattle.ga_race_detector.specs.Offered.{offered}
+use Rattle.ga_race_detector.specs.declared.races.Race.{Race}
+use Rattle.ga_race_detector.specs.Races.{race_from, races_over, races_told, races_before, races_of, races_below, has_look, looks_next, has_next_look, first_ready}
+use Rattle.ga_event.specs.Next.{next}
+use Rattle.ga_races.specs.Ready.{can_go}
+use Rattle.ga_races.proofs.Ready.{can_go_is, none_of}
+
+pub added : (r : NodeId) (k : ℕ) (w : NodeId) (word : ℕ) (other : NodeId) (offer : Option ℕ) (o cut : ℕ) → offer ≡ Some o → other.number ≢ w.number → cut ≡ o % (2 ^ 18)
+    → IfSome offer (λ z. z < 2 ^ 18) → race_from r k w word (Some other.number) offer ≡ record { reader = r; step = k; writer = w; word = word; other = other; offered = cut } ∷ []
+added r k w word other (Some x) o cut is ne c small =
+    go (other.number == w.number) refl
+  where
+    go : (b : Bool) → (other.number == w.number) ≡ b
+        → cond {A = List Race} b [] (record { reader = r; step = k; writer = w; word = word; other = node_id other.number; offered = x } ∷ [])
+        ≡ record { reader = r; step = k; writer = w; word = word; other = other; offered = cut } ∷ []
+    go true q = absurd (ne (eqb-true other.number w.number q))
+    go false q =
+        ap (λ (z : NodeId). record { reader = r; step = k; writer = w; word = word; other = z; offered = x } ∷ []) (node_id-number other)
+        ∙ ap (λ (z : ℕ). record { reader = r; step = k; writer = w; word = word; other = other; offered = z } ∷ []) (same_Some x o is ∙ sym (c ∙ mod-eq_of_lt (subst_small small)))
+      where
+        subst_small : x < 2 ^ 18 → o < 2 ^ 18
+        subst_small l = (let e : x ≡ o = same_Some x o is in omega (arith, e, l))
+added r k w word other None o cut is ne c small = absurd (cc)
+
+-- over the side of the writer of a step nothing else came
+none_from : (r : NodeId) (k : ℕ) (w : NodeId) (word n : ℕ) (offer : Option ℕ) → n ≡ w.number → race_from r k w word (Some n) offer ≡ []
+none_from r k w word n None q = refl
+none_from r k w word n (Some x) q =
+    ap (λ (b : Bool). cond {A = List Race} b [] (record { reader = r; step = k; writer = w; word = word; other = node_id n; offered = x } ∷ [])) (eq-eqb n w.number q)
+
+pub own_side : (s : State) (r : NodeId) (k : ℕ) (w : NodeId) (word : ℕ) (side : Side) (old : List Race) → neighbour_of r.number side ≡ Some w.number
+    → old ≡ old ++ races_over s r k w word side
+own_side s r k w word side old is =
+    sym (append-nil old) ∙ ap (λ (z : List Race). old ++ z) (sym (ap (λ (o : Option ℕ). race_from r k w word o (offered (chip_of (rewound s r.number k)) r.number side)) is
+    ∙ none_from r k w word w.number (offered (chip_of (rewound s r.number k)) r.number side) refl))
+
+pub one_more : (s : State) (node : NodeId) (p : ℕ) (m : Made) (old xs ys : List Race) → xs ≡ old ++ races_before s node p → Some m ≡ slice_get (history_of s node.number) p
+    → ys ≡ xs ++ races_told s node (p + 1) (Some m) → ys ≡ old ++ races_before s node (p + 1)
+unfolding races_before
+one_more s node p m old xs ys h is g =
+    g ∙ ap (λ (z : List Race). z ++ races_told s node (p + 1) (Some m)) h ∙ append_assoc old (races_before s node p) (races_told s node (p + 1) (Some m))
+    ∙ ap (λ (o : Option Made). old ++ (races_before s node p ++ races_told s node (p + 1) o)) is
+    ∙ ap (λ (z : ℕ). old ++ races_before s node z) (let q : suc p ≡ p + 1 = omega arith in q)
+
+pub none_before : (s : State) (node : NodeId) (old : List Race) → old ≡ old ++ races_before s node 0
+unfolding races_before
+none_before s node old = sym (append-nil old)
+
+pub node_more : (s : State) (n : ℕ) (node : NodeId) (old xs ys : List Race) → n < 144 → node.number ≡ n → xs ≡ old ++ races_below s n → ys ≡ xs ++ races_of s node → ys ≡ old ++ races_below s (n + 1)
+unfolding races_below
+node_more s n node old xs ys l e h g =
+    g ∙ ap (λ (z : List Race). z ++ races_of s node) h ∙ append_assoc old (races_below s n) (races_of s node)
+    ∙ ap (λ (z : NodeId). old ++ (races_below s n ++ races_of s z)) (sym (node_id-number node) ∙ ap node_id e)
+    ∙ ap (λ (z : ℕ). old ++ races_below s z) (let q : suc n ≡ n + 1 = omega arith in q)
+
+pub none_below : (s : State) (old : List Race) → old ≡ old ++ races_below s 0
+unfolding races_below
+none_below s old = sym (append-nil old)
+
+-- looks
+pub look_at : (cs : List Cause) (i : ℕ) (x : Cause) → i < length cs → x ≡ get_or cs i x → has_look (drop i cs) ≡ (x.look || has_look (drop (i + 1) cs))
+unfolding has_look
+look_at cs i x l is = ap has_look (drop_more cs i x l) ∙ ap (λ (z : Cause). z.look || has_look (drop (i + 1) cs)) (sym is)
+
+pub look_none : (cs : List Cause) (i : ℕ) → length cs ≤ i → has_look (drop i cs) ≡ false
+unfolding has_look
+look_none cs i l = ap has_look (drop_all i cs l)
+
+pub next_more : (chip : List NodeRecord) (n : ℕ) (looks here : Bool) → looks ≡ has_next_look chip n → here ≡ looks_next chip n → (here || looks) ≡ has_next_look chip (n + 1)
+unfolding has_next_look
+next_more chip n looks here h g =
+    ap (λ (b : Bool). here || b) h ∙ ap (λ (b : Bool). b || has_next_look chip n) g ∙ ap (has_next_look chip) (let q : suc n ≡ n + 1 = omega arith in q)
+
+pub next_none : (chip : List NodeRecord) → false ≡ has_next_look chip 0
+unfolding has_next_look
+next_none chip = refl
+
+pub told_there : (xs : List Made) (i : ℕ) → i < length xs → slice_get xs i ≡ None → ⊥
+told_there [] i l h = omega (arith, l)
+told_there (x ∷ xs) zero l h = cc
+told_there (x ∷ xs) (suc i) l h = told_there xs i (omega (arith, l)) h
+
+-- one node more has no event
+pub idle_more : (chip : List NodeRecord) (number : ℕ) (node : NodeId) → node.number ≡ number → is_ok (next chip node) ≡ false → ((n : ℕ) → n < number → can_go chip n ≡ false)
+    → (n : ℕ) → n < number + 1 → can_go chip n ≡ false
+idle_more chip number node at none before n l = elim (cases_eq n number) [
+  | inl q ↦ ap (can_go chip) (q ∙ sym at) ∙ can_go_is chip node ∙ none
+  | inr ne ↦ before n (omega (arith, l, ne))
+]
+
+-- some node has one
+pub ready_some : (chip : List NodeRecord) (node : NodeId) → is_ok (next chip node) ≡ true → is_none (first_ready chip) ≡ false
+ready_some chip node is = go (first_ready chip) refl
+  where
+    go : (o : Option NodeId) → first_ready chip ≡ o → is_none o ≡ false
+    go (Some it) q = refl
+    go None q =
+        let l : node.number < 144 = node.in_range in
+        let at : node.number ≡ (0 + node.number) % 144 = omega (arith, l) in
+        absurd (true≢false (sym is ∙ sym (can_go_is chip node) ∙ ap (can_go chip) at ∙ none_of (can_go chip) 0 144 node.number q l))

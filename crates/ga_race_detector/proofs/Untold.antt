@@ -1,0 +1,365 @@
+-- A session of which no step is told as one that could have come out otherwise has no race.
+use Rattle.std.proofs.Common.{◌≡◌, ◌≢◌, ℕ, zero, suc, ◌+◌, ◌-◌, ◌<◌, ◌≤◌, ◌%◌, ◌==◌, cond, Bool, true, false, ◌||◌, ◌&&◌, ◌⊎◌, inl, inr, List, [], ◌∷◌, ◌++◌, Option, Some, None, IsSome, is_none, true≢false, Ok, eq-eqb, lt-ltb, refl, sym, ◌∙◌, ap, subst, arith}
+use Rattle.std.specs.Prelude.{is_some}
+use Rattle.std.specs.List.{slice_get}
+use Rattle.std.proofs.lemmas.Bool.{cases_Bool, cases_eq, cases_lt, or_cases, or_parts, and_parts, both_ways, eqb-true}
+use Rattle.std.proofs.lemmas.Option.{same_Some}
+use Rattle.ga_ports.specs.declared.side.Side.{Side}
+use Rattle.ga_ports.specs.declared.side.Side.TheVariants.{Right, Down, Left, Up}
+use Rattle.ga_node.specs.Record.{NodeRecord}
+use Rattle.ga_node.specs.Table.{t, refused_by, refusal, looks}
+use Rattle.ga_node.specs.declared.wait.Wait.{Wait}
+use Rattle.ga_node.specs.declared.wait.Wait.TheVariants.{Nothing, Fetch, Read, Write}
+use Rattle.ga_grid.specs.declared.node_id.NodeId.{NodeId}
+use Rattle.ga_grid.specs.Grid.{node_id, neighbour_of}
+use Rattle.ga_grid.specs.Chip.{record_at}
+use Rattle.ga_grid.proofs.NodeIds.{node_id-number}
+use Rattle.ga_grid.proofs.Links.{neighbour_of-back}
+use Rattle.ga_event.specs.declared.event.Event.{Event}
+use Rattle.ga_event.specs.declared.event.Event.TheVariants as event
+use Rattle.ga_event.specs.declared.event.Cause.{Cause}
+use Rattle.ga_event.specs.declared.made.Made.{Made}
+use Rattle.ga_event.specs.declared.made.Made.TheVariants as made
+use Rattle.ga_event.specs.Touches.{touches}
+use Rattle.ga_event.specs.Apply.{Told, writes_to, reads_from, is_number, unmatched, is_look, replay}
+use Rattle.ga_event.specs.Next.{next}
+use Rattle.ga_event.proofs.Nexts.{next_can, neighbour_of-within as neighbour_small}
+use Rattle.ga_lab.proofs.Forward.{made_is_next}
+use Rattle.ga_event.specs.Told.{steps_of, mades_of}
+use Rattle.ga_causal.specs.Dependence.{rest, rest_from, place_of, rewound_list, NoneLooks}
+use Rattle.ga_event.specs.Told.{events_in}
+use Rattle.ga_causal.proofs.Runs.{causes}
+use Rattle.ga_lab.specs.Machine.{State, first, chip_of, causes_of, history_of, told_by, rewound, stands}
+use Rattle.ga_lab.specs.Calls.{MachineCall, called_all}
+use Rattle.ga_lab.proofs.Called.{Runs, chip_is, told_is, runs_some, first_runs, calls_load}
+use Rattle.ga_lab.proofs.Reasons.{stands_place}
+use Rattle.ga_lab.proofs.Reasoned.{replayed}
+use Rattle.ga_races.specs.Orders.{CanBe, AreOrders, IsAtEnd, HasNoRace}
+use Rattle.ga_races.proofs.Orders.{beginning_within}
+use Rattle.ga_races.proofs.Rivals.{Open, open_of, one_side, one_way}
+use Rattle.ga_races.proofs.Blind.{IsBlind, NoneShowsWithin, none_races_within}
+use Rattle.ga_race_detector.specs.Offered.{given, offered_by, offered}
+use Rattle.ga_race_detector.specs.Races.{race_from, races_over, races_around, races_told, races_at, races_before, races_of, races_below, races_asked, has_look, looks_next, has_next_look, has_looks, first_ready, IsOther}
+use Rattle.ga_races.specs.Ready.{can_go}
+use Rattle.ga_races.proofs.Ready.{none_of}
+use Rattle.ga_race_detector.proofs.Sessions.{on_the_way, same_end, no_next}
+use Rattle.std.specs.List.{All}
+use Rattle.std.proofs.lemmas.List.Elements.{All-nil, All-append}
+use Rattle.std.proofs.Math.Nat.{mod-eq_of_lt}
+use Rattle.ga_race_detector.specs.declared.races.Race.{Race}
+use Rattle.ga_race_detector.proofs.Offering.{is_offered}
+use Rattle.ga_race_detector.proofs.Behind.{IsOf, TakenBack, taken_back, chip_at}
+
+-- ---- parts of nothing are nothing
+
+left_none : {A : Type 0} (xs ys : List A) → xs ++ ys ≡ [] → xs ≡ []
+left_none [] ys h = refl
+left_none (x ∷ xs) ys h = absurd (cc)
+
+right_none : {A : Type 0} (xs ys : List A) → xs ++ ys ≡ [] → ys ≡ []
+right_none [] ys h = h
+right_none (x ∷ xs) ys h = absurd (cc)
+
+none_of_node : (s : State) (m n : ℕ) → races_below s m ≡ [] → n < m → races_of s (node_id n) ≡ []
+unfolding races_below
+none_of_node s zero n h l = absurd (omega arith)
+none_of_node s (suc m) n h l = elim (cases_eq n m) [
+  | inl q ↦ ap (λ (z : ℕ). races_of s (node_id z)) q ∙ right_none (races_below s m) (races_of s (node_id m)) h
+  | inr ne ↦ none_of_node s m n (left_none (races_below s m) (races_of s (node_id m)) h) (omega (arith, l, ne))
+]
+
+none_at : (s : State) (node : NodeId) (k p : ℕ) → races_before s node k ≡ [] → p < k → races_at s node p ≡ []
+unfolding races_before
+none_at s node zero p h l = absurd (omega arith)
+none_at s node (suc k) p h l = elim (cases_eq p k) [
+  | inl q ↦ ap (races_at s node) q ∙ right_none (races_before s node k) (races_at s node k) h
+  | inr ne ↦ none_at s node k p (left_none (races_before s node k) (races_at s node k) h) (omega (arith, l, ne))
+]
+
+-- ---- a word that is offered
+
+pub record Offer (chip : List NodeRecord) (r : ℕ) (side : Side) : Type 0 where
+  pub writer : ℕ
+  pub word : ℕ
+  pub near : neighbour_of r side ≡ Some writer
+  pub is : offered chip r side ≡ Some word
+  pub writes : writes_to (record_at chip writer).wait side ≡ true
+  pub reads : reads_from (record_at chip r).wait side ≡ true
+  pub carries : word ≡ t (record_at chip writer)
+
+pub offer_of : (chip : List NodeRecord) (r : ℕ) (side : Side) → IsSome (offered chip r side) → Offer chip r side
+offer_of chip r side some = go (neighbour_of r side) refl some
+  where
+    at : (w : ℕ) → neighbour_of r side ≡ Some w → (b : Bool) → (writes_to (record_at chip w).wait side && reads_from (record_at chip r).wait side) ≡ b
+        → IsSome (cond b (Some (t (record_at chip w))) None) → Offer chip r side
+    at w near true both some =
+        let p = and_parts (writes_to (record_at chip w).wait side) (reads_from (record_at chip r).wait side) both in
+        record {
+          writer = w;
+          word = t (record_at chip w);
+          near = near;
+          is = ap (λ (o : Option ℕ). offered_by chip r side o) near ∙ ap (λ (b : Bool). cond {A = Option ℕ} b (Some (t (record_at chip w))) None) both;
+          writes = p.0;
+          reads = p.1;
+          carries = refl;
+        }
+    at w near false both some = absurd (cc)
+
+    go : (o : Option ℕ) → neighbour_of r side ≡ o → IsSome (offered_by chip r side o) → Offer chip r side
+    go None near some = absurd (cc)
+    go (Some w) near some = at w near (writes_to (record_at chip w).wait side && reads_from (record_at chip r).wait side) refl some
+
+-- ---- who reads
+
+reads_none : (wait : Wait) (stop : ℕ) (side : Side) → refused_by wait stop ≡ None → reads_from wait side ≡ true → ⊥
+reads_none Nothing stop side h k = true≢false (sym k)
+reads_none (Fetch sides) stop side h k = absurd (cc)
+reads_none (Read sides) stop side h k = absurd (cc)
+reads_none (Write posted) stop side h k = true≢false (sym k)
+
+own_touched : (a n : ℕ) → ((a == n) || false) ≡ true → a ≡ n
+own_touched a n h = elim (or_cases (a == n) false h) [ inl q ↦ eqb-true a n q | inr q ↦ absurd (both_ways false refl q) ]
+
+-- ---- a step behind which words are offered took one
+
+-- nothing is told of a step over a side by which it didn't take its word: so the writer there is the one that it took from
+same_writer : (s : State) (r : NodeId) (k : ℕ) (w : NodeId) (word : ℕ) (side : Side) (o : Offer (chip_of (rewound s r.number k)) r.number side)
+    → races_over s r k w word side ≡ [] → o.writer ≡ w.number
+same_writer s r k w word side o none =
+    go (o.writer == w.number) refl
+    (sym (ap (λ (z : Option ℕ). race_from r k w word z (offered (chip_of (rewound s r.number k)) r.number side)) o.near ∙ ap (race_from r k w word (Some o.writer)) o.is) ∙ none)
+  where
+    go : (b : Bool) → (o.writer == w.number) ≡ b
+        → cond {A = List Race} b [] (record { reader = r; step = k; writer = w; word = word; other = node_id o.writer; offered = o.word } ∷ []) ≡ [] → o.writer ≡ w.number
+    go true is h = eqb-true o.writer w.number is
+    go false is h = absurd (cc)
+
+over_any : (s : State) (r : NodeId) (k : ℕ) (w : NodeId) (word : ℕ) (side : Side) → races_around s r k w word ≡ [] → races_over s r k w word side ≡ []
+over_any s r k w word side h = at side
+  where
+    right : List Race
+    right = races_over s r k w word Right
+
+    down : List Race
+    down = races_over s r k w word Down
+
+    left : List Race
+    left = races_over s r k w word Left
+
+    up : List Race
+    up = races_over s r k w word Up
+
+    at : (side : Side) → races_over s r k w word side ≡ []
+    at Right = left_none right (down ++ (left ++ up)) h
+    at Down = left_none down (left ++ up) (right_none right (down ++ (left ++ up)) h)
+    at Left = left_none left up (right_none down (left ++ up) (right_none right (down ++ (left ++ up)) h))
+    at Up = right_none left up (right_none down (left ++ up) (right_none right (down ++ (left ++ up)) h))
+
+-- the two sides are one
+one_offer : (s : State) (r : NodeId) (k : ℕ) (m : Made) (e : Event) (mid : List NodeRecord) (side other : Side) → IsOf m e → CanBe mid e → touches e r.number ≡ true
+    → record_at mid r.number ≡ record_at (chip_of (rewound s r.number k)) r.number → races_told s r k (Some m) ≡ []
+    → Offer (chip_of (rewound s r.number k)) r.number side → Offer (chip_of (rewound s r.number k)) r.number other → side ≡ other
+one_offer s r k (made.Own n j kind) e mid side other of can touch same none p q =
+    let own : CanBe mid (event.Own of.0) = subst (λ (z : Event). CanBe mid z) of.1 can in
+    let here : of.0.number ≡ r.number = own_touched of.0.number r.number (subst (λ (z : Event). touches z r.number ≡ true) of.1 touch) in
+    let free : refusal (record_at mid r.number) ≡ None = subst (λ (z : ℕ). refusal (record_at mid z) ≡ None) here own in
+    absurd (reads_none (record_at mid r.number).wait (record_at mid r.number).stop side free (subst (λ (z : NodeRecord). reads_from z.wait side ≡ true) (sym same) p.reads))
+one_offer s r k (made.Pass w i x j word) e mid side other of can touch same none p q =
+    go (x.number == r.number) refl none
+  where
+    open_ : Open mid w x of.0
+    open_ = open_of mid w x of.0 (subst (λ (z : Event). CanBe mid z) of.1 can)
+
+    writer_here : (x.number == r.number) ≡ false → w.number ≡ r.number
+    writer_here not = elim (or_cases (w.number == r.number) ((x.number == r.number) || false) (subst (λ (z : Event). touches z r.number ≡ true) of.1 touch)) [
+      | inl y ↦ eqb-true w.number r.number y
+      | inr y ↦ absurd (elim (or_cases (x.number == r.number) false y) [ inl z ↦ true≢false (sym z ∙ not) | inr z ↦ both_ways false refl z ])
+    ]
+
+    go : (b : Bool) → (x.number == r.number) ≡ b → cond {A = List Race} b (races_around s r k w word) [] ≡ [] → side ≡ other
+    go true is h =
+        let chip = chip_of (rewound s r.number k) in
+        let a : p.writer ≡ w.number = same_writer s r k w word side p (over_any s r k w word side h) in
+        let b : q.writer ≡ w.number = same_writer s r k w word other q (over_any s r k w word other h) in
+        one_side (record_at chip w.number).wait side other (subst (λ (z : ℕ). writes_to (record_at chip z).wait side ≡ true) a p.writes)
+        (subst (λ (z : ℕ). writes_to (record_at chip z).wait other ≡ true) b q.writes)
+    go false is h =
+        let writes : writes_to (record_at mid r.number).wait of.0 ≡ true = subst (λ (z : ℕ). writes_to (record_at mid z).wait of.0 ≡ true) (writer_here is) open_.writes in
+        absurd (one_way (record_at mid r.number).wait of.0 side writes (subst (λ (z : NodeRecord). reads_from z.wait side ≡ true) (sym same) p.reads))
+
+-- no two words are offered behind a step that stands
+none_two : (s : State) → Runs s → races_asked s None ≡ [] → (r : NodeId) (p : ℕ) (side other : Side) → p < steps_of r.number s.kept
+    → IsSome (offered (chip_of (rewound s r.number (suc p))) r.number side) → IsSome (offered (chip_of (rewound s r.number (suc p))) r.number other) → side ≡ other
+none_two s runs none r p side other within so si =
+    one_offer s r (suc p) b.made b.event b.mid side other b.of b.can b.touch b.same told (offer_of chip r.number side so) (offer_of chip r.number other si)
+  where
+    chip : List NodeRecord
+    chip = chip_of (rewound s r.number (suc p))
+
+    b : TakenBack s r.number p
+    b = taken_back s runs r.number p within
+
+    of_node : races_of s r ≡ []
+    of_node = subst (λ (z : NodeId). races_of s z ≡ []) (node_id-number r) (none_of_node s 144 r.number none r.in_range)
+
+    told : races_told s r (suc p) (Some b.made) ≡ []
+    told = ap (λ (z : ℕ). races_told s r z (Some b.made)) (let q : suc p ≡ p + 1 = omega arith in q) ∙ ap (races_told s r (p + 1)) (sym b.told) ∙ none_at s r (steps_of r.number s.kept) p of_node within
+
+-- ---- nothing looks
+
+none_look : (causes : List Cause) → has_look causes ≡ false → NoneLooks causes
+unfolding has_look
+none_look [] h = tt
+none_look (c ∷ cs) h = let p : (c.look ≡ false) × (has_look cs ≡ false) = or_parts c.look (has_look cs) h in (p.0, none_look cs p.1)
+
+none_next : (chip : List NodeRecord) (m n : ℕ) → has_next_look chip m ≡ false → n < m → looks_next chip n ≡ false
+unfolding has_next_look
+none_next chip zero n h l = absurd (omega arith)
+none_next chip (suc m) n h l =
+    let p : (looks_next chip m ≡ false) × (has_next_look chip m ≡ false) = or_parts (looks_next chip m) (has_next_look chip m) h in
+    elim (cases_eq n m) [ inl q ↦ ap (looks_next chip) q ∙ p.0 | inr ne ↦ none_next chip m n p.1 (omega (arith, l, ne)) ]
+
+blind : (chip : List NodeRecord) → has_next_look chip 144 ≡ false → IsBlind chip
+blind chip h (event.Own a) can =
+    sym (ap (λ z. is_none z && looks (record_at chip a.number)) can) ∙ none_next chip 144 a.number h a.in_range
+blind chip h (event.Pass w r side) can = refl
+
+at_end : (chip : List NodeRecord) → first_ready chip ≡ None → IsAtEnd chip
+at_end chip h = (no_next chip).1 none
+  where
+    go : (n : NodeId) (e : Event) → next chip n ≡ Ok e → can_go chip n.number ≡ true
+    go n e is = let l : n.number < 144 = n.in_range in let q : node_id n.number ≡ n = node_id-number n in grind (arith, lt-ltb)
+
+    idle : (n : NodeId) → can_go chip n.number ≡ false
+    idle n = (let q : n.number ≡ (0 + n.number) % 144 = (let l : n.number < 144 = n.in_range in omega (arith, l)) in ap (can_go chip) q) ∙ none_of (can_go chip) 0 144 n.number h n.in_range
+
+    none : (n : NodeId) (e : Event) → next chip n ≡ Ok e → ⊥
+    none n e is = true≢false (sym (go n e is) ∙ idle n)
+
+-- ---- so it has no race
+
+-- what is told of a session: no step, and that nothing looks
+pub no_race : (s : State) → Runs s → races_asked s None ≡ [] → has_looks (causes_of s) (chip_of s) ≡ false → HasNoRace s.load s.kept
+no_race s runs none calm =
+    none_races_within s.load runs.last s.kept runs.told runs.run_is (subst (λ z. NoneLooks z) told_all (none_look (causes_of s) p.0))
+    (subst (λ z. IsBlind z) (chip_is s runs) (blind (chip_of s) p.1)) free
+  where
+    p : (has_look (causes_of s) ≡ false) × (has_next_look (chip_of s) 144 ≡ false)
+    p = or_parts (has_look (causes_of s)) (has_next_look (chip_of s) 144) calm
+
+    told_all : causes_of s ≡ causes runs.told
+    told_all = ap (λ o. causes (told_by o)) runs.run_is
+
+    free : NoneShowsWithin s.load (causes runs.told) s.kept
+    free zero now w x r side other first within led canp canq ne = absurd (omega (arith, first))
+    free (suc k) now w x r side other first within led canp canq ne =
+        let here : replay s.load (rewound s r.number (suc k)).kept ≡ Some now = ap (λ z. replay s.load (events_in (rewound_list z r.number (suc k)))) told_all ∙ led in
+        let at : now ≡ chip_of (rewound s r.number (suc k)) = sym (chip_at (replay s.load (rewound s r.number (suc k)).kept) now here) in
+        ne (none_two s runs none r k side other (omega (arith, within))
+        (subst (λ z. IsSome (offered z r.number side)) at (is_offered now w r side canp))
+        (subst (λ z. IsSome (offered z r.number other)) at (is_offered now x r other canq)))
+
+calm_session : (load : List NodeRecord) (limit : ℕ) (calls : List MachineCall) → races_asked (called_all (first load limit) calls) None ≡ []
+    → has_looks (causes_of (called_all (first load limit) calls)) (chip_of (called_all (first load limit) calls)) ≡ false → HasNoRace load (called_all (first load limit) calls).kept
+calm_session load limit calls none calm =
+    let s = called_all (first load limit) calls in
+    subst (λ z. HasNoRace z s.kept) (calls_load (first load limit) calls) (no_race s (first_runs load limit calls) none calm)
+
+pub every_way : (load : List NodeRecord) (limit bound : ℕ) (calls others : List MachineCall) → races_asked (called_all (first load limit) calls) None ≡ []
+    → has_looks (causes_of (called_all (first load limit) calls)) (chip_of (called_all (first load limit) calls)) ≡ false → first_ready (chip_of (called_all (first load limit) calls)) ≡ None
+    → (later : List Event) × AreOrders load (called_all (first load limit) calls).kept ((called_all (first load bound) others).kept ++ later)
+every_way load limit bound calls others none calm quiet =
+    on_the_way load limit bound calls others (calm_session load limit calls none calm) (at_end (chip_of (called_all (first load limit) calls)) quiet)
+
+pub every_end : (load : List NodeRecord) (limit bound : ℕ) (calls others : List MachineCall) → races_asked (called_all (first load limit) calls) None ≡ []
+    → has_looks (causes_of (called_all (first load limit) calls)) (chip_of (called_all (first load limit) calls)) ≡ false → first_ready (chip_of (called_all (first load limit) calls)) ≡ None
+    → first_ready (chip_of (called_all (first load bound) others)) ≡ None → chip_of (called_all (first load bound) others) ≡ chip_of (called_all (first load limit) calls)
+every_end load limit bound calls others none calm quiet stop =
+    same_end load limit bound calls others (calm_session load limit calls none calm) (at_end (chip_of (called_all (first load limit) calls)) quiet) (at_end (chip_of (called_all (first load bound) others)) stop)
+
+pub no_other : (load : List NodeRecord) (limit bound : ℕ) (calls others : List MachineCall) → races_asked (called_all (first load limit) calls) None ≡ []
+    → has_looks (causes_of (called_all (first load limit) calls)) (chip_of (called_all (first load limit) calls)) ≡ false
+    → ((n : ℕ) → steps_of n (called_all (first load bound) others).kept ≤ steps_of n (called_all (first load limit) calls).kept)
+    → (later : List Event) × AreOrders load (called_all (first load limit) calls).kept ((called_all (first load bound) others).kept ++ later)
+no_other load limit bound calls others none calm few =
+    let s = called_all (first load limit) calls in
+    let z = called_all (first load bound) others in
+    beginning_within load s.kept z.kept (some_from load limit calls) (calm_session load limit calls none calm) (some_from load bound others) few
+  where
+    some_from : (load : List NodeRecord) (limit : ℕ) (calls : List MachineCall) → IsSome (replay load (called_all (first load limit) calls).kept)
+    some_from load limit calls =
+        subst (λ z. IsSome (replay z (called_all (first load limit) calls).kept)) (calls_load (first load limit) calls) (runs_some (called_all (first load limit) calls) (first_runs load limit calls))
+
+-- ---- each step that is told could have come out as it is told
+
+can_pass : (chip : List NodeRecord) (w r : NodeId) (side : Side) → neighbour_of r.number side ≡ Some w.number → writes_to (record_at chip w.number).wait side ≡ true
+    → reads_from (record_at chip r.number).wait side ≡ true → CanBe chip (event.Pass w r side)
+can_pass chip w r side near writes reads =
+    let there : neighbour_of w.number side ≡ Some r.number = neighbour_of-back r.number w.number side r.in_range near in
+    let is : is_number (neighbour_of w.number side) r.number ≡ true = ap (λ (o : Option ℕ). is_number o r.number) there ∙ (let q : (r.number == r.number) ≡ true = grind (arith, eq-eqb) in q) in
+    ap (λ (b : Bool). unmatched (b && writes_to (record_at chip w.number).wait side && reads_from (record_at chip r.number).wait side)) is
+    ∙ ap (λ (b : Bool). unmatched (b && reads_from (record_at chip r.number).wait side)) writes
+    ∙ ap unmatched reads
+
+all_one : {X : Type 0} (P : X → Type 0) (x : X) → P x → All P (x ∷ [])
+all_one P x p zero d l = p
+all_one P x p (suc k) d l = absurd (omega (arith, l))
+
+over_made : (s : State) (r : NodeId) (k : ℕ) (w : NodeId) (word : ℕ) (side : Side) → All (IsOther s) (races_over s r k w word side)
+over_made s r k w word side =
+    go (neighbour_of r.number side) refl (offered (chip_of (rewound s r.number k)) r.number side) refl
+  where
+    chip : List NodeRecord
+    chip = chip_of (rewound s r.number k)
+
+    at : (x o : ℕ) → neighbour_of r.number side ≡ Some x → offered chip r.number side ≡ Some o → (b : Bool) → (x == w.number) ≡ b
+        → All (IsOther s) (cond {A = List Race} b [] (record { reader = r; step = k; writer = w; word = word; other = node_id x; offered = o } ∷ []))
+    at x o near is true same = All-nil (IsOther s)
+    at x o near is false same =
+        let p : Offer chip r.number side = offer_of chip r.number side (ap is_some is) in
+        let l : x < 144 = neighbour_small r.number x side r.in_range near in
+        let number : (node_id x).number ≡ x = mod-eq_of_lt l in
+        let beside : neighbour_of r.number side ≡ Some (node_id x).number = near ∙ ap Some (sym number) in
+        let writer : p.writer ≡ (node_id x).number = same_Some p.writer (node_id x).number (sym p.near ∙ beside) in
+        let can = can_pass chip (node_id x) r side beside (subst (λ (z : ℕ). writes_to (record_at chip z).wait side ≡ true) writer p.writes) p.reads in
+        all_one (IsOther s) _ (record {
+          side = side;
+          next = made_is_next chip (event.Pass (node_id x) r side) can;
+          word = sym (same_Some p.word o (sym p.is ∙ is) ∙ refl) ∙ p.carries ∙ ap (λ (z : ℕ). t (record_at chip z)) writer;
+          differ = λ q. true≢false (sym (let e : (x == w.number) ≡ true = eq-eqb x w.number (sym number ∙ q) in e) ∙ same);
+        })
+
+    go : (o : Option ℕ) → neighbour_of r.number side ≡ o → (u : Option ℕ) → offered chip r.number side ≡ u → All (IsOther s) (race_from r k w word o u)
+    go None near u is = All-nil (IsOther s)
+    go (Some x) near None is = All-nil (IsOther s)
+    go (Some x) near (Some o) is = at x o near is (x == w.number) refl
+
+around_made : (s : State) (r : NodeId) (k : ℕ) (w : NodeId) (word : ℕ) → All (IsOther s) (races_around s r k w word)
+around_made s r k w word =
+    let made = over_made s r k w word in
+    let over : Side → List Race = races_over s r k w word in
+    All-append (IsOther s) (over Right) (over Down ++ (over Left ++ over Up)) (made Right)
+    (All-append (IsOther s) (over Down) (over Left ++ over Up) (made Down) (All-append (IsOther s) (over Left) (over Up) (made Left) (made Up)))
+
+told_made : (s : State) (r : NodeId) (k : ℕ) (o : Option Made) → All (IsOther s) (races_told s r k o)
+told_made s r k None = All-nil (IsOther s)
+told_made s r k (Some (made.Own n j kind)) = All-nil (IsOther s)
+told_made s r k (Some (made.Pass w i x j word)) = go (x.number == r.number)
+  where
+    go : (b : Bool) → All (IsOther s) (cond {A = List Race} b (races_around s r k w word) [])
+    go true = around_made s r k w word
+    go false = All-nil (IsOther s)
+
+before_made : (s : State) (r : NodeId) (p : ℕ) → All (IsOther s) (races_before s r p)
+unfolding races_before
+before_made s r zero = All-nil (IsOther s)
+before_made s r (suc p) = All-append (IsOther s) (races_before s r p) (races_at s r p) (before_made s r p) (told_made s r (p + 1) (slice_get (history_of s r.number) p))
+
+below_made : (s : State) (n : ℕ) → All (IsOther s) (races_below s n)
+unfolding races_below
+below_made s zero = All-nil (IsOther s)
+below_made s (suc n) = All-append (IsOther s) (races_below s n) (races_of s (node_id n)) (below_made s n) (before_made s (node_id n) (steps_of (node_id n).number s.kept))
+
+pub all_made : (s : State) (only : Option NodeId) → All (IsOther s) (races_asked s only)
+all_made s None = below_made s 144
+all_made s (Some node) = before_made s node (steps_of node.number s.kept)

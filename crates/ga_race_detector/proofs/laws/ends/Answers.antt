@@ -1,0 +1,5 @@
+use Rattle.ga_race_detector.proofs.Sessions.{no_next}
+use Rattle.ga_race_detector.proofs.laws.ends.Goals as goal
+
+pub returns : goal.returns
+returns c = no_next

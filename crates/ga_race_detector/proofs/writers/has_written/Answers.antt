@@ -1,0 +1,43 @@
+use Rattle.std.proofs.Common.{◌∙◌, ◌+◌, ◌≡◌, ap, sym, arith}
+use Rattle.std.specs.Prelude.{is_some}
+use Rattle.ga_node.specs.Record.{record_of}
+use Rattle.ga_event.specs.Apply.{writes_to}
+use Rattle.ga_lab.specs.Machine.{Standing, standing}
+use Rattle.ga_race_detector.proofs.Silent.{silent, at_walk, silent_here, silent_last, silent_more, walked}
+use Rattle.ga_race_detector.proofs.writers.has_written.Goals as goal
+
+pub back-init : goal.back-init
+back-init c =
+    let s = c.args.lab.now in
+    let node = c.args.node in
+    let w : Standing = c.walk-walk.result in
+    let step : w.step ≡ c.steps.result = ap (λ (z : Standing). z.step) c.walk-walk.ensures in
+    let is : w ≡ standing s node w.step = c.walk-walk.ensures ∙ ap (standing s node) (sym step) in
+    let held = record_of c.node.result.now in
+    record {
+      walk = is;
+      silent = λ free. silent_last s node.number c.args.side w.step (step ∙ c.steps.ensures.steps)
+          (silent_here s node.number c.args.side w.step held c.is_writing-waits.result (at_walk w s node held is c.node.ensures)
+          (c.is_writing-waits.ensures ∙ ap (λ z. writes_to z c.args.side) c.wait.ensures.value) free);
+    }
+
+pub back-preserved : goal.back-preserved
+back-preserved c =
+    let s = c.args.lab.now in
+    let node = c.args.node in
+    let old : Standing = c.back.walk in
+    let new : Standing = c.back-in-back.new.self in
+    let is : new ≡ standing s node new.step = walked old new s node c.back.invariant.walk c.back-in-back.ensures in
+    let step : new.step + 1 ≡ old.step = (let e = ap (λ (z : Standing). z.step) c.back-in-back.ensures in omega (arith, e, c.if-step-gt0.true, c.step.ensures.value)) in
+    let held = record_of c.node-in-back.result.now in
+    record {
+      walk = is;
+      silent = λ free. silent_more s node.number c.args.side old.step new.step step (c.back.invariant.silent c.back-test.true)
+          (silent_here s node.number c.args.side new.step held c.is_writing-waits-in-back.result (at_walk new s node held is c.node-in-back.ensures)
+          (c.is_writing-waits-in-back.ensures ∙ ap (λ z. writes_to z c.args.side) c.wait-in-back.ensures.value) free);
+    }
+
+pub returns-else-step-gt0 : goal.returns-else-step-gt0
+returns-else-step-gt0 c = λ free n k near.
+    silent c.args.lab.now c.args.node.number c.args.side (ap is_some c.node-stands.ensures.replays)
+    (λ j. c.back.invariant.silent free j (omega (arith, c.if-step-gt0.false, c.step.ensures.value))) n k near

@@ -1,0 +1,4 @@
+pub mod Offered
+pub mod Races
+pub mod Readings
+pub mod kept

@@ -1,0 +1,98 @@
+-- Steps that could have come out otherwise: a node took a word, and another neighbour could have given it one in its place. Which it
+-- was hung on the order in which nodes happened to run (after Netzer and Miller, "Optimal tracing and replay for debugging
+-- message-passing parallel programs", 1992, who speak of messages). Without looks these are all races of what is kept: laws `every_order` and `no_other_order`.
+use Rattle.std.specs.Prelude.{◌≡◌, ◌≢◌, ℕ, zero, suc, ◌+◌, ◌==◌, Bool, false, ◌&&◌, ◌||◌, if◌then◌else◌, List, [], ◌∷◌, ◌++◌, Option, Some, None, is_none, Ok}
+use Rattle.std.specs.List.{slice_get}
+use Rattle.ga_ports.specs.declared.side.Side.{Side}
+use Rattle.ga_ports.specs.declared.side.Side.TheVariants.{Right, Down, Left, Up}
+use Rattle.ga_node.specs.Record.{NodeRecord}
+use Rattle.ga_node.specs.Table.{t, refusal, looks}
+use Rattle.ga_grid.specs.declared.node_id.NodeId.{NodeId}
+use Rattle.ga_grid.specs.Grid.{node_id, neighbour_of}
+use Rattle.ga_grid.specs.Chip.{record_at}
+use Rattle.ga_event.specs.declared.event.Event.TheVariants as event
+use Rattle.ga_event.specs.declared.event.Cause.{Cause}
+use Rattle.ga_event.specs.Next.{next}
+use Rattle.ga_event.specs.declared.made.Made.{Made}
+use Rattle.ga_event.specs.declared.made.Made.TheVariants as made
+use Rattle.ga_event.specs.Told.{steps_of}
+use Rattle.ga_lab.specs.Machine.{State, chip_of, history_of, rewound}
+use Rattle.ga_race_detector.specs.declared.races.Race.{Race}
+use Rattle.ga_race_detector.specs.Offered.{offered}
+use Rattle.ga_races.specs.Ready.{can_go, first_in}
+
+-- the word that a neighbour would give the node, in place of the one that came from this writer
+abbrev pub race_from : NodeId → ℕ → NodeId → ℕ → Option ℕ → Option ℕ → List Race
+race_from reader step writer word None offer = []
+race_from reader step writer word (Some other) None = []
+race_from reader step writer word (Some other) (Some offer) =
+    if other == writer.number then []
+    else record { reader = reader; step = step; writer = writer; word = word; other = node_id other; offered = offer } ∷ []
+
+-- over a side of the node, were the step taken back
+abbrev pub races_over : State → NodeId → ℕ → NodeId → ℕ → Side → List Race
+races_over s reader step writer word side =
+    race_from reader step writer word (neighbour_of reader.number side) (offered (chip_of (rewound s reader.number step)) reader.number side)
+
+-- over its sides
+abbrev pub races_around : State → NodeId → ℕ → NodeId → ℕ → List Race
+races_around s reader step writer word =
+    races_over s reader step writer word Right ++ (races_over s reader step writer word Down
+    ++ (races_over s reader step writer word Left ++ races_over s reader step writer word Up))
+
+-- of a step of a node of which this is told, where by it the node took a word
+abbrev pub races_told : State → NodeId → ℕ → Option Made → List Race
+races_told s node step None = []
+races_told s node step (Some (made.Own n k kind)) = []
+races_told s node step (Some (made.Pass writer i reader j word)) = if reader.number == node.number then races_around s node step writer word else []
+
+abbrev pub races_at : State → NodeId → ℕ → List Race
+races_at s node place = races_told s node (place + 1) (slice_get (history_of s node.number) place)
+
+-- of its first steps
+unfoldable pub races_before : State → NodeId → ℕ → List Race
+races_before s node zero = []
+races_before s node (suc place) = races_before s node place ++ races_at s node place
+
+-- of all its steps
+abbrev pub races_of : State → NodeId → List Race
+races_of s node = races_before s node (steps_of node.number s.kept)
+
+-- of the first nodes
+unfoldable pub races_below : State → ℕ → List Race
+races_below s zero = []
+races_below s (suc number) = races_below s number ++ races_of s (node_id number)
+
+-- of one node, or of all
+abbrev pub races_asked : State → Option NodeId → List Race
+races_asked s None = races_below s 144
+races_asked s (Some node) = races_of s node
+
+-- one of the events looks
+unfoldable pub has_look : List Cause → Bool
+has_look [] = false
+has_look (cause ∷ causes) = cause.look || has_look causes
+
+-- the next event of the node is one of its own that looks
+abbrev pub looks_next : List NodeRecord → ℕ → Bool
+looks_next chip n = is_none (refusal (record_at chip n)) && looks (record_at chip n)
+
+-- that of one of the first nodes
+unfoldable pub has_next_look : List NodeRecord → ℕ → Bool
+has_next_look chip zero = false
+has_next_look chip (suc n) = looks_next chip n || has_next_look chip n
+
+-- an event that is kept looks, or one that comes next
+abbrev pub has_looks : List Cause → List NodeRecord → Bool
+has_looks causes chip = has_look causes || has_next_look chip 144
+
+-- the first node that has an event
+abbrev pub first_ready : List NodeRecord → Option NodeId
+first_ready chip = first_in (can_go chip) 0 144
+
+-- where the step is taken back, a step of the other neighbour passes the node the other word
+pub record IsOther (s : State) (race : Race) : Type 0 where
+  pub side : Side
+  pub next : next (chip_of (rewound s race.reader.number race.step)) race.other ≡ Ok (event.Pass race.other race.reader side)
+  pub word : race.offered ≡ t (record_at (chip_of (rewound s race.reader.number race.step)) race.other.number)
+  pub differ : race.other.number ≢ race.writer.number

@@ -1,0 +1,56 @@
+-- Looks that could have read another word in `io`: whether a look comes before or behind a change of what is shown to it hung on the
+-- order in which nodes happened to run (after Netzer and Miller, "Optimal tracing and replay for debugging message-passing parallel
+-- programs", 1992; that a look races is this project's own, as looks are).
+use Rattle.std.specs.Prelude.{◌≡◌, ◌≢◌, ◌⊎◌, ℕ, ◌+◌, nat_lt, true, if◌then◌else◌, List, Contains, Option, Some, IfSome}
+use Rattle.ga_node.specs.Io.{io_word}
+use Rattle.ga_ports.specs.declared.side.Side.{Side}
+use Rattle.ga_grid.specs.declared.node_id.NodeId.{NodeId}
+use Rattle.ga_grid.specs.Grid.{neighbour_of}
+use Rattle.ga_event.specs.declared.event.Event.TheVariants as event
+use Rattle.ga_event.specs.Apply.{seen_from}
+use Rattle.ga_event.specs.Told.{steps_of}
+use Rattle.ga_causal.specs.Dependence.{event_at}
+use Rattle.ga_causal.specs.Steps.{IsStep}
+use Rattle.ga_races.specs.HappensBefore.{actions, action_at, IsNear}
+use Rattle.ga_lab.specs.Machine.{State, chip_of, causes_of, earlier, rewound}
+use Rattle.ga_race_detector.specs.declared.readings.Reading.{Reading}
+use Rattle.ga_race_detector.specs.Races.{looks_next}
+
+-- the step that is taken back for the look to read the other word: its own, where the change came behind it, else the change
+abbrev pub back_of : Reading → NodeId × ℕ
+back_of reading = if reading.early then (reading.node, reading.step) else (reading.neighbour, reading.change)
+
+abbrev pub without_step : State → Reading → State
+without_step s reading = rewound s (back_of reading).0.number (back_of reading).1
+
+-- The step is a look, which read the word. Where the one step is taken back, a step of its node is this step again, a look that reads
+-- the other word.
+pub record IsOtherwise (s : State) (reading : Reading) : Type 0 where
+  pub place : ℕ
+  pub stands : IsStep (causes_of s) reading.node.number reading.step place
+  pub looked : event_at (causes_of s) place ≡ record { event = event.Own reading.node; look = true }
+  pub read : reading.word ≡ io_word (seen_from (chip_of (earlier s place)) reading.node.number)
+  pub next : looks_next (chip_of (without_step s reading)) reading.node.number ≡ true
+  pub step : steps_of reading.node.number (without_step s reading).kept + 1 ≡ reading.step
+  pub other : reading.other ≡ io_word (seen_from (chip_of (without_step s reading)) reading.node.number)
+  pub differ : reading.other ≢ reading.word
+
+-- Between the look and the change, which is by a step of a node beside the one that looked, nothing happens that keeps them apart.
+pub record IsNearReading (s : State) (reading : Reading) : Type 0 where
+  pub look : ℕ
+  pub change : ℕ
+  pub looks : IsStep (causes_of s) reading.node.number reading.step look
+  pub changes : IsStep (causes_of s) reading.neighbour.number reading.change change
+  pub side : Side
+  pub beside : neighbour_of reading.node.number side ≡ Some reading.neighbour.number
+  pub shown : (action_at (actions s.load s.kept) change).changes reading.node.number ≡ true
+  pub near : IsNear s.load s.kept look change ⊎ IsNear s.load s.kept change look
+  pub order : reading.early ≡ nat_lt look change
+
+-- so it is, of the node that was asked for
+abbrev pub IsTold : State → Option NodeId → Reading → Type 0
+IsTold s only reading = IsOtherwise s reading × IfSome only (λ node. reading.node ≡ node)
+
+-- no look is left out that could have read another word where a change that is near to it comes on its other side
+abbrev pub NoneMissed : State → Option NodeId → List Reading → Type 0
+NoneMissed s only readings = (reading : Reading) → IsTold s only reading → IsNearReading s reading → Contains readings reading

@@ -1,0 +1,366 @@
+//! The kept events of a lab with what they changed of what neighbours are shown.
+
+ghost use Rattle.std.specs.Prelude.{◌≡◌, ◌≢◌, ◌<◌, ◌+◌, ℕ, true, Some, take, slice_index, length, IfOk, IfErr};
+ghost use Rattle.ga_node.specs.Io.{io_word};
+ghost use Rattle.ga_node.specs.Waits.{wait_of, IsWaitCode};
+ghost use Rattle.ga_grid.specs.Grid.{neighbour_of};
+ghost use Rattle.ga_ports.specs.declared.side.Side.{Side};
+ghost use Rattle.ga_grid.specs.Chip.{record_at};
+ghost use Rattle.ga_event.specs.Apply.{writes_to, shows, beside_in, seen_from, replay};
+ghost use Rattle.ga_event.specs.Told.{steps_of};
+ghost use Rattle.ga_races.specs.HappensBefore.{causes_in, actions};
+ghost use Rattle.ga_races.specs.Acts.{actions_in};
+ghost use Rattle.ga_races.specs.kept.Changed.{shown_as, is_changed, changed_sides, AreAlike};
+ghost use Rattle.ga_lab.specs.Machine.{State, chip_of, causes_of, earlier};
+ghost use Rattle.ga_race_detector.specs.kept.Acts.{StoodSo, AllStood, IsAt, IsActAt, IsMoment, AreMoments};
+
+use crate::adding::add;
+use crate::moments::{Moment, first_part, last_part, no_moments};
+use crate::writers::reads_by;
+use ga_event::{Cause, Event};
+use ga_grid::{NodeId, neighbour};
+use ga_lab::{Lab, LabFault};
+use ga_node::{Beside, Place, Seen};
+use ga_ports::Side;
+use ga_races::{EventAccess, Sides};
+use ga_word::Word18;
+use std::alloc::Global;
+
+/// The kept events in order.
+#[derive(Drop)]
+pub(crate) struct Acts {
+    /// Each with what it changed of what the neighbours of its nodes are shown.
+    pub(crate) list: Vec<EventAccess>,
+    /// What was before each.
+    pub(crate) moments: Vec<Moment>,
+}
+
+// Of each node the number of its wait, and how many steps it had made, behind so many of the kept events.
+#[derive(Drop)]
+struct Behind {
+    waits: [u32; 144],
+    steps: [u32; 144],
+}
+
+// No side.
+fn no_sides() -> Sides {
+    Sides {
+        right: false,
+        down: false,
+        left: false,
+        up: false,
+    }
+}
+
+// Whether a node whose wait has this number waits to write the side.
+fn writes_by(wait: u32, side: Side) -> bool
+    requires { IsWaitCode wait }
+    ensures { result ≡ writes_to (wait_of wait) side }
+{
+    match side {
+        Side::Right => wait == 56,
+        Side::Down => wait == 52,
+        Side::Left => wait == 50,
+        Side::Up => wait == 49,
+    }
+}
+
+// What a node whose wait has this number shows on a side: 0 nothing, 1 that it waits to read there, 2 that it waits to write.
+fn shown(wait: u32, side: Side) -> u8
+    requires { IsWaitCode wait }
+    ensures { result ≡ shown_as (shows (wait_of wait) side) }
+{
+    if reads_by(wait, side) {
+        1
+    } else if writes_by(wait, side) {
+        2
+    } else {
+        0
+    }
+}
+
+/// What a node whose wait has this number shows on a side.
+pub(crate) fn shown_by(code: u32, side: Side) -> Beside
+    requires { IsWaitCode code }
+    ensures { result ≡ shows (wait_of code) side }
+{
+    if reads_by(code, side) {
+        Beside::Reading
+    } else if writes_by(code, side) {
+        Beside::Writing
+    } else {
+        Beside::Idle
+    }
+}
+
+// Whether two such nodes show something else on a side.
+fn is_changed(before: u32, behind: u32, side: Side) -> bool
+    requires before { IsWaitCode before }
+    requires behind { IsWaitCode behind }
+    ensures { result ≡ is_changed (wait_of before) (wait_of behind) side }
+{
+    shown(before, side) != shown(behind, side)
+}
+
+// On which sides they do.
+fn differ(before: u32, behind: u32) -> Sides
+    requires before { IsWaitCode before }
+    requires behind { IsWaitCode behind }
+    ensures { result ≡ changed_sides (wait_of before) (wait_of behind) }
+{
+    Sides {
+        right: is_changed(before, behind, Side::Right),
+        down: is_changed(before, behind, Side::Down),
+        left: is_changed(before, behind, Side::Left),
+        up: is_changed(before, behind, Side::Up),
+    }
+}
+
+// The number of the wait of a node before its step at this position, behind which it had that one.
+fn wait_before(lab: &Lab, node: NodeId, at: u32, behind: u32) -> u32
+    requires { IsWaitCode behind }
+    ensures valid { IsWaitCode result }
+    ensures value { (p q : ℕ) → steps_of node.number (take p lab.now.kept) ≡ at → steps_of node.number (take q lab.now.kept) ≡ at + 1 →
+        (record_at (chip_of (earlier lab.now q)) node.number).wait ≡ wait_of behind →
+        (record_at (chip_of (earlier lab.now p)) node.number).wait ≡ wait_of result }
+{
+    match lab.overwritten(node, at, Place::Wait) {
+        Some(before) => before,
+        None => behind,
+    }
+}
+
+// The number of the wait of a node as it stands.
+fn wait_now(lab: &Lab, node: NodeId) -> u32
+    ensures value { wait_of result ≡ (record_at (chip_of lab.now) node.number).wait }
+    ensures valid { IsWaitCode result }
+{
+    let at = lab.node(node);
+    at.wait().code()
+}
+
+impl Behind {
+    // Those of the lab as it stands.
+    fn of(lab: &Lab) -> Self
+        ensures { (p : ℕ) → take p lab.now.kept ≡ lab.now.kept → AllStood lab.now p result.waits result.steps }
+    {
+        let mut waits = [0u32; 144];
+        let mut steps = [0u32; 144];
+        'nodes: for number in 0..144u8 {
+            let node = NodeId::new(number);
+            let at = node.index();
+            let wait = wait_now(lab, node);
+            let step = lab.steps(node);
+            waits[at] = wait;
+            steps[at] = step;
+        }
+        Behind { waits, steps }
+    }
+
+    // The number of the wait of a node.
+    fn wait_at(&self, node: NodeId) -> u32
+        ensures { result ≡ slice_index self.now.waits node.number }
+    {
+        self.waits[node.index()]
+    }
+
+    // How many steps it had made.
+    fn steps_at(&self, node: NodeId) -> u32
+        ensures { result ≡ slice_index self.now.steps node.number }
+    {
+        self.steps[node.index()]
+    }
+
+    // Puts other numbers there.
+    fn put(&mut self, node: NodeId, wait: u32, step: u32)
+        ensures wait { slice_index self.new.waits node.number ≡ wait }
+        ensures step { slice_index self.new.steps node.number ≡ step }
+        ensures waits { (m : ℕ) → m ≢ node.number → slice_index self.new.waits m ≡ slice_index self.old.waits m }
+        ensures others { (m : ℕ) → m ≢ node.number → slice_index self.new.steps m ≡ slice_index self.old.steps m }
+    {
+        let at = node.index();
+        self.waits[at] = wait;
+        self.steps[at] = step;
+    }
+
+    // What stands on a side of a node.
+    fn beside(&self, node: NodeId, side: Side) -> Beside
+        requires { (m : ℕ) → m < 144 → IsWaitCode (slice_index self.now.waits m) }
+        ensures { (s : State) (p : ℕ) → AllStood s p self.now.waits self.now.steps →
+            result ≡ beside_in (chip_of (earlier s p)) side (neighbour_of node.number side) }
+    {
+        match neighbour(node, side) {
+            Some(other) => shown_by(self.wait_at(other), side),
+            None => Beside::Nobody,
+        }
+    }
+
+    // What stands on each of its sides.
+    #[tactic(auto, unfolding(ga_event::specs::Apply::seen_from))]
+    fn seen(&self, node: NodeId) -> Seen
+        requires { (m : ℕ) → m < 144 → IsWaitCode (slice_index self.now.waits m) }
+        ensures { (s : State) (p : ℕ) → AllStood s p self.now.waits self.now.steps → result ≡ seen_from (chip_of (earlier s p)) node.number }
+    {
+        Seen {
+            right: self.beside(node, Side::Right),
+            down: self.beside(node, Side::Down),
+            left: self.beside(node, Side::Left),
+            up: self.beside(node, Side::Up),
+        }
+    }
+
+    // The word that a node reads in `io`, if it looks.
+    fn word(&self, node: NodeId, look: bool) -> Word18
+        requires { (m : ℕ) → m < 144 → IsWaitCode (slice_index self.now.waits m) }
+        ensures { look ≡ true → (s : State) (p : ℕ) → AllStood s p self.now.waits self.now.steps →
+            result ≡ io_word (seen_from (chip_of (earlier s p)) node.number) }
+    {
+        if !look {
+            return Word18::truncated(0);
+        }
+        self.seen(node).io_word()
+    }
+
+    // What is before this event.
+    fn moment(&self, cause: &Cause) -> Moment
+        requires { (m : ℕ) → m < 144 → IsWaitCode (slice_index self.now.waits m) }
+        ensures { (s : State) (p : ℕ) → AllStood s p self.now.waits self.now.steps → IsMoment s p cause.now result }
+    {
+        let node = first_part(cause.event);
+        let other = last_part(cause.event);
+        let first = self.steps_at(node);
+        let last = self.steps_at(other);
+        let word = self.word(node, cause.look);
+        Moment { first, last, word }
+    }
+
+    // Goes back by the last step of a node, and says on which sides it changed what the node shows.
+    fn back(&mut self, lab: &Lab, node: NodeId) -> Sides
+        requires steps { 0 < slice_index self.old.steps node.number }
+        requires valid { IsWaitCode (slice_index self.old.waits node.number) }
+        ensures here { (p q : ℕ) →
+            StoodSo lab.now node.number q (slice_index self.old.waits node.number) (slice_index self.old.steps node.number) →
+            steps_of node.number (take q lab.now.kept) ≡ steps_of node.number (take p lab.now.kept) + 1 →
+            StoodSo lab.now node.number p (slice_index self.new.waits node.number) (slice_index self.new.steps node.number) }
+        ensures sides { result ≡ changed_sides (wait_of (slice_index self.new.waits node.number)) (wait_of (slice_index self.old.waits node.number)) }
+        ensures waits { (m : ℕ) → m ≢ node.number → slice_index self.new.waits m ≡ slice_index self.old.waits m }
+        ensures others { (m : ℕ) → m ≢ node.number → slice_index self.new.steps m ≡ slice_index self.old.steps m }
+    {
+        let behind = self.wait_at(node);
+        let had = self.steps_at(node);
+        let step = had - 1;
+        let before = wait_before(lab, node, step, behind);
+        self.put(node, before, step);
+        differ(before, behind)
+    }
+
+    // Goes back by the last event, which is this one, an own event of the node.
+    fn back_own(&mut self, lab: &Lab, cause: Cause, node: NodeId) -> EventAccess
+        requires own { cause.event ≡ Event.Own node }
+        requires replays { replay lab.now.load lab.now.kept ≡ Some (chip_of lab.now) }
+        requires stood { (p : ℕ) × IsAt lab.now p cause × AllStood lab.now (p + 1) self.old.waits self.old.steps }
+        ensures cause { result.cause ≡ cause }
+        ensures stood { (p : ℕ) → IsAt lab.now p cause → AllStood lab.now (p + 1) self.old.waits self.old.steps →
+            AllStood lab.now p self.new.waits self.new.steps }
+        ensures changes { (p : ℕ) → IsAt lab.now p cause → AllStood lab.now (p + 1) self.old.waits self.old.steps → IsActAt lab.now p result }
+    {
+        let first = self.back(lab, node);
+        EventAccess {
+            cause,
+            first,
+            second: no_sides(),
+        }
+    }
+
+    // The same of a pass between two nodes.
+    fn back_pass(&mut self, lab: &Lab, cause: Cause, writer: NodeId, reader: NodeId) -> EventAccess
+        requires pass { (side : Side) × (cause.event ≡ Event.Pass writer reader side) }
+        requires replays { replay lab.now.load lab.now.kept ≡ Some (chip_of lab.now) }
+        requires stood { (p : ℕ) × IsAt lab.now p cause × AllStood lab.now (p + 1) self.old.waits self.old.steps }
+        ensures cause { result.cause ≡ cause }
+        ensures stood { (p : ℕ) → IsAt lab.now p cause → AllStood lab.now (p + 1) self.old.waits self.old.steps →
+            AllStood lab.now p self.new.waits self.new.steps }
+        ensures changes { (p : ℕ) → IsAt lab.now p cause → AllStood lab.now (p + 1) self.old.waits self.old.steps → IsActAt lab.now p result }
+    {
+        let first = self.back(lab, writer);
+        let second = self.back(lab, reader);
+        EventAccess {
+            cause,
+            first,
+            second,
+        }
+    }
+
+    // The same of any event.
+    fn back_by(&mut self, lab: &Lab, cause: Cause) -> EventAccess
+        requires replays { replay lab.now.load lab.now.kept ≡ Some (chip_of lab.now) }
+        requires stood { (p : ℕ) × IsAt lab.now p cause × AllStood lab.now (p + 1) self.old.waits self.old.steps }
+        ensures cause { result.cause ≡ cause }
+        ensures stood { (p : ℕ) → IsAt lab.now p cause → AllStood lab.now (p + 1) self.old.waits self.old.steps →
+            AllStood lab.now p self.new.waits self.new.steps }
+        ensures changes { (p : ℕ) → IsAt lab.now p cause → AllStood lab.now (p + 1) self.old.waits self.old.steps → IsActAt lab.now p result }
+    {
+        match cause.event {
+            Event::Own(node) => self.back_own(lab, cause, node),
+            Event::Pass { writer, reader, .. } => self.back_pass(lab, cause, writer, reader),
+        }
+    }
+}
+
+// The event, with no sides yet.
+fn plain(cause: &Cause) -> EventAccess
+    ensures { result.cause ≡ cause.now }
+{
+    EventAccess {
+        cause: *cause,
+        first: no_sides(),
+        second: no_sides(),
+    }
+}
+
+// The events, with no sides yet.
+fn plain_acts(alloc: Global, causes: &[Cause]) -> Result<Vec<EventAccess>, LabFault>
+    ensures causes { IfOk result (λ acts. causes_in (actions_in acts.items) ≡ causes.now) }
+    ensures err { IfErr result (λ why. why ≡ LabFault.Memory) }
+{
+    let mut acts = match Vec::with_capacity(alloc, causes.len()) {
+        Ok(acts) => acts,
+        Err(_) => return Err(LabFault::Memory),
+    };
+    'causes: for cause in causes {
+        let act = plain(cause);
+        add(&mut acts, act)?;
+    }
+    Ok(acts)
+}
+
+/// The kept events in order, each with what it changed of what the neighbours of its nodes are shown, and with what was before it.
+/// Takes memory and time by these.
+///
+/// # Errors
+/// `Memory` alone.
+pub(crate) fn acts_of(alloc: Global, lab: &Lab, causes: &[Cause]) -> Result<Acts, LabFault>
+    requires all { causes.now ≡ causes_of lab.now }
+    ensures size { IfOk result (λ acts. length acts.list.items ≡ length causes.now) }
+    ensures alike { IfOk result (λ acts. AreAlike (actions_in acts.list.items) (actions lab.now.load lab.now.kept)) }
+    ensures moments { IfOk result (λ acts. AreMoments lab.now causes.now acts.moments.items) }
+    ensures err { IfErr result (λ why. why ≡ LabFault.Memory) }
+{
+    let _stands = lab.node(NodeId::new(0));
+    let mut acts = plain_acts(alloc, causes)?;
+    let mut moments = no_moments(alloc, causes.len())?;
+    let mut behind = Behind::of(lab);
+    let mut place = acts.len();
+    'back: while place > 0 {
+        place -= 1;
+        let cause = causes[place];
+        let act = behind.back_by(lab, cause);
+        let moment = behind.moment(&cause);
+        acts[place] = act;
+        moments[place] = moment;
+    }
+    Ok(Acts {
+        list: acts,
+        moments,
+    })
+}

@@ -1,0 +1,229 @@
+//! How many steps of a node and of its neighbours would be left, were a step taken back.
+
+ghost use Rattle.std.specs.Prelude.{◌≡◌, ◌<◌, ◌≤◌, ◌-◌, ◌^◌, ℕ, List, length, slice_index, Some, IfOk, IfErr};
+ghost use Rattle.ga_grid.specs.Grid.{neighbour_of};
+ghost use Rattle.ga_event.specs.declared.event.Cause.{Cause};
+ghost use Rattle.ga_causal.specs.Steps.{touching};
+ghost use Rattle.ga_race_detector.specs.kept.Around.{around_over, lists_over, IsAround, AreAround};
+
+use crate::left::{Depths, LeftOf, with_step};
+use ga_event::Cause;
+use ga_grid::{NodeId, neighbour};
+use ga_lab::LabFault;
+use ga_ports::Side;
+use std::alloc::Global;
+
+/// Of a node and its neighbours, how many steps would be left.
+#[derive(Clone, Copy, PartialEq, Eq, Debug)]
+pub(crate) struct Around {
+    /// Of the node.
+    pub(crate) node: u32,
+    right: u32,
+    down: u32,
+    left: u32,
+    up: u32,
+}
+
+/// The same for each step of one node that is taken back.
+#[derive(Drop)]
+pub(crate) struct LeftAround {
+    node: Vec<u32>,
+    right: Vec<u32>,
+    down: Vec<u32>,
+    left: Vec<u32>,
+    up: Vec<u32>,
+}
+
+impl Around {
+    /// Of the neighbour on the side.
+    pub(crate) fn over(&self, side: Side) -> u32
+        ensures { result ≡ around_over self.now side }
+    {
+        match side {
+            Side::Right => self.right,
+            Side::Down => self.down,
+            Side::Left => self.left,
+            Side::Up => self.up,
+        }
+    }
+}
+
+// The number for a step.
+fn number_of(list: &[u32], step: u32) -> u32
+    requires { 0 < step }
+    ensures { result ≡ slice_index list.now (step - 1) }
+{
+    let place = (step - 1) as usize;
+    if place < list.len() { list[place] } else { 0 }
+}
+
+// The neighbour on a side, or the node itself where nobody is there.
+fn beside_or(node: NodeId, side: Side) -> NodeId
+    ensures { (m : ℕ) → neighbour_of node.number side ≡ Some m → result.number ≡ m }
+{
+    match neighbour(node, side) {
+        Some(other) => other,
+        None => node,
+    }
+}
+
+// The same as far as the events have gone. Of a side where nobody is, those of the node itself.
+#[derive(Drop)]
+struct Sweep {
+    here: LeftOf,
+    right: LeftOf,
+    down: LeftOf,
+    left: LeftOf,
+    up: LeftOf,
+}
+
+impl Sweep {
+    ghost use Rattle.std.specs.Prelude.{◌≡◌, OnOk, IfOk, IfErr};
+    ghost use Rattle.ga_ports.specs.declared.side.Side.{Side};
+    ghost use Rattle.ga_race_detector.specs.kept.Left.{IsTaken, IsFilled};
+    ghost use Rattle.ga_race_detector.specs.kept.Around.{sweep_over, lists_over, AreFirst, AreTaken, AreFew};
+
+    // Where there was no event.
+    fn none(alloc: Global, node: NodeId) -> Self
+        ensures { AreFirst node result }
+    {
+        let right = beside_or(node, Side::Right);
+        let down = beside_or(node, Side::Down);
+        let left = beside_or(node, Side::Left);
+        let up = beside_or(node, Side::Up);
+        Sweep {
+            here: LeftOf::none(alloc, node),
+            right: LeftOf::none(alloc, right),
+            down: LeftOf::none(alloc, down),
+            left: LeftOf::none(alloc, left),
+            up: LeftOf::none(alloc, up),
+        }
+    }
+
+    // Goes on by an event, of the node and the sides right and down.
+    #[inline(always)]
+    fn take_first(&mut self, cause: &Cause, depth: u32) -> Result<(), LabFault>
+        requires { AreFew self.old }
+        ensures here { OnOk result (IsTaken self.old.here self.new.here cause.now depth) }
+        ensures right { OnOk result (IsTaken self.old.right self.new.right cause.now depth) }
+        ensures down { OnOk result (IsTaken self.old.down self.new.down cause.now depth) }
+        ensures left { OnOk result (self.new.left ≡ self.old.left) }
+        ensures up { OnOk result (self.new.up ≡ self.old.up) }
+        ensures err { IfErr result (λ why. why ≡ LabFault.Memory) }
+    {
+        self.here.take(cause, depth)?;
+        self.right.take(cause, depth)?;
+        self.down.take(cause, depth)
+    }
+
+    // Goes on by an event, which depends on so many of the steps.
+    #[inline(always)]
+    fn take(&mut self, cause: &Cause, depth: u32) -> Result<(), LabFault>
+        requires { AreFew self.old }
+        ensures ok { OnOk result (AreTaken self.old self.new cause.now depth) }
+        ensures err { IfErr result (λ why. why ≡ LabFault.Memory) }
+    {
+        self.take_first(cause, depth)?;
+        self.left.take(cause, depth)?;
+        self.up.take(cause, depth)
+    }
+
+    // The lists where there are no more events, and so many steps.
+    fn end(self, made: u32) -> Result<LeftAround, LabFault>
+        ensures here { IfOk result (λ lists. IsFilled self.here.list.items lists.node.items made self.here.count) }
+        ensures beside { IfOk result (λ lists. (side : Side) →
+            IsFilled (sweep_over self side).list.items (lists_over lists side) made (sweep_over self side).count) }
+        ensures err { IfErr result (λ why. why ≡ LabFault.Memory) }
+    {
+        let Sweep {
+            here,
+            right,
+            down,
+            left,
+            up,
+        } = self;
+        let node = here.end(made)?;
+        let right = right.end(made)?;
+        let down = down.end(made)?;
+        let left = left.end(made)?;
+        let up = up.end(made)?;
+        Ok(LeftAround {
+            node,
+            right,
+            down,
+            left,
+            up,
+        })
+    }
+}
+
+impl LeftAround {
+    /// Those of this node, for each step of the one from which they are taken back. Takes memory for these, and time by the
+    /// events.
+    ///
+    /// # Errors
+    /// `Memory` alone.
+    pub(crate) fn of(
+        alloc: Global,
+        causes: &[Cause],
+        from: NodeId,
+        node: NodeId,
+    ) -> Result<Self, LabFault>
+        requires few { length causes.now < 2 ^ 32 }
+        ensures left { IfOk result (λ lists. AreAround causes.now from.number node.number lists) }
+        ensures err { IfErr result (λ why. why ≡ LabFault.Memory) }
+    {
+        let mut sweep = Sweep::none(alloc, node);
+        let mut depths = Depths::none();
+        let mut made = 0u32;
+        'causes: for cause in causes {
+            let depth = depths.of(cause, from, made);
+            depths.put(cause, depth);
+            sweep.take(cause, depth)?;
+            made = with_step(made, cause, from);
+        }
+        sweep.end(made)
+    }
+
+    // The list of a side.
+    fn over(&self, side: Side) -> &[u32]
+        ensures { result.now ≡ lists_over self.now side }
+    {
+        match side {
+            Side::Right => self.right.as_slice(),
+            Side::Down => self.down.as_slice(),
+            Side::Left => self.left.as_slice(),
+            Side::Up => self.up.as_slice(),
+        }
+    }
+
+    // The number of a side for a step.
+    fn number_over(&self, side: Side, step: u32) -> u32
+        requires { 0 < step }
+        ensures { result ≡ slice_index (lists_over self.now side) (step - 1) }
+    {
+        let list = self.over(side);
+        number_of(list, step)
+    }
+
+    /// Where this step is taken back.
+    pub(crate) fn at(&self, step: u32) -> Around
+        requires { 0 < step }
+        ensures { (causes : List Cause) (from node : ℕ) → AreAround causes from node self.now → step ≤ touching from causes →
+            IsAround causes from step node result }
+    {
+        let list = self.node.as_slice();
+        let node = number_of(list, step);
+        let right = self.number_over(Side::Right, step);
+        let down = self.number_over(Side::Down, step);
+        let left = self.number_over(Side::Left, step);
+        let up = self.number_over(Side::Up, step);
+        Around {
+            node,
+            right,
+            down,
+            left,
+            up,
+        }
+    }
+}

@@ -1,0 +1,79 @@
+//! Laws of the definitions, each the contract of a function that does nothing.
+
+ghost use Rattle.std.specs.Prelude.{◌≡◌, ◌≢◌, ◌≤◌, ◌↔◌, ℕ, false, List, [], ◌++◌, Option, None, Ok, IsSome};
+ghost use Rattle.std.specs.List.{All};
+ghost use Rattle.ga_ports.specs.declared.side.Side.{Side};
+ghost use Rattle.ga_node.specs.Record.{NodeRecord};
+ghost use Rattle.ga_grid.specs.declared.node_id.NodeId.{NodeId};
+ghost use Rattle.ga_event.specs.declared.event.Event.{Event};
+ghost use Rattle.ga_event.specs.Told.{steps_of};
+ghost use Rattle.ga_event.specs.Next.{next};
+ghost use Rattle.ga_causal.specs.Dependence.{NoneLooks};
+ghost use Rattle.ga_races.specs.Orders.{AreOrders, IsAtEnd, HasNoRace};
+ghost use Rattle.ga_lab.specs.Machine.{State, first, chip_of, causes_of, rewound};
+ghost use Rattle.ga_lab.specs.Calls.{MachineCall, called_all, IsReached};
+ghost use Rattle.ga_race_detector.specs.Offered.{offered};
+ghost use Rattle.ga_race_detector.specs.Races.{races_asked, has_looks, first_ready, IsOther};
+
+/// Where what one session keeps has no race, and no node of its chip has an event, every other session from that load, whatever was
+/// stepped, undone or rewound in it, stands on the way there: its kept events can be gone on with to those of the first in another
+/// order. Once no node has an event there either, its chip is the same: the nodes that are stopped are stopped in both.
+pub fn any_session()
+    ensures way { (load : List NodeRecord) (limit bound : ℕ) (calls others : List MachineCall) →
+        let s = called_all (first load limit) calls in
+        let z = called_all (first load bound) others in
+        HasNoRace load s.kept → IsAtEnd (chip_of s) →
+        (later : List Event) × AreOrders load s.kept (z.kept ++ later) }
+    ensures chip { (load : List NodeRecord) (limit bound : ℕ) (calls others : List MachineCall) →
+        let s = called_all (first load limit) calls in
+        let z = called_all (first load bound) others in
+        HasNoRace load s.kept → IsAtEnd (chip_of s) → IsAtEnd (chip_of z) → chip_of z ≡ chip_of s }
+{}
+
+/// No event can be made just where no node has a next one: where each `step` is refused.
+pub fn ends()
+    ensures { (chip : List NodeRecord) →
+        (IsAtEnd chip ↔ ((n : NodeId) (event : Event) → next chip n ≡ Ok event → ⊥)) }
+{}
+
+/// What a session keeps has no race where no kept event looks, no node has an event, and of no step of a node, were it taken back, two
+/// words are offered to the node (`offered`): then every other session is on the way to the same chip (`any_session`).
+pub fn none_offered()
+    ensures { (s : State) → IsReached s → NoneLooks (causes_of s) → IsAtEnd (chip_of s) →
+        ((r : NodeId) (k : ℕ) (side other : Side) → side ≢ other →
+        IsSome (offered (chip_of (rewound s r.number k)) r.number side) →
+        IsSome (offered (chip_of (rewound s r.number k)) r.number other) → ⊥) →
+        HasNoRace s.load s.kept }
+{}
+
+/// Where of a session no step is told (`races_asked`), nothing that is kept or comes next looks, and no node has an event, every other
+/// session from that load stands on the way there, whatever was stepped, undone or rewound in it; and once no node has an event there
+/// either, its chip is the same. This is what `find_races` leaves to say of a run that has ended.
+pub fn every_order()
+    ensures way { (load : List NodeRecord) (limit bound : ℕ) (calls others : List MachineCall) →
+        let s = called_all (first load limit) calls in
+        let z = called_all (first load bound) others in
+        races_asked s None ≡ [] → has_looks (causes_of s) (chip_of s) ≡ false → first_ready (chip_of s) ≡ None →
+        (later : List Event) × AreOrders load s.kept (z.kept ++ later) }
+    ensures chip { (load : List NodeRecord) (limit bound : ℕ) (calls others : List MachineCall) →
+        let s = called_all (first load limit) calls in
+        let z = called_all (first load bound) others in
+        races_asked s None ≡ [] → has_looks (causes_of s) (chip_of s) ≡ false → first_ready (chip_of s) ≡ None →
+        first_ready (chip_of z) ≡ None → chip_of z ≡ chip_of s }
+{}
+
+/// The same where a node may have an event: every other session from that load in which no node made more steps stands on the way.
+pub fn no_other_order()
+    ensures { (load : List NodeRecord) (limit bound : ℕ) (calls others : List MachineCall) →
+        let s = called_all (first load limit) calls in
+        let z = called_all (first load bound) others in
+        races_asked s None ≡ [] → has_looks (causes_of s) (chip_of s) ≡ false →
+        ((n : ℕ) → steps_of n z.kept ≤ steps_of n s.kept) →
+        (later : List Event) × AreOrders load s.kept (z.kept ++ later) }
+{}
+
+/// Each step that is told could have come out as it is told, with looks kept or not: where it is taken back, a step of the other
+/// neighbour is the pass to the node, of the other word.
+pub fn other_word()
+    ensures { (s : State) (only : Option NodeId) → All (IsOther s) (races_asked s only) }
+{}

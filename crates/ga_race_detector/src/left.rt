@@ -1,0 +1,347 @@
+//! How many steps of a node would be left, were a step of another taken back: for each of these steps, by one pass over the kept events.
+
+ghost use Rattle.std.specs.Prelude.{◌≡◌, ◌<◌, ◌+◌, [], ◌^◌, ℕ, length, if◌then◌else◌, Some, IfOk, OnOk, IfErr};
+ghost use Rattle.ga_causal.specs.Dependence.{cause_touches};
+ghost use Rattle.ga_grid.specs.Grid.{neighbour_of};
+ghost use Rattle.ga_race_detector.specs.kept.Left.{AreLeft, IsLeftBehind, IsFilled};
+
+use crate::adding::add;
+use crate::writers::Writers;
+use ga_event::{Cause, Event, touches};
+use ga_grid::{NODES, NodeId, neighbour};
+use ga_lab::LabFault;
+use ga_ports::Side;
+use std::alloc::Global;
+use std::marker::Model;
+
+/// Of each node, on how many steps of one node its newest event depends: on the first so many.
+#[derive(Drop)]
+pub(crate) struct Depths {
+    steps: [u32; 144],
+}
+
+impl Model for Depths {
+    ghost use Rattle.std.specs.Prelude.{◌≡◌, ℕ, List, length};
+
+    ghost Value = { List ℕ };
+
+    ghost view = { λ d. d.steps };
+
+    ghost invariant = { λ d. length d.steps ≡ 144 };
+}
+
+impl Depths {
+    ghost use Rattle.std.specs.Prelude.{◌≡◌, ◌<◌, ◌+◌, ◌==◌, ◌^◌, ℕ, slice_index, if◌then◌else◌};
+    ghost use Rattle.ga_grid.specs.Grid.{neighbour_of};
+    ghost use Rattle.ga_event.specs.Touches.{neighbours, seen_by};
+    ghost use Rattle.ga_causal.specs.Dependence.{cause_touches};
+    ghost use Rattle.ga_race_detector.specs.kept.Left.{greatest, greater_with, depth};
+
+    /// Where nothing was made.
+    pub(crate) fn none() -> Self
+        ensures { (n : ℕ) → slice_index result n ≡ 0 }
+    {
+        Depths { steps: [0; NODES] }
+    }
+
+    // That of a node.
+    fn at(&self, node: NodeId) -> u32
+        ensures { result ≡ slice_index self.now node.number }
+    {
+        self.steps[node.index()]
+    }
+
+    /// That of an event, where so many steps of the one node were made before it.
+    #[inline(always)]
+    pub(crate) fn of(&self, cause: &Cause, node: NodeId, made: u32) -> u32
+        requires { made + 1 < 2 ^ 32 }
+        ensures { result ≡ depth (slice_index self.now) node.number made cause.now }
+    {
+        if touches(cause.event, node) {
+            made + 1
+        } else {
+            self.greatest(cause)
+        }
+    }
+
+    // The greatest of those of the nodes that an event sees.
+    #[tactic(auto, unfolding(ga_event::specs::Touches::seen_by))]
+    fn greatest(&self, cause: &Cause) -> u32
+        ensures { result ≡ greatest (slice_index self.now) (seen_by cause.now) }
+    {
+        match cause.event {
+            Event::Own(node) => {
+                let looked = if cause.look {
+                    self.greatest_beside(node)
+                } else {
+                    0
+                };
+                self.at(node).max(looked)
+            }
+            Event::Pass { writer, reader, .. } => self.at(writer).max(self.at(reader).max(0)),
+        }
+    }
+
+    // The greatest of those of the neighbours of a node.
+    #[tactic(auto, using(crate::proofs::Depths::greatest_beside))]
+    fn greatest_beside(&self, node: NodeId) -> u32
+        ensures { result ≡ greatest (slice_index self.now) (neighbours node.number) }
+    {
+        let up = self.greater_over(node, Side::Up, 0);
+        let left = self.greater_over(node, Side::Left, up);
+        let down = self.greater_over(node, Side::Down, left);
+        self.greater_over(node, Side::Right, down)
+    }
+
+    // The greater of a number and that of the neighbour on a side.
+    fn greater_over(&self, node: NodeId, side: Side, number: u32) -> u32
+        ensures { result ≡ greater_with (slice_index self.now) (neighbour_of node.number side) number }
+    {
+        match neighbour(node, side) {
+            Some(other) => self.at(other).max(number),
+            None => number,
+        }
+    }
+
+    /// Puts a number to the nodes that an event touches.
+    #[inline(always)]
+    pub(crate) fn put(&mut self, cause: &Cause, steps: u32)
+        ensures { (n : ℕ) → slice_index self.new n ≡ (if cause_touches cause.now n then steps else slice_index self.old n) }
+    {
+        match cause.event {
+            Event::Own(node) => self.put_at(node.index(), steps),
+            Event::Pass { writer, reader, .. } => {
+                self.put_at(writer.index(), steps);
+                self.put_at(reader.index(), steps);
+            }
+        }
+    }
+
+    // Puts it to a node.
+    fn put_at(&mut self, node: usize, steps: u32)
+        requires { node < 144 }
+        ensures { (n : ℕ) → slice_index self.new n ≡ (if node == n then steps else slice_index self.old n) }
+    {
+        self.steps[node] = steps;
+    }
+}
+
+/// One more where the event touches the node.
+#[inline(always)]
+pub(crate) fn with_step(steps: u32, cause: &Cause, node: NodeId) -> u32
+    requires { steps + 1 < 2 ^ 32 }
+    ensures { result ≡ steps + (if cause_touches cause.now node.number then 1 else 0) }
+{
+    if touches(cause.event, node) {
+        steps + 1
+    } else {
+        steps
+    }
+}
+
+// Fills a list up to a length with a number.
+fn fill(list: &mut Vec<u32>, to: u32, number: u32) -> Result<(), LabFault>
+    ensures ok { OnOk result (IsFilled list.old.items list.new.items to number) }
+    ensures err { IfErr result (λ why. why ≡ LabFault.Memory) }
+{
+    'fill: for _place in list.len()..to as usize {
+        add(list, number)?;
+    }
+    Ok(())
+}
+
+/// Of the first steps of one node, how many steps of another would be left, were each taken back: as far as the events have gone.
+#[derive(Drop)]
+pub(crate) struct LeftOf {
+    node: NodeId,
+    count: u32,
+    list: Vec<u32>,
+}
+
+impl LeftOf {
+    ghost use Rattle.std.specs.Prelude.{◌≡◌, ◌<◌, ◌+◌, [], ◌^◌, OnOk, IfOk, IfErr};
+    ghost use Rattle.ga_race_detector.specs.kept.Left.{IsFilled, IsTaken};
+
+    /// Where there was no event.
+    pub(crate) fn none(alloc: Global, node: NodeId) -> Self
+        ensures node { result.node ≡ node }
+        ensures count { result.count ≡ 0 }
+        ensures list { result.list.items ≡ [] }
+    {
+        LeftOf {
+            node,
+            count: 0,
+            list: Vec::new(alloc),
+        }
+    }
+
+    /// Goes on by an event, which depends on so many of the steps.
+    ///
+    /// # Errors
+    /// `Memory` alone.
+    #[inline(always)]
+    pub(crate) fn take(&mut self, cause: &Cause, depth: u32) -> Result<(), LabFault>
+        requires { self.old.count + 1 < 2 ^ 32 }
+        ensures ok { OnOk result (IsTaken self.old self.new cause.now depth) }
+        ensures err { IfErr result (λ why. why ≡ LabFault.Memory) }
+    {
+        if !touches(cause.event, self.node) {
+            return Ok(());
+        }
+        fill(&mut self.list, depth, self.count)?;
+        self.count += 1;
+        Ok(())
+    }
+
+    /// The list where there are no more events, and so many steps.
+    ///
+    /// # Errors
+    /// `Memory` alone.
+    pub(crate) fn end(self, made: u32) -> Result<Vec<u32>, LabFault>
+        ensures ok { IfOk result (λ list. IsFilled self.list.items list.items made self.count) }
+        ensures err { IfErr result (λ why. why ≡ LabFault.Memory) }
+    {
+        let LeftOf { count, list, .. } = self;
+        let mut list = list;
+        fill(&mut list, made, count)?;
+        Ok(list)
+    }
+}
+
+/// Of each step of a node, how many steps of another would be left, were it taken back with all that depends on it. Takes memory for
+/// these, and time by the events.
+///
+/// # Errors
+/// `Memory` alone.
+pub(crate) fn steps_left(
+    alloc: Global,
+    causes: &[Cause],
+    node: NodeId,
+    other: NodeId,
+) -> Result<Vec<u32>, LabFault>
+    requires few { length causes.now < 2 ^ 32 }
+    ensures left { IfOk result (λ left. AreLeft causes.now node.number other.number left.items) }
+    ensures err { IfErr result (λ why. why ≡ LabFault.Memory) }
+{
+    let mut left = LeftOf::none(alloc, other);
+    let mut depths = Depths::none();
+    let mut made = 0u32;
+    'causes: for cause in causes {
+        let depth = depths.of(cause, node, made);
+        depths.put(cause, depth);
+        left.take(cause, depth)?;
+        made = with_step(made, cause, node);
+    }
+    left.end(made)
+}
+
+// The same of the neighbour on a side, where that is asked for; of no step else.
+fn steps_over(
+    alloc: Global,
+    causes: &[Cause],
+    node: NodeId,
+    side: Side,
+    is_asked: bool,
+) -> Result<Vec<u32>, LabFault>
+    requires few { length causes.now < 2 ^ 32 }
+    ensures left { IfOk result (λ left. (m : ℕ) → neighbour_of node.number side ≡ Some m → IsLeftBehind causes.now node.number m left.items) }
+    ensures err { IfErr result (λ why. why ≡ LabFault.Memory) }
+{
+    match neighbour(node, side) {
+        Some(other) if is_asked => steps_left(alloc, causes, node, other),
+        _ => Ok(Vec::new(alloc)),
+    }
+}
+
+/// Of some neighbours of a node, by their sides, how many steps would be left, were each step of the node taken back.
+#[derive(Drop)]
+pub(crate) struct LeftBeside {
+    right: Vec<u32>,
+    down: Vec<u32>,
+    left: Vec<u32>,
+    up: Vec<u32>,
+}
+
+impl LeftBeside {
+    ghost use Rattle.std.specs.Prelude.{◌≡◌, ◌<◌, ◌^◌, ℕ, List, length, Some, IfOk, IfErr, IfSome};
+    ghost use Rattle.ga_grid.specs.Grid.{neighbour_of};
+    ghost use Rattle.ga_event.specs.declared.event.Cause.{Cause};
+    ghost use Rattle.ga_causal.specs.Dependence.{rewound_list};
+    ghost use Rattle.ga_causal.specs.Steps.{touching};
+    ghost use Rattle.ga_race_detector.specs.kept.Left.{left_over, IsLeftBeside};
+
+    /// Those of the neighbours that ever waited to write to the node, if there are two. Takes memory for these, and time by the events
+    /// for each.
+    ///
+    /// # Errors
+    /// `Memory` alone.
+    pub(crate) fn of(
+        alloc: Global,
+        causes: &[Cause],
+        node: NodeId,
+        writers: &Writers,
+    ) -> Result<Self, LabFault>
+        requires few { length causes.now < 2 ^ 32 }
+        ensures left { IfOk result (λ beside. IsLeftBeside causes.now node.number beside) }
+        ensures err { IfErr result (λ why. why ≡ LabFault.Memory) }
+    {
+        let are_two = writers.are_two();
+        Ok(LeftBeside {
+            right: steps_over(
+                alloc,
+                causes,
+                node,
+                Side::Right,
+                are_two && writers.at(Side::Right),
+            )?,
+            down: steps_over(
+                alloc,
+                causes,
+                node,
+                Side::Down,
+                are_two && writers.at(Side::Down),
+            )?,
+            left: steps_over(
+                alloc,
+                causes,
+                node,
+                Side::Left,
+                are_two && writers.at(Side::Left),
+            )?,
+            up: steps_over(
+                alloc,
+                causes,
+                node,
+                Side::Up,
+                are_two && writers.at(Side::Up),
+            )?,
+        })
+    }
+
+    // The list of a side.
+    fn over(&self, side: Side) -> &[u32]
+        ensures { result.now ≡ left_over self.now side }
+    {
+        match side {
+            Side::Right => self.right.as_slice(),
+            Side::Down => self.down.as_slice(),
+            Side::Left => self.left.as_slice(),
+            Side::Up => self.up.as_slice(),
+        }
+    }
+
+    /// How many steps of the neighbour on the side would be left, were the step taken back, where it is known.
+    pub(crate) fn at(&self, side: Side, step: u32) -> Option<u32>
+        requires { 0 < step }
+        ensures { IfSome result (λ many. (causes : List Cause) (n m : ℕ) → IsLeftBeside causes n self.now → neighbour_of n side ≡ Some m →
+            many ≡ touching m (rewound_list causes n step)) }
+    {
+        let list = self.over(side);
+        let place = (step - 1) as usize;
+        if place < list.len() {
+            Some(list[place])
+        } else {
+            None
+        }
+    }
+}

@@ -1,0 +1,75 @@
+//! What was before each of the kept events.
+
+ghost use Rattle.std.specs.Prelude.{◌≡◌, ◌<◌, length, slice_index_or, IfOk, IfErr};
+ghost use Rattle.ga_race_detector.specs.kept.Acts.{first_part, last_part, no_moment};
+
+use crate::adding::add;
+use ga_event::Event;
+use ga_grid::NodeId;
+use ga_lab::LabFault;
+use ga_word::Word18;
+use std::alloc::Global;
+
+/// Of an event how many steps its nodes had made before it, and what it reads in `io` if it looks.
+#[derive(Clone, Copy, PartialEq, Eq, Debug)]
+pub(crate) struct Moment {
+    /// The steps of its node, of a pass those of the writer.
+    pub(crate) first: u32,
+    /// The same, of a pass those of the reader.
+    pub(crate) last: u32,
+    /// The word that it reads; 0 where it doesn't look.
+    pub(crate) word: Word18,
+}
+
+/// The node of an event, of a pass its writer.
+pub(crate) fn first_part(event: Event) -> NodeId
+    ensures { result ≡ first_part event }
+{
+    match event {
+        Event::Own(node) => node,
+        Event::Pass { writer, .. } => writer,
+    }
+}
+
+/// The same, of a pass its reader.
+pub(crate) fn last_part(event: Event) -> NodeId
+    ensures { result ≡ last_part event }
+{
+    match event {
+        Event::Own(node) => node,
+        Event::Pass { reader, .. } => reader,
+    }
+}
+
+/// The moment of an event.
+pub(crate) fn moment_at(moments: &[Moment], place: usize) -> Moment
+    requires { place < length moments.now }
+    ensures { result ≡ slice_index_or moments.now place no_moment }
+{
+    moments[place]
+}
+
+/// A moment for each event, with nothing known yet.
+///
+/// # Errors
+/// `Memory` alone.
+pub(crate) fn no_moments(alloc: Global, many: usize) -> Result<Vec<Moment>, LabFault>
+    ensures size { IfOk result (λ list. length list.items ≡ many) }
+    ensures err { IfErr result (λ why. why ≡ LabFault.Memory) }
+{
+    let mut list = match Vec::with_capacity(alloc, many) {
+        Ok(list) => list,
+        Err(_) => return Err(LabFault::Memory),
+    };
+    'many: for _place in 0..many {
+        add(
+            &mut list,
+            Moment {
+                first: 0,
+                last: 0,
+                word: Word18::truncated(0),
+            },
+        )?;
+    }
+    Ok(list)
+}

@@ -1,0 +1,389 @@
+//! Steps that could have come out otherwise.
+
+ghost use Rattle.std.specs.Prelude.{◌≡◌, ◌<◌, ◌^◌, length, ◌++◌, [], ℕ, true, false, is_none, Some, IfSome, IfOk, OnOk, IfErr};
+ghost use Rattle.ga_grid.specs.Chip.{records_of};
+ghost use Rattle.ga_lab.specs.Machine.{State, chip_of, causes_of, stands};
+ghost use Rattle.std.specs.List.{All};
+ghost use Rattle.ga_race_detector.specs.Readings.{IsTold, NoneMissed};
+ghost use Rattle.ga_race_detector.specs.kept.Besides.{IsBeside};
+ghost use Rattle.ga_race_detector.specs.Races.{race_from, races_over, races_around, races_told, races_of, races_below, races_asked, has_look, looks_next, has_next_look, has_looks, first_ready};
+
+use crate::adding::add;
+use crate::left::LeftBeside;
+use crate::offers::{offered, offered_behind};
+use crate::readings::{Reading, find_readings};
+use crate::writers::{Writers, may_come, writers_of};
+use ga_event::{Cause, next_event};
+use ga_grid::{Chip, NodeId, neighbour};
+use ga_lab::{Lab, LabFault, Made};
+use ga_ports::Side;
+use ga_word::Word18;
+use std::alloc::Global;
+
+/// A step by which a node took a word, and another word that it could have taken: taken back, it leaves the other neighbour waiting
+/// to write to the node, and a step of that one makes the other pass.
+#[derive(Clone, Copy, PartialEq, Eq, Debug)]
+pub struct Race {
+    /// The node.
+    pub reader: NodeId,
+    /// Its step.
+    pub step: u32,
+    /// Who wrote the word that it took.
+    pub writer: NodeId,
+    /// That word.
+    pub word: Word18,
+    /// Who would write it another.
+    pub other: NodeId,
+    /// The other word.
+    pub offered: Word18,
+}
+
+/// The steps of a session that could have come out otherwise, and what bears on whether these are all.
+#[derive(Debug, Drop)]
+pub struct Races {
+    /// In the order of the nodes' numbers, of a node in that of its steps, of a step in the order right, down, left, up.
+    pub list: Vec<Race>,
+    /// The looks that could have read another word, in the order of whichever of the look and the change stands later.
+    pub readings: Vec<Reading>,
+    /// Whether a kept event looks, or one that comes next: then there may be others.
+    pub looks: bool,
+    /// Whether no node of the chip has an event.
+    pub quiet: bool,
+}
+
+// A step by which a node took a word.
+#[derive(Clone, Copy, PartialEq, Eq, Debug)]
+struct Taken {
+    reader: NodeId,
+    step: u32,
+    writer: NodeId,
+    word: Word18,
+}
+
+// Who ever waited to write to a node, and how many of their steps would be left, were each of its steps taken back.
+#[derive(Drop)]
+struct Besides {
+    writers: Writers,
+    left: LeftBeside,
+}
+
+// The same of the word that this neighbour would give, where that isn't the writer.
+fn add_from(
+    list: &mut Vec<Race>,
+    taken: &Taken,
+    other: NodeId,
+    offer: Option<u32>,
+) -> Result<(), LabFault>
+    requires { IfSome offer (λ word. word < 2 ^ 18) }
+    ensures ok { OnOk result (list.new.items ≡ list.old.items
+        ++ race_from taken.now.reader taken.now.step taken.now.writer taken.now.word (Some other.number) offer) }
+    ensures err { IfErr result (λ why. why ≡ LabFault.Memory) }
+{
+    match offer {
+        Some(offer) if other.number != taken.writer.number => add(
+            list,
+            Race {
+                reader: taken.reader,
+                step: taken.step,
+                writer: taken.writer,
+                word: taken.word,
+                other,
+                offered: Word18::truncated(offer),
+            },
+        ),
+        _ => Ok(()),
+    }
+}
+
+// The same over a side, where that isn't the writer's: over this nothing else came.
+#[tactic(auto, using(crate::proofs::Racing::own_side))]
+fn add_over(
+    list: &mut Vec<Race>,
+    lab: &mut Lab,
+    beside: &Besides,
+    taken: &Taken,
+    side: Side,
+) -> Result<(), LabFault>
+    requires beside { IsBeside lab.old taken.now.reader.number beside.now }
+    requires stands { stands lab.old taken.now.reader.number taken.now.step ≡ true }
+    ensures ok { OnOk result (list.new.items ≡ list.old.items
+        ++ races_over lab.old taken.now.reader taken.now.step taken.now.writer taken.now.word side) }
+    ensures err { IfErr result (λ why. why ≡ LabFault.Memory) }
+    ensures same { lab.new ≡ lab.old }
+{
+    if !may_come(lab, &beside.writers, taken.reader, taken.step, side) {
+        return Ok(());
+    }
+    match neighbour(taken.reader, side) {
+        Some(other) => {
+            if other.number == taken.writer.number {
+                return Ok(());
+            }
+            match beside.left.at(side, taken.step) {
+                Some(many) => {
+                    let offer = offered_behind(
+                        lab,
+                        (taken.reader, taken.step),
+                        side,
+                        (other, many),
+                    );
+                    add_from(list, taken, other, offer)
+                }
+                None => match offered(lab, taken.reader, taken.step, side) {
+                    Ok(offer) => add_from(list, taken, other, offer),
+                    Err(_) => Ok(()),
+                },
+            }
+        }
+        None => Ok(()),
+    }
+}
+
+// The same over all sides.
+fn add_around(
+    list: &mut Vec<Race>,
+    lab: &mut Lab,
+    beside: &Besides,
+    taken: &Taken,
+) -> Result<(), LabFault>
+    requires beside { IsBeside lab.old taken.now.reader.number beside.now }
+    requires stands { stands lab.old taken.now.reader.number taken.now.step ≡ true }
+    ensures ok { OnOk result (list.new.items ≡ list.old.items
+        ++ races_around lab.old taken.now.reader taken.now.step taken.now.writer taken.now.word) }
+    ensures err { IfErr result (λ why. why ≡ LabFault.Memory) }
+    ensures same { lab.new ≡ lab.old }
+{
+    add_over(list, lab, beside, taken, Side::Right)?;
+    add_over(list, lab, beside, taken, Side::Down)?;
+    add_over(list, lab, beside, taken, Side::Left)?;
+    add_over(list, lab, beside, taken, Side::Up)?;
+    Ok(())
+}
+
+// Adds the races of a step of the node of which this is told.
+fn add_told(
+    list: &mut Vec<Race>,
+    lab: &mut Lab,
+    beside: &Besides,
+    node: NodeId,
+    step: u32,
+    made: &Made,
+) -> Result<(), LabFault>
+    requires beside { IsBeside lab.old node.number beside.now }
+    requires stands { stands lab.old node.number step ≡ true }
+    ensures ok { OnOk result (list.new.items ≡ list.old.items ++ races_told lab.old node step (Some made.now)) }
+    ensures err { IfErr result (λ why. why ≡ LabFault.Memory) }
+    ensures same { lab.new ≡ lab.old }
+{
+    match made {
+        Made::Pass {
+            writer,
+            reader,
+            word,
+            ..
+        } if reader.number == node.number => {
+            let taken = Taken {
+                reader: node,
+                step,
+                writer: *writer,
+                word: *word,
+            };
+            add_around(list, lab, beside, &taken)
+        }
+        _ => Ok(()),
+    }
+}
+
+// Whether by this step the node took a word: else it has no race.
+fn takes(made: &Made, node: NodeId) -> bool
+    ensures { result ≡ false → (s : State) (step : ℕ) → races_told s node step (Some made.now) ≡ [] }
+{
+    match made {
+        Made::Pass { reader, .. } => reader.number == node.number,
+        _ => false,
+    }
+}
+
+// Whether the node took a word by some step.
+fn takes_some(lab: &Lab, node: NodeId) -> bool
+    ensures { result ≡ false → races_of lab.now node ≡ [] }
+{
+    let steps = lab.steps(node);
+    'steps: for place in 0..steps {
+        match lab.told(node, place) {
+            Some(made) => {
+                if takes(&made, node) {
+                    return true;
+                }
+            }
+            None => return true,
+        }
+    }
+    false
+}
+
+// Who ever waited to write to the node, and how many of their steps would be left, were each of its steps taken back.
+fn besides_of(alloc: Global, lab: &Lab, causes: &[Cause], node: NodeId) -> Result<Besides, LabFault>
+    requires all { causes.now ≡ causes_of lab.now }
+    requires few { length causes.now < 2 ^ 32 }
+    ensures ok { IfOk result (λ beside. IsBeside lab.now node.number beside) }
+    ensures err { IfErr result (λ why. why ≡ LabFault.Memory) }
+{
+    let writers = writers_of(lab, node);
+    let left = LeftBeside::of(alloc, causes, node, &writers)?;
+    Ok(Besides { writers, left })
+}
+
+// Adds the races of a node.
+fn add_node(
+    alloc: Global,
+    list: &mut Vec<Race>,
+    lab: &mut Lab,
+    causes: &[Cause],
+    node: NodeId,
+) -> Result<(), LabFault>
+    requires all { causes.now ≡ causes_of lab.old }
+    requires few { length causes.now < 2 ^ 32 }
+    ensures ok { OnOk result (list.new.items ≡ list.old.items ++ races_of lab.old node) }
+    ensures err { IfErr result (λ why. why ≡ LabFault.Memory) }
+    ensures same { lab.new ≡ lab.old }
+{
+    if !takes_some(lab, node) {
+        return Ok(());
+    }
+    let steps = lab.steps(node);
+    let beside = besides_of(alloc, lab, causes, node)?;
+    'steps: for place in 0..steps {
+        match lab.told(node, place) {
+            Some(made) => add_told(list, lab, &beside, node, place + 1, &made)?,
+            None => return Ok(()),
+        }
+    }
+    Ok(())
+}
+
+// The races of all nodes.
+fn add_nodes(
+    alloc: Global,
+    list: &mut Vec<Race>,
+    lab: &mut Lab,
+    causes: &[Cause],
+) -> Result<(), LabFault>
+    requires all { causes.now ≡ causes_of lab.old }
+    requires few { length causes.now < 2 ^ 32 }
+    ensures ok { OnOk result (list.new.items ≡ list.old.items ++ races_below lab.old 144) }
+    ensures err { IfErr result (λ why. why ≡ LabFault.Memory) }
+    ensures same { lab.new ≡ lab.old }
+{
+    'nodes: for number in 0..144u8 {
+        add_node(alloc, list, lab, causes, NodeId::new(number))?;
+    }
+    Ok(())
+}
+
+// Whether one of these events looks.
+fn has_look(causes: &[Cause]) -> bool
+    ensures { result ≡ has_look causes.now }
+{
+    'causes: for cause in causes {
+        if cause.look {
+            return true;
+        }
+    }
+    false
+}
+
+// Whether the next event of the node is one of its own that looks.
+fn looks_next(chip: &Chip, node: NodeId) -> bool
+    ensures { result ≡ looks_next (records_of chip.now) node.number }
+{
+    let at = chip.node(node);
+    at.not_ready().is_none() && at.looks()
+}
+
+// Whether that of a node does.
+fn has_next_look(chip: &Chip) -> bool
+    ensures { result ≡ has_next_look (records_of chip.now) 144 }
+{
+    let mut looks = false;
+    'nodes: for number in 0..144u8 {
+        looks = looks_next(chip, NodeId::new(number)) || looks;
+    }
+    looks
+}
+
+// Whether no node has an event.
+fn is_quiet(chip: &Chip) -> bool
+    ensures { result ≡ is_none (first_ready (records_of chip.now)) }
+{
+    'nodes: for number in 0..144u8 {
+        if next_event(chip, NodeId::new(number)).is_ok() {
+            return false;
+        }
+    }
+    true
+}
+
+// The kept events in order.
+fn kept_causes(lab: &Lab) -> Result<Vec<Cause>, LabFault>
+    ensures ok { IfOk result (λ list. list.items ≡ causes_of lab.now) }
+    ensures few { IfOk result (λ list. length list.items < 2 ^ 32) }
+    ensures err { IfErr result (λ why. why ≡ LabFault.Memory) }
+{
+    let kept = lab.counts().kept;
+    prove!(kept <= u32::MAX);
+    match lab.causes() {
+        Ok(list) => Ok(list),
+        Err(why) => Err(why),
+    }
+}
+
+// The steps of a node, or of all, by which it took a word where another neighbour could have given it one.
+fn find_taken(
+    alloc: Global,
+    lab: &mut Lab,
+    causes: &[Cause],
+    only: Option<NodeId>,
+) -> Result<Vec<Race>, LabFault>
+    requires all { causes.now ≡ causes_of lab.old }
+    requires few { length causes.now < 2 ^ 32 }
+    ensures list { IfOk result (λ list. list.items ≡ races_asked lab.old only) }
+    ensures err { IfErr result (λ why. why ≡ LabFault.Memory) }
+    ensures same { lab.new ≡ lab.old }
+{
+    let mut list = Vec::new(alloc);
+    match only {
+        Some(node) => add_node(alloc, &mut list, lab, causes, node)?,
+        None => add_nodes(alloc, &mut list, lab, causes)?,
+    }
+    Ok(list)
+}
+
+/// The steps of a node, or of all, by which it took a word where another neighbour could have given it one. Nothing is taken back.
+/// Takes memory for the list, and for a while for a list of all kept events and four numbers for each step of a node; and time by these
+/// events, and again by these for each neighbour of a node that ever waited to write to it, where there are two. Where events look, also
+/// memory for some numbers of each event and five of each step of a node, and time by the events for each node that looks and again for
+/// each of its neighbours.
+///
+/// # Errors
+/// `Memory` alone.
+pub fn find_races(alloc: Global, lab: &mut Lab, only: Option<NodeId>) -> Result<Races, LabFault>
+    ensures list { IfOk result (λ races. races.list.items ≡ races_asked lab.old only) }
+    ensures readings { IfOk result (λ races. All (IsTold lab.old only) races.readings.items) }
+    ensures none_missed { IfOk result (λ races. NoneMissed lab.old only races.readings.items) }
+    ensures looks { IfOk result (λ races. races.looks ≡ has_looks (causes_of lab.old) (chip_of lab.old)) }
+    ensures quiet { IfOk result (λ races. races.quiet ≡ is_none (first_ready (chip_of lab.old))) }
+    ensures err { IfErr result (λ why. why ≡ LabFault.Memory) }
+    ensures same { lab.new ≡ lab.old }
+{
+    let causes = kept_causes(lab)?;
+    let list = find_taken(alloc, lab, causes.as_slice(), only)?;
+    let looks = has_look(causes.as_slice());
+    let readings = find_readings(alloc, lab, causes.as_slice(), looks, only)?;
+    Ok(Races {
+        list,
+        readings,
+        looks: looks || has_next_look(lab.chip()),
+        quiet: is_quiet(lab.chip()),
+    })
+}

@@ -1,0 +1,306 @@
+//! Looks that could have read another word.
+
+ghost use Rattle.std.specs.Prelude.{◌≡◌, ◌<◌, ◌+◌, ◌^◌, ℕ, List, length, take, Contains, Some, IsSome, IfSome, IfOk, OnOk, IfErr, None, slice_index_or};
+ghost use Rattle.std.specs.List.{All};
+ghost use Rattle.ga_grid.specs.Grid.{neighbour_of};
+ghost use Rattle.ga_grid.specs.Chip.{record_at};
+ghost use Rattle.ga_event.specs.Apply.{shows, beside_in, seen_from};
+ghost use Rattle.ga_event.specs.Told.{steps_of};
+ghost use Rattle.ga_event.specs.declared.event.Cause.{Cause};
+ghost use Rattle.ga_races.specs.declared.near.Near.{Near};
+ghost use Rattle.ga_lab.specs.Machine.{chip_of, causes_of, earlier, rewound};
+ghost use Rattle.ga_race_detector.specs.declared.glances.Glance.{Glance};
+ghost use Rattle.ga_race_detector.specs.Races.{has_look};
+ghost use Rattle.ga_race_detector.specs.Readings.{IsOtherwise, IsTold, NoneMissed};
+ghost use Rattle.ga_race_detector.specs.kept.Readings.{IsAtNear};
+ghost use Rattle.ga_race_detector.specs.kept.Around.{IsAround, AreAround};
+ghost use Rattle.ga_race_detector.specs.kept.Glances.{taken_of, IsGlance, IsGlanced, IsAroundOf, HasStep, AreKnown, IsOtherWord, AreRead};
+
+use crate::acts::{acts_of, shown_by};
+use crate::adding::add;
+use crate::around::{Around, LeftAround};
+use crate::glances::{Glance, glance_at, glances_of};
+use ga_event::{Cause, is_reading, is_writing};
+use ga_grid::{NodeId, neighbour};
+use ga_lab::{Lab, LabFault, Made};
+use ga_node::{Beside, Place, Seen, Wait};
+use ga_ports::Side;
+use ga_races::find_near;
+use ga_word::Word18;
+use std::alloc::Global;
+
+/// A look of a node, and another word that it could have read: where the one step is taken back, the node looks again, and reads this.
+#[derive(Clone, Copy, PartialEq, Eq, Debug)]
+pub struct Reading {
+    /// The node.
+    pub node: NodeId,
+    /// Its step.
+    pub step: u32,
+    /// The word that it read in `io`.
+    pub word: Word18,
+    /// A neighbour, which changed what it shows to the node.
+    pub neighbour: NodeId,
+    /// The step by which it did so.
+    pub change: u32,
+    /// Whether the look came before the change. Then the look is taken back, else the change.
+    pub early: bool,
+    /// The other word.
+    pub other: Word18,
+}
+
+// What a node that waits so shows on a side.
+fn shows(wait: &Wait, side: Side) -> Beside
+    ensures { result ≡ shows wait.now side }
+{
+    if is_reading(wait, side) {
+        Beside::Reading
+    } else if is_writing(wait, side) {
+        Beside::Writing
+    } else {
+        Beside::Idle
+    }
+}
+
+// What a node showed on a side when it had made so many steps, of which the next wrote over its wait, if that is kept.
+fn shown_before(lab: &Lab, node: NodeId, steps: u32, side: Side) -> Beside
+    ensures { (place : ℕ) → steps_of node.number (take place lab.now.kept) ≡ steps →
+        result ≡ shows (record_at (chip_of (earlier lab.now place)) node.number).wait side }
+{
+    let now = lab.node(node);
+    match lab.overwritten(node, steps, Place::Wait) {
+        Some(code) => shown_by(code, side),
+        None => match lab.peek(node, steps) {
+            Some(then) => shows(&then.wait(), side),
+            None => shows(&now.wait(), side),
+        },
+    }
+}
+
+// The same of any steps: a node whose next step is its own waits for nothing.
+fn shown_at(lab: &Lab, node: NodeId, steps: u32, side: Side) -> Beside
+    ensures { (place : ℕ) → steps_of node.number (take place lab.now.kept) ≡ steps →
+        result ≡ shows (record_at (chip_of (earlier lab.now place)) node.number).wait side }
+{
+    let now = lab.node(node);
+    let _many = lab.steps(node);
+    match lab.told(node, steps) {
+        Some(Made::Own { .. }) => Beside::Idle,
+        Some(Made::Pass { .. }) => shown_before(lab, node, steps, side),
+        None => shows(&now.wait(), side),
+    }
+}
+
+// What would stand on a side of the node where so many steps of each neighbour were left.
+fn beside_behind(lab: &Lab, around: &Around, node: NodeId, side: Side) -> Beside
+    ensures { (b k : ℕ) → IsAround (causes_of lab.now) b k node.number around.now →
+        result ≡ beside_in (chip_of (rewound lab.now b k)) side (neighbour_of node.number side) }
+{
+    let _stands = lab.node(node);
+    match neighbour(node, side) {
+        Some(other) => shown_at(lab, other, around.over(side), side),
+        None => Beside::Nobody,
+    }
+}
+
+// What would stand on each of its sides.
+#[tactic(auto, unfolding(ga_event::specs::Apply::seen_from))]
+fn seen_behind(lab: &Lab, around: &Around, node: NodeId) -> Seen
+    ensures { (b k : ℕ) → IsAround (causes_of lab.now) b k node.number around.now →
+        result ≡ seen_from (chip_of (rewound lab.now b k)) node.number }
+{
+    Seen {
+        right: beside_behind(lab, around, node, Side::Right),
+        down: beside_behind(lab, around, node, Side::Down),
+        left: beside_behind(lab, around, node, Side::Left),
+        up: beside_behind(lab, around, node, Side::Up),
+    }
+}
+
+// The word that a look would read, were its step or the change taken back, if all steps of its node before it would be left: then it
+// comes next.
+fn other_word(lab: &Lab, glance: &Glance, around: &Around) -> Option<Word18>
+    requires glance { (near : Near) × IsGlance lab.now near glance.now }
+    requires around { IsAroundOf (causes_of lab.now) glance.now around.now }
+    ensures is { IfSome result (λ word. IsOtherWord lab.now glance.now word) }
+    ensures some { steps_of glance.now.node.number (rewound lab.now (taken_of glance.now).0.number (taken_of glance.now).1).kept + 1 ≡ glance.now.step →
+        IsSome result }
+{
+    let _stands = lab.node(glance.node);
+    if around.node >= glance.step || glance.step - around.node != 1 {
+        return None;
+    }
+    Some(seen_behind(lab, around, glance.node).io_word())
+}
+
+// A look and a change, as they are told, if the look reads another word.
+fn reading_of(lab: &Lab, glance: &Glance, around: &Around) -> Option<Reading>
+    requires glance { (near : Near) × IsGlance lab.now near glance.now }
+    requires around { IsAroundOf (causes_of lab.now) glance.now around.now }
+    ensures told { IfSome result (λ reading. IsOtherwise lab.now reading) }
+    ensures node { IfSome result (λ reading. reading.node ≡ glance.now.node) }
+    ensures found { (near : Near) (reading : Reading) → IsGlance lab.now near glance.now → IsOtherwise lab.now reading →
+        IsAtNear lab.now near reading → result ≡ Some reading }
+{
+    let _stands = lab.node(glance.node);
+    let other = other_word(lab, glance, around)?;
+    if other.get() == glance.word.get() {
+        return None;
+    }
+    Some(Reading {
+        node: glance.node,
+        step: glance.step,
+        word: glance.word,
+        neighbour: glance.neighbour,
+        change: glance.change,
+        early: glance.early,
+        other,
+    })
+}
+
+// Adds that of a look and a change, where it is told.
+fn add_reading(
+    list: &mut Vec<Reading>,
+    lab: &Lab,
+    glance: &Glance,
+    around: &Around,
+    only: Option<NodeId>,
+) -> Result<(), LabFault>
+    requires glance { IsGlanced lab.now only glance.now }
+    requires around { IsAroundOf (causes_of lab.now) glance.now around.now }
+    requires told { All (IsTold lab.now only) list.old.items }
+    ensures told { OnOk result (All (IsTold lab.now only) list.new.items) }
+    ensures kept { OnOk result ((reading : Reading) → Contains list.old.items reading → Contains list.new.items reading) }
+    ensures found { OnOk result ((near : Near) (reading : Reading) → IsGlance lab.now near glance.now → IsTold lab.now only reading →
+        IsAtNear lab.now near reading → Contains list.new.items reading) }
+    ensures err { IfErr result (λ why. why ≡ LabFault.Memory) }
+{
+    match reading_of(lab, glance, around) {
+        Some(reading) => add(list, reading),
+        None => Ok(()),
+    }
+}
+
+// Of so many looks, nothing yet.
+fn none_known(alloc: Global, many: usize) -> Result<Vec<Option<Around>>, LabFault>
+    ensures size { IfOk result (λ known. length known.items ≡ many) }
+    ensures none { IfOk result (λ known. All (λ around. around ≡ None) known.items) }
+    ensures err { IfErr result (λ why. why ≡ LabFault.Memory) }
+{
+    let mut known = match Vec::with_capacity(alloc, many) {
+        Ok(known) => known,
+        Err(_) => return Err(LabFault::Memory),
+    };
+    'many: for _place in 0..many {
+        add(&mut known, None)?;
+    }
+    Ok(known)
+}
+
+// Notes how many steps around a look would be left, where it hangs together with the one of which these lists are.
+fn note(known: &mut Vec<Option<Around>>, lists: &LeftAround, of: &Glance, other: &Glance, at: usize)
+    requires within { at < length known.old.items }
+    requires first { 0 < (taken_of other.now).1 }
+    ensures size { length known.new.items ≡ length known.old.items }
+    ensures known { (causes : List Cause) (glances : List Glance) → AreAround causes (taken_of of.now).0.number of.now.node.number lists.now →
+        HasStep causes other.now → at < length glances → other.now ≡ slice_index_or glances at other.now →
+        AreKnown causes glances known.old.items → AreKnown causes glances known.new.items }
+{
+    if other.hangs_with(of) {
+        let step = other.taken().1;
+        let around = lists.at(step);
+        known[at] = Some(around);
+    }
+}
+
+// How many steps around a look would be left. Where that isn't known yet, it becomes known for all from its place on that hang together
+// with it, by passes over the events for all of these.
+fn around_of(
+    alloc: Global,
+    causes: &[Cause],
+    glances: &[Glance],
+    known: &mut Vec<Option<Around>>,
+    place: usize,
+) -> Result<Around, LabFault>
+    requires few { length causes.now < 2 ^ 32 }
+    requires steps { All (HasStep causes.now) glances.now }
+    requires within { place < length glances.now }
+    requires size { length known.old.items ≡ length glances.now }
+    requires known { AreKnown causes.now glances.now known.old.items }
+    ensures around { IfOk result (λ around. (glance : Glance) → glance ≡ slice_index_or glances.now place glance → IsAroundOf causes.now glance around) }
+    ensures size { OnOk result (length known.new.items ≡ length glances.now) }
+    ensures known { OnOk result (AreKnown causes.now glances.now known.new.items) }
+    ensures err { IfErr result (λ why. why ≡ LabFault.Memory) }
+{
+    if let Some(around) = known[place] {
+        return Ok(around);
+    }
+    let of = glance_at(glances, place);
+    let taken = of.taken();
+    let lists = LeftAround::of(alloc, causes, taken.0, of.node)?;
+    'others: for at in place..glances.len() {
+        let other = glance_at(glances, at);
+        note(known, &lists, &of, &other, at);
+    }
+    Ok(lists.at(taken.1))
+}
+
+// The readings of some looks and changes, in order.
+fn readings_of(
+    alloc: Global,
+    lab: &Lab,
+    causes: &[Cause],
+    glances: &[Glance],
+    only: Option<NodeId>,
+) -> Result<Vec<Reading>, LabFault>
+    requires all { causes.now ≡ causes_of lab.now }
+    requires few { length causes.now < 2 ^ 32 }
+    requires glances { All (IsGlanced lab.now only) glances.now }
+    ensures told { IfOk result (λ list. All (IsTold lab.now only) list.items) }
+    ensures found { IfOk result (λ list. AreRead lab.now only glances.now list.items) }
+    ensures err { IfErr result (λ why. why ≡ LabFault.Memory) }
+{
+    let _stands = lab.node(NodeId::new(0));
+    let mut known = none_known(alloc, glances.len())?;
+    let mut list = Vec::new(alloc);
+    'glances: for place in 0..glances.len() {
+        let glance = glance_at(glances, place);
+        let around = around_of(alloc, causes, glances, &mut known, place)?;
+        add_reading(&mut list, lab, &glance, &around, only)?;
+    }
+    Ok(list)
+}
+
+/// The looks of a node, or of all, that could have read another word: each with a change that stands before or behind it, with nothing
+/// between that would keep their order. Nothing is taken back. Takes memory for a while for a list of all kept events and for some
+/// numbers of each, and time by these; and again by these, and by what is told, for each node that looks and each of its neighbours
+/// that changes what it shows to that. Where none of the events looks there is none, and nothing is done.
+///
+/// # Errors
+/// `Memory` alone.
+pub(crate) fn find_readings(
+    alloc: Global,
+    lab: &Lab,
+    causes: &[Cause],
+    looks: bool,
+    only: Option<NodeId>,
+) -> Result<Vec<Reading>, LabFault>
+    requires all { causes.now ≡ causes_of lab.now }
+    requires few { length causes.now < 2 ^ 32 }
+    requires looks { looks ≡ has_look causes.now }
+    ensures told { IfOk result (λ list. All (IsTold lab.now only) list.items) }
+    ensures found { IfOk result (λ list. NoneMissed lab.now only list.items) }
+    ensures err { IfErr result (λ why. why ≡ LabFault.Memory) }
+{
+    if !looks {
+        return Ok(Vec::new(alloc));
+    }
+    let _stands = lab.node(NodeId::new(0));
+    let acts = acts_of(alloc, lab, causes)?;
+    let nears = match find_near(alloc, acts.list.as_slice()) {
+        Ok(nears) => nears,
+        Err(_) => return Err(LabFault::Memory),
+    };
+    let events = (causes, acts.moments.as_slice());
+    let glances = glances_of(alloc, lab, events, nears.as_slice(), only)?;
+    readings_of(alloc, lab, causes, glances.as_slice(), only)
+}

@@ -1,0 +1,134 @@
+//! Which neighbours of a node ever waited to write to it: no other can give it a word, whatever is taken back.
+
+ghost use Rattle.std.specs.Prelude.{◌≡◌, ◌+◌, ◌<◌, ℕ, true, false, Some, None};
+ghost use Rattle.ga_node.specs.Waits.{wait_of, IsWaitCode};
+ghost use Rattle.ga_event.specs.Apply.{reads_from};
+ghost use Rattle.ga_grid.specs.Chip.{record_at};
+ghost use Rattle.ga_event.specs.Told.{steps_of};
+ghost use Rattle.ga_grid.specs.Grid.{neighbour_of};
+ghost use Rattle.ga_lab.specs.Machine.{chip_of, rewound, stands};
+ghost use Rattle.ga_race_detector.specs.Offered.{offered};
+ghost use Rattle.ga_race_detector.specs.kept.Writers.{at_side, NeverOffers, AreSilent};
+
+use ga_event::{is_reading, is_writing};
+use ga_grid::{NodeId, neighbour};
+use ga_lab::Lab;
+use ga_node::Place;
+use ga_ports::{PortSet, Side};
+
+/// A flag for each side of a node.
+#[derive(Clone, Copy, PartialEq, Eq, Debug)]
+pub(crate) struct Writers {
+    right: bool,
+    down: bool,
+    left: bool,
+    up: bool,
+}
+
+impl Writers {
+    /// Whether two sides have a flag.
+    pub(crate) fn are_two(&self) -> bool {
+        (self.right && (self.down || self.left || self.up))
+            || (self.down && (self.left || self.up))
+            || (self.left && self.up)
+    }
+
+    /// The flag of a side.
+    pub(crate) fn at(&self, side: Side) -> bool
+        ensures { result ≡ at_side self.now side }
+    {
+        match side {
+            Side::Right => self.right,
+            Side::Down => self.down,
+            Side::Left => self.left,
+            Side::Up => self.up,
+        }
+    }
+}
+
+// Whether the node waits to write over the side, or did at load or behind some of its kept steps.
+fn has_written(lab: &Lab, node: NodeId, side: Side) -> bool
+    ensures { result ≡ false → (n k : ℕ) → neighbour_of n side ≡ Some node.number → offered (chip_of (rewound lab.now n k)) n side ≡ None }
+{
+    let _stands = lab.node(node);
+    let mut walk = lab.walk(node, lab.steps(node));
+    let mut waits = is_writing(&walk.node().wait(), side);
+    'back: while !waits && walk.step() > 0 {
+        walk.back();
+        waits = is_writing(&walk.node().wait(), side);
+    }
+    waits
+}
+
+// The same of the neighbour on that side.
+fn is_written(lab: &Lab, node: NodeId, side: Side) -> bool
+    ensures { result ≡ false → NeverOffers lab.now node.number side }
+{
+    match neighbour(node, side) {
+        Some(other) => has_written(lab, other, side),
+        None => false,
+    }
+}
+
+/// On which sides of the node a neighbour ever waited to write to it, at load or behind some of its kept steps: over no other side is a
+/// word offered to it, whatever is taken back. Takes no memory, and time by the steps of the neighbours that never did.
+pub(crate) fn writers_of(lab: &Lab, node: NodeId) -> Writers
+    ensures { AreSilent lab.now node.number result }
+{
+    Writers {
+        right: is_written(lab, node, Side::Right),
+        down: is_written(lab, node, Side::Down),
+        left: is_written(lab, node, Side::Left),
+        up: is_written(lab, node, Side::Up),
+    }
+}
+
+/// Whether a node whose wait has this number waits to read a set that has the side.
+pub(crate) fn reads_by(code: u32, side: Side) -> bool
+    requires { IsWaitCode code }
+    ensures { result ≡ reads_from (wait_of code) side }
+{
+    if code == 0 || code >= 48 {
+        return false;
+    }
+    let sides = if code < 32 { code - 16 } else { code - 32 };
+    PortSet::of(sides as u8).has(side)
+}
+
+// Whether the node waited to read over the side right before its step, by a copy of the node walked back.
+fn read_then(lab: &Lab, node: NodeId, step: u32, side: Side) -> bool
+    requires { stands lab.now node.number step ≡ true }
+    ensures { result ≡ reads_from (record_at (chip_of (rewound lab.now node.number step)) node.number).wait side }
+{
+    let _stands = lab.node(node);
+    match lab.peek(node, step - 1) {
+        Some(then) => is_reading(&then.wait(), side),
+        None => false,
+    }
+}
+
+// The same, by what is kept of the step.
+fn reads_before(lab: &Lab, node: NodeId, step: u32, side: Side) -> bool
+    requires { stands lab.now node.number step ≡ true }
+    ensures { result ≡ reads_from (record_at (chip_of (rewound lab.now node.number step)) node.number).wait side }
+{
+    let _stands = lab.node(node);
+    match lab.overwritten(node, step - 1, Place::Wait) {
+        Some(code) => reads_by(code, side),
+        None => read_then(lab, node, step, side),
+    }
+}
+
+/// Whether a word may be offered to the node over the side, were its step taken back, which none is where this is false: the neighbour
+/// ever waited to write there, and the node waited for a word there right before the step.
+pub(crate) fn may_come(lab: &Lab, writers: &Writers, node: NodeId, step: u32, side: Side) -> bool
+    requires silent { AreSilent lab.now node.number writers.now }
+    requires stands { stands lab.now node.number step ≡ true }
+    ensures none { result ≡ false → offered (chip_of (rewound lab.now node.number step)) node.number side ≡ None }
+    ensures reads { result ≡ true → reads_from (record_at (chip_of (rewound lab.now node.number step)) node.number).wait side ≡ true }
+{
+    if !writers.at(side) {
+        return false;
+    }
+    reads_before(lab, node, step, side)
+}

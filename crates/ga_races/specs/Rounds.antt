@@ -1,0 +1,32 @@
+-- Rounds: events of a node's own that leave it as it was. A node makes them where it asks again and again whether a neighbour waits for
+-- it (F18A Technology Reference DB001, "io": the bits of the neighbours' reads and writes), and where it computes for ever.
+use Rattle.std.specs.Prelude.{◌≡◌, ℕ, false, not, List, ◌++◌, Some, All}
+use Rattle.std.specs.List.{filter}
+use Rattle.ga_node.specs.Record.{NodeRecord}
+use Rattle.ga_grid.specs.Chip.{record_at}
+use Rattle.ga_event.specs.declared.event.Event.{Event}
+use Rattle.ga_event.specs.declared.event.Event.TheVariants.{Own, Pass}
+use Rattle.ga_event.specs.Touches.{touches}
+use Rattle.ga_event.specs.Apply.{replay}
+use Rattle.ga_event.specs.Told.{steps_of}
+
+-- no word comes to the node or goes from it
+abbrev pub PassesBy : ℕ → Event → Type 0
+PassesBy n (Own a) = Unit {0}
+PassesBy n (Pass w r side) = touches (Pass w r side) n ≡ false
+
+-- the events that don't touch the node
+abbrev pub events_without : ℕ → List Event → List Event
+events_without n events = filter (λ e. not (touches e n)) events
+
+-- On the chip, what the node makes in the list is its own, and leaves it as it was. What other nodes make may stand between.
+pub record IsRound (chip : List NodeRecord) (n : ℕ) (events : List Event) : Type 0 where
+  pub last : List NodeRecord
+  pub led : replay chip events ≡ Some last
+  pub own : All (PassesBy n) events
+  pub back : record_at last n ≡ record_at chip n
+
+-- no node makes a round in the list
+abbrev pub HasNoRound : List NodeRecord → List Event → Type 0
+HasNoRound chip events = (before round later : List Event) (now : List NodeRecord) (n : ℕ) → events ≡ before ++ round ++ later
+    → replay chip before ≡ Some now → IsRound now n round → steps_of n round ≡ 0

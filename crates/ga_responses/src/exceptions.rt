@@ -1,0 +1,51 @@
+//! Why a node can't go on.
+
+ghost use Rattle.std.specs.Prelude.{◌≡◌, IfOk};
+ghost use Rattle.serde_json.specs.View.{view};
+ghost use Rattle.ga_responses.specs.Exceptions.{exception_filter, exception_object, exception_of};
+
+use ga_adapter::named_doing;
+use ga_grid::NodeId;
+use ga_lab::Lab;
+use serde_json::{Value, json};
+use std::alloc::{AllocError, Global};
+
+fn filter_of(stop: u8, stuck: bool) -> &'static str
+    ensures { result.now ≡ exception_filter stop stuck }
+{
+    if stop != 0 {
+        "stop"
+    } else if stuck {
+        "stuck"
+    } else {
+        "none"
+    }
+}
+
+#[tactic(auto, unfolding(crate::specs::Exceptions::exception_object))]
+fn described(alloc: Global, id: &str, description: &str) -> Result<Value, AllocError>
+    ensures { IfOk result (λ v. view v ≡ exception_object id.now description.now) }
+{
+    json!(in alloc; {"breakMode": "always", "description": description, "exceptionId": id})
+}
+
+/// The body of the response to `exceptionInfo` (Debug Adapter Protocol, "ExceptionInfoRequest"): the filter by which the node is told,
+/// `none` where neither holds, and what it does. `stuck` says whether it can never go on. Takes memory for the response.
+///
+/// # Errors
+/// Memory was refused.
+pub fn exception_info(
+    alloc: Global,
+    lab: &Lab,
+    stuck: bool,
+    node: NodeId,
+) -> Result<Value, AllocError>
+    ensures { IfOk result (λ v. view v ≡ exception_of lab.now stuck node.number) }
+{
+    let description = named_doing(alloc, "node ", lab, node)?;
+    described(
+        alloc,
+        filter_of(lab.node(node).stop(), stuck),
+        description.as_str(),
+    )
+}

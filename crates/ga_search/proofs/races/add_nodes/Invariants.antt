@@ -1,9 +1,0 @@
-use Rattle.std.proofs.Common.{◌≡◌, ◌++◌}
-use Rattle.ga_search.specs.Races.{races_below}
-use Rattle.ga_search.proofs.races.add_nodes.Given as goal
-
-abbrev pub invariant-nodes : goal.invariant-nodes
-invariant-nodes l = record {
-  same : l.lab ≡ l.fn.lab;
-  told : l.list.items ≡ l.fn.list.items ++ races_below l.fn.lab l.number;
-}

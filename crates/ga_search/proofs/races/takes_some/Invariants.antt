@@ -1,6 +1,0 @@
-use Rattle.std.proofs.Common.{◌≡◌, []}
-use Rattle.ga_search.specs.Races.{races_before}
-use Rattle.ga_search.proofs.races.takes_some.Given as goal
-
-abbrev pub invariant-steps : goal.invariant-steps
-invariant-steps l = [] ≡ races_before l.lab l.node l.place

@@ -1,9 +1,0 @@
-use Rattle.std.proofs.Common.{◌≡◌, length}
-use Rattle.ga_search.specs.kept.Glances.{AreKnown}
-use Rattle.ga_search.proofs.readings.learn.Given as goal
-
-abbrev pub invariant-others : goal.invariant-others
-invariant-others l = record {
-  size : length l.known.items ≡ length l.glances;
-  known : AreKnown l.causes l.glances l.known.items;
-}

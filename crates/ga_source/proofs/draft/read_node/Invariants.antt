@@ -1,8 +1,0 @@
-use Rattle.std.proofs.Common.{◌≡◌, drop}
-use Rattle.ga_source.specs.Asking.{asked_from, asked_by_words}
-use Rattle.ga_source.specs.kept.Drafting.{asking_of}
-use Rattle.ga_source.specs.Saying.{all_said}
-use Rattle.ga_source.proofs.draft.read_node.Given as goal
-
-abbrev pub invariant-loop-i : goal.invariant-loop-i
-invariant-loop-i l = asked_from (asking_of l.draft) l.last (all_said (drop l.i l.tokens)) ≡ asked_by_words l.fn.line (all_said l.tokens)

@@ -1,7 +1,0 @@
-use Rattle.std.proofs.Common.{◌≡◌, drop}
-use Rattle.ga_source.specs.Numbers.{by_name}
-use Rattle.ga_source.specs.Vocabulary.{own_names}
-use Rattle.ga_source.proofs.vocabulary.own_name.Given as goal
-
-abbrev pub invariant-loop-code : goal.invariant-loop-code
-invariant-loop-code l = by_name (drop l.code own_names) l.text ≡ by_name own_names l.text
