@@ -86,6 +86,7 @@ fn without_nodes(alone: &[bool; 144], item: PictureItem) -> PictureItem
 }
 
 /// The event at a place.
+#[inline(always)]
 pub(crate) fn item_at(facts: Facts<'_>, view: View, place: usize) -> PictureItem
     requires within { place < length facts.events.now }
     requires shades { length facts.shades.now ≡ length facts.events.now }
