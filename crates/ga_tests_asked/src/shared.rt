@@ -39,6 +39,18 @@ fn two_lists(alloc: Global) -> Result<Vec<Vec<Call>>, Fail>
     Ok(lists)
 }
 
+/// 120 steps of node N for each worker N of 16.
+fn sixteen_lists(alloc: Global) -> Result<Vec<Vec<Call>>, Fail>
+    ensures { IfOk result (λ lists. (vec_len lists ≡ 16) × All (λ l. vec_len l < 2 ^ 32) lists.items) }
+{
+    let mut lists = Vec::new(alloc);
+    for worker in 0..16u8 {
+        let calls = [Call::Step(NodeId::new(worker)); 120];
+        lists.push(calls.as_slice().to_vec(alloc)?)?;
+    }
+    Ok(lists)
+}
+
 /// How many calls are in the log, and how many events the lab keeps and has made.
 fn counts(rt: &impl Abort, closed: &Closed, calls: usize, kept: u32, made: u64) {
     same(rt, &closed.log.len(), &calls);

@@ -1,18 +1,18 @@
 //! What a gate is told of the calls of a race.
 
-use super::raced;
+use super::{linked, raced, sixteen_lists};
 use crate::asserts::same;
-use ga_shared::{Closed, Gate};
+use ga_shared::{Closed, Gate, race};
 use std::process::Abort;
 use std::sync::atomic::{AtomicBool, AtomicU32, Ordering};
 use std::test::Fail;
 use std::thread;
 
-/// Counts what each of two workers tells: 2k behind call k, and 2k - 1 before its answer. Notes any other order.
+/// Counts what the first and the last of 16 workers tell: 2k behind call k, and 2k - 1 before its answer. Notes any other order.
 #[derive(Drop)]
 struct Told {
     first: AtomicU32,
-    second: AtomicU32,
+    last: AtomicU32,
     has_failed: AtomicBool,
 }
 
@@ -20,7 +20,8 @@ impl Told {
     fn tell(&self, worker: u32, call: u32, is_after: bool) {
         let told = match worker {
             0 => &self.first,
-            _ => &self.second,
+            15 => &self.last,
+            _ => return,
         };
         let was = told.load(Ordering::SeqCst);
         let is_due = if is_after {
@@ -49,13 +50,14 @@ impl Gate for Told {
 fn gates_are_told_of_each_call(rt: HostRuntime) -> Result<(), Fail> {
     let gate = Told {
         first: AtomicU32::new(0),
-        second: AtomicU32::new(0),
+        last: AtomicU32::new(0),
         has_failed: AtomicBool::new(false),
     };
-    let _closed = raced(&rt, &gate)?;
+    let alloc = rt.alloc();
+    let _closed = race(&rt, alloc, linked(alloc)?, 1000000, sixteen_lists(alloc)?, &gate)?;
     assert!(rt; !gate.has_failed.load(Ordering::SeqCst));
-    same(&rt, &gate.first.load(Ordering::SeqCst), &8);
-    same(&rt, &gate.second.load(Ordering::SeqCst), &8);
+    same(&rt, &gate.first.load(Ordering::SeqCst), &240);
+    same(&rt, &gate.last.load(Ordering::SeqCst), &240);
     Ok(())
 }
 
