@@ -54,7 +54,14 @@ fn gates_are_told_of_each_call(rt: HostRuntime) -> Result<(), Fail> {
         has_failed: AtomicBool::new(false),
     };
     let alloc = rt.alloc();
-    let _closed = race(&rt, alloc, linked(alloc)?, 1000000, sixteen_lists(alloc)?, &gate)?;
+    let _closed = race(
+        &rt,
+        alloc,
+        linked(alloc)?,
+        1000000,
+        sixteen_lists(alloc)?,
+        &gate,
+    )?;
     assert!(rt; !gate.has_failed.load(Ordering::SeqCst));
     same(&rt, &gate.first.load(Ordering::SeqCst), &240);
     same(&rt, &gate.last.load(Ordering::SeqCst), &240);
