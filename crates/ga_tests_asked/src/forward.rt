@@ -52,10 +52,11 @@ fn is_moved(went: Went) -> bool {
     }
 }
 
-fn is_hit(went: Went) -> bool {
+/// The place of the breakpoint by which a move ended.
+fn hit_by(went: Went) -> Option<usize> {
     match went.halt {
-        Halt::Hit { which, .. } => which == 0,
-        _ => false,
+        Halt::Hit { which, .. } => Some(which),
+        _ => None,
     }
 }
 
@@ -133,7 +134,7 @@ fn slices_stop_at_a_breakpoint(rt: HostRuntime) -> Result<(), Fail> {
     same(&rt, &slice.halt, &Halt::Cut);
     let hit = go_on(&mut lab, slice.schedule, halts, 100);
     same(&rt, &hit.events, &3);
-    same(&rt, &is_hit(hit), &true);
+    same(&rt, &hit_by(hit), &Some(0));
     let again = go_on(&mut lab, hit.schedule, halts, 100);
     same(&rt, &again.events, &18);
     Ok(())
@@ -192,10 +193,10 @@ fn a_store_is_stopped_at(rt: HostRuntime) -> Result<(), Fail> {
     // The node stands at address 0 when loaded, and comes there by its first fetch.
     let first = go_on(&mut lab, Schedule::greedily(), halts, 100);
     same(&rt, &first.events, &1);
-    same(&rt, &is_hit(first), &true);
+    same(&rt, &hit_by(first), &Some(1));
     let hit = go_on(&mut lab, first.schedule, halts, 100);
     same(&rt, &hit.events, &6);
-    same(&rt, &is_hit(hit), &true);
+    same(&rt, &hit_by(hit), &Some(0));
     same(&rt, &lab.memory(node, 9).get(), &7);
     Ok(())
 }
