@@ -19,3 +19,6 @@ pub mod Asking
 pub mod Shown
 pub mod Likeness
 pub mod Rounds
+pub mod Rows
+pub mod Decided
+pub mod Briefest

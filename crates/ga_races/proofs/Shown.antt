@@ -21,6 +21,7 @@ use Rattle.ga_races.specs.Orders.{CanBe}
 use Rattle.ga_races.specs.HappensBefore.{action_of}
 use Rattle.ga_races.specs.Acts.{side_leads_to, shown_by}
 use Rattle.ga_races.specs.kept.Changed.{shown_as, is_changed, HasChangedSides}
+use Rattle.ga_races.specs.kept.Rows.{changed_at}
 use Rattle.ga_races.proofs.Frees.{stays}
 use Rattle.ga_races.proofs.Reaching.{or4_cases, or4_from}
 use Rattle.ga_races.proofs.Rivals.{number_of as number_is}
@@ -106,10 +107,6 @@ same_bits r d l u x y z w a b c e f g h i q =
 
 -- ---- what stands on a side
 
-abbrev changed_at : List NodeRecord → List NodeRecord → Side → Option ℕ → Bool
-changed_at c d side None = false
-changed_at c d side (Some k) = is_changed (record_at c k).wait (record_at d k).wait side
-
 not_false : (b : Bool) → not b ≡ false → b ≡ true
 not_false true h = refl
 not_false false h = absurd (both_ways false refl (sym h))
@@ -171,6 +168,34 @@ module _ (c d : List NodeRecord) (n : ℕ) where
     | inr ne ↦ ap not (ne_eqb (io_word (seen_from d n)) (io_word (seen_from c n)) ne) ∙ sym (true_from_ne_false (changed_some c d n) (λ f. ne (all_same f)))
   ]
 
+-- where the word is the same, nothing changes on a side
+pub side_same : (c d : List NodeRecord) (n : ℕ) (side : Side) → io_word (seen_from d n) ≡ io_word (seen_from c n) → changed_at c d side (neighbour_of n side) ≡ false
+unfolding changed_some
+side_same c d n side q = go side
+  where
+    all : (changed_at c d Right (neighbour_of n Right) || (changed_at c d Down (neighbour_of n Down) || (changed_at c d Left (neighbour_of n Left) || changed_at c d Up (neighbour_of n Up)))) ≡ false
+    all = same_all c d n q
+
+    below : (changed_at c d Down (neighbour_of n Down) || (changed_at c d Left (neighbour_of n Left) || changed_at c d Up (neighbour_of n Up))) ≡ false
+    below = (or_parts (changed_at c d Right (neighbour_of n Right)) (changed_at c d Down (neighbour_of n Down) || (changed_at c d Left (neighbour_of n Left) || changed_at c d Up (neighbour_of n Up))) all).1
+
+    last : (changed_at c d Left (neighbour_of n Left) || changed_at c d Up (neighbour_of n Up)) ≡ false
+    last = (or_parts (changed_at c d Down (neighbour_of n Down)) (changed_at c d Left (neighbour_of n Left) || changed_at c d Up (neighbour_of n Up)) below).1
+
+    go : (side : Side) → changed_at c d side (neighbour_of n side) ≡ false
+    go Right = (or_parts (changed_at c d Right (neighbour_of n Right)) (changed_at c d Down (neighbour_of n Down) || (changed_at c d Left (neighbour_of n Left) || changed_at c d Up (neighbour_of n Up))) all).0
+    go Down = (or_parts (changed_at c d Down (neighbour_of n Down)) (changed_at c d Left (neighbour_of n Left) || changed_at c d Up (neighbour_of n Up)) below).0
+    go Left = (or_parts (changed_at c d Left (neighbour_of n Left)) (changed_at c d Up (neighbour_of n Up)) last).0
+    go Up = (or_parts (changed_at c d Left (neighbour_of n Left)) (changed_at c d Up (neighbour_of n Up)) last).1
+
+-- and where nothing does, it is the same
+pub sides_same : (c d : List NodeRecord) (n : ℕ) → ((side : Side) → changed_at c d side (neighbour_of n side) ≡ false) → io_word (seen_from d n) ≡ io_word (seen_from c n)
+unfolding changed_some
+sides_same c d n none = all_same c d n
+    (or_from (changed_at c d Right (neighbour_of n Right)) (changed_at c d Down (neighbour_of n Down) || (changed_at c d Left (neighbour_of n Left) || changed_at c d Up (neighbour_of n Up))) (none Right)
+    (or_from (changed_at c d Down (neighbour_of n Down)) (changed_at c d Left (neighbour_of n Left) || changed_at c d Up (neighbour_of n Up)) (none Down)
+    (or_from (changed_at c d Left (neighbour_of n Left)) (changed_at c d Up (neighbour_of n Up)) (none Left) (none Up))))
+
 -- ---- the sides of the nodes of an event
 
 alike : (x y : Bool) → (x ≡ true → y ≡ true) → (y ≡ true → x ≡ true) → x ≡ y
@@ -193,7 +218,7 @@ link_back m n side k l =
 abbrev of_node : List NodeRecord → List NodeRecord → ℕ → ℕ → Side → Bool
 of_node c d m n side = is_changed (record_at c m).wait (record_at d m).wait side && is_number (neighbour_of m side) n
 
-unchanged : (c d : List NodeRecord) (k : ℕ) (side : Side) → record_at c k ≡ record_at d k → is_changed (record_at c k).wait (record_at d k).wait side ≡ false
+pub unchanged : (c d : List NodeRecord) (k : ℕ) (side : Side) → record_at c k ≡ record_at d k → is_changed (record_at c k).wait (record_at d k).wait side ≡ false
 unchanged c d k side same =
     ap (λ (z : NodeRecord). is_changed (record_at c k).wait z.wait side) (sym same) ∙ ap not (eq-eqb (shown_as (shows (record_at c k).wait side)) (shown_as (shows (record_at c k).wait side)) refl)
 

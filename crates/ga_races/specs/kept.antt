@@ -2,3 +2,4 @@ pub mod Marked
 pub mod Reached
 pub mod Asked
 pub mod Changed
+pub mod Rows
