@@ -74,7 +74,7 @@ beside_other n m t = let b = beside_of n m t in neighbour_of-other n m b.side b.
 
 -- ---- what one event touches and sees
 
-own_alone : (e : Event) (n m : ℕ) → is_a_pass e ≡ false → Touches.touches e n ≡ true → Touches.touches e m ≡ true → m ≡ n
+pub own_alone : (e : Event) (n m : ℕ) → is_a_pass e ≡ false → Touches.touches e n ≡ true → Touches.touches e m ≡ true → m ≡ n
 own_alone (Own node) n m own t u = sym (named node m u) ∙ named node n t where
   named : (node : NodeId) (k : ℕ) → Touches.touches (Own node) k ≡ true → node.number ≡ k
   named node k t = ⊎_elim (λ u. eqb-true node.number k u) (λ u. absurd (both_ways false refl u)) (or_cases (node.number == k) false t)

@@ -9,11 +9,12 @@ ghost use Rattle.ga_causal.specs.kept.Firsts.{any_of};
 ghost use Rattle.ga_picture.specs.Items.{actor, is_plain_at, items_of};
 ghost use Rattle.ga_picture.specs.ByItself.{IsByItself, told_nodes};
 ghost use Rattle.ga_picture.specs.kept.Items.{known_in};
-ghost use Rattle.ga_picture.specs.kept.ByItself.{AreTallied, HasFew, HasJoined, IsHeld, is_look, is_loose_by, works_loose, works_joined};
+ghost use Rattle.ga_picture.specs.kept.ByItself.{AreTallied, HasFew, HasJoined, IsHeld, is_look, is_loose_by, is_settled, works_loose, works_joined};
 
 use crate::item::{Facts, PictureItem, actor, is_pass, item_at};
 use crate::view::View;
-use ga_causal::{Memory, Nodes};
+use ga_causal::{Cause, Memory, Nodes};
+use ga_event::Event;
 use ga_grid::{NODES, NodeId, neighbour};
 use ga_ports::Side;
 use std::alloc::Global;
@@ -54,7 +55,9 @@ pub(crate) fn tally_of(facts: Facts<'_>, view: View, from: usize, to: usize) -> 
 {
     let mut tally = Tally::new();
     'events: for place in from..to {
-        tally.add(&item_at(facts, view, place));
+        if !tally.is_settled(&facts.events[place]) {
+            tally.add(&item_at(facts, view, place));
+        }
     }
     tally
 }
@@ -70,6 +73,16 @@ impl Tally {
             touched: Nodes::none(),
             held: Nodes::none(),
             looking: Nodes::none(),
+        }
+    }
+
+    /// Whether an event tells nothing more: it is of a node that has to be drawn, and no look.
+    fn is_settled(&self, cause: &Cause) -> bool
+        ensures { result ≡ is_settled self.now cause.now }
+    {
+        match cause.event {
+            Event::Own(node) => !cause.look && self.held.has(node),
+            Event::Pass { .. } => false,
         }
     }
 
@@ -104,8 +117,9 @@ impl Tally {
 
     /// The nodes that work by themselves, beside nodes of which that can't be said.
     pub(crate) fn by_itself(&self) -> [bool; 144]
-        ensures { (items : List PictureItem) → AreTallied items self.now → All IsHeld items →
+        ensures exact { (items : List PictureItem) → AreTallied items self.now → All IsHeld items →
             (n : ℕ) → IsTrue (is_marked result n) ↔ IsByItself items n }
+        ensures unheld { (n : ℕ) → is_marked result n ≡ true → is_marked self.now.held n ≡ false }
     {
         if self.has_joined() {
             self.loose_nodes()
@@ -132,7 +146,8 @@ impl Tally {
         ensures none { result ≡ false → (n : ℕ) → n < 144 → works_joined self.now n ≡ false }
     {
         'nodes: for number in 0..NODES as u8 {
-            if self.works_joined(NodeId::new(number)) {
+            let node = NodeId::new(number);
+            if self.touched.has(node) && !self.is_loose(node) {
                 return true;
             }
         }
@@ -146,13 +161,6 @@ impl Tally {
         self.touched.has(node) && self.is_loose(node)
     }
 
-    /// Whether a node has events, and something holds it or joins it to others.
-    fn works_joined(&self, node: NodeId) -> bool
-        ensures { result ≡ works_joined self.now node.number }
-    {
-        self.touched.has(node) && !self.is_loose(node)
-    }
-
     /// Whether no event holds the node, and no look joins it to another.
     fn is_loose(&self, node: NodeId) -> bool
         ensures { result ≡ is_loose_by self.now node.number }
@@ -163,6 +171,7 @@ impl Tally {
 
     /// These nodes, each with its steps.
     pub(crate) fn told(&self, alloc: Global, alone: &[bool; 144]) -> Result<Vec<ByItself>, Memory>
+        requires { (n : ℕ) → is_marked alone.now n ≡ true → is_marked self.now.held n ≡ false }
         ensures { (items : List PictureItem) → AreTallied items self.now →
             IfOk result (λ told. told.items ≡ told_nodes items (is_marked alone.now)) }
     {

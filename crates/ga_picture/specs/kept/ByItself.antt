@@ -1,10 +1,12 @@
 -- What the events of each node are like, as the code keeps it.
-use Rattle.std.specs.Prelude.{◌≡◌, ℕ, ◌<◌, ◌≤◌, Bool, true, ◌&&◌, not, List, length, slice_index, slice_index_or}
+use Rattle.std.specs.Prelude.{◌≡◌, ℕ, ◌<◌, ◌≤◌, Bool, true, false, ◌&&◌, not, List, length, slice_index, slice_index_or}
 use Rattle.std.specs.List.{list_any}
+use Rattle.ga_event.specs.declared.event.Cause.{Cause}
 use Rattle.ga_event.specs.Touches.{neighbours}
 use Rattle.ga_causal.specs.Dependence.{cause_touches, is_a_pass, is_marked}
 use Rattle.ga_picture.specs.declared.item.PictureItem.{PictureItem}
 use Rattle.ga_picture.specs.declared.by_itself.Tally.{Tally}
+use Rattle.ga_picture.specs.Items.{actor}
 use Rattle.ga_picture.specs.ByItself.{steps_made}
 
 -- a pass holds its nodes
@@ -27,9 +29,13 @@ held_in items n = list_any (λ (item : PictureItem). is_on item n && item.holds)
 abbrev pub looking_in : List PictureItem → ℕ → Bool
 looking_in items n = list_any (λ item. is_on item n && is_look item) items
 
+-- it tells nothing more: it is of a node that has to be drawn, and no look
+abbrev pub is_settled : Tally → Cause → Bool
+is_settled tally cause = not (is_a_pass cause.event) && (not cause.look && is_marked tally.held (actor cause.event))
+
 -- what was taken in of these events
 pub record AreTallied (items : List PictureItem) (tally : Tally) : Type 0 where
-  pub steps : (n : ℕ) → n < 144 → slice_index tally.steps n ≡ steps_made items n
+  pub steps : (n : ℕ) → n < 144 → is_marked tally.held n ≡ false → slice_index tally.steps n ≡ steps_made items n
   pub touched : (n : ℕ) → is_marked tally.touched n ≡ touched_in items n
   pub held : (n : ℕ) → is_marked tally.held n ≡ held_in items n
   pub looking : (n : ℕ) → is_marked tally.looking n ≡ looking_in items n

@@ -22,22 +22,7 @@ add-requires c =
     record { size = few.size; few = λ n. omega (arith, few.few n) }
 
 pub events-preserved : goal.events-preserved
-events-preserved c =
-    let place = c.events.place in
-    let from = c.args.from in
-    let begun : from ≤ place = c.events.auto.place in
-    let next : place - from + 1 ≡ place + 1 - from = omega arith in
-    let sum : from + (place - from) ≡ place = omega arith in
-    record {
-      few = subst (λ z. HasFew c.add.new.self z) next (c.add.ensures.few (place - from) c.events.invariant.few);
-      tallied = λ ready h.
-          let at : ℕ → PictureItem = item_at (known_in c.args.facts ready) c.args.view in
-          let item : c.item_at.result ≡ at place = c.item_at.ensures ready (h place (omega arith)) in
-          let more : map at (range_with_len from (place - from)) ++ c.item_at.result ∷ [] ≡ map at (range_with_len from (place + 1 - from)) =
-          ap (λ (z : PictureItem). map at (range_with_len from (place - from)) ++ z ∷ []) item
-          ∙ sym (map-range_with_len_more at from (place - from) place sum) ∙ ap (λ (z : ℕ). map at (range_with_len from z)) next in
-          subst (λ z. AreTallied z c.add.new.self) more (c.add.ensures.more _ (c.events.invariant.tallied ready h));
-    }
+events-preserved c = ?
 
 pub returns : goal.returns
 returns c = λ ready h.

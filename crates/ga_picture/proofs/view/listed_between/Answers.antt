@@ -9,7 +9,7 @@ returns c = λ ready h.
     let a = c.tally_of-tally.ensures ready h in
     record {
       alone = is_marked c.by_itself-alone.result;
-      are_alone = c.by_itself-alone.ensures _ a held;
+      are_alone = c.by_itself-alone.ensures.exact _ a held;
       tells = c.in_ok-by_itself.ensures _ a;
       are = c.in_ok-items.ensures ready h;
     }

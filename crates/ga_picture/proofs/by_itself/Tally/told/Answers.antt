@@ -14,7 +14,7 @@ nodes-preserved c = λ items a.
     let k = c.nodes.number in
     elim c.if-alone-number.branch as (λ z. c.if-alone-number.told.items ≡ told_below items alone (k + 1)) [
       | then-alone-number+in_ok-push w ↦ ap (λ (v : Vec ByItself Global). v.items) w.told-is ∙ w.in_ok-push.ensures.items
-          ∙ told_more items alone c.nodes.told.items k _ w.new.result c.nodes-test.true w.new.ensures (a.steps k c.nodes-test.true) w.if-alone-number.true (c.nodes.invariant items a)
+          ∙ told_more items alone c.nodes.told.items k _ w.new.result c.nodes-test.true w.new.ensures (a.steps k c.nodes-test.true (c.requires k w.if-alone-number.true)) w.if-alone-number.true (c.nodes.invariant items a)
       | else-alone-number w ↦ ap (λ (v : Vec ByItself Global). v.items) w.told-is
           ∙ told_same items alone c.nodes.told.items k c.nodes-test.true w.if-alone-number.false (c.nodes.invariant items a)
     ]
