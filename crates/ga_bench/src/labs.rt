@@ -19,30 +19,19 @@ pub fn adding(alloc: Global, nodes: u8) -> Option<Lab> {
     Lab::new(alloc, chip, u32::MAX).ok()
 }
 
-/// Makes so many steps of the first nodes in turn, and counts those that were made.
+/// Makes so many steps of the first nodes in turn, by the call that is inlined or by the other, and counts those that were made.
 #[inline(never)]
-fn steps(lab: &mut Lab, nodes: u8, count: u32) -> u32 {
+fn steps<const IS_INLINED: bool>(lab: &mut Lab, nodes: u8, count: u32) -> u32 {
     let mut made = 0u32;
     let mut number = 0u8;
     for _ in 0..count {
-        if lab.step(NodeId::new(number % 144)).is_ok() {
-            made = made.wrapping_add(1);
-        }
-        number = number.wrapping_add(1);
-        if number >= nodes {
-            number = 0;
-        }
-    }
-    made
-}
-
-/// The same by the call that has none of its own in this loop.
-#[inline(never)]
-fn steps_inlined(lab: &mut Lab, nodes: u8, count: u32) -> u32 {
-    let mut made = 0u32;
-    let mut number = 0u8;
-    for _ in 0..count {
-        if lab.step_inlined(NodeId::new(number % 144)).is_ok() {
+        let node = NodeId::new(number % 144);
+        let step = if IS_INLINED {
+            lab.step_inlined(node)
+        } else {
+            lab.step(node)
+        };
+        if step.is_ok() {
             made = made.wrapping_add(1);
         }
         number = number.wrapping_add(1);
@@ -83,8 +72,8 @@ pub fn time_act(
 ) -> io::Result<(u128, u32)> {
     let start = Instant::now(rt)?;
     let made = match act {
-        Act::Step => steps(lab, nodes, count),
-        Act::StepInlined => steps_inlined(lab, nodes, count),
+        Act::Step => steps::<false>(lab, nodes, count),
+        Act::StepInlined => steps::<true>(lab, nodes, count),
         Act::Undo => undos(lab, count),
     };
     Ok((start.elapsed(rt)?.as_nanos(), made))

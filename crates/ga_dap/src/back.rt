@@ -5,7 +5,7 @@ ghost use Rattle.ga_dap.specs.Going.{StepsBack, Reverses, reason_behind};
 ghost use Rattle.ga_dap.specs.kept.Carrying.{Carries};
 ghost use Rattle.ga_responses.specs.Sending.{refused_response};
 
-use crate::changes::tell_back_twice;
+use crate::changes::{Change, tell_twice};
 use crate::unanswered::Unanswered;
 use ga_grid::NodeId;
 use ga_protocol::{ClientRequest, Outbox};
@@ -38,7 +38,8 @@ pub(crate) fn step_back(
     };
     let before = shown_nodes(&program.lab, program.nodes.as_slice());
     let gone = step_node_back(program, node, &request.arguments);
-    tell_back_twice(alloc, program, &before, request, &gone, "step", out)
+    let change = Change::Back(request, &gone, "step");
+    tell_twice(alloc, program, &before, change, out)
 }
 
 /// Why a node stands that has gone back so far.
@@ -72,5 +73,6 @@ pub(crate) fn reverse(
     let before = shown_nodes(&program.lab, program.nodes.as_slice());
     let gone = reverse_node(program, node, watched.as_slice());
     let reason = reason_behind(program, node);
-    tell_back_twice(alloc, program, &before, request, &gone, reason, out)
+    let change = Change::Back(request, &gone, reason);
+    tell_twice(alloc, program, &before, change, out)
 }

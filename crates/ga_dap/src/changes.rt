@@ -7,7 +7,7 @@ ghost use Rattle.ga_requests.specs.Back.{gone_words};
 ghost use Rattle.ga_dap.specs.Evaluating.{AnswerTold};
 ghost use Rattle.ga_dap.specs.Launches.{output_told};
 ghost use Rattle.ga_dap.specs.Telling.{ThreadsChanged, StandsThen, StopTold, SliceTold, BackTold, CommandTold};
-ghost use Rattle.ga_dap.specs.kept.Carrying.{Carries};
+ghost use Rattle.ga_dap.specs.kept.Carrying.{Carries, ChangeTold};
 
 use crate::evaluating::text_body;
 use crate::unanswered::Unanswered;
@@ -74,29 +74,6 @@ fn tell_slice(
     tell_end(alloc, program, stop, out)
 }
 
-/// Tells of a slice of a run.
-pub(crate) fn tell_slice_twice(
-    alloc: Global,
-    program: &Debuggee,
-    before: &[bool; 144],
-    stop: Option<StopReason>,
-    out: &mut Outbox,
-) -> Result<(), Unanswered>
-    requires { out.old.bytes ≡ [] }
-    ensures { Carries result (λ messages. SliceTold (is_marked before.now) program.now stop messages) ⊥ out.old out.new }
-{
-    let seq = out.seq();
-    match tell_slice(alloc, program, before, stop, out) {
-        Ok(()) => return Ok(()),
-        Err(_) => {}
-    }
-    out.take_back(seq);
-    match tell_slice(alloc, program, before, stop, out) {
-        Ok(()) => Ok(()),
-        Err(_) => Err(Unanswered::Untold),
-    }
-}
-
 /// Tells in the console what went.
 fn tell_gone(
     alloc: Global,
@@ -124,31 +101,6 @@ fn tell_back(
     out.acknowledge(request)?;
     tell_gone(alloc, program, gone, out)?;
     tell_standing(alloc, program, before, reason, "gone back", gone.node, out)
-}
-
-/// Tells of a move back, for which a request asked.
-pub(crate) fn tell_back_twice(
-    alloc: Global,
-    program: &Debuggee,
-    before: &[bool; 144],
-    request: &ClientRequest,
-    gone: &Gone,
-    reason: &str,
-    out: &mut Outbox,
-) -> Result<(), Unanswered>
-    requires { out.old.bytes ≡ [] }
-    ensures { Carries result (λ messages. BackTold (is_marked before.now) program.now request.now gone.now.node (gone_words gone.now.node gone.now.before gone.now.removed program.now.lab) reason.now messages) ⊥ out.old out.new }
-{
-    let seq = out.seq();
-    match tell_back(alloc, program, before, request, gone, reason, out) {
-        Ok(()) => return Ok(()),
-        Err(_) => {}
-    }
-    out.take_back(seq);
-    match tell_back(alloc, program, before, request, gone, reason, out) {
-        Ok(()) => Ok(()),
-        Err(_) => Err(Unanswered::Untold),
-    }
 }
 
 /// Tells of a command by which the machine moved, or not.
@@ -186,27 +138,55 @@ fn tell_command(
     tell_moved(alloc, program, before, moved, node, out)
 }
 
-/// Tells what was answered to a command of exploring.
-pub(crate) fn tell_command_twice(
+/// A change of the machine.
+#[derive(Clone, Copy)]
+pub(crate) enum Change<'a> {
+    /// A slice of a run, and why the run ended there, where it did.
+    Slice(Option<StopReason>),
+    /// A move back for which a request asked, and why the chip stands behind it.
+    Back(&'a ClientRequest, &'a Gone, &'a str),
+    /// A command of exploring: its request, the answer, whether the machine moved by it, and the node.
+    Command(&'a ClientRequest, &'a [u8], bool, NodeId),
+}
+
+fn tell(
     alloc: Global,
     program: &Debuggee,
     before: &[bool; 144],
-    request: &ClientRequest,
-    answer: &[u8],
-    moved: bool,
-    node: NodeId,
+    change: Change<'_>,
+    out: &mut Outbox,
+) -> Result<(), AllocError>
+    ensures { OnOk result ((messages : Messages) × ChangeTold (is_marked before.now) program.now change.entry messages × SendsAll out.old messages out.new) }
+{
+    match change {
+        Change::Slice(stop) => tell_slice(alloc, program, before, stop, out),
+        Change::Back(request, gone, reason) => {
+            tell_back(alloc, program, before, request, gone, reason, out)
+        }
+        Change::Command(request, answer, moved, node) => {
+            tell_command(alloc, program, before, request, answer, moved, node, out)
+        }
+    }
+}
+
+/// Tells of a change, and once more where memory was refused to it.
+pub(crate) fn tell_twice(
+    alloc: Global,
+    program: &Debuggee,
+    before: &[bool; 144],
+    change: Change<'_>,
     out: &mut Outbox,
 ) -> Result<(), Unanswered>
     requires { out.old.bytes ≡ [] }
-    ensures { Carries result (λ messages. AnswerTold request.now answer.now moved (is_marked before.now) program.now node messages) ⊥ out.old out.new }
+    ensures { Carries result (λ messages. ChangeTold (is_marked before.now) program.now change.entry messages) ⊥ out.old out.new }
 {
     let seq = out.seq();
-    match tell_command(alloc, program, before, request, answer, moved, node, out) {
+    match tell(alloc, program, before, change, out) {
         Ok(()) => return Ok(()),
         Err(_) => {}
     }
     out.take_back(seq);
-    match tell_command(alloc, program, before, request, answer, moved, node, out) {
+    match tell(alloc, program, before, change, out) {
         Ok(()) => Ok(()),
         Err(_) => Err(Unanswered::Untold),
     }

@@ -11,7 +11,7 @@ ghost use Rattle.ga_dap.specs.Telling.{has_moved};
 ghost use Rattle.ga_dap.specs.kept.Carrying.{Carries};
 
 use crate::back::refuse;
-use crate::changes::tell_command_twice;
+use crate::changes::{Change, tell_twice};
 use crate::evaluating::{command_text, node_meant, value_body};
 use crate::unanswered::Unanswered;
 use ga_adapter::{Variable, asked_variable};
@@ -74,16 +74,8 @@ fn obey(
     match command_text(alloc, program, line.as_bytes()) {
         Ok(Some(answer)) => {
             let moved = has_moved(counts, &program.lab);
-            tell_command_twice(
-                alloc,
-                program,
-                &before,
-                request,
-                answer.as_slice(),
-                moved,
-                node,
-                out,
-            )
+            let change = Change::Command(request, answer.as_slice(), moved, node);
+            tell_twice(alloc, program, &before, change, out)
         }
         Ok(None) => refuse(request, "evaluate: disconnect ends the session", out),
         Err(_) => {

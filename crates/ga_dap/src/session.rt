@@ -11,7 +11,7 @@ ghost use Rattle.ga_dap.specs.Launches.{Launches, event_alone};
 ghost use Rattle.ga_dap.specs.kept.Carrying.{Carries};
 
 use crate::back::{refuse, reverse, step_back};
-use crate::changes::tell_slice_twice;
+use crate::changes::{Change, tell_twice};
 use crate::console::evaluate;
 use crate::launching::launched_first;
 use crate::sources::ProgramFiles;
@@ -277,5 +277,5 @@ pub(crate) fn go_on_launched(
         &launched.settings,
         &mut launched.execution,
     );
-    tell_slice_twice(alloc, &launched.program, &before, stop, out)
+    tell_twice(alloc, &launched.program, &before, Change::Slice(stop), out)
 }

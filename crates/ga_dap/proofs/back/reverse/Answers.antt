@@ -16,7 +16,7 @@ pub returns : goal.returns
 returns c =
     let before = is_marked c.shown_nodes-before.result in
     let shown = shown_so c.args.program.now c.as_slice.result.now before c.as_slice.ensures.value c.shown_nodes-before.ensures.marks in
-    carries_so c.tell_back_twice.result _ _ _ _ _ _ c.tell_back_twice.ensures
+    carries_so c.tell_twice.result _ _ _ _ _ _ c.tell_twice.ensures
     (λ messages told. (
       Some c.in-Some.node,
       c.in-Some.ensures,

@@ -8,5 +8,5 @@ pub returns : goal.returns
 returns c =
     let before = is_marked c.shown_nodes-before.result in
     let shown = shown_so c.args.launched.now.program c.as_slice.result.now before c.as_slice.ensures.value c.shown_nodes-before.ensures.marks in
-    carries_so c.tell_slice_twice.result _ _ _ _ _ _ c.tell_slice_twice.ensures (λ messages told. (c.make_slice-stop.result, (c.make_slice-stop.ensures, refl, before, shown, told)))
+    carries_so c.tell_twice.result _ _ _ _ _ _ c.tell_twice.ensures (λ messages told. (c.make_slice-stop.result, (c.make_slice-stop.ensures, refl, before, shown, told)))
     (λ stays. absurd stays)
