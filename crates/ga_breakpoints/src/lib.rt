@@ -9,7 +9,6 @@ mod halts;
 mod hits;
 mod lines;
 mod moves;
-mod present;
 mod reversing;
 mod said;
 mod stepping;
