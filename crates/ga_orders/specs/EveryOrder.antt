@@ -1,7 +1,7 @@
 -- What `ga144 check` may write, and how it may end (docs/REFERENCE.md, "Every order"; this project's own). Orders are those of
 -- Mazurkiewicz, "Trace theory", 1987; each is run once, and no list of them is kept: Flanagan and Godefroid, "Dynamic partial-order
 -- reduction for model checking software", 2005.
-use Rattle.std.specs.Prelude.{◌≡◌, ℕ, nat_lt, ◌⊎◌, Bool, true, false, not, ◌&&◌, if◌then◌else◌, List, ◌++◌, Result, Ok, Err}
+use Rattle.std.specs.Prelude.{◌≡◌, ℕ, nat_lt, ◌⊎◌, Bool, true, false, not, ◌&&◌, ◌||◌, if◌then◌else◌, List, ◌++◌, Result, Ok, Err}
 use Rattle.std.specs.List.{list_any}
 use Rattle.ga_text.specs.Lines.{Bytes, Text}
 use Rattle.ga_event.specs.declared.event.Event.{Event}
