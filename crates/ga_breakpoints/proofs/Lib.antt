@@ -5,3 +5,4 @@ pub mod Following
 pub mod Cells
 pub mod Moving
 pub mod Reversals
+pub mod Tallies

@@ -7,6 +7,7 @@ mod condition;
 mod going;
 mod halts;
 mod hits;
+pub mod laws;
 mod lines;
 mod moves;
 mod reversing;
