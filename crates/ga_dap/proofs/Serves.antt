@@ -1,5 +1,5 @@
 -- Turns, one behind the other.
-use Rattle.std.proofs.Common.{◌≡◌, ◌∙◌, ℕ, suc, List, [], ◌++◌, Option, Some, refl, sym, ap, subst, inr}
+use Rattle.std.proofs.Common.{◌≡◌, ◌∙◌, ℕ, suc, [], ◌++◌, Option, Some, refl, sym, ap, inr}
 use Rattle.std.specs.Prelude.{false}
 use Rattle.std.proofs.lemmas.List.{append-nil}
 use Rattle.ga_text.specs.Lines.{Bytes}

@@ -1,5 +1,5 @@
 -- What a turn comes to, from what its parts come to.
-use Rattle.std.proofs.Common.{◌≡◌, ◌≢◌, ◌∙◌, ◌⊎◌, ℕ, List, [], ◌++◌, Bool, true, false, refl, sym, ap, subst, inl, inr, append_assoc}
+use Rattle.std.proofs.Common.{◌≡◌, ◌≢◌, ◌∙◌, [], ◌++◌, true, false, refl, sym, subst, inl, inr, append_assoc}
 use Rattle.ga_text.specs.Lines.{Bytes}
 use Rattle.ga_protocol.specs.Framing.{IsMessage}
 use Rattle.ga_protocol.specs.Messages.{HoldsNoRequest}
@@ -7,13 +7,13 @@ use Rattle.ga_protocol.specs.Sent.{SentMessages}
 use Rattle.ga_protocol.specs.declared.request.ClientRequest.{ClientRequest}
 use Rattle.ga_protocol.specs.declared.request.RequestError.{RequestError}
 use Rattle.ga_protocol.specs.declared.request.RequestError.TheVariants as fault
-use Rattle.ga_responses.specs.Sending.{Messages, SendsAll}
+use Rattle.ga_responses.specs.Sending.{SendsAll}
 use Rattle.ga_dap.specs.declared.session.Session.{Session}
 use Rattle.ga_dap.specs.declared.serving.SessionEnd.{SessionEnd}
 use Rattle.ga_dap.specs.declared.serving.SessionEnd.TheVariants as end
 use Rattle.ga_dap.specs.declared.turn.Progress.{Progress}
 use Rattle.ga_dap.specs.declared.turn.Progress.TheVariants.{On, End}
-use Rattle.ga_dap.specs.Client.{ArrivalTelling, IsRequestIn, IsTime, AnswersContent, is_running, no_request_told, untaken}
+use Rattle.ga_dap.specs.Client.{ArrivalTelling, IsRequestIn, IsTime, is_running, no_request_told}
 use Rattle.ga_dap.specs.Client.AnswersContent.{carried, wanting, no_request}
 use Rattle.ga_dap.specs.Launches.{FileGiving}
 use Rattle.ga_dap.specs.kept.Turning.{AnswersOrEnds, ContentOrEnds, DeclinesOrEnds, TakesOrEnds, GoesOnOrEnds, EndsTurn, TurnOrEnds, serving_at}

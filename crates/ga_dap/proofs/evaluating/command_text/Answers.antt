@@ -2,7 +2,6 @@ use Rattle.std.proofs.Common.{◌≡◌, ◌∙◌, ℕ, List, [], ◌++◌, Som
 use Rattle.std.proofs.lemmas.List.{append-nil}
 use Rattle.ga_text.specs.Lines.{Text}
 use Rattle.ga_text.specs.Output.{IsSaid}
-use Rattle.ga_lab.specs.Machine.{State}
 use Rattle.ga_console.proofs.AheadLemmas.{quit_part}
 use Rattle.ga_explorer.specs.Answers.{Explores}
 use Rattle.ga_explorer.specs.Exploring.{Exploring}

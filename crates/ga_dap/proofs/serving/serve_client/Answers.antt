@@ -1,5 +1,4 @@
-use Rattle.std.proofs.Common.{◌≡◌, ◌∙◌, ℕ, suc, List, [], ◌++◌, Some, refl, sym, ap, subst, inl}
-use Rattle.std.specs.Prelude.{true}
+use Rattle.std.proofs.Common.{◌∙◌, ℕ, suc, List, [], ◌++◌, Some, refl, sym, ap, subst, inl}
 use Rattle.std.proofs.lemmas.List.{append-nil}
 use Rattle.ga_protocol.specs.Sent.{SentMessages}
 use Rattle.ga_dap.specs.Client.{ServesFor, serving_from}
