@@ -401,7 +401,6 @@ WRONG = (
     (ORDERS, "if vars(record) == vars(self.chip[node]):", "if record.p == self.chip[node].p:"),
     (ORDERS, "if vars(record) == vars(self.chip[node]):", "if record.d[0] == self.chip[node].d[0]:"),
     (ORDERS, "return it.waits(READS, side), it", 'return it.waits(("read",), side), it'),
-    (ORDERS, 'return it.waits(READS, side), it.waits(("write",), side)', 'return it.waits(READS + ("write",), side)'),
     (ORDERS, 'return ("looks", word)', 'return ("looks",)'),
     (ORDERS, "return [node for node in running if not self.is_parked(node)] +", "return [node for node in running if not self.is_parked(node)][:1] +"),
     (ORDERS, "polling = [name(node) for node, it in enumerate(chip) if not it.wait and not it.stop]", "polling = [name(node) for node, it in enumerate(chip) if not it.wait]"),
