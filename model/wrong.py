@@ -401,7 +401,7 @@ WRONG = (
     (ORDERS, "if vars(record) == vars(self.chip[node]):", "if record.p == self.chip[node].p:"),
     (ORDERS, "if vars(record) == vars(self.chip[node]):", "if record.d[0] == self.chip[node].d[0]:"),
     (ORDERS, "return it.waits(READS, side), it", 'return it.waits(("read",), side), it'),
-    (ORDERS, 'return ("looks", word)', 'return ("looks",)'),
+    (ORDERS, 'return ("looks", word, *(self.changes.get((neighbour(node, side), side)) for side in SIDES))', 'return ("looks", word)'),
     (ORDERS, "return [node for node in running if not self.is_parked(node)] +", "return [node for node in running if not self.is_parked(node)][:1] +"),
     (ORDERS, "polling = [name(node) for node, it in enumerate(chip) if not it.wait and not it.stop]", "polling = [name(node) for node, it in enumerate(chip) if not it.wait]"),
     (ORDERS, 'its, does in ((waiting, " waiting"), (polling, " polling")) if its', 'its, does in ((polling, " polling"), (waiting, " waiting")) if its'),
