@@ -44,7 +44,7 @@ pub enum Verdict {
 /// Reads an image or source, as `explore` does, and nothing behind its line `end`. Tells in how many orders its nodes can run, and
 /// how these end; or, where an order is asked for by its number from 1 on, the lines `step NNN` that lead to its end. A run has at
 /// most `limit` events. Where `settles` is set each node whose first event is to wait for code makes it before all else, in the order of
-/// their numbers: a real chip has come to rest by then. A session has these steps too, and the limit counts them. Source that has a
+/// their numbers. A real chip has come to rest by then. A session has these steps too, and the limit counts them. Source that has a
 /// fault is told to `errors`, a refused image and want of memory, also for these steps, to `writer`. So many workers share the runs,
 /// and `made` counts those that were made so far.
 pub fn check_orders<S: Threads + Sync, R: Read, W: Write, E: Write>(
