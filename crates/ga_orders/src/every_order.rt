@@ -8,12 +8,13 @@ ghost use Rattle.ga_text.specs.Output.{IsSaidOrCut};
 ghost use Rattle.ga_display.specs.Texts.{refusal_text};
 ghost use Rattle.ga_answers.specs.Saved.{saved_text};
 ghost use Rattle.ga_orders.specs.OrderTexts.{orders_text, no_order_text};
-ghost use Rattle.ga_orders.specs.EveryOrder.{TellsOrders, ChecksOrders, IsTextOut, has_stop, is_faultless, is_stop_fate, verdict_of, no_order_verdict, tally_text, tally_verdict};
+ghost use Rattle.ga_orders.specs.EveryOrder.{TellsOrders, ChecksOrders, IsTextOut, has_stop, is_faultless, is_stop_fate, verdict_of, no_order_verdict, tally_text, tally_verdict, searched, TellsLooks};
 ghost use Rattle.ga_orders.specs.declared.every_order.Verdict.TheVariants.{Alike, Ended};
 ghost use Rattle.ga_console.specs.declared.run.Status.TheVariants.{ImageRefused};
 
 use crate::orders_text::{say_no_order, say_orders};
 use ga_answers::say_saved;
+use ga_check::looking::check_looks;
 use ga_check::orders::{Bounds, check_shared};
 use ga_check::tally::{EndKind, Fate, Stop, Tally};
 use ga_console::Status;
@@ -33,6 +34,10 @@ pub enum Verdict {
     Alike,
     /// They end on several chips, or with a node that is stopped.
     Several,
+    /// As `Alike`, where a node looks: that the orders are all is tested.
+    SearchedAlike,
+    /// As `Several`, where a node looks: that the orders are all is tested.
+    SearchedSeveral,
     /// There may be others than were met.
     Open,
     /// No orders were told, or a write failed.
@@ -95,6 +100,40 @@ fn tell_orders<S: Threads + Sync, W: Write>(
         Ok(tally) => tell_tally(asked, &tally, writer),
         Err(Stop::Reached) => tell_session(lab, writer),
         Err(Stop::Memory) => tell_no_memory(writer),
+        Err(Stop::Looks) => searched(tell_looks(alloc, lab, bounds, asked, made, writer)),
+    }
+}
+
+/// Tells the same where a node looks.
+fn tell_looks<W: Write>(
+    alloc: Global,
+    lab: &mut Lab,
+    bounds: Bounds,
+    asked: u64,
+    made: &AtomicU64,
+    writer: &mut W,
+) -> Verdict
+    ensures { (before : Bytes) → W.contents writer.old ≡ Some before →
+        (text : Bytes) × (W.contents writer.new ≡ Some (before ++ text)) × TellsLooks asked lab.old text result }
+{
+    match check_looks(alloc, lab, bounds, asked, made) {
+        Ok(tally) => tell_tally(asked, &tally, writer),
+        Err(Stop::Reached) => tell_session(lab, writer),
+        Err(_) => tell_no_memory(writer),
+    }
+}
+
+/// The verdict where a node looks.
+fn searched(verdict: Verdict) -> Verdict
+    ensures { result ≡ searched verdict }
+{
+    match verdict {
+        Verdict::Alike => Verdict::SearchedAlike,
+        Verdict::Several => Verdict::SearchedSeveral,
+        Verdict::SearchedAlike => verdict,
+        Verdict::SearchedSeveral => verdict,
+        Verdict::Open => verdict,
+        Verdict::Ended(_) => verdict,
     }
 }
 
@@ -226,6 +265,7 @@ fn is_stop(fate: Fate) -> bool
         Fate::Quiet => false,
         Fate::Reads => false,
         Fate::Writes => false,
+        Fate::Polls => false,
         Fate::Stopped(_) => true,
     }
 }

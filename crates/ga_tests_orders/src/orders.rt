@@ -1,12 +1,15 @@
 //! Every order of small programs: servers that take words from whoever comes first, and clients that send them.
 
+use ga_check::looking::check_looks;
 use ga_check::orders::{Bounds, check};
 use ga_check::tally::{EndKind, Fate, Stop, Tally};
 use ga_grid::NodeId;
 use ga_image::parse;
 use ga_lab::Lab;
+use ga_node::Place;
 use std::alloc::Global;
 use std::process::Abort;
+use std::sync::atomic::AtomicU64;
 use std::test::Fail;
 
 /// As many events as a run may have.
@@ -55,6 +58,18 @@ const POLL_1X1: &[u8] =
 /// A node that looks three times, and gives up.
 const TIMEOUT_3: &[u8] =
     b"ga144 1\nnode 101\np 000000\nram 00 0048b2 000002 004b07 00015d 008000 03f30b 03acef 0001d5\nram 08 029f12 000115 02f5b2 03b002 005dbd 03ffff 000115\nnode 100\np 000000\nram 00 004b12 0001d5 000007 02e9b2 00427c 000003 005b12 000005\nram 08 000115 02f5b2\nend\n";
+
+/// Two words.
+const POLL_1X2: &[u8] =
+    b"ga144 1\nnode 101\np 000000\nram 00 005da2 000002 00003b 009daa 000020 004b03 00015d 0040b2\nram 08 000800 01800d 03a212 000175 01000f 03a2b2 010005 029f3f\nram 10 00003b 029f12 03ffff 03cd22 018016 03b705 03bdbd 000115\nnode 102\np 000000\nram 00 004b12 000175 000001 02e9b2 026dbf 000100 02c122 01e004\nram 08 004852 000115\nend\n";
+
+/// Two clients.
+const POLL_2X1: &[u8] =
+    b"ga144 1\nnode 101\np 000000\nram 00 005da2 000002 00003b 009daa 000020 004b03 00015d 0040b2\nram 08 000800 01800d 03a212 000175 010015 03ad12 008000 03f313\nram 10 03a212 0001d5 010015 03a2b2 010005 029f3f 00003b 029f12\nram 18 03ffff 03cd22 01801c 03b705 03bdbd 000115\nnode 102\np 000000\nram 00 004b12 000175 000000 02e9b2 026dbf 000100 02c122 01e004\nram 08 004852 000115\nnode 100\np 000000\nram 00 004b12 0001d5 000000 02e9b2 026dbf 000200 02c122 01e004\nram 08 004852 000115\nend\n";
+
+/// Ten times.
+const TIMEOUT_10: &[u8] =
+    b"ga144 1\nnode 101\np 000000\nram 00 0048b2 000009 004b07 00015d 008000 03f30b 03acef 0001d5\nram 08 029f12 000115 02f5b2 03b002 005dbd 03ffff 000115\nnode 100\np 000000\nram 00 004b12 0001d5 000007 02e9b2 00427c 000003 005b12 000005\nram 08 000115 02f5b2\nend\n";
 
 /// A node that jumps without end.
 const ENDLESS: &[u8] = b"ga144 1\nnode 000\np 000000\nram 00 010000\nend\n";
@@ -234,12 +249,26 @@ fn a_bound_is_told(rt: HostRuntime) -> Result<(), Fail> {
     Ok(())
 }
 
+// What is met of a program whose nodes look, after its idle nodes have come to rest.
+fn looked(alloc: Global, image: &[u8]) -> Result<Tally, Fail> {
+    let chip = parse(alloc, image)?;
+    let mut lab = Lab::new(alloc, chip, LIMIT)?;
+    let _looks = check(alloc, &mut lab, bounds(100000), 0);
+    'nodes: for number in 0..144u8 {
+        let node = NodeId::new(number);
+        if lab.node(node).get(Place::P) >= 0x100 {
+            let _made = lab.step(node);
+        }
+    }
+    Ok(check_looks(alloc, &mut lab, bounds(100000), 0, &AtomicU64::new(0))?)
+}
+
 #[test]
-fn programs_that_look_are_not_whole(rt: HostRuntime) -> Result<(), Fail> {
-    let alloc = rt.alloc();
-    for image in [POLL_1X1, TIMEOUT_3] {
-        let tally = orders(alloc, image, 1000)?;
-        assert!(&rt; !tally.whole);
+fn programs_that_look_are_searched(rt: HostRuntime) -> Result<(), Fail> {
+    for (image, orders) in [(POLL_1X1, 3u64), (POLL_1X2, 9), (POLL_2X1, 21), (TIMEOUT_3, 4), (TIMEOUT_10, 11)] {
+        let tally = looked(rt.alloc(), image)?;
+        assert!(&rt; tally.whole);
+        assert_eq!(&rt; tally.orders, orders);
     }
     Ok(())
 }
