@@ -1,6 +1,6 @@
 -- What a verdict says of what was found.
 use Rattle.std.proofs.Common.{◌≡◌, ◌⊎◌, inl, inr, ℕ, Bool, true, false, cond, List, [], ◌∷◌, ◌++◌, Result, Ok, Err, refl, ap, subst, ◌∙◌, arith, length-append}
-use Rattle.std.specs.Prelude.{nat_lt}
+use Rattle.std.specs.Prelude.{nat_lt, All}
 use Rattle.std.proofs.lemmas.Bool.{le-ltb}
 use Rattle.ga_node.specs.Record.{NodeRecord}
 use Rattle.ga_event.specs.declared.event.Event.{Event}
@@ -8,7 +8,7 @@ use Rattle.ga_lab.specs.Machine.{State}
 use Rattle.ga_check.specs.Every.{ends_of}
 use Rattle.ga_check.specs.Tallies.{IsTally}
 use Rattle.ga_check.specs.Reached.{IsBack}
-use Rattle.ga_check.specs.Runs.{AreSomeRuns}
+use Rattle.ga_check.specs.Runs.{Rests}
 use Rattle.ga_check.proofs.Searching.{chip_back}
 use Rattle.ga_check.specs.declared.tally.Tally.{Tally}
 use Rattle.ga_check.specs.declared.tally.Stop.{Stop}
@@ -95,11 +95,11 @@ searched_out whole found text verdict (inr out) = inr (out.0, ap searched out.1)
 
 looked_back : (asked : ℕ) (s t last : State) (found : Result Tally Stop) → IsBack s t → IsLooked asked t found last → IsLooked asked s found last
 looked_back asked s t last (Ok tally) back is =
-    subst (λ (c : List NodeRecord). (runs : List (List Event)) × AreSomeRuns c runs × IsTally tally (ends_of c runs)) (chip_back s t back) is
+    subst (λ (c : List NodeRecord). (runs : List (List Event)) × All (Rests c) runs × IsTally tally (ends_of c runs)) (chip_back s t back) is
 looked_back asked s t last (Err Reached) back is = record {
   others = is.others;
   run = is.run;
-  some = subst (λ (c : List NodeRecord). AreSomeRuns c (is.others ++ is.run ∷ [])) (chip_back s t back) is.some;
+  some = subst (λ (c : List NodeRecord). All (Rests c) (is.others ++ is.run ∷ [])) (chip_back s t back) is.some;
   last = is.last;
   made = record { load = is.made.load ∙ back.0; limit = is.made.limit ∙ back.1; kept = is.made.kept ∙ ap (λ (es : List Event). es ++ is.run) back.2 };
   rest = is.rest;

@@ -1,7 +1,7 @@
 -- What `ga144 check` may write, and how it may end (docs/REFERENCE.md, "Every order"; this project's own). Orders are those of
 -- Mazurkiewicz, "Trace theory", 1987; each is run once, and no list of them is kept: Flanagan and Godefroid, "Dynamic partial-order
 -- reduction for model checking software", 2005.
-use Rattle.std.specs.Prelude.{◌≡◌, ℕ, nat_lt, ◌⊎◌, Bool, true, false, not, ◌&&◌, ◌||◌, if◌then◌else◌, List, ◌++◌, Result, Ok, Err}
+use Rattle.std.specs.Prelude.{◌≡◌, ℕ, nat_lt, ◌⊎◌, Bool, true, false, not, ◌&&◌, ◌||◌, if◌then◌else◌, List, ◌++◌, All, Result, Ok, Err}
 use Rattle.std.specs.List.{list_any}
 use Rattle.ga_text.specs.Lines.{Bytes, Text}
 use Rattle.ga_event.specs.declared.event.Event.{Event}
@@ -9,7 +9,7 @@ use Rattle.ga_lab.specs.Machine.{State, chip_of}
 use Rattle.ga_lab.specs.declared.fault.LabFault.TheVariants as fault
 use Rattle.ga_check.specs.Every.{IsSomeOrders, IsEveryOrder, ends_of}
 use Rattle.ga_check.specs.Reached.{IsOrderReached}
-use Rattle.ga_check.specs.Runs.{AreSomeRuns, IsRunReached}
+use Rattle.ga_check.specs.Runs.{Rests, IsRunReached}
 use Rattle.ga_check.specs.Tallies.{IsTally}
 use Rattle.ga_check.specs.declared.tally.Tally.{Tally}
 use Rattle.ga_check.specs.declared.tally.EndKind.{EndKind}
@@ -41,9 +41,9 @@ IsSearched asked s (Err Reached) last = IsOrderReached s asked last
 IsSearched asked s (Err Looks) last = ⊥
 IsSearched asked s (Err Memory) last = Unit {0}
 
--- The same where a node looks: a tally of runs that come to rest, each told once. That they are all is not said.
+-- The same where a node looks: a tally of runs that come to rest. That they are all, and each once, is tested.
 abbrev pub IsLooked : ℕ → State → Result Tally Stop → State → Type 0
-IsLooked asked s (Ok tally) last = (runs : List (List Event)) × AreSomeRuns (chip_of s) runs × IsTally tally (ends_of (chip_of s) runs)
+IsLooked asked s (Ok tally) last = (runs : List (List Event)) × All (Rests (chip_of s)) runs × IsTally tally (ends_of (chip_of s) runs)
 IsLooked asked s (Err Reached) last = IsRunReached s asked last
 IsLooked asked s (Err Looks) last = ⊥
 IsLooked asked s (Err Memory) last = Unit {0}

@@ -5,7 +5,7 @@ use Rattle.ga_orders.proofs.every_order.tell_looks.Goals as goal
 pub returns-in-Ok : goal.returns-in-Ok
 returns-in-Ok g c = λ before held.
     let sent = c.tell_tally.ensures before held in
-    (sent.0, sent.1, record { found = Ok c.in-Ok.tally; last = c.check_looks.new.lab; is_looked = c.in-Ok.ensures.once; told = sent.2 })
+    (sent.0, sent.1, record { found = Ok c.in-Ok.tally; last = c.check_looks.new.lab; is_looked = c.in-Ok.ensures.rest; told = sent.2 })
 
 pub returns-in-Err-Reached : goal.returns-in-Err-Reached
 returns-in-Err-Reached g c = λ before held.
