@@ -5,7 +5,7 @@ use Rattle.std.proofs.lemmas.Bool.{le-ltb}
 use Rattle.ga_node.specs.Record.{NodeRecord}
 use Rattle.ga_event.specs.declared.event.Event.{Event}
 use Rattle.ga_lab.specs.Machine.{State}
-use Rattle.ga_check.specs.Every.{ends_of}
+use Rattle.ga_check.specs.Every.{IsSomeOrders, IsEveryOrder, ends_of}
 use Rattle.ga_check.specs.Tallies.{IsTally}
 use Rattle.ga_check.specs.Reached.{IsBack}
 use Rattle.ga_check.specs.Runs.{Rests}
@@ -115,3 +115,25 @@ looks_told asked s t text verdict back h = record {
   is_found = looked_back asked s t h.last h.found back h.is_looked;
   told = searched_out (found_text asked h.found h.last) (found_verdict asked h.found) text verdict h.told;
 }
+
+searched_back : (asked : ℕ) (s t last : State) (found : Result Tally Stop) → IsBack s t → IsSearched asked t found last → IsSearched asked s found last
+searched_back asked s t last (Ok tally) back is =
+    subst (λ (c : List NodeRecord). (runs : List (List Event)) × IsSomeOrders c runs × IsTally tally (ends_of c runs) × (tally.whole ≡ true → IsEveryOrder c runs)) (chip_back s t back) is
+searched_back asked s t last (Err Reached) back is = record {
+  others = is.others;
+  run = is.run;
+  some = subst (λ (c : List NodeRecord). IsSomeOrders c (is.others ++ is.run ∷ [])) (chip_back s t back) is.some;
+  last = is.last;
+  made = record { load = is.made.load ∙ back.0; limit = is.made.limit ∙ back.1; kept = is.made.kept ∙ ap (λ (es : List Event). es ++ is.run) back.2 };
+  end = is.end;
+}
+searched_back asked s t last (Err Looks) back is = is
+searched_back asked s t last (Err Memory) back is = is
+
+found_back : (looks : Bool) (asked : ℕ) (s t last : State) (found : Result Tally Stop) → IsBack s t → IsFound looks asked t found last → IsFound looks asked s found last
+found_back false asked s t last found back is = searched_back asked s t last found back is
+found_back true asked s t last found back is = looked_back asked s t last found back is
+
+-- a lab that is as it was has the same orders
+pub tells_back : (asked : ℕ) (s t : State) (text : List ℕ) (verdict : Verdict) → IsBack s t → TellsOrders asked t text verdict → TellsOrders asked s text verdict
+tells_back asked s t text verdict back h = record { looks = h.looks; found = h.found; last = h.last; is_found = found_back h.looks asked s t h.last h.found back h.is_found; told = h.told }

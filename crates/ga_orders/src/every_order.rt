@@ -96,11 +96,37 @@ fn tell_orders<S: Threads + Sync, W: Write>(
     ensures { (before : Bytes) → W.contents writer.old ≡ Some before →
         (text : Bytes) × (W.contents writer.new ≡ Some (before ++ text)) × TellsOrders asked lab.old text result }
 {
+    match check_shared(rt, alloc, lab, bounds, 0, workers, made) {
+        Ok(tally) => {
+            if asked == 0 || is_missing(asked, &tally) {
+                tell_tally(asked, &tally, writer)
+            } else {
+                tell_asked(rt, alloc, lab, bounds, asked, workers, made, writer)
+            }
+        }
+        Err(Stop::Looks) => searched(tell_looks(alloc, lab, bounds, asked, made, writer)),
+        Err(_) => tell_no_memory(writer),
+    }
+}
+
+/// Tells the session of an order, where no node looks.
+fn tell_asked<S: Threads + Sync, W: Write>(
+    rt: &S,
+    alloc: Global,
+    lab: &mut Lab,
+    bounds: Bounds,
+    asked: u64,
+    workers: u32,
+    made: &AtomicU64,
+    writer: &mut W,
+) -> Verdict
+    ensures { (before : Bytes) → W.contents writer.old ≡ Some before →
+        (text : Bytes) × (W.contents writer.new ≡ Some (before ++ text)) × TellsOrders asked lab.old text result }
+{
     match check_shared(rt, alloc, lab, bounds, asked, workers, made) {
         Ok(tally) => tell_tally(asked, &tally, writer),
         Err(Stop::Reached) => tell_session(lab, writer),
-        Err(Stop::Memory) => tell_no_memory(writer),
-        Err(Stop::Looks) => searched(tell_looks(alloc, lab, bounds, asked, made, writer)),
+        Err(_) => tell_no_memory(writer),
     }
 }
 
