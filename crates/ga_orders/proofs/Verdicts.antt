@@ -12,7 +12,7 @@ use Rattle.ga_check.specs.Runs.{Rests}
 use Rattle.ga_check.proofs.Searching.{chip_back}
 use Rattle.ga_check.specs.declared.tally.Tally.{Tally}
 use Rattle.ga_check.specs.declared.tally.Stop.{Stop}
-use Rattle.ga_check.specs.declared.tally.Stop.TheVariants.{Reached, Looks, Memory}
+use Rattle.ga_check.specs.declared.tally.Stop.TheVariants.{Reached, Memory}
 use Rattle.ga_console.specs.declared.run.Status.TheVariants.{ImageRefused, StreamFault}
 use Rattle.ga_orders.specs.OrderTexts.{orders_text, no_order_text}
 use Rattle.ga_orders.specs.EveryOrder.{IsSearched, IsLooked, IsFound, IsTextOut, is_faultless, verdict_of, no_order_verdict, found_text, found_verdict, searched, said_verdict, TellsOrders, TellsLooks, TellsEvery}
@@ -62,7 +62,6 @@ told_by s last (Ok tally) text verdict is (inl out) told =
     }
 told_by s last (Err Reached) text verdict is (inl out) told =
     absurd (let n = is.last in let k = length-append is.others (is.run ∷ []) in omega (arith, n, k))
-told_by s last (Err Looks) text verdict is (inl out) told = absurd is
 told_by s last (Err Memory) text verdict is (inl out) told = absurd (ended_not verdict (inl out.1) told)
 told_by s last found text verdict is (inr out) told = absurd (ended_not verdict (inr out.1) told)
 
@@ -104,7 +103,6 @@ looked_back asked s t last (Err Reached) back is = record {
   made = record { load = is.made.load ∙ back.0; limit = is.made.limit ∙ back.1; kept = is.made.kept ∙ ap (λ (es : List Event). es ++ is.run) back.2 };
   rest = is.rest;
 }
-looked_back asked s t last (Err Looks) back is = is
 looked_back asked s t last (Err Memory) back is = is
 
 pub looks_told : (asked : ℕ) (s t : State) (text : List ℕ) (verdict : Verdict) → IsBack s t → TellsLooks asked t text verdict → TellsOrders asked s text (searched verdict)
@@ -127,7 +125,6 @@ searched_back asked s t last (Err Reached) back is = record {
   made = record { load = is.made.load ∙ back.0; limit = is.made.limit ∙ back.1; kept = is.made.kept ∙ ap (λ (es : List Event). es ++ is.run) back.2 };
   end = is.end;
 }
-searched_back asked s t last (Err Looks) back is = is
 searched_back asked s t last (Err Memory) back is = is
 
 found_back : (looks : Bool) (asked : ℕ) (s t last : State) (found : Result Tally Stop) → IsBack s t → IsFound looks asked t found last → IsFound looks asked s found last

@@ -16,7 +16,7 @@ use Rattle.ga_check.specs.declared.tally.EndKind.{EndKind}
 use Rattle.ga_check.specs.declared.tally.Fate.{Fate}
 use Rattle.ga_check.specs.declared.tally.Fate.TheVariants.{Quiet, Reads, Writes, Polls, Stopped}
 use Rattle.ga_check.specs.declared.tally.Stop.{Stop}
-use Rattle.ga_check.specs.declared.tally.Stop.TheVariants.{Reached, Looks, Memory}
+use Rattle.ga_check.specs.declared.tally.Stop.TheVariants.{Reached, Memory}
 use Rattle.ga_text.specs.Output.{Begins}
 use Rattle.ga_display.specs.Texts.{refusal_text}
 use Rattle.ga_console.specs.declared.run.Status.{Status}
@@ -38,14 +38,12 @@ IsTallyOf s tally = (runs : List (List Event)) × IsSomeOrders (chip_of s) runs 
 abbrev pub IsSearched : ℕ → State → Result Tally Stop → State → Type 0
 IsSearched asked s (Ok tally) last = IsTallyOf s tally
 IsSearched asked s (Err Reached) last = IsOrderReached s asked last
-IsSearched asked s (Err Looks) last = ⊥
 IsSearched asked s (Err Memory) last = Unit {0}
 
 -- The same where a node looks: a tally of runs that come to rest. That they are all, and each once, is tested.
 abbrev pub IsLooked : ℕ → State → Result Tally Stop → State → Type 0
 IsLooked asked s (Ok tally) last = (runs : List (List Event)) × All (Rests (chip_of s)) runs × IsTally tally (ends_of (chip_of s) runs)
 IsLooked asked s (Err Reached) last = IsRunReached s asked last
-IsLooked asked s (Err Looks) last = ⊥
 IsLooked asked s (Err Memory) last = Unit {0}
 
 abbrev pub IsFound : Bool → ℕ → State → Result Tally Stop → State → Type 0
@@ -85,13 +83,11 @@ tally_verdict asked tally = if nat_lt tally.orders asked then no_order_verdict t
 abbrev pub found_text : ℕ → Result Tally Stop → State → Text
 found_text asked (Ok tally) last = tally_text asked tally
 found_text asked (Err Reached) last = saved_text last
-found_text asked (Err Looks) last = refusal_text fault.Memory
 found_text asked (Err Memory) last = refusal_text fault.Memory
 
 abbrev pub found_verdict : ℕ → Result Tally Stop → Verdict
 found_verdict asked (Ok tally) = tally_verdict asked tally
 found_verdict asked (Err Reached) = Alike
-found_verdict asked (Err Looks) = Ended ImageRefused
 found_verdict asked (Err Memory) = Ended ImageRefused
 
 -- the verdict where a node looks: that the orders are all is tested

@@ -98,13 +98,14 @@ fn tell_orders<S: Threads + Sync, W: Write>(
 {
     match check_shared(rt, alloc, lab, bounds, 0, workers, made) {
         Ok(tally) => {
-            if asked == 0 || is_missing(asked, &tally) {
+            if tally.looks {
+                searched(tell_looks(alloc, lab, bounds, asked, made, writer))
+            } else if asked == 0 || is_missing(asked, &tally) {
                 tell_tally(asked, &tally, writer)
             } else {
                 tell_asked(rt, alloc, lab, bounds, asked, workers, made, writer)
             }
         }
-        Err(Stop::Looks) => searched(tell_looks(alloc, lab, bounds, asked, made, writer)),
         Err(_) => tell_no_memory(writer),
     }
 }

@@ -284,10 +284,9 @@ fn a_look_is_told(rt: HostRuntime) -> Result<(), Fail> {
     for image in [POLL_1X1, TIMEOUT_3] {
         let chip = parse(alloc, image)?;
         let mut lab = Lab::new(alloc, chip, LIMIT)?;
-        assert_eq!(&rt;
-            check(alloc, &mut lab, bounds(1000), 0).err(),
-            Some(Stop::Looks)
-        );
+        let tally = check(alloc, &mut lab, bounds(1000), 0)?;
+        assert!(&rt; tally.looks);
+        assert!(&rt; !tally.whole);
         assert_eq!(&rt; lab.counts().kept, 0u32);
     }
     Ok(())

@@ -16,16 +16,16 @@ returns-in-Ok g c = λ before held.
     let sent = c.tell_asked.ensures before held in
     (sent.0, sent.1, tells_back c.args.asked c.args.lab.now c.check_shared.new.lab sent.0 c.tell_asked.result c.in-Ok.ensures.back sent.2)
 
-pub returns-in-Err-Looks : goal.returns-in-Err-Looks
-returns-in-Err-Looks g c = λ before held.
+pub returns-in-Ok-then-tally : goal.returns-in-Ok-then-tally
+returns-in-Ok-then-tally g c = λ before held.
     let sent = c.tell_looks.ensures before held in (
       sent.0,
       sent.1,
       subst (λ (v : Verdict). TellsOrders c.args.asked c.args.lab.now sent.0 v) (sym c.searched.ensures)
-          (looks_told c.args.asked c.args.lab.now c.check_shared.new.lab sent.0 c.tell_looks.result (c.in-Err-Looks.ensures.looks c.in-Err-Looks.field-0-is) sent.2),
+          (looks_told c.args.asked c.args.lab.now c.check_shared.new.lab sent.0 c.tell_looks.result c.in-Ok.ensures.back sent.2),
     )
 
-pub returns-else : goal.returns-else
-returns-else g c = λ before held.
+pub returns-in-Err : goal.returns-in-Err
+returns-in-Err g c = λ before held.
     let sent = c.tell_no_memory.ensures before held in
     (sent.0, sent.1, record { looks = false; found = Err Memory; last = c.check_shared.new.lab; is_found = tt; told = sent.2 })
